@@ -1,0 +1,111 @@
+-- What stands first in bytes, and what follows it.
+use Rattle.std.proofs.Common.{◌≡◌, ℕ, suc, pos, ◌+◌, ◌-◌, ◌*◌, ◌/◌, ◌≤◌, ◌<◌, Bool, true, false, cond, eqb, leb, List, [], ◌∷◌, ◌++◌, length, take, drop, get_or, IsTrue, refl, sym, ap, subst, ◌∙◌, arith, drop-drop, drop-cons, add-suc, one-add, add-one, append_assoc}
+use Rattle.std.proofs.lemmas.Bool.{lt-leb, cases_Bool, cases_lt}
+use Rattle.std.proofs.Common.{eqb-true, length-drop, inl, inr, take_all}
+use Rattle.std.specs.List.{AllByRecursion, prefix_len}
+use Rattle.snesl_lexer.specs.declared.token.Kind.{Kind}
+use Rattle.snesl_lexer.specs.declared.token.Kind.TheVariants.{Integer}
+use Rattle.snesl_lexer.specs.declared.token.Token.{Token}
+use Rattle.snesl_lexer.specs.declared.lexer.First.{First}
+use Rattle.snesl_lexer.specs.declared.lexer.First.TheVariants.{Blank, Found, Bad}
+use Rattle.snesl_lexer.specs.Lexical.{value_from, number, sign_token, head_or, first, Tokens, none_left, skips, takes, BadAt, bad_here, bad_later, bad_behind, IsWithin}
+
+value_from-grows : (n : ℕ) (cs : List ℕ) → n ≤ value_from n cs
+value_from-grows n [] = omega arith
+value_from-grows n (c ∷ cs) = let h : 10 * n + (c - 48) ≤ value_from (10 * n + (c - 48)) cs = value_from-grows (10 * n + (c - 48)) cs in omega arith
+
+too_large : (cs : List ℕ) → 9223372036854775807 < value_from 0 cs → Bad ≡ number cs
+too_large cs h = sym (ap (λ b. cond b (Found (Integer (pos (value_from 0 cs))) (length cs)) Bad) (lt-leb (value_from 0 cs) 9223372036854775807 h))
+
+-- a number that is over the limit before its last digit
+pub early : (cs : List ℕ) (i v : ℕ) → i < length cs → value_from v (drop i cs) ≡ value_from 0 cs
+    → (9223372036854775807 - (get_or cs i 0 - 48)) / 10 < v → Bad ≡ number cs
+early cs i v h same over =
+    let d : ℕ = get_or cs i 0 - 48 in
+    let next : value_from v (drop i cs) ≡ value_from (10 * v + (get_or cs i 0 - 48)) (drop (suc i) cs) = ap (value_from v) (drop-cons cs i 0 h) in
+    let grows : 10 * v + (get_or cs i 0 - 48) ≤ value_from (10 * v + (get_or cs i 0 - 48)) (drop (suc i) cs) =
+    value_from-grows (10 * v + (get_or cs i 0 - 48)) (drop (suc i) cs) in
+    too_large cs (omega arith)
+
+pub prefix_passes : (p : ℕ → Bool) (xs : List ℕ) → AllByRecursion (λ x. IsTrue (p x)) (take (prefix_len p xs) xs)
+prefix_passes p [] = tt
+prefix_passes p (x ∷ xs) = by_test (p x) refl (prefix_passes p xs)
+  where
+    by_test : (b : Bool) → p x ≡ b → AllByRecursion (λ y. IsTrue (p y)) (take (prefix_len p xs) xs)
+        → AllByRecursion (λ y. IsTrue (p y)) (take (cond b (1 + prefix_len p xs) 0) (x ∷ xs))
+    by_test true e h = rw one-add (e, h)
+    by_test false e h = tt
+
+within_if : (n : ℕ) (b : Bool) (x y : First) → (b ≡ true → IsWithin n x) → IsWithin n y → IsWithin n (cond b x y)
+within_if n true x y h k = h refl
+within_if n false x y h k = k
+
+pub sign_within : (b next n : ℕ) → 0 < n → (n ≡ 1 → next ≡ 0) → IsWithin n (sign_token b next)
+sign_within b next n some lone =
+    within_if n (eqb b 40) _ _ (λ t. one)
+    (within_if n (eqb b 41) _ _ (λ t. one)
+    (within_if n (eqb b 123) _ _ (λ t. one)
+    (within_if n (eqb b 125) _ _ (λ t. one)
+    (within_if n (eqb b 91) _ _ (λ t. one)
+    (within_if n (eqb b 93) _ _ (λ t. one)
+    (within_if n (eqb b 58) _ _ (λ t. one)
+    (within_if n (eqb b 59) _ _ (λ t. one)
+    (within_if n (eqb b 44) _ _ (λ t. one)
+    (within_if n (eqb b 124) _ _ (λ t. one)
+    (within_if n (eqb b 45) _ _ (λ t. one)
+    (within_if n (eqb b 42) _ _ (λ t. one)
+    (within_if n (eqb b 47) _ _ (λ t. one)
+    (within_if n (eqb b 37) _ _ (λ t. one)
+    (within_if n (eqb b 33) _ _ (λ t. one)
+    (within_if n (eqb b 61) _ _ (λ t. within_if n (eqb next 61) _ _ (two 61 (omega arith)) one)
+    (within_if n (eqb b 60) _ _ (λ t. within_if n (eqb next 61) _ _ (two 61 (omega arith)) one)
+    (within_if n (eqb b 62) _ _ (λ t. within_if n (eqb next 61) _ _ (two 61 (omega arith)) one)
+    (within_if n (eqb b 43) _ _ (λ t. within_if n (eqb next 43) _ _ (two 43 (omega arith)) one) tt))))))))))))))))))
+  where
+    one : (0 < 1) × (1 ≤ n)
+    one = (omega arith, some)
+
+    two : (m : ℕ) → 0 < m → eqb next m ≡ true → (0 < 2) × (2 ≤ n)
+    two m big t =
+        let same : next ≡ m = eqb-true next m t in
+        elim (cases_lt 1 n) [
+          | inl more ↦ (omega arith, more)
+          | inr less ↦ let alone : next ≡ 0 = lone (omega arith) in absurd (omega arith)
+        ]
+
+-- what is left of the text, as the code cuts it
+abbrev pub rest_of : List ℕ → ℕ → List ℕ
+rest_of text at = take (length text - at) (drop at text)
+
+pub rest_is : (text : List ℕ) (at : ℕ) → rest_of text at ≡ drop at text
+rest_is text at = take_all (length text - at) (drop at text) (omega (arith, length-drop at text))
+
+pub blank_on : (text : List ℕ) (at : ℕ) (ts : List Token) → Blank ≡ first (rest_of text at)
+    → Tokens (at + 1) (drop (at + 1) text) ts → Tokens at (drop at text) ts
+blank_on text at ts e h = skips (sym (e ∙ ap first (rest_is text at))) (subst (λ bs. Tokens (at + 1) bs ts) (sym (drop-drop 1 at text)) h)
+
+pub found_on : (text : List ℕ) (at : ℕ) (k : Kind) (len : ℕ) (ts : List Token) → Found k len ≡ first (rest_of text at)
+    → Tokens (at + len) (drop (at + len) text) ts → Tokens at (drop at text) (record { kind = k; at = at } ∷ ts)
+found_on text at k len ts e h = takes k len (sym (e ∙ ap first (rest_is text at))) (subst (λ bs. Tokens (at + len) bs ts) (sym (drop-drop len at text)) h)
+
+pub blank_bad : (text : List ℕ) (at n : ℕ) → Blank ≡ first (rest_of text at)
+    → BadAt (at + 1) (drop (at + 1) text) n → BadAt at (drop at text) n
+blank_bad text at n e h = bad_later (sym (e ∙ ap first (rest_is text at))) (subst (λ bs. BadAt (at + 1) bs n) (sym (drop-drop 1 at text)) h)
+
+pub found_bad : (text : List ℕ) (at : ℕ) (k : Kind) (len n : ℕ) → Found k len ≡ first (rest_of text at)
+    → BadAt (at + len) (drop (at + len) text) n → BadAt at (drop at text) n
+found_bad text at k len n e h = bad_behind k len (sym (e ∙ ap first (rest_is text at))) (subst (λ bs. BadAt (at + len) bs n) (sym (drop-drop len at text)) h)
+
+pub bad_now : (text : List ℕ) (at : ℕ) → at < length text → Bad ≡ first (rest_of text at) → BadAt at (drop at text) at
+bad_now text at h e = by_cases (drop at text) (omega (arith, length-drop at text)) (e ∙ ap first (rest_is text at))
+  where
+    by_cases : (bs : List ℕ) → 0 < length bs → Bad ≡ first bs → BadAt at bs at
+    by_cases [] some f = absurd (omega arith)
+    by_cases (b ∷ bs) some f = bad_here b bs (sym f)
+
+pub nothing_left : (text : List ℕ) (at : ℕ) → length text ≤ at → Tokens at (drop at text) []
+nothing_left text at h = by_cases (drop at text) (omega (arith, length-drop at text))
+  where
+    by_cases : (bs : List ℕ) → length bs ≡ 0 → Tokens at bs []
+    by_cases [] e = none_left
+    by_cases (b ∷ bs) e = absurd (omega arith)

@@ -1,0 +1,5 @@
+pub mod Integers
+pub mod Types
+pub mod Values
+pub mod Faults
+pub mod Refusals

@@ -1,0 +1,28 @@
+-- Types.
+use Rattle.std.specs.Prelude.{Bool, true, false, ◌&&◌}
+use Rattle.snesl_values.specs.declared.ty.Ty.{Ty as TyTree}
+use Rattle.snesl_values.specs.declared.ty.Ty.TheVariants.{Int, Bool as BoolTy, Pair', Vec', Seq'}
+
+-- a type
+pub data Ty : Type 0 where
+  int : Ty
+  bool : Ty
+  pair : (first second : Ty) → Ty
+  vec : (item : Ty) → Ty
+  seq : (item : Ty) → Ty
+
+-- the type that the program's tree holds
+abbrev pub ty_of : TyTree → Ty
+ty_of Int = int
+ty_of BoolTy = bool
+ty_of (Pair' p first q second) = pair (ty_of first) (ty_of second)
+ty_of (Vec' p item) = vec (ty_of item)
+ty_of (Seq' p item) = seq (ty_of item)
+
+-- no sequence occurs in it
+abbrev pub is_concrete : Ty → Bool
+is_concrete int = true
+is_concrete bool = true
+is_concrete (pair first second) = is_concrete first && is_concrete second
+is_concrete (vec item) = is_concrete item
+is_concrete (seq item) = false
