@@ -1,0 +1,6 @@
+// Typing and plain evaluation.
+#![tactic(auto)]
+
+pub mod check;
+pub mod typed;
+
