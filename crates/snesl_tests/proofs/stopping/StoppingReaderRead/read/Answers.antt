@@ -1,0 +1,15 @@
+use Rattle.std.proofs.Common.{◌≡◌, ℕ, ◌<◌, List, [], ◌∷◌, ◌++◌, length, take, refl, sym, ap, ◌∙◌, arith, eqb, false}
+use Rattle.std.proofs.Common.{set}
+use Rattle.std.proofs.lemmas.Bool.{eqb-false}
+use Rattle.snesl_tests.proofs.stopping.StoppingReaderRead.read.Goals as goal
+
+-- the first byte alone, once it was written
+written_first : (xs : List ℕ) (b : ℕ) → 0 < length xs → take 1 (set xs 0 b) ≡ b ∷ []
+written_first [] b h = absurd (omega arith)
+written_first (x ∷ xs) b h = refl
+
+pub returns-clause-bytes : goal.returns-clause-bytes
+returns-clause-bytes c =
+    let other : length c.args.buf.now ≡ 0 → ⊥ = eqb-false (length c.args.buf.now) 0 (sym c.is_empty.ensures ∙ c.if-is_empty.false) in
+    let some : 0 < length c.args.buf.now = omega arith in
+    (c.in-Some.ensures.cases.0 ∙ ap (λ front. front ++ c.in-Some.rest.now) (sym (written_first c.args.buf.now c.in-Some.byte.now some)), λ e. absurd (omega arith))

@@ -1,0 +1,17 @@
+// Tests that cross crates, and the readers and writers that they fail with.
+#![tactic(auto)]
+
+pub mod stopping;
+
+#[cfg(test)]
+mod answering;
+#[cfg(test)]
+mod calls;
+#[cfg(test)]
+mod jobs;
+#[cfg(test)]
+mod limits;
+#[cfg(test)]
+mod rows;
+#[cfg(test)]
+mod streams;
