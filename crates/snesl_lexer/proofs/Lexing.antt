@@ -1,25 +1,28 @@
 -- What stands first in bytes, and what follows it.
-use Rattle.std.proofs.Common.{◌≡◌, ℕ, suc, pos, ◌+◌, ◌-◌, ◌*◌, ◌/◌, ◌≤◌, ◌<◌, Bool, true, false, cond, eqb, leb, List, [], ◌∷◌, ◌++◌, length, take, drop, get_or, IsTrue, refl, sym, ap, subst, ◌∙◌, arith, drop-drop, drop-cons, add-suc, one-add, add-one, append_assoc}
-use Rattle.std.proofs.lemmas.Bool.{lt-leb, cases_Bool, cases_lt}
-use Rattle.std.proofs.Common.{eqb-true, length-drop, inl, inr, take_all}
+use Rattle.std.proofs.Common.{◌≡◌, ℕ, suc, pos, ◌+◌, ◌-◌, ◌*◌, ◌/◌, ◌≤◌, ◌<◌, Bool, true, false, cond, eqb, List, [], ◌∷◌, length, take, drop, get_or, IsTrue, Option, Some, None, not, refl, sym, ap, subst, ◌∙◌, arith, drop-drop, drop-cons, one-add}
+use Rattle.std.proofs.lemmas.Bool.{lt-leb, cases_lt, not-true, eqb-false}
+use Rattle.std.proofs.Common.{length-drop, inl, inr, take_all}
 use Rattle.std.specs.List.{AllByRecursion, prefix_len}
+use Rattle.snesl_values.specs.Integers.{greatest_integer}
 use Rattle.snesl_lexer.specs.declared.token.Kind.{Kind}
 use Rattle.snesl_lexer.specs.declared.token.Kind.TheVariants.{Integer}
 use Rattle.snesl_lexer.specs.declared.token.Token.{Token}
-use Rattle.snesl_lexer.specs.declared.lexer.First.{First}
 use Rattle.snesl_lexer.specs.declared.lexer.First.TheVariants.{Blank, Found, Bad}
-use Rattle.snesl_lexer.specs.Lexical.{value_from, number, sign_token, head_or, first, Tokens, none_left, skips, takes, BadAt, bad_here, bad_later, bad_behind, IsWithin}
+use Rattle.snesl_lexer.specs.Tables.{kind_in}
+use Rattle.snesl_lexer.specs.Signs.{one_byte_signs, two_byte_signs, longer_sign, sign_token}
+use Rattle.snesl_lexer.proofs.Tables.{kind_in_passes}
+use Rattle.snesl_lexer.specs.Lexical.{value_from, number, first, Tokens, none_left, skips, takes, BadAt, bad_here, bad_later, bad_behind, IsWithin}
 
 value_from-grows : (n : ℕ) (cs : List ℕ) → n ≤ value_from n cs
 value_from-grows n [] = omega arith
 value_from-grows n (c ∷ cs) = let h : 10 * n + (c - 48) ≤ value_from (10 * n + (c - 48)) cs = value_from-grows (10 * n + (c - 48)) cs in omega arith
 
-too_large : (cs : List ℕ) → 9223372036854775807 < value_from 0 cs → Bad ≡ number cs
-too_large cs h = sym (ap (λ b. cond b (Found (Integer (pos (value_from 0 cs))) (length cs)) Bad) (lt-leb (value_from 0 cs) 9223372036854775807 h))
+too_large : (cs : List ℕ) → greatest_integer < value_from 0 cs → Bad ≡ number cs
+too_large cs h = sym (ap (λ b. cond b (Found (Integer (pos (value_from 0 cs))) (length cs)) Bad) (lt-leb (value_from 0 cs) greatest_integer h))
 
 -- a number that is over the limit before its last digit
 pub early : (cs : List ℕ) (i v : ℕ) → i < length cs → value_from v (drop i cs) ≡ value_from 0 cs
-    → (9223372036854775807 - (get_or cs i 0 - 48)) / 10 < v → Bad ≡ number cs
+    → (greatest_integer - (get_or cs i 0 - 48)) / 10 < v → Bad ≡ number cs
 early cs i v h same over =
     let d : ℕ = get_or cs i 0 - 48 in
     let next : value_from v (drop i cs) ≡ value_from (10 * v + (get_or cs i 0 - 48)) (drop (suc i) cs) = ap (value_from v) (drop-cons cs i 0 h) in
@@ -36,42 +39,20 @@ prefix_passes p (x ∷ xs) = by_test (p x) refl (prefix_passes p xs)
     by_test true e h = rw one-add (e, h)
     by_test false e h = tt
 
-within_if : (n : ℕ) (b : Bool) (x y : First) → (b ≡ true → IsWithin n x) → IsWithin n y → IsWithin n (cond b x y)
-within_if n true x y h k = h refl
-within_if n false x y h k = k
-
+-- a sign ends within the text: the byte behind its first one counts as 0 where there is none
 pub sign_within : (b next n : ℕ) → 0 < n → (n ≡ 1 → next ≡ 0) → IsWithin n (sign_token b next)
-sign_within b next n some lone =
-    within_if n (eqb b 40) _ _ (λ t. one)
-    (within_if n (eqb b 41) _ _ (λ t. one)
-    (within_if n (eqb b 123) _ _ (λ t. one)
-    (within_if n (eqb b 125) _ _ (λ t. one)
-    (within_if n (eqb b 91) _ _ (λ t. one)
-    (within_if n (eqb b 93) _ _ (λ t. one)
-    (within_if n (eqb b 58) _ _ (λ t. one)
-    (within_if n (eqb b 59) _ _ (λ t. one)
-    (within_if n (eqb b 44) _ _ (λ t. one)
-    (within_if n (eqb b 124) _ _ (λ t. one)
-    (within_if n (eqb b 45) _ _ (λ t. one)
-    (within_if n (eqb b 42) _ _ (λ t. one)
-    (within_if n (eqb b 47) _ _ (λ t. one)
-    (within_if n (eqb b 37) _ _ (λ t. one)
-    (within_if n (eqb b 33) _ _ (λ t. one)
-    (within_if n (eqb b 61) _ _ (λ t. within_if n (eqb next 61) _ _ (two 61 (omega arith)) one)
-    (within_if n (eqb b 60) _ _ (λ t. within_if n (eqb next 61) _ _ (two 61 (omega arith)) one)
-    (within_if n (eqb b 62) _ _ (λ t. within_if n (eqb next 61) _ _ (two 61 (omega arith)) one)
-    (within_if n (eqb b 43) _ _ (λ t. within_if n (eqb next 43) _ _ (two 43 (omega arith)) one) tt))))))))))))))))))
+sign_within b next n some alone = by_signs (kind_in two_byte_signs (b ∷ next ∷ [])) refl (kind_in one_byte_signs (b ∷ []))
   where
-    one : (0 < 1) × (1 ≤ n)
-    one = (omega arith, some)
-
-    two : (m : ℕ) → 0 < m → eqb next m ≡ true → (0 < 2) × (2 ≤ n)
-    two m big t =
-        let same : next ≡ m = eqb-true next m t in
+    by_signs : (two : Option Kind) → kind_in two_byte_signs (b ∷ next ∷ []) ≡ two → (one : Option Kind) → IsWithin n (longer_sign two one)
+    by_signs (Some kind) e one =
+        let no_zero : not (eqb next 0) ≡ true = kind_in_passes (λ text. not (eqb (get_or text 1 1) 0)) two_byte_signs (b ∷ next ∷ []) kind refl e in
+        let some_byte : next ≡ 0 → ⊥ = eqb-false next 0 (not-true (eqb next 0) no_zero) in
         elim (cases_lt 1 n) [
           | inl more ↦ (omega arith, more)
-          | inr less ↦ let alone : next ≡ 0 = lone (omega arith) in absurd (omega arith)
+          | inr less ↦ absurd (some_byte (alone (omega arith)))
         ]
+    by_signs None e (Some kind) = (omega arith, some)
+    by_signs None e None = tt
 
 -- what is left of the text, as the code cuts it
 abbrev pub rest_of : List ℕ → ℕ → List ℕ

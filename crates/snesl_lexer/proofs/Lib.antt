@@ -1,1 +1,4 @@
+pub mod Tables
 pub mod Lexing
+pub mod Longest
+pub mod OneReading

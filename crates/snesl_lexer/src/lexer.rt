@@ -1,37 +1,41 @@
-// The lexer.
+// The lexer: which tokens a text is, and where its first bad byte stands.
 
-ghost use Rattle.std.specs.Prelude.{◌≡◌, ◌≤◌, ◌<◌, length, IsTrue, IfOk, IfErr};
-ghost use Rattle.std.specs.List.{AllByRecursion};
-ghost use Rattle.std.specs.List.{prefix_len};
+ghost use Rattle.std.specs.Prelude.{◌≡◌, ◌<◌, [], ◌∷◌, length, IsTrue, IfOk, IfErr};
+ghost use Rattle.std.specs.List.{AllByRecursion, prefix_len};
 ghost use Rattle.std.specs.Char.{is_ascii_digit};
+ghost use Rattle.snesl_lexer.specs.Tables.{kind_in};
 ghost use Rattle.snesl_lexer.specs.Words.{word_kind};
-ghost use Rattle.snesl_lexer.specs.Lexical.{is_blank, is_word, number, sign_token, first, Tokens, IsWithin, IsBadOf};
+ghost use Rattle.snesl_lexer.specs.Signs.{one_byte_signs, two_byte_signs, sign_token};
+ghost use Rattle.snesl_lexer.specs.Lexical.{is_word, number, first, Tokens, IsWithin, IsBadOf};
+ghost use Rattle.snesl_lexer.specs.Lexemes.{FirstIsLongest};
+ghost use Rattle.snesl_lexer.specs.Readings.{HaveOneReading};
 
-use snesl_values::Refusal;
 use crate::token::{Kind, Token};
+use snesl_values::{Refusal, is_blank};
 use std::alloc::Global;
 
-/// What stands first in a text.
-#[derive(Clone, Copy)]
+/// What stands first in bytes.
+#[derive(Clone, Copy, Debug, PartialEq, Eq)]
 pub enum First {
+    /// A blank, of one byte.
     Blank,
+    /// A token of this kind and of this many bytes.
     Found(Kind, usize),
+    /// No blank and no token, or an integer over the limit.
     Bad,
 }
 
-fn is_blank(b: u8) -> bool
-    ensures { result ≡ is_blank b }
-{
-    b == b' ' || b == b'\t' || b == b'\n' || b == b'\r'
-}
+// The greatest integer that a literal may write.
+const GREATEST_INTEGER: u64 = i64::MAX as u64;
 
+// Whether the byte may stand in a word behind the first letter.
 fn is_word(b: u8) -> bool
     ensures { result ≡ is_word b }
 {
-    b.is_ascii_alphabetic() || b.is_ascii_digit() || b == b'_'
+    b.is_ascii_alphanumeric() || b == b'_'
 }
 
-// How many bytes at the front may stand in a name.
+// How many bytes at the front may stand in a word.
 fn word_len(text: &[u8]) -> usize
     ensures { result ≡ prefix_len is_word text.now }
 {
@@ -45,135 +49,99 @@ fn digits_len(text: &[u8]) -> usize
     text.iter().take_while(|b| b.is_ascii_digit()).count()
 }
 
+// The kind of a word: a reserved word, or else a name.
 fn word_kind(word: &[u8]) -> Kind
     ensures { result ≡ word_kind word.now }
 {
-    if word == b"input".as_slice() {
-        Kind::Input
-    } else if word == b"function".as_slice() {
-        Kind::Function
-    } else if word == b"let".as_slice() {
-        Kind::Let
-    } else if word == b"in".as_slice() {
-        Kind::In
-    } else if word == b"if".as_slice() {
-        Kind::If
-    } else if word == b"then".as_slice() {
-        Kind::Then
-    } else if word == b"else".as_slice() {
-        Kind::Else
-    } else if word == b"true".as_slice() {
-        Kind::True
-    } else if word == b"false".as_slice() {
-        Kind::False
-    } else if word == b"not".as_slice() {
-        Kind::Not
-    } else if word == b"and".as_slice() {
-        Kind::And
-    } else if word == b"or".as_slice() {
-        Kind::Or
-    } else if word == b"int".as_slice() {
-        Kind::Int
-    } else if word == b"bool".as_slice() {
-        Kind::Bool
-    } else if word == b"dialect".as_slice() {
-        Kind::Dialect
-    } else if word == b"iota".as_slice() {
-        Kind::Iota
-    } else if word == b"scan_add".as_slice() {
-        Kind::ScanAdd
-    } else if word == b"reduce_add".as_slice() {
-        Kind::ReduceAdd
-    } else if word == b"reduce_max".as_slice() {
-        Kind::ReduceMax
-    } else if word == b"reduce_and".as_slice() {
-        Kind::ReduceAnd
-    } else if word == b"reduce_or".as_slice() {
-        Kind::ReduceOr
-    } else if word == b"length".as_slice() {
-        Kind::Length
-    } else if word == b"concat".as_slice() {
-        Kind::Concat
-    } else if word == b"part".as_slice() {
-        Kind::Part
-    } else if word == b"the".as_slice() {
-        Kind::The
-    } else if word == b"tab".as_slice() {
-        Kind::Tab
-    } else if word == b"seq".as_slice() {
-        Kind::Seq
-    } else if word == b"fst".as_slice() {
-        Kind::Fst
-    } else if word == b"snd".as_slice() {
-        Kind::Snd
-    } else {
-        Kind::Name(word.len())
+    match word {
+        b"input" => Kind::Input,
+        b"function" => Kind::Function,
+        b"let" => Kind::Let,
+        b"in" => Kind::In,
+        b"if" => Kind::If,
+        b"then" => Kind::Then,
+        b"else" => Kind::Else,
+        b"true" => Kind::True,
+        b"false" => Kind::False,
+        b"not" => Kind::Not,
+        b"and" => Kind::And,
+        b"or" => Kind::Or,
+        b"int" => Kind::Int,
+        b"bool" => Kind::Bool,
+        b"dialect" => Kind::Dialect,
+        b"iota" => Kind::Iota,
+        b"scan_add" => Kind::ScanAdd,
+        b"reduce_add" => Kind::ReduceAdd,
+        b"reduce_max" => Kind::ReduceMax,
+        b"reduce_and" => Kind::ReduceAnd,
+        b"reduce_or" => Kind::ReduceOr,
+        b"length" => Kind::Length,
+        b"concat" => Kind::Concat,
+        b"part" => Kind::Part,
+        b"the" => Kind::The,
+        b"tab" => Kind::Tab,
+        b"seq" => Kind::Seq,
+        b"fst" => Kind::Fst,
+        b"snd" => Kind::Snd,
+        _ => Kind::Name(word.len()),
     }
 }
 
+// The sign that these two bytes are.
+fn two_byte_sign(b: u8, next: u8) -> Option<Kind>
+    ensures { result ≡ kind_in two_byte_signs (b ∷ next ∷ []) }
+{
+    match (b, next) {
+        (b'=', b'=') => Some(Kind::Same),
+        (b'<', b'=') => Some(Kind::AtMost),
+        (b'>', b'=') => Some(Kind::AtLeast),
+        (b'+', b'+') => Some(Kind::Append),
+        _ => None,
+    }
+}
+
+// The sign that this byte is.
+fn one_byte_sign(b: u8) -> Option<Kind>
+    ensures { result ≡ kind_in one_byte_signs (b ∷ []) }
+{
+    match b {
+        b'(' => Some(Kind::LeftParen),
+        b')' => Some(Kind::RightParen),
+        b'{' => Some(Kind::LeftBrace),
+        b'}' => Some(Kind::RightBrace),
+        b'[' => Some(Kind::LeftBracket),
+        b']' => Some(Kind::RightBracket),
+        b':' => Some(Kind::Colon),
+        b';' => Some(Kind::Semicolon),
+        b',' => Some(Kind::Comma),
+        b'|' => Some(Kind::Bar),
+        b'=' => Some(Kind::Equals),
+        b'<' => Some(Kind::Less),
+        b'>' => Some(Kind::Greater),
+        b'+' => Some(Kind::Plus),
+        b'-' => Some(Kind::Minus),
+        b'*' => Some(Kind::Star),
+        b'/' => Some(Kind::Slash),
+        b'%' => Some(Kind::Percent),
+        b'!' => Some(Kind::At),
+        _ => None,
+    }
+}
+
+// The token of a sign: the longest is taken.
 fn sign_token(b: u8, next: u8) -> First
     ensures { result ≡ sign_token b next }
 {
-    if b == b'(' {
-        First::Found(Kind::LeftParen, 1)
-    } else if b == b')' {
-        First::Found(Kind::RightParen, 1)
-    } else if b == b'{' {
-        First::Found(Kind::LeftBrace, 1)
-    } else if b == b'}' {
-        First::Found(Kind::RightBrace, 1)
-    } else if b == b'[' {
-        First::Found(Kind::LeftBracket, 1)
-    } else if b == b']' {
-        First::Found(Kind::RightBracket, 1)
-    } else if b == b':' {
-        First::Found(Kind::Colon, 1)
-    } else if b == b';' {
-        First::Found(Kind::Semicolon, 1)
-    } else if b == b',' {
-        First::Found(Kind::Comma, 1)
-    } else if b == b'|' {
-        First::Found(Kind::Bar, 1)
-    } else if b == b'-' {
-        First::Found(Kind::Minus, 1)
-    } else if b == b'*' {
-        First::Found(Kind::Star, 1)
-    } else if b == b'/' {
-        First::Found(Kind::Slash, 1)
-    } else if b == b'%' {
-        First::Found(Kind::Percent, 1)
-    } else if b == b'!' {
-        First::Found(Kind::At, 1)
-    } else if b == b'=' {
-        if next == b'=' {
-            First::Found(Kind::Same, 2)
-        } else {
-            First::Found(Kind::Equals, 1)
-        }
-    } else if b == b'<' {
-        if next == b'=' {
-            First::Found(Kind::AtMost, 2)
-        } else {
-            First::Found(Kind::Less, 1)
-        }
-    } else if b == b'>' {
-        if next == b'=' {
-            First::Found(Kind::AtLeast, 2)
-        } else {
-            First::Found(Kind::Greater, 1)
-        }
-    } else if b == b'+' {
-        if next == b'+' {
-            First::Found(Kind::Append, 2)
-        } else {
-            First::Found(Kind::Plus, 1)
-        }
-    } else {
-        First::Bad
+    if let Some(kind) = two_byte_sign(b, next) {
+        return First::Found(kind, 2);
+    }
+    match one_byte_sign(b) {
+        Some(kind) => First::Found(kind, 1),
+        None => First::Bad,
     }
 }
 
-// The token of digits.
+// The token of digits: an integer, or bad where it is over the limit.
 fn number(digits: &[u8]) -> First
     requires { AllByRecursion (λ c. IsTrue (is_ascii_digit c)) digits.now }
     ensures { result ≡ number digits.now }
@@ -181,7 +149,7 @@ fn number(digits: &[u8]) -> First
     let mut value = 0u64;
     for c in digits {
         let digit = u64::from(*c - b'0');
-        if value > (9223372036854775807 - digit) / 10 {
+        if value > (GREATEST_INTEGER - digit) / 10 {
             return First::Bad;
         }
         value = 10 * value + digit;
@@ -189,7 +157,7 @@ fn number(digits: &[u8]) -> First
     First::Found(Kind::Integer(value as i64), digits.len())
 }
 
-// What stands first.
+// What stands first in a text.
 fn first_token(text: &[u8]) -> First
     requires { 0 < length text.now }
     ensures found { result ≡ first text.now }
@@ -211,12 +179,17 @@ fn first_token(text: &[u8]) -> First
     sign_token(b, next)
 }
 
-/// The tokens of a text.
+/// The tokens of a program text, in order, each with the offset of its first byte. Offsets count
+/// bytes from 0. Blanks may stand before, between and after tokens, and the longest token is taken.
+/// Each byte is looked at a bounded number of times.
+///
+/// # Errors
+///
+/// - `Refusal::Lex(at)`: at byte `at` no token begins, or an integer that is over 2^63 - 1. It is
+///   the first such byte.
+/// - `Refusal::NoMemory`: there is no room for the tokens.
 pub fn tokens_of(alloc: Global, text: &[u8]) -> Result<Vec<Token>, Refusal>
-    // The bytes are these tokens.
     ensures found { IfOk result (λ tokens. Tokens 0 text.now tokens.items) }
-
-    // The first bad byte.
     ensures bad { IfErr result (IsBadOf 0 text.now) }
 {
     let mut tokens = Vec::new(alloc);
@@ -233,3 +206,15 @@ pub fn tokens_of(alloc: Global, text: &[u8]) -> Result<Vec<Token>, Refusal>
     }
     Ok(tokens)
 }
+
+/// A law of the definitions that `tokens_of` promises: what stands first in a text is a blank or the
+/// longest lexeme that the text begins with.
+pub fn longest_lexeme()
+    ensures { FirstIsLongest }
+{}
+
+/// A law of the same definitions: each text is either one list of tokens or has one first bad byte.
+/// So a text with a bad byte is never answered with tokens.
+pub fn one_reading()
+    ensures { HaveOneReading }
+{}

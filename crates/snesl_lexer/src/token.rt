@@ -1,82 +1,123 @@
 // Tokens.
 
-/// What a token is. A name has its length, an integer its value.
-#[derive(Clone, Copy)]
+/// What a token is. A reserved word is named for its text.
+#[derive(Clone, Copy, Debug, PartialEq, Eq)]
 pub enum Kind {
+    /// An integer literal, by its value, from 0 to 2^63 - 1.
     Integer(i64),
+    /// A name, by its length in bytes.
     Name(usize),
+    /// `input`
     Input,
+    /// `function`
     Function,
+    /// `let`
     Let,
+    /// `in`
     In,
+    /// `if`
     If,
+    /// `then`
     Then,
+    /// `else`
     Else,
+    /// `true`
     True,
+    /// `false`
     False,
+    /// `not`
     Not,
+    /// `and`
     And,
+    /// `or`
     Or,
+    /// `int`
     Int,
+    /// `bool`
     Bool,
+    /// `dialect`
     Dialect,
+    /// `iota`
     Iota,
+    /// `scan_add`
     ScanAdd,
+    /// `reduce_add`
     ReduceAdd,
+    /// `reduce_max`
     ReduceMax,
+    /// `reduce_and`
     ReduceAnd,
+    /// `reduce_or`
     ReduceOr,
+    /// `length`
     Length,
+    /// `concat`
     Concat,
+    /// `part`
     Part,
-    Tab,
+    /// `the`
     The,
+    /// `tab`
+    Tab,
+    /// `seq`
     Seq,
+    /// `fst`
     Fst,
+    /// `snd`
     Snd,
+    /// `(`
     LeftParen,
+    /// `)`
     RightParen,
+    /// `{`
     LeftBrace,
+    /// `}`
     RightBrace,
+    /// `[`
     LeftBracket,
+    /// `]`
     RightBracket,
+    /// `:`
     Colon,
+    /// `;`
     Semicolon,
+    /// `,`
     Comma,
+    /// `|`
     Bar,
+    /// `=`
     Equals,
+    /// `==`
     Same,
+    /// `<`
     Less,
+    /// `<=`
     AtMost,
+    /// `>`
     Greater,
+    /// `>=`
     AtLeast,
+    /// `+`
     Plus,
+    /// `++`
     Append,
+    /// `-`
     Minus,
+    /// `*`
     Star,
+    /// `/`
     Slash,
+    /// `%`
     Percent,
+    /// `!`
     At,
 }
 
 /// A token and where it stands.
-#[derive(Clone, Copy)]
+#[derive(Clone, Copy, Debug, PartialEq, Eq)]
 pub struct Token {
+    /// What it is.
     pub kind: Kind,
+    /// The offset of its first byte, counted from 0.
     pub at: usize,
-}
-
-/// An operator between two operands.
-#[derive(Clone, Copy)]
-pub enum Op {
-    Add,
-    Sub,
-    Mul,
-}
-
-/// A function that the language has.
-#[derive(Clone, Copy)]
-pub enum Builtin {
-    Range,
-    Total,
 }

@@ -3,3 +3,7 @@ pub mod Types
 pub mod Values
 pub mod Faults
 pub mod Refusals
+pub mod Text
+pub mod Blanks
+pub mod Inputs
+pub mod Counted

@@ -1,12 +1,20 @@
 // Types, values, faults, refusals, the text of a value, input texts, and counted readers and writers.
 #![tactic(auto)]
 
+pub mod blank;
+pub mod counted;
 pub mod datum;
 pub mod fault;
+pub mod inputs;
 pub mod refusal;
+pub mod text;
 pub mod ty;
 
-pub use datum::Datum;
+pub use blank::is_blank;
+pub use counted::Counted;
+pub use datum::{Datum, copy_datum};
 pub use fault::{Fault, FaultKind};
+pub use inputs::{InputError, Inputs, one_input_meaning, read_inputs};
 pub use refusal::Refusal;
-pub use ty::Ty;
+pub use text::text_of;
+pub use ty::{Ty, copy_ty};

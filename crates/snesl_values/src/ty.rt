@@ -1,7 +1,9 @@
 // Types.
 
-ghost use Rattle.std.specs.Prelude.{◌≡◌};
+ghost use Rattle.std.specs.Prelude.{◌≡◌, IfOk};
 ghost use Rattle.snesl_values.specs.Types.{ty_of, is_concrete};
+
+use std::alloc::{AllocError, Global};
 
 /// A type of the language: integers, truth values, pairs, vectors (materialised) and sequences
 /// (which may be streamed). A vector holds no sequence.
@@ -27,6 +29,29 @@ impl Ty {
             Ty::Pair(first, second) => first.concrete() && second.concrete(),
             Ty::Vec(item) => item.concrete(),
             Ty::Seq(_) => false,
+        }
+    }
+}
+
+/// The same type in memory of its own. Its only error is that memory was refused.
+pub fn copy_ty(alloc: Global, ty: &Ty) -> Result<Ty, AllocError>
+    ensures { IfOk result (λ copy. ty_of copy ≡ ty_of ty.now) }
+{
+    match ty {
+        Ty::Int => Ok(Ty::Int),
+        Ty::Bool => Ok(Ty::Bool),
+        Ty::Pair(first, second) => {
+            let first = copy_ty(alloc, first)?;
+            let second = copy_ty(alloc, second)?;
+            Ok(Ty::Pair(Box::new(alloc, first)?, Box::new(alloc, second)?))
+        }
+        Ty::Vec(item) => {
+            let item = copy_ty(alloc, item)?;
+            Ok(Ty::Vec(Box::new(alloc, item)?))
+        }
+        Ty::Seq(item) => {
+            let item = copy_ty(alloc, item)?;
+            Ok(Ty::Seq(Box::new(alloc, item)?))
         }
     }
 }

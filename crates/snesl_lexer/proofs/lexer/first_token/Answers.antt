@@ -1,4 +1,4 @@
-use Rattle.std.proofs.Common.{arith, length, ℕ, ◌≡◌, ap, subst, sym, IsTrue, take}
+use Rattle.std.proofs.Common.{arith, length, subst, sym, IsTrue, take}
 use Rattle.std.specs.List.{AllByRecursion}
 use Rattle.std.specs.Char.{is_ascii_digit}
 use Rattle.std.proofs.Common.{get_or}

@@ -1,4 +1,4 @@
-use Rattle.std.proofs.Common.{arith, ◌≡◌, ◌∷◌, ◌++◌, [], subst, sym, ap, ◌∙◌, append_assoc, drop, length, length-drop}
+use Rattle.std.proofs.Common.{arith, ◌∷◌, ◌++◌, [], subst, sym, ap, ◌∙◌, append_assoc, length, length-drop}
 use Rattle.std.proofs.lemmas.List.{append-nil}
 use Rattle.snesl_lexer.specs.Lexical.{Tokens}
 use Rattle.snesl_lexer.proofs.Lexing.{rest_is, blank_on, found_on, blank_bad, found_bad, bad_now, nothing_left}

@@ -1,0 +1,14 @@
+pub mod Basics
+pub mod Processes
+pub mod Networks
+pub mod Configurations
+pub mod Runs
+pub mod Turns
+pub mod Faults
+pub mod Outcomes
+pub mod Traffic
+pub mod ProcessTheorems
+pub mod RunTheorems
+pub mod RestTheorems
+pub mod TrafficTheorems
+pub mod ShareTheorems

@@ -1,0 +1,5 @@
+use Rattle.snesl_values.proofs.InputTexts.{one_meaning}
+use Rattle.snesl_values.proofs.inputs.one_input_meaning.Goals as goal
+
+pub returns : goal.returns
+returns c = one_meaning
