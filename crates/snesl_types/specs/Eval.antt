@@ -1,10 +1,11 @@
 -- What an expression evaluates to.
-use Rattle.std.specs.Prelude.{ℕ, zero, suc, Bool, List, [], ◌∷◌, map, ℤ, pos, negsuc, ◌+ℤ◌, ◌-ℤ◌, ◌*ℤ◌, if◌then◌else◌}
+use Rattle.std.specs.Prelude.{ℕ, zero, suc, List, [], ◌∷◌, ℤ, pos, negsuc, ◌+ℤ◌, ◌-ℤ◌, ◌*ℤ◌, if◌then◌else◌}
 use Rattle.std.specs.Str.{bytes_eq}
 use Rattle.snesl_values.specs.declared.fault.FaultKind.{FaultKind}
 use Rattle.snesl_values.specs.declared.fault.FaultKind.TheVariants.{Overflow, NegativeCount, Shape}
+use Rattle.snesl_values.specs.Inputs.{Environment}
 use Rattle.snesl_values.specs.Integers.{is_integer}
-use Rattle.snesl_values.specs.Values.{Value, an_int, a_seq, Values, list_of, values_of}
+use Rattle.snesl_values.specs.Values.{Value, an_int, a_seq, list_of, values_of}
 use Rattle.snesl_tree.specs.declared.operator.Builtin.{Builtin}
 use Rattle.snesl_tree.specs.declared.operator.Builtin.TheVariants.{Iota, ReduceAdd}
 use Rattle.snesl_tree.specs.declared.operator.Operator.{Operator}
@@ -26,10 +27,6 @@ go (faults kind at) next = faults kind at
 abbrev pub go_all : {A B : Type 0} → (A → Answer B) → List A → Answer (List B)
 go_all f [] = gives []
 go_all f (x ∷ xs) = go (f x) (λ y. go (go_all f xs) (λ ys. gives (y ∷ ys)))
-
--- the values of names, spelled by their bytes, the innermost first
-abbrev pub Environment : Type 0
-Environment = List (List ℕ × Value)
 
 -- the innermost value of a name
 abbrev pub named : ℕ → List ℕ → Environment → Answer Value

@@ -1,3 +1,6 @@
 pub mod Typing
 pub mod Eval
 pub mod Typed
+pub mod Names
+pub mod Answers
+pub mod Soundness

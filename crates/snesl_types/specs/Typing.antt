@@ -1,5 +1,5 @@
 -- Which programs have a type, and which rule a program violates first.
-use Rattle.std.specs.Prelude.{◌≡◌, ℕ, Bool, if◌then◌else◌, List, [], ◌∷◌, Option, Some, None}
+use Rattle.std.specs.Prelude.{◌≡◌, ◌⊎◌, ℕ, if◌then◌else◌, List, [], ◌∷◌, Option, Some, None}
 use Rattle.std.specs.Str.{bytes_eq}
 use Rattle.snesl_values.specs.declared.refusal.Refusal.{Refusal}
 use Rattle.snesl_values.specs.declared.refusal.Refusal.TheVariants.{Name, Mismatch, Streamed, NoMemory}
@@ -128,7 +128,7 @@ mutual
         → Types text context first t → AnyViolates text context others refusal
         → AnyViolates text context (both first others) refusal
 
--- an expression has one type or one first violation, and not both
+-- an expression has at most one type and at most one first violation, and not both
 abbrev pub HaveOneTyping : Type 0
 HaveOneTyping =
     (text : List ℕ) (context : Context) (tree : Tree)
@@ -136,7 +136,31 @@ HaveOneTyping =
     × ((r s : Refusal) → Violates text context tree r → Violates text context tree s → r ≡ s)
     × ((t : Ty) (r : Refusal) → Types text context tree t → ¬ Violates text context tree r)
 
+-- the integers of an expression are integers of the language
+abbrev mutual
+  pub IsInRange : Tree → Type 0
+  IsInRange (integer at value) = IsInteger value
+  IsInRange (name place) = Unit {0}
+  IsInRange (binary at operator left right) = IsInRange left × IsInRange right
+  IsInRange (call at function arguments) = AreInRange arguments
+  IsInRange (group at inner) = IsInRange inner
+  IsInRange (each at body place source) = IsInRange body × IsInRange source
+
+  pub AreInRange : Trees → Type 0
+  AreInRange none = Unit {0}
+  AreInRange (both first others) = IsInRange first × AreInRange others
+
+-- such an expression has a type or a first violation: the rules leave none out
+abbrev pub HaveSomeTyping : Type 0
+HaveSomeTyping =
+    (text : List ℕ) (context : Context) (tree : Tree) → IsInRange tree
+    → ((t : Ty) × Types text context tree t) ⊎ ((refusal : Refusal) × Violates text context tree refusal)
+
 -- what checking answers: the first violation, unless memory ran out
 abbrev pub IsFirstViolation : List ℕ → Tree → Refusal → Type 0
 IsFirstViolation text tree NoMemory = Unit {0}
 IsFirstViolation text tree refusal = Violates text [] tree refusal
+
+-- where the expression has a type, no refusal but that memory ran out
+abbrev pub IsMemoryIfTyped : List ℕ → Tree → Refusal → Type 0
+IsMemoryIfTyped text tree refusal = (t : Ty) → Types text [] tree t → refusal ≡ NoMemory
