@@ -1,0 +1,10 @@
+pub mod Runs
+pub mod Fronts
+pub mod Stands
+pub mod Exact
+pub mod Rows
+pub mod Piles
+pub mod Closes
+pub mod Verdicts
+pub mod Unique
+pub mod Beginnings

@@ -1,0 +1,5 @@
+use Rattle.snesl_syntax.proofs.Beginnings.{fronts_begin}
+use Rattle.snesl_syntax.proofs.parser.fronts_begin_programs.Goals as goal
+
+pub returns : goal.returns
+returns c = fronts_begin

@@ -1,0 +1,5 @@
+use Rattle.snesl_syntax.proofs.Unique.{one_parse}
+use Rattle.snesl_syntax.proofs.parser.one_answer.Goals as goal
+
+pub returns : goal.returns
+returns c = one_parse
