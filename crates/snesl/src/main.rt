@@ -1,0 +1,62 @@
+// Answers the job on standard input.
+#![tactic(auto)]
+
+use snesl_run::{NO_MEMORY_LINE, OUTPUT_LINE, answer, complain};
+use snesl_values::Counted;
+use std::alloc::{AllocError, Global};
+use std::env::{self, FillError};
+use std::io::{self, ErrorKind, Write};
+use std::process::ExitCode;
+use std::rt::Env;
+
+fn main(rt: HostRuntime) -> ExitCode {
+    let mut out = Counted::new(rt.stdout());
+    let mut err = Counted::new(rt.stderr());
+    let status = match answered(&rt, &mut out, &mut err) {
+        Ok(status) => status,
+        Err(_) => complain(NO_MEMORY_LINE, &mut err),
+    };
+    if out.flush().is_err() {
+        return ExitCode::from(complain(OUTPUT_LINE, &mut err));
+    }
+    ExitCode::from(status)
+}
+
+// Answers the job on standard input. The error is that memory was refused to the words.
+fn answered<W: Write, E: Write>(
+    rt: &HostRuntime,
+    out: &mut Counted<W>,
+    err: &mut Counted<E>,
+) -> io::Result<u8> {
+    let mut job = Counted::new(rt.stdin());
+    let args = args_of(rt)?;
+    let words = words_of(rt.alloc(), &args)?;
+    Ok(answer(rt.alloc(), &words, &mut job, out, err))
+}
+
+// The words of the command line. Where one of them is no UTF-8, each is given as `?`.
+fn args_of<R: Env + AllocGlobal>(rt: &R) -> io::Result<Vec<String>> {
+    match env::args(rt) {
+        Ok(args) => Ok(args.collect(rt.alloc())?),
+        Err(error) if error.kind() == ErrorKind::InvalidData => unreadable_args(rt),
+        Err(error) => Err(error),
+    }
+}
+
+// `?` for the program's name and, where there is one, for the word behind it.
+fn unreadable_args<R: Env + AllocGlobal>(rt: &R) -> io::Result<Vec<String>> {
+    let mut args = vec![in rt.alloc(); String::from_str(rt.alloc(), "?")?]?;
+    match rt.arg(1, &mut []) {
+        Err(FillError::NotPresent) => {}
+        _ => args.push(String::from_str(rt.alloc(), "?")?)?,
+    }
+    Ok(args)
+}
+
+fn words_of(alloc: Global, args: &[String]) -> Result<Vec<&str>, AllocError> {
+    let mut words = Vec::new(alloc);
+    for arg in args {
+        words.push(arg.as_str())?;
+    }
+    Ok(words)
+}

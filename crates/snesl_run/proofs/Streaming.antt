@@ -1,0 +1,78 @@
+-- Bytes that are written or read piece by piece.
+use Rattle.std.proofs.Common.{◌≡◌, ℕ, ◌+◌, ◌<◌, ◌≤◌, ◌-◌, ◌&&◌, ◌==◌, nat_lt, length, take, drop, List, [], ◌++◌, Option, Some, None, refl, sym, ap, subst, ◌∙◌, append_assoc, append-nil, arith, ⊎_elim, false}
+use Rattle.std.proofs.lemmas.Bool.Decides.{eqb_tells}
+use Rattle.std.proofs.lemmas.List.{length-drop, length-append, length-take, length-take-le, take-append-drop, take-append-le}
+use Rattle.std.proofs.Math.Seq.{take-length}
+use Rattle.std.specs.Io.KnownBytes.{Appends, Keeps, Consumes}
+use Rattle.snesl_values.specs.Counted.{one_more, counted, HasFailed}
+
+pub appends_none : (a : Option (List ℕ)) → Appends a a []
+appends_none None = tt
+appends_none (Some xs) = sym (append-nil xs)
+
+pub appends_more : (a b c : Option (List ℕ)) (xs ys : List ℕ) → Appends a b xs → Appends b c ys → Appends a c (xs ++ ys)
+appends_more None b c xs ys p q = tt
+appends_more (Some us) None c xs ys p q = absurd p
+appends_more (Some us) (Some vs) None xs ys p q = absurd q
+appends_more (Some us) (Some vs) (Some ws) xs ys p q = q ∙ ap (λ l. l ++ ys) p ∙ append_assoc us xs ys
+
+pub appends_kept : (a b c : Option (List ℕ)) (xs : List ℕ) → Appends a b xs → Keeps b c → Appends a c xs
+appends_kept None b c xs p q = tt
+appends_kept (Some us) None c xs p q = absurd p
+appends_kept (Some us) (Some vs) None xs p q = absurd q
+appends_kept (Some us) (Some vs) (Some ws) xs p q = q ∙ p
+
+pub consumes_none : (a : Option (List ℕ)) → Consumes a a []
+consumes_none None = tt
+consumes_none (Some xs) = refl
+
+pub consumes_more : (a b c : Option (List ℕ)) (xs ys : List ℕ) → Consumes a b xs → Consumes b c ys → Consumes a c (xs ++ ys)
+consumes_more None b c xs ys p q = tt
+consumes_more (Some us) None c xs ys p q = absurd p
+consumes_more (Some us) (Some vs) None xs ys p q = absurd q
+consumes_more (Some us) (Some vs) (Some ws) xs ys p q = p ∙ ap (λ l. xs ++ l) q ∙ sym (append_assoc xs ys ws)
+
+-- a call that failed is seen in the count
+pub failed_once : (n m k : ℕ) → m ≡ n → k ≡ one_more m → HasFailed n k
+failed_once n m k e f = grind arith
+
+-- what `&s[n..]` holds
+pub rest_is : (l : List ℕ) (n : ℕ) → take (length l - n) (drop n l) ≡ drop n l
+rest_is l n = let e : length l - n ≡ length (drop n l) = sym (length-drop n l) in ap (λ k. take k (drop n l)) e ∙ take-length (drop n l)
+
+pub moved_on : (bytes front rest : List ℕ) (n : ℕ) → bytes ≡ front ++ rest → bytes ≡ (front ++ take n rest) ++ take (length rest - n) (drop n rest)
+moved_on bytes front rest n e =
+    e ∙ ap (λ l. front ++ l) (sym (take-append-drop n rest) ∙ ap (λ l. take n rest ++ l) (sym (rest_is rest n)))
+    ∙ sym (append_assoc front (take n rest) (take (length rest - n) (drop n rest)))
+
+not_zero : (n : ℕ) → 0 < n → (n == 0) ≡ false
+not_zero n h = ⊎_elim (λ p. absurd (let e = p.1 in omega arith)) (λ p. p.0) (eqb_tells n 0)
+
+-- a write that takes something is no failure
+pub not_counted : (before n len after : ℕ) → 0 < n → after ≡ counted before (n == 0 && nat_lt 0 len) → after ≡ before
+not_counted before n len after h e =
+    e ∙ ap (λ t. counted before (t && nat_lt 0 len)) (not_zero n h)
+
+-- a read that gave n bytes, which were kept
+pub read_on : (a b c : Option (List ℕ)) (bytes buf behind items : List ℕ) (n : ℕ) → Consumes a b bytes → Consumes b c (take n buf) → n ≤ length buf
+    → items ≡ bytes ++ take n (buf ++ behind) → Consumes a c items
+read_on a b c bytes buf behind items n p q h e =
+    subst (λ l. Consumes a c l) (sym (e ∙ ap (λ l. bytes ++ l) (take-append-le n buf behind h))) (consumes_more a b c bytes (take n buf) p q)
+
+-- a read that gave none
+pub read_none : (a b c : Option (List ℕ)) (bytes buf : List ℕ) (n : ℕ) → Consumes a b bytes → Consumes b c (take n buf) → n ≡ 0 → Consumes a c bytes
+read_none a b c bytes buf n p q e =
+    subst (λ l. Consumes a c l) (append-nil bytes)
+    (consumes_more a b c bytes [] p (subst (λ k. Consumes b c (take k buf)) e q))
+
+pub read_length : (bytes buf behind items : List ℕ) (n most : ℕ) → n ≤ length buf → items ≡ bytes ++ take n (buf ++ behind)
+    → length bytes + length buf ≤ most → length items ≤ most
+read_length bytes buf behind items n most h e fits =
+    let size : length (take n (buf ++ behind)) ≡ n = length-take-le n (buf ++ behind) (omega (arith, length-append buf behind)) in
+    omega (arith, ap length e, length-append bytes (take n (buf ++ behind)))
+
+pub room_left : (piece : List ℕ) (room size given most : ℕ) → size ≤ most → room ≤ most - size → given ≡ length (take room piece) → size + given ≤ most
+room_left piece room size given most fits small e = omega (arith, length-take room piece)
+
+pub some_room : (piece : List ℕ) (room given : ℕ) → (0 < room) × (room ≤ length piece) → given ≡ length (take room piece) → 0 < given
+some_room piece room given h e = omega (arith, length-take-le room piece h.1)

@@ -1,0 +1,5 @@
+use Rattle.snesl_run.proofs.Jobs.{one_job}
+use Rattle.snesl_run.proofs.job.one_job.Goals as goal
+
+pub returns : goal.returns
+returns c = one_job

@@ -1,0 +1,5 @@
+pub mod Meaning
+pub mod Job
+pub mod Streams
+pub mod Runs
+pub mod Prints

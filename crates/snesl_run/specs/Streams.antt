@@ -1,0 +1,55 @@
+-- What a call did to a reader and to a writer.
+use Rattle.std.specs.Prelude.{◌≡◌, ℕ, ◌⊎◌, List, ◌++◌, Bool, true, false, Option}
+use Rattle.std.specs.Io.KnownBytes.{Appends, Consumes, IsAtEnd}
+use Rattle.snesl_values.specs.declared.counted.Counted.{Counted}
+use Rattle.snesl_values.specs.Counted.{counted_inner, failures_of, HasFailed}
+
+-- what a writer took
+pub record Taken : Type 1 where
+  -- it is as before
+  pub nothing : Type 0
+  -- it took these bytes
+  pub these : List ℕ → Type 0
+  -- a write failed
+  pub failed : Type 0
+
+-- what a reader gave
+pub record Given : Type 1 where
+  -- it is as before
+  pub nothing : Type 0
+  -- it gave these bytes
+  pub these : List ℕ → Type 0
+  -- it is at its end
+  pub ended : Type 0
+  -- a read failed
+  pub failed : Type 0
+
+-- the writer before a call and after it, by the bytes that it holds where these are known
+abbrev pub taken : {W : Type 0} → (W → Option (List ℕ)) → Counted W → Counted W → Taken
+taken contents old new = record {
+  nothing = new ≡ old;
+  these = λ bytes. Appends (contents (counted_inner old)) (contents (counted_inner new)) bytes;
+  failed = HasFailed (failures_of old) (failures_of new);
+}
+
+-- the reader before a call and after it, by the bytes that it has left where these are known
+abbrev pub given : {R : Type 0} → (R → Option (List ℕ)) → Counted R → Counted R → Given
+given remaining old new = record {
+  nothing = new ≡ old;
+  these = λ bytes. Consumes (remaining (counted_inner old)) (remaining (counted_inner new)) bytes;
+  ended = IsAtEnd (remaining (counted_inner new));
+  failed = HasFailed (failures_of old) (failures_of new);
+}
+
+-- the writer took a beginning of the bytes, and then a write failed
+abbrev pub IsCutOff : Taken → List ℕ → Type 0
+IsCutOff out bytes = (front : List ℕ) × (rest : List ℕ) × (bytes ≡ front ++ rest) × out.these front × out.failed
+
+-- all bytes were taken, or they were cut off
+abbrev pub HasSent : Taken → List ℕ → Bool → Type 0
+HasSent out bytes true = out.these bytes
+HasSent out bytes false = IsCutOff out bytes
+
+-- an attempt to send the bytes was made: each was taken, or they were cut off
+abbrev pub WasTold : Taken → List ℕ → Type 0
+WasTold out bytes = out.these bytes ⊎ IsCutOff out bytes

@@ -1,0 +1,49 @@
+// The parts of a job.
+
+ghost use Rattle.std.specs.Prelude.{◌≡◌, ◌==◌, MatchOption, List, ℕ, position};
+ghost use Rattle.snesl_run.specs.Job.{BeginsWithSeparator, IsJob, HaveOneJob};
+
+// The program and the input text of a job.
+pub(crate) fn split(job: &[u8]) -> (&[u8], &[u8])
+    ensures { IsJob job.now result.0.now result.1.now }
+{
+    let mut at = 0;
+    loop {
+        let rest = &job[at..];
+        if let Some(input) = behind_separator(rest) {
+            return (&job[..at], input);
+        }
+        match line_len(rest) {
+            Some(n) => at += n + 1,
+            None => return (job, &[]),
+        }
+    }
+}
+
+// What follows the separator's line, where that stands first.
+fn behind_separator(bytes: &[u8]) -> Option<&[u8]>
+    ensures { MatchOption result
+        ((input : List ℕ) → ¬ BeginsWithSeparator bytes.now input)
+        (λ input. BeginsWithSeparator bytes.now input.now) }
+{
+    let behind = bytes.strip_prefix(b"---")?;
+    if behind.is_empty() {
+        return Some(behind);
+    }
+    match behind.strip_prefix(b"\n") {
+        Some(input) => Some(input),
+        None => behind.strip_prefix(b"\r\n"),
+    }
+}
+
+// The length of the first line, where a line feed ends it.
+fn line_len(bytes: &[u8]) -> Option<usize>
+    ensures { result ≡ position (λ b. b == 10) bytes.now }
+{
+    bytes.iter().position(|b| *b == b'\n')
+}
+
+/// A law and no code to run: a job has one program and one input text.
+pub fn one_job()
+    ensures { HaveOneJob }
+{}

@@ -1,0 +1,19 @@
+// Running a program for its input text, and answering a job.
+#![tactic(auto)]
+
+pub mod answers;
+pub mod job;
+pub mod lines;
+pub mod meaning;
+pub mod reading;
+pub mod report;
+pub mod runs;
+pub mod send;
+
+pub use answers::answer;
+pub use job::one_job;
+pub use lines::{NO_MEMORY_LINE, OUTPUT_LINE};
+pub use meaning::one_meaning;
+pub use report::{Report, RunError};
+pub use runs::run;
+pub use send::complain;

@@ -1,0 +1,55 @@
+// The lines that are printed.
+
+ghost use Rattle.std.specs.Prelude.{◌≡◌, ◌++◌, IfOk, OnOk};
+ghost use Rattle.snesl_run.specs.Prints.{fault_line, refusal_line, place_text};
+
+use itoa::Buffer;
+use snesl_values::{Fault, Refusal};
+use std::alloc::{AllocError, Global};
+
+// These lines stand here whole, so that they can be printed where memory is refused.
+pub(crate) const BAD_CONFIG_LINE: &[u8] = b"refused 10\n";
+
+pub(crate) const READ_LINE: &[u8] = b"refused 14\n";
+
+/// What is said where memory was refused.
+pub const NO_MEMORY_LINE: &[u8] = b"refused 11\n";
+
+/// What is said where standard output could not be written.
+pub const OUTPUT_LINE: &[u8] = b"refused 12\n";
+
+// `fault N at K`.
+pub(crate) fn fault_line(alloc: Global, fault: Fault) -> Result<Vec<u8>, AllocError>
+    ensures { IfOk result (λ line. line.items ≡ fault_line fault.kind fault.at) }
+{
+    let mut buffer = Buffer::new();
+    let mut line = Vec::from_slice(alloc, b"fault ")?;
+    line.extend_from_slice(buffer.format(fault.kind.number()).as_bytes())?;
+    append_place(&mut line, Some(fault.at))?;
+    line.extend_from_slice(b"\n")?;
+    Ok(line)
+}
+
+// `refused N at K`, or `refused N`.
+pub(crate) fn refusal_line(alloc: Global, refusal: Refusal) -> Result<Vec<u8>, AllocError>
+    ensures { IfOk result (λ line. line.items ≡ refusal_line refusal) }
+{
+    let mut buffer = Buffer::new();
+    let mut line = Vec::from_slice(alloc, b"refused ")?;
+    line.extend_from_slice(buffer.format(refusal.number()).as_bytes())?;
+    append_place(&mut line, refusal.at())?;
+    line.extend_from_slice(b"\n")?;
+    Ok(line)
+}
+
+// ` at K`, where there is an offset.
+fn append_place(line: &mut Vec<u8>, at: Option<usize>) -> Result<(), AllocError>
+    ensures { OnOk result (line.new.items ≡ line.old.items ++ place_text at) }
+{
+    if let Some(at) = at {
+        let mut buffer = Buffer::new();
+        line.extend_from_slice(b" at ")?;
+        line.extend_from_slice(buffer.format(at).as_bytes())?;
+    }
+    Ok(())
+}

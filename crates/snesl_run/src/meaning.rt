@@ -1,0 +1,16 @@
+// Meanings.
+
+ghost use Rattle.snesl_run.specs.Meaning.{HaveOneMeaning};
+
+use snesl_syntax::one_answer;
+use snesl_types::one_typing;
+use snesl_values::one_input_meaning;
+
+/// A law: a program and an input text have one meaning.
+pub fn one_meaning()
+    ensures { HaveOneMeaning }
+{
+    one_answer();
+    one_typing();
+    one_input_meaning();
+}

@@ -1,0 +1,51 @@
+// Sending bytes to a writer.
+
+ghost use Rattle.std.specs.Prelude.{◌≡◌};
+ghost use Rattle.snesl_run.specs.Streams.{taken, HasSent, WasTold};
+ghost use Rattle.snesl_run.specs.Prints.{Prints};
+
+use crate::lines::OUTPUT_LINE;
+use snesl_values::Counted;
+use std::io::Write;
+
+// Whether the writer took all bytes. A write that fails, or that takes no byte, ends it: there is
+// no second try, at an interrupted call either.
+pub(crate) fn send<W: Write>(out: &mut Counted<W>, bytes: &[u8]) -> bool
+    ensures { HasSent (taken W.contents out.old out.new) bytes.now result }
+{
+    let mut rest = bytes;
+    while !rest.is_empty() {
+        match out.write(rest) {
+            Ok(n) if n > 0 => rest = &rest[n..],
+            _ => return false,
+        }
+    }
+    true
+}
+
+// Prints a line, and gives the exit status: this one, or 4 where the line could not be written,
+// which is said on `err`.
+pub(crate) fn print<W: Write, E: Write>(
+    line: &[u8],
+    status: u8,
+    out: &mut Counted<W>,
+    err: &mut Counted<E>,
+) -> u8
+    ensures { Prints (taken W.contents out.old out.new) (taken E.contents err.old err.new) line.now status result }
+{
+    if send(out, line) {
+        status
+    } else {
+        complain(OUTPUT_LINE, err)
+    }
+}
+
+/// Says a line on `err`, where that can be written, and returns the exit status of a run that could
+/// not be finished, 4.
+pub fn complain<E: Write>(line: &[u8], err: &mut Counted<E>) -> u8
+    ensures status { result ≡ 4 }
+    ensures told { WasTold (taken E.contents err.old err.new) line.now }
+{
+    let _ = send(err, line);
+    4
+}
