@@ -8,19 +8,19 @@ use std::test::Fail;
 
 /// What was printed, what was said on standard error, and the exit status.
 #[derive(Drop)]
-pub struct Answered {
+pub struct Reply {
     pub printed: Vec<u8>,
     pub complaint: Vec<u8>,
     pub status: u8,
 }
 
 /// Answers a job with no words.
-pub fn answered(alloc: Global, job: &[u8]) -> Answered {
+pub fn answered(alloc: Global, job: &[u8]) -> Reply {
     let mut reader = Counted::new(job);
     let mut printed = Counted::new(Vec::new(alloc));
     let mut complaint = Counted::new(Vec::new(alloc));
     let status = answer(alloc, &["snesl"], &mut reader, &mut printed, &mut complaint);
-    Answered {
+    Reply {
         printed: printed.into_inner(),
         complaint: complaint.into_inner(),
         status,
