@@ -4,7 +4,7 @@ use Rattle.std.specs.declared.alloc.Global.{Global}
 use Rattle.snesl_tree.specs.declared.expr.Expr.{Expr}
 use Rattle.snesl_tree.specs.declared.expr.Expr.TheVariants.{Call}
 use Rattle.snesl_tree.specs.declared.operator.Builtin.{Builtin}
-use Rattle.snesl_tree.specs.Tree.{both, call, depth, depth_of_all}
+use Rattle.snesl_tree.specs.Tree.{both, depth, depth_of_all}
 use Rattle.snesl_syntax.specs.Grammar.{added}
 use Rattle.snesl_tree.specs.View.{tree_of, trees_of}
 use Rattle.snesl_tree.proofs.Arguments.{tree_of-Call}

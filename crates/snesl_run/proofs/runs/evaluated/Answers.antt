@@ -1,4 +1,4 @@
-use Rattle.std.proofs.Common.{◌≡◌, Ok, Err, subst, sym, ap, ◌∙◌}
+use Rattle.std.proofs.Common.{subst}
 use Rattle.snesl_values.specs.Inputs.{environment_of, refusal_of}
 use Rattle.snesl_values.specs.Values.{value_of}
 use Rattle.snesl_tree.specs.View.{tree_of}
