@@ -12,6 +12,8 @@ mod jobs;
 #[cfg(test)]
 mod limits;
 #[cfg(test)]
+mod network;
+#[cfg(test)]
 mod rows;
 #[cfg(test)]
 mod streams;

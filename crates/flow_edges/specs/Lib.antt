@@ -1,0 +1,6 @@
+pub mod Cells
+pub mod Signals
+pub mod Ends
+pub mod Whole
+pub mod Tables
+pub mod TableLaws

@@ -1,0 +1,21 @@
+//! Edges between transducers: first-in-first-out lists of messages, each with a writer and a reader.
+//!
+//! An edge is a channel as in Kahn's networks of processes (1974), but it holds no more messages than
+//! its capacity. A message is an item or the end of the stream. [`Ends`] is what a driver of
+//! transducers sees of a set of edges, [`WholeEnds`] where it sees both ends of each, and [`Table`]
+//! holds both ends of every edge, in one thread.
+#![tactic(auto)]
+
+mod ends;
+mod line;
+mod message;
+mod table;
+mod table_ends;
+mod theorems;
+mod whole;
+
+pub use ends::{Ends, Refused, Why};
+pub use message::{Item, Kind, Msg};
+pub use table::{MAX_CAPACITY, Table};
+pub use theorems::{counts_are_exact, nothing_after_stop, put_adds_one, take_gives_oldest};
+pub use whole::WholeEnds;

@@ -1,0 +1,78 @@
+// What an edge carries.
+ghost use Rattle.std.specs.Prelude.{◌≡◌, false, IfOk, IsOk};
+ghost use Rattle.flow_edges.specs.Cells.{cell_of, is_of};
+ghost use Rattle.flow_edges.specs.Signals.{signal_of, is_stop};
+
+use snesl_values::{Datum, copy_datum};
+use std::alloc::{AllocError, Global};
+
+/// What kind of items a stream carries.
+#[derive(Clone, Copy, Debug, PartialEq, Eq)]
+pub enum Kind {
+    /// Items that say only that they are there.
+    Unit,
+    /// Truth values.
+    Bool,
+    /// Integers.
+    Int,
+    /// Values of a concrete type.
+    Vec,
+}
+
+impl Kind {
+    /// Whether the item is of this kind.
+    pub fn fits(self, item: &Item) -> bool
+        ensures { result ≡ is_of self (cell_of item.now) }
+    {
+        matches!(
+            (self, item),
+            (Kind::Unit, Item::Unit)
+                | (Kind::Bool, Item::Bool(_))
+                | (Kind::Int, Item::Int(_))
+                | (Kind::Vec, Item::Vec(_))
+        )
+    }
+}
+
+/// One item of a stream. Each variant is of the `Kind` of its name.
+#[derive(Debug, Drop)]
+pub enum Item {
+    Unit,
+    Bool(bool),
+    Int(i64),
+    Vec(Datum),
+}
+
+impl Item {
+    /// An item that carries the same. Only the copy of a vector takes memory, and is refused where there is none.
+    pub fn copy(&self, alloc: Global) -> Result<Item, AllocError>
+        ensures ok { IfOk result (λ item. cell_of item ≡ cell_of self.now) }
+        ensures scalar { is_of Kind.Vec (cell_of self.now) ≡ false → IsOk result }
+    {
+        match self {
+            Item::Unit => Ok(Item::Unit),
+            Item::Bool(truth) => Ok(Item::Bool(*truth)),
+            Item::Int(number) => Ok(Item::Int(*number)),
+            Item::Vec(datum) => Ok(Item::Vec(copy_datum(alloc, datum)?)),
+        }
+    }
+}
+
+/// An item, or the end of the stream.
+#[derive(Debug, Drop)]
+pub enum Msg {
+    Item(Item),
+    End,
+}
+
+impl Msg {
+    /// Whether it is the end of the stream.
+    pub fn is_end(&self) -> bool
+        ensures { result ≡ is_stop (signal_of self.now) }
+    {
+        match self {
+            Msg::Item(_) => false,
+            Msg::End => true,
+        }
+    }
+}
