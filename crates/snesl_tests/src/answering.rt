@@ -28,7 +28,13 @@ pub fn answered(alloc: Global, job: &[u8]) -> Reply {
 }
 
 /// Asserts that a job prints this line, without its line feed, on standard output, and the status.
-pub fn assert_prints(rt: &impl Abort, alloc: Global, job: &[u8], line: &[u8], status: u8) -> Result<(), Fail> {
+pub fn assert_prints(
+    rt: &impl Abort,
+    alloc: Global,
+    job: &[u8],
+    line: &[u8],
+    status: u8,
+) -> Result<(), Fail> {
     let answered = answered(alloc, job);
     let mut wanted = line.to_vec(alloc)?;
     wanted.push(b'\n')?;

@@ -1,7 +1,7 @@
 // Each public call once, with ample memory.
 
 use snesl_lexer::{Kind, Token, tokens_of};
-use snesl_run::run;
+use snesl_run::{NO_MEMORY_LINE, complain, run};
 use snesl_syntax::{Expr, Span, parse};
 use snesl_types::{check, plain};
 use snesl_values::{
@@ -56,7 +56,10 @@ fn types(rt: HostRuntime) -> Result<(), Fail> {
     assert!(rt; copy_ty(rt.alloc(), &pair)?.concrete());
     let sequence = Ty::Seq(Box::new(rt.alloc(), pair)?);
     assert!(rt; !sequence.concrete());
-    let nested = Ty::Pair(Box::new(rt.alloc(), Ty::Int)?, Box::new(rt.alloc(), sequence)?);
+    let nested = Ty::Pair(
+        Box::new(rt.alloc(), Ty::Int)?,
+        Box::new(rt.alloc(), sequence)?,
+    );
     assert!(rt; !copy_ty(rt.alloc(), &nested)?.concrete());
     Ok(())
 }
@@ -133,11 +136,26 @@ fn counted(rt: HostRuntime) -> Result<(), Fail> {
 fn tokens(rt: HostRuntime) -> Result<(), Fail> {
     let tokens = tokens_of(rt.alloc(), b"a<=12 ++iota_")?;
     let wanted = [
-        Token { kind: Kind::Name(1), at: 0 },
-        Token { kind: Kind::AtMost, at: 1 },
-        Token { kind: Kind::Integer(12), at: 3 },
-        Token { kind: Kind::Append, at: 6 },
-        Token { kind: Kind::Name(5), at: 8 },
+        Token {
+            kind: Kind::Name(1),
+            at: 0,
+        },
+        Token {
+            kind: Kind::AtMost,
+            at: 1,
+        },
+        Token {
+            kind: Kind::Integer(12),
+            at: 3,
+        },
+        Token {
+            kind: Kind::Append,
+            at: 6,
+        },
+        Token {
+            kind: Kind::Name(5),
+            at: 8,
+        },
     ];
     assert_eq!(rt; tokens.as_slice(), wanted.as_slice());
     Ok(())
@@ -145,13 +163,17 @@ fn tokens(rt: HostRuntime) -> Result<(), Fail> {
 
 #[test]
 fn reserved_words(rt: HostRuntime) -> Result<(), Fail> {
-    let text = b"input function let in if then else true false not and or int bool dialect iota scan_add reduce_add reduce_max reduce_and reduce_or length concat part the tab seq fst snd";
+    let text =
+        b"input function let in if then else true false not and or int bool dialect iota scan_add reduce_add reduce_max reduce_and reduce_or length concat part the tab seq fst snd";
     let tokens = tokens_of(rt.alloc(), text)?;
     assert_eq!(rt; tokens.len(), 29);
     for token in &tokens {
         assert!(rt; !matches!(token.kind, Kind::Name(_)));
     }
-    let signs = tokens_of(rt.alloc(), b"( ) { } [ ] : ; , | = == < <= > >= + ++ - * / % !")?;
+    let signs = tokens_of(
+        rt.alloc(),
+        b"( ) { } [ ] : ; , | = == < <= > >= + ++ - * / % !",
+    )?;
     assert_eq!(rt; signs.len(), 23);
     Ok(())
 }
@@ -193,4 +215,11 @@ fn runs(rt: HostRuntime) -> Result<(), Fail> {
     }
     assert_eq!(rt; out.into_inner().as_slice(), b"{0,1,2}\n".as_slice());
     Ok(())
+}
+
+#[test]
+fn complaints(rt: HostRuntime) {
+    let mut err = Counted::new(Vec::new(rt.alloc()));
+    assert_eq!(rt; complain(NO_MEMORY_LINE, &mut err), 4);
+    assert_eq!(rt; err.into_inner().as_slice(), b"refused 11\n".as_slice());
 }

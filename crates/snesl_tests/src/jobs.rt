@@ -56,7 +56,13 @@ fn words(rt: HostRuntime) -> Result<(), Fail> {
         let mut printed = Counted::new(Vec::new(rt.alloc()));
         let mut complaint = Counted::new(Vec::new(rt.alloc()));
         let words = ["snesl", word];
-        let status = answer(rt.alloc(), &words, &mut reader, &mut printed, &mut complaint);
+        let status = answer(
+            rt.alloc(),
+            &words,
+            &mut reader,
+            &mut printed,
+            &mut complaint,
+        );
         assert_eq!(rt; status, 1);
         assert_eq!(rt; printed.into_inner().as_slice(), b"refused 10\n".as_slice());
         assert_eq!(rt; complaint.into_inner().len(), 0);

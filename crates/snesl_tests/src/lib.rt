@@ -1,8 +1,6 @@
 // Tests that cross crates, and the readers and writers that they fail with.
 #![tactic(auto)]
 
-pub mod stopping;
-
 #[cfg(test)]
 mod answering;
 #[cfg(test)]
@@ -15,5 +13,6 @@ mod limits;
 mod network;
 #[cfg(test)]
 mod rows;
+pub mod stopping;
 #[cfg(test)]
 mod streams;

@@ -5,7 +5,14 @@ use std::alloc::{AllocError, Global};
 use std::test::Fail;
 
 // So many times the first, then the second, then so many times the third, then the last.
-fn nested(alloc: Global, count: usize, open: &[u8], inner: &[u8], close: &[u8], last: &[u8]) -> Result<Vec<u8>, AllocError> {
+fn nested(
+    alloc: Global,
+    count: usize,
+    open: &[u8],
+    inner: &[u8],
+    close: &[u8],
+    last: &[u8],
+) -> Result<Vec<u8>, AllocError> {
     let mut text = Vec::new(alloc);
     for _ in 0..count {
         text.extend_from_slice(open)?;

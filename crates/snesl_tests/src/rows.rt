@@ -18,8 +18,14 @@ fn values(rt: HostRuntime) -> Result<(), Fail> {
         (b"9223372036854775807", b"9223372036854775807"),
         (b"reduce_add(iota(0))", b"0"),
         (b"{x : x in {x + 1 : x in iota(3)}}", b"{1,2,3}"),
-        (b"{reduce_add({x + y : y in iota(x)}) : x in iota(4)}", b"{0,1,5,12}"),
-        (b"{reduce_add(x) : x in {iota(a) : a in iota(4)}}", b"{0,0,1,3}"),
+        (
+            b"{reduce_add({x + y : y in iota(x)}) : x in iota(4)}",
+            b"{0,1,5,12}",
+        ),
+        (
+            b"{reduce_add(x) : x in {iota(a) : a in iota(4)}}",
+            b"{0,0,1,3}",
+        ),
     ];
     for (program, text) in rows {
         assert_prints(&rt, rt.alloc(), program, text, 0)?;
@@ -34,9 +40,15 @@ fn faults(rt: HostRuntime) -> Result<(), Fail> {
         (b"9223372036854775807 + 1", b"fault 2 at 20"),
         (b"0 - 9223372036854775807 - 2", b"fault 2 at 24"),
         (b"3037000500 * 3037000500", b"fault 2 at 11"),
-        (b"reduce_add({x * 9223372036854775807 : x in {1 + y * 0 : y in iota(2)}})", b"fault 2 at 0"),
+        (
+            b"reduce_add({x * 9223372036854775807 : x in {1 + y * 0 : y in iota(2)}})",
+            b"fault 2 at 0",
+        ),
         // The first fault from the left, and the first element's.
-        (b"iota(0 - 1 + (9223372036854775807 + 1) * 0)", b"fault 2 at 34"),
+        (
+            b"iota(0 - 1 + (9223372036854775807 + 1) * 0)",
+            b"fault 2 at 34",
+        ),
         (b"iota(0 - 1) + 1", b"refused 6 at 12"),
         (b"{iota(1 - x) : x in iota(4)}", b"fault 3 at 1"),
     ];
@@ -83,7 +95,10 @@ fn refusals_of_the_text(rt: HostRuntime) -> Result<(), Fail> {
 fn refusals_of_typing(rt: HostRuntime) -> Result<(), Fail> {
     let rows: [(&[u8], &[u8]); 15] = [
         (b"1 + iota(2)", b"refused 6 at 2"),
-        (b"{{reduce_add(x) : y in x} : x in {iota(a) : a in iota(3)}}", b"refused 7 at 13"),
+        (
+            b"{{reduce_add(x) : y in x} : x in {iota(a) : a in iota(3)}}",
+            b"refused 7 at 13",
+        ),
         (b"{y : x in iota(2)}", b"refused 5 at 1"),
         (b"{x : x in x}", b"refused 5 at 10"),
         (b"{x : x in 3}", b"refused 6 at 5"),
@@ -97,8 +112,14 @@ fn refusals_of_typing(rt: HostRuntime) -> Result<(), Fail> {
         (b"{z : x in y}", b"refused 5 at 10"),
         (b"{z : x in 3}", b"refused 6 at 5"),
         // A hidden outer name of a streamed type is not refused.
-        (b"{{{x : y in iota(1)} : x in iota(1)} : x in {iota(2) : a in iota(1)}}", b"{{{0}}}"),
-        (b"{{iota(1) : y in x} : x in {iota(2) : a in iota(1)}}", b"{{{0},{0}}}"),
+        (
+            b"{{{x : y in iota(1)} : x in iota(1)} : x in {iota(2) : a in iota(1)}}",
+            b"{{{0}}}",
+        ),
+        (
+            b"{{iota(1) : y in x} : x in {iota(2) : a in iota(1)}}",
+            b"{{{0},{0}}}",
+        ),
     ];
     for (program, line) in rows {
         let status = if line.starts_with(b"refused") { 1 } else { 0 };

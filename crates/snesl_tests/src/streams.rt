@@ -8,12 +8,21 @@ use std::test::Fail;
 
 // Answers the job over a writer that stops behind so many bytes: the status, what was taken, and
 // whether the complaint is that of a writer that failed.
-fn over_stopping_writer(alloc: Global, job: &[u8], writes: usize, stop: Stop) -> (u8, Vec<u8>, Vec<u8>) {
+fn over_stopping_writer(
+    alloc: Global,
+    job: &[u8],
+    writes: usize,
+    stop: Stop,
+) -> (u8, Vec<u8>, Vec<u8>) {
     let mut reader = Counted::new(job);
     let mut writer = Counted::new(StoppingWriter::new(Vec::new(alloc), writes, stop));
     let mut complaint = Counted::new(Vec::new(alloc));
     let status = answer(alloc, &["snesl"], &mut reader, &mut writer, &mut complaint);
-    (status, writer.into_inner().into_taken(), complaint.into_inner())
+    (
+        status,
+        writer.into_inner().into_taken(),
+        complaint.into_inner(),
+    )
 }
 
 #[test]
@@ -73,7 +82,13 @@ fn no_writer_works(rt: HostRuntime) -> Result<(), Fail> {
         let mut writer = Counted::new(StoppingWriter::new(Vec::new(rt.alloc()), 0, Stop::Fails));
         let taken = Vec::new(rt.alloc());
         let mut complaint = Counted::new(StoppingWriter::new(taken, writes, Stop::TakesNothing));
-        let status = answer(rt.alloc(), &["snesl"], &mut reader, &mut writer, &mut complaint);
+        let status = answer(
+            rt.alloc(),
+            &["snesl"],
+            &mut reader,
+            &mut writer,
+            &mut complaint,
+        );
         assert_eq!(rt; status, 4);
         assert_eq!(rt; writer.into_inner().into_taken().len(), 0);
         let said = complaint.into_inner().into_taken();
