@@ -11,7 +11,7 @@ use borrow.Author.Tests.{ltb-false, eqb-true}
 use Rattle.snesl_run.specs.Job.{BeginsWithSeparator, at_the_end, before_line_feed, before_carriage_return, EndsLine, NoSeparatorBefore, IsJob, parted, program_alone, HaveOneJob}
 
 -- the three forms of the line
-abbrev HasForm : List ℕ → List ℕ → Type 0
+abbrev pub HasForm : List ℕ → List ℕ → Type 0
 HasForm bytes input = ((bytes ≡ codes "---") × (input ≡ [])) ⊎ (bytes ≡ codes "---\n" ++ input) ⊎ (bytes ≡ codes "---\r\n" ++ input)
 
 pub form : (bytes input : List ℕ) → BeginsWithSeparator bytes input → HasForm bytes input
@@ -124,13 +124,13 @@ split_nowhere job at missing not_here before =
     passed_line job at n (none_behind job at n missing) not_here before front back input e (omega arith) ends found)
 
 -- how a job can be split
-abbrev IsParted : List ℕ → List ℕ → List ℕ → Type 0
+abbrev pub IsParted : List ℕ → List ℕ → List ℕ → Type 0
 IsParted job program input = (back : List ℕ) × (job ≡ program ++ back) × EndsLine program × BeginsWithSeparator back input × NoSeparatorBefore (length program) job
 
-abbrev IsAlone : List ℕ → List ℕ → List ℕ → Type 0
+abbrev pub IsAlone : List ℕ → List ℕ → List ℕ → Type 0
 IsAlone job program input = (job ≡ program) × (input ≡ []) × ((n : ℕ) → NoSeparatorBefore n job)
 
-ways : (job program input : List ℕ) → IsJob job program input → IsParted job program input ⊎ IsAlone job program input
+pub ways : (job program input : List ℕ) → IsJob job program input → IsParted job program input ⊎ IsAlone job program input
 ways job program input (parted p back i ends found before) = inl (back, refl, ends, found, before)
 ways job program input (program_alone j none) = inr (refl, refl, none)
 

@@ -4,3 +4,4 @@ pub mod Meanings
 pub mod Running
 pub mod Printing
 pub mod OwnLines
+pub mod CutJobs

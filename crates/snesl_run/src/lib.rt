@@ -2,6 +2,7 @@
 #![tactic(auto)]
 
 pub mod answers;
+pub mod cuts;
 pub mod job;
 pub mod lines;
 pub mod meaning;
@@ -11,6 +12,7 @@ pub mod runs;
 pub mod send;
 
 pub use answers::answer;
+pub use cuts::cut_changes_nothing;
 pub use job::one_job;
 pub use lines::{NO_MEMORY_LINE, OUTPUT_LINE};
 pub use meaning::one_meaning;
