@@ -12,7 +12,6 @@ pub mod Conclusions
 pub mod Turns
 pub mod Bare
 pub mod Held
-pub mod Lawful
 pub mod Parts
 pub mod Rounds
 pub mod Shares

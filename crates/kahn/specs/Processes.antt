@@ -1,6 +1,6 @@
 -- Sequential processes: what one is, what it does, and the laws that it keeps to.
 -- (G. Kahn, "The semantics of a simple language for parallel programming", 1974.)
-use Rattle.std.specs.Prelude.{◌&&◌, ◌||◌, ◌↔◌, ◌≡◌, ℕ, ◌<◌, eqb, Bool, true, false, cond, List, [], ◌∷◌, ◌++◌}
+use Rattle.std.specs.Prelude.{◌≡◌, ℕ, ◌<◌, eqb, cond, List, [], ◌∷◌, ◌++◌}
 use Rattle.kahn.specs.declared.want.Want.{Want}
 use Rattle.kahn.specs.declared.want.Want.TheVariants.{Read, Write, Ended}
 
@@ -69,19 +69,3 @@ module _ {State Message : Type 0} (P : Process State Message) where
     pub ended : P.want end ≡ Ended
     pub reads_all : (p : ℕ) → p < inputs → reads p history ≡ read p
     pub writes_all : (p : ℕ) → writes p history ≡ written p
-
--- What a process may keep in its state of the ends that passed, from which its lawfulness follows with
--- no word of histories: which ports are closed, and a fact that every state has.
-module _ {State Message : Type 0} (P : Process State Message) where
-  pub record KeepsEnds (is_end : Message → Bool) (Good : State → Type 0) (closed_in closed_out : State → ℕ → Bool) (inputs outputs : ℕ) : Type 0 where
-    pub end_is : (m : Message) → (is_end m ≡ true) ↔ (m ≡ P.end)
-    pub good_read : (s : State) (p : ℕ) (m : Message) → Good s → P.want s ≡ Read p → Good (P.read s m)
-    pub good_wrote : (s : State) (p : ℕ) → Good s → P.want s ≡ Write p → Good (P.wrote s)
-    pub wants_in : (s : State) (p : ℕ) → Good s → P.want s ≡ Read p → (p < inputs) × (closed_in s p ≡ false)
-    pub wants_out : (s : State) (p : ℕ) → Good s → P.want s ≡ Write p → (p < outputs) × (closed_out s p ≡ false)
-    pub ended_in : (s : State) (p : ℕ) → Good s → P.want s ≡ Ended → p < inputs → closed_in s p ≡ true
-    pub ended_out : (s : State) (p : ℕ) → Good s → P.want s ≡ Ended → p < outputs → closed_out s p ≡ true
-    pub in_read : (s : State) (p q : ℕ) (m : Message) → Good s → P.want s ≡ Read p → closed_in (P.read s m) q ≡ ((eqb q p && is_end m) || closed_in s q)
-    pub out_read : (s : State) (p q : ℕ) (m : Message) → Good s → P.want s ≡ Read p → closed_out (P.read s m) q ≡ closed_out s q
-    pub in_wrote : (s : State) (p q : ℕ) → Good s → P.want s ≡ Write p → closed_in (P.wrote s) q ≡ closed_in s q
-    pub out_wrote : (s : State) (p q : ℕ) → Good s → P.want s ≡ Write p → closed_out (P.wrote s) q ≡ ((eqb q p && is_end (P.written s)) || closed_out s q)

@@ -1,0 +1,52 @@
+-- Lists of items, one for each port.
+use Rattle.std.specs.Prelude.{◌≡◌, ℕ, zero, suc, ◌==◌, List, [], ◌∷◌, cond, ◌↔◌, Bool, true, false, refl}
+
+-- for each port a list
+abbrev pub Lists : Type 0 → Type 0
+Lists A = ℕ → List A
+
+-- xs with the list of port p replaced
+abbrev pub with_port : {A : Type 0} → ℕ → List A → Lists A → Lists A
+with_port p list xs q = cond (q == p) list (xs q)
+
+-- one item more, in front, at port p
+abbrev pub push : {A : Type 0} → ℕ → A → Lists A → Lists A
+push p x xs = with_port p (x ∷ xs p) xs
+
+-- nothing at the first n ports
+abbrev pub NothingAt : {A : Type 0} → ℕ → Lists A → Type 0
+NothingAt zero xs = Unit {0}
+NothingAt (suc n) xs = NothingAt n xs × (xs n ≡ [])
+
+-- there is a first item, of which P holds, with the rest
+abbrev pub First : {A : Type 0} → List A → (A → List A → Type 0) → Type 0
+First [] P = ⊥
+First (x ∷ rest) P = P x rest
+
+-- there is a first item
+abbrev pub IsFull : {A : Type 0} → List A → Type 0
+IsFull xs = First xs (λ _ _. Unit {0})
+
+pub First-full : {A : Type 0} (xs : List A) (P : A → List A → Type 0) → First xs P → IsFull xs
+First-full [] P h = h
+First-full (x ∷ rest) P h = tt
+
+pub iff_refl : {A : Type 0} → A ↔ A
+iff_refl = (λ h. h, λ h. h)
+
+-- the test is true, and P holds
+abbrev pub When : Bool → Type 0 → Type 0
+When true P = P
+When false P = ⊥
+
+pub when_holds : (b : Bool) (P : Type 0) → When b P → P
+when_holds true P h = h
+when_holds false P h = absurd h
+
+pub when_true : (b : Bool) (P : Type 0) → b ≡ true → P → When b P
+when_true true P e h = h
+when_true false P e h = absurd (cc)
+
+pub when_is : (b : Bool) (P : Type 0) → When b P → b ≡ true
+when_is true P h = refl
+when_is false P h = absurd h

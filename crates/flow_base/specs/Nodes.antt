@@ -1,0 +1,99 @@
+-- A worker as a transducer: what it does where streams end.
+use Rattle.std.specs.Prelude.{ℕ, ◌+◌, ◌-◌, Bool, false, cond, nat_lt, Result, Ok, Err}
+use Rattle.snesl_values.specs.declared.fault.FaultKind.{FaultKind}
+use Rattle.snesl_values.specs.declared.fault.FaultKind.TheVariants.{Shape}
+use Rattle.kahn.specs.declared.want.Want.{Want}
+use Rattle.kahn.specs.declared.want.Want.TheVariants.{Read, Write, Ended, Faulted as Stopped}
+use Rattle.flow_edges.specs.Signals.{Signal, carry, stop}
+use Rattle.flow_base.specs.Workers.{Machine}
+use Rattle.flow_base.specs.Transducers.{Behaviour}
+use Rattle.flow_base.specs.declared.worker.Ask.{Ask}
+use Rattle.flow_base.specs.declared.worker.Ask.TheVariants.{Begin, Take, Give}
+use Rattle.flow_base.specs.declared.node.Phase.{Phase}
+use Rattle.flow_base.specs.declared.node.Phase.TheVariants.{Working, Closing, Ending, Faulted}
+
+-- A worker's state, how far the node is, and the offset that its faults name.
+pub record NodeState (S : Type 0) : Type 0 where
+  pub worker : S
+  pub phase : Phase
+  pub at : ℕ
+
+abbrev pub node_state : {S : Type 0} → S → Phase → ℕ → NodeState S
+node_state worker phase at = record { worker = worker; phase = phase; at = at }
+
+-- a node before its first instance
+abbrev pub opened : {S : Type 0} → S → ℕ → NodeState S
+opened worker at = node_state worker Working at
+
+-- the phase where the end of this input comes next, if there is such an input
+abbrev pub closing : ℕ → ℕ → Phase
+closing port inputs = cond (nat_lt port inputs) (Closing port) (Ending 0)
+
+abbrev pub want_for : Ask → Want
+want_for Begin = Read 0
+want_for (Take p) = Read p
+want_for (Give q) = Write q
+
+module _ {S : Type 0} (m : Machine S) where
+  abbrev pub want_in : Phase → NodeState S → Want
+  want_in Working n = want_for (m.ask n.worker)
+  want_in (Closing p) n = cond (nat_lt p (m.inputs n.worker)) (Read p) (Stopped (record { kind = Shape; at = n.at }))
+  want_in (Ending q) n = cond (nat_lt q (m.outputs n.worker)) (Write q) Ended
+  want_in (Faulted kind) n = Stopped (record { kind = kind; at = n.at })
+
+  -- the worker goes on, or the node has faulted
+  abbrev pub moved : NodeState S → Result S FaultKind → NodeState S
+  moved n (Ok next) = record n { worker = next }
+  moved n (Err kind) = record n { phase = Faulted kind }
+
+  -- the stream at the first port may end where an instance may begin, and at no other place
+  abbrev pub at_end : Ask → NodeState S → NodeState S
+  at_end Begin n = record n { phase = closing 1 (m.inputs n.worker) }
+  at_end _ n = record n { phase = Faulted Shape }
+
+  -- where an end is due, nothing else may come
+  abbrev pub given_in : Phase → NodeState S → Signal → NodeState S
+  given_in Working n (carry x) = moved n (m.given n.worker x)
+  given_in Working n stop = at_end (m.ask n.worker) n
+  given_in (Closing p) n stop = record n { phase = closing (p + 1) (m.inputs n.worker) }
+  given_in (Closing p) n (carry x) = record n { phase = Faulted Shape }
+  given_in _ n _ = n
+
+  abbrev pub told_in : Phase → NodeState S → Signal
+  told_in Working n = carry (m.told n.worker)
+  told_in _ n = stop
+
+  abbrev pub after_in : Phase → NodeState S → NodeState S
+  after_in Working n = record n { worker = m.after n.worker }
+  after_in (Ending q) n = record n { phase = Ending (q + 1) }
+  after_in _ n = n
+
+  abbrev pub debt_in : Phase → NodeState S → ℕ
+  debt_in Working n = m.debt n.worker
+  debt_in (Ending q) n = m.outputs n.worker - q
+  debt_in _ n = 0
+
+  abbrev pub memory_in : Phase → NodeState S → Bool
+  memory_in Working n = m.takes_memory n.worker
+  memory_in _ n = false
+
+  abbrev pub behaviour_of : Behaviour (NodeState S)
+  behaviour_of = record {
+    process = record {
+      want = λ n. want_in n.phase n;
+      read = λ n message. given_in n.phase n message;
+      written = λ n. told_in n.phase n;
+      wrote = λ n. after_in n.phase n;
+      debt = λ n. debt_in n.phase n;
+      end = stop;
+    };
+    opening = λ n. opened (m.home n.worker) n.at;
+    inputs = λ n. m.inputs n.worker;
+    outputs = λ n. m.outputs n.worker;
+    kind_in = λ n. m.kind_in n.worker;
+    kind_out = λ n. m.kind_out n.worker;
+    at = λ n. n.at;
+    row = λ n. m.row n.worker;
+    fits = λ n. m.fits n.worker;
+    takes_memory = λ n. memory_in n.phase n;
+  }

@@ -1,0 +1,15 @@
+//! Stream transducers: sequential processes that read and write one message at a time, in the manner of Kahn's
+//! networks (G. Kahn, "The semantics of a simple language for parallel programming", 1974), and the workers
+//! that most of them are made of.
+//!
+//! A [`Worker`] reads and writes the items of one instance after another and is told nothing of the ends of
+//! streams; a [`Node`] makes a [`Transducer`] of it, and does all that is to be done where streams end.
+#![tactic(auto)]
+
+mod node;
+mod transducer;
+mod worker;
+
+pub use node::{Node, Phase};
+pub use transducer::{Transducer, keeps_laws};
+pub use worker::{Ask, Stop, Worker};

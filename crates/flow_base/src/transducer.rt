@@ -1,0 +1,72 @@
+// Transducers: sequential processes that read or write one message at a time.
+
+ghost use Rattle.std.specs.Prelude.{◌≡◌};
+ghost use Rattle.flow_base.specs.Transducers.{TransducerLaws};
+
+use flow_edges::{Kind, Msg};
+use kahn::Want;
+use std::alloc::AllocError;
+
+/// A sequential process (Kahn 1974): it wants to read one port, or to write one port, or has ended or faulted.
+///
+/// Its laws speak of an abstract state, and of what messages say.
+pub trait Transducer {
+    ghost use Rattle.std.specs.Prelude.{◌≡◌, ℕ, false, IfOk, OnOk, OnErr, IsOk};
+    ghost use Rattle.kahn.specs.declared.want.Want.TheVariants.{Read};
+    ghost use Rattle.flow_edges.specs.Signals.{signal_of};
+    ghost use Rattle.flow_base.specs.Transducers.{Behaviour, BehaviourLaws, IsWrite};
+
+    /// What its laws see of it.
+    ghost State: { Type 0 };
+
+    ghost state: { Self → State };
+
+    /// What it does: its process, its ports and its row.
+    ghost behaviour: { Behaviour State };
+
+    /// What it wants next.
+    fn want(&self) -> Want
+        ensures { result ≡ behaviour.process.want (state self.now) };
+
+    /// The number of its input ports, from 0 on.
+    fn inputs(&self) -> usize
+        ensures { result ≡ behaviour.inputs (state self.now) };
+
+    /// The number of its output ports, from 0 on.
+    fn outputs(&self) -> usize
+        ensures { result ≡ behaviour.outputs (state self.now) };
+
+    /// The kind of the items at this input port.
+    fn kind_in(&self, port: usize) -> Kind
+        ensures { result ≡ behaviour.kind_in (state self.now) port };
+
+    /// The kind of the items at this output port.
+    fn kind_out(&self, port: usize) -> Kind
+        ensures { result ≡ behaviour.kind_out (state self.now) port };
+
+    /// Gives it the message that it wanted to read, of the port of this number. An error where memory was refused;
+    /// then the transducer is unchanged, and the message is lost.
+    fn give(&mut self, port: usize, message: Msg) -> Result<(), AllocError>
+        requires { behaviour.process.want (state self.old) ≡ Read port }
+        ensures ok { OnOk result (state self.new ≡ behaviour.process.read (state self.old) (signal_of message)) }
+        ensures err { OnErr result (state self.new ≡ state self.old) }
+        ensures sure { behaviour.takes_memory (state self.old) ≡ false → IsOk result };
+
+    /// The message that it wanted to write. An error where memory was refused; then the transducer is unchanged.
+    fn emit(&mut self) -> Result<Msg, AllocError>
+        requires { IsWrite (behaviour.process.want (state self.old)) }
+        ensures ok { IfOk result (λ message. (signal_of message ≡ behaviour.process.written (state self.old)) × (state self.new ≡ behaviour.process.wrote (state self.old))) }
+        ensures err { OnErr result (state self.new ≡ state self.old) }
+        ensures sure { behaviour.takes_memory (state self.old) ≡ false → IsOk result };
+
+    /// What it keeps to in each state.
+    ghost laws: { BehaviourLaws behaviour };
+}
+
+/// A law and no code to run: what each transducer keeps to, from its opening state on, whatever it reads and
+/// writes. It is a lawful process; on beginnings of lawful traffic it has not faulted and wrote beginnings of what
+/// goes out; where it has ended its traffic was lawful; and lawful traffic it carries to its end.
+pub fn keeps_laws<T: Transducer>(opened: &T)
+    requires { T.behaviour.opening (T.state opened.now) ≡ T.state opened.now }
+    ensures { TransducerLaws T.behaviour (T.state opened.now) }
+{}

@@ -1,0 +1,106 @@
+// Workers: what a transducer does with one instance after another.
+
+ghost use Rattle.std.specs.Prelude.{◌≡◌, false, IfOk, OnErr, IsOk};
+
+use flow_edges::{Item, Kind};
+use snesl_values::FaultKind;
+use std::alloc::AllocError;
+
+/// What a worker wants next.
+#[derive(Clone, Copy, Debug, PartialEq, Eq)]
+pub enum Ask {
+    /// To read the first item of an instance from port 0, where the stream may also end.
+    Begin,
+    /// To read an item from this port, within an instance.
+    Take(usize),
+    /// To write an item to this port.
+    Give(usize),
+}
+
+/// Why an item was not taken.
+#[derive(Clone, Copy, Debug, PartialEq, Eq)]
+pub enum Stop {
+    /// No instance goes on with this item.
+    Faulted(FaultKind),
+    /// Memory was refused.
+    OutOfMemory,
+}
+
+impl From<FaultKind> for Stop {
+    ghost use Rattle.flow_base.specs.declared.worker.Stop.TheVariants.{Faulted};
+
+    ghost from_gives = { λ kind stop. stop ≡ Faulted kind };
+
+    fn from(kind: FaultKind) -> Stop {
+        Stop::Faulted(kind)
+    }
+}
+
+impl From<AllocError> for Stop {
+    ghost use Rattle.flow_base.specs.declared.worker.Stop.TheVariants.{OutOfMemory};
+
+    ghost from_gives = { λ _ stop. stop ≡ OutOfMemory };
+
+    fn from(_error: AllocError) -> Stop {
+        Stop::OutOfMemory
+    }
+}
+
+/// Reads and writes the items of one instance after another. It is told nothing of the ends of streams.
+///
+/// Its laws speak of an abstract state, and of what items carry.
+pub trait Worker {
+    ghost use Rattle.std.specs.Prelude.{ℕ};
+    ghost use Rattle.flow_edges.specs.Cells.{cell_of};
+    ghost use Rattle.flow_base.specs.Workers.{Machine, Takes, IsReading, IsWriting, WorkerLaws};
+    ghost use Rattle.flow_base.specs.Body.{RowLaw};
+    ghost use Rattle.flow_base.specs.declared.worker.Stop.TheVariants.{OutOfMemory};
+
+    /// What its laws see of it.
+    ghost State: { Type 0 };
+
+    ghost state: { Self → State };
+
+    /// What it does, as a machine over these states.
+    ghost machine: { Machine State };
+
+    /// What it wants next.
+    fn ask(&self) -> Ask
+        ensures { result ≡ machine.ask (state self.now) };
+
+    /// The number of its input ports, from 0 on.
+    fn inputs(&self) -> usize
+        ensures { result ≡ machine.inputs (state self.now) };
+
+    /// The number of its output ports, from 0 on.
+    fn outputs(&self) -> usize
+        ensures { result ≡ machine.outputs (state self.now) };
+
+    /// The kind of the items at this input port.
+    fn kind_in(&self, port: usize) -> Kind
+        ensures { result ≡ machine.kind_in (state self.now) port };
+
+    /// The kind of the items at this output port.
+    fn kind_out(&self, port: usize) -> Kind
+        ensures { result ≡ machine.kind_out (state self.now) port };
+
+    /// Takes the item that it wanted to read. `Faulted` where no instance goes on with it, and `OutOfMemory` where
+    /// memory was refused; then the worker is unchanged.
+    fn take(&mut self, item: Item) -> Result<(), Stop>
+        requires { IsReading (machine.ask (state self.old)) }
+        ensures takes { Takes (machine.given (state self.old) (cell_of item)) (state self.old) result (state self.new) }
+        ensures sure { machine.takes_memory (state self.old) ≡ false → result ≡ Err OutOfMemory → ⊥ };
+
+    /// Gives the item that it wanted to write. An error where memory was refused; then the worker is unchanged.
+    fn give(&mut self) -> Result<Item, AllocError>
+        requires { IsWriting (machine.ask (state self.old)) }
+        ensures ok { IfOk result (λ item. (cell_of item ≡ machine.told (state self.old)) × (state self.new ≡ machine.after (state self.old))) }
+        ensures err { OnErr result (state self.new ≡ state self.old) }
+        ensures sure { machine.takes_memory (state self.old) ≡ false → IsOk result };
+
+    /// What it keeps to in each state.
+    ghost laws: { WorkerLaws machine };
+
+    /// Whole instances are what the row says.
+    ghost rows: { RowLaw machine };
+}

@@ -1,0 +1,104 @@
+// Operators on two scalars.
+
+ghost use Rattle.std.specs.Prelude.{◌≡◌};
+
+use crate::operand::operand_of;
+use crate::scalars::{item_of, kind_of};
+use flow_base::{Ask, Stop, Worker};
+use flow_edges::{Item, Kind};
+use snesl_operators::{BinaryOperator, Scalar};
+use std::alloc::AllocError;
+
+/// How far an instance is.
+#[derive(Clone, Copy, Debug, PartialEq, Eq)]
+pub enum Progress {
+    /// Nothing was read.
+    Start,
+    /// The left operand was read.
+    Left(Scalar),
+    /// The value is to be written.
+    Value(Scalar),
+}
+
+/// Writes the operator's value at each two items. A left and a right operand are an instance.
+///
+/// Reads port 0 and then port 1, both of the type of the operator's operands; writes port 0, of the type of its value.
+/// An item of another kind is a fault of kind `Shape` at once, and where the operator has no value, its fault is that
+/// of the worker.
+#[derive(Clone, Copy, Debug, PartialEq, Eq)]
+pub struct Binary {
+    operator: BinaryOperator,
+    progress: Progress,
+}
+
+impl Binary {
+    /// A worker over this operator, before its first instance.
+    pub fn new(operator: BinaryOperator) -> Binary
+        ensures { result ≡ record { operator = operator; progress = Progress.Start } }
+    {
+        Binary {
+            operator,
+            progress: Progress::Start,
+        }
+    }
+}
+
+impl Worker for Binary {
+    ghost use Rattle.flow_scalar.specs.declared.binary.Binary.{Binary};
+    ghost use Rattle.flow_scalar.specs.Binaries.{binary_machine};
+    ghost use Rattle.flow_scalar.specs.BinaryLaws.{binary_laws, binary_rows};
+
+    ghost State = { Binary };
+
+    ghost state = { λ n. n };
+
+    ghost machine = { binary_machine };
+
+    ghost laws = { binary_laws };
+
+    ghost rows = { binary_rows };
+
+    fn ask(&self) -> Ask {
+        match self.progress {
+            Progress::Start => Ask::Begin,
+            Progress::Left(_) => Ask::Take(1),
+            Progress::Value(_) => Ask::Give(0),
+        }
+    }
+
+    fn inputs(&self) -> usize {
+        2
+    }
+
+    fn outputs(&self) -> usize {
+        1
+    }
+
+    fn kind_in(&self, _port: usize) -> Kind {
+        kind_of(self.operator.operand())
+    }
+
+    fn kind_out(&self, _port: usize) -> Kind {
+        kind_of(self.operator.result())
+    }
+
+    fn take(&mut self, item: Item) -> Result<(), Stop> {
+        let operand = operand_of(self.operator.operand(), &item)?;
+        self.progress = match self.progress {
+            Progress::Start => Progress::Left(operand),
+            Progress::Left(left) => Progress::Value(self.operator.apply(left, operand)?),
+            Progress::Value(_) => unreachable!(),
+        };
+        Ok(())
+    }
+
+    fn give(&mut self) -> Result<Item, AllocError> {
+        match self.progress {
+            Progress::Value(value) => {
+                self.progress = Progress::Start;
+                Ok(item_of(value))
+            }
+            _ => unreachable!(),
+        }
+    }
+}

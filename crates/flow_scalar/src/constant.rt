@@ -1,0 +1,81 @@
+// A constant, once for each item.
+
+ghost use Rattle.std.specs.Prelude.{◌≡◌, false};
+
+use crate::scalars::{item_of, kind_of};
+use flow_base::{Ask, Stop, Worker};
+use flow_edges::{Item, Kind};
+use snesl_operators::Scalar;
+use snesl_values::FaultKind;
+use std::alloc::AllocError;
+
+/// Writes a scalar once for each Unit. Each Unit is an instance.
+///
+/// Reads port 0, of kind Unit; writes port 0, of the scalar's kind. An item of another kind is a fault of kind
+/// `Shape`.
+#[derive(Clone, Copy, Debug, PartialEq, Eq)]
+pub struct Const {
+    scalar: Scalar,
+    // A Unit came, and the scalar is to be written for it.
+    due: bool,
+}
+
+impl Const {
+    /// A worker that writes this scalar, before its first instance.
+    pub fn new(scalar: Scalar) -> Const
+        ensures { result ≡ record { scalar = scalar; due = false } }
+    {
+        Const { scalar, due: false }
+    }
+}
+
+impl Worker for Const {
+    ghost use Rattle.flow_scalar.specs.declared.constant.Const.{Const};
+    ghost use Rattle.flow_scalar.specs.Constants.{const_machine};
+    ghost use Rattle.flow_scalar.specs.ConstLaws.{const_laws, const_rows};
+
+    ghost State = { Const };
+
+    ghost state = { λ n. n };
+
+    ghost machine = { const_machine };
+
+    ghost laws = { const_laws };
+
+    ghost rows = { const_rows };
+
+    fn ask(&self) -> Ask {
+        if self.due { Ask::Give(0) } else { Ask::Begin }
+    }
+
+    fn inputs(&self) -> usize {
+        1
+    }
+
+    fn outputs(&self) -> usize {
+        1
+    }
+
+    fn kind_in(&self, _port: usize) -> Kind {
+        Kind::Unit
+    }
+
+    fn kind_out(&self, _port: usize) -> Kind {
+        kind_of(self.scalar.scalar_type())
+    }
+
+    fn take(&mut self, item: Item) -> Result<(), Stop> {
+        match item {
+            Item::Unit => {
+                self.due = true;
+                Ok(())
+            }
+            _ => Err(Stop::Faulted(FaultKind::Shape)),
+        }
+    }
+
+    fn give(&mut self) -> Result<Item, AllocError> {
+        self.due = false;
+        Ok(item_of(self.scalar))
+    }
+}

@@ -1,0 +1,113 @@
+// The numbers from 0 on that are below a number.
+
+ghost use Rattle.std.specs.Prelude.{◌≡◌};
+ghost use Rattle.flow_scalar.specs.Iotas.{number_after};
+
+use flow_base::{Ask, Stop, Worker};
+use flow_edges::{Item, Kind};
+use snesl_values::FaultKind;
+use std::alloc::AllocError;
+
+/// Writes for each integer n a segment of the numbers 0 to n - 1. Each integer is an instance.
+///
+/// Reads port 0, of kind Int. Writes for each number a flag that stands for an element to port 0, of kind Bool, and
+/// then the number to port 1, of kind Int; at last the flag that ends the segment. A negative integer is a fault of
+/// kind `NegativeCount`, and an item of another kind one of kind `Shape`.
+#[derive(Clone, Copy, Debug, PartialEq, Eq)]
+pub enum Iota {
+    /// An integer comes.
+    Between,
+    /// A flag is due, and then the number `next` if it is below `end`.
+    Flag { next: i64, end: i64 },
+    /// The number `next` is due, and then a flag.
+    Number { next: i64, end: i64 },
+}
+
+impl Iota {
+    /// A worker before its first instance.
+    pub fn new() -> Iota
+        ensures { result ≡ Iota.Between }
+    {
+        Iota::Between
+    }
+
+    // The number after `number`, or `end` where `number` is not below it.
+    fn number_after(number: i64, end: i64) -> i64
+        ensures { result ≡ number_after number end }
+    {
+        if number < end { number + 1 } else { end }
+    }
+}
+
+impl Worker for Iota {
+    ghost use Rattle.flow_scalar.specs.declared.iota.Iota.{Iota};
+    ghost use Rattle.flow_scalar.specs.Iotas.{iota_machine};
+    ghost use Rattle.flow_scalar.specs.IotaLaws.{iota_laws, iota_rows};
+
+    ghost State = { Iota };
+
+    ghost state = { λ n. n };
+
+    ghost machine = { iota_machine };
+
+    ghost laws = { iota_laws };
+
+    ghost rows = { iota_rows };
+
+    fn ask(&self) -> Ask {
+        match self {
+            Iota::Between => Ask::Begin,
+            Iota::Flag { .. } => Ask::Give(0),
+            Iota::Number { .. } => Ask::Give(1),
+        }
+    }
+
+    fn inputs(&self) -> usize {
+        1
+    }
+
+    fn outputs(&self) -> usize {
+        2
+    }
+
+    fn kind_in(&self, _port: usize) -> Kind {
+        Kind::Int
+    }
+
+    fn kind_out(&self, port: usize) -> Kind {
+        if port == 0 { Kind::Bool } else { Kind::Int }
+    }
+
+    fn take(&mut self, item: Item) -> Result<(), Stop> {
+        match item {
+            Item::Int(end) => {
+                if end < 0 {
+                    return Err(Stop::Faulted(FaultKind::NegativeCount));
+                }
+                *self = Iota::Flag { next: 0, end };
+                Ok(())
+            }
+            _ => Err(Stop::Faulted(FaultKind::Shape)),
+        }
+    }
+
+    fn give(&mut self) -> Result<Item, AllocError> {
+        match *self {
+            Iota::Flag { next, end } => {
+                if next < end {
+                    *self = Iota::Number { next, end };
+                    Ok(Item::Bool(false))
+                } else {
+                    *self = Iota::Between;
+                    Ok(Item::Bool(true))
+                }
+            }
+            Iota::Number { next, end } => {
+                let after = Iota::number_after(next, end);
+                *self = Iota::Flag { next: after, end };
+                Ok(Item::Int(next))
+            }
+            Iota::Between => unreachable!(),
+        }
+    }
+}

@@ -1,0 +1,139 @@
+// Reductions of segments.
+
+ghost use Rattle.std.specs.Prelude.{◌≡◌};
+
+use crate::scalars::{item_of, kind_of, scalar_of};
+use flow_base::{Ask, Stop, Worker};
+use flow_edges::{Item, Kind};
+use snesl_operators::{Reduction, Scalar};
+use snesl_values::FaultKind;
+use std::alloc::AllocError;
+
+/// Writes for each segment what its elements reduce to. Each segment is an instance.
+///
+/// Reads port 0, the flags, of kind Bool, and port 1, the elements, of the kind of the reduction's type: for each flag
+/// that stands for an element it reads that element. After the flag that ends the segment it writes the value to port
+/// 0, of the same kind as the elements. An item of another kind is a fault of kind `Shape`. A sum over the range of 64
+/// bits is a fault of kind `Overflow`, at the element that takes it there. The greatest of a segment without elements
+/// is a fault of kind `EmptyMax`, at the segment's end.
+#[derive(Clone, Copy, Debug, PartialEq, Eq)]
+pub struct Reduce {
+    reduction: Reduction,
+    stage: Stage,
+}
+
+// How far it is in a segment.
+#[derive(Clone, Copy, Debug, PartialEq, Eq)]
+enum Stage {
+    // A segment begins.
+    Start,
+    // A flag comes, and the elements so far reduce to this.
+    Flag(Option<Scalar>),
+    // An element comes, and those before it reduce to this.
+    Element(Option<Scalar>),
+    // The segment has ended, and this value is to be written.
+    Value(Scalar),
+}
+
+impl Stage {
+    ghost use Rattle.flow_edges.specs.Cells.{cell_of};
+    ghost use Rattle.flow_scalar.specs.Reduces.{stage_at_flag, stage_given};
+
+    // Where the item leads that comes as a flag, after elements that reduce to what is so far.
+    fn at_flag(so_far: Option<Scalar>, item: &Item) -> Result<Stage, FaultKind>
+        ensures { result ≡ stage_at_flag so_far (cell_of item.now) }
+    {
+        match item {
+            Item::Bool(false) => Ok(Stage::Element(so_far)),
+            Item::Bool(true) => Ok(Stage::Value(Reduction::value(so_far)?)),
+            _ => Err(FaultKind::Shape),
+        }
+    }
+
+    // Where the item leads.
+    fn next(self, reduction: Reduction, item: &Item) -> Result<Stage, FaultKind>
+        ensures { result ≡ stage_given reduction self (cell_of item.now) }
+    {
+        match self {
+            Stage::Start => Stage::at_flag(reduction.nothing(), item),
+            Stage::Flag(so_far) => Stage::at_flag(so_far, item),
+            Stage::Element(so_far) => {
+                let element = scalar_of(item).ok_or(FaultKind::Shape)?;
+                Ok(Stage::Flag(reduction.more(so_far, element)?))
+            }
+            Stage::Value(_) => Err(FaultKind::Shape),
+        }
+    }
+}
+
+impl Reduce {
+    /// A worker before its first instance.
+    pub fn new(reduction: Reduction) -> Reduce
+        ensures { result ≡ record { reduction = reduction; stage = Stage.Start } }
+    {
+        Reduce {
+            reduction,
+            stage: Stage::Start,
+        }
+    }
+}
+
+impl Worker for Reduce {
+    ghost use Rattle.flow_scalar.specs.declared.reduce.Reduce.{Reduce};
+    ghost use Rattle.flow_scalar.specs.Reduces.{reduce_machine};
+    ghost use Rattle.flow_scalar.specs.ReduceLaws.{reduce_laws, reduce_rows};
+
+    ghost State = { Reduce };
+
+    ghost state = { λ s. s };
+
+    ghost machine = { reduce_machine };
+
+    ghost laws = { reduce_laws };
+
+    ghost rows = { reduce_rows };
+
+    fn ask(&self) -> Ask {
+        match self.stage {
+            Stage::Start => Ask::Begin,
+            Stage::Flag(_) => Ask::Take(0),
+            Stage::Element(_) => Ask::Take(1),
+            Stage::Value(_) => Ask::Give(0),
+        }
+    }
+
+    fn inputs(&self) -> usize {
+        2
+    }
+
+    fn outputs(&self) -> usize {
+        1
+    }
+
+    fn kind_in(&self, port: usize) -> Kind {
+        if port == 0 {
+            Kind::Bool
+        } else {
+            kind_of(self.reduction.scalar_type())
+        }
+    }
+
+    fn kind_out(&self, _port: usize) -> Kind {
+        kind_of(self.reduction.scalar_type())
+    }
+
+    fn take(&mut self, item: Item) -> Result<(), Stop> {
+        self.stage = self.stage.next(self.reduction, &item)?;
+        Ok(())
+    }
+
+    fn give(&mut self) -> Result<Item, AllocError> {
+        match self.stage {
+            Stage::Value(value) => {
+                self.stage = Stage::Start;
+                Ok(item_of(value))
+            }
+            _ => unreachable!(),
+        }
+    }
+}

@@ -1,0 +1,158 @@
+// The beginning of a stream whose items are there before the network runs.
+
+ghost use Rattle.std.specs.Prelude.{◌≡◌, ◌<◌, false, IfOk, OnOk, OnErr, IsOk, IsSome, option_map};
+ghost use Rattle.std.specs.List.{slice_get};
+ghost use Rattle.flow_edges.specs.Cells.{cell_of, is_of};
+ghost use Rattle.flow_edges.specs.Signals.{signal_of};
+ghost use Rattle.flow_base.specs.Ranges.{SignalsInRange};
+ghost use Rattle.flow_base.specs.Transducers.{closed};
+ghost use Rattle.flow_scalar.specs.Sources.{stream_kind, stream_cells, is_vector, source_opened, source_behaviour};
+
+use flow_base::Transducer;
+use flow_edges::{Item, Kind, Msg};
+use kahn::Want;
+use snesl_values::{Datum, copy_datum};
+use std::alloc::{AllocError, Global};
+
+/// The items of a stream, all of one kind.
+#[derive(Debug, Drop)]
+pub enum Stream {
+    /// So many units.
+    Units(usize),
+    Bools(Vec<bool>),
+    Ints(Vec<i64>),
+    /// Values of a concrete type.
+    Vectors(Vec<Datum>),
+}
+
+impl Stream {
+    /// The kind of its items.
+    pub fn kind(&self) -> Kind
+        ensures { result ≡ stream_kind self.now }
+    {
+        match self {
+            Stream::Units(_) => Kind::Unit,
+            Stream::Bools(_) => Kind::Bool,
+            Stream::Ints(_) => Kind::Int,
+            Stream::Vectors(_) => Kind::Vec,
+        }
+    }
+
+    // An item that carries the same as the one at this index, counted from 0, or `None` past the last. Only the copy of
+    // a vector takes memory.
+    fn item(&self, alloc: Global, index: usize) -> Result<Option<Item>, AllocError>
+        ensures ok { IfOk result (λ item. option_map cell_of item ≡ slice_get (stream_cells self.now) index) }
+        ensures within { IfOk result (λ item. IsSome item → index < usize.MAX) }
+        ensures scalar { is_vector (slice_get (stream_cells self.now) index) ≡ false → IsOk result }
+    {
+        match self {
+            Stream::Units(count) => Ok(if index < *count {
+                Some(Item::Unit)
+            } else {
+                None
+            }),
+            Stream::Bools(all) => Ok(match all.get(index) {
+                Some(truth) => Some(Item::Bool(*truth)),
+                None => None,
+            }),
+            Stream::Ints(all) => Ok(match all.get(index) {
+                Some(number) => Some(Item::Int(*number)),
+                None => None,
+            }),
+            Stream::Vectors(all) => match all.get(index) {
+                Some(datum) => Ok(Some(Item::Vec(copy_datum(alloc, datum)?))),
+                None => Ok(None),
+            },
+        }
+    }
+}
+
+/// Reads nothing, and writes the items of a stream to its only output, and then the end. It has no fault.
+///
+/// It keeps its stream and writes copies. Only the copy of a vector takes memory; where it is refused, nothing was
+/// written, and the same item is written next.
+#[derive(Drop)]
+pub struct Source {
+    alloc: Global,
+    stream: Stream,
+    // How many items were written.
+    written: usize,
+    // Whether the end was.
+    ended: bool,
+}
+
+impl Source {
+    /// A source that has written nothing. Where the integers of its stream lie in the range, all that it writes does,
+    /// and is of the stream's kind.
+    #[tactic(auto, using(crate::proofs::StreamKinds::stream_fits))]
+    pub fn new(alloc: Global, stream: Stream) -> Source
+        ensures state { ⟦<Source as Transducer>⟧.state result ≡ source_opened (stream_kind stream) (stream_cells stream) }
+        ensures fits { SignalsInRange (closed (stream_cells stream)) → source_behaviour.fits (source_opened (stream_kind stream) (stream_cells stream)) }
+    {
+        Source {
+            alloc,
+            stream,
+            written: 0,
+            ended: false,
+        }
+    }
+}
+
+impl Transducer for Source {
+    ghost use Rattle.flow_scalar.specs.Sources.{SourceState, source_state};
+    ghost use Rattle.flow_scalar.specs.SourceLaws.{source_laws};
+
+    ghost State = { SourceState };
+
+    ghost state = { λ n. source_state (stream_kind n.stream) (stream_cells n.stream) n.written n.ended };
+
+    ghost behaviour = { source_behaviour };
+
+    ghost laws = { source_laws };
+
+    fn want(&self) -> Want {
+        if self.ended {
+            Want::Ended
+        } else {
+            Want::Write(0)
+        }
+    }
+
+    fn inputs(&self) -> usize {
+        0
+    }
+
+    fn outputs(&self) -> usize {
+        1
+    }
+
+    fn kind_in(&self, _port: usize) -> Kind {
+        self.stream.kind()
+    }
+
+    fn kind_out(&self, _port: usize) -> Kind {
+        self.stream.kind()
+    }
+
+    fn give(&mut self, _port: usize, message: Msg) -> Result<(), AllocError>
+        ensures ok { OnOk result (⟦<Source as Transducer>⟧.state self.new ≡ source_behaviour.process.read (⟦<Source as Transducer>⟧.state self.old) (signal_of message)) }
+        ensures err { OnErr result (⟦<Source as Transducer>⟧.state self.new ≡ ⟦<Source as Transducer>⟧.state self.old) }
+        ensures sure { source_behaviour.takes_memory (⟦<Source as Transducer>⟧.state self.old) ≡ false → IsOk result }
+    {
+        Ok(())
+    }
+
+    #[tactic(auto, using(crate::proofs::Sending::sends_end, crate::proofs::Sending::next_of_left))]
+    fn emit(&mut self) -> Result<Msg, AllocError> {
+        match self.stream.item(self.alloc, self.written)? {
+            Some(item) => {
+                self.written += 1;
+                Ok(Msg::Item(item))
+            }
+            None => {
+                self.ended = true;
+                Ok(Msg::End)
+            }
+        }
+    }
+}

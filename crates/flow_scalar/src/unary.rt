@@ -1,0 +1,88 @@
+// Operators on one scalar.
+
+ghost use Rattle.std.specs.Prelude.{◌≡◌, None};
+
+use crate::operand::operand_of;
+use crate::scalars::{item_of, kind_of};
+use flow_base::{Ask, Stop, Worker};
+use flow_edges::{Item, Kind};
+use snesl_operators::{Scalar, UnaryOperator};
+use std::alloc::AllocError;
+
+/// Writes the operator's value at each item. Each item is an instance.
+///
+/// Reads port 0 and writes port 0, both of the operator's type. An item of another kind is a fault of kind `Shape`,
+/// and where the operator has no value, its fault is that of the worker.
+#[derive(Clone, Copy, Debug, PartialEq, Eq)]
+pub struct Unary {
+    operator: UnaryOperator,
+    // The value that is to be written.
+    value: Option<Scalar>,
+}
+
+impl Unary {
+    /// A worker over this operator, before its first instance.
+    pub fn new(operator: UnaryOperator) -> Unary
+        ensures { result ≡ record { operator = operator; value = None } }
+    {
+        Unary {
+            operator,
+            value: None,
+        }
+    }
+}
+
+impl Worker for Unary {
+    ghost use Rattle.flow_scalar.specs.declared.unary.Unary.{Unary};
+    ghost use Rattle.flow_scalar.specs.Unaries.{unary_machine};
+    ghost use Rattle.flow_scalar.specs.UnaryLaws.{unary_laws, unary_rows};
+
+    ghost State = { Unary };
+
+    ghost state = { λ n. n };
+
+    ghost machine = { unary_machine };
+
+    ghost laws = { unary_laws };
+
+    ghost rows = { unary_rows };
+
+    fn ask(&self) -> Ask {
+        match self.value {
+            None => Ask::Begin,
+            Some(_) => Ask::Give(0),
+        }
+    }
+
+    fn inputs(&self) -> usize {
+        1
+    }
+
+    fn outputs(&self) -> usize {
+        1
+    }
+
+    fn kind_in(&self, _port: usize) -> Kind {
+        kind_of(self.operator.operand())
+    }
+
+    fn kind_out(&self, _port: usize) -> Kind {
+        kind_of(self.operator.operand())
+    }
+
+    fn take(&mut self, item: Item) -> Result<(), Stop> {
+        let operand = operand_of(self.operator.operand(), &item)?;
+        self.value = Some(self.operator.apply(operand)?);
+        Ok(())
+    }
+
+    fn give(&mut self) -> Result<Item, AllocError> {
+        match self.value {
+            Some(value) => {
+                self.value = None;
+                Ok(item_of(value))
+            }
+            None => unreachable!(),
+        }
+    }
+}
