@@ -13,6 +13,7 @@ use Rattle.flow_base.specs.declared.worker.Ask.TheVariants.{Begin, Give}
 use Rattle.flow_scalar.specs.Scalars.{kind_of_type, cell_of_scalar, ScalarInRange}
 use Rattle.flow_scalar.specs.declared.constant.Const.{Const}
 
+-- the worker of the constant k
 abbrev pub constant : Scalar → Bool → Const
 constant k due = record { scalar = k; due = due }
 
@@ -21,6 +22,7 @@ abbrev pub const_ask : Bool → Ask
 const_ask false = Begin
 const_ask true = Give 0
 
+-- a Unit makes the constant due
 abbrev pub const_given : Scalar → Cell → Result Const FaultKind
 const_given k unit = Ok (constant k true)
 const_given k _ = Err Shape
@@ -30,6 +32,7 @@ abbrev pub const_rest : Scalar → Bool → List Cell → List Cell → Type 0
 const_rest k false u r = (u ≡ unit ∷ []) × (r ≡ cell_of_scalar k ∷ [])
 const_rest k true u r = (u ≡ []) × (r ≡ cell_of_scalar k ∷ [])
 
+-- the constant that is due is written before the next read
 abbrev pub const_debt : Bool → ℕ
 const_debt false = 0
 const_debt true = 1

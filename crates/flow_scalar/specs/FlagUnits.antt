@@ -11,6 +11,7 @@ use Rattle.flow_base.specs.declared.worker.Ask.{Ask}
 use Rattle.flow_base.specs.declared.worker.Ask.TheVariants.{Begin, Give}
 use Rattle.flow_scalar.specs.declared.units_of.UnitsOf.{UnitsOf}
 
+-- the worker, and whether a Unit is due
 abbrev pub units : Bool → UnitsOf
 units due = record { due = due }
 
@@ -19,6 +20,7 @@ abbrev pub units_ask : Bool → Ask
 units_ask false = Begin
 units_ask true = Give 0
 
+-- F makes a Unit due, and T does not
 abbrev pub units_given : Cell → Result UnitsOf FaultKind
 units_given (flag ends) = Ok (units (not ends))
 units_given _ = Err Shape
@@ -39,6 +41,7 @@ abbrev pub units_rest : Bool → List Cell → List Cell → Type 0
 units_rest false f u = FlagUnits f u
 units_rest true f u = (f ≡ []) × (u ≡ unit ∷ [])
 
+-- the Unit that is due is written before the next read
 abbrev pub units_debt : Bool → ℕ
 units_debt false = 0
 units_debt true = 1

@@ -31,6 +31,7 @@ pub record IotaRow (a f r : List Cell) : Type 0 where
   pub f_is : f ≡ flags ns
   pub r_is : r ≡ joined (map numbers_below ns)
 
+-- an integer begins an instance; then come flags at the first output and numbers at the second
 abbrev pub iota_ask : Iota → Ask
 iota_ask Between = Begin
 iota_ask (Flag next end) = Give 0
@@ -42,7 +43,7 @@ iota_given Between (int (pos n)) = Ok (Flag (pos 0) (pos n))
 iota_given Between (int (negsuc n)) = Err NegativeCount
 iota_given _ _ = Err Shape
 
--- the flag is F where the next number is below the end
+-- the flag is F where the next number is below the end, and T where it is not
 abbrev pub iota_told : Iota → Cell
 iota_told (Flag next end) = flag (not (int_lt next end))
 iota_told (Number next end) = int next
@@ -52,6 +53,7 @@ iota_told Between = unit
 abbrev pub number_after : ℤ → ℤ → ℤ
 number_after number end = if int_lt number end then number +ℤ pos 1 else end
 
+-- after F comes the number, after T the next instance, and after a number a flag
 abbrev pub iota_after : Iota → Iota
 iota_after (Flag next end) = if int_lt next end then Number next end else Between
 iota_after (Number next end) = Flag (number_after next end) end
@@ -91,6 +93,7 @@ iota_debt Between = 0
 iota_debt (Flag next end) = 1 + 2 * count_left next end
 iota_debt (Number next end) = 2 + 2 * count_left (number_after next end) end
 
+-- the integers in the state lie in the range
 abbrev pub iota_fits : Iota → Type 0
 iota_fits Between = Unit {0}
 iota_fits (Flag next end) = IsInteger next × IsInteger end

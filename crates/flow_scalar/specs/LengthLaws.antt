@@ -19,13 +19,10 @@ use Rattle.flow_scalar.specs.declared.length.Length.{Length}
 use Rattle.flow_scalar.specs.declared.length.Length.TheVariants.{Counting, Due}
 use Rattle.flow_scalar.specs.Lengths.{length_ask, one_more, length_given, Counts, LengthRow, length_machine}
 
--- where the sum lies in the range, one element more may be counted before or after
 at_most : (n : ℕ) → IsInteger (pos n) → n ≤ greatest_integer
 at_most n h = grind (arith, nat_tests)
 
-in_range : (n : ℕ) → n ≤ greatest_integer → IsInteger (pos n)
-in_range n h = grind (arith, nat_tests)
-
+-- where the sum is at most the top, one element more may be counted before or after
 counted : (n more top : ℕ) → n + suc more ≤ top → suc (min n top) + more ≡ n + suc more
 counted n more top h = omega arith
 

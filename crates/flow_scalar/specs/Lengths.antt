@@ -33,6 +33,7 @@ length_given (Counting n) (flag false) = Ok (Counting (one_more n))
 length_given (Counting n) (flag true) = length_ended n
 length_given _ _ = Err Shape
 
+-- the number that is due
 abbrev pub length_cell : Length → Cell
 length_cell (Due number) = int number
 length_cell (Counting n) = unit
@@ -49,10 +50,12 @@ abbrev pub length_rest : Length → List Cell → List Cell → Type 0
 length_rest (Counting n) f r = Counts n f r
 length_rest (Due number) f r = (f ≡ []) × (r ≡ int number ∷ [])
 
+-- the number that is due is written before the next read
 abbrev pub length_debt : Length → ℕ
 length_debt (Counting n) = 0
 length_debt (Due number) = 1
 
+-- the number that is due lies in the range
 abbrev pub length_fits : Length → Type 0
 length_fits (Counting n) = Unit {0}
 length_fits (Due number) = IsInteger number

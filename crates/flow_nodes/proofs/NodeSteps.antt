@@ -1,0 +1,54 @@
+-- What a node does, one variant at a time: for the tactics, which see no further than a node whose variant is open.
+use Rattle.std.specs.Prelude.{◌≡◌, ℕ}
+use Rattle.std.proofs.Common.{arith}
+use Rattle.flow_edges.specs.Signals.{Signal}
+use Rattle.flow_nodes.specs.declared.stream_node.StreamNode.{StreamNode}
+use Rattle.flow_nodes.specs.declared.stream_node.StreamNode.TheVariants as nodes
+use Rattle.flow_nodes.specs.StreamNodes.{node_behaviour, state_of}
+
+-- the same function, by cases of the variant
+abbrev pub by_variant : {R : Type 0} → (StreamNode → R) → StreamNode → R
+by_variant f (nodes.Source n) = f (nodes.Source n)
+by_variant f (nodes.Const n) = f (nodes.Const n)
+by_variant f (nodes.Unary n) = f (nodes.Unary n)
+by_variant f (nodes.Binary n) = f (nodes.Binary n)
+by_variant f (nodes.Fork n) = f (nodes.Fork n)
+by_variant f (nodes.Sink n) = f (nodes.Sink n)
+by_variant f (nodes.Iota n) = f (nodes.Iota n)
+by_variant f (nodes.UnitsOf n) = f (nodes.UnitsOf n)
+by_variant f (nodes.ScanAdd n) = f (nodes.ScanAdd n)
+by_variant f (nodes.Reduce n) = f (nodes.Reduce n)
+by_variant f (nodes.Length n) = f (nodes.Length n)
+
+pub same_by_variant : {R : Type 0} (f : StreamNode → R) (x : StreamNode) → f x ≡ by_variant f x
+same_by_variant f x = grind arith
+
+pub want_at : (x : StreamNode) → node_behaviour.process.want (state_of x) ≡ by_variant (λ n. node_behaviour.process.want (state_of n)) x
+want_at x = same_by_variant (λ n. node_behaviour.process.want (state_of n)) x
+
+pub inputs_at : (x : StreamNode) → node_behaviour.inputs (state_of x) ≡ by_variant (λ n. node_behaviour.inputs (state_of n)) x
+inputs_at x = same_by_variant (λ n. node_behaviour.inputs (state_of n)) x
+
+pub outputs_at : (x : StreamNode) → node_behaviour.outputs (state_of x) ≡ by_variant (λ n. node_behaviour.outputs (state_of n)) x
+outputs_at x = same_by_variant (λ n. node_behaviour.outputs (state_of n)) x
+
+pub kind_in_at : (x : StreamNode) (p : ℕ) → node_behaviour.kind_in (state_of x) p ≡ by_variant (λ n. node_behaviour.kind_in (state_of n) p) x
+kind_in_at x p = same_by_variant (λ n. node_behaviour.kind_in (state_of n) p) x
+
+pub kind_out_at : (x : StreamNode) (p : ℕ) → node_behaviour.kind_out (state_of x) p ≡ by_variant (λ n. node_behaviour.kind_out (state_of n) p) x
+kind_out_at x p = same_by_variant (λ n. node_behaviour.kind_out (state_of n) p) x
+
+pub read_at : (x : StreamNode) (m : Signal) → node_behaviour.process.read (state_of x) m ≡ by_variant (λ n. node_behaviour.process.read (state_of n) m) x
+read_at x m = same_by_variant (λ n. node_behaviour.process.read (state_of n) m) x
+
+pub written_at : (x : StreamNode) → node_behaviour.process.written (state_of x) ≡ by_variant (λ n. node_behaviour.process.written (state_of n)) x
+written_at x = same_by_variant (λ n. node_behaviour.process.written (state_of n)) x
+
+pub wrote_at : (x : StreamNode) → node_behaviour.process.wrote (state_of x) ≡ by_variant (λ n. node_behaviour.process.wrote (state_of n)) x
+wrote_at x = same_by_variant (λ n. node_behaviour.process.wrote (state_of n)) x
+
+pub memory_at : (x : StreamNode) → node_behaviour.takes_memory (state_of x) ≡ by_variant (λ n. node_behaviour.takes_memory (state_of n)) x
+memory_at x = same_by_variant (λ n. node_behaviour.takes_memory (state_of n)) x
+
+-- each part of what a node does, by its variant
+pub ruleset node_steps = (want_at, inputs_at, outputs_at, kind_in_at, kind_out_at, read_at, written_at, wrote_at, memory_at)

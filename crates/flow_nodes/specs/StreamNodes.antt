@@ -1,0 +1,112 @@
+-- A transducer of any kind: its states, and what it does.
+use Rattle.flow_base.specs.Transducers.{Behaviour, BehaviourLaws}
+use Rattle.flow_base.specs.Nodes.{NodeState, node_state, behaviour_of}
+use Rattle.flow_base.specs.NodeLaws.{behaviour_laws}
+use Rattle.flow_base.specs.Sums.{sum_of}
+pub use Rattle.flow_base.specs.Sums.{sum_laws}
+use Rattle.flow_scalar.specs.declared.binary.Binary.{Binary}
+use Rattle.flow_scalar.specs.declared.constant.Const.{Const}
+use Rattle.flow_scalar.specs.declared.iota.Iota.{Iota}
+use Rattle.flow_scalar.specs.declared.length.Length.{Length}
+use Rattle.flow_scalar.specs.declared.reduce.Reduce.{Reduce}
+use Rattle.flow_scalar.specs.declared.scan_add.ScanAdd.{ScanAdd}
+use Rattle.flow_scalar.specs.declared.sink.Sink.{Sink}
+use Rattle.flow_scalar.specs.declared.unary.Unary.{Unary}
+use Rattle.flow_scalar.specs.declared.units_of.UnitsOf.{UnitsOf}
+use Rattle.flow_scalar.specs.Binaries.{binary_machine}
+use Rattle.flow_scalar.specs.BinaryLaws.{binary_laws, binary_rows}
+use Rattle.flow_scalar.specs.Constants.{const_machine}
+use Rattle.flow_scalar.specs.ConstLaws.{const_laws, const_rows}
+use Rattle.flow_scalar.specs.Forks.{ForkState, fork_state, fork_machine}
+use Rattle.flow_scalar.specs.ForkLaws.{fork_laws, fork_rows}
+use Rattle.flow_scalar.specs.Iotas.{iota_machine}
+use Rattle.flow_scalar.specs.IotaLaws.{iota_laws, iota_rows}
+use Rattle.flow_scalar.specs.Lengths.{length_machine}
+use Rattle.flow_scalar.specs.LengthLaws.{length_laws, length_rows}
+use Rattle.flow_scalar.specs.Reduces.{reduce_machine}
+use Rattle.flow_scalar.specs.ReduceLaws.{reduce_laws, reduce_rows}
+use Rattle.flow_scalar.specs.ScanAdds.{scan_machine}
+use Rattle.flow_scalar.specs.ScanAddLaws.{scan_laws, scan_rows}
+use Rattle.flow_scalar.specs.Sinks.{sink_machine}
+use Rattle.flow_scalar.specs.SinkLaws.{sink_laws, sink_rows}
+use Rattle.flow_scalar.specs.Sources.{SourceState, source_state, source_behaviour, stream_kind, stream_cells}
+use Rattle.flow_scalar.specs.SourceLaws.{source_laws}
+use Rattle.flow_scalar.specs.Unaries.{unary_machine}
+use Rattle.flow_scalar.specs.UnaryLaws.{unary_laws, unary_rows}
+use Rattle.flow_scalar.specs.FlagUnits.{units_machine}
+use Rattle.flow_scalar.specs.UnitsLaws.{units_laws, units_rows}
+use Rattle.flow_nodes.specs.declared.stream_node.StreamNode.{StreamNode}
+use Rattle.flow_nodes.specs.declared.stream_node.StreamNode.TheVariants as nodes
+
+-- the kinds of transducers
+pub data NodeKind : Type 0 where
+  a_source : NodeKind
+  a_const : NodeKind
+  a_unary : NodeKind
+  a_binary : NodeKind
+  a_fork : NodeKind
+  a_sink : NodeKind
+  an_iota : NodeKind
+  a_units_of : NodeKind
+  a_scan_add : NodeKind
+  a_reduce : NodeKind
+  a_length : NodeKind
+
+-- the states of each kind
+abbrev pub StateOf : NodeKind → Type 0
+StateOf a_source = SourceState
+StateOf a_const = NodeState Const
+StateOf a_unary = NodeState Unary
+StateOf a_binary = NodeState Binary
+StateOf a_fork = NodeState ForkState
+StateOf a_sink = NodeState Sink
+StateOf an_iota = NodeState Iota
+StateOf a_units_of = NodeState UnitsOf
+StateOf a_scan_add = NodeState ScanAdd
+StateOf a_reduce = NodeState Reduce
+StateOf a_length = NodeState Length
+
+-- what each kind does
+abbrev pub behaviour_of_kind : (t : NodeKind) → Behaviour (StateOf t)
+behaviour_of_kind a_source = source_behaviour
+behaviour_of_kind a_const = behaviour_of const_machine
+behaviour_of_kind a_unary = behaviour_of unary_machine
+behaviour_of_kind a_binary = behaviour_of binary_machine
+behaviour_of_kind a_fork = behaviour_of fork_machine
+behaviour_of_kind a_sink = behaviour_of sink_machine
+behaviour_of_kind an_iota = behaviour_of iota_machine
+behaviour_of_kind a_units_of = behaviour_of units_machine
+behaviour_of_kind a_scan_add = behaviour_of scan_machine
+behaviour_of_kind a_reduce = behaviour_of reduce_machine
+behaviour_of_kind a_length = behaviour_of length_machine
+
+pub laws_of_kind : (t : NodeKind) → BehaviourLaws (behaviour_of_kind t)
+laws_of_kind a_source = source_laws
+laws_of_kind a_const = behaviour_laws const_machine const_laws const_rows
+laws_of_kind a_unary = behaviour_laws unary_machine unary_laws unary_rows
+laws_of_kind a_binary = behaviour_laws binary_machine binary_laws binary_rows
+laws_of_kind a_fork = behaviour_laws fork_machine fork_laws fork_rows
+laws_of_kind a_sink = behaviour_laws sink_machine sink_laws sink_rows
+laws_of_kind an_iota = behaviour_laws iota_machine iota_laws iota_rows
+laws_of_kind a_units_of = behaviour_laws units_machine units_laws units_rows
+laws_of_kind a_scan_add = behaviour_laws scan_machine scan_laws scan_rows
+laws_of_kind a_reduce = behaviour_laws reduce_machine reduce_laws reduce_rows
+laws_of_kind a_length = behaviour_laws length_machine length_laws length_rows
+
+-- what a transducer of any kind does: what its kind does
+abbrev pub node_behaviour : Behaviour ((t : NodeKind) × StateOf t)
+node_behaviour = sum_of behaviour_of_kind
+
+-- the state of a node, under its kind
+abbrev pub state_of : StreamNode → (t : NodeKind) × StateOf t
+state_of (nodes.Source n) = (a_source, source_state (stream_kind n.stream) (stream_cells n.stream) n.written n.ended)
+state_of (nodes.Const n) = (a_const, node_state n.worker n.phase n.at)
+state_of (nodes.Unary n) = (a_unary, node_state n.worker n.phase n.at)
+state_of (nodes.Binary n) = (a_binary, node_state n.worker n.phase n.at)
+state_of (nodes.Fork n) = (a_fork, node_state (fork_state n.worker.kind n.worker.outputs n.worker.next n.worker.held) n.phase n.at)
+state_of (nodes.Sink n) = (a_sink, node_state n.worker n.phase n.at)
+state_of (nodes.Iota n) = (an_iota, node_state n.worker n.phase n.at)
+state_of (nodes.UnitsOf n) = (a_units_of, node_state n.worker n.phase n.at)
+state_of (nodes.ScanAdd n) = (a_scan_add, node_state n.worker n.phase n.at)
+state_of (nodes.Reduce n) = (a_reduce, node_state n.worker n.phase n.at)
+state_of (nodes.Length n) = (a_length, node_state n.worker n.phase n.at)

@@ -1,0 +1,88 @@
+// Any transducer of streams.
+
+ghost use Rattle.std.specs.Prelude.{◌≡◌};
+ghost use Rattle.flow_nodes.specs.StreamNodes.{node_behaviour, state_of};
+
+use flow_base::{Node, Transducer};
+use flow_edges::{Kind, Msg};
+use flow_scalar::{
+    Binary, Const, Fork, Iota, Length, Reduce, ScanAdd, Sink, Source, Unary, UnitsOf,
+};
+use kahn::Want;
+use std::alloc::AllocError;
+
+/// A transducer of any of these kinds. It does what that transducer does.
+#[derive(Drop)]
+pub enum StreamNode {
+    Source(Source),
+    Const(Node<Const>),
+    Unary(Node<Unary>),
+    Binary(Node<Binary>),
+    Fork(Node<Fork>),
+    Sink(Node<Sink>),
+    Iota(Node<Iota>),
+    UnitsOf(Node<UnitsOf>),
+    ScanAdd(Node<ScanAdd>),
+    Reduce(Node<Reduce>),
+    Length(Node<Length>),
+}
+
+// What the node gives, whatever its kind is.
+macro_rules! with_node {
+    ($any:expr, $node:ident => $result:expr) => {
+        match $any {
+            StreamNode::Source($node) => $result,
+            StreamNode::Const($node) => $result,
+            StreamNode::Unary($node) => $result,
+            StreamNode::Binary($node) => $result,
+            StreamNode::Fork($node) => $result,
+            StreamNode::Sink($node) => $result,
+            StreamNode::Iota($node) => $result,
+            StreamNode::UnitsOf($node) => $result,
+            StreamNode::ScanAdd($node) => $result,
+            StreamNode::Reduce($node) => $result,
+            StreamNode::Length($node) => $result,
+        }
+    };
+}
+
+#[tactic(auto, using(crate::proofs::NodeSteps::node_steps))]
+impl Transducer for StreamNode {
+    ghost use Rattle.flow_nodes.specs.StreamNodes.{NodeKind, StateOf, behaviour_of_kind, laws_of_kind, sum_laws};
+
+    ghost State = { (t : NodeKind) × StateOf t };
+
+    ghost state = { state_of };
+
+    ghost behaviour = { node_behaviour };
+
+    ghost laws = { sum_laws behaviour_of_kind laws_of_kind };
+
+    fn want(&self) -> Want {
+        with_node!(self, node => node.want())
+    }
+
+    fn inputs(&self) -> usize {
+        with_node!(self, node => node.inputs())
+    }
+
+    fn outputs(&self) -> usize {
+        with_node!(self, node => node.outputs())
+    }
+
+    fn kind_in(&self, port: usize) -> Kind {
+        with_node!(self, node => node.kind_in(port))
+    }
+
+    fn kind_out(&self, port: usize) -> Kind {
+        with_node!(self, node => node.kind_out(port))
+    }
+
+    fn give(&mut self, port: usize, message: Msg) -> Result<(), AllocError> {
+        with_node!(self, node => node.give(port, message))
+    }
+
+    fn emit(&mut self) -> Result<Msg, AllocError> {
+        with_node!(self, node => node.emit())
+    }
+}
