@@ -6,6 +6,10 @@ mod answering;
 #[cfg(test)]
 mod calls;
 #[cfg(test)]
+mod feeding;
+#[cfg(test)]
+mod graphs;
+#[cfg(test)]
 mod jobs;
 #[cfg(test)]
 mod limits;
@@ -13,6 +17,8 @@ mod limits;
 mod network;
 #[cfg(test)]
 mod rows;
+#[cfg(test)]
+mod scalar_nodes;
 pub mod stopping;
 #[cfg(test)]
 mod streams;

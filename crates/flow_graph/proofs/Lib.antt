@@ -1,0 +1,9 @@
+pub mod Tables
+pub mod Wirings
+pub mod KindTests
+pub mod Kept
+pub mod Reached
+pub mod Nets
+pub mod Looks
+pub mod Turns
+pub mod NodeEnds
