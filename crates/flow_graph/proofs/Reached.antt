@@ -5,13 +5,14 @@ use Rattle.std.proofs.lemmas.List.{get_or-map, map-set, set-get_or, length-map}
 use Rattle.std.proofs.lemmas.List.Elements.{All-get_or, All-set}
 use mathlib.Core.Logic.{∥∥₁_elim, ∥∥₁_map}
 use native.Mathlib.Bridge.{le_prop}
-use Rattle.kahn.specs.declared.want.Want.TheVariants.{Read, Write}
+use Rattle.kahn.specs.declared.want.Want.{Want}
+use Rattle.kahn.specs.declared.want.Want.TheVariants.{Read, Write, Ended, Faulted}
 use Rattle.kahn.specs.Processes.{Does, Reads, Writes, IsLawful}
 use Rattle.kahn.proofs.History.{does_then}
 use Rattle.flow_edges.specs.Signals.{Signal}
 use Rattle.flow_edges.specs.declared.message.Kind.{Kind}
 use Rattle.flow_edges.specs.declared.message.Kind.TheVariants.{Unit as UnitKind}
-use Rattle.flow_base.specs.Transducers.{Behaviour, BehaviourLaws}
+use Rattle.flow_base.specs.Transducers.{Behaviour, BehaviourLaws, IsWrite}
 use Rattle.flow_graph.specs.declared.edge.Edge.{Edge}
 use Rattle.flow_graph.specs.declared.wiring.Ports.{Ports}
 use Rattle.flow_graph.specs.Edges.{edge_at}
@@ -161,14 +162,17 @@ module _ {S : Type 0} (b : Behaviour S) (laws : BehaviourLaws b) where
   wanted_out (x ∷ xs) k q l all wants =
       subst (λ n. q < n) (sym (get_or-map b.outputs (x ∷ xs) k x 0 l)) (wants_output (get_or (x ∷ xs) k x) q (wants x) (All-get_or (IsReached b) (x ∷ xs) k x l all))
 
+-- a node that writes wants some port
+pub writes_port : (w : Want) → IsWrite w → (q : ℕ) × (w ≡ Write q)
+writes_port (Read p) h = absurd h
+writes_port (Write q) h = (q, refl)
+writes_port Ended h = absurd h
+writes_port (Faulted fault) h = absurd h
+
 -- an answer is one or the other
 pub either : {X E P Q : Type 0} (r : Result X E) → OnOk r P → OnErr r Q → P ⊎ Q
 either (Ok x) p q = inl p
 either (Err e) p q = inr q
-
-pub either_if : {X E Q : Type 0} (P : X → Type 0) (r : Result X E) → IfOk r P → OnErr r Q → ((x : X) × P x) ⊎ Q
-either_if P (Ok x) p q = inl (x, p)
-either_if P (Err e) p q = inr q
 
 pub on_err : {X E P Q : Type 0} (r : Result X E) → (P → Q) → OnErr r P → OnErr r Q
 on_err (Ok x) f p = tt

@@ -2,9 +2,9 @@
 ghost use Rattle.std.specs.Prelude.{◌≡◌, ◌<◌, false, map, length, slice_set, IsOk, IfOk, OnOk, OnErr};
 ghost use Rattle.kahn.specs.declared.want.Want.TheVariants.{Read, Write};
 ghost use Rattle.flow_edges.specs.Signals.{signal_of};
+ghost use Rattle.flow_edges.specs.Ends.{SameEnds};
 ghost use Rattle.flow_base.specs.Transducers.{IsWrite};
 ghost use Rattle.flow_graph.specs.Edges.{in_edge, out_edge};
-ghost use Rattle.flow_edges.specs.Ends.{SameEnds};
 ghost use Rattle.flow_graph.specs.Networks.{state_at, inputs_at, outputs_at, SameBut, HasEnds, network_of};
 ghost use Rattle.flow_graph.specs.Graphs.{states_of, edges_of};
 ghost use Rattle.flow_graph.specs.Steps.{Steps};
@@ -67,9 +67,9 @@ impl<T: Transducer> Graph<T> {
     }
 
     /// The message that the node wanted to write.
-    fn emit(&mut self, node: usize, port: usize) -> Result<Msg, AllocError>
+    fn emit(&mut self, node: usize) -> Result<Msg, AllocError>
         requires inside { node < length (states_of self.old) }
-        requires wants { (idle : T.State) → T.behaviour.process.want (state_at idle (states_of self.old) node) ≡ Write port }
+        requires wants { (idle : T.State) → IsWrite (T.behaviour.process.want (state_at idle (states_of self.old) node)) }
         ensures edges { edges_of self.new ≡ edges_of self.old }
         ensures openings { map T.behaviour.opening (states_of self.new) ≡ map T.behaviour.opening (states_of self.old) }
         ensures message { IfOk result (λ message. (idle : T.State) → signal_of message ≡ T.behaviour.process.written (state_at idle (states_of self.old) node)) }
@@ -114,7 +114,7 @@ pub fn step_once<T: Transducer, E: Ends>(
             if !ends.room(edge) {
                 return Ok(Moved::Nothing);
             }
-            let message = graph.emit(node, port)?;
+            let message = graph.emit(node)?;
             // Only after End is the message refused, and no lawful node writes after End.
             let _ = ends.put(edge, message);
             Ok(Moved::One)

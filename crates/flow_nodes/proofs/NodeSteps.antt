@@ -19,6 +19,17 @@ by_variant f (nodes.UnitsOf n) = f (nodes.UnitsOf n)
 by_variant f (nodes.ScanAdd n) = f (nodes.ScanAdd n)
 by_variant f (nodes.Reduce n) = f (nodes.Reduce n)
 by_variant f (nodes.Length n) = f (nodes.Length n)
+by_variant f (nodes.FlagOfBool n) = f (nodes.FlagOfBool n)
+by_variant f (nodes.TheCheck n) = f (nodes.TheCheck n)
+by_variant f (nodes.SameFlags n) = f (nodes.SameFlags n)
+by_variant f (nodes.ConcatFlags n) = f (nodes.ConcatFlags n)
+by_variant f (nodes.PartFlags n) = f (nodes.PartFlags n)
+by_variant f (nodes.AppendFlags n) = f (nodes.AppendFlags n)
+by_variant f (nodes.Dist n) = f (nodes.Dist n)
+by_variant f (nodes.Pack n) = f (nodes.Pack n)
+by_variant f (nodes.PackGroups n) = f (nodes.PackGroups n)
+by_variant f (nodes.Interleave n) = f (nodes.Interleave n)
+by_variant f (nodes.InterleaveGroups n) = f (nodes.InterleaveGroups n)
 
 pub same_by_variant : {R : Type 0} (f : StreamNode → R) (x : StreamNode) → f x ≡ by_variant f x
 same_by_variant f x = grind arith

@@ -35,6 +35,36 @@ use Rattle.flow_scalar.specs.Unaries.{unary_machine}
 use Rattle.flow_scalar.specs.UnaryLaws.{unary_laws, unary_rows}
 use Rattle.flow_scalar.specs.FlagUnits.{units_machine}
 use Rattle.flow_scalar.specs.UnitsLaws.{units_laws, units_rows}
+use Rattle.flow_segment.specs.declared.flag_of_bool.FlagOfBool.{FlagOfBool}
+use Rattle.flow_segment.specs.FlagOfBoolMachine.{flag_machine}
+use Rattle.flow_segment.specs.FlagOfBoolLaws.{flag_laws, flag_rows}
+use Rattle.flow_segment.specs.declared.the_check.TheCheck.{TheCheck}
+use Rattle.flow_segment.specs.TheCheckMachine.{the_check_machine}
+use Rattle.flow_segment.specs.TheCheckLaws.{the_check_laws, the_check_rows}
+use Rattle.flow_segment.specs.declared.same_flags.SameFlags.{SameFlags}
+use Rattle.flow_segment.specs.SameFlagsMachine.{same_machine}
+use Rattle.flow_segment.specs.SameFlagsLaws.{same_laws, same_rows}
+use Rattle.flow_segment.specs.declared.concat_flags.ConcatFlags.{ConcatFlags}
+use Rattle.flow_segment.specs.ConcatFlagsMachine.{concat_machine}
+use Rattle.flow_segment.specs.ConcatFlagsLaws.{concat_laws, concat_rows}
+use Rattle.flow_segment.specs.declared.part_flags.PartFlags.{PartFlags}
+use Rattle.flow_segment.specs.PartFlagsMachine.{part_machine}
+use Rattle.flow_segment.specs.PartFlagsLaws.{part_laws, part_rows}
+use Rattle.flow_segment.specs.declared.append_flags.AppendFlags.{AppendFlags}
+use Rattle.flow_segment.specs.AppendFlagsMachine.{append_machine}
+use Rattle.flow_segment.specs.AppendFlagsLaws.{append_laws, append_rows}
+use Rattle.flow_segment.specs.DistMachine.{DistState, dist_state, step_of as step_of_dist, dist_machine}
+use Rattle.flow_segment.specs.DistLaws.{dist_laws, dist_rows}
+use Rattle.flow_segment.specs.PackMachine.{PackState, pack_state, step_of as step_of_pack, pack_machine}
+use Rattle.flow_segment.specs.PackLaws.{pack_laws, pack_rows}
+use Rattle.flow_segment.specs.declared.pack_groups.PackGroups.{PackGroups}
+use Rattle.flow_segment.specs.PackGroupsMachine.{pack_groups_machine}
+use Rattle.flow_segment.specs.PackGroupsLaws.{pack_groups_laws, pack_groups_rows}
+use Rattle.flow_segment.specs.InterleaveMachine.{InterleaveState, interleave_state, step_of as step_of_interleave, interleave_machine}
+use Rattle.flow_segment.specs.InterleaveLaws.{interleave_laws, interleave_rows}
+use Rattle.flow_segment.specs.declared.interleave_groups.InterleaveGroups.{InterleaveGroups}
+use Rattle.flow_segment.specs.InterleaveGroupsMachine.{groups_machine}
+use Rattle.flow_segment.specs.InterleaveGroupsLaws.{groups_laws, groups_rows}
 use Rattle.flow_nodes.specs.declared.stream_node.StreamNode.{StreamNode}
 use Rattle.flow_nodes.specs.declared.stream_node.StreamNode.TheVariants as nodes
 
@@ -51,6 +81,17 @@ pub data NodeKind : Type 0 where
   a_scan_add : NodeKind
   a_reduce : NodeKind
   a_length : NodeKind
+  a_flag_of_bool : NodeKind
+  a_the_check : NodeKind
+  a_same_flags : NodeKind
+  a_concat_flags : NodeKind
+  a_part_flags : NodeKind
+  an_append_flags : NodeKind
+  a_dist : NodeKind
+  a_pack : NodeKind
+  a_pack_groups : NodeKind
+  an_interleave : NodeKind
+  an_interleave_groups : NodeKind
 
 -- the states of each kind
 abbrev pub StateOf : NodeKind → Type 0
@@ -65,6 +106,17 @@ StateOf a_units_of = NodeState UnitsOf
 StateOf a_scan_add = NodeState ScanAdd
 StateOf a_reduce = NodeState Reduce
 StateOf a_length = NodeState Length
+StateOf a_flag_of_bool = NodeState FlagOfBool
+StateOf a_the_check = NodeState TheCheck
+StateOf a_same_flags = NodeState SameFlags
+StateOf a_concat_flags = NodeState ConcatFlags
+StateOf a_part_flags = NodeState PartFlags
+StateOf an_append_flags = NodeState AppendFlags
+StateOf a_dist = NodeState DistState
+StateOf a_pack = NodeState PackState
+StateOf a_pack_groups = NodeState PackGroups
+StateOf an_interleave = NodeState InterleaveState
+StateOf an_interleave_groups = NodeState InterleaveGroups
 
 -- what each kind does
 abbrev pub behaviour_of_kind : (t : NodeKind) → Behaviour (StateOf t)
@@ -79,6 +131,17 @@ behaviour_of_kind a_units_of = behaviour_of units_machine
 behaviour_of_kind a_scan_add = behaviour_of scan_machine
 behaviour_of_kind a_reduce = behaviour_of reduce_machine
 behaviour_of_kind a_length = behaviour_of length_machine
+behaviour_of_kind a_flag_of_bool = behaviour_of flag_machine
+behaviour_of_kind a_the_check = behaviour_of the_check_machine
+behaviour_of_kind a_same_flags = behaviour_of same_machine
+behaviour_of_kind a_concat_flags = behaviour_of concat_machine
+behaviour_of_kind a_part_flags = behaviour_of part_machine
+behaviour_of_kind an_append_flags = behaviour_of append_machine
+behaviour_of_kind a_dist = behaviour_of dist_machine
+behaviour_of_kind a_pack = behaviour_of pack_machine
+behaviour_of_kind a_pack_groups = behaviour_of pack_groups_machine
+behaviour_of_kind an_interleave = behaviour_of interleave_machine
+behaviour_of_kind an_interleave_groups = behaviour_of groups_machine
 
 pub laws_of_kind : (t : NodeKind) → BehaviourLaws (behaviour_of_kind t)
 laws_of_kind a_source = source_laws
@@ -92,6 +155,17 @@ laws_of_kind a_units_of = behaviour_laws units_machine units_laws units_rows
 laws_of_kind a_scan_add = behaviour_laws scan_machine scan_laws scan_rows
 laws_of_kind a_reduce = behaviour_laws reduce_machine reduce_laws reduce_rows
 laws_of_kind a_length = behaviour_laws length_machine length_laws length_rows
+laws_of_kind a_flag_of_bool = behaviour_laws flag_machine flag_laws flag_rows
+laws_of_kind a_the_check = behaviour_laws the_check_machine the_check_laws the_check_rows
+laws_of_kind a_same_flags = behaviour_laws same_machine same_laws same_rows
+laws_of_kind a_concat_flags = behaviour_laws concat_machine concat_laws concat_rows
+laws_of_kind a_part_flags = behaviour_laws part_machine part_laws part_rows
+laws_of_kind an_append_flags = behaviour_laws append_machine append_laws append_rows
+laws_of_kind a_dist = behaviour_laws dist_machine dist_laws dist_rows
+laws_of_kind a_pack = behaviour_laws pack_machine pack_laws pack_rows
+laws_of_kind a_pack_groups = behaviour_laws pack_groups_machine pack_groups_laws pack_groups_rows
+laws_of_kind an_interleave = behaviour_laws interleave_machine interleave_laws interleave_rows
+laws_of_kind an_interleave_groups = behaviour_laws groups_machine groups_laws groups_rows
 
 -- what a transducer of any kind does: what its kind does
 abbrev pub node_behaviour : Behaviour ((t : NodeKind) × StateOf t)
@@ -110,3 +184,14 @@ state_of (nodes.UnitsOf n) = (a_units_of, node_state n.worker n.phase n.at)
 state_of (nodes.ScanAdd n) = (a_scan_add, node_state n.worker n.phase n.at)
 state_of (nodes.Reduce n) = (a_reduce, node_state n.worker n.phase n.at)
 state_of (nodes.Length n) = (a_length, node_state n.worker n.phase n.at)
+state_of (nodes.FlagOfBool n) = (a_flag_of_bool, node_state n.worker n.phase n.at)
+state_of (nodes.TheCheck n) = (a_the_check, node_state n.worker n.phase n.at)
+state_of (nodes.SameFlags n) = (a_same_flags, node_state n.worker n.phase n.at)
+state_of (nodes.ConcatFlags n) = (a_concat_flags, node_state n.worker n.phase n.at)
+state_of (nodes.PartFlags n) = (a_part_flags, node_state n.worker n.phase n.at)
+state_of (nodes.AppendFlags n) = (an_append_flags, node_state n.worker n.phase n.at)
+state_of (nodes.Dist n) = (a_dist, node_state (dist_state n.worker.kind (step_of_dist n.worker.held n.worker.copies)) n.phase n.at)
+state_of (nodes.Pack n) = (a_pack, node_state (pack_state n.worker.kind (step_of_pack n.worker.pair)) n.phase n.at)
+state_of (nodes.PackGroups n) = (a_pack_groups, node_state n.worker n.phase n.at)
+state_of (nodes.Interleave n) = (an_interleave, node_state (interleave_state n.worker.kind (step_of_interleave n.worker.turn)) n.phase n.at)
+state_of (nodes.InterleaveGroups n) = (an_interleave_groups, node_state n.worker n.phase n.at)

@@ -8,6 +8,10 @@ use flow_edges::{Kind, Msg};
 use flow_scalar::{
     Binary, Const, Fork, Iota, Length, Reduce, ScanAdd, Sink, Source, Unary, UnitsOf,
 };
+use flow_segment::{
+    AppendFlags, ConcatFlags, Dist, FlagOfBool, Interleave, InterleaveGroups, Pack, PackGroups,
+    PartFlags, SameFlags, TheCheck,
+};
 use kahn::Want;
 use std::alloc::AllocError;
 
@@ -25,6 +29,17 @@ pub enum StreamNode {
     ScanAdd(Node<ScanAdd>),
     Reduce(Node<Reduce>),
     Length(Node<Length>),
+    FlagOfBool(Node<FlagOfBool>),
+    TheCheck(Node<TheCheck>),
+    SameFlags(Node<SameFlags>),
+    ConcatFlags(Node<ConcatFlags>),
+    PartFlags(Node<PartFlags>),
+    AppendFlags(Node<AppendFlags>),
+    Dist(Node<Dist>),
+    Pack(Node<Pack>),
+    PackGroups(Node<PackGroups>),
+    Interleave(Node<Interleave>),
+    InterleaveGroups(Node<InterleaveGroups>),
 }
 
 // What the node gives, whatever its kind is.
@@ -42,6 +57,17 @@ macro_rules! with_node {
             StreamNode::ScanAdd($node) => $result,
             StreamNode::Reduce($node) => $result,
             StreamNode::Length($node) => $result,
+            StreamNode::FlagOfBool($node) => $result,
+            StreamNode::TheCheck($node) => $result,
+            StreamNode::SameFlags($node) => $result,
+            StreamNode::ConcatFlags($node) => $result,
+            StreamNode::PartFlags($node) => $result,
+            StreamNode::AppendFlags($node) => $result,
+            StreamNode::Dist($node) => $result,
+            StreamNode::Pack($node) => $result,
+            StreamNode::PackGroups($node) => $result,
+            StreamNode::Interleave($node) => $result,
+            StreamNode::InterleaveGroups($node) => $result,
         }
     };
 }

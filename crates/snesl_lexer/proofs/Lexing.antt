@@ -11,7 +11,8 @@ use Rattle.snesl_lexer.specs.declared.lexer.First.TheVariants.{Blank, Found, Bad
 use Rattle.snesl_lexer.specs.Tables.{kind_in}
 use Rattle.snesl_lexer.specs.Signs.{one_byte_signs, two_byte_signs, longer_sign, sign_token}
 use Rattle.snesl_lexer.proofs.Tables.{kind_in_passes}
-use Rattle.snesl_lexer.specs.Lexical.{value_from, number, first, Tokens, none_left, skips, takes, BadAt, bad_here, bad_later, bad_behind, IsWithin}
+use Rattle.snesl_values.specs.Characters.{value_from}
+use Rattle.snesl_lexer.specs.Lexical.{number, first, Tokens, none_left, skips, takes, BadAt, bad_here, bad_later, bad_behind, IsWithin}
 
 value_from-grows : (n : ℕ) (cs : List ℕ) → n ≤ value_from n cs
 value_from-grows n [] = omega arith

@@ -17,7 +17,8 @@ use Rattle.snesl_lexer.specs.Tables.{kind_in}
 use Rattle.snesl_lexer.specs.Words.{word_kind}
 use Rattle.snesl_lexer.specs.Signs.{one_byte_signs, two_byte_signs, longer_sign, sign_token}
 use Rattle.snesl_values.specs.Blanks.{is_blank}
-use Rattle.snesl_lexer.specs.Lexical.{is_word, value_from, number, head_or, first}
+use Rattle.snesl_values.specs.Characters.{is_word, value_from}
+use Rattle.snesl_lexer.specs.Lexical.{number, head_or, first}
 use Rattle.snesl_lexer.specs.Lexemes.{IsWord, IsDigits, Meaning, token, too_great, Lexeme, a_word, an_integer, an_excess, a_sign, a_long_sign, IsLongest, BeginsWithNone, StandsFirst, FirstIsLongest}
 use Rattle.snesl_lexer.proofs.Tables.{kind_in_passes}
 

@@ -11,7 +11,8 @@ use Rattle.snesl_lexer.specs.Tables.{kind_in}
 use Rattle.snesl_lexer.specs.Words.{word_kind}
 use Rattle.snesl_lexer.specs.Signs.{one_byte_signs, two_byte_signs}
 use Rattle.snesl_values.specs.Blanks.{is_blank}
-use Rattle.snesl_lexer.specs.Lexical.{is_word, value_from, first}
+use Rattle.snesl_values.specs.Characters.{is_word, value_from}
+use Rattle.snesl_lexer.specs.Lexical.{first}
 
 -- a letter, and then letters, digits and `_`
 abbrev pub IsWord : List ℕ → Type 0

@@ -11,17 +11,9 @@ use Rattle.snesl_values.specs.declared.refusal.Refusal.{Refusal}
 use Rattle.snesl_values.specs.declared.refusal.Refusal.TheVariants as refusals
 use Rattle.snesl_values.specs.Integers.{greatest_integer}
 use Rattle.snesl_values.specs.Blanks.{is_blank}
+use Rattle.snesl_values.specs.Characters.{is_word, value_from}
 use Rattle.snesl_lexer.specs.Words.{word_kind}
 use Rattle.snesl_lexer.specs.Signs.{sign_token}
-
--- a letter, a digit or `_`
-abbrev pub is_word : ℕ → Bool
-is_word b = is_ascii_alphabetic b || is_ascii_digit b || b == 95
-
--- the number that digits write, behind the digits of another
-abbrev pub value_from : ℕ → List ℕ → ℕ
-value_from n [] = n
-value_from n (c ∷ cs) = value_from (10 * n + (c - 48)) cs
 
 -- the token of these digits: their integer, or bad where it is over the limit
 abbrev pub number : List ℕ → First

@@ -1,17 +1,17 @@
 // The lexer: which tokens a text is, and where its first bad byte stands.
 
 ghost use Rattle.std.specs.Prelude.{◌≡◌, ◌<◌, [], ◌∷◌, length, IsTrue, IfOk, IfErr};
-ghost use Rattle.std.specs.List.{AllByRecursion, prefix_len};
+ghost use Rattle.std.specs.List.{AllByRecursion};
 ghost use Rattle.std.specs.Char.{is_ascii_digit};
 ghost use Rattle.snesl_lexer.specs.Tables.{kind_in};
 ghost use Rattle.snesl_lexer.specs.Words.{word_kind};
 ghost use Rattle.snesl_lexer.specs.Signs.{one_byte_signs, two_byte_signs, sign_token};
-ghost use Rattle.snesl_lexer.specs.Lexical.{is_word, number, first, Tokens, IsWithin, IsBadOf};
+ghost use Rattle.snesl_lexer.specs.Lexical.{number, first, Tokens, IsWithin, IsBadOf};
 ghost use Rattle.snesl_lexer.specs.Lexemes.{FirstIsLongest};
 ghost use Rattle.snesl_lexer.specs.Readings.{HaveOneReading};
 
 use crate::token::{Kind, Token};
-use snesl_values::{Refusal, is_blank};
+use snesl_values::{Refusal, digits_len, is_blank, word_len};
 use std::alloc::Global;
 
 /// What stands first in bytes.
@@ -27,27 +27,6 @@ pub enum First {
 
 // The greatest integer that a literal may write.
 const GREATEST_INTEGER: u64 = i64::MAX as u64;
-
-// Whether the byte may stand in a word behind the first letter.
-fn is_word(b: u8) -> bool
-    ensures { result ≡ is_word b }
-{
-    b.is_ascii_alphanumeric() || b == b'_'
-}
-
-// How many bytes at the front may stand in a word.
-fn word_len(text: &[u8]) -> usize
-    ensures { result ≡ prefix_len is_word text.now }
-{
-    text.iter().take_while(|b| is_word(**b)).count()
-}
-
-// How many bytes at the front are digits.
-fn digits_len(text: &[u8]) -> usize
-    ensures { result ≡ prefix_len is_ascii_digit text.now }
-{
-    text.iter().take_while(|b| b.is_ascii_digit()).count()
-}
 
 // The kind of a word: a reserved word, or else a name.
 fn word_kind(word: &[u8]) -> Kind

@@ -97,11 +97,11 @@ inputs_too_long : OneInputMeaning → (program input input' : List ℕ) (m : Mea
 inputs_too_long inputs program input input' m h k (no_program p) = no_program p
 inputs_too_long inputs program input input' m h k (ill_typed p v) = ill_typed p v
 inputs_too_long inputs program input input' m h k (bad_input {at = at} p d i) =
-    let e = inputs input (refused_at at) (refused_at greatest_input_length) i (input_too_long h) in
+    let e = inputs [] input (refused_at at) (refused_at greatest_input_length) i (input_too_long h) in
     let same : greatest_input_length ≡ at = cc in
-    bad_input p d (subst (λ n. InputMeans input' (refused_at n)) same (input_too_long k))
+    bad_input p d (subst (λ n. InputMeans [] input' (refused_at n)) same (input_too_long k))
 inputs_too_long inputs program input input' m h k (evaluated {environment = f} p d i) =
-    absurd (let e = inputs input (spells f) (refused_at greatest_input_length) i (input_too_long h) in cc)
+    absurd (let e = inputs [] input (spells f) (refused_at greatest_input_length) i (input_too_long h) in cc)
 
 -- the separator of the beginning is that of the whole
 same_split : (cut behind program' input' back' : List ℕ) → length cut ≡ longest_job → length program' ≤ greatest_length

@@ -23,8 +23,8 @@ no_violation answers typing program t u ty r p q h v =
     absurd ((typing program [] t).2 ty r h (subst (λ x. Violates program [] x r) (sym (same_tree answers program t u p q)) v))
 
 no_input : {A : Type 0} → OneInputMeaning → (input : List ℕ) (at : ℕ) (environment : Environment)
-    → InputMeans input (refused_at at) → InputMeans input (spells environment) → A
-no_input inputs input at environment p q = absurd (let e = inputs input (refused_at at) (spells environment) p q in cc)
+    → InputMeans [] input (refused_at at) → InputMeans [] input (spells environment) → A
+no_input inputs input at environment p q = absurd (let e = inputs [] input (refused_at at) (spells environment) p q in cc)
 
 pub one_meaning : HaveOneAnswer → HaveOneTyping → OneInputMeaning → HaveOneMeaning
 one_meaning answers typing inputs program input m n (no_program {refusal = r} p) (no_program {refusal = s} q) =
@@ -43,7 +43,7 @@ one_meaning answers typing inputs program input m n (bad_input {tree = t} p h i)
 one_meaning answers typing inputs program input m n (bad_input {tree = t} {t = a} p h i) (ill_typed {tree = u} {refusal = s} q w) =
     no_violation answers typing program t u a s p q h w
 one_meaning answers typing inputs program input m n (bad_input {at = a} p h i) (bad_input {at = b} q k j) =
-    let e = inputs input (refused_at a) (refused_at b) i j in cc
+    let e = inputs [] input (refused_at a) (refused_at b) i j in cc
 one_meaning answers typing inputs program input m n (bad_input {at = a} p h i) (evaluated {environment = f} q k j) =
     no_input inputs input a f i j
 one_meaning answers typing inputs program input m n (evaluated {tree = t} p h i) (no_program {refusal = s} q) = no_tree answers program t s p q
@@ -53,6 +53,6 @@ one_meaning answers typing inputs program input m n (evaluated {environment = f}
     no_input inputs input b f j i
 one_meaning answers typing inputs program input m n (evaluated {tree = t} {environment = f} p h i) (evaluated {tree = u} {environment = g} q k j) =
     let e = same_tree answers program t u p q in
-    let d = inputs input (spells f) (spells g) i j in
+    let d = inputs [] input (spells f) (spells g) i j in
     let same : f ≡ g = cc in
     ap (λ x. meaning_of (eval x program f)) e ∙ ap (λ x. meaning_of (eval u program x)) same

@@ -1,5 +1,5 @@
 -- What a run answers.
-use Rattle.std.proofs.Common.{◌≡◌, ℕ, List, [], ◌++◌, ◌∷◌, Result, Ok, Err, sym, ap, ◌∙◌, subst}
+use Rattle.std.proofs.Common.{◌≡◌, ℕ, List, [], ◌++◌, ◌∷◌, Result, Ok, Err, ◌⊎◌, inl, inr, sym, ap, ◌∙◌, subst}
 use Rattle.std.specs.Result.{IsErrAnd}
 use Rattle.snesl_values.specs.declared.refusal.Refusal.{Refusal}
 use Rattle.snesl_values.specs.declared.refusal.Refusal.TheVariants.{Name, Mismatch, Streamed, NoMemory, Output}
@@ -9,7 +9,7 @@ use Rattle.snesl_values.specs.Values.{Value}
 use Rattle.snesl_values.specs.Text.{text}
 use Rattle.snesl_values.specs.Inputs.{Environment, InputMeans, spells, refused_at, refusal_of}
 use Rattle.snesl_values.specs.declared.inputs.InputError.{InputError}
-use Rattle.snesl_values.specs.declared.inputs.InputError.TheVariants.{Bad}
+use Rattle.snesl_values.specs.declared.inputs.InputError.TheVariants.{Bad, NoMemory as NoInputMemory}
 use Rattle.snesl_tree.specs.declared.program.Program.{Program}
 use Rattle.snesl_tree.specs.Tree.{Tree, Trees}
 use Rattle.snesl_tree.specs.View.{tree_of}
@@ -59,16 +59,17 @@ check_refused program input tree refusal parsed first = ill_typed parsed first
 -- an input text that is not lawful
 pub inputs_refused : (bytes input : List ℕ) (program : Program) (t : Ty) (error : InputError) → Parses bytes (Ok (tree_of program.expr))
     → program.text.items ≡ bytes → Types program.text.items [] (tree_of program.expr) t
-    → (at : ℕ) × (error ≡ Bad at) × InputMeans input (refused_at at)
+    → (error ≡ NoInputMemory) ⊎ ((at : ℕ) × (error ≡ Bad at) × InputMeans [] input (refused_at at))
     → HasEvaluated bytes input (Err (refusal_of error))
-inputs_refused bytes input program t error parsed kept typed (at, is, means) =
+inputs_refused bytes input program t error parsed kept typed (inl is) = subst (λ e. HasEvaluated bytes input (Err (refusal_of e))) (sym is) tt
+inputs_refused bytes input program t error parsed kept typed (inr (at, is, means)) =
     subst (λ e. HasEvaluated bytes input (Err (refusal_of e))) (sym is)
     (bad_input parsed (subst (λ b. Types b [] (tree_of program.expr) t) kept typed) means)
 
 -- what evaluation answered is the program's answer
 answer_is : (bytes input : List ℕ) (program other : Program) (t : Ty) (environment : Environment) (answer : Answer Value)
     → Parses bytes (Ok (tree_of program.expr)) → program.text.items ≡ bytes → other ≡ program
-    → Types program.text.items [] (tree_of program.expr) t → InputMeans input (spells environment)
+    → Types program.text.items [] (tree_of program.expr) t → InputMeans [] input (spells environment)
     → eval (tree_of other.expr) other.text.items environment ≡ answer → Means bytes input (meaning_of answer)
 answer_is bytes input program other t environment answer parsed kept same typed spelled e =
     subst (λ a. Means bytes input (meaning_of a))
@@ -78,7 +79,7 @@ answer_is bytes input program other t environment answer parsed kept same typed 
 -- the line of a value
 pub evaluated_to : (bytes input : List ℕ) (program other : Program) (t : Ty) (environment : Environment) (v : Value) (line items : List ℕ)
     → Parses bytes (Ok (tree_of program.expr)) → program.text.items ≡ bytes → other ≡ program
-    → Types program.text.items [] (tree_of program.expr) t → InputMeans input (spells environment)
+    → Types program.text.items [] (tree_of program.expr) t → InputMeans [] input (spells environment)
     → eval (tree_of other.expr) other.text.items environment ≡ gives v → line ≡ text v → items ≡ line ++ 10 ∷ []
     → (x : Value) × Means bytes input (has_value x) × (items ≡ value_line x)
 evaluated_to bytes input program other t environment v line items parsed kept same typed spelled answer e f =
@@ -87,7 +88,7 @@ evaluated_to bytes input program other t environment v line items parsed kept sa
 -- the fault
 pub faulted : (bytes input : List ℕ) (program other : Program) (t : Ty) (environment : Environment) (kind : FaultKind) (at : ℕ)
     → Parses bytes (Ok (tree_of program.expr)) → program.text.items ≡ bytes → other ≡ program
-    → Types program.text.items [] (tree_of program.expr) t → InputMeans input (spells environment)
+    → Types program.text.items [] (tree_of program.expr) t → InputMeans [] input (spells environment)
     → eval (tree_of other.expr) other.text.items environment ≡ faults kind at → Means bytes input (has_fault kind at)
 faulted bytes input program other t environment kind at parsed kept same typed spelled answer =
     answer_is bytes input program other t environment (faults kind at) parsed kept same typed spelled answer

@@ -20,7 +20,7 @@ abbrev pub meaning_of : Answer Value → Meaning
 meaning_of (gives v) = has_value v
 meaning_of (faults kind at) = has_fault kind at
 
--- the meaning of a program text for an input text
+-- the meaning of a program text for an input text; no program declares an input
 pub data Means (program input : List ℕ) : Meaning → Type 0 where
   -- the text is no program
   no_program : {refusal : Refusal} → Parses program (Err refusal) → Means program input (is_refused refusal)
@@ -28,11 +28,11 @@ pub data Means (program input : List ℕ) : Meaning → Type 0 where
   ill_typed : {tree : Tree} {refusal : Refusal} → Parses program (Ok tree) → Violates program [] tree refusal
       → Means program input (is_refused refusal)
   -- the input text is not lawful
-  bad_input : {tree : Tree} {t : Ty} {at : ℕ} → Parses program (Ok tree) → Types program [] tree t → InputMeans input (refused_at at)
+  bad_input : {tree : Tree} {t : Ty} {at : ℕ} → Parses program (Ok tree) → Types program [] tree t → InputMeans [] input (refused_at at)
       → Means program input (is_refused (BadInput at))
   -- the program is evaluated with the values that the input text spells
   evaluated : {tree : Tree} {t : Ty} {environment : Environment} → Parses program (Ok tree) → Types program [] tree t
-      → InputMeans input (spells environment)
+      → InputMeans [] input (spells environment)
       → Means program input (meaning_of (eval tree program environment))
 
 -- a program and an input text have one meaning

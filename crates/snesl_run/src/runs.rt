@@ -57,7 +57,7 @@ fn evaluated(alloc: Global, program: &[u8], input: &[u8]) -> Result<Result<Vec<u
 {
     let program = parse(alloc, program)?;
     let typed = check(alloc, &program)?;
-    let inputs = read_inputs(&[], input)?;
+    let inputs = read_inputs(alloc, &[], input)?;
     match plain(alloc, &typed, &inputs)? {
         Err(fault) => Ok(Err(fault)),
         Ok(datum) => {

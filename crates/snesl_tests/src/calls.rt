@@ -110,8 +110,8 @@ fn numbers(rt: HostRuntime) {
 #[test]
 fn inputs(rt: HostRuntime) {
     assert!(rt; is_blank(b'\t') && !is_blank(b'x'));
-    assert!(rt; read_inputs(&[], b" \t\r\n").is_ok());
-    let refused = read_inputs(&[], b" \n=").err();
+    assert!(rt; read_inputs(rt.alloc(), &[], b" \t\r\n").is_ok());
+    let refused = read_inputs(rt.alloc(), &[], b" \n=").err();
     assert_eq!(rt; refused, Some(InputError::Bad(2)));
     assert_eq!(rt; Refusal::from(InputError::Bad(2)), Refusal::BadInput(2));
 }
@@ -192,7 +192,7 @@ fn from_text_to_value(rt: HostRuntime) -> Result<(), Fail> {
     let typed = check(rt.alloc(), &program)?;
     assert!(rt; matches!(typed.ty(), Ty::Int));
     assert_eq!(rt; typed.program().expr.at(), 1);
-    let inputs = read_inputs(&[], b"").map_err(Refusal::from)?;
+    let inputs = read_inputs(rt.alloc(), &[], b"").map_err(Refusal::from)?;
     let value = plain(rt.alloc(), &typed, &inputs)?;
     assert!(rt; matches!(value, Ok(Datum::Int(14))));
     Ok(())

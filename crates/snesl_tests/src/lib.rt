@@ -10,6 +10,8 @@ mod feeding;
 #[cfg(test)]
 mod graphs;
 #[cfg(test)]
+mod inputs;
+#[cfg(test)]
 mod jobs;
 #[cfg(test)]
 mod limits;
@@ -19,6 +21,8 @@ mod network;
 mod rows;
 #[cfg(test)]
 mod scalar_nodes;
+#[cfg(test)]
+mod segment_nodes;
 pub mod stopping;
 #[cfg(test)]
 mod streams;

@@ -44,17 +44,45 @@ fn constants(rt: HostRuntime) -> Result<(), Fail> {
 fn operators(rt: HostRuntime) -> Result<(), Fail> {
     let alloc = rt.alloc();
     let mut negate = Node::new(Unary::new(UnaryOperator::Negate), 7);
-    assert_carries(&rt, alloc, &mut negate, &["3 -2 0 ."], &["-3 2 0 ."], Want::Ended)?;
+    assert_carries(
+        &rt,
+        alloc,
+        &mut negate,
+        &["3 -2 0 ."],
+        &["-3 2 0 ."],
+        Want::Ended,
+    )?;
     let mut negate = Node::new(Unary::new(UnaryOperator::Negate), 7);
     let overflow = fault(FaultKind::Overflow);
-    assert_carries(&rt, alloc, &mut negate, &["1 -9223372036854775808 ."], &["-1"], overflow)?;
+    assert_carries(
+        &rt,
+        alloc,
+        &mut negate,
+        &["1 -9223372036854775808 ."],
+        &["-1"],
+        overflow,
+    )?;
     let mut not = Node::new(Unary::new(UnaryOperator::Not), 7);
     assert_carries(&rt, alloc, &mut not, &["T F ."], &["F T ."], Want::Ended)?;
     let mut less = Node::new(Binary::new(BinaryOperator::Less), 7);
-    assert_carries(&rt, alloc, &mut less, &["1 2 3 .", "2 2 2 ."], &["T F F ."], Want::Ended)?;
+    assert_carries(
+        &rt,
+        alloc,
+        &mut less,
+        &["1 2 3 .", "2 2 2 ."],
+        &["T F F ."],
+        Want::Ended,
+    )?;
     let mut over = Node::new(Binary::new(BinaryOperator::Divide), 7);
     let divide = fault(FaultKind::Divide);
-    assert_carries(&rt, alloc, &mut over, &["-7 1 1 .", "2 0 1 ."], &["-3"], divide)?;
+    assert_carries(
+        &rt,
+        alloc,
+        &mut over,
+        &["-7 1 1 .", "2 0 1 ."],
+        &["-3"],
+        divide,
+    )?;
     let mut sum = Node::new(Binary::new(BinaryOperator::Add), 7);
     let shape = fault(FaultKind::Shape);
     assert_carries(&rt, alloc, &mut sum, &["1 2 .", "1 ."], &["2"], shape)
@@ -67,11 +95,25 @@ fn copies_and_sinks(rt: HostRuntime) -> Result<(), Fail> {
     let all = ["4 5 .", "4 5 .", "4 5 ."];
     assert_carries(&rt, alloc, &mut fork, &["4 5 ."], &all, Want::Ended)?;
     let mut fork = Node::new(Fork::new(alloc, Kind::Vec, 2), 7);
-    assert_carries(&rt, alloc, &mut fork, &["v ."], &["v .", "v ."], Want::Ended)?;
+    assert_carries(
+        &rt,
+        alloc,
+        &mut fork,
+        &["v ."],
+        &["v .", "v ."],
+        Want::Ended,
+    )?;
     let mut sink = Node::new(Sink::new(Kind::Bool), 7);
     assert_carries(&rt, alloc, &mut sink, &["T F T ."], &[], Want::Ended)?;
     let mut sink = Node::new(Sink::new(Kind::Bool), 7);
-    assert_carries(&rt, alloc, &mut sink, &["T u"], &[], fault(FaultKind::Shape))
+    assert_carries(
+        &rt,
+        alloc,
+        &mut sink,
+        &["T u"],
+        &[],
+        fault(FaultKind::Shape),
+    )
 }
 
 #[test]
@@ -84,9 +126,23 @@ fn counts(rt: HostRuntime) -> Result<(), Fail> {
     let negative = fault(FaultKind::NegativeCount);
     assert_carries(&rt, alloc, &mut iota, &["1 -1 ."], &["F T", "0"], negative)?;
     let mut units = Node::new(UnitsOf::new(), 7);
-    assert_carries(&rt, alloc, &mut units, &["F F T T F T ."], &["u u u ."], Want::Ended)?;
+    assert_carries(
+        &rt,
+        alloc,
+        &mut units,
+        &["F F T T F T ."],
+        &["u u u ."],
+        Want::Ended,
+    )?;
     let mut length = Node::new(Length::new(), 7);
-    assert_carries(&rt, alloc, &mut length, &["F F T T F T ."], &["2 0 1 ."], Want::Ended)
+    assert_carries(
+        &rt,
+        alloc,
+        &mut length,
+        &["F F T T F T ."],
+        &["2 0 1 ."],
+        Want::Ended,
+    )
 }
 
 #[test]
@@ -97,9 +153,19 @@ fn scans(rt: HostRuntime) -> Result<(), Fail> {
     assert_carries(&rt, alloc, &mut scan, &ins, &["0 2 3 0 ."], Want::Ended)?;
     // The last element of a segment is not added.
     let mut scan = Node::new(ScanAdd::new(), 7);
-    let ins = ["F F T F F F T .", "9223372036854775807 1 9223372036854775807 1 1 ."];
+    let ins = [
+        "F F T F F F T .",
+        "9223372036854775807 1 9223372036854775807 1 1 .",
+    ];
     let wanted = ["0 9223372036854775807 0 9223372036854775807"];
-    assert_carries(&rt, alloc, &mut scan, &ins, &wanted, fault(FaultKind::Overflow))
+    assert_carries(
+        &rt,
+        alloc,
+        &mut scan,
+        &ins,
+        &wanted,
+        fault(FaultKind::Overflow),
+    )
 }
 
 #[test]
@@ -107,14 +173,42 @@ fn reductions(rt: HostRuntime) -> Result<(), Fail> {
     let alloc = rt.alloc();
     let flags = "F F T T F T .";
     let mut sum = Node::new(Reduce::new(Reduction::Sum), 7);
-    assert_carries(&rt, alloc, &mut sum, &[flags, "2 1 9 ."], &["3 0 9 ."], Want::Ended)?;
+    assert_carries(
+        &rt,
+        alloc,
+        &mut sum,
+        &[flags, "2 1 9 ."],
+        &["3 0 9 ."],
+        Want::Ended,
+    )?;
     let mut greatest = Node::new(Reduce::new(Reduction::Max), 7);
     let empty = fault(FaultKind::EmptyMax);
-    assert_carries(&rt, alloc, &mut greatest, &[flags, "-2 -1 9 ."], &["-1"], empty)?;
+    assert_carries(
+        &rt,
+        alloc,
+        &mut greatest,
+        &[flags, "-2 -1 9 ."],
+        &["-1"],
+        empty,
+    )?;
     let mut all = Node::new(Reduce::new(Reduction::All), 7);
-    assert_carries(&rt, alloc, &mut all, &[flags, "T F T ."], &["F T T ."], Want::Ended)?;
+    assert_carries(
+        &rt,
+        alloc,
+        &mut all,
+        &[flags, "T F T ."],
+        &["F T T ."],
+        Want::Ended,
+    )?;
     let mut any = Node::new(Reduce::new(Reduction::Any), 7);
-    assert_carries(&rt, alloc, &mut any, &[flags, "T F F ."], &["T F F ."], Want::Ended)
+    assert_carries(
+        &rt,
+        alloc,
+        &mut any,
+        &[flags, "T F F ."],
+        &["T F F ."],
+        Want::Ended,
+    )
 }
 
 #[test]
@@ -151,12 +245,27 @@ fn values_of_operators(rt: HostRuntime) {
         (BinaryOperator::Remainder, 1, 0, Err(FaultKind::Divide)),
         (BinaryOperator::Add, i64::MAX, 1, Err(FaultKind::Overflow)),
         (BinaryOperator::Subtract, least, 1, Err(FaultKind::Overflow)),
-        (BinaryOperator::Multiply, least, -1, Err(FaultKind::Overflow)),
+        (
+            BinaryOperator::Multiply,
+            least,
+            -1,
+            Err(FaultKind::Overflow),
+        ),
         (BinaryOperator::Multiply, least, 1, Ok(Scalar::Int(least))),
-        (BinaryOperator::EqualIntegers, least, least, Ok(Scalar::Bool(true))),
+        (
+            BinaryOperator::EqualIntegers,
+            least,
+            least,
+            Ok(Scalar::Bool(true)),
+        ),
         (BinaryOperator::AtMost, 2, 2, Ok(Scalar::Bool(true))),
         (BinaryOperator::Greater, 2, 2, Ok(Scalar::Bool(false))),
-        (BinaryOperator::AtLeast, least, i64::MAX, Ok(Scalar::Bool(false))),
+        (
+            BinaryOperator::AtLeast,
+            least,
+            i64::MAX,
+            Ok(Scalar::Bool(false)),
+        ),
         (BinaryOperator::And, 1, 1, Err(FaultKind::Shape)),
     ];
     for (operator, m, n, wanted) in rows {
@@ -166,6 +275,9 @@ fn values_of_operators(rt: HostRuntime) {
     assert_eq!(rt; BinaryOperator::EqualTruths.apply(no, no), Ok(yes));
     assert_eq!(rt; BinaryOperator::Or.apply(no, yes), Ok(yes));
     assert_eq!(rt; BinaryOperator::And.apply(yes, no), Ok(no));
-    assert_eq!(rt; UnaryOperator::Negate.apply(Scalar::Int(least)), Err(FaultKind::Overflow));
+    assert_eq!(rt;
+        UnaryOperator::Negate.apply(Scalar::Int(least)),
+        Err(FaultKind::Overflow)
+    );
     assert_eq!(rt; UnaryOperator::Not.apply(yes), Ok(no));
 }

@@ -12,8 +12,8 @@ use Rattle.snesl_tree.specs.Tree.{Tree}
 use Rattle.snesl_types.specs.declared.evaluator.Halt.{Halt}
 use Rattle.snesl_types.specs.declared.evaluator.Halt.TheVariants.{NoMemory, Faulted}
 use Rattle.snesl_types.specs.declared.evaluator.Scope.{Scope}
-use Rattle.snesl_types.specs.declared.evaluator.Scope.TheVariants.{Empty, Bound'}
-use Rattle.snesl_values.specs.Inputs.{Environment}
+use Rattle.snesl_types.specs.declared.evaluator.Scope.TheVariants.{Inputs, Bound'}
+use Rattle.snesl_values.specs.Inputs.{Environment, environment_of}
 use Rattle.snesl_types.specs.Eval.{Answer, gives, faults, go, go_all, items_at, seq_answer, eval}
 
 -- the datum or the fault is the answer
@@ -32,9 +32,9 @@ Answers view (Ok x) answer = answer ≡ gives (view x)
 Answers view (Err NoMemory) answer = Unit {0}
 Answers view (Err (Faulted fault)) answer = answer ≡ faults fault.kind fault.at
 
--- the values of the names in scope, spelled as the text has them
+-- the values of the names in scope, spelled as the text has them, and behind them those of the inputs
 abbrev pub environment_in : List ℕ → Scope → Environment
-environment_in text Empty = []
+environment_in text (Inputs inputs) = environment_of inputs.now
 environment_in text (Bound' name value p outer) = (spelling text name, value_of value.now) ∷ environment_in text outer
 
 -- the values of a comprehension's body, where the name stands for each of these values in turn

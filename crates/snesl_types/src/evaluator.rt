@@ -41,7 +41,7 @@ pub fn plain(
     ensures sound { IfOk result (IsSound (typed_ty typed.now)) }
 {
     let program = typed.program();
-    match evaluate(alloc, &program.expr, &program.text, &Scope::Empty) {
+    match evaluate(alloc, &program.expr, &program.text, &Scope::Inputs(inputs)) {
         Ok(datum) => Ok(Ok(datum)),
         Err(Halt::Faulted(fault)) => Ok(Err(fault)),
         Err(Halt::NoMemory) => Err(AllocError),
@@ -58,7 +58,7 @@ pub fn soundness()
 // What names stand for, the innermost first.
 #[derive(Drop)]
 enum Scope<'a> {
-    Empty,
+    Inputs(&'a Inputs),
     Bound {
         name: Span,
         value: &'a Datum,
@@ -199,7 +199,12 @@ fn look_up(alloc: Global, name: Span, text: &[u8], scope: &Scope) -> Result<Datu
     ensures { Answers value_of result (named name.at (spelling text.now name) (environment_in text.now scope.now)) }
 {
     match scope {
-        Scope::Empty => Err(fault(FaultKind::Shape, name.at)),
+        Scope::Inputs(inputs) => {
+            match inputs.named(name.spelled(text)) {
+                Some(datum) => Ok(copy_datum(alloc, datum)?),
+                None => Err(fault(FaultKind::Shape, name.at)),
+            }
+        }
         Scope::Bound {
             name: bound,
             value,

@@ -1,48 +1,176 @@
--- What an input text spells. No program declares an input, so a lawful input text is blanks alone.
-use Rattle.std.specs.Prelude.{◌≡◌, ℕ, ◌<◌, ◌≤◌, Bool, true, false, if◌then◌else◌, List, [], ◌∷◌, ◌++◌, length, IsTrue}
-use Rattle.std.specs.List.{AllPass}
+-- What an input text spells, and where it is refused.
+use Rattle.std.specs.Prelude.{◌≡◌, ℕ, ◌<◌, ◌≤◌, true, false, List, [], ◌∷◌, ◌++◌, ◌⊎◌, map, length, codes, Option, Some, None, if◌then◌else◌, Vec}
+use Rattle.std.specs.Global.{Global}
+use Rattle.std.specs.Str.{bytes_eq}
+use Rattle.snesl_values.specs.declared.inputs.Input.{Input}
 use Rattle.snesl_values.specs.declared.inputs.Inputs.{Inputs}
 use Rattle.snesl_values.specs.declared.inputs.InputError.{InputError}
 use Rattle.snesl_values.specs.declared.inputs.InputError.TheVariants.{Bad, NoMemory}
 use Rattle.snesl_values.specs.declared.refusal.Refusal.{Refusal}
 use Rattle.snesl_values.specs.declared.refusal.Refusal.TheVariants as refusals
-use Rattle.snesl_values.specs.Blanks.{is_blank}
-use Rattle.snesl_values.specs.Values.{Value}
+use Rattle.snesl_values.specs.declared.ty.Ty.{Ty as TyTree}
+use Rattle.snesl_values.specs.Types.{Ty, ty_of}
+use Rattle.snesl_values.specs.Values.{Value, an_int, a_bool, a_pair, a_vec, a_seq, Values, no_values, more_values, HasType, value_of}
+use Rattle.snesl_values.specs.InputTokens.{Token, word, integer, sign, next_at, next_token, Reads}
 
 -- the greatest length of an input text, in bytes
 abbrev pub greatest_input_length : ℕ
 greatest_input_length = 16777216
 
--- any other byte
-abbrev pub is_stray : ℕ → Bool
-is_stray b = if is_blank b then false else true
+-- a declared name and its type
+abbrev pub Declaration : Type 0
+Declaration = List ℕ × Ty
 
 -- the values of the declared inputs, each beside its name
 abbrev pub Environment : Type 0
 Environment = List (List ℕ × Value)
+
+-- the names are the declared ones in order, and each value has its declared type
+abbrev pub Fits : List Declaration → Environment → Type 0
+Fits [] [] = Unit {0}
+Fits (declaration ∷ declarations) (entry ∷ environment) =
+    (entry.0 ≡ declaration.0) × HasType entry.1 declaration.1 × Fits declarations environment
+Fits _ _ = ⊥
+
+-- the signs = ; , ( ) [ ] { }
+abbrev pub equals : Token
+equals = sign 61
+
+abbrev pub semicolon : Token
+semicolon = sign 59
+
+abbrev pub comma : Token
+comma = sign 44
+
+abbrev pub left_paren : Token
+left_paren = sign 40
+
+abbrev pub right_paren : Token
+right_paren = sign 41
+
+abbrev pub left_bracket : Token
+left_bracket = sign 91
+
+abbrev pub right_bracket : Token
+right_bracket = sign 93
+
+abbrev pub left_brace : Token
+left_brace = sign 123
+
+abbrev pub right_brace : Token
+right_brace = sign 125
+
+abbrev mutual
+  -- the tokens that spell a value: `-14`, `true`, `(1,2)`, `[1,2]` for a vector and `{1,2}` for a sequence
+  pub value_tokens : Value → List Token
+  value_tokens (an_int n) = integer n ∷ []
+  value_tokens (a_bool true) = word (codes "true") ∷ []
+  value_tokens (a_bool false) = word (codes "false") ∷ []
+  value_tokens (a_pair a b) = left_paren ∷ (value_tokens a ++ (comma ∷ (value_tokens b ++ (right_paren ∷ []))))
+  value_tokens (a_vec vs) = left_bracket ∷ (items_tokens vs ++ (right_bracket ∷ []))
+  value_tokens (a_seq vs) = left_brace ∷ (items_tokens vs ++ (right_brace ∷ []))
+
+  -- the items, with a comma before each but the first
+  pub items_tokens : Values → List Token
+  items_tokens no_values = []
+  items_tokens (more_values v vs) = value_tokens v ++ further_tokens vs
+
+  -- the items, with a comma before each
+  pub further_tokens : Values → List Token
+  further_tokens no_values = []
+  further_tokens (more_values v vs) = comma ∷ (value_tokens v ++ further_tokens vs)
+
+-- `name = value`
+abbrev pub entry_tokens : List ℕ × Value → List Token
+entry_tokens entry = word entry.0 ∷ equals ∷ value_tokens entry.1
+
+-- the entries, with a semicolon before each
+abbrev pub further_entries : Environment → List Token
+further_entries [] = []
+further_entries (entry ∷ environment) = semicolon ∷ (entry_tokens entry ++ further_entries environment)
+
+-- the entries, with a semicolon before each but the first
+abbrev pub environment_tokens : Environment → List Token
+environment_tokens [] = []
+environment_tokens (entry ∷ environment) = entry_tokens entry ++ further_entries environment
+
+-- the tokens are the entries; behind the last one a semicolon may stand
+abbrev pub AreEntries : Environment → List Token → Type 0
+AreEntries [] tokens = tokens ≡ []
+AreEntries environment tokens =
+    (tokens ≡ environment_tokens environment) ⊎ (tokens ≡ environment_tokens environment ++ (semicolon ∷ []))
+
+-- the tokens spell this environment for these declarations
+pub record Spells (declarations : List Declaration) (environment : Environment) (tokens : List Token) : Type 0 where
+  pub fits : Fits declarations environment
+  pub entries : AreEntries environment tokens
+
+-- the tokens spell some environment
+abbrev pub IsLawful : List Declaration → List Token → Type 0
+IsLawful declarations tokens = (environment : Environment) × Spells declarations environment tokens
+
+-- some list of tokens of this kind begins with these
+abbrev pub Begins : (List Token → Type 0) → List Token → Type 0
+Begins Kind front = (rest : List Token) × Kind (front ++ rest)
+
+-- what comes next, a token or the end of the text, may stand behind these tokens in lists of this kind
+abbrev pub MayFollow : (List Token → Type 0) → List Token → Option Token → Type 0
+MayFollow Kind front (Some token) = Begins Kind (front ++ (token ∷ []))
+MayFollow Kind front None = Kind front
+
+-- reading a list of this kind from an offset on stops at another offset: the tokens up to there begin
+-- such a list, and what stands there, a token or the end of the text, may not follow them
+pub record StopsAt (Kind : List Token → Type 0) (text : List ℕ) (from stop : ℕ) : Type 0 where
+  pub front : List Token
+  pub end : ℕ
+  pub reads : Reads text from front end
+  pub begins : Begins Kind front
+  pub refuses : ¬ MayFollow Kind front (next_token text end)
+  pub there : stop ≡ next_at text end
 
 -- what a text answers: the inputs that it spells, or the byte at which it is refused
 pub data InputAnswer : Type 0 where
   spells : Environment → InputAnswer
   refused_at : ℕ → InputAnswer
 
--- the answer that a text has
-pub data InputMeans (bytes : List ℕ) : InputAnswer → Type 0 where
+-- the answer that a text has for these declarations
+pub data InputMeans (declarations : List Declaration) (text : List ℕ) : InputAnswer → Type 0 where
   -- a text that is too long is refused at the limit, whatever it holds
-  too_long : greatest_input_length < length bytes → InputMeans bytes (refused_at greatest_input_length)
-  -- blanks alone spell no input
-  blanks : length bytes ≤ greatest_input_length → AllPass is_blank bytes → InputMeans bytes (spells [])
-  -- any other text is refused at its first byte that is no blank
-  stray : (front rest : List ℕ) (b : ℕ) → length bytes ≤ greatest_input_length → bytes ≡ front ++ b ∷ rest
-      → AllPass is_blank front → IsTrue (is_stray b) → InputMeans bytes (refused_at (length front))
+  too_long : greatest_input_length < length text → InputMeans declarations text (refused_at greatest_input_length)
+  -- a text spells the environment that its tokens do
+  lawful : {environment : Environment} {tokens : List Token} {end : ℕ} → length text ≤ greatest_input_length
+      → Reads text 0 tokens end → next_token text end ≡ None → Spells declarations environment tokens
+      → InputMeans declarations text (spells environment)
+  -- any other text is refused at the first token that may not stand there, or at its length where it ends too early
+  unlawful : {at : ℕ} → length text ≤ greatest_input_length → StopsAt (IsLawful declarations) text 0 at
+      → InputMeans declarations text (refused_at at)
 
 -- a text has one answer
 abbrev pub OneInputMeaning : Type 0
-OneInputMeaning = (bytes : List ℕ) (a b : InputAnswer) → InputMeans bytes a → InputMeans bytes b → a ≡ b
+OneInputMeaning =
+    (declarations : List Declaration) (text : List ℕ) (a b : InputAnswer)
+    → InputMeans declarations text a → InputMeans declarations text b → a ≡ b
+
+-- the declaration that a name and a type are
+abbrev pub declaration_of : (Vec ℕ Global × TyTree) → Declaration
+declaration_of pair = (pair.0.items, ty_of pair.1)
+
+-- the same for all of them
+abbrev pub declared : List (Vec ℕ Global × TyTree) → List Declaration
+declared = map declaration_of
+
+-- a name and the value that was read for it
+abbrev pub entry_of : Input → List ℕ × Value
+entry_of input = (input.name.items, value_of input.value)
 
 -- the names and values that were read
-abbrev pub environment_of : Inputs → Environment
-environment_of inputs = []
+unfoldable pub environment_of : Inputs → Environment
+environment_of inputs = map entry_of inputs.all.items
+
+-- the value of the first entry of this name
+abbrev pub value_in : List ℕ → Environment → Option Value
+value_in name [] = None
+value_in name (entry ∷ environment) = if bytes_eq name entry.0 then Some entry.1 else value_in name environment
 
 -- the refusal of a job whose input was not read
 abbrev pub refusal_of : InputError → Refusal

@@ -5,5 +5,8 @@ pub mod Faults
 pub mod Refusals
 pub mod Text
 pub mod Blanks
+pub mod Characters
+pub mod InputTokens
 pub mod Inputs
+pub mod Wants
 pub mod Counted

@@ -1,21 +1,79 @@
 // Input texts.
 
-ghost use Rattle.std.specs.Prelude.{◌≡◌, ℕ, length, IfOk, IfErr, IsOk, Err};
-ghost use Rattle.std.specs.List.{position};
-ghost use Rattle.snesl_values.specs.Inputs.{is_stray, Environment, spells, refused_at, InputMeans, OneInputMeaning, environment_of};
-ghost use Rattle.snesl_values.specs.declared.inputs.InputError.TheVariants.{Bad};
+ghost use Rattle.std.specs.Prelude.{◌≡◌, ◌↔◌, ℕ, ◌≤◌, ◌∷◌, [], ◌⊎◌, length, map, IsTrue, IfOk, IfErr, IsOk, Err, Option, Some, None, option_map};
+ghost use Rattle.std.specs.List.{slice_get};
+ghost use Rattle.snesl_values.specs.Types.{ty_of};
+ghost use Rattle.snesl_values.specs.Values.{value_of};
+ghost use Rattle.snesl_values.specs.Inputs.{Environment, declared, declaration_of, entry_of, environment_of, value_in, Fits, spells, refused_at, InputMeans, OneInputMeaning};
+ghost use Rattle.snesl_values.specs.Wants.{entry_wants, IsStop, IsStopOf, IsEntry, AllRead};
+ghost use Rattle.snesl_values.specs.declared.inputs.InputError.TheVariants.{Bad, NoMemory};
 
-use crate::blank::is_blank;
+use crate::datum::Datum;
+use crate::reader::{expect_sign, expect_word, read_value};
 use crate::refusal::Refusal;
+use crate::scan::{behind_sign, skip_blanks};
 use crate::ty::Ty;
+use std::alloc::{AllocError, AllocFailed, Global};
 use thiserror::Error;
 
 /// The greatest length of an input text, in bytes.
 const GREATEST_INPUT_LENGTH: usize = 16_777_216;
 
-/// The values of a program's declared inputs. No program declares one, so there are none.
+// A declared name and its value.
 #[derive(Debug, Drop)]
-pub struct Inputs;
+struct Input {
+    name: Vec<u8>,
+    value: Datum,
+}
+
+/// The values of a program's declared inputs, in the order of declaration.
+#[derive(Debug, Drop)]
+pub struct Inputs {
+    all: Vec<Input>,
+}
+
+impl Inputs {
+    /// How many inputs there are.
+    #[tactic(auto, unfolding(crate::specs::Inputs::environment_of))]
+    pub fn len(&self) -> usize
+        ensures { result ≡ length (environment_of self.now) }
+    {
+        self.all.len()
+    }
+
+    /// Whether there is no input.
+    #[tactic(auto, unfolding(crate::specs::Inputs::environment_of))]
+    pub fn is_empty(&self) -> bool
+        ensures { IsTrue result ↔ (environment_of self.now ≡ []) }
+    {
+        self.all.is_empty()
+    }
+
+    /// The value of the input of this number, counted from 0 in the order of declaration, if there
+    /// are so many.
+    #[tactic(auto, unfolding(crate::specs::Inputs::environment_of))]
+    pub fn value(&self, number: usize) -> Option<&Datum>
+        ensures { option_map (λ datum. value_of datum.now) result ≡ option_map (λ entry. entry.1) (slice_get (environment_of self.now) number) }
+    {
+        match self.all.get(number) {
+            Some(input) => Some(&input.value),
+            None => None,
+        }
+    }
+
+    /// The value of the first input of this name, if there is one.
+    #[tactic(auto, unfolding(crate::specs::Inputs::environment_of))]
+    pub fn named(&self, name: &[u8]) -> Option<&Datum>
+        ensures { option_map (λ datum. value_of datum.now) result ≡ value_in name.now (environment_of self.now) }
+    {
+        for input in &self.all {
+            if input.name.as_slice() == name {
+                return Some(&input.value);
+            }
+        }
+        None
+    }
+}
 
 /// Why an input text was not read.
 #[derive(Clone, Copy, Debug, PartialEq, Eq, Error)]
@@ -26,6 +84,22 @@ pub enum InputError {
     /// Memory was refused.
     #[error("out of memory")]
     NoMemory,
+}
+
+impl From<AllocError> for InputError {
+    ghost from_gives = { λ _ error. error ≡ NoMemory };
+
+    fn from(_: AllocError) -> Self {
+        InputError::NoMemory
+    }
+}
+
+impl<T: Drop> From<AllocFailed<T>> for InputError {
+    ghost from_gives = { λ _ error. error ≡ NoMemory };
+
+    fn from(_: AllocFailed<T>) -> Self {
+        InputError::NoMemory
+    }
 }
 
 impl From<InputError> for Refusal {
@@ -41,37 +115,91 @@ impl From<InputError> for Refusal {
     }
 }
 
-/// The values of the declared inputs that `decls` names, read from a text of at most 16,777,216
-/// bytes. As none is declared, the text must hold nothing but blanks: spaces, tabs, line feeds and
-/// carriage returns.
+/// The values of the declared inputs, read from a text of at most 16,777,216 bytes. For each
+/// declaration, a name and a type, the text has `name = value`, in their order, with `;` between
+/// two, and one more `;` may stand behind the last.
 ///
-/// `Bad` names the first byte that is no blank, or byte 16,777,216 of a text that is longer. The
-/// error is never `NoMemory`, since no inputs take no memory.
-pub fn read_inputs(decls: &[(Vec<u8>, Ty)], bytes: &[u8]) -> Result<Inputs, InputError>
-    requires none_declared { length decls.now ≡ 0 }
-
+/// A value is an integer, `true` or `false`, a pair `(a,b)`, a vector `[a,b]` or a sequence
+/// `{a,b}`, as its type says; an integer may have a minus directly before its digits. Spaces, tabs,
+/// line feeds and carriage returns may stand before, between and after tokens, and the longest
+/// token is taken.
+///
+/// # Errors
+///
+/// - `Bad(at)`: the text is not lawful. `at` is the offset, in bytes from 0, of the first token that
+///   no lawful text can have there, the length of a text that ends too early, and 16,777,216 for a
+///   text that is longer than that.
+/// - `NoMemory`: memory was refused.
+pub fn read_inputs(
+    alloc: Global,
+    decls: &[(Vec<u8>, Ty)],
+    bytes: &[u8],
+) -> Result<Inputs, InputError>
     // What is answered is what the text means.
-    ensures spelled { IfOk result (λ inputs. InputMeans bytes.now (spells (environment_of inputs))) }
-    ensures refused { IfErr result (λ error. (at : ℕ) × (error ≡ Bad at) × InputMeans bytes.now (refused_at at)) }
+    ensures spelled { IfOk result (λ inputs. InputMeans (declared decls.now) bytes.now (spells (environment_of inputs))) }
+    ensures refused { IfErr result (λ error. (error ≡ NoMemory) ⊎ ((at : ℕ) × (error ≡ Bad at) × InputMeans (declared decls.now) bytes.now (refused_at at))) }
 
-    // And what the text means is answered.
-    ensures lawful { (environment : Environment) → InputMeans bytes.now (spells environment) → IsOk result }
-    ensures unlawful { (at : ℕ) → InputMeans bytes.now (refused_at at) → result ≡ Err (Bad at) }
+    // And what the text means is answered, unless memory was refused.
+    ensures lawful { (environment : Environment) → InputMeans (declared decls.now) bytes.now (spells environment) → IsOk result ⊎ (result ≡ Err NoMemory) }
+    ensures unlawful { (at : ℕ) → InputMeans (declared decls.now) bytes.now (refused_at at) → (result ≡ Err (Bad at)) ⊎ (result ≡ Err NoMemory) }
+
+    // The names are the declared ones, and the values have their types.
+    ensures fits { IfOk result (λ inputs. Fits (declared decls.now) (environment_of inputs)) }
 {
     if bytes.len() > GREATEST_INPUT_LENGTH {
         return Err(InputError::Bad(GREATEST_INPUT_LENGTH));
     }
-    match first_stray(bytes) {
-        Some(at) => Err(InputError::Bad(at)),
-        None => Ok(Inputs),
+    let (all, behind) = read_all(alloc, decls, bytes)?;
+    let end = skip_blanks(bytes, behind);
+    if end < bytes.len() {
+        return Err(InputError::Bad(end));
+    }
+    Ok(Inputs { all })
+}
+
+// The values of the declarations, read from the start of a text, and the offset behind them.
+fn read_all(
+    alloc: Global,
+    decls: &[(Vec<u8>, Ty)],
+    text: &[u8],
+) -> Result<(Vec<Input>, usize), InputError>
+    ensures read { IfOk result (λ found. AllRead text.now (declared decls.now) (map entry_of found.0.items) found.1) }
+    ensures stops { IfErr result (IsStopOf (declared decls.now) text.now) }
+{
+    let mut all = Vec::new(alloc);
+    if decls.is_empty() {
+        return Ok((all, 0));
+    }
+    let (input, mut at) = read_entry(alloc, text, 0, &decls[0])?;
+    all.push(input)?;
+    for declaration in &decls[1..] {
+        let start = expect_sign(text, at, b';')?;
+        let (input, end) = read_entry(alloc, text, start, declaration)?;
+        all.push(input)?;
+        at = end;
+    }
+    match behind_sign(text, at, b';') {
+        Some(end) => Ok((all, end)),
+        None => Ok((all, at)),
     }
 }
 
-// The first byte that is no blank.
-fn first_stray(bytes: &[u8]) -> Option<usize>
-    ensures { result ≡ position is_stray bytes.now }
+// The declared input that comes next, and the offset behind it.
+fn read_entry(
+    alloc: Global,
+    text: &[u8],
+    at: usize,
+    declaration: &(Vec<u8>, Ty),
+) -> Result<(Input, usize), InputError>
+    requires { at ≤ length text.now }
+    ensures read { IfOk result (λ found. IsEntry text.now at (declaration_of declaration.now) (entry_of found.0) found.1) }
+    ensures stops { IfErr result (IsStop (entry_wants (declaration_of declaration.now) []) text.now at) }
 {
-    bytes.iter().position(|b| !is_blank(*b))
+    let behind_name = expect_word(text, at, &declaration.0)?;
+    let start = expect_sign(text, behind_name, b'=')?;
+    let (value, end) = read_value(alloc, text, start, &declaration.1)?;
+    let name = Vec::from_slice(alloc, &declaration.0)?;
+    Ok((Input { name, value }, end))
 }
 
 /// A law and no code to run: a text means one thing.

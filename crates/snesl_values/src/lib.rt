@@ -2,15 +2,19 @@
 #![tactic(auto)]
 
 pub mod blank;
+pub mod characters;
 pub mod counted;
 pub mod datum;
 pub mod fault;
 pub mod inputs;
+mod reader;
 pub mod refusal;
+mod scan;
 pub mod text;
 pub mod ty;
 
 pub use blank::is_blank;
+pub use characters::{digits_len, word_len};
 pub use counted::Counted;
 pub use datum::{Datum, copy_datum};
 pub use fault::{Fault, FaultKind};

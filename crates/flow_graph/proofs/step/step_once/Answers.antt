@@ -1,11 +1,17 @@
-use Rattle.std.proofs.Common.{◌≡◌, ◌<◌, sym, ◌∙◌}
+use Rattle.std.proofs.Common.{◌≡◌, ◌<◌, sym, ◌∙◌, subst}
 use Rattle.kahn.specs.declared.want.Want.TheVariants.{Write}
 use Rattle.flow_graph.specs.Networks.{state_at}
 use Rattle.flow_graph.specs.Graphs.{states_of, edges_of}
+use Rattle.flow_base.specs.Transducers.{IsWrite}
 use Rattle.flow_edges.specs.Signals.{signal_of}
 use Rattle.flow_graph.proofs.Looks.{put_ends, put_or_lost, moves_write}
 use Rattle.flow_graph.proofs.Reached.{same_network, same_but, state_written}
 use Rattle.flow_graph.proofs.step.step_once.Goals as goal
+
+pub emit-requires-clause-wants : goal.emit-requires-clause-wants
+emit-requires-clause-wants g c idle =
+    let wants : g.T.Transducer.behaviour.process.want (state_at idle (states_of c.args.graph.now) c.args.node) ≡ Write c.in-Write.port = sym (c.want.ensures idle) ∙ c.in-Write.is in
+    subst IsWrite (sym wants) tt
 
 pub returns-in_ok-give-in-Read-clause-others : goal.returns-in_ok-give-in-Read-clause-others
 returns-in_ok-give-in-Read-clause-others g c =

@@ -9,7 +9,7 @@ use Rattle.snesl_lexer.proofs.lexer.first_token.Goals.{then-text-gt1, else-text-
 
 pub number-requires : goal.number-requires
 number-requires c =
-    subst (λ n. AllByRecursion (λ x. IsTrue (is_ascii_digit x)) (take n c.args.text.now)) (sym c.digits_len-len.ensures) (prefix_passes is_ascii_digit c.args.text.now)
+    subst (λ n. AllByRecursion (λ x. IsTrue (is_ascii_digit x)) (take n c.args.text.now)) (sym c.digits_len-len.ensures.count) (prefix_passes is_ascii_digit c.args.text.now)
 
 pub returns-clause-within : goal.returns-clause-within
 returns-clause-within c =

@@ -1,4 +1,4 @@
-use Rattle.snesl_values.proofs.InputTexts.{one_meaning}
+use Rattle.snesl_values.proofs.InputMeanings.{one_meaning}
 use Rattle.snesl_values.proofs.inputs.one_input_meaning.Goals as goal
 
 pub returns : goal.returns

@@ -1,31 +1,85 @@
-use Rattle.std.proofs.Common.{refl, [], rules, arith}
-use Rattle.snesl_values.specs.Inputs.{refused_at, spells, too_long}
-use Rattle.snesl_values.proofs.InputTexts.{one_meaning, no_stray_spells, first_stray_refused}
+use Rattle.std.proofs.Common.{inr, Err, Ok, refl, sym, subst, arith}
+use Rattle.snesl_values.specs.declared.inputs.InputError.TheVariants.{Bad}
+use Rattle.snesl_values.specs.Inputs.{declared, environment_of, StopsAt, IsLawful, InputMeans, spells, too_long, lawful, unlawful}
+use Rattle.snesl_values.proofs.InputScan.{some_next, no_next}
+use Rattle.snesl_values.proofs.InputWants.{passed_on}
+use Rattle.snesl_values.proofs.InputAnswers.{no_ok, IsRight, right_stop, lawful_answered, unlawful_answered}
 use Rattle.snesl_values.proofs.inputs.read_inputs.Goals as goal
 
 pub returns-then-bytes-gt-GREATEST_INPUT_LENGTH-clause-refused : goal.returns-then-bytes-gt-GREATEST_INPUT_LENGTH-clause-refused
-returns-then-bytes-gt-GREATEST_INPUT_LENGTH-clause-refused c = (_, refl, too_long (omega arith))
+returns-then-bytes-gt-GREATEST_INPUT_LENGTH-clause-refused c = inr (_, refl, too_long (omega arith))
 
-pub returns-in-Some-clause-refused : goal.returns-in-Some-clause-refused
-returns-in-Some-clause-refused c = (_, refl, first_stray_refused c.args.bytes.now c.in-Some.at (omega arith) (search rules))
+pub returns-then-bytes-gt-GREATEST_INPUT_LENGTH-clause-lawful : goal.returns-then-bytes-gt-GREATEST_INPUT_LENGTH-clause-lawful
+returns-then-bytes-gt-GREATEST_INPUT_LENGTH-clause-lawful c =
+    lawful_answered (declared c.args.decls.now) c.args.bytes.now (Err (Bad 16777216)) (inr (_, refl, too_long (omega arith)))
 
-pub returns-in-Some-clause-lawful : goal.returns-in-Some-clause-lawful
-returns-in-Some-clause-lawful c = λ environment means.
-    let same = one_meaning c.args.bytes.now (refused_at c.in-Some.at) (spells environment)
-    (first_stray_refused c.args.bytes.now c.in-Some.at (omega arith) (search rules)) means in
-    cc same
+pub returns-then-bytes-gt-GREATEST_INPUT_LENGTH-clause-unlawful : goal.returns-then-bytes-gt-GREATEST_INPUT_LENGTH-clause-unlawful
+returns-then-bytes-gt-GREATEST_INPUT_LENGTH-clause-unlawful c =
+    unlawful_answered (declared c.args.decls.now) c.args.bytes.now (Err (Bad 16777216)) tt (inr (_, refl, too_long (omega arith)))
 
-pub returns-in-Some-clause-unlawful : goal.returns-in-Some-clause-unlawful
-returns-in-Some-clause-unlawful c = λ at means.
-    let same = one_meaning c.args.bytes.now (refused_at c.in-Some.at) (refused_at at)
-    (first_stray_refused c.args.bytes.now c.in-Some.at (omega arith) (search rules)) means in
-    cc same
+pub returns-in_err-all-clause-refused : goal.returns-in_err-all-clause-refused
+returns-in_err-all-clause-refused c =
+    passed_on (IsRight (declared c.args.decls.now) c.args.bytes.now) c.from_residual.result c.in_err-all.field-0.0 c.from_residual.ensures.1
+    (right_stop (declared c.args.decls.now) c.args.bytes.now c.in_err-all.field-0.0 (omega arith) c.in_err-all.ensures.stops)
 
-pub returns-in-None-clause-spelled : goal.returns-in-None-clause-spelled
-returns-in-None-clause-spelled c = no_stray_spells c.args.bytes.now (omega arith) (search rules)
+pub returns-in_err-all-clause-lawful : goal.returns-in_err-all-clause-lawful
+returns-in_err-all-clause-lawful c =
+    lawful_answered (declared c.args.decls.now) c.args.bytes.now c.from_residual.result
+    (passed_on (IsRight (declared c.args.decls.now) c.args.bytes.now) c.from_residual.result c.in_err-all.field-0.0 c.from_residual.ensures.1
+    (right_stop (declared c.args.decls.now) c.args.bytes.now c.in_err-all.field-0.0 (omega arith) c.in_err-all.ensures.stops))
 
-pub returns-in-None-clause-unlawful : goal.returns-in-None-clause-unlawful
-returns-in-None-clause-unlawful c = λ at means.
-    let same = one_meaning c.args.bytes.now (spells []) (refused_at at)
-    (no_stray_spells c.args.bytes.now (omega arith) (search rules)) means in
-    cc same
+pub returns-in_err-all-clause-unlawful : goal.returns-in_err-all-clause-unlawful
+returns-in_err-all-clause-unlawful c =
+    unlawful_answered (declared c.args.decls.now) c.args.bytes.now c.from_residual.result
+    (no_ok (λ inputs. InputMeans (declared c.args.decls.now) c.args.bytes.now (spells (environment_of inputs))) c.from_residual.result c.in_err-all.field-0.0 c.from_residual.ensures.1)
+    (passed_on (IsRight (declared c.args.decls.now) c.args.bytes.now) c.from_residual.result c.in_err-all.field-0.0 c.from_residual.ensures.1
+    (right_stop (declared c.args.decls.now) c.args.bytes.now c.in_err-all.field-0.0 (omega arith) c.in_err-all.ensures.stops))
+
+pub returns-then-end-bytes-clause-refused : goal.returns-then-end-bytes-clause-refused
+returns-then-end-bytes-clause-refused c =
+    inr (
+      _,
+      refl,
+      unlawful (omega arith) (subst (StopsAt (IsLawful (declared c.args.decls.now)) c.args.bytes.now 0) (sym c.skip_blanks-end.ensures.offset)
+          (c.in_ok-all.ensures.read.no_more (some_next c.args.bytes.now c.in_ok-all.behind c.skip_blanks-end.result c.skip_blanks-end.ensures.offset (omega arith)))),
+    )
+
+pub returns-then-end-bytes-clause-lawful : goal.returns-then-end-bytes-clause-lawful
+returns-then-end-bytes-clause-lawful c =
+    lawful_answered (declared c.args.decls.now) c.args.bytes.now (Err (Bad c.skip_blanks-end.result))
+    (inr (
+      _,
+      refl,
+      unlawful (omega arith) (subst (StopsAt (IsLawful (declared c.args.decls.now)) c.args.bytes.now 0) (sym c.skip_blanks-end.ensures.offset)
+          (c.in_ok-all.ensures.read.no_more (some_next c.args.bytes.now c.in_ok-all.behind c.skip_blanks-end.result c.skip_blanks-end.ensures.offset (omega arith)))),
+    ))
+
+pub returns-then-end-bytes-clause-unlawful : goal.returns-then-end-bytes-clause-unlawful
+returns-then-end-bytes-clause-unlawful c =
+    unlawful_answered (declared c.args.decls.now) c.args.bytes.now (Err (Bad c.skip_blanks-end.result)) tt
+    (inr (
+      _,
+      refl,
+      unlawful (omega arith) (subst (StopsAt (IsLawful (declared c.args.decls.now)) c.args.bytes.now 0) (sym c.skip_blanks-end.ensures.offset)
+          (c.in_ok-all.ensures.read.no_more (some_next c.args.bytes.now c.in_ok-all.behind c.skip_blanks-end.result c.skip_blanks-end.ensures.offset (omega arith)))),
+    ))
+
+pub returns-clause-spelled : goal.returns-clause-spelled
+unfolding environment_of
+returns-clause-spelled c =
+    lawful (omega arith) c.in_ok-all.ensures.read.reads
+    (no_next c.args.bytes.now c.in_ok-all.behind c.skip_blanks-end.result c.skip_blanks-end.ensures.offset (omega arith))
+    c.in_ok-all.ensures.read.spells
+
+pub returns-clause-unlawful : goal.returns-clause-unlawful
+unfolding environment_of
+returns-clause-unlawful c =
+    unlawful_answered (declared c.args.decls.now) c.args.bytes.now (Ok (record { all = c.in_ok-all.all }))
+    (lawful (omega arith) c.in_ok-all.ensures.read.reads
+    (no_next c.args.bytes.now c.in_ok-all.behind c.skip_blanks-end.result c.skip_blanks-end.ensures.offset (omega arith))
+    c.in_ok-all.ensures.read.spells)
+    tt
+
+pub returns-clause-fits : goal.returns-clause-fits
+unfolding environment_of
+returns-clause-fits c = c.in_ok-all.ensures.read.spells.fits

@@ -1,8 +1,7 @@
 use Rattle.std.proofs.Common.{◌≡◌, ◌<◌, length, map, set, OnOk, sym, ◌∙◌, ap, subst, arith}
 use Rattle.std.proofs.lemmas.List.{length-map}
-use Rattle.kahn.specs.declared.want.Want.TheVariants.{Write}
 use Rattle.flow_base.specs.Transducers.{IsWrite}
-use Rattle.flow_graph.proofs.Reached.{state_read, states_set, states_kept, follows_wrote, Follows, nodes_opening, nodes_reached, kept_openings, joined_openings, either, on_err, if_ok, if_ok_if}
+use Rattle.flow_graph.proofs.Reached.{state_read, states_set, states_kept, follows_wrote, Follows, nodes_opening, nodes_reached, kept_openings, joined_openings, either, on_err, if_ok, if_ok_if, writes_port}
 use Rattle.flow_graph.proofs.graph.Graph.emit.Goals as goal
 
 pub emit-requires : goal.emit-requires
@@ -12,8 +11,7 @@ emit-requires g c =
     let nodes = c.args.self.now.nodes.items in
     let x = c.index_mut.result.now in
     let l : c.args.node < length nodes = omega (arith, c.requires.inside, length-map nodes state) in
-    let wants : b.process.want (state x) ≡ Write c.args.port = ap b.process.want (state_read state nodes c.args.node x (state x) l c.index_mut.ensures.value) ∙ c.requires.wants (state x) in
-    subst IsWrite (sym wants) tt
+    subst (λ s. IsWrite (b.process.want s)) (sym (state_read state nodes c.args.node x (state x) l c.index_mut.ensures.value)) (c.requires.wants (state x))
 
 pub invariant_of-self : goal.invariant_of-self
 invariant_of-self g c =
@@ -25,9 +23,9 @@ invariant_of-self g c =
     let x = c.index_mut.result.now in
     let y = c.emit.new.self in
     let l : c.args.node < length nodes = omega (arith, c.requires.inside, length-map nodes state) in
-    let wants : b.process.want (state x) ≡ Write c.args.port = ap b.process.want (state_read state nodes c.args.node x (state x) l c.index_mut.ensures.value) ∙ c.requires.wants (state x) in
+    let wants = writes_port (b.process.want (state x)) (subst (λ s. IsWrite (b.process.want s)) (sym (state_read state nodes c.args.node x (state x) l c.index_mut.ensures.value)) (c.requires.wants (state x))) in
     let wrote : OnOk c.emit.result (state y ≡ b.process.wrote (state x)) = if_ok _ c.emit.result (λ m p. p.1) c.emit.ensures.ok in
-    let follows : Follows b laws (state x) (state y) = follows_wrote b laws (state x) (state y) c.args.port wants (either c.emit.result wrote c.emit.ensures.err) in
+    let follows : Follows b laws (state x) (state y) = follows_wrote b laws (state x) (state y) wants.0 wants.1 (either c.emit.result wrote c.emit.ensures.err) in
     let opening = nodes_opening b laws state nodes c.args.node x y l c.index_mut.ensures.value follows in
     record {
       kept = kept_openings b laws (map state nodes) (map state (set nodes c.args.node y)) opening graph.wiring.ports.items graph.wiring.edges.items graph.kept (nodes_reached b laws state nodes c.args.node x y l c.index_mut.ensures.value follows graph.kept.reached);
@@ -43,9 +41,9 @@ returns-clause-openings g c =
     let x = c.index_mut.result.now in
     let y = c.emit.new.self in
     let l : c.args.node < length nodes = omega (arith, c.requires.inside, length-map nodes state) in
-    let wants : b.process.want (state x) ≡ Write c.args.port = ap b.process.want (state_read state nodes c.args.node x (state x) l c.index_mut.ensures.value) ∙ c.requires.wants (state x) in
+    let wants = writes_port (b.process.want (state x)) (subst (λ s. IsWrite (b.process.want s)) (sym (state_read state nodes c.args.node x (state x) l c.index_mut.ensures.value)) (c.requires.wants (state x))) in
     let wrote : OnOk c.emit.result (state y ≡ b.process.wrote (state x)) = if_ok _ c.emit.result (λ m p. p.1) c.emit.ensures.ok in
-    nodes_opening b laws state nodes c.args.node x y l c.index_mut.ensures.value (follows_wrote b laws (state x) (state y) c.args.port wants (either c.emit.result wrote c.emit.ensures.err))
+    nodes_opening b laws state nodes c.args.node x y l c.index_mut.ensures.value (follows_wrote b laws (state x) (state y) wants.0 wants.1 (either c.emit.result wrote c.emit.ensures.err))
 
 pub returns-clause-message : goal.returns-clause-message
 returns-clause-message g c =

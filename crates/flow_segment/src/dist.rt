@@ -1,0 +1,109 @@
+// An item for each element of a segment.
+
+ghost use Rattle.std.specs.Prelude.{◌≡◌};
+
+use flow_base::{Ask, Stop, Worker};
+use flow_edges::{Item, Kind};
+use snesl_values::FaultKind;
+use std::alloc::{AllocError, Global};
+
+/// Reads an item and a segment, and writes the item once for each element of the segment. Each such pair is an
+/// instance.
+///
+/// Reads port 0, items of one kind, and port 1, flags; writes port 0, items of that kind. Fault: `Shape` where an item
+/// is of another kind.
+///
+/// Each item that is written is a copy. Only the copy of a vector takes memory; where it is refused, nothing was
+/// written, and the same copy is next.
+#[derive(Drop)]
+pub struct Dist {
+    alloc: Global,
+    kind: Kind,
+    held: Option<Item>,
+    // Whether a copy of the held item is to be written.
+    copies: bool,
+}
+
+impl Dist {
+    ghost use Rattle.flow_segment.specs.DistMachine.{dist_state, at_start};
+
+    /// A worker for items of this kind, before its first item. It takes no memory before it copies a vector.
+    pub fn new(alloc: Global, kind: Kind) -> Dist
+        ensures { ⟦<Dist as Worker>⟧.state result ≡ dist_state kind at_start }
+    {
+        Dist {
+            alloc,
+            kind,
+            held: None,
+            copies: false,
+        }
+    }
+}
+
+impl Worker for Dist {
+    ghost use Rattle.flow_segment.specs.DistMachine.{DistState, dist_state, step_of, dist_machine};
+    ghost use Rattle.flow_segment.specs.DistLaws.{dist_laws, dist_rows};
+
+    ghost State = { DistState };
+
+    ghost state = { λ n. dist_state n.kind (step_of n.held n.copies) };
+
+    ghost machine = { dist_machine };
+
+    ghost laws = { dist_laws };
+
+    ghost rows = { dist_rows };
+
+    fn ask(&self) -> Ask {
+        match (&self.held, self.copies) {
+            (None, _) => Ask::Begin,
+            (Some(_), false) => Ask::Take(1),
+            (Some(_), true) => Ask::Give(0),
+        }
+    }
+
+    fn inputs(&self) -> usize {
+        2
+    }
+
+    fn outputs(&self) -> usize {
+        1
+    }
+
+    fn kind_in(&self, port: usize) -> Kind {
+        match port {
+            0 => self.kind,
+            _ => Kind::Bool,
+        }
+    }
+
+    fn kind_out(&self, _port: usize) -> Kind {
+        self.kind
+    }
+
+    fn take(&mut self, item: Item) -> Result<(), Stop> {
+        if self.held.is_none() {
+            if !self.kind.fits(&item) {
+                return Err(Stop::Faulted(FaultKind::Shape));
+            }
+            self.held = Some(item);
+            self.copies = false;
+            return Ok(());
+        }
+        match item {
+            Item::Bool(false) => self.copies = true,
+            Item::Bool(true) => self.held = None,
+            _ => return Err(Stop::Faulted(FaultKind::Shape)),
+        }
+        Ok(())
+    }
+
+    fn give(&mut self) -> Result<Item, AllocError> {
+        let copy = match &self.held {
+            Some(item) => item.copy(self.alloc)?,
+            None => unreachable!(),
+        };
+        self.copies = false;
+        Ok(copy)
+    }
+}

@@ -1,0 +1,145 @@
+// Two sequences of segments, joined place by place.
+
+ghost use Rattle.std.specs.Prelude.{◌≡◌};
+
+use flow_base::{Ask, Stop, Worker};
+use flow_edges::{Item, Kind};
+use snesl_values::FaultKind;
+use std::alloc::AllocError;
+use std::mem;
+
+// Whose segment is copied.
+#[derive(Clone, Copy, Debug)]
+enum Side {
+    Left,
+    Right,
+}
+
+// How far a pair of segments is.
+#[derive(Debug, Drop)]
+enum Turn {
+    // It is between two pairs.
+    Start,
+    // A flag of this side comes next.
+    Flag(Side),
+    // An item of this side comes next.
+    Item(Side),
+    // This item of this side is to be written.
+    Copy(Side, Item),
+}
+
+impl Turn {
+    ghost use Rattle.flow_segment.specs.InterleaveMachine.{step_of, after_flag};
+
+    // After a flag of this side, which ends its segment or not.
+    fn after_flag(side: Side, ends: bool) -> Turn
+        ensures { step_of result ≡ after_flag side ends }
+    {
+        match (side, ends) {
+            (_, false) => Turn::Item(side),
+            (Side::Left, true) => Turn::Flag(Side::Right),
+            (Side::Right, true) => Turn::Start,
+        }
+    }
+}
+
+/// Reads pairs of segments, with the items of both, and writes the items of the left one and then those of the right
+/// one. A pair of segments is an instance.
+///
+/// Reads port 0, the flags of the left, port 1, those of the right, port 2, the items of the left, and port 3, those of
+/// the right, all of one kind; writes port 0, of that kind. Fault: `Shape` where an item is of another kind.
+#[derive(Debug, Drop)]
+pub struct Interleave {
+    kind: Kind,
+    turn: Turn,
+}
+
+impl Interleave {
+    ghost use Rattle.flow_segment.specs.InterleaveMachine.{interleave_state, at_start};
+
+    /// A worker for items of this kind, before its first pair of segments.
+    pub fn new(kind: Kind) -> Interleave
+        ensures { ⟦<Interleave as Worker>⟧.state result ≡ interleave_state kind at_start }
+    {
+        Interleave {
+            kind,
+            turn: Turn::Start,
+        }
+    }
+}
+
+impl Worker for Interleave {
+    ghost use Rattle.flow_segment.specs.InterleaveMachine.{InterleaveState, interleave_state, step_of, interleave_machine};
+    ghost use Rattle.flow_segment.specs.InterleaveLaws.{interleave_laws, interleave_rows};
+
+    ghost State = { InterleaveState };
+
+    ghost state = { λ n. interleave_state n.kind (step_of n.turn) };
+
+    ghost machine = { interleave_machine };
+
+    ghost laws = { interleave_laws };
+
+    ghost rows = { interleave_rows };
+
+    fn ask(&self) -> Ask {
+        match self.turn {
+            Turn::Start => Ask::Begin,
+            Turn::Flag(Side::Left) => Ask::Take(0),
+            Turn::Flag(Side::Right) => Ask::Take(1),
+            Turn::Item(Side::Left) => Ask::Take(2),
+            Turn::Item(Side::Right) => Ask::Take(3),
+            Turn::Copy(_, _) => Ask::Give(0),
+        }
+    }
+
+    fn inputs(&self) -> usize {
+        4
+    }
+
+    fn outputs(&self) -> usize {
+        1
+    }
+
+    fn kind_in(&self, port: usize) -> Kind {
+        match port {
+            0 | 1 => Kind::Bool,
+            _ => self.kind,
+        }
+    }
+
+    fn kind_out(&self, _port: usize) -> Kind {
+        self.kind
+    }
+
+    fn take(&mut self, item: Item) -> Result<(), Stop> {
+        if let Turn::Item(side) = self.turn {
+            if !self.kind.fits(&item) {
+                return Err(Stop::Faulted(FaultKind::Shape));
+            }
+            self.turn = Turn::Copy(side, item);
+            return Ok(());
+        }
+        let side = match self.turn {
+            Turn::Flag(side) => side,
+            _ => Side::Left,
+        };
+        match item {
+            Item::Bool(ends) => {
+                self.turn = Turn::after_flag(side, ends);
+                Ok(())
+            }
+            _ => Err(Stop::Faulted(FaultKind::Shape)),
+        }
+    }
+
+    fn give(&mut self) -> Result<Item, AllocError> {
+        match mem::replace(&mut self.turn, Turn::Start) {
+            Turn::Copy(side, item) => {
+                self.turn = Turn::Flag(side);
+                Ok(item)
+            }
+            _ => unreachable!(),
+        }
+    }
+}

@@ -1,0 +1,110 @@
+// The items that are to be kept.
+
+ghost use Rattle.std.specs.Prelude.{◌≡◌};
+
+use flow_base::{Ask, Stop, Worker};
+use flow_edges::{Item, Kind};
+use snesl_values::FaultKind;
+use std::alloc::AllocError;
+use std::mem;
+
+// How far a truth value and its item are.
+#[derive(Debug, Drop)]
+enum Pair {
+    // A truth value comes next.
+    Start,
+    // The item comes next, and is kept where this is true.
+    Item(bool),
+    // This item is to be written.
+    Copy(Item),
+}
+
+/// Reads a truth value and an item, and writes the item where the truth value is true. Each such pair is an instance.
+///
+/// Reads port 0, truth values, and port 1, items of one kind; writes port 0, of that kind. Fault: `Shape` where an item
+/// is of another kind.
+#[derive(Debug, Drop)]
+pub struct Pack {
+    kind: Kind,
+    pair: Pair,
+}
+
+impl Pack {
+    ghost use Rattle.flow_segment.specs.PackMachine.{pack_state, at_start};
+
+    /// A worker for items of this kind, before its first pair.
+    pub fn new(kind: Kind) -> Pack
+        ensures { ⟦<Pack as Worker>⟧.state result ≡ pack_state kind at_start }
+    {
+        Pack {
+            kind,
+            pair: Pair::Start,
+        }
+    }
+}
+
+impl Worker for Pack {
+    ghost use Rattle.flow_segment.specs.PackMachine.{PackState, pack_state, step_of, pack_machine};
+    ghost use Rattle.flow_segment.specs.PackLaws.{pack_laws, pack_rows};
+
+    ghost State = { PackState };
+
+    ghost state = { λ n. pack_state n.kind (step_of n.pair) };
+
+    ghost machine = { pack_machine };
+
+    ghost laws = { pack_laws };
+
+    ghost rows = { pack_rows };
+
+    fn ask(&self) -> Ask {
+        match self.pair {
+            Pair::Start => Ask::Begin,
+            Pair::Item(_) => Ask::Take(1),
+            Pair::Copy(_) => Ask::Give(0),
+        }
+    }
+
+    fn inputs(&self) -> usize {
+        2
+    }
+
+    fn outputs(&self) -> usize {
+        1
+    }
+
+    fn kind_in(&self, port: usize) -> Kind {
+        match port {
+            0 => Kind::Bool,
+            _ => self.kind,
+        }
+    }
+
+    fn kind_out(&self, _port: usize) -> Kind {
+        self.kind
+    }
+
+    fn take(&mut self, item: Item) -> Result<(), Stop> {
+        if let Pair::Item(keep) = self.pair {
+            if !self.kind.fits(&item) {
+                return Err(Stop::Faulted(FaultKind::Shape));
+            }
+            self.pair = if keep { Pair::Copy(item) } else { Pair::Start };
+            return Ok(());
+        }
+        match item {
+            Item::Bool(keep) => {
+                self.pair = Pair::Item(keep);
+                Ok(())
+            }
+            _ => Err(Stop::Faulted(FaultKind::Shape)),
+        }
+    }
+
+    fn give(&mut self) -> Result<Item, AllocError> {
+        match mem::replace(&mut self.pair, Pair::Start) {
+            Pair::Copy(item) => Ok(item),
+            _ => unreachable!(),
+        }
+    }
+}

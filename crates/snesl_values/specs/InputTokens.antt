@@ -1,0 +1,91 @@
+-- The tokens of an input text.
+use Rattle.std.specs.Prelude.{◌≡◌, ℕ, zero, suc, ◌+◌, ◌==◌, ◌<◌, ◌≤◌, ℤ, pos, negsuc, Bool, true, false, if◌then◌else◌, List, [], ◌∷◌, length, drop, Option, Some, None, option_map, codes}
+use Rattle.std.specs.List.{take_while, prefix_len, list_any}
+use Rattle.std.specs.Char.{is_ascii_digit, is_ascii_alphabetic}
+use Rattle.snesl_values.specs.Blanks.{is_blank}
+use Rattle.snesl_values.specs.Characters.{is_word, value_from}
+use Rattle.snesl_values.specs.Integers.{is_integer, IsInteger}
+
+-- a word, an integer, a sign of one byte, or a token that no lawful text has
+pub data Token : Type 0 where
+  word : List ℕ → Token
+  integer : ℤ → Token
+  sign : ℕ → Token
+  bad : Token
+
+-- a token and its length in bytes
+abbrev pub Lexeme : Type 0
+Lexeme = Token × ℕ
+
+-- the signs, of one byte each
+abbrev pub is_sign : ℕ → Bool
+is_sign b = list_any (λ c. c == b) (codes "=;,()[]{}")
+
+-- an integer, or a bad token where it is out of the range
+abbrev pub integer_token : ℤ → Token
+integer_token n = if is_integer n then integer n else bad
+
+-- the integer that a number writes behind a minus
+abbrev pub negated : ℕ → ℤ
+negated zero = pos 0
+negated (suc n) = negsuc n
+
+-- the integer of this sign and magnitude
+abbrev pub signed : Bool → ℕ → ℤ
+signed false n = pos n
+signed true n = negated n
+
+-- a minus with the digits behind it, at least one
+abbrev pub minus_lexeme : List ℕ → Lexeme
+minus_lexeme [] = (bad, 1)
+minus_lexeme digits = (integer_token (negated (value_from 0 digits)), suc (length digits))
+
+-- the longest token that stands first in bytes, where no blank does; in no bytes stands none
+unfoldable pub first : List ℕ → Option Lexeme
+first [] = None
+first (b ∷ bs) =
+    if is_ascii_alphabetic b then (let letters = take_while is_word (b ∷ bs) in Some (word letters, length letters)) else
+    (if is_ascii_digit b then (let digits = take_while is_ascii_digit (b ∷ bs) in Some (integer_token (pos (value_from 0 digits)), length digits)) else
+    (if b == 45 then Some (minus_lexeme (take_while is_ascii_digit bs)) else
+    (if is_sign b then Some (sign b, 1) else Some (bad, 1))))
+
+-- the offset of the first byte from here on that is no blank, or the text's length where there is none
+unfoldable pub next_at : List ℕ → ℕ → ℕ
+next_at text at = at + prefix_len is_blank (drop at text)
+
+-- the token that comes next from an offset on
+unfoldable pub next : List ℕ → ℕ → Option Lexeme
+next text at = first (drop (next_at text at) text)
+
+-- the same without its length
+abbrev pub next_token : List ℕ → ℕ → Option Token
+next_token text at = option_map (λ (lexeme : Lexeme). lexeme.0) (next text at)
+
+-- these are the tokens of a text from one offset to another, with blanks before each
+pub data Reads (text : List ℕ) : ℕ → List Token → ℕ → Type 0 where
+  -- no tokens
+  none : {at : ℕ} → Reads text at [] at
+  -- a token, and then tokens
+  more : {at end : ℕ} {tokens : List Token} (token : Token) (len : ℕ) → next text at ≡ Some (token, len)
+      → Reads text (next_at text at + len) tokens end → Reads text at (token ∷ tokens) end
+
+-- the next token is this one, and ends before this offset
+pub record Takes (text : List ℕ) (at : ℕ) (token : Token) (end : ℕ) : Type 0 where
+  pub reads : Reads text at (token ∷ []) end
+  pub moves : at < end
+  pub within : end ≤ length text
+
+-- the digits from an offset on
+abbrev pub digits_at : List ℕ → ℕ → List ℕ
+digits_at text from = take_while is_ascii_digit (drop from text)
+
+-- the integer that digits write with this sign
+abbrev pub number_of : Bool → List ℕ → ℤ
+number_of is_negative digits = signed is_negative (value_from 0 digits)
+
+-- some digits write this integer, in the range, and end before this offset
+pub record IsNumber (text : List ℕ) (from : ℕ) (is_negative : Bool) (found : ℤ × ℕ) : Type 0 where
+  pub some : 0 < length (digits_at text from)
+  pub value : found.0 ≡ number_of is_negative (digits_at text from)
+  pub in_range : IsInteger found.0
+  pub end : found.1 ≡ from + length (digits_at text from)
