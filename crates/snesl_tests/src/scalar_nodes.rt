@@ -231,6 +231,37 @@ fn misplaced_ends(rt: HostRuntime) -> Result<(), Fail> {
     assert_carries(&rt, alloc, &mut length, &["F ."], &[""], shape)
 }
 
+// An item of another kind is a fault, at whichever port it comes.
+#[test]
+fn items_of_other_kinds(rt: HostRuntime) -> Result<(), Fail> {
+    let alloc = rt.alloc();
+    let shape = fault(FaultKind::Shape);
+    let mut constant = Node::new(Const::new(Scalar::Int(5)), 7);
+    assert_carries(&rt, alloc, &mut constant, &["T"], &[""], shape)?;
+    let mut negate = Node::new(Unary::new(UnaryOperator::Negate), 7);
+    assert_carries(&rt, alloc, &mut negate, &["T"], &[""], shape)?;
+    let mut not = Node::new(Unary::new(UnaryOperator::Not), 7);
+    assert_carries(&rt, alloc, &mut not, &["1"], &[""], shape)?;
+    let mut sum = Node::new(Binary::new(BinaryOperator::Add), 7);
+    assert_carries(&rt, alloc, &mut sum, &["F", "1"], &[""], shape)?;
+    let mut sum = Node::new(Binary::new(BinaryOperator::Add), 7);
+    assert_carries(&rt, alloc, &mut sum, &["1", "v"], &[""], shape)?;
+    let mut fork = Node::new(Fork::new(alloc, Kind::Unit, 2), 7);
+    assert_carries(&rt, alloc, &mut fork, &["u v"], &["u", "u"], shape)?;
+    let mut iota = Node::new(Iota::new(), 7);
+    assert_carries(&rt, alloc, &mut iota, &["u"], &["", ""], shape)?;
+    let mut units = Node::new(UnitsOf::new(), 7);
+    assert_carries(&rt, alloc, &mut units, &["F 1"], &["u"], shape)?;
+    let mut scan = Node::new(ScanAdd::new(), 7);
+    assert_carries(&rt, alloc, &mut scan, &["u", "1"], &[""], shape)?;
+    let mut scan = Node::new(ScanAdd::new(), 7);
+    assert_carries(&rt, alloc, &mut scan, &["F", "F"], &[""], shape)?;
+    let mut all = Node::new(Reduce::new(Reduction::All), 7);
+    assert_carries(&rt, alloc, &mut all, &["F", "1"], &[""], shape)?;
+    let mut length = Node::new(Length::new(), 7);
+    assert_carries(&rt, alloc, &mut length, &["F 1"], &[""], shape)
+}
+
 #[test]
 fn values_of_operators(rt: HostRuntime) {
     let least = i64::MIN;

@@ -129,3 +129,36 @@ fn parts(rt: HostRuntime) -> Result<(), Fail> {
         fault(FaultKind::Part),
     )
 }
+
+// An item of another kind is a fault, at whichever port it comes.
+#[test]
+fn items_of_other_kinds(rt: HostRuntime) -> Result<(), Fail> {
+    let alloc = rt.alloc();
+    let shape = fault(FaultKind::Shape);
+    let mut truths = Node::new(FlagOfBool::new(), 7);
+    assert_carries(&rt, alloc, &mut truths, &["1"], &[""], shape)?;
+    let mut the = Node::new(TheCheck::new(), 7);
+    assert_carries(&rt, alloc, &mut the, &["F 1"], &[], shape)?;
+    let mut same = Node::new(SameFlags::new(), 7);
+    assert_carries(&rt, alloc, &mut same, &["F", "1"], &[], shape)?;
+    let mut concat = Node::new(ConcatFlags::new(), 7);
+    assert_carries(&rt, alloc, &mut concat, &["F", "u"], &[""], shape)?;
+    let mut append = Node::new(AppendFlags::new(), 7);
+    assert_carries(&rt, alloc, &mut append, &["T", "1"], &[""], shape)?;
+    let mut pack = Node::new(Pack::new(Kind::Int), 7);
+    assert_carries(&rt, alloc, &mut pack, &["T", "T"], &[""], shape)?;
+    let mut dist = Node::new(Dist::new(alloc, Kind::Int), 7);
+    assert_carries(&rt, alloc, &mut dist, &["1", "1"], &[""], shape)?;
+    let mut dist = Node::new(Dist::new(alloc, Kind::Int), 7);
+    assert_carries(&rt, alloc, &mut dist, &["v", "F"], &[""], shape)?;
+    let mut interleave = Node::new(Interleave::new(Kind::Int), 7);
+    let ins = ["F", "", "u", ""];
+    assert_carries(&rt, alloc, &mut interleave, &ins, &[""], shape)?;
+    let mut groups = Node::new(InterleaveGroups::new(), 7);
+    let ins = ["F", "", "1", ""];
+    assert_carries(&rt, alloc, &mut groups, &ins, &[""], shape)?;
+    let mut pack = Node::new(PackGroups::new(), 7);
+    assert_carries(&rt, alloc, &mut pack, &["T", "1"], &[""], shape)?;
+    let mut part = Node::new(PartFlags::new(), 7);
+    assert_carries(&rt, alloc, &mut part, &["F", "1", ""], &["", ""], shape)
+}
