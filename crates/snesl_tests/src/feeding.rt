@@ -57,18 +57,24 @@ pub fn assert_carries<T: Transducer>(
     }
     for _ in 0..1_000 {
         match node.want() {
-            Want::Read(port) if port < ins.len() => {
-                let Some(word) = ins[port].split_whitespace().nth(read[port]) else {
+            Want::Read(port) => {
+                let (Some(stream), Some(count)) = (ins.get(port), read.get_mut(port)) else {
+                    break;
+                };
+                let Some(word) = stream.split_whitespace().nth(*count) else {
                     break;
                 };
                 node.give(port, message(alloc, word)?)?;
-                read[port] = read[port].wrapping_add(1);
+                *count = count.wrapping_add(1);
             }
-            Want::Write(port) if port < outs.len() => {
+            Want::Write(port) => {
                 let message = node.emit()?;
-                append(&mut written[port], &message)?;
+                let Some(text) = written.get_mut(port) else {
+                    break;
+                };
+                append(text, &message)?;
             }
-            _ => break,
+            Want::Ended | Want::Faulted(_) => break,
         }
     }
     assert_eq!(rt; node.want(), end);
