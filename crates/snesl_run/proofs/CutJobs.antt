@@ -3,7 +3,7 @@ use Rattle.std.proofs.Common.{◌≡◌, ℕ, ◌+◌, ◌<◌, ◌≤◌, List,
 use Rattle.std.proofs.lemmas.Bool.{cases_lt}
 use Rattle.snesl_values.specs.declared.refusal.Refusal.TheVariants.{TooLong}
 use Rattle.snesl_values.specs.Inputs.{InputMeans, OneInputMeaning, spells, refused_at, too_long as input_too_long, greatest_input_length}
-use Rattle.snesl_tree.specs.Tree.{Tree}
+use Rattle.snesl_tree.specs.Tree.{ProgramTree}
 use Rattle.snesl_syntax.specs.Limits.{greatest_length}
 use Rattle.snesl_syntax.specs.Parse.{Parses, too_long, HaveOneAnswer}
 use Rattle.snesl_run.specs.Meaning.{Meaning, Means, no_program, ill_typed, bad_input, evaluated}
@@ -77,7 +77,7 @@ program_is_long cut behind program input n size job over none =
     (λ p. let whole : length (cut ++ behind) ≡ length program = ap length p.0 in omega (arith, length-append cut behind))
     (ways (cut ++ behind) program input job)
 
-no_tree : {A : Type 0} → HaveOneAnswer → (program : List ℕ) (t : Tree) → Parses program (Ok t) → greatest_length < length program → A
+no_tree : {A : Type 0} → HaveOneAnswer → (program : List ℕ) (t : ProgramTree) → Parses program (Ok t) → greatest_length < length program → A
 no_tree answers program t p h = absurd (let e = answers program (Ok t) (Err TooLong) p (too_long h) in cc)
 
 -- two programs over the limit mean the same
@@ -87,21 +87,21 @@ both_too_long answers program input program' input' m h k (no_program {refusal =
     let e = answers program (Err r) (Err TooLong) p (too_long h) in
     let same : TooLong ≡ r = cc in
     subst (λ x. Means program' input' (Rattle.snesl_run.specs.Meaning.is_refused x)) same (no_program (too_long k))
-both_too_long answers program input program' input' m h k (ill_typed {tree = t} p v) = no_tree answers program t p h
-both_too_long answers program input program' input' m h k (bad_input {tree = t} p d i) = no_tree answers program t p h
-both_too_long answers program input program' input' m h k (evaluated {tree = t} p d i) = no_tree answers program t p h
+both_too_long answers program input program' input' m h k (ill_typed {program = t} p v) = no_tree answers program t p h
+both_too_long answers program input program' input' m h k (bad_input {program = t} p d i) = no_tree answers program t p h
+both_too_long answers program input program' input' m h k (evaluated {program = t} p d i) = no_tree answers program t p h
 
 -- with two input texts over the limit a program means the same
 inputs_too_long : OneInputMeaning → (program input input' : List ℕ) (m : Meaning) → greatest_input_length < length input
     → greatest_input_length < length input' → Means program input m → Means program input' m
 inputs_too_long inputs program input input' m h k (no_program p) = no_program p
 inputs_too_long inputs program input input' m h k (ill_typed p v) = ill_typed p v
-inputs_too_long inputs program input input' m h k (bad_input {at = at} p d i) =
-    let e = inputs [] input (refused_at at) (refused_at greatest_input_length) i (input_too_long h) in
+inputs_too_long inputs program input input' m h k (bad_input {declared = all} {at = at} p d i) =
+    let e = inputs all.inputs input (refused_at at) (refused_at greatest_input_length) i (input_too_long h) in
     let same : greatest_input_length ≡ at = cc in
-    bad_input p d (subst (λ n. InputMeans [] input' (refused_at n)) same (input_too_long k))
-inputs_too_long inputs program input input' m h k (evaluated {environment = f} p d i) =
-    absurd (let e = inputs [] input (spells f) (refused_at greatest_input_length) i (input_too_long h) in cc)
+    bad_input p d (subst (λ n. InputMeans all.inputs input' (refused_at n)) same (input_too_long k))
+inputs_too_long inputs program input input' m h k (evaluated {declared = all} {environment = f} p d i) =
+    absurd (let e = inputs all.inputs input (spells f) (refused_at greatest_input_length) i (input_too_long h) in cc)
 
 -- the separator of the beginning is that of the whole
 same_split : (cut behind program' input' back' : List ℕ) → length cut ≡ longest_job → length program' ≤ greatest_length

@@ -1,58 +1,67 @@
 -- A program and an input text have one meaning.
-use Rattle.std.proofs.Common.{◌≡◌, ℕ, List, [], Ok, Err, sym, ap, ◌∙◌, subst}
+use Rattle.std.proofs.Common.{◌≡◌, ℕ, List, Ok, Err, sym, ap, ◌∙◌, subst}
 use Rattle.snesl_values.specs.declared.refusal.Refusal.{Refusal}
+use Rattle.snesl_values.specs.declared.refusal.Refusal.TheVariants.{BadInput}
 use Rattle.snesl_values.specs.Types.{Ty}
-use Rattle.snesl_values.specs.Inputs.{InputMeans, OneInputMeaning, spells, refused_at}
-use Rattle.snesl_tree.specs.Tree.{Tree}
+use Rattle.snesl_values.specs.Inputs.{Environment, InputMeans, OneInputMeaning, spells, refused_at}
+use Rattle.snesl_tree.specs.Tree.{ProgramTree}
 use Rattle.snesl_syntax.specs.Parse.{Parses, HaveOneAnswer}
-use Rattle.snesl_types.specs.Typing.{Types, Violates, HaveOneTyping}
-use Rattle.snesl_values.specs.Inputs.{Environment}
-use Rattle.snesl_types.specs.Eval.{eval}
+use Rattle.snesl_evaluation.specs.Eval.{program_value}
+use Rattle.snesl_types.specs.Programs.{Declared, ProgramTypes, ProgramViolates, HaveOneTyping}
 use Rattle.snesl_run.specs.Meaning.{meaning_of, no_program, ill_typed, bad_input, evaluated, is_refused, HaveOneMeaning}
 
-same_tree : HaveOneAnswer → (program : List ℕ) (t u : Tree) → Parses program (Ok t) → Parses program (Ok u) → t ≡ u
-same_tree answers program t u p q = let e = answers program (Ok t) (Ok u) p q in cc
+same_program : HaveOneAnswer → (text : List ℕ) (p q : ProgramTree) → Parses text (Ok p) → Parses text (Ok q) → p ≡ q
+same_program answers text p q one other = let e = answers text (Ok p) (Ok q) one other in cc
 
-no_tree : {A : Type 0} → HaveOneAnswer → (program : List ℕ) (t : Tree) (r : Refusal) → Parses program (Ok t) → Parses program (Err r) → A
-no_tree answers program t r p q = absurd (let e = answers program (Ok t) (Err r) p q in cc)
+no_tree : {A : Type 0} → HaveOneAnswer → (text : List ℕ) (p : ProgramTree) (r : Refusal) → Parses text (Ok p) → Parses text (Err r) → A
+no_tree answers text p r one other = absurd (let e = answers text (Ok p) (Err r) one other in cc)
 
--- a tree that has a type violates no rule
-no_violation : {A : Type 0} → HaveOneAnswer → HaveOneTyping → (program : List ℕ) (t u : Tree) (ty : Ty) (r : Refusal)
-    → Parses program (Ok t) → Parses program (Ok u) → Types program [] t ty → Violates program [] u r → A
-no_violation answers typing program t u ty r p q h v =
-    absurd ((typing program [] t).2 ty r h (subst (λ x. Violates program [] x r) (sym (same_tree answers program t u p q)) v))
+-- a program that has a type violates no rule
+no_violation : {A : Type 0} → HaveOneAnswer → HaveOneTyping → (text : List ℕ) (p q : ProgramTree) (d : Declared) (t : Ty) (r : Refusal)
+    → Parses text (Ok p) → Parses text (Ok q) → ProgramTypes text p d t → ProgramViolates text q r → A
+no_violation answers typing text p q d t r one other h v =
+    absurd ((typing text p).2 d t r h (subst (λ x. ProgramViolates text x r) (sym (same_program answers text p q one other)) v))
 
-no_input : {A : Type 0} → OneInputMeaning → (input : List ℕ) (at : ℕ) (environment : Environment)
-    → InputMeans [] input (refused_at at) → InputMeans [] input (spells environment) → A
-no_input inputs input at environment p q = absurd (let e = inputs [] input (refused_at at) (spells environment) p q in cc)
+-- what a program declares
+same_declared : HaveOneAnswer → HaveOneTyping → (text : List ℕ) (p q : ProgramTree) (d e : Declared) (t u : Ty)
+    → Parses text (Ok p) → Parses text (Ok q) → ProgramTypes text p d t → ProgramTypes text q e u → d ≡ e
+same_declared answers typing text p q d e t u one other h k =
+    ((typing text p).0 d e t u h (subst (λ x. ProgramTypes text x e u) (sym (same_program answers text p q one other)) k)).0
+
+no_input : {A : Type 0} → OneInputMeaning → (input : List ℕ) (d e : Declared) (at : ℕ) (environment : Environment) → d ≡ e
+    → InputMeans d.inputs input (refused_at at) → InputMeans e.inputs input (spells environment) → A
+no_input inputs input d e at environment same i j =
+    absurd (let is = inputs d.inputs input (refused_at at) (spells environment) i (subst (λ x. InputMeans x.inputs input (spells environment)) (sym same) j) in cc)
 
 pub one_meaning : HaveOneAnswer → HaveOneTyping → OneInputMeaning → HaveOneMeaning
-one_meaning answers typing inputs program input m n (no_program {refusal = r} p) (no_program {refusal = s} q) =
-    let e = answers program (Err r) (Err s) p q in cc
-one_meaning answers typing inputs program input m n (no_program {refusal = r} p) (ill_typed {tree = u} q w) = no_tree answers program u r q p
-one_meaning answers typing inputs program input m n (no_program {refusal = r} p) (bad_input {tree = u} q k j) = no_tree answers program u r q p
-one_meaning answers typing inputs program input m n (no_program {refusal = r} p) (evaluated {tree = u} q k j) = no_tree answers program u r q p
-one_meaning answers typing inputs program input m n (ill_typed {tree = t} p v) (no_program {refusal = s} q) = no_tree answers program t s p q
-one_meaning answers typing inputs program input m n (ill_typed {tree = t} {refusal = r} p v) (ill_typed {tree = u} {refusal = s} q w) =
-    ap is_refused ((typing program [] t).1 r s v (subst (λ x. Violates program [] x s) (sym (same_tree answers program t u p q)) w))
-one_meaning answers typing inputs program input m n (ill_typed {tree = t} {refusal = r} p v) (bad_input {tree = u} {t = b} q k j) =
-    no_violation answers typing program u t b r q p k v
-one_meaning answers typing inputs program input m n (ill_typed {tree = t} {refusal = r} p v) (evaluated {tree = u} {t = b} q k j) =
-    no_violation answers typing program u t b r q p k v
-one_meaning answers typing inputs program input m n (bad_input {tree = t} p h i) (no_program {refusal = s} q) = no_tree answers program t s p q
-one_meaning answers typing inputs program input m n (bad_input {tree = t} {t = a} p h i) (ill_typed {tree = u} {refusal = s} q w) =
-    no_violation answers typing program t u a s p q h w
-one_meaning answers typing inputs program input m n (bad_input {at = a} p h i) (bad_input {at = b} q k j) =
-    let e = inputs [] input (refused_at a) (refused_at b) i j in cc
-one_meaning answers typing inputs program input m n (bad_input {at = a} p h i) (evaluated {environment = f} q k j) =
-    no_input inputs input a f i j
-one_meaning answers typing inputs program input m n (evaluated {tree = t} p h i) (no_program {refusal = s} q) = no_tree answers program t s p q
-one_meaning answers typing inputs program input m n (evaluated {tree = t} {t = a} p h i) (ill_typed {tree = u} {refusal = s} q w) =
-    no_violation answers typing program t u a s p q h w
-one_meaning answers typing inputs program input m n (evaluated {environment = f} p h i) (bad_input {at = b} q k j) =
-    no_input inputs input b f j i
-one_meaning answers typing inputs program input m n (evaluated {tree = t} {environment = f} p h i) (evaluated {tree = u} {environment = g} q k j) =
-    let e = same_tree answers program t u p q in
-    let d = inputs [] input (spells f) (spells g) i j in
-    let same : f ≡ g = cc in
-    ap (λ x. meaning_of (eval x program f)) e ∙ ap (λ x. meaning_of (eval u program x)) same
+one_meaning answers typing inputs text input m n (no_program {refusal = r} p) (no_program {refusal = s} q) =
+    let e = answers text (Err r) (Err s) p q in cc
+one_meaning answers typing inputs text input m n (no_program {refusal = r} p) (ill_typed {program = u} q w) = no_tree answers text u r q p
+one_meaning answers typing inputs text input m n (no_program {refusal = r} p) (bad_input {program = u} q k j) = no_tree answers text u r q p
+one_meaning answers typing inputs text input m n (no_program {refusal = r} p) (evaluated {program = u} q k j) = no_tree answers text u r q p
+one_meaning answers typing inputs text input m n (ill_typed {program = t} p v) (no_program {refusal = s} q) = no_tree answers text t s p q
+one_meaning answers typing inputs text input m n (ill_typed {program = t} {refusal = r} p v) (ill_typed {program = u} {refusal = s} q w) =
+    ap is_refused ((typing text t).1 r s v (subst (λ x. ProgramViolates text x s) (sym (same_program answers text t u p q)) w))
+one_meaning answers typing inputs text input m n (ill_typed {program = t} {refusal = r} p v) (bad_input {program = u} {declared = e} {t = b} q k j) =
+    no_violation answers typing text u t e b r q p k v
+one_meaning answers typing inputs text input m n (ill_typed {program = t} {refusal = r} p v) (evaluated {program = u} {declared = e} {t = b} q k j) =
+    no_violation answers typing text u t e b r q p k v
+one_meaning answers typing inputs text input m n (bad_input {program = t} p h i) (no_program {refusal = s} q) = no_tree answers text t s p q
+one_meaning answers typing inputs text input m n (bad_input {program = t} {declared = d} {t = a} p h i) (ill_typed {program = u} {refusal = s} q w) =
+    no_violation answers typing text t u d a s p q h w
+one_meaning answers typing inputs text input m n (bad_input {program = t} {declared = d} {t = a} {at = x} p h i) (bad_input {program = u} {declared = e} {t = b} {at = y} q k j) =
+    let same = same_declared answers typing text t u d e a b p q h k in
+    let is = inputs d.inputs input (refused_at x) (refused_at y) i (subst (λ x. InputMeans x.inputs input (refused_at y)) (sym same) j) in cc
+one_meaning answers typing inputs text input m n (bad_input {program = t} {declared = d} {t = a} {at = x} p h i) (evaluated {program = u} {declared = e} {t = b} {environment = f} q k j) =
+    no_input inputs input d e x f (same_declared answers typing text t u d e a b p q h k) i j
+one_meaning answers typing inputs text input m n (evaluated {program = t} p h i) (no_program {refusal = s} q) = no_tree answers text t s p q
+one_meaning answers typing inputs text input m n (evaluated {program = t} {declared = d} {t = a} p h i) (ill_typed {program = u} {refusal = s} q w) =
+    no_violation answers typing text t u d a s p q h w
+one_meaning answers typing inputs text input m n (evaluated {program = t} {declared = d} {t = a} {environment = f} p h i) (bad_input {program = u} {declared = e} {t = b} {at = y} q k j) =
+    no_input inputs input e d y f (same_declared answers typing text u t e d b a q p k h) j i
+one_meaning answers typing inputs text input m n (evaluated {program = t} {declared = d} {t = a} {environment = f} p h i) (evaluated {program = u} {declared = e} {t = b} {environment = g} q k j) =
+    let tree = same_program answers text t u p q in
+    let same = same_declared answers typing text t u d e a b p q h k in
+    let is = inputs d.inputs input (spells f) (spells g) i (subst (λ x. InputMeans x.inputs input (spells g)) (sym same) j) in
+    let values : f ≡ g = cc in
+    ap (λ x. meaning_of (program_value text x f)) tree ∙ ap (λ x. meaning_of (program_value text u x)) values

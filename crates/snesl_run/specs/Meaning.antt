@@ -1,15 +1,16 @@
 -- What a program means for an input text.
-use Rattle.std.specs.Prelude.{◌≡◌, ℕ, List, [], Ok, Err}
+use Rattle.std.specs.Prelude.{◌≡◌, ℕ, List, Ok, Err}
 use Rattle.snesl_values.specs.declared.fault.FaultKind.{FaultKind}
 use Rattle.snesl_values.specs.declared.refusal.Refusal.{Refusal}
 use Rattle.snesl_values.specs.declared.refusal.Refusal.TheVariants.{BadInput}
 use Rattle.snesl_values.specs.Types.{Ty}
 use Rattle.snesl_values.specs.Values.{Value}
 use Rattle.snesl_values.specs.Inputs.{Environment, InputMeans, spells, refused_at}
-use Rattle.snesl_tree.specs.Tree.{Tree}
+use Rattle.snesl_tree.specs.Tree.{ProgramTree}
 use Rattle.snesl_syntax.specs.Parse.{Parses}
-use Rattle.snesl_types.specs.Typing.{Types, Violates}
-use Rattle.snesl_types.specs.Eval.{Answer, gives, faults, eval}
+use Rattle.snesl_evaluation.specs.Answer.{Answer, gives, faults}
+use Rattle.snesl_evaluation.specs.Eval.{program_value}
+use Rattle.snesl_types.specs.Programs.{Declared, ProgramTypes, ProgramViolates}
 
 pub data Meaning : Type 0 where
   is_refused : Refusal → Meaning
@@ -20,20 +21,21 @@ abbrev pub meaning_of : Answer Value → Meaning
 meaning_of (gives v) = has_value v
 meaning_of (faults kind at) = has_fault kind at
 
--- the meaning of a program text for an input text; no program declares an input
-pub data Means (program input : List ℕ) : Meaning → Type 0 where
+-- the meaning of a program text for an input text
+pub data Means (text input : List ℕ) : Meaning → Type 0 where
   -- the text is no program
-  no_program : {refusal : Refusal} → Parses program (Err refusal) → Means program input (is_refused refusal)
+  no_program : {refusal : Refusal} → Parses text (Err refusal) → Means text input (is_refused refusal)
   -- the program violates a rule of typing, the first of which is named
-  ill_typed : {tree : Tree} {refusal : Refusal} → Parses program (Ok tree) → Violates program [] tree refusal
-      → Means program input (is_refused refusal)
-  -- the input text is not lawful
-  bad_input : {tree : Tree} {t : Ty} {at : ℕ} → Parses program (Ok tree) → Types program [] tree t → InputMeans [] input (refused_at at)
-      → Means program input (is_refused (BadInput at))
+  ill_typed : {program : ProgramTree} {refusal : Refusal} → Parses text (Ok program) → ProgramViolates text program refusal
+      → Means text input (is_refused refusal)
+  -- the input text is not lawful for the declared inputs
+  bad_input : {program : ProgramTree} {declared : Declared} {t : Ty} {at : ℕ} → Parses text (Ok program) → ProgramTypes text program declared t
+      → InputMeans declared.inputs input (refused_at at)
+      → Means text input (is_refused (BadInput at))
   -- the program is evaluated with the values that the input text spells
-  evaluated : {tree : Tree} {t : Ty} {environment : Environment} → Parses program (Ok tree) → Types program [] tree t
-      → InputMeans [] input (spells environment)
-      → Means program input (meaning_of (eval tree program environment))
+  evaluated : {program : ProgramTree} {declared : Declared} {t : Ty} {environment : Environment} → Parses text (Ok program) → ProgramTypes text program declared t
+      → InputMeans declared.inputs input (spells environment)
+      → Means text input (meaning_of (program_value text program environment))
 
 -- a program and an input text have one meaning
 abbrev pub HaveOneMeaning : Type 0

@@ -18,7 +18,7 @@ use std::io::Write;
 ///
 /// # Errors
 ///
-/// - A refusal from 1 to 8: that of the program text, else of its typing, else of the input text.
+/// - A refusal from 1 to 9: that of the program text, else of its typing, else of the input text.
 /// - `NoMemory`: memory was refused. Nothing was written, since memory is taken before the first
 ///   write.
 /// - `Output`: a write failed or took no byte. The writer has taken a beginning of the line, and no
@@ -57,7 +57,7 @@ fn evaluated(alloc: Global, program: &[u8], input: &[u8]) -> Result<Result<Vec<u
 {
     let program = parse(alloc, program)?;
     let typed = check(alloc, &program)?;
-    let inputs = read_inputs(alloc, &[], input)?;
+    let inputs = read_inputs(alloc, typed.decls(), input)?;
     match plain(alloc, &typed, &inputs)? {
         Err(fault) => Ok(Err(fault)),
         Ok(datum) => {

@@ -1,15 +1,18 @@
--- Whatever the grammar lists as the beginning of a program begins one.
-use Rattle.std.proofs.Common.{◌≡◌, ℕ, ◌≤◌, List, [], ◌∷◌, ◌++◌, refl, sym, subst, arith, append_assoc}
-use Rattle.std.proofs.lemmas.List.{append-nil}
-use Rattle.snesl_lexer.specs.declared.token.Kind.TheVariants.{In, LeftParen, RightParen, RightBrace, Colon}
+-- What the grammar lists as the beginning of a program can be completed to one.
+use Rattle.std.proofs.Common.{◌≡◌, ℕ, max, ◌≤◌, List, [], ◌∷◌, ◌++◌, refl, sym, ◌∙◌, ap, subst, arith, append_assoc}
+use Rattle.snesl_lexer.specs.declared.token.Kind.TheVariants.{Int, Function, LeftParen, RightParen, Colon, Semicolon, Comma, Equals}
 use Rattle.snesl_lexer.specs.declared.token.Token.{Token}
 use Rattle.snesl_tree.specs.declared.span.Span.{Span}
-use Rattle.snesl_tree.specs.Tree.{Tree, Trees, name, binary, call, group, each, none, both, depth, depth_of_all}
-use Rattle.snesl_syntax.specs.Operators.{sign}
-use Rattle.snesl_syntax.specs.Grammar.{token, name_token, added, Whole, name_rule, binary_rule, call_rule, group_rule, each_rule, WholeArguments, one_rule, more_rule, Front, nothing, whole, binary_left, binary_right, call_word, call_arguments, group_inner, each_body, each_colon, each_name, each_source, FrontArguments, first_front, next_front}
-use Rattle.snesl_syntax.specs.Parse.{BeginsProgram, FrontsBeginPrograms}
-use Rattle.snesl_syntax.proofs.Runs.{depth_pos, depth-added}
-use Rattle.snesl_syntax.proofs.Exact.{whole_answer, so_far}
+use Rattle.snesl_tree.specs.Tree.{Tree, name, depth, TypeTree, int_type, type_depth, Typed, DeclarationTree, declares_input, declares_function, ProgramTree}
+use Rattle.snesl_expressions.specs.Grammar.{token, name_token, name_rule}
+use Rattle.snesl_expressions.specs.Readers.{Reader}
+use Rattle.snesl_syntax.specs.Types.{WholeType, int_rule}
+use Rattle.snesl_syntax.specs.Grammar.{typed, parameters_depth, declaration_depth, declarations_depth, program_depth, WholeParameters, one_parameter, more_parameters, WholeDeclaration, input_rule, function_rule, more_declarations, WholeProgram, program_rule, FrontParameter, no_parameter, parameter_name, parameter_type, FrontParameters, first_parameter, next_parameter, FrontDeclaration, input_word, input_name, input_type, function_word, function_name, function_parameters, function_closed, function_result, function_body, FrontProgram, in_declaration, in_expression}
+use Rattle.snesl_syntax.specs.Programs.{programs}
+use Rattle.snesl_syntax.proofs.TypesRead.{type_depth_pos, types_are_read}
+use Rattle.snesl_syntax.proofs.Exact.{IsReaderOfPrograms}
+use Rattle.snesl_syntax.proofs.Runs.{depth-parameters, depth-declarations, ReadsExpressions, program_reads}
+use Rattle.snesl_syntax.proofs.Stands.{program_stands, program_whole}
 
 -- a name, to complete forms with
 spot : Span
@@ -18,129 +21,215 @@ spot = record { at = 0; len = 1 }
 abbrev leaf : Token
 leaf = name_token spot
 
--- the tokens, and others with which they are an expression
-pub record Completed (l d : ℕ) (ts : List Token) : Type 0 where
+-- the tokens, and others with which they are a parameter
+record CompletedParameter (d : ℕ) (ts : List Token) : Type 0 where
   pub rest : List Token
-  pub tree : Tree
-  pub whole : Whole l (ts ++ rest) tree
-  pub shallow : depth tree ≤ d
+  pub place : Span
+  pub colon : ℕ
+  pub behind : List Token
+  pub written : TypeTree
+  pub same : ts ++ rest ≡ name_token place ∷ token Colon colon ∷ behind
+  pub whole : WholeType behind written
+  pub shallow : type_depth written ≤ d
 
--- the same of arguments
-pub record CompletedArguments (d : ℕ) (ts : List Token) : Type 0 where
+-- the same of parameters
+record CompletedParameters (d : ℕ) (ts : List Token) : Type 0 where
   pub rest : List Token
-  pub trees : Trees
-  pub whole : WholeArguments (ts ++ rest) trees
-  pub shallow : depth_of_all trees ≤ d
+  pub parameters : List Typed
+  pub whole : WholeParameters (ts ++ rest) parameters
+  pub shallow : parameters_depth parameters ≤ d
 
-along : (l : ℕ) {ts us : List Token} (e : Tree) → ts ≡ us → Whole l ts e → Whole l us e
-along l e same w = subst (λ x. Whole l x e) same w
+-- the same of a declaration
+record CompletedDeclaration (d : ℕ) (ts : List Token) : Type 0 where
+  pub rest : List Token
+  pub declaration : DeclarationTree
+  pub whole : WholeDeclaration (ts ++ rest) declaration
+  pub shallow : declaration_depth declaration ≤ d
 
-mutual
-  pub completed : {l d : ℕ} {ts : List Token} → Front l d ts → Completed l d ts
-  completed nothing = record { rest = leaf ∷ []; tree = name spot; whole = name_rule spot; shallow = omega arith }
-  completed {l = l} (whole {ts = ts} {tree = e} w h) =
-      record { rest = []; tree = e; whole = along l e (sym (append-nil ts)) w; shallow = h }
-  completed {l = l} (binary_left o {ts = ts} below f) =
-      let c = completed f in
-      let least : 1 ≤ depth c.tree = depth_pos c.tree in
-      let h : depth c.tree ≤ _ = c.shallow in
+declared_as : {ts us : List Token} (declaration : DeclarationTree) → ts ≡ us → WholeDeclaration ts declaration → WholeDeclaration us declaration
+declared_as declaration same w = subst (λ x. WholeDeclaration x declaration) same w
+
+completed_parameter : {d : ℕ} {ts : List Token} → FrontParameter d ts → CompletedParameter d ts
+completed_parameter no_parameter =
+    record {
+      rest = leaf ∷ token Colon 0 ∷ token Int 0 ∷ [];
+      place = spot;
+      colon = 0;
+      behind = token Int 0 ∷ [];
+      written = int_type 0;
+      same = refl;
+      whole = int_rule;
+      shallow = omega arith;
+    }
+completed_parameter (parameter_name place) =
+    record {
+      rest = token Colon 0 ∷ token Int 0 ∷ [];
+      place = place;
+      colon = 0;
+      behind = token Int 0 ∷ [];
+      written = int_type 0;
+      same = refl;
+      whole = int_rule;
+      shallow = omega arith;
+    }
+completed_parameter {d = d} (parameter_type place colon {ts = ts} f) =
+    let c = types_are_read.completes d ts f in
+    record { rest = c.0; place = place; colon = colon; behind = ts ++ c.0; written = c.1; same = refl; whole = c.2; shallow = c.3 }
+
+completed_parameters : {d : ℕ} {ts : List Token} → FrontParameters d ts → CompletedParameters d ts
+completed_parameters (first_parameter f) =
+    let c = completed_parameter f in
+    let h : type_depth c.written ≤ _ = c.shallow in
+    record {
+      rest = c.rest;
+      parameters = typed c.place c.written ∷ [];
+      whole = subst (λ x. WholeParameters x (typed c.place c.written ∷ [])) (sym c.same) (one_parameter c.place c.colon c.whole);
+      shallow = omega arith;
+    }
+completed_parameters (next_parameter comma {ts = ts} {us = us} {given = given} ws k f) =
+    let c = completed_parameter f in
+    let h : type_depth c.written ≤ _ = c.shallow in
+    let last : Typed = typed c.place c.written in
+    let deep : parameters_depth (given ++ last ∷ []) ≡ max (parameters_depth given) (type_depth c.written) = depth-parameters given last in
+    record {
+      rest = c.rest;
+      parameters = given ++ last ∷ [];
+      whole = subst (λ x. WholeParameters x (given ++ last ∷ []))
+          (sym (append_assoc ts (token Comma comma ∷ us) c.rest ∙ ap (λ x. ts ++ (token Comma comma ∷ x)) c.same))
+          (more_parameters comma c.place c.colon ws c.whole);
+      shallow = omega arith;
+    }
+
+parameters_pos : {ts : List Token} {parameters : List Typed} → WholeParameters ts parameters → 1 ≤ parameters_depth parameters
+parameters_pos (one_parameter place colon {written = written} w) = let h : 1 ≤ type_depth written = type_depth_pos written in omega arith
+parameters_pos (more_parameters comma place colon {given = given} {written = written} ws w) =
+    let h : 1 ≤ type_depth written = type_depth_pos written in
+    let deep : parameters_depth (given ++ typed place written ∷ []) ≡ max (parameters_depth given) (type_depth written) = depth-parameters given (typed place written) in
+    omega arith
+
+-- a parameter, to complete functions with
+abbrev short : Typed
+short = typed spot (int_type 0)
+
+-- the rest of a function behind its parameters
+abbrev short_rest : List Token
+short_rest = token RightParen 0 ∷ token Colon 0 ∷ token Int 0 ∷ token Equals 0 ∷ leaf ∷ token Semicolon 0 ∷ []
+
+short_function : (at : ℕ) (place : Span) (opened : ℕ) (ts : List Token) (parameters : List Typed) → WholeParameters ts parameters
+    → WholeDeclaration (token Function at ∷ name_token place ∷ token LeftParen opened ∷ (ts ++ short_rest))
+    (declares_function place parameters (int_type 0) (name spot))
+short_function at place opened ts parameters ws = function_rule at place opened 0 0 0 0 ws (int_rule {at = 0}) (name_rule spot)
+
+module _ {State : Type 0} (expressions : Reader State Tree) (right : ReadsExpressions expressions) where
+  completed_declaration : {d : ℕ} {ts : List Token} → FrontDeclaration d ts → CompletedDeclaration d ts
+  completed_declaration (input_word at) =
       record {
-        rest = c.rest ++ (token (sign o) 0 ∷ leaf ∷ []);
-        tree = binary 0 o c.tree (name spot);
-        whole = along l (binary 0 o c.tree (name spot)) (simp append_assoc) (binary_rule below c.whole (name_rule spot));
+        rest = leaf ∷ token Colon 0 ∷ token Int 0 ∷ token Semicolon 0 ∷ [];
+        declaration = declares_input short;
+        whole = input_rule at spot 0 0 (int_rule {at = 0});
         shallow = omega arith;
       }
-  completed {l = l} (binary_right o at {ts = ts} {us = us} {left = a} below w h f) =
-      let c = completed f in
-      let k : depth c.tree ≤ _ = c.shallow in
+  completed_declaration (input_name at place) =
       record {
-        rest = c.rest;
-        tree = binary at o a c.tree;
-        whole = along l (binary at o a c.tree) (simp append_assoc) (binary_rule below w c.whole);
+        rest = token Colon 0 ∷ token Int 0 ∷ token Semicolon 0 ∷ [];
+        declaration = declares_input (typed place (int_type 0));
+        whole = input_rule at place 0 0 (int_rule {at = 0});
         shallow = omega arith;
       }
-  completed {l = l} (call_word {at = at} f) =
+  completed_declaration {d = d} (input_type at place colon {ts = ts} f) =
+      let c = types_are_read.completes d ts f in
+      let made : DeclarationTree = declares_input (typed place c.1) in
       record {
-        rest = token LeftParen 0 ∷ leaf ∷ token RightParen 0 ∷ [];
-        tree = call at f (both (name spot) none);
-        whole = call_rule {opened = 0} 0 (one_rule (name_rule spot));
+        rest = c.0 ++ (token Semicolon 0 ∷ []);
+        declaration = made;
+        whole = declared_as made (simp append_assoc) (input_rule at place colon 0 c.2);
+        shallow = c.3;
+      }
+  completed_declaration (function_word at) =
+      record {
+        rest = leaf ∷ token LeftParen 0 ∷ leaf ∷ token Colon 0 ∷ token Int 0 ∷ short_rest;
+        declaration = declares_function spot (short ∷ []) (int_type 0) (name spot);
+        whole = short_function at spot 0 (leaf ∷ token Colon 0 ∷ token Int 0 ∷ []) (short ∷ []) (one_parameter spot 0 (int_rule {at = 0}));
         shallow = omega arith;
       }
-  completed {l = l} (call_arguments {at = at} {opened = p} f {ts = ts} g) =
-      let c = completed_arguments g in
-      let k : depth_of_all c.trees ≤ _ = c.shallow in
+  completed_declaration (function_name at place) =
       record {
-        rest = c.rest ++ (token RightParen 0 ∷ []);
-        tree = call at f c.trees;
-        whole = along l (call at f c.trees) (simp append_assoc) (call_rule {opened = p} 0 c.whole);
+        rest = token LeftParen 0 ∷ leaf ∷ token Colon 0 ∷ token Int 0 ∷ short_rest;
+        declaration = declares_function place (short ∷ []) (int_type 0) (name spot);
+        whole = short_function at place 0 (leaf ∷ token Colon 0 ∷ token Int 0 ∷ []) (short ∷ []) (one_parameter spot 0 (int_rule {at = 0}));
         shallow = omega arith;
       }
-  completed {l = l} (group_inner {at = at} {ts = ts} f) =
-      let c = completed f in
-      let k : depth c.tree ≤ _ = c.shallow in
+  completed_declaration (function_parameters at place opened {ts = ts} f) =
+      let c = completed_parameters f in
+      let h : parameters_depth c.parameters ≤ _ = c.shallow in
+      let least : 1 ≤ parameters_depth c.parameters = parameters_pos c.whole in
+      let made : DeclarationTree = declares_function place c.parameters (int_type 0) (name spot) in
       record {
-        rest = c.rest ++ (token RightParen 0 ∷ []);
-        tree = group at c.tree;
-        whole = along l (group at c.tree) (simp append_assoc) (group_rule 0 c.whole);
+        rest = c.rest ++ short_rest;
+        declaration = made;
+        whole = declared_as made (simp append_assoc) (short_function at place opened (ts ++ c.rest) c.parameters c.whole);
         shallow = omega arith;
       }
-  completed {l = l} (each_body {at = at} {ts = ts} f) =
-      let c = completed f in
-      let least : 1 ≤ depth c.tree = depth_pos c.tree in
-      let k : depth c.tree ≤ _ = c.shallow in
+  completed_declaration (function_closed at place opened closed {ts = ts} {parameters = parameters} ws k) =
+      let least : 1 ≤ parameters_depth parameters = parameters_pos ws in
+      let made : DeclarationTree = declares_function place parameters (int_type 0) (name spot) in
       record {
-        rest = c.rest ++ (token Colon 0 ∷ leaf ∷ token In 0 ∷ leaf ∷ token RightBrace 0 ∷ []);
-        tree = each at c.tree spot (name spot);
-        whole = along l (each at c.tree spot (name spot)) (simp append_assoc) (each_rule 0 spot 0 0 c.whole (name_rule spot));
+        rest = token Colon 0 ∷ token Int 0 ∷ token Equals 0 ∷ leaf ∷ token Semicolon 0 ∷ [];
+        declaration = made;
+        whole = declared_as made (simp append_assoc) (function_rule at place opened closed 0 0 0 ws (int_rule {at = 0}) (name_rule spot));
         shallow = omega arith;
       }
-  completed {l = l} (each_colon {at = at} c {ts = ts} {body = e} w h) =
-      let least : 1 ≤ depth e = depth_pos e in
+  completed_declaration {d = d} (function_result at place opened closed colon {ts = ts} {us = us} {parameters = parameters} ws k f) =
+      let c = types_are_read.completes d us f in
+      let h : type_depth c.1 ≤ d = c.3 in
+      let least : 1 ≤ type_depth c.1 = type_depth_pos c.1 in
+      let made : DeclarationTree = declares_function place parameters c.1 (name spot) in
       record {
-        rest = leaf ∷ token In 0 ∷ leaf ∷ token RightBrace 0 ∷ [];
-        tree = each at e spot (name spot);
-        whole = along l (each at e spot (name spot)) (simp append_assoc) (each_rule c spot 0 0 w (name_rule spot));
+        rest = c.0 ++ (token Equals 0 ∷ leaf ∷ token Semicolon 0 ∷ []);
+        declaration = made;
+        whole = declared_as made (simp append_assoc) (function_rule at place opened closed colon 0 0 ws c.2 (name_rule spot));
         shallow = omega arith;
       }
-  completed {l = l} (each_name {at = at} c place {ts = ts} {body = e} w h) =
-      let least : 1 ≤ depth e = depth_pos e in
+  completed_declaration {d = d} (function_body at place opened closed colon equals {ts = ts} {us = us} {vs = vs} {parameters = parameters} {result = result} ws k w m f) =
+      let c = right.is.completes d vs f in
+      let h : depth c.1 ≤ d = c.3 in
+      let made : DeclarationTree = declares_function place parameters result c.1 in
       record {
-        rest = token In 0 ∷ leaf ∷ token RightBrace 0 ∷ [];
-        tree = each at e place (name spot);
-        whole = along l (each at e place (name spot)) (simp append_assoc) (each_rule c place 0 0 w (name_rule spot));
-        shallow = omega arith;
-      }
-  completed {l = l} (each_source {at = at} c place i {ts = ts} {us = us} {body = e} w h f) =
-      let r = completed f in
-      let k : depth r.tree ≤ _ = r.shallow in
-      record {
-        rest = r.rest ++ (token RightBrace 0 ∷ []);
-        tree = each at e place r.tree;
-        whole = along l (each at e place r.tree) (simp append_assoc) (each_rule c place i 0 w r.whole);
+        rest = c.0 ++ (token Semicolon 0 ∷ []);
+        declaration = made;
+        whole = declared_as made (simp append_assoc) (function_rule at place opened closed colon equals 0 ws w c.2);
         shallow = omega arith;
       }
 
-  pub completed_arguments : {d : ℕ} {ts : List Token} → FrontArguments d ts → CompletedArguments d ts
-  completed_arguments (first_front f) =
-      let c = completed f in
-      let k : depth c.tree ≤ _ = c.shallow in
-      record { rest = c.rest; trees = both c.tree none; whole = one_rule c.whole; shallow = omega arith }
-  completed_arguments (next_front c {ts = ts} {us = us} {arguments = args} w h f) =
-      let r = completed f in
-      let k : depth r.tree ≤ _ = r.shallow in
-      record {
-        rest = r.rest;
-        trees = added args r.tree;
-        whole = subst (λ x. WholeArguments x (added args r.tree)) (simp append_assoc) (more_rule c w r.whole);
-        shallow = omega (arith, depth-added args r.tree);
-      }
+  declaration_pos : (declaration : DeclarationTree) → 1 ≤ declaration_depth declaration
+  declaration_pos (declares_input declared) = type_depth_pos declared.written
+  declaration_pos (declares_function place parameters result body) = let h : 1 ≤ type_depth result = type_depth_pos result in omega arith
 
-begun : (d : ℕ) (ts : List Token) → BeginsProgram d ts → Front 0 d ts
-begun d ts b =
-    let least : 1 ≤ depth b.1 = depth_pos b.1 in
-    let shallow : depth b.1 ≤ d = b.3 in
-    let a = whole_answer d 0 (ts ++ b.0) b.1 b.2 b.3 in
-    so_far d a.0 (ts ++ b.0) (omega arith) a.1 ts b.0 refl
+  program_completes : (d : ℕ) (ts : List Token) → FrontProgram d ts
+      → (rest : List Token) × (program : ProgramTree) × WholeProgram (ts ++ rest) program × (program_depth program ≤ d)
+  program_completes d all (in_declaration {ts = ts} {us = us} {done = done} ws k f) =
+      let c = completed_declaration f in
+      let h : declaration_depth c.declaration ≤ d = c.shallow in
+      let least : 1 ≤ declaration_depth c.declaration = declaration_pos c.declaration in
+      let deep : declarations_depth (done ++ c.declaration ∷ []) ≡ max (declarations_depth done) (declaration_depth c.declaration) = depth-declarations done c.declaration in
+      let made : ProgramTree = record { declarations = done ++ c.declaration ∷ []; expression = name spot } in (
+        c.rest ++ (leaf ∷ []),
+        made,
+        subst (λ x. WholeProgram x made) (simp append_assoc) (program_rule (more_declarations ws c.whole) (name_rule spot)),
+        omega arith,
+      )
+  program_completes d all (in_expression {ts = ts} {us = us} {done = done} ws k f) =
+      let c = right.is.completes d us f in
+      let h : depth c.1 ≤ d = c.3 in
+      let made : ProgramTree = record { declarations = done; expression = c.1 } in
+      (c.0, made, subst (λ x. WholeProgram x made) (sym (append_assoc ts us c.0)) (program_rule ws c.2), omega arith)
 
-pub fronts_begin : FrontsBeginPrograms
-fronts_begin d ts = (λ f. let c = completed f in (c.rest, c.tree, c.whole, c.shallow), begun d ts)
+  -- The reader of programs reads what the grammar says, where that of expressions does.
+  pub programs_are_read : IsReaderOfPrograms (programs expressions)
+  programs_are_read = record {
+    reads = λ d ts program w h. program_reads expressions right d ts program w h;
+    stands = λ d ts s least e. program_stands expressions right d ts s least e;
+    whole = λ d ts s program least e f. program_whole expressions right d ts s program least e f;
+    completes = λ d ts f. program_completes d ts f;
+    ends = λ s program t f follows. absurd follows;
+  }

@@ -1,145 +1,155 @@
--- The machine's answer is one that the grammar wants.
-use Rattle.std.proofs.Common.{◌≡◌, ℕ, max, ◌+◌, ◌≤◌, cond, leb, List, [], ◌∷◌, ◌++◌, Option, Some, None, Result, Ok, Err, refl, sym, ◌∙◌, ap, subst, arith, le-leb, append_assoc, inl, inr}
-use Rattle.std.proofs.lemmas.Bool.{leb-true, cases_Bool}
+-- The answer of a reader of programs is the one that the grammar wants, whatever the reader.
+use Rattle.std.proofs.Common.{◌≡◌, ℕ, ◌+◌, ◌≤◌, List, [], ◌∷◌, ◌++◌, Option, Some, None, Result, Ok, Err, refl, sym, ◌∙◌, ap, subst, arith, append_assoc}
 use Rattle.std.proofs.lemmas.List.{append-nil}
 use Rattle.snesl_lexer.specs.declared.token.Token.{Token}
 use Rattle.snesl_values.specs.declared.refusal.Refusal.{Refusal}
 use Rattle.snesl_values.specs.declared.refusal.Refusal.TheVariants.{Syntax}
-use Rattle.snesl_tree.specs.Tree.{Tree, depth}
-use Rattle.snesl_syntax.specs.Grammar.{Whole, Front, BeginsSoFar, Answers, accepted, wrong, too_deep, ended}
-use Rattle.snesl_syntax.specs.Machine.{Frame, State, start, after, Stop, unexpected, beyond_depth, Folded, reduce, Move, move, within, step, bind, go, closed, finish, floor, refusal_of, answer_from, answer}
-use Rattle.snesl_syntax.proofs.Runs.{go_append, goes_on, ends_with, whole_runs}
-use Rattle.snesl_syntax.proofs.Fronts.{front_runs}
-use Rattle.snesl_syntax.proofs.Stands.{Spells, spells_empty, Stands, stands_operand, stands_after, stands_opening, stands_binder, stands_binder_in, Reduced, reduce_stands, go_stands, stands_front, bind_ok}
+use Rattle.snesl_tree.specs.Tree.{ProgramTree}
+use Rattle.snesl_expressions.specs.Readers.{Stop, unexpected, beyond_depth, Reader, step, bind, go}
+use Rattle.snesl_expressions.proofs.Reading.{bind_ok, within_unexpected, within_deeper, goes_on, ends_with, go_more, go_front}
+use Rattle.snesl_syntax.specs.Grammar.{WholeProgram, FrontProgram, program_depth}
+use Rattle.snesl_syntax.specs.Answer.{at_end, refusal_of, answer_from, answer}
+use Rattle.snesl_syntax.specs.Parse.{BeginsSoFar, Answers, accepted, wrong, too_deep, ended}
+use Rattle.snesl_expressions.specs.Readers.{IsReaderOf}
 
--- what the first tokens begin
-pub read_front : (d : ℕ) (s : State) (ts : List Token) → 1 ≤ d → go d start ts ≡ Ok s → Front 0 d ts
-read_front d s ts least e = stands_front (go_stands ts {d = d} {s = start} {next = s} {ts = []} (stands_operand spells_empty least) e)
+abbrev pub IsReaderOfPrograms : {State : Type 0} → Reader State ProgramTree → Type 0
+IsReaderOfPrograms reader = IsReaderOf reader WholeProgram FrontProgram program_depth (λ kind. ⊥)
 
--- and what each of their beginnings begins
-pub so_far : (d : ℕ) (s : State) (ts : List Token) → 1 ≤ d → go d start ts ≡ Ok s → BeginsSoFar d ts
-so_far d s ts least e = λ a b same.
-    let f : go d start (a ++ b) ≡ Ok s = rw same at e in
-    let r = bind_ok (go d start a) (λ x. go d x b) s (sym (go_append d start a b) ∙ f) in
-    read_front d r.0 a least r.1
+module _ {State : Type 0} (reader : Reader State ProgramTree) (right : IsReaderOfPrograms reader) where
+  -- what is read begins a program, and so does each of its beginnings
+  pub so_far : (d : ℕ) (s : State) (ts : List Token) → 1 ≤ d → go reader d reader.start ts ≡ Ok s → BeginsSoFar d ts
+  so_far d s ts least e = λ a b same.
+      let f : go reader d reader.start (a ++ b) ≡ Ok s = rw same at e in
+      let r = go_front reader d reader.start s a b f in
+      right.stands d a r.0 least r.1
 
--- more depth changes no move
-within_more : (d D : ℕ) (m : Option Move) (r : State) → d ≤ D → within d m ≡ Ok r → within D m ≡ Ok r
-within_more d D None r h e = cc
-within_more d D (Some x) r h e =
-    elim (cases_Bool (leb x.want d)) [
-      | inl fits ↦
-          let same : ◌≡◌ {A = Result State Stop} (Ok x.next) (Ok r) = sym (ap (λ b. cond b (Ok x.next) (Err beyond_depth)) fits) ∙ e in
-          let le : x.want ≤ d = leb-true x.want d fits in
-          ap (λ b. cond b (Ok x.next) (Err beyond_depth)) (le-leb x.want D (omega arith)) ∙ same
-      | inr deep ↦
-          let no' : within D (Some x) ≡ Ok r = cc (ap (λ b. cond {A = Result State Stop} b (Ok x.next) (Err beyond_depth)) deep) in no'
-    ]
+  -- what begins a program within the depth is read
+  pub front_runs : (k d : ℕ) (ts : List Token) → k ≤ d → FrontProgram k ts → (s : State) × (go reader d reader.start ts ≡ Ok s)
+  front_runs k d ts h f =
+      let c = right.completes k ts f in
+      let r = right.reads d (ts ++ c.0) c.1 c.2 (let fits : program_depth c.1 ≤ k = c.3 in omega arith) in
+      let m = go_front reader d reader.start r.0 ts c.0 r.1 in
+      (m.0, m.1)
 
-pub go_more : (d D : ℕ) (s r : State) (ts : List Token) → d ≤ D → go d s ts ≡ Ok r → go D s ts ≡ Ok r
-go_more d D s r [] h e = e
-go_more d D s r (t ∷ ts) h e =
-    let b = bind_ok (step d s t) (λ x. go d x ts) r e in
-    ap (λ x. bind x (λ y. go D y ts)) (within_more d D (move s t.kind t.at) b.0 h b.1) ∙ go_more d D b.0 r ts h b.2
+  -- where a token is refused, no front goes on
+  pub no_front : (k d : ℕ) (s : State) (front : List Token) (t : Token) (stop : Stop)
+      → go reader d reader.start front ≡ Ok s → step reader d s t ≡ Err stop → k ≤ d → FrontProgram k (front ++ (t ∷ [])) → ⊥
+  no_front k d s front t stop e f h g =
+      let r = front_runs k d (front ++ (t ∷ [])) h g in
+      let both : bind (step reader d s t) (λ x. go reader d x []) ≡ Ok r.0 = sym (goes_on reader d reader.start s front (t ∷ []) e) ∙ r.1 in
+      let b = bind_ok (step reader d s t) (λ x. go reader d x []) r.0 both in
+      cc (f, b.1)
 
--- where a token is refused, no front goes on
-pub no_front : (d D : ℕ) (s : State) (front : List Token) (t : Token) (y : Stop)
-    → go D start front ≡ Ok s → step D s t ≡ Err y → d ≤ D → Front 0 d (front ++ (t ∷ [])) → ⊥
-no_front d D s front t y e f h g =
-    let r = front_runs g D [] (omega arith) (omega arith) in
-    let both : bind (step D s t) (λ x. go D x []) ≡ Ok r.0 = sym (goes_on D start s front (t ∷ []) e) ∙ r.1 in
-    let b = bind_ok (step D s t) (λ x. go D x []) r.0 both in
-    cc (f, b.1)
+  -- a token that wants more depth begins deeper programs
+  deeper_front : (d : ℕ) (s : State) (front : List Token) (t : Token) → 1 ≤ d → go reader d reader.start front ≡ Ok s
+      → step reader d s t ≡ Err beyond_depth → (deeper : ℕ) × FrontProgram deeper (front ++ (t ∷ []))
+  deeper_front d s front t least e f =
+      let m = within_deeper d (reader.move s t) f in (
+        m.0,
+        right.stands m.0 (front ++ (t ∷ [])) m.1 (let h : d ≤ m.0 = m.2 in omega arith)
+            (ends_with reader m.0 reader.start s m.1 front t (go_more reader d m.0 reader.start s front m.2 e) m.3),
+      )
 
-pub within_unexpected : (d D : ℕ) (m : Option Move) → within d m ≡ Err unexpected → within D m ≡ Err unexpected
-within_unexpected d D None e = refl
-within_unexpected d D (Some x) e =
-    elim (cases_Bool (leb x.want d)) [
-      | inl fits ↦ absurd (let no' : ⊥ = cc (ap (λ b. cond {A = Result State Stop} b (Ok x.next) (Err beyond_depth)) fits) in no')
-      | inr deep ↦ absurd (let no' : ⊥ = cc (ap (λ b. cond {A = Result State Stop} b (Ok x.next) (Err beyond_depth)) deep) in no')
-    ]
+  refused : (d len : ℕ) (s : State) (front rest : List Token) (t : Token) (stop : Stop) → 1 ≤ d → go reader d reader.start front ≡ Ok s
+      → step reader d s t ≡ Err stop → Answers d len (front ++ (t ∷ rest)) (Err (refusal_of stop t.at))
+  refused d len s front rest t unexpected least e f =
+      wrong front rest t (so_far d s front least e)
+      (λ k g. no_front k (k + d) s front t unexpected (go_more reader d (k + d) reader.start s front (omega arith) e)
+      (within_unexpected d (k + d) (reader.move s t) f) (omega arith) g)
+  refused d len s front rest t beyond_depth least e f =
+      let m = deeper_front d s front t least e f in
+      too_deep front rest t (so_far d s front least e) (no_front d d s front t beyond_depth e f (omega arith)) m.0 m.1
 
--- a depth that is too much for one bound is right for another
-pub deeper : (d : ℕ) (m : Option Move) → within d m ≡ Err beyond_depth → (D : ℕ) × (r : State) × (d ≤ D) × (within D m ≡ Ok r)
-deeper d None e = absurd (let no' : ⊥ = cc in no')
-deeper d (Some x) e =
-    (max d x.want, x.next, omega arith, ap (λ b. cond b (Ok x.next) (Err beyond_depth)) (le-leb x.want (max d x.want) (omega arith)))
+  -- the answer where the tokens end
+  pub finished : (d len : ℕ) (ts : List Token) (s : State) → 1 ≤ d → go reader d reader.start ts ≡ Ok s
+      → Answers d len ts (at_end len (reader.finished s))
+  finished d len ts s least e = by_form (reader.finished s) refl
+    where
+      by_form : (found : Option ProgramTree) → reader.finished s ≡ found → Answers d len ts (at_end len found)
+      by_form (Some program) f = let w = right.whole d ts s program least e f in accepted w.0 w.1
+      by_form None f =
+          ended (so_far d s ts least e)
+          (λ program w h. let r = right.reads d ts program w h in
+          let same : r.0 ≡ s = cc (r.1, e) in
+          let there : reader.finished s ≡ Some program = rw same at r.2 in
+          cc (there, f))
 
-refused : (d len : ℕ) (s : State) (front rest : List Token) (t : Token) (y : Stop) → 1 ≤ d → go d start front ≡ Ok s
-    → step d s t ≡ Err y → Answers d len (front ++ (t ∷ rest)) (Err (refusal_of y t.at))
-refused d len s front rest t unexpected least e f =
-    wrong front rest t (so_far d s front least e)
-    (λ k g. no_front k (k + d) s front t unexpected (go_more d (k + d) start s front (omega arith) e)
-    (within_unexpected d (k + d) (move s t.kind t.at) f) (omega arith) g)
-refused d len s front rest t beyond_depth least e f =
-    let m = deeper d (move s t.kind t.at) f in
-    too_deep front rest t (so_far d s front least e) (no_front d d s front t beyond_depth e f (omega arith)) m.0
-    (read_front m.0 m.1 (front ++ (t ∷ [])) (omega arith)
-    (ends_with m.0 start s m.1 front t (go_more d m.0 start s front m.2 e) m.3))
+  answers_from : (rest : List Token) (d len : ℕ) (s : State) (front : List Token) → 1 ≤ d → go reader d reader.start front ≡ Ok s
+      → Answers d len (front ++ rest) (answer reader d len s rest)
+  answers_from [] d len s front least e =
+      subst (λ x. Answers d len x (at_end len (reader.finished s))) (sym (append-nil front)) (finished d len front s least e)
+  answers_from (t ∷ rest) d len s front least e =
+      go_by (λ r f. answers_from rest d len r (front ++ (t ∷ [])) least (ends_with reader d reader.start s r front t e f)) (step reader d s t) refl
+    where
+      go_by : ((r : State) → step reader d s t ≡ Ok r → Answers d len ((front ++ (t ∷ [])) ++ rest) (answer reader d len r rest))
+          → (x : Result State Stop) → step reader d s t ≡ x
+          → Answers d len (front ++ (t ∷ rest)) (answer_from x t.at (λ r. answer reader d len r rest))
+      go_by again (Ok r) f = subst (λ x. Answers d len x (answer reader d len r rest)) (append_assoc front (t ∷ []) rest) (again r f)
+      go_by again (Err stop) f = refused d len s front rest t stop least e f
 
--- what is whole is accepted
-pub whole_answer : (d len : ℕ) (ts : List Token) (e : Tree) → Whole 0 ts e → depth e ≤ d
-    → (s : State) × (go d start ts ≡ Ok s) × (finish len s ≡ Ok e)
-whole_answer d len ts e w h =
-    let r = whole_runs w d [] (omega arith) (omega arith) in
-    (after r.s' r.e', r.runs, ap (λ x. closed len x.frames x.last) (r.folds 0 (omega arith)))
+  -- The reader's answer is one that the grammar wants.
+  pub answers : (d len : ℕ) (ts : List Token) → 1 ≤ d → Answers d len ts (answer reader d len reader.start ts)
+  answers d len ts least = answers_from ts d len reader.start [] least refl
 
-not_whole : (d len : ℕ) (ts : List Token) (s : State) (y : Refusal) → go d start ts ≡ Ok s → finish len s ≡ Err y
-    → (e : Tree) → Whole 0 ts e → depth e ≤ d → ⊥
-not_whole d len ts s y e f tree w h =
-    let a = whole_answer d len ts tree w h in
-    let same : a.0 ≡ s = cc (a.1, e) in
-    let both : finish len s ≡ Ok tree = rw same at a.2 in
-    cc (both, f)
+  -- what was read is answered by what is left
+  answer_after : (ts us : List Token) (d len : ℕ) (s r : State) → go reader d s ts ≡ Ok r → answer reader d len s (ts ++ us) ≡ answer reader d len r us
+  answer_after [] us d len s r e = let same : s ≡ r = cc in ap (λ x. answer reader d len x us) same
+  answer_after (t ∷ ts) us d len s r e =
+      let b = bind_ok (step reader d s t) (λ x. go reader d x ts) r e in
+      ap (λ x. answer_from x t.at (λ y. answer reader d len y (ts ++ us))) b.1 ∙ answer_after ts us d len b.0 r b.2
 
-empty_front : {d : ℕ} {ts : List Token} → Spells d [] ts → ts ≡ []
-empty_front spells_empty = refl
+  -- the answer where all tokens were read
+  answer_at_end : (ts : List Token) (d len : ℕ) (s : State) → go reader d reader.start ts ≡ Ok s
+      → answer reader d len reader.start ts ≡ at_end len (reader.finished s)
+  answer_at_end ts d len s e = ap (answer reader d len reader.start) (sym (append-nil ts)) ∙ answer_after ts [] d len reader.start s e
 
--- the answer at the end, by what is open when all is closed that can be
-closing : (d len : ℕ) (all : List Token) (s : List Frame) (e : Tree) → Reduced d 0 all s e
-    → ((y : Refusal) → closed len s e ≡ Err y → Answers d len all (Err (Syntax len)))
-    → Answers d len all (closed len s e)
-closing d len all [] e R none =
-    let same : R.back ≡ all = ap (λ x. x ++ R.back) (sym (empty_front R.spelled)) ∙ R.same in
-    accepted (subst (λ x. Whole 0 x e) same R.is) (let h : depth e + 0 ≤ d = R.fits in omega arith)
-closing d len all (f ∷ s) e R none = none (Syntax len) refl
+  -- what comes of a token that no front may have
+  by_step : (d len : ℕ) (s : State) (front rest : List Token) (t : Token) (stop : Stop) → go reader d reader.start front ≡ Ok s
+      → ((x : Result State Stop) → step reader d s t ≡ x → x ≡ Err stop)
+      → Err (refusal_of stop t.at) ≡ answer reader d len reader.start (front ++ (t ∷ rest))
+  by_step d len s front rest t stop e h =
+      sym (answer_after front (t ∷ rest) d len reader.start s e
+      ∙ ap (λ x. answer_from x t.at (λ r. answer reader d len r rest)) (h (step reader d s t) refl))
 
-pub finished : (d len : ℕ) (ts : List Token) (s : State) → 1 ≤ d → go d start ts ≡ Ok s → Stands d s ts → Answers d len ts (finish len s)
-finished d len ts s least e (stands_operand h room) = ended (so_far d s ts least e) (not_whole d len ts s (Syntax len) e refl)
-finished d len ts s least e (stands_opening h room) = ended (so_far d s ts least e) (not_whole d len ts s (Syntax len) e refl)
-finished d len ts s least e (stands_binder c h w room) = ended (so_far d s ts least e) (not_whole d len ts s (Syntax len) e refl)
-finished d len ts s least e (stands_binder_in c place h w room) = ended (so_far d s ts least e) (not_whole d len ts s (Syntax len) e refl)
-finished d len ts (after s tree) least e (stands_after {ts = vs} {us = us} h w fits) =
-    let r : Folded = reduce 0 s tree in
-    closing d len (vs ++ us) r.frames r.last (reduce_stands h 0 (w (floor s)) (w 0) fits)
-    (λ y f. ended (so_far d (after s tree) (vs ++ us) least e) (not_whole d len (vs ++ us) (after s tree) y e f))
+  stop_wrong : (d : ℕ) (s : State) (front : List Token) (t : Token) → 1 ≤ d → go reader d reader.start front ≡ Ok s
+      → ((k : ℕ) → ¬ FrontProgram k (front ++ (t ∷ []))) → (x : Result State Stop) → step reader d s t ≡ x → x ≡ Err unexpected
+  stop_wrong d s front t least e none (Ok r) f =
+      absurd (none d (right.stands d (front ++ (t ∷ [])) r least (ends_with reader d reader.start s r front t e f)))
+  stop_wrong d s front t least e none (Err unexpected) f = refl
+  stop_wrong d s front t least e none (Err beyond_depth) f = let m = deeper_front d s front t least e f in absurd (none m.0 m.1)
 
-pub answers_from : (rest : List Token) (d len : ℕ) (s : State) (front : List Token) → 1 ≤ d → go d start front ≡ Ok s
-    → Answers d len (front ++ rest) (answer d len s rest)
-answers_from [] d len s front least e =
-    subst (λ x. Answers d len x (finish len s)) (sym (append-nil front))
-    (finished d len front s least e (go_stands front {d = d} {s = start} {next = s} {ts = []} (stands_operand spells_empty least) e))
-answers_from (t ∷ rest) d len s front least e =
-    go_by (λ r f. answers_from rest d len r (front ++ (t ∷ [])) least (ends_with d start s r front t e f)) (step d s t) refl
-  where
-    go_by : ((r : State) → step d s t ≡ Ok r → Answers d len ((front ++ (t ∷ [])) ++ rest) (answer d len r rest))
-        → (x : Result State Stop) → step d s t ≡ x → Answers d len (front ++ (t ∷ rest)) (answer_from x t.at (λ r. answer d len r rest))
-    go_by again (Ok r) f = subst (λ x. Answers d len x (answer d len r rest)) (append_assoc front (t ∷ []) rest) (again r f)
-    go_by again (Err y) f = refused d len s front rest t y least e f
+  stop_deep : (d : ℕ) (s : State) (front : List Token) (t : Token) → 1 ≤ d → go reader d reader.start front ≡ Ok s
+      → (¬ FrontProgram d (front ++ (t ∷ []))) → (k : ℕ) → FrontProgram k (front ++ (t ∷ []))
+      → (x : Result State Stop) → step reader d s t ≡ x → x ≡ Err beyond_depth
+  stop_deep d s front t least e never k there (Ok r) f =
+      absurd (never (right.stands d (front ++ (t ∷ [])) r least (ends_with reader d reader.start s r front t e f)))
+  stop_deep d s front t least e never k there (Err unexpected) f =
+      absurd (no_front k (k + d) s front t unexpected (go_more reader d (k + d) reader.start s front (omega arith) e)
+      (within_unexpected d (k + d) (reader.move s t) f) (omega arith) there)
+  stop_deep d s front t least e never k there (Err beyond_depth) f = refl
 
--- The machine's answer is one that the grammar wants.
-pub answers : (d len : ℕ) (ts : List Token) → 1 ≤ d → Answers d len ts (answer d len start ts)
-answers d len ts least = answers_from ts d len start [] least refl
+  -- where the tokens are no program, the reader has none
+  no_form : (d len : ℕ) (ts : List Token) (s : State) → 1 ≤ d → go reader d reader.start ts ≡ Ok s
+      → ((program : ProgramTree) → WholeProgram ts program → program_depth program ≤ d → ⊥)
+      → (found : Option ProgramTree) → reader.finished s ≡ found → Err (Syntax len) ≡ at_end len found
+  no_form d len ts s least e none (Some program) f = let w = right.whole d ts s program least e f in absurd (none program w.0 w.1)
+  no_form d len ts s least e none None f = refl
 
--- what was read is answered by what is left
-pub answer_after : (ts us : List Token) (d len : ℕ) (s r : State) → go d s ts ≡ Ok r → answer d len s (ts ++ us) ≡ answer d len r us
-answer_after [] us d len s r e = let same : s ≡ r = cc in ap (λ x. answer d len x us) same
-answer_after (t ∷ ts) us d len s r e =
-    let b = bind_ok (step d s t) (λ x. go d x ts) r e in
-    ap (λ x. answer_from x t.at (λ y. answer d len y (ts ++ us))) b.1 ∙ answer_after ts us d len b.0 r b.2
+  runs_so_far : (d : ℕ) (ts : List Token) → BeginsSoFar d ts → (s : State) × (go reader d reader.start ts ≡ Ok s)
+  runs_so_far d ts so = front_runs d d ts (omega arith) (so ts [] (sym (append-nil ts)))
 
--- A whole expression within the depth is accepted, as this tree.
-pub whole_is_accepted : (d len : ℕ) (ts : List Token) (e : Tree) → Whole 0 ts e → depth e ≤ d → answer d len start ts ≡ Ok e
-whole_is_accepted d len ts e w h =
-    let a = whole_answer d len ts e w h in
-    ap (answer d len start) (sym (append-nil ts)) ∙ answer_after ts [] d len start a.0 a.1 ∙ a.2
+  -- There is one answer alone.
+  pub one_answer : {d len : ℕ} {ts : List Token} {found : Result ProgramTree Refusal} → Answers d len ts found → 1 ≤ d
+      → found ≡ answer reader d len reader.start ts
+  one_answer {d = d} {len = len} {ts = ts} (accepted {program = program} w h) least =
+      let r = right.reads d ts program w h in
+      sym (answer_at_end ts d len r.0 r.1 ∙ ap (at_end len) r.2)
+  one_answer {d = d} {len = len} (wrong front rest t so none) least =
+      let s = runs_so_far d front so in
+      by_step d len s.0 front rest t unexpected s.1 (stop_wrong d s.0 front t least s.1 none)
+  one_answer {d = d} {len = len} (too_deep front rest t so never k deep) least =
+      let s = runs_so_far d front so in
+      by_step d len s.0 front rest t beyond_depth s.1 (stop_deep d s.0 front t least s.1 never k deep)
+  one_answer {d = d} {len = len} {ts = ts} (ended so none) least =
+      let s = runs_so_far d ts so in
+      no_form d len ts s.0 least s.1 none (reader.finished s.0) refl ∙ sym (answer_at_end ts d len s.0 s.1)

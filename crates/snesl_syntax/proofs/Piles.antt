@@ -1,70 +1,47 @@
--- The open forms in a vector, whose last is the innermost.
-use Rattle.std.proofs.Common.{◌≡◌, ℕ, suc, ◌+◌, ◌≤◌, ◌<◌, List, [], ◌∷◌, ◌++◌, length, refl, sym, ap, ◌∙◌, arith}
-use Rattle.snesl_tree.specs.declared.operator.Operator.{Operator}
-use Rattle.snesl_syntax.specs.declared.measured.Measured.{Measured}
-use Rattle.snesl_syntax.specs.declared.machine.Form.{Form}
-use Rattle.snesl_syntax.specs.declared.machine.Form.TheVariants.{Binary, Call, Group, Body, Source}
-use Rattle.snesl_tree.specs.Tree.{Tree, binary}
-use Rattle.snesl_syntax.specs.Operators.{level}
-use Rattle.snesl_tree.specs.View.{tree_of}
-use Rattle.std.proofs.Common.{cond, Ok, Err, le-leb, IsTrue, false, inl, inr}
-use Rattle.std.proofs.lemmas.Bool.{lt-leb, cases_lt}
-use Rattle.snesl_syntax.specs.Limits.{greatest_depth}
-use Rattle.snesl_syntax.specs.Machine.{Frame, reduce, State, beyond_depth, within, open_move}
-use Rattle.snesl_syntax.specs.Parsing.{frame_of, piled, frames_of}
-use Rattle.snesl_syntax.proofs.Runs.{reduce_on, reduce_stop}
+-- The open types in a vector, whose last is the innermost.
+use Rattle.std.proofs.Common.{◌≡◌, suc, ◌+◌, ◌≤◌, ◌<◌, List, [], ◌∷◌, ◌++◌, length, None, Ok, Err, refl, ap, ◌∙◌, arith, cond, le-leb}
+use Rattle.std.proofs.lemmas.Bool.{lt-leb}
+use Rattle.snesl_tree.specs.Tree.{TypeTree}
+use Rattle.snesl_expressions.specs.Readers.{beyond_depth, within}
+use Rattle.snesl_syntax.specs.declared.types.TypeForm.{TypeForm}
+use Rattle.snesl_expressions.specs.Limits.{greatest_depth}
+use Rattle.snesl_syntax.specs.Types.{TypeFrame, type_begins, type_ended, open_type, finished_type}
+use Rattle.snesl_syntax.specs.TypeMachine.{frame_of, piled, frames_of}
 
-piled-push : (fs : List Form) (f : Form) (below : List Frame) → piled (fs ++ f ∷ []) below ≡ frame_of f ∷ piled fs below
+piled-push : (fs : List TypeForm) (f : TypeForm) (below : List TypeFrame) → piled (fs ++ f ∷ []) below ≡ frame_of f ∷ piled fs below
 piled-push [] f below = refl
 piled-push (x ∷ fs) f below = piled-push fs f (frame_of x ∷ below)
 
-pub frames_of-push : (fs : List Form) (f : Form) → frames_of (fs ++ f ∷ []) ≡ frame_of f ∷ frames_of fs
+pub frames_of-push : (fs : List TypeForm) (f : TypeForm) → frames_of (fs ++ f ∷ []) ≡ frame_of f ∷ frames_of fs
 frames_of-push fs f = piled-push fs f []
 
-length-piled : (fs : List Form) (below : List Frame) → length (piled fs below) ≡ length fs + length below
+length-piled : (fs : List TypeForm) (below : List TypeFrame) → length (piled fs below) ≡ length fs + length below
 length-piled [] below = omega arith
 length-piled (x ∷ fs) below = let h = length-piled fs (frame_of x ∷ below) in omega arith
 
-pub length-frames_of : (fs : List Form) → length (frames_of fs) ≡ length fs
+length-frames_of : (fs : List TypeForm) → length (frames_of fs) ≡ length fs
 length-frames_of fs = let h = length-piled fs [] in omega arith
 
-pub closes_binary : (l : ℕ) (fs : List Form) (at : ℕ) (op : Operator) (left : Measured) (e : Tree) → l ≤ level op
-    → reduce l (frames_of (fs ++ Binary at op left ∷ [])) e ≡ reduce l (frames_of fs) (binary at op (tree_of left.expr) e)
-closes_binary l fs at op left e h =
-    ap (λ s. reduce l s e) (frames_of-push fs (Binary at op left)) ∙ reduce_on l (frames_of fs) op at (tree_of left.expr) e h
+-- the frames where the last form was taken
+pub popped : (all rest : List TypeForm) (form known : TypeForm) → all ≡ rest ++ form ∷ [] → form ≡ known → frames_of all ≡ frame_of known ∷ frames_of rest
+popped all rest form known e f = ap frames_of e ∙ frames_of-push rest form ∙ ap (λ x. frame_of x ∷ frames_of rest) f
 
-pub keeps_binary : (l : ℕ) (fs : List Form) (at : ℕ) (op : Operator) (left : Measured) (e : Tree) → level op < l
-    → reduce l (frames_of (fs ++ Binary at op left ∷ [])) e ≡ record { frames = frames_of (fs ++ Binary at op left ∷ []); last = e }
-keeps_binary l fs at op left e h =
-    ap (λ s. reduce l s e) (frames_of-push fs (Binary at op left))
-    ∙ reduce_stop l (frame_of (Binary at op left) ∷ frames_of fs) e h
-    ∙ ap (λ s. record { frames = s; last = e }) (sym (frames_of-push fs (Binary at op left)))
+pub has_room : (fs : List TypeForm) (frame : TypeFrame) → suc (length fs) < greatest_depth
+    → within greatest_depth (open_type (frames_of fs) frame) ≡ Ok (type_begins (frame ∷ frames_of fs))
+has_room fs frame h =
+    ap (λ b. cond b (Ok (type_begins (frame ∷ frames_of fs))) (Err beyond_depth))
+    (le-leb (suc (suc (length (frames_of fs)))) greatest_depth (omega (arith, length-frames_of fs)))
 
-stays : (l : ℕ) (s : List Frame) (f : Form) (e : Tree) → ((at : ℕ) (op : Operator) (left : Measured) → f ≡ Binary at op left → ⊥)
-    → reduce l (frame_of f ∷ s) e ≡ record { frames = frame_of f ∷ s; last = e }
-stays l s (Binary at op left) e no_binary = absurd (no_binary at op left refl)
-stays l s (Call at f given) e no_binary = refl
-stays l s (Group at) e no_binary = refl
-stays l s (Body at) e no_binary = refl
-stays l s (Source at body place) e no_binary = refl
+pub has_no_room : (fs : List TypeForm) (frame : TypeFrame) → greatest_depth ≤ suc (length fs)
+    → within greatest_depth (open_type (frames_of fs) frame) ≡ Err beyond_depth
+has_no_room fs frame h =
+    ap (λ b. cond b (Ok (type_begins (frame ∷ frames_of fs))) (Err beyond_depth))
+    (lt-leb (suc (suc (length (frames_of fs)))) greatest_depth (omega (arith, length-frames_of fs)))
 
-pub keeps_other : (l : ℕ) (fs : List Form) (f : Form) (e : Tree) → ((at : ℕ) (op : Operator) (left : Measured) → f ≡ Binary at op left → ⊥)
-    → reduce l (frames_of (fs ++ f ∷ [])) e ≡ record { frames = frames_of (fs ++ f ∷ []); last = e }
-keeps_other l fs f e no_binary =
-    ap (λ s. reduce l s e) (frames_of-push fs f) ∙ stays l (frames_of fs) f e no_binary
-    ∙ ap (λ s. record { frames = s; last = e }) (sym (frames_of-push fs f))
+still_open : (frames : List TypeFrame) (last : TypeTree) → 0 < length frames → finished_type (type_ended frames last) ≡ None
+still_open [] last h = absurd (omega arith)
+still_open (f ∷ frames) last h = refl
 
--- what is not below is at least as much
-pub at_least : (m n : ℕ) → (m < n → IsTrue false) → n ≤ m
-at_least m n h = elim (cases_lt m n) [
-  | inl less ↦ absurd (let no : ⊥ = cc (h less) in no)
-  | inr more ↦ more
-]
-
-pub has_room : (fs : List Form) (next : State) → suc (length fs) < greatest_depth → within greatest_depth (open_move (frames_of fs) next) ≡ Ok next
-has_room fs next h =
-    ap (λ b. cond b (Ok next) (Err beyond_depth)) (le-leb (suc (suc (length (frames_of fs)))) greatest_depth (omega (arith, length-frames_of fs)))
-
-pub has_no_room : (fs : List Form) (next : State) → greatest_depth ≤ suc (length fs) → within greatest_depth (open_move (frames_of fs) next) ≡ Err beyond_depth
-has_no_room fs next h =
-    ap (λ b. cond b (Ok next) (Err beyond_depth)) (lt-leb (suc (suc (length (frames_of fs)))) greatest_depth (omega (arith, length-frames_of fs)))
+-- a type inside an open one is not whole
+pub not_whole : (fs : List TypeForm) (last : TypeTree) → 0 < length fs → finished_type (type_ended (frames_of fs) last) ≡ None
+not_whole fs last h = still_open (frames_of fs) last (omega (arith, length-frames_of fs))

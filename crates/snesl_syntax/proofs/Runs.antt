@@ -1,192 +1,208 @@
--- A whole expression is read, and closing its operators gives its tree.
-use Rattle.std.proofs.Common.{◌≡◌, ℕ, suc, max, ◌+◌, ◌≤◌, cond, List, [], ◌∷◌, ◌++◌, length, Some, Ok, Err, refl, ◌∙◌, ap, arith, le-leb}
-use Rattle.std.proofs.lemmas.Bool.{lt-leb}
-use Rattle.snesl_lexer.specs.declared.token.Kind.TheVariants.{Integer, In, LeftParen, RightParen, LeftBrace, RightBrace, Colon, Comma}
+-- A whole program is read, where expressions are.
+use Rattle.std.proofs.Common.{◌≡◌, ℕ, max, ◌≤◌, List, [], ◌∷◌, ◌++◌, Some, None, Ok, refl, ◌∙◌, ap, arith}
+use Rattle.snesl_lexer.specs.declared.token.Kind.TheVariants.{Input, Function, LeftParen, RightParen, Colon, Semicolon, Comma, Equals}
 use Rattle.snesl_lexer.specs.declared.token.Token.{Token}
-use Rattle.snesl_tree.specs.declared.operator.Operator.{Operator}
-use Rattle.snesl_tree.specs.declared.operator.Operator.TheVariants.{Add, Subtract, Multiply}
-use Rattle.snesl_tree.specs.declared.operator.Builtin.{Builtin}
-use Rattle.snesl_tree.specs.declared.operator.Builtin.TheVariants as builtins
-use Rattle.snesl_tree.specs.Tree.{Tree, Trees, integer, name, binary, call, group, each, none, both, depth, depth_of_all}
-use Rattle.snesl_syntax.specs.Operators.{level, sign, word}
-use Rattle.snesl_syntax.specs.Grammar.{added}
-use Rattle.snesl_syntax.specs.Grammar.{token, name_token, Whole, integer_rule, name_rule, binary_rule, call_rule, group_rule, each_rule, WholeArguments, one_rule, more_rule}
-use Rattle.snesl_syntax.specs.Machine.{Frame, in_binary, in_call, in_group, in_body, in_source, State, operand, after, opening, binder, binder_in, beyond_depth, reduce, infix_move, paren_move, comma_move, colon_move, brace_move, free, move, within, step, bind, go, floor}
+use Rattle.snesl_tree.specs.declared.span.Span.{Span}
+use Rattle.snesl_tree.specs.Tree.{Tree, depth, TypeTree, type_depth, Typed, DeclarationTree, declares_input, declares_function, ProgramTree}
+use Rattle.snesl_expressions.specs.Grammar.{token, name_token, Whole, Front}
+use Rattle.snesl_expressions.specs.Readers.{free, Reader, step, go}
+use Rattle.snesl_expressions.proofs.Reading.{bind_ok, within_ok, fits_step, goes_on, steps_on, ends_with}
+use Rattle.snesl_syntax.specs.Types.{WholeType, TypeState, types}
+use Rattle.snesl_syntax.specs.Grammar.{typed, parameters_depth, declaration_depth, declarations_depth, program_depth, WholeParameters, one_parameter, more_parameters, WholeDeclaration, input_rule, function_rule, WholeDeclarations, no_declarations, more_declarations, WholeProgram, program_rule}
+use Rattle.snesl_syntax.specs.Programs.{TypeOf, of_input, of_parameter, of_result, Header, ProgramState, between, awaits_input, awaits_input_colon, awaits_function, awaits_open, awaits_parameter, awaits_parameter_colon, awaits_result, in_type, in_body, in_final, carried, or_else, when_whole, body_end, type_end, fixed_move, with_expression, finished_program, programs}
+use Rattle.snesl_expressions.specs.Readers.{IsReaderOf}
+use Rattle.snesl_syntax.proofs.Moves.{free_step, go_carried}
+use Rattle.snesl_syntax.proofs.TypesRead.{types_are_read}
 
-pub go_append : (d : ℕ) (s : State) (ts us : List Token) → go d s (ts ++ us) ≡ bind (go d s ts) (λ r. go d r us)
-go_append d s [] us = refl
-go_append d s (t ∷ ts) us =
-    elim (step d s t) as (λ x. bind x (λ r. go d r (ts ++ us)) ≡ bind (bind x (λ r. go d r ts)) (λ r. go d r us))
-    [ Ok r ↦ go_append d r ts us | Err e ↦ refl ]
+pub depth-parameters : (given : List Typed) (last : Typed) → parameters_depth (given ++ last ∷ []) ≡ max (parameters_depth given) (type_depth last.written)
+depth-parameters [] last = omega arith
+depth-parameters (x ∷ given) last =
+    let h : parameters_depth (given ++ last ∷ []) ≡ max (parameters_depth given) (type_depth last.written) = depth-parameters given last in omega arith
 
--- reading on
-pub goes_on : (d : ℕ) (s r : State) (ts us : List Token) → go d s ts ≡ Ok r → go d s (ts ++ us) ≡ go d r us
-goes_on d s r ts us e = go_append d s ts us ∙ ap (λ x. bind x (λ r. go d r us)) e
+pub depth-declarations : (given : List DeclarationTree) (last : DeclarationTree)
+    → declarations_depth (given ++ last ∷ []) ≡ max (declarations_depth given) (declaration_depth last)
+depth-declarations [] last = omega arith
+depth-declarations (x ∷ given) last =
+    let h : declarations_depth (given ++ last ∷ []) ≡ max (declarations_depth given) (declaration_depth last) = depth-declarations given last in omega arith
 
-pub steps_on : (d : ℕ) (s r : State) (t : Token) (ts : List Token) → step d s t ≡ Ok r → go d s (t ∷ ts) ≡ go d r ts
-steps_on d s r t ts e = ap (λ x. bind x (λ r. go d r ts)) e
+-- the reader of expressions reads them, and takes no first token of a declaration for one
+pub record ReadsExpressions {State : Type 0} (expressions : Reader State Tree) : Type 0 where
+  pub is : IsReaderOf expressions (Whole 0) (Front 0) depth (λ kind. kind ≡ Semicolon)
+  pub no_input : (at : ℕ) → expressions.move expressions.start (token Input at) ≡ None
+  pub no_function : (at : ℕ) → expressions.move expressions.start (token Function at) ≡ None
 
-pub depth_pos : (e : Tree) → 1 ≤ depth e
-depth_pos (integer at value) = omega arith
-depth_pos (name place) = omega arith
-depth_pos (binary at op a b) = omega arith
-depth_pos (call at f args) = omega arith
-depth_pos (group at e) = omega arith
-depth_pos (each at e place s) = omega arith
+module _ {State : Type 0} (expressions : Reader State Tree) (right : ReadsExpressions expressions) where
+  abbrev reader : Reader (ProgramState State) ProgramTree
+  reader = programs expressions
 
--- a step that is within the depth
-pub fits_step : (d : ℕ) (s next : State) (t : Token) (want : ℕ)
-    → move s t.kind t.at ≡ Some (record { want = want; next = next }) → want ≤ d → step d s t ≡ Ok next
-fits_step d s next t want e h = ap (within d) e ∙ ap (λ b. cond b (Ok next) (Err beyond_depth)) (le-leb want d h)
+  -- the token behind a whole type ends it
+  type_end_step : (d : ℕ) (owner : TypeOf) (s : TypeState) (written : TypeTree) (t : Token) (next : ProgramState State)
+      → types.finished s ≡ Some written → type_end expressions owner t.kind written ≡ free next → step reader d (in_type owner s) t ≡ Ok next
+  type_end_step d owner s written t next f e =
+      free_step reader d (in_type owner s) next t
+      (ap (λ m. or_else (carried (in_type owner) m) (when_whole (types.finished s) (type_end expressions owner t.kind))) (types_are_read.ends s written t f tt)
+      ∙ ap (λ m. when_whole m (type_end expressions owner t.kind)) f ∙ e)
 
-pub reduce_stop : (l : ℕ) (s : List Frame) (e : Tree) → floor s ≤ l → reduce l s e ≡ record { frames = s; last = e }
-reduce_stop l [] e h = refl
-reduce_stop l (in_binary at o a ∷ s) e h =
-    ap (λ b. cond b (reduce l s (binary at o a e)) (record { frames = in_binary at o a ∷ s; last = e })) (lt-leb l (level o) h)
-reduce_stop l (in_call at f args ∷ s) e h = refl
-reduce_stop l (in_group at ∷ s) e h = refl
-reduce_stop l (in_body at ∷ s) e h = refl
-reduce_stop l (in_source at b place ∷ s) e h = refl
+  -- a semicolon ends a whole body
+  body_end_step : (d : ℕ) (header : Header) (s : State) (body : Tree) (at : ℕ) → expressions.finished s ≡ Some body
+      → step reader d (in_body header s) (token Semicolon at)
+      ≡ Ok (between (header.done ++ declares_function header.function header.parameters header.result body ∷ []))
+  body_end_step d header s body at f =
+      free_step reader d (in_body header s) (between (header.done ++ declares_function header.function header.parameters header.result body ∷ []))
+      (token Semicolon at)
+      (ap (λ m. or_else (carried (in_body header) m) (when_whole (expressions.finished s) (body_end header Semicolon))) (right.is.ends s body (token Semicolon at) f refl)
+      ∙ ap (λ m. when_whole m (body_end header Semicolon)) f)
 
-pub reduce_on : (l : ℕ) (s : List Frame) (o : Operator) (at : ℕ) (a e : Tree) → l ≤ level o
-    → reduce l (in_binary at o a ∷ s) e ≡ reduce l s (binary at o a e)
-reduce_on l s o at a e h =
-    ap (λ b. cond b (reduce l s (binary at o a e)) (record { frames = in_binary at o a ∷ s; last = e })) (le-leb l (level o) h)
+  -- a type is read inside a program as it is by itself
+  type_goes : (d : ℕ) (owner : TypeOf) (ts : List Token) (s : TypeState) → go types d types.start ts ≡ Ok s
+      → go reader d (in_type owner types.start) ts ≡ Ok (in_type owner s)
+  type_goes d owner ts s e =
+      go_carried types reader (in_type owner)
+      (λ x t found f. ap (λ m. or_else (carried (in_type owner) m) (when_whole (types.finished x) (type_end expressions owner t.kind))) f) d ts types.start s e
 
-pub move_sign : (s : List Frame) (e : Tree) (o : Operator) (at : ℕ) → move (after s e) (sign o) at ≡ infix_move o at (reduce (level o) s e)
-move_sign s e Add at = refl
-move_sign s e Subtract at = refl
-move_sign s e Multiply at = refl
+  -- and so is the body of a function
+  body_goes : (d : ℕ) (header : Header) (ts : List Token) (s : State) → go expressions d expressions.start ts ≡ Ok s
+      → go reader d (in_body header expressions.start) ts ≡ Ok (in_body header s)
+  body_goes d header ts s e =
+      go_carried expressions reader (in_body header)
+      (λ x t found f. ap (λ m. or_else (carried (in_body header) m) (when_whole (expressions.finished x) (body_end header t.kind))) f) d ts expressions.start s e
 
--- what is left stands_after a whole expression: closing all down to its level gives it
-pub record Reads (d : ℕ) (s : List Frame) (l : ℕ) (ts : List Token) (e : Tree) : Type 0 where
-  pub s' : List Frame
-  pub e' : Tree
-  pub runs : go d (operand s) ts ≡ Ok (after s' e')
-  pub folds : (k : ℕ) → k ≤ l → reduce k s' e' ≡ reduce k s e
+  -- a whole type is read, with the token that ends it
+  reads_type : (d : ℕ) (owner : TypeOf) (ts rest : List Token) (written : TypeTree) (t : Token) (next : ProgramState State)
+      → WholeType ts written → type_depth written ≤ d → type_end expressions owner t.kind written ≡ free next
+      → go reader d (in_type owner types.start) (ts ++ (t ∷ rest)) ≡ go reader d next rest
+  reads_type d owner ts rest written t next w h e =
+      let r = types_are_read.reads d ts written w h in
+      goes_on reader d (in_type owner types.start) (in_type owner r.0) ts (t ∷ rest) (type_goes d owner ts r.0 r.1)
+      ∙ steps_on reader d (in_type owner r.0) next t rest (type_end_step d owner r.0 written t next r.2 e)
 
-pub depth-added : (args : Trees) (e : Tree) → depth_of_all (added args e) ≡ max (depth_of_all args) (depth e)
-depth-added none e = omega arith
-depth-added (both x others) e = let h : depth_of_all (added others e) ≡ max (depth_of_all others) (depth e) = depth-added others e in omega arith
+  -- what is left behind parameters: the last one's type is open, and whole
+  record ReadsParameters (d : ℕ) (done : List DeclarationTree) (function : Span) (ts : List Token) (parameters : List Typed) : Type 0 where
+    pub given : List Typed
+    pub place : Span
+    pub written : TypeTree
+    pub state : TypeState
+    pub runs : go reader d (awaits_parameter done function []) ts ≡ Ok (in_type (of_parameter done function given place) state)
+    pub finished : types.finished state ≡ Some written
+    pub is : given ++ typed place written ∷ [] ≡ parameters
 
-pub args_pos : {ts : List Token} {args : Trees} → WholeArguments ts args → 1 ≤ depth_of_all args
-args_pos (one_rule {only = e} w) = let h : 1 ≤ depth e = depth_pos e in omega arith
-args_pos (more_rule c {arguments = args} {last = e} wa w) = let h : 1 ≤ depth e = depth_pos e in omega (arith, depth-added args e)
+  reads_parameter : (d : ℕ) (done : List DeclarationTree) (function : Span) (given : List Typed) (place : Span) (colon : ℕ) (ts : List Token) (s : TypeState)
+      → go types d types.start ts ≡ Ok s
+      → go reader d (awaits_parameter done function given) (name_token place ∷ token Colon colon ∷ ts)
+      ≡ Ok (in_type (of_parameter done function given place) s)
+  reads_parameter d done function given place colon ts s e =
+      steps_on reader d (awaits_parameter done function given) (awaits_parameter_colon done function given place) (name_token place) (token Colon colon ∷ ts)
+      (free_step reader d (awaits_parameter done function given) (awaits_parameter_colon done function given place) (name_token place) refl)
+      ∙ (steps_on reader d (awaits_parameter_colon done function given place) (in_type (of_parameter done function given place) types.start) (token Colon colon) ts
+      (free_step reader d (awaits_parameter_colon done function given place) (in_type (of_parameter done function given place) types.start) (token Colon colon) refl)
+      ∙ type_goes d (of_parameter done function given place) ts s e)
 
-pub move_word : (s : List Frame) (f : Builtin) (at : ℕ)
-    → move (operand s) (word f) at ≡ Some (record { want = suc (suc (length s)); next = opening s at f })
-move_word s builtins.Iota at = refl
-move_word s builtins.ReduceAdd at = refl
-
--- a step that wants no depth
-pub free_step : (d : ℕ) (s next : State) (t : Token) → move s t.kind t.at ≡ free next → step d s t ≡ Ok next
-free_step d s next t e = fits_step d s next t 0 e (omega arith)
-
-pub infix_step : (d : ℕ) (s s' : List Frame) (e' a : Tree) (o : Operator) (at : ℕ) → reduce (level o) s' e' ≡ record { frames = s; last = a }
-    → suc (depth a + length s) ≤ d → step d (after s' e') (token (sign o) at) ≡ Ok (operand (in_binary at o a ∷ s))
-infix_step d s s' e' a o at r h =
-    fits_step d (after s' e') (operand (in_binary at o a ∷ s)) (token (sign o) at) (suc (depth a + length s))
-    (move_sign s' e' o at ∙ ap (infix_move o at) r) h
-
--- tokens, and one token more
-pub ends_with : (d : ℕ) (s r next : State) (ts : List Token) (t : Token)
-    → go d s ts ≡ Ok r → step d r t ≡ Ok next → go d s (ts ++ (t ∷ [])) ≡ Ok next
-ends_with d s r next ts t e f = goes_on d s r ts (t ∷ []) e ∙ steps_on d r next t [] f
-
--- what is left stands_after arguments: closing all gives the last one, under the call with those before it
-pub record ReadsArgs (d : ℕ) (s : List Frame) (at : ℕ) (f : Builtin) (ts : List Token) (args : Trees) : Type 0 where
-  pub s' : List Frame
-  pub e' : Tree
-  pub front : Trees
-  pub last : Tree
-  pub runs : go d (operand (in_call at f none ∷ s)) ts ≡ Ok (after s' e')
-  pub folds : reduce 0 s' e' ≡ record { frames = in_call at f front ∷ s; last = last }
-  pub is : added front last ≡ args
-
-at_once : (d : ℕ) (s : List Frame) (l : ℕ) (ts : List Token) (e : Tree) → go d (operand s) ts ≡ Ok (after s e) → Reads d s l ts e
-at_once d s l ts e h = record { s' = s; e' = e; runs = h; folds = λ k below. refl }
-
-mutual
-  pub whole_runs : {l : ℕ} {ts : List Token} {e : Tree} → Whole l ts e → (d : ℕ) (s : List Frame) → floor s ≤ l → depth e + length s ≤ d → Reads d s l ts e
-  whole_runs {l = l} (integer_rule {at = at} {value = n}) d s low fits =
-      at_once d s l (token (Integer n) at ∷ []) (integer at n)
-      (steps_on d (operand s) (after s (integer at n)) (token (Integer n) at) [] (free_step d (operand s) (after s (integer at n)) (token (Integer n) at) refl))
-  whole_runs {l = l} (name_rule place) d s low fits =
-      at_once d s l (name_token place ∷ []) (name place)
-      (steps_on d (operand s) (after s (name place)) (name_token place) [] (free_step d (operand s) (after s (name place)) (name_token place) refl))
-  whole_runs {l = l} (binary_rule {at = at} {operator = o} {ts = ts} {us = us} {left = a} {right = b} below wa wb) d s low fits =
-      let low' : floor s ≤ level o = omega arith in
-      let ra = whole_runs wa d s low' (omega arith) in
-      let rb = whole_runs wb d (in_binary at o a ∷ s) (omega arith) (omega arith) in
+  reads_parameters : {ts : List Token} {parameters : List Typed} → WholeParameters ts parameters
+      → (d : ℕ) (done : List DeclarationTree) (function : Span) → parameters_depth parameters ≤ d → ReadsParameters d done function ts parameters
+  reads_parameters (one_parameter place colon {ts = ts} {written = written} w) d done function h =
+      let r = types_are_read.reads d ts written w (omega arith) in
       record {
-        s' = rb.s';
-        e' = rb.e';
-        runs = goes_on d (operand s) (after ra.s' ra.e') ts (token (sign o) at ∷ us) ra.runs
-            ∙ (steps_on d (after ra.s' ra.e') (operand (in_binary at o a ∷ s)) (token (sign o) at) us
-            (infix_step d s ra.s' ra.e' a o at (ra.folds (level o) (omega arith) ∙ reduce_stop (level o) s a low') (omega arith))
-            ∙ rb.runs);
-        folds = λ k h. rb.folds k (omega arith) ∙ reduce_on k s o at a b (omega arith);
-      }
-  whole_runs {l = l} (call_rule {at = at} {opened = p} q {function = f} {ts = ts} {arguments = args} w) d s low fits =
-      let least : 1 ≤ depth_of_all args = args_pos w in
-      let r = args_runs w d s at f (omega arith) in
-      at_once d s l (token (word f) at ∷ token LeftParen p ∷ (ts ++ (token RightParen q ∷ []))) (call at f args)
-      (steps_on d (operand s) (opening s at f) (token (word f) at) (token LeftParen p ∷ (ts ++ (token RightParen q ∷ [])))
-      (fits_step d (operand s) (opening s at f) (token (word f) at) (suc (suc (length s))) (move_word s f at) (omega arith))
-      ∙ (steps_on d (opening s at f) (operand (in_call at f none ∷ s)) (token LeftParen p) (ts ++ (token RightParen q ∷ []))
-      (free_step d (opening s at f) (operand (in_call at f none ∷ s)) (token LeftParen p) refl)
-      ∙ ends_with d (operand (in_call at f none ∷ s)) (after r.s' r.e') (after s (call at f args)) ts (token RightParen q) r.runs
-      (free_step d (after r.s' r.e') (after s (call at f args)) (token RightParen q)
-      (ap (λ x. paren_move x.frames x.last) r.folds ∙ ap (λ x. free (after s (call at f x))) r.is))))
-  whole_runs {l = l} (group_rule {at = at} q {ts = ts} {inner = e} w) d s low fits =
-      let least : 1 ≤ depth e = depth_pos e in
-      let r = whole_runs w d (in_group at ∷ s) (omega arith) (omega arith) in
-      at_once d s l (token LeftParen at ∷ (ts ++ (token RightParen q ∷ []))) (group at e)
-      (steps_on d (operand s) (operand (in_group at ∷ s)) (token LeftParen at) (ts ++ (token RightParen q ∷ []))
-      (fits_step d (operand s) (operand (in_group at ∷ s)) (token LeftParen at) (suc (suc (length s))) refl (omega arith))
-      ∙ ends_with d (operand (in_group at ∷ s)) (after r.s' r.e') (after s (group at e)) ts (token RightParen q) r.runs
-      (free_step d (after r.s' r.e') (after s (group at e)) (token RightParen q)
-      (ap (λ x. paren_move x.frames x.last) (r.folds 0 (omega arith)))))
-  whole_runs {l = l} (each_rule {at = at} c place i q {ts = ts} {us = us} {body = e} {source = src} we ws) d s low fits =
-      let least : 1 ≤ depth e = depth_pos e in
-      let re = whole_runs we d (in_body at ∷ s) (omega arith) (omega arith) in
-      let rs = whole_runs ws d (in_source at e place ∷ s) (omega arith) (omega arith) in
-      let after_in : List Token = us ++ (token RightBrace q ∷ []) in
-      let after_body : List Token = token Colon c ∷ name_token place ∷ token In i ∷ after_in in
-      at_once d s l (token LeftBrace at ∷ (ts ++ after_body)) (each at e place src)
-      (steps_on d (operand s) (operand (in_body at ∷ s)) (token LeftBrace at) (ts ++ after_body)
-      (fits_step d (operand s) (operand (in_body at ∷ s)) (token LeftBrace at) (suc (suc (length s))) refl (omega arith))
-      ∙ (goes_on d (operand (in_body at ∷ s)) (after re.s' re.e') ts after_body re.runs
-      ∙ (steps_on d (after re.s' re.e') (binder s at e) (token Colon c) (name_token place ∷ token In i ∷ after_in)
-      (free_step d (after re.s' re.e') (binder s at e) (token Colon c)
-      (ap (λ x. colon_move x.frames x.last) (re.folds 0 (omega arith))))
-      ∙ (steps_on d (binder s at e) (binder_in s at e place) (name_token place) (token In i ∷ after_in)
-      (free_step d (binder s at e) (binder_in s at e place) (name_token place) refl)
-      ∙ (steps_on d (binder_in s at e place) (operand (in_source at e place ∷ s)) (token In i) after_in
-      (free_step d (binder_in s at e place) (operand (in_source at e place ∷ s)) (token In i) refl)
-      ∙ ends_with d (operand (in_source at e place ∷ s)) (after rs.s' rs.e') (after s (each at e place src)) us (token RightBrace q) rs.runs
-      (free_step d (after rs.s' rs.e') (after s (each at e place src)) (token RightBrace q)
-      (ap (λ x. brace_move x.frames x.last) (rs.folds 0 (omega arith)))))))))
-
-  pub args_runs : {ts : List Token} {args : Trees} → WholeArguments ts args → (d : ℕ) (s : List Frame) (at : ℕ) (f : Builtin)
-      → suc (depth_of_all args + length s) ≤ d → ReadsArgs d s at f ts args
-  args_runs (one_rule {ts = ts} {only = e} w) d s at f fits =
-      let r = whole_runs w d (in_call at f none ∷ s) (omega arith) (omega arith) in
-      record { s' = r.s'; e' = r.e'; front = none; last = e; runs = r.runs; folds = r.folds 0 (omega arith); is = refl }
-  args_runs (more_rule c {ts = ts} {us = us} {arguments = args} {last = e} wa w) d s at f fits =
-      let deep : depth_of_all (added args e) ≡ max (depth_of_all args) (depth e) = depth-added args e in
-      let ra = args_runs wa d s at f (omega arith) in
-      let r = whole_runs w d (in_call at f args ∷ s) (omega arith) (omega arith) in
-      record {
-        s' = r.s';
-        e' = r.e';
-        front = args;
-        last = e;
-        runs = goes_on d (operand (in_call at f none ∷ s)) (after ra.s' ra.e') ts (token Comma c ∷ us) ra.runs
-            ∙ (steps_on d (after ra.s' ra.e') (operand (in_call at f args ∷ s)) (token Comma c) us
-            (free_step d (after ra.s' ra.e') (operand (in_call at f args ∷ s)) (token Comma c)
-            (ap (λ x. comma_move x.frames x.last) ra.folds ∙ ap (λ x. free (operand (in_call at f x ∷ s))) ra.is))
-            ∙ r.runs);
-        folds = r.folds 0 (omega arith);
+        given = [];
+        place = place;
+        written = written;
+        state = r.0;
+        runs = reads_parameter d done function [] place colon ts r.0 r.1;
+        finished = r.2;
         is = refl;
       }
+  reads_parameters (more_parameters comma place colon {ts = ts} {us = us} {given = given} {written = written} ws w) d done function h =
+      let deep : parameters_depth (given ++ typed place written ∷ []) ≡ max (parameters_depth given) (type_depth written) = depth-parameters given (typed place written) in
+      let ra = reads_parameters ws d done function (omega arith) in
+      let r = types_are_read.reads d us written w (omega arith) in
+      record {
+        given = given;
+        place = place;
+        written = written;
+        state = r.0;
+        runs = goes_on reader d (awaits_parameter done function []) (in_type (of_parameter done function ra.given ra.place) ra.state) ts
+            (token Comma comma ∷ name_token place ∷ token Colon colon ∷ us) ra.runs
+            ∙ (steps_on reader d (in_type (of_parameter done function ra.given ra.place) ra.state) (awaits_parameter done function given) (token Comma comma)
+            (name_token place ∷ token Colon colon ∷ us)
+            (type_end_step d (of_parameter done function ra.given ra.place) ra.state ra.written (token Comma comma) (awaits_parameter done function given) ra.finished
+            (ap (λ x. free (awaits_parameter done function x)) ra.is))
+            ∙ reads_parameter d done function given place colon us r.0 r.1);
+        finished = r.2;
+        is = refl;
+      }
+
+  -- a whole declaration is read
+  reads_declaration : {ts : List Token} {declaration : DeclarationTree} → WholeDeclaration ts declaration → (d : ℕ) (done : List DeclarationTree)
+      → declaration_depth declaration ≤ d → go reader d (between done) ts ≡ Ok (between (done ++ declaration ∷ []))
+  reads_declaration (input_rule at place colon semicolon {ts = ts} {written = written} w) d done h =
+      let last : List Token = ts ++ (token Semicolon semicolon ∷ []) in
+      steps_on reader d (between done) (awaits_input done) (token Input at) (name_token place ∷ token Colon colon ∷ last)
+      (free_step reader d (between done) (awaits_input done) (token Input at)
+      (ap (λ m. or_else (carried (in_final done) m) (fixed_move expressions (between done) Input at)) (right.no_input at)))
+      ∙ (steps_on reader d (awaits_input done) (awaits_input_colon done place) (name_token place) (token Colon colon ∷ last)
+      (free_step reader d (awaits_input done) (awaits_input_colon done place) (name_token place) refl)
+      ∙ (steps_on reader d (awaits_input_colon done place) (in_type (of_input done place) types.start) (token Colon colon) last
+      (free_step reader d (awaits_input_colon done place) (in_type (of_input done place) types.start) (token Colon colon) refl)
+      ∙ reads_type d (of_input done place) ts [] written (token Semicolon semicolon) (between (done ++ declares_input (typed place written) ∷ [])) w h refl))
+  reads_declaration (function_rule at place opened closed colon equals semicolon {ts = ts} {us = us} {vs = vs} {parameters = parameters} {result = result} {body = body} ws w we) d done h =
+      let header : Header = record { done = done; function = place; parameters = parameters; result = result } in
+      let body_tokens : List Token = vs ++ (token Semicolon semicolon ∷ []) in
+      let result_tokens : List Token = us ++ (token Equals equals ∷ body_tokens) in
+      let rp = reads_parameters ws d done place (omega arith) in
+      let rb = right.is.reads d vs body we (omega arith) in
+      let owner : TypeOf = of_parameter done place rp.given rp.place in
+      steps_on reader d (between done) (awaits_function done) (token Function at)
+      (name_token place ∷ token LeftParen opened ∷ (ts ++ (token RightParen closed ∷ token Colon colon ∷ result_tokens)))
+      (free_step reader d (between done) (awaits_function done) (token Function at)
+      (ap (λ m. or_else (carried (in_final done) m) (fixed_move expressions (between done) Function at)) (right.no_function at)))
+      ∙ (steps_on reader d (awaits_function done) (awaits_open done place) (name_token place)
+      (token LeftParen opened ∷ (ts ++ (token RightParen closed ∷ token Colon colon ∷ result_tokens)))
+      (free_step reader d (awaits_function done) (awaits_open done place) (name_token place) refl)
+      ∙ (steps_on reader d (awaits_open done place) (awaits_parameter done place []) (token LeftParen opened)
+      (ts ++ (token RightParen closed ∷ token Colon colon ∷ result_tokens))
+      (free_step reader d (awaits_open done place) (awaits_parameter done place []) (token LeftParen opened) refl)
+      ∙ (goes_on reader d (awaits_parameter done place []) (in_type owner rp.state) ts (token RightParen closed ∷ token Colon colon ∷ result_tokens) rp.runs
+      ∙ (steps_on reader d (in_type owner rp.state) (awaits_result done place parameters) (token RightParen closed) (token Colon colon ∷ result_tokens)
+      (type_end_step d owner rp.state rp.written (token RightParen closed) (awaits_result done place parameters) rp.finished
+      (ap (λ x. free (awaits_result done place x)) rp.is))
+      ∙ (steps_on reader d (awaits_result done place parameters) (in_type (of_result done place parameters) types.start) (token Colon colon) result_tokens
+      (free_step reader d (awaits_result done place parameters) (in_type (of_result done place parameters) types.start) (token Colon colon) refl)
+      ∙ (reads_type d (of_result done place parameters) us body_tokens result (token Equals equals) (in_body header expressions.start) w (omega arith) refl
+      ∙ ends_with reader d (in_body header expressions.start) (in_body header rb.0) (between (done ++ declares_function place parameters result body ∷ [])) vs
+      (token Semicolon semicolon) (body_goes d header vs rb.0 rb.1) (body_end_step d header rb.0 body semicolon rb.2)))))))
+
+  reads_declarations : {ts : List Token} {declarations : List DeclarationTree} → WholeDeclarations ts declarations → (d : ℕ)
+      → declarations_depth declarations ≤ d → go reader d (between []) ts ≡ Ok (between declarations)
+  reads_declarations no_declarations d h = refl
+  reads_declarations (more_declarations {ts = ts} {us = us} {given = given} {last = last} ws w) d h =
+      let deep : declarations_depth (given ++ last ∷ []) ≡ max (declarations_depth given) (declaration_depth last) = depth-declarations given last in
+      goes_on reader d (between []) (between given) ts us (reads_declarations ws d (omega arith))
+      ∙ reads_declaration w d given (omega arith)
+
+  -- the expression is read behind the declarations as it is by itself
+  reads_final : (d : ℕ) (done : List DeclarationTree) (us : List Token) (r : State) → go expressions d expressions.start us ≡ Ok r
+      → (s : ProgramState State) × (go reader d (between done) us ≡ Ok s) × (finished_program expressions s ≡ with_expression expressions done (expressions.finished r))
+  reads_final d done [] r e =
+      let same : expressions.start ≡ r = cc in
+      (between done, refl, ap (λ x. with_expression expressions done (expressions.finished x)) same)
+  reads_final d done (u ∷ us) r e =
+      let b = bind_ok (step expressions d expressions.start u) (λ x. go expressions d x us) r e in
+      let w = within_ok d (expressions.move expressions.start u) b.0 b.1 in (
+        in_final done r,
+        steps_on reader d (between done) (in_final done b.0) u us
+            (fits_step reader d (between done) (in_final done w.0.next) u w.0.want
+            (ap (λ m. or_else (carried (in_final done) m) (fixed_move expressions (between done) u.kind u.at)) w.1) w.2
+            ∙ ap (λ x. Ok (in_final done x)) w.3)
+            ∙ go_carried expressions reader (in_final done) (λ x t found f. ap (carried (in_final done)) f) d us b.0 r b.2,
+        refl,
+      )
+
+  -- a whole program is read
+  pub program_reads : (d : ℕ) (ts : List Token) (program : ProgramTree) → WholeProgram ts program → program_depth program ≤ d
+      → (s : ProgramState State) × (go reader d reader.start ts ≡ Ok s) × (reader.finished s ≡ Some program)
+  program_reads d ts program (program_rule {ts = front} {us = back} {declarations = declarations} {expression = expression} ws w) h =
+      let r = right.is.reads d back expression w (omega arith) in
+      let f = reads_final d declarations back r.0 r.1 in (
+        f.0,
+        goes_on reader d (between []) (between declarations) front back (reads_declarations ws d (omega arith)) ∙ f.1,
+        f.2 ∙ ap (with_expression expressions declarations) r.2,
+      )

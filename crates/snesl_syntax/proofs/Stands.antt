@@ -1,270 +1,341 @@
--- What the machine has read stands in the grammar.
-use Rattle.std.proofs.Common.{◌≡◌, ℕ, suc, max, ◌+◌, ◌≤◌, ◌<◌, cond, leb, List, [], ◌∷◌, ◌++◌, length, Option, Some, None, Result, Ok, Err, refl, sym, ◌∙◌, ap, subst, arith, append_assoc}
-use Rattle.snesl_lexer.specs.declared.token.Kind.{Kind}
-use Rattle.snesl_lexer.specs.declared.token.Kind.TheVariants.{Integer, Name, In, LeftParen, RightParen, LeftBrace, RightBrace, Colon, Comma}
-use Rattle.snesl_lexer.specs.declared.token.Token.{Token}
-use Rattle.snesl_tree.specs.declared.operator.Operator.{Operator}
-use Rattle.snesl_tree.specs.declared.operator.Operator.TheVariants.{Add, Subtract, Multiply}
-use Rattle.snesl_tree.specs.declared.operator.Builtin.{Builtin}
-use Rattle.snesl_tree.specs.declared.span.Span.{Span}
-use Rattle.snesl_tree.specs.declared.operator.Builtin.TheVariants as builtins
-use Rattle.snesl_tree.specs.Tree.{Tree, Trees, binary, call, group, each, none, both, depth, depth_of_all}
-use Rattle.snesl_syntax.specs.Operators.{level, sign, word}
-use Rattle.snesl_syntax.specs.Grammar.{added}
-use Rattle.snesl_syntax.specs.Grammar.{token, name_token, Whole, integer_rule, name_rule, binary_rule, call_rule, group_rule, each_rule, WholeArguments, one_rule, more_rule, Front, nothing, whole, binary_right, call_word, call_arguments, group_inner, each_body, each_colon, each_name, each_source, first_front, next_front}
-use Rattle.snesl_syntax.specs.Machine.{Frame, in_binary, in_call, in_group, in_body, in_source, State, operand, after, opening, binder, binder_in, Stop, beyond_depth, Folded, reduce, Move, infix_move, paren_move, comma_move, colon_move, brace_move, move, within, step, bind, go, floor}
-use Rattle.snesl_lexer.specs.declared.token.Kind.TheVariants.{Iota, ReduceAdd, Plus, Minus, Star}
-use Rattle.snesl_syntax.proofs.Runs.{depth_pos, depth-added, reduce_stop, reduce_on}
-use Rattle.std.proofs.lemmas.Bool.{leb-true, leb-false, cases_Bool}
+-- What was read of a program stands in the grammar.
+use Rattle.std.proofs.Common.{◌≡◌, ℕ, suc, max, ◌≤◌, List, [], ◌∷◌, ◌++◌, Option, Some, None, Ok, refl, sym, subst, arith, append_assoc}
 use Rattle.std.proofs.lemmas.List.{append-nil}
-use Rattle.std.proofs.Common.{inl, inr, ◌-◌}
+use Rattle.snesl_lexer.specs.declared.token.Kind.{Kind}
+use Rattle.snesl_lexer.specs.declared.token.Kind.TheVariants.{Name, Input, Function, LeftParen, RightParen, Colon, Semicolon, Comma, Equals}
+use Rattle.snesl_lexer.specs.declared.token.Token.{Token}
+use Rattle.snesl_tree.specs.declared.span.Span.{Span}
+use Rattle.snesl_tree.specs.Tree.{Tree, depth, TypeTree, type_depth, Typed, DeclarationTree, declares_input, declares_function, ProgramTree}
+use Rattle.snesl_expressions.specs.Grammar.{token, name_token, Whole, Front, nothing}
+use Rattle.snesl_expressions.specs.Readers.{Move, Reader, go}
+use Rattle.snesl_expressions.proofs.Reading.{ends_with, fits_step}
+use Rattle.snesl_syntax.specs.Types.{WholeType, FrontType, TypeState, types}
+use Rattle.snesl_syntax.specs.Grammar.{typed, parameters_depth, declaration_depth, declarations_depth, program_depth, WholeParameters, one_parameter, more_parameters, WholeDeclaration, input_rule, function_rule, WholeDeclarations, no_declarations, more_declarations, WholeProgram, program_rule, FrontParameter, no_parameter, parameter_name, parameter_type, FrontParameters, first_parameter, next_parameter, FrontDeclaration, input_word, input_name, input_type, function_word, function_name, function_parameters, function_closed, function_result, function_body, FrontProgram, in_declaration, in_expression}
+use Rattle.snesl_syntax.specs.Programs.{TypeOf, of_input, of_parameter, of_result, Header, ProgramState, between, awaits_input, awaits_input_colon, awaits_function, awaits_open, awaits_parameter, awaits_parameter_colon, awaits_result, in_type, in_body, in_final, carried, when_whole, span, body_end, type_end, fixed_move, with_expression, programs}
+use Rattle.snesl_syntax.proofs.Moves.{Good, good_or, good_carried, good_when, go_stands}
+use Rattle.snesl_syntax.proofs.TypesRead.{types_are_read}
+use Rattle.snesl_syntax.proofs.Runs.{depth-parameters, depth-declarations, ReadsExpressions}
 
--- the tokens of the open forms
-pub data Spells : ℕ → List Frame → List Token → Type 0 where
-  spells_empty : {d : ℕ} → Spells d [] []
-  spells_binary : {d at : ℕ} {o : Operator} {s : List Frame} {ts us : List Token} {a : Tree}
-      → Spells d s ts → floor s ≤ level o → Whole (level o) us a → suc (depth a + length s) ≤ d
-      → Spells d (in_binary at o a ∷ s) (ts ++ (us ++ (token (sign o) at ∷ [])))
-  spells_group : {d at : ℕ} {s : List Frame} {ts : List Token}
-      → Spells d s ts → suc (suc (length s)) ≤ d → Spells d (in_group at ∷ s) (ts ++ (token LeftParen at ∷ []))
-  spells_first : {d at : ℕ} (p : ℕ) {f : Builtin} {s : List Frame} {ts : List Token}
-      → Spells d s ts → suc (suc (length s)) ≤ d
-      → Spells d (in_call at f none ∷ s) (ts ++ (token (word f) at ∷ token LeftParen p ∷ []))
-  spells_next : {d at : ℕ} (p c : ℕ) {f : Builtin} {s : List Frame} {ts us : List Token} {args : Trees}
-      → Spells d s ts → WholeArguments us args → suc (depth_of_all args + length s) ≤ d
-      → Spells d (in_call at f args ∷ s) (ts ++ (token (word f) at ∷ token LeftParen p ∷ (us ++ (token Comma c ∷ []))))
-  spells_body : {d at : ℕ} {s : List Frame} {ts : List Token}
-      → Spells d s ts → suc (suc (length s)) ≤ d → Spells d (in_body at ∷ s) (ts ++ (token LeftBrace at ∷ []))
-  spells_source : {d at : ℕ} (c : ℕ) (place : Span) (i : ℕ) {s : List Frame} {ts us : List Token} {e : Tree}
-      → Spells d s ts → Whole 0 us e → suc (depth e + length s) ≤ d
-      → Spells d (in_source at e place ∷ s) (ts ++ (token LeftBrace at ∷ (us ++ (token Colon c ∷ name_token place ∷ token In i ∷ []))))
+-- the tokens are these declarations, within the depth
+pub record Declared (d : ℕ) (done : List DeclarationTree) (ts : List Token) : Type 0 where
+  pub are : WholeDeclarations ts done
+  pub shallow : declarations_depth done ≤ d
 
--- the tokens that lead to a state
-pub data Stands : ℕ → State → List Token → Type 0 where
-  stands_operand : {d : ℕ} {s : List Frame} {ts : List Token} → Spells d s ts → suc (length s) ≤ d → Stands d (operand s) ts
-  stands_after : {d : ℕ} {s : List Frame} {ts us : List Token} {e : Tree}
-      → Spells d s ts → ((l : ℕ) → Whole l us e) → depth e + length s ≤ d → Stands d (after s e) (ts ++ us)
-  stands_opening : {d at : ℕ} {f : Builtin} {s : List Frame} {ts : List Token}
-      → Spells d s ts → suc (suc (length s)) ≤ d → Stands d (opening s at f) (ts ++ (token (word f) at ∷ []))
-  stands_binder : {d at : ℕ} (c : ℕ) {s : List Frame} {ts us : List Token} {e : Tree}
-      → Spells d s ts → Whole 0 us e → suc (depth e + length s) ≤ d
-      → Stands d (binder s at e) (ts ++ (token LeftBrace at ∷ (us ++ (token Colon c ∷ []))))
-  stands_binder_in : {d at : ℕ} (c : ℕ) (place : Span) {s : List Frame} {ts us : List Token} {e : Tree}
-      → Spells d s ts → Whole 0 us e → suc (depth e + length s) ≤ d
-      → Stands d (binder_in s at e place) (ts ++ (token LeftBrace at ∷ (us ++ (token Colon c ∷ name_token place ∷ []))))
+-- the tokens behind a function's opening parenthesis that lead to its next parameter
+pub data Given : ℕ → List Typed → List Token → Type 0 where
+  given_none : {d : ℕ} → Given d [] []
+  given_more : {d : ℕ} (comma : ℕ) {given : List Typed} {ts : List Token}
+      → WholeParameters ts given → parameters_depth given ≤ d → Given d given (ts ++ (token Comma comma ∷ []))
 
--- what closing forms leaves
-pub record Reduced (d k : ℕ) (all : List Token) (s : List Frame) (e : Tree) : Type 0 where
-  pub front : List Token
-  pub back : List Token
-  pub spelled : Spells d s front
-  pub is : Whole k back e
-  pub low : floor s ≤ k
-  pub fits : depth e + length s ≤ d
-  pub same : front ++ back ≡ all
+-- the tokens that lead to a type
+pub data Opens : ℕ → TypeOf → List Token → Type 0 where
+  opens_input : {d : ℕ} (at : ℕ) (place : Span) (colon : ℕ) {done : List DeclarationTree} {ts : List Token}
+      → Declared d done ts → Opens d (of_input done place) (ts ++ (token Input at ∷ name_token place ∷ token Colon colon ∷ []))
+  opens_parameter : {d : ℕ} (at : ℕ) (function : Span) (opened : ℕ) (place : Span) (colon : ℕ) {done : List DeclarationTree} {given : List Typed}
+      {ts us : List Token} → Declared d done ts → Given d given us
+      → Opens d (of_parameter done function given place)
+      (ts ++ (token Function at ∷ name_token function ∷ token LeftParen opened ∷ (us ++ (name_token place ∷ token Colon colon ∷ []))))
+  opens_result : {d : ℕ} (at : ℕ) (function : Span) (opened closed colon : ℕ) {done : List DeclarationTree} {parameters : List Typed}
+      {ts us : List Token} → Declared d done ts → WholeParameters us parameters → parameters_depth parameters ≤ d
+      → Opens d (of_result done function parameters)
+      (ts ++ (token Function at ∷ name_token function ∷ token LeftParen opened ∷ (us ++ (token RightParen closed ∷ token Colon colon ∷ []))))
 
-stays : {d : ℕ} (k : ℕ) {s : List Frame} {ts us : List Token} {e : Tree}
-    → Spells d s ts → Whole k us e → floor s ≤ k → depth e + length s ≤ d → Reduced d k (ts ++ us) s e
-stays k {ts = ts} {us = us} h w low fits = record { front = ts; back = us; spelled = h; is = w; low = low; fits = fits; same = refl }
+-- the tokens that lead to a body
+pub data OpensBody : ℕ → Header → List Token → Type 0 where
+  opens_body : {d : ℕ} (at : ℕ) (function : Span) (opened closed colon equals : ℕ) {done : List DeclarationTree} {parameters : List Typed} {result : TypeTree}
+      {ts us vs : List Token} → Declared d done ts → WholeParameters us parameters → parameters_depth parameters ≤ d
+      → WholeType vs result → type_depth result ≤ d
+      → OpensBody d (record { done = done; function = function; parameters = parameters; result = result })
+      (ts ++ (token Function at ∷ name_token function ∷ token LeftParen opened
+      ∷ (us ++ (token RightParen closed ∷ token Colon colon ∷ (vs ++ (token Equals equals ∷ []))))))
 
-abbrev ReducedTo : ℕ → ℕ → List Token → Folded → Type 0
-ReducedTo d k all r = Reduced d k all r.frames r.last
+-- the parameters behind one more, and their depth
+pub given_and : {d : ℕ} {given : List Typed} {us : List Token} → Given d given us → (place : Span) (colon : ℕ) (vs : List Token) (written : TypeTree)
+    → WholeType vs written → type_depth written ≤ d
+    → WholeParameters (us ++ (name_token place ∷ token Colon colon ∷ vs)) (given ++ typed place written ∷ [])
+    × (parameters_depth (given ++ typed place written ∷ []) ≤ d)
+given_and given_none place colon vs written w h = (one_parameter place colon w, omega arith)
+given_and (given_more comma {given = given} {ts = ts} ws k) place colon vs written w h =
+    let deep : parameters_depth (given ++ typed place written ∷ []) ≡ max (parameters_depth given) (type_depth written) = depth-parameters given (typed place written) in
+    (subst (λ x. WholeParameters x (given ++ typed place written ∷ [])) (simp append_assoc) (more_parameters comma place colon ws w), omega arith)
 
-regroup : (ts us : List Token) (t : Token) (vs : List Token) → ts ++ (us ++ (t ∷ vs)) ≡ (ts ++ (us ++ (t ∷ []))) ++ vs
-regroup ts us t vs = simp append_assoc
+-- parameters that go on with the tokens of one more begin with both
+given_front : {d : ℕ} {given : List Typed} {us : List Token} → Given d given us → (vs : List Token) → FrontParameter d vs → FrontParameters d (us ++ vs)
+given_front given_none vs f = first_parameter f
+given_front {d = d} (given_more comma {ts = ts} ws h) vs f =
+    subst (FrontParameters d) (sym (append_assoc ts (token Comma comma ∷ []) vs)) (next_parameter comma ws h f)
 
-pub reduce_stands : {d : ℕ} {s : List Frame} {ts : List Token} → Spells d s ts → (k : ℕ) {us : List Token} {e : Tree}
-    → Whole (floor s) us e → Whole k us e → depth e + length s ≤ d → ReducedTo d k (ts ++ us) (reduce k s e)
-reduce_stands spells_empty k {us = us} {e = e} w wk fits = stays k spells_empty wk (omega arith) fits
-reduce_stands {d = d} (spells_binary {at = at} {o = o} {s = s} {ts = ts} {us = vs} {a = a} h low wa room) k {us = us} {e = e} w wk fits =
-    elim (cases_Bool (leb k (level o))) [
-      | inl close ↦
-          let below : k ≤ level o = leb-true k (level o) close in
-          let r = reduce_stands h k {us = vs ++ (token (sign o) at ∷ us)} {e = binary at o a e}
-          (binary_rule low wa w) (binary_rule below wa w) (omega arith) in
-          let r' : ReducedTo d k ((ts ++ (vs ++ (token (sign o) at ∷ []))) ++ us) (reduce k s (binary at o a e)) =
-          subst (λ all. ReducedTo d k all (reduce k s (binary at o a e))) (regroup ts vs (token (sign o) at) us) r in
-          subst (ReducedTo d k ((ts ++ (vs ++ (token (sign o) at ∷ []))) ++ us)) (sym (reduce_on k s o at a e below)) r'
-      | inr stop ↦
-          let above : level o < k = leb-false k (level o) stop in
-          subst (ReducedTo d k ((ts ++ (vs ++ (token (sign o) at ∷ []))) ++ us)) (sym (reduce_stop k (in_binary at o a ∷ s) e above))
-          (stays k (spells_binary h low wa room) wk above fits)
-    ]
-reduce_stands (spells_group h room) k w wk fits = stays k (spells_group h room) wk (omega arith) fits
-reduce_stands (spells_first p h room) k w wk fits = stays k (spells_first p h room) wk (omega arith) fits
-reduce_stands (spells_next p c h wa room) k w wk fits = stays k (spells_next p c h wa room) wk (omega arith) fits
-reduce_stands (spells_body h room) k w wk fits = stays k (spells_body h room) wk (omega arith) fits
-reduce_stands (spells_source c place i h we room) k w wk fits = stays k (spells_source c place i h we room) wk (omega arith) fits
+-- one declaration more
+declared_more : {d : ℕ} {done : List DeclarationTree} {ts us : List Token} {last : DeclarationTree} → Declared d done ts → WholeDeclaration us last
+    → declaration_depth last ≤ d → Declared d (done ++ last ∷ []) (ts ++ us)
+declared_more {done = done} {last = last} h w k =
+    let deep : declarations_depth (done ++ last ∷ []) ≡ max (declarations_depth done) (declaration_depth last) = depth-declarations done last in
+    let shallow : declarations_depth done ≤ _ = h.shallow in
+    record { are = more_declarations h.are w; shallow = omega arith }
 
--- a move keeps what stands, where the depth allows it
-abbrev pub Good : ℕ → List Token → Token → Option Move → Type 0
-Good d ts t None = Unit {0}
-Good d ts t (Some x) = x.want ≤ d → Stands d x.next (ts ++ (t ∷ []))
+module _ {State : Type 0} (expressions : Reader State Tree) (right : ReadsExpressions expressions) where
+  abbrev reader : Reader (ProgramState State) ProgramTree
+  reader = programs expressions
 
-along : {d : ℕ} (s : State) {ts us : List Token} → ts ≡ us → Stands d s ts → Stands d s us
-along {d = d} s e h = subst (Stands d s) e h
+  -- the tokens that lead to a state
+  pub data Stands : ℕ → ProgramState State → List Token → Type 0 where
+    stands_between : {d : ℕ} {done : List DeclarationTree} {ts : List Token} → Declared d done ts → Stands d (between done) ts
+    stands_input : {d : ℕ} (at : ℕ) {done : List DeclarationTree} {ts : List Token}
+        → Declared d done ts → Stands d (awaits_input done) (ts ++ (token Input at ∷ []))
+    stands_input_colon : {d : ℕ} (at : ℕ) (place : Span) {done : List DeclarationTree} {ts : List Token}
+        → Declared d done ts → Stands d (awaits_input_colon done place) (ts ++ (token Input at ∷ name_token place ∷ []))
+    stands_function : {d : ℕ} (at : ℕ) {done : List DeclarationTree} {ts : List Token}
+        → Declared d done ts → Stands d (awaits_function done) (ts ++ (token Function at ∷ []))
+    stands_open : {d : ℕ} (at : ℕ) (function : Span) {done : List DeclarationTree} {ts : List Token}
+        → Declared d done ts → Stands d (awaits_open done function) (ts ++ (token Function at ∷ name_token function ∷ []))
+    stands_parameter : {d : ℕ} (at : ℕ) (function : Span) (opened : ℕ) {done : List DeclarationTree} {given : List Typed} {ts us : List Token}
+        → Declared d done ts → Given d given us
+        → Stands d (awaits_parameter done function given) (ts ++ (token Function at ∷ name_token function ∷ token LeftParen opened ∷ us))
+    stands_parameter_colon : {d : ℕ} (at : ℕ) (function : Span) (opened : ℕ) (place : Span) {done : List DeclarationTree} {given : List Typed} {ts us : List Token}
+        → Declared d done ts → Given d given us
+        → Stands d (awaits_parameter_colon done function given place)
+        (ts ++ (token Function at ∷ name_token function ∷ token LeftParen opened ∷ (us ++ (name_token place ∷ []))))
+    stands_result : {d : ℕ} (at : ℕ) (function : Span) (opened closed : ℕ) {done : List DeclarationTree} {parameters : List Typed} {ts us : List Token}
+        → Declared d done ts → WholeParameters us parameters → parameters_depth parameters ≤ d
+        → Stands d (awaits_result done function parameters)
+        (ts ++ (token Function at ∷ name_token function ∷ token LeftParen opened ∷ (us ++ (token RightParen closed ∷ []))))
+    stands_type : {d : ℕ} {owner : TypeOf} {s : TypeState} {ts : List Token} (us : List Token)
+        → Opens d owner ts → go types d types.start us ≡ Ok s → Stands d (in_type owner s) (ts ++ us)
+    stands_body : {d : ℕ} {header : Header} {s : State} {ts : List Token} (us : List Token)
+        → OpensBody d header ts → go expressions d expressions.start us ≡ Ok s → Stands d (in_body header s) (ts ++ us)
+    stands_final : {d : ℕ} {done : List DeclarationTree} {s : State} {ts : List Token} (us : List Token)
+        → Declared d done ts → go expressions d expressions.start us ≡ Ok s → Stands d (in_final done s) (ts ++ us)
 
-operand_good : {d : ℕ} {s : List Frame} {ts : List Token} → Spells d s ts → suc (length s) ≤ d
-    → (k : Kind) (at : ℕ) → Good d ts (token k at) (move (operand s) k at)
-operand_good h room (Integer n) at = λ want. stands_after h (λ l. integer_rule) (omega arith)
-operand_good h room (Name n) at = λ want. stands_after h (λ l. name_rule (record { at = at; len = n })) (omega arith)
-operand_good h room Iota at = λ want. stands_opening {f = builtins.Iota} h want
-operand_good h room ReduceAdd at = λ want. stands_opening {f = builtins.ReduceAdd} h want
-operand_good h room LeftParen at = λ want. stands_operand (spells_group h want) want
-operand_good h room LeftBrace at = λ want. stands_operand (spells_body h want) want
-operand_good h room _ at = tt
+  abbrev Keeps : ℕ → List Token → Token → Option (Move (ProgramState State)) → Type 0
+  Keeps d ts t m = Good (λ found. found.want ≤ d → Stands d found.next (ts ++ (t ∷ []))) m
 
-opening_good : {d : ℕ} {s : List Frame} {ts : List Token} → Spells d s ts → suc (suc (length s)) ≤ d
-    → (at0 : ℕ) (f : Builtin) (k : Kind) (at : ℕ) → Good d (ts ++ (token (word f) at0 ∷ [])) (token k at) (move (opening s at0 f) k at)
-opening_good {s = s} {ts = ts} h room at0 f LeftParen at = λ want.
-    along (operand (in_call at0 f none ∷ s)) (sym (append_assoc ts (token (word f) at0 ∷ []) (token LeftParen at ∷ [])))
-    (stands_operand (spells_first at h room) room)
-opening_good h room at0 f _ at = tt
+  along : (d : ℕ) (s : ProgramState State) {ts us : List Token} → ts ≡ us → Stands d s ts → Stands d s us
+  along d s e h = subst (Stands d s) e h
 
-binder_good : {d : ℕ} {s : List Frame} {ts us : List Token} {e : Tree} (c : ℕ) → Spells d s ts → Whole 0 us e → suc (depth e + length s) ≤ d
-    → (at0 : ℕ) (k : Kind) (at : ℕ)
-    → Good d (ts ++ (token LeftBrace at0 ∷ (us ++ (token Colon c ∷ [])))) (token k at) (move (binder s at0 e) k at)
-binder_good {s = s} {ts = ts} {us = us} {e = e} c h w room at0 (Name n) at = λ want.
-    along (binder_in s at0 e (record { at = at; len = n })) (simp append_assoc) (stands_binder_in c (record { at = at; len = n }) h w room)
-binder_good c h w room at0 _ at = tt
+  -- a part that goes on is read with one token more
+  goes_further : {Inner Form : Type 0} (part : Reader Inner Form) (d : ℕ) (s : Inner) (ts : List Token) (t : Token) (found : Move Inner)
+      → go part d part.start ts ≡ Ok s → part.move s t ≡ Some found → found.want ≤ d → go part d part.start (ts ++ (t ∷ [])) ≡ Ok found.next
+  goes_further part d s ts t found e f h = ends_with part d part.start s found.next ts t e (fits_step part d s found.next t found.want f h)
 
-binder_in_good : {d : ℕ} {s : List Frame} {ts us : List Token} {e : Tree} (c : ℕ) → Spells d s ts → Whole 0 us e → suc (depth e + length s) ≤ d
-    → (at0 : ℕ) (place : Span) (k : Kind) (at : ℕ)
-    → Good d (ts ++ (token LeftBrace at0 ∷ (us ++ (token Colon c ∷ name_token place ∷ [])))) (token k at) (move (binder_in s at0 e place) k at)
-binder_in_good {s = s} {ts = ts} {us = us} {e = e} c h w room at0 place In at = λ want.
-    let least : 1 ≤ depth e = depth_pos e in
-    along (operand (in_source at0 e place ∷ s)) (simp append_assoc) (stands_operand (spells_source c place at h w room) (omega arith))
-binder_in_good c h w room at0 place _ at = tt
+  between_keeps : {d : ℕ} {done : List DeclarationTree} {ts : List Token} → Declared d done ts → (k : Kind) (at : ℕ)
+      → Keeps d ts (token k at) (fixed_move expressions (between done) k at)
+  between_keeps h Input at = λ want. stands_input at h
+  between_keeps h Function at = λ want. stands_function at h
+  between_keeps h _ at = tt
 
-infix_good : {d : ℕ} {all : List Token} (o : Operator) (at : ℕ) (r : Folded) → ReducedTo d (level o) all r
-    → Good d all (token (sign o) at) (infix_move o at r)
-infix_good {d = d} o at r R = λ want.
-    let least : 1 ≤ depth r.last = depth_pos r.last in
-    along (operand (in_binary at o r.last ∷ r.frames))
-    (sym (append_assoc R.front R.back (token (sign o) at ∷ [])) ∙ ap (λ x. x ++ (token (sign o) at ∷ [])) R.same)
-    (stands_operand (spells_binary R.spelled R.low R.is want) (omega arith))
+  input_keeps : {d : ℕ} (begun : ℕ) {done : List DeclarationTree} {ts : List Token} → Declared d done ts → (k : Kind) (at : ℕ)
+      → Keeps d (ts ++ (token Input begun ∷ [])) (token k at) (fixed_move expressions (awaits_input done) k at)
+  input_keeps {d = d} begun {done = done} {ts = ts} h (Name len) at = λ want.
+      along d (awaits_input_colon done (span at len)) (simp append_assoc) (stands_input_colon begun (span at len) h)
+  input_keeps begun h _ at = tt
 
-comma_good : {d : ℕ} {s : List Frame} {ts us : List Token} {e : Tree} (at : ℕ) → Spells d s ts → Whole 0 us e → depth e + length s ≤ d
-    → Good d (ts ++ us) (token Comma at) (comma_move s e)
-comma_good {us = us} {e = e} at (spells_first {at = at0} p {f = f} {s = s} {ts = ts} h room) w fits = λ want.
-    let least : 1 ≤ depth e = depth_pos e in
-    along (operand (in_call at0 f (both e none) ∷ s)) (simp append_assoc)
-    (stands_operand (spells_next p at h (one_rule w) (omega arith)) (omega arith))
-comma_good {us = us} {e = e} at (spells_next {at = at0} p c {f = f} {s = s} {ts = ts} {args = args} h wa room) w fits = λ want.
-    let least : 1 ≤ depth e = depth_pos e in
-    let deep : depth_of_all (added args e) ≡ max (depth_of_all args) (depth e) = depth-added args e in
-    along (operand (in_call at0 f (added args e) ∷ s)) (simp append_assoc)
-    (stands_operand (spells_next p at h (more_rule c wa w) (omega arith)) (omega arith))
-comma_good at _ w fits = tt
+  input_colon_keeps : {d : ℕ} (begun : ℕ) (place : Span) {done : List DeclarationTree} {ts : List Token} → Declared d done ts → (k : Kind) (at : ℕ)
+      → Keeps d (ts ++ (token Input begun ∷ name_token place ∷ [])) (token k at) (fixed_move expressions (awaits_input_colon done place) k at)
+  input_colon_keeps {d = d} begun place {done = done} {ts = ts} h Colon at = λ want.
+      along d (in_type (of_input done place) types.start) (simp (append_assoc, append-nil)) (stands_type [] (opens_input begun place at h) refl)
+  input_colon_keeps begun place h _ at = tt
 
-paren_good : {d : ℕ} {s : List Frame} {ts us : List Token} {e : Tree} (at : ℕ) → Spells d s ts → Whole 0 us e → depth e + length s ≤ d
-    → Good d (ts ++ us) (token RightParen at) (paren_move s e)
-paren_good {us = us} {e = e} at (spells_first {at = at0} p {f = f} {s = s} {ts = ts} h room) w fits = λ want.
-    along (after s (call at0 f (both e none))) (simp append_assoc) (stands_after h (λ l. call_rule {opened = p} at (one_rule w)) (omega arith))
-paren_good {us = us} {e = e} at (spells_next {at = at0} p c {f = f} {s = s} {ts = ts} {args = args} h wa room) w fits = λ want.
-    let deep : depth_of_all (added args e) ≡ max (depth_of_all args) (depth e) = depth-added args e in
-    along (after s (call at0 f (added args e))) (simp append_assoc) (stands_after h (λ l. call_rule {opened = p} at (more_rule c wa w)) (omega arith))
-paren_good {us = us} {e = e} at (spells_group {at = at0} {s = s} {ts = ts} h room) w fits = λ want.
-    along (after s (group at0 e)) (simp append_assoc) (stands_after h (λ l. group_rule at w) (omega arith))
-paren_good at _ w fits = tt
+  function_keeps : {d : ℕ} (begun : ℕ) {done : List DeclarationTree} {ts : List Token} → Declared d done ts → (k : Kind) (at : ℕ)
+      → Keeps d (ts ++ (token Function begun ∷ [])) (token k at) (fixed_move expressions (awaits_function done) k at)
+  function_keeps {d = d} begun {done = done} {ts = ts} h (Name len) at = λ want.
+      along d (awaits_open done (span at len)) (simp append_assoc) (stands_open begun (span at len) h)
+  function_keeps begun h _ at = tt
 
-colon_good : {d : ℕ} {s : List Frame} {ts us : List Token} {e : Tree} (at : ℕ) → Spells d s ts → Whole 0 us e → depth e + length s ≤ d
-    → Good d (ts ++ us) (token Colon at) (colon_move s e)
-colon_good {us = us} {e = e} at (spells_body {at = at0} {s = s} {ts = ts} h room) w fits = λ want.
-    along (binder s at0 e) (simp append_assoc) (stands_binder at h w (omega arith))
-colon_good at _ w fits = tt
+  open_keeps : {d : ℕ} (begun : ℕ) (function : Span) {done : List DeclarationTree} {ts : List Token} → Declared d done ts → (k : Kind) (at : ℕ)
+      → Keeps d (ts ++ (token Function begun ∷ name_token function ∷ [])) (token k at) (fixed_move expressions (awaits_open done function) k at)
+  open_keeps {d = d} begun function {done = done} {ts = ts} h LeftParen at = λ want.
+      along d (awaits_parameter done function []) (simp append_assoc) (stands_parameter begun function at h given_none)
+  open_keeps begun function h _ at = tt
 
-brace_good : {d : ℕ} {s : List Frame} {ts us : List Token} {e : Tree} (at : ℕ) → Spells d s ts → Whole 0 us e → depth e + length s ≤ d
-    → Good d (ts ++ us) (token RightBrace at) (brace_move s e)
-brace_good {us = us} {e = e} at (spells_source {at = at0} c place i {s = s} {ts = ts} {us = vs} {e = body} h wb room) w fits = λ want.
-    along (after s (each at0 body place e)) (simp append_assoc) (stands_after h (λ l. each_rule c place i at wb w) (omega arith))
-brace_good at _ w fits = tt
+  parameter_keeps : {d : ℕ} (begun : ℕ) (function : Span) (opened : ℕ) {done : List DeclarationTree} {given : List Typed} {ts us : List Token}
+      → Declared d done ts → Given d given us → (k : Kind) (at : ℕ)
+      → Keeps d (ts ++ (token Function begun ∷ name_token function ∷ token LeftParen opened ∷ us)) (token k at)
+      (fixed_move expressions (awaits_parameter done function given) k at)
+  parameter_keeps {d = d} begun function opened {done = done} {given = given} {ts = ts} {us = us} h g (Name len) at = λ want.
+      along d (awaits_parameter_colon done function given (span at len)) (simp append_assoc) (stands_parameter_colon begun function opened (span at len) h g)
+  parameter_keeps begun function opened h g _ at = tt
 
-moved : (d : ℕ) {ts us : List Token} (t : Token) (m : Option Move) → ts ≡ us → Good d ts t m → Good d us t m
-moved d t m e h = subst (λ x. Good d x t m) e h
+  parameter_colon_keeps : {d : ℕ} (begun : ℕ) (function : Span) (opened : ℕ) (place : Span) {done : List DeclarationTree} {given : List Typed} {ts us : List Token}
+      → Declared d done ts → Given d given us → (k : Kind) (at : ℕ)
+      → Keeps d (ts ++ (token Function begun ∷ name_token function ∷ token LeftParen opened ∷ (us ++ (name_token place ∷ [])))) (token k at)
+      (fixed_move expressions (awaits_parameter_colon done function given place) k at)
+  parameter_colon_keeps {d = d} begun function opened place {done = done} {given = given} {ts = ts} {us = us} h g Colon at = λ want.
+      along d (in_type (of_parameter done function given place) types.start) (simp (append_assoc, append-nil))
+      (stands_type [] (opens_parameter begun function opened place at h g) refl)
+  parameter_colon_keeps begun function opened place h g _ at = tt
 
-after_good : {d : ℕ} {s : List Frame} {ts us : List Token} {e : Tree} → Spells d s ts → ((l : ℕ) → Whole l us e) → depth e + length s ≤ d
-    → (k : Kind) (at : ℕ) → Good d (ts ++ us) (token k at) (move (after s e) k at)
-after_good {s = s} {e = e} h w fits Plus at = infix_good Add at (reduce 0 s e) (reduce_stands h 0 (w (floor s)) (w 0) fits)
-after_good {s = s} {e = e} h w fits Minus at = infix_good Subtract at (reduce 0 s e) (reduce_stands h 0 (w (floor s)) (w 0) fits)
-after_good {s = s} {e = e} h w fits Star at = infix_good Multiply at (reduce 1 s e) (reduce_stands h 1 (w (floor s)) (w 1) fits)
-after_good {d = d} {s = s} {e = e} h w fits Comma at =
-    let R = reduce_stands h 0 (w (floor s)) (w 0) fits in
-    let r : Folded = reduce 0 s e in
-    moved d (token Comma at) (comma_move r.frames r.last) R.same (comma_good at R.spelled R.is R.fits)
-after_good {d = d} {s = s} {e = e} h w fits RightParen at =
-    let R = reduce_stands h 0 (w (floor s)) (w 0) fits in
-    let r : Folded = reduce 0 s e in
-    moved d (token RightParen at) (paren_move r.frames r.last) R.same (paren_good at R.spelled R.is R.fits)
-after_good {d = d} {s = s} {e = e} h w fits Colon at =
-    let R = reduce_stands h 0 (w (floor s)) (w 0) fits in
-    let r : Folded = reduce 0 s e in
-    moved d (token Colon at) (colon_move r.frames r.last) R.same (colon_good at R.spelled R.is R.fits)
-after_good {d = d} {s = s} {e = e} h w fits RightBrace at =
-    let R = reduce_stands h 0 (w (floor s)) (w 0) fits in
-    let r : Folded = reduce 0 s e in
-    moved d (token RightBrace at) (brace_move r.frames r.last) R.same (brace_good at R.spelled R.is R.fits)
-after_good h w fits _ at = tt
+  result_keeps : {d : ℕ} (begun : ℕ) (function : Span) (opened closed : ℕ) {done : List DeclarationTree} {parameters : List Typed} {ts us : List Token}
+      → Declared d done ts → WholeParameters us parameters → parameters_depth parameters ≤ d → (k : Kind) (at : ℕ)
+      → Keeps d (ts ++ (token Function begun ∷ name_token function ∷ token LeftParen opened ∷ (us ++ (token RightParen closed ∷ [])))) (token k at)
+      (fixed_move expressions (awaits_result done function parameters) k at)
+  result_keeps {d = d} begun function opened closed {done = done} {parameters = parameters} {ts = ts} {us = us} h w k Colon at = λ want.
+      along d (in_type (of_result done function parameters) types.start) (simp (append_assoc, append-nil))
+      (stands_type [] (opens_result begun function opened closed at h w k) refl)
+  result_keeps begun function opened closed h w k _ at = tt
 
-move_good : {d : ℕ} {s : State} {ts : List Token} → Stands d s ts → (k : Kind) (at : ℕ) → Good d ts (token k at) (move s k at)
-move_good (stands_operand h room) k at = operand_good h room k at
-move_good (stands_after h w fits) k at = after_good h w fits k at
-move_good (stands_opening {at = at0} {f = f} h room) k at = opening_good h room at0 f k at
-move_good (stands_binder {at = at0} c h w room) k at = binder_good c h w room at0 k at
-move_good (stands_binder_in {at = at0} c place h w room) k at = binder_in_good c h w room at0 place k at
+  -- the end of the type of an input, of a parameter, of a result
+  input_end_keeps : {d : ℕ} (begun : ℕ) (place : Span) (colon : ℕ) {done : List DeclarationTree} {ts : List Token} → Declared d done ts
+      → (us : List Token) (written : TypeTree) → WholeType us written → type_depth written ≤ d → (k : Kind) (at : ℕ)
+      → Keeps d ((ts ++ (token Input begun ∷ name_token place ∷ token Colon colon ∷ [])) ++ us) (token k at) (type_end expressions (of_input done place) k written)
+  input_end_keeps {d = d} begun place colon {done = done} {ts = ts} h us written w fits Semicolon at = λ want.
+      along d (between (done ++ declares_input (typed place written) ∷ [])) (simp append_assoc)
+      (stands_between (declared_more h (input_rule begun place colon at w) fits))
+  input_end_keeps begun place colon h us written w fits _ at = tt
 
-within_good : (d : ℕ) (ts : List Token) (t : Token) (m : Option Move) (next : State) → Good d ts t m → within d m ≡ Ok next → Stands d next (ts ++ (t ∷ []))
-within_good d ts t None next g e = cc
-within_good d ts t (Some x) next g e =
-    elim (cases_Bool (leb x.want d)) [
-      | inl fits ↦
-          let same : x.next ≡ next = cc (ap (λ b. cond b (Ok x.next) (Err beyond_depth)) fits) in
-          subst (λ y. Stands d y (ts ++ (t ∷ []))) same (g (leb-true x.want d fits))
-      | inr deep ↦
-          let no' : Stands d next (ts ++ (t ∷ [])) = cc (ap (λ b. cond {A = Result State Stop} b (Ok x.next) (Err beyond_depth)) deep) in no'
-    ]
+  parameter_end_keeps : {d : ℕ} (begun : ℕ) (function : Span) (opened : ℕ) (place : Span) (colon : ℕ) {done : List DeclarationTree} {given : List Typed}
+      {ts vs : List Token} → Declared d done ts → Given d given vs
+      → (us : List Token) (written : TypeTree) → WholeType us written → type_depth written ≤ d → (k : Kind) (at : ℕ)
+      → Keeps d ((ts ++ (token Function begun ∷ name_token function ∷ token LeftParen opened ∷ (vs ++ (name_token place ∷ token Colon colon ∷ [])))) ++ us) (token k at)
+      (type_end expressions (of_parameter done function given place) k written)
+  parameter_end_keeps {d = d} begun function opened place colon {done = done} {given = given} {ts = ts} {vs = vs} h g us written w fits Comma at = λ want.
+      let more = given_and g place colon us written w fits in
+      along d (awaits_parameter done function (given ++ typed place written ∷ [])) (simp append_assoc)
+      (stands_parameter begun function opened h (given_more at more.0 more.1))
+  parameter_end_keeps {d = d} begun function opened place colon {done = done} {given = given} {ts = ts} {vs = vs} h g us written w fits RightParen at = λ want.
+      let more = given_and g place colon us written w fits in
+      along d (awaits_result done function (given ++ typed place written ∷ [])) (simp append_assoc)
+      (stands_result begun function opened at h more.0 more.1)
+  parameter_end_keeps begun function opened place colon h g us written w fits _ at = tt
 
-pub step_stands : {d : ℕ} {s next : State} {ts : List Token} → Stands d s ts → (t : Token) → step d s t ≡ Ok next → Stands d next (ts ++ (t ∷ []))
-step_stands {d = d} {s = s} {next = next} {ts = ts} h t e = within_good d ts t (move s t.kind t.at) next (move_good h t.kind t.at) e
+  result_end_keeps : {d : ℕ} (begun : ℕ) (function : Span) (opened closed colon : ℕ) {done : List DeclarationTree} {parameters : List Typed}
+      {ts vs : List Token} → Declared d done ts → WholeParameters vs parameters → parameters_depth parameters ≤ d
+      → (us : List Token) (written : TypeTree) → WholeType us written → type_depth written ≤ d → (k : Kind) (at : ℕ)
+      → Keeps d ((ts ++ (token Function begun ∷ name_token function ∷ token LeftParen opened ∷ (vs ++ (token RightParen closed ∷ token Colon colon ∷ [])))) ++ us) (token k at)
+      (type_end expressions (of_result done function parameters) k written)
+  result_end_keeps {d = d} begun function opened closed colon {done = done} {parameters = parameters} {ts = ts} {vs = vs} h ws room us written w fits Equals at = λ want.
+      along d (in_body (record { done = done; function = function; parameters = parameters; result = written }) expressions.start) (simp (append_assoc, append-nil))
+      (stands_body [] (opens_body begun function opened closed colon at h ws room w fits) refl)
+  result_end_keeps begun function opened closed colon h ws room us written w fits _ at = tt
 
-pub bind_ok : (x : Result State Stop) (f : State → Result State Stop) (next : State) → bind x f ≡ Ok next
-    → (r : State) × (x ≡ Ok r) × (f r ≡ Ok next)
-bind_ok (Ok r) f next e = (r, refl, e)
-bind_ok (Err y) f next e = cc
+  type_end_keeps : {d : ℕ} {owner : TypeOf} {ts : List Token} → Opens d owner ts → (us : List Token) (written : TypeTree)
+      → WholeType us written → type_depth written ≤ d → (k : Kind) (at : ℕ) → Keeps d (ts ++ us) (token k at) (type_end expressions owner k written)
+  type_end_keeps (opens_input begun place colon h) us written w fits k at = input_end_keeps begun place colon h us written w fits k at
+  type_end_keeps (opens_parameter begun function opened place colon h g) us written w fits k at =
+      parameter_end_keeps begun function opened place colon h g us written w fits k at
+  type_end_keeps (opens_result begun function opened closed colon h ws room) us written w fits k at =
+      result_end_keeps begun function opened closed colon h ws room us written w fits k at
 
-pub go_stands : (us : List Token) {d : ℕ} {s next : State} {ts : List Token} → Stands d s ts → go d s us ≡ Ok next → Stands d next (ts ++ us)
-go_stands [] {d = d} {s = s} {next = next} {ts = ts} h e =
-    let same : s ≡ next = cc in
-    subst (λ x. Stands d x (ts ++ [])) same (along s (sym (append-nil ts)) h)
-go_stands (t ∷ us) {d = d} {s = s} {next = next} {ts = ts} h e =
-    let b = bind_ok (step d s t) (λ r. go d r us) next e in
-    along next (append_assoc ts (t ∷ []) us) (go_stands us (step_stands h t b.1) b.2)
+  -- the end of a body
+  body_end_keeps : {d : ℕ} {header : Header} {ts : List Token} → OpensBody d header ts → (us : List Token) (body : Tree)
+      → Whole 0 us body → depth body ≤ d → (k : Kind) (at : ℕ) → Keeps d (ts ++ us) (token k at) (body_end header k body)
+  body_end_keeps {d = d} (opens_body begun function opened closed colon equals {done = done} {parameters = parameters} {result = result} {ts = ts} {us = vs} {vs = ws} h wp roomy wr room) us body w fits Semicolon at = λ want.
+      along d (between (done ++ declares_function function parameters result body ∷ [])) (simp append_assoc)
+      (stands_between (declared_more h (function_rule begun function opened closed colon equals at wp wr w) (omega arith)))
+  body_end_keeps o us body w fits _ at = tt
 
--- An expression that is open inside open forms: they begin an expression together.
-pub wrap : {d : ℕ} {s : List Frame} {ts : List Token} → Spells d s ts → (n : ℕ) {us : List Token}
-    → Front (floor s) n us → n + length s ≡ d → Front 0 d (ts ++ us)
-wrap spells_empty n {us = us} f e = subst (λ k. Front 0 k us) (let e' : n ≡ _ = omega arith in e') f
-wrap {d = d} (spells_binary {at = at} {o = o} {ts = ts} {us = vs} h low w room) n {us = us} f e =
-    subst (Front 0 d) (regroup ts vs (token (sign o) at) us) (wrap h (suc n) (binary_right o at low w (omega arith) f) (omega arith))
-wrap {d = d} (spells_group {at = at} {ts = ts} h room) n {us = us} f e =
-    subst (Front 0 d) (sym (append_assoc ts (token LeftParen at ∷ []) us)) (wrap h (suc n) (group_inner f) (omega arith))
-wrap {d = d} (spells_first {at = at} p {f = g} {ts = ts} h room) n {us = us} f e =
-    subst (Front 0 d) (sym (append_assoc ts (token (word g) at ∷ token LeftParen p ∷ []) us))
-    (wrap h (suc n) (call_arguments g (first_front f)) (omega arith))
-wrap {d = d} (spells_next {at = at} p c {f = g} {ts = ts} {us = vs} h wa room) n {us = us} f e =
-    subst (Front 0 d) (simp append_assoc) (wrap h (suc n) (call_arguments {at = at} {opened = p} g (next_front c wa (omega arith) f)) (omega arith))
-wrap {d = d} (spells_body {at = at} {ts = ts} h room) n {us = us} f e =
-    subst (Front 0 d) (sym (append_assoc ts (token LeftBrace at ∷ []) us)) (wrap h (suc n) (each_body f) (omega arith))
-wrap {d = d} (spells_source {at = at} c place i {ts = ts} {us = vs} h w room) n {us = us} f e =
-    subst (Front 0 d) (simp append_assoc) (wrap h (suc n) (each_source {at = at} c place i w (omega arith) f) (omega arith))
+  step_keeps : (d : ℕ) → 1 ≤ d → (s : ProgramState State) (ts : List Token) (t : Token) → Stands d s ts → Keeps d ts t (reader.move s t)
+  step_keeps d least s ts t (stands_between {done = done} h) =
+      good_or (λ found. found.want ≤ d → Stands d found.next (ts ++ (t ∷ [])))
+      (carried (in_final done) (expressions.move expressions.start t)) (fixed_move expressions (between done) t.kind t.at)
+      (good_carried (λ found. found.want ≤ d → Stands d found.next (ts ++ (t ∷ []))) (in_final done) (expressions.move expressions.start t)
+      (λ found f want. stands_final (t ∷ []) h (goes_further expressions d expressions.start [] t found refl f want)))
+      (between_keeps h t.kind t.at)
+  step_keeps d least s ts t (stands_input begun h) = input_keeps begun h t.kind t.at
+  step_keeps d least s ts t (stands_input_colon begun place h) = input_colon_keeps begun place h t.kind t.at
+  step_keeps d least s ts t (stands_function begun h) = function_keeps begun h t.kind t.at
+  step_keeps d least s ts t (stands_open begun function h) = open_keeps begun function h t.kind t.at
+  step_keeps d least s ts t (stands_parameter begun function opened h g) = parameter_keeps begun function opened h g t.kind t.at
+  step_keeps d least s ts t (stands_parameter_colon begun function opened place h g) = parameter_colon_keeps begun function opened place h g t.kind t.at
+  step_keeps d least s ts t (stands_result begun function opened closed h w room) = result_keeps begun function opened closed h w room t.kind t.at
+  step_keeps d least s all t (stands_type {owner = owner} {s = state} {ts = ts} us o e) =
+      good_or (λ found. found.want ≤ d → Stands d found.next (all ++ (t ∷ [])))
+      (carried (in_type owner) (types.move state t)) (when_whole (types.finished state) (type_end expressions owner t.kind))
+      (good_carried (λ found. found.want ≤ d → Stands d found.next (all ++ (t ∷ []))) (in_type owner) (types.move state t)
+      (λ found f want. along d (in_type owner found.next) (sym (append_assoc ts us (t ∷ []))) (stands_type (us ++ (t ∷ [])) o (goes_further types d state us t found e f want))))
+      (good_when (λ found. found.want ≤ d → Stands d found.next (all ++ (t ∷ []))) (types.finished state) (type_end expressions owner t.kind)
+      (λ written f. let w = types_are_read.whole d us state written least e f in type_end_keeps o us written w.0 w.1 t.kind t.at))
+  step_keeps d least s all t (stands_body {header = header} {s = state} {ts = ts} us o e) =
+      good_or (λ found. found.want ≤ d → Stands d found.next (all ++ (t ∷ [])))
+      (carried (in_body header) (expressions.move state t)) (when_whole (expressions.finished state) (body_end header t.kind))
+      (good_carried (λ found. found.want ≤ d → Stands d found.next (all ++ (t ∷ []))) (in_body header) (expressions.move state t)
+      (λ found f want. along d (in_body header found.next) (sym (append_assoc ts us (t ∷ []))) (stands_body (us ++ (t ∷ [])) o (goes_further expressions d state us t found e f want))))
+      (good_when (λ found. found.want ≤ d → Stands d found.next (all ++ (t ∷ []))) (expressions.finished state) (body_end header t.kind)
+      (λ body f. let w = right.is.whole d us state body least e f in body_end_keeps o us body w.0 w.1 t.kind t.at))
+  step_keeps d least s all t (stands_final {done = done} {s = state} {ts = ts} us h e) =
+      good_carried (λ found. found.want ≤ d → Stands d found.next (all ++ (t ∷ []))) (in_final done) (expressions.move state t)
+      (λ found f want. along d (in_final done found.next) (sym (append_assoc ts us (t ∷ []))) (stands_final (us ++ (t ∷ [])) h (goes_further expressions d state us t found e f want)))
 
-pub stands_front : {d : ℕ} {s : State} {ts : List Token} → Stands d s ts → Front 0 d ts
-stands_front {d = d} {ts = ts} (stands_operand {s = s} h room) =
-    subst (Front 0 d) (append-nil ts) (wrap h (suc (d - suc (length s))) nothing (omega arith))
-stands_front {d = d} (stands_after {s = s} h w fits) = wrap h (d - length s) (whole (w (floor s)) (omega arith)) (omega arith)
-stands_front {d = d} (stands_opening {f = f} {s = s} h room) =
-    wrap h (suc (suc (d - suc (suc (length s))))) (call_word f) (omega arith)
-stands_front {d = d} (stands_binder {at = at} c {s = s} h w room) =
-    wrap h (suc (d - suc (length s))) (each_colon c w (omega arith)) (omega arith)
-stands_front {d = d} (stands_binder_in c place {s = s} h w room) =
-    wrap h (suc (d - suc (length s))) (each_name c place w (omega arith)) (omega arith)
+  -- what is read stands
+  stands_programs : (d : ℕ) (ts : List Token) (s : ProgramState State) → 1 ≤ d → go reader d reader.start ts ≡ Ok s → Stands d s ts
+  stands_programs d ts s least e =
+      go_stands reader (Stands d) d (step_keeps d least) ts reader.start s []
+      (stands_between (record { are = no_declarations; shallow = omega arith })) e
+
+  -- what leads to a type, and what begins one, begin a program
+  type_front : {d : ℕ} {owner : TypeOf} {ts us : List Token} → Opens d owner ts → FrontType d us → FrontProgram d (ts ++ us)
+  type_front {d = d} {us = us} (opens_input begun place colon {ts = ts} h) f =
+      subst (FrontProgram d) (simp append_assoc) (in_declaration h.are h.shallow (input_type begun place colon f))
+  type_front {d = d} {us = us} (opens_parameter begun function opened place colon {ts = ts} {us = vs} h g) f =
+      subst (FrontProgram d) (simp append_assoc)
+      (in_declaration h.are h.shallow (function_parameters begun function opened (given_front g (name_token place ∷ token Colon colon ∷ us) (parameter_type place colon f))))
+  type_front {d = d} {us = us} (opens_result begun function opened closed colon {ts = ts} {us = vs} h w room) f =
+      subst (FrontProgram d) (simp append_assoc) (in_declaration h.are h.shallow (function_result begun function opened closed colon w room f))
+
+  body_front : {d : ℕ} {header : Header} {ts us : List Token} → OpensBody d header ts → Front 0 d us → FrontProgram d (ts ++ us)
+  body_front {d = d} {us = us} (opens_body begun function opened closed colon equals {ts = ts} {us = vs} {vs = ws} h wp roomy wr room) f =
+      subst (FrontProgram d) (simp append_assoc) (in_declaration h.are h.shallow (function_body begun function opened closed colon equals wp roomy wr room f))
+
+  -- declarations, and what begins one more
+  declaration_front : {d : ℕ} {done : List DeclarationTree} {ts us : List Token} → Declared d done ts → FrontDeclaration d us → FrontProgram d (ts ++ us)
+  declaration_front h f = in_declaration h.are h.shallow f
+
+  stands_front : {d : ℕ} {s : ProgramState State} {ts : List Token} → Stands (suc d) s ts → FrontProgram (suc d) ts
+  stands_front {d = d} (stands_between {ts = ts} h) =
+      subst (FrontProgram (suc d)) (append-nil ts) (in_expression h.are h.shallow (nothing {here = 0} {deep = d}))
+  stands_front (stands_input begun h) = declaration_front h (input_word begun)
+  stands_front (stands_input_colon begun place h) = declaration_front h (input_name begun place)
+  stands_front (stands_function begun h) = declaration_front h (function_word begun)
+  stands_front (stands_open begun function h) = declaration_front h (function_name begun function)
+  stands_front {d = d} (stands_parameter begun function opened {ts = ts} {us = us} h g) =
+      subst (λ x. FrontProgram (suc d) (ts ++ (token Function begun ∷ name_token function ∷ token LeftParen opened ∷ x))) (append-nil us)
+      (declaration_front h (function_parameters begun function opened (given_front g [] no_parameter)))
+  stands_front (stands_parameter_colon begun function opened place h g) =
+      declaration_front h (function_parameters begun function opened (given_front g (name_token place ∷ []) (parameter_name place)))
+  stands_front (stands_result begun function opened closed h w room) = declaration_front h (function_closed begun function opened closed w room)
+  stands_front {d = d} (stands_type {s = state} us o e) = type_front o (types_are_read.stands (suc d) us state (omega arith) e)
+  stands_front {d = d} (stands_body {s = state} us o e) = body_front o (right.is.stands (suc d) us state (omega arith) e)
+  stands_front {d = d} (stands_final {s = state} us h e) = in_expression h.are h.shallow (right.is.stands (suc d) us state (omega arith) e)
+
+  -- tokens that are read begin a program within the depth
+  pub program_stands : (d : ℕ) (ts : List Token) (s : ProgramState State) → 1 ≤ d → go reader d reader.start ts ≡ Ok s → FrontProgram d ts
+  program_stands Prim.Native.Nat.zero ts s least e = absurd (omega arith)
+  program_stands (suc d) ts s least e = stands_front (stands_programs (suc d) ts s least e)
+
+  -- the program where the expression is whole
+  expression_whole : {d : ℕ} {done : List DeclarationTree} {ts : List Token} (us : List Token) (s : State) (program : ProgramTree) → 1 ≤ d → Declared d done ts
+      → go expressions d expressions.start us ≡ Ok s → with_expression expressions done (expressions.finished s) ≡ Some program
+      → WholeProgram (ts ++ us) program × (program_depth program ≤ d)
+  expression_whole {d = d} {done = done} {ts = ts} us s program least h e f = by_form (expressions.finished s) refl f
+    where
+      by_form : (found : Option Tree) → expressions.finished s ≡ found → with_expression expressions done found ≡ Some program
+          → WholeProgram (ts ++ us) program × (program_depth program ≤ d)
+      by_form None g k = absurd (let never : ⊥ = cc in never)
+      by_form (Some expression) g k =
+          let w = right.is.whole d us s expression least e g in
+          let deep : depth expression ≤ d = w.1 in
+          let shallow : declarations_depth done ≤ d = h.shallow in
+          let made : ProgramTree = record { declarations = done; expression = expression } in
+          let is : made ≡ program = cc in (
+            subst (WholeProgram (ts ++ us)) is (program_rule h.are w.0),
+            subst (λ x. program_depth x ≤ d) is (let fits : program_depth made ≤ d = omega arith in fits),
+          )
+
+  stands_whole : {d : ℕ} {s : ProgramState State} {ts : List Token} → 1 ≤ d → Stands d s ts → (program : ProgramTree) → reader.finished s ≡ Some program
+      → WholeProgram ts program × (program_depth program ≤ d)
+  stands_whole {d = d} least (stands_between {ts = ts} h) program f =
+      subst (λ x. WholeProgram x program × (program_depth program ≤ d)) (append-nil ts) (expression_whole [] expressions.start program least h refl f)
+  stands_whole least (stands_final {s = state} us h e) program f = expression_whole us state program least h e f
+  stands_whole least (stands_input begun h) program f = absurd (let never : ⊥ = cc in never)
+  stands_whole least (stands_input_colon begun place h) program f = absurd (let never : ⊥ = cc in never)
+  stands_whole least (stands_function begun h) program f = absurd (let never : ⊥ = cc in never)
+  stands_whole least (stands_open begun function h) program f = absurd (let never : ⊥ = cc in never)
+  stands_whole least (stands_parameter begun function opened h g) program f = absurd (let never : ⊥ = cc in never)
+  stands_whole least (stands_parameter_colon begun function opened place h g) program f = absurd (let never : ⊥ = cc in never)
+  stands_whole least (stands_result begun function opened closed h w room) program f = absurd (let never : ⊥ = cc in never)
+  stands_whole least (stands_type us o e) program f = absurd (let never : ⊥ = cc in never)
+  stands_whole least (stands_body us o e) program f = absurd (let never : ⊥ = cc in never)
+
+  -- where the reader has a program, the tokens are that program
+  pub program_whole : (d : ℕ) (ts : List Token) (s : ProgramState State) (program : ProgramTree) → 1 ≤ d → go reader d reader.start ts ≡ Ok s
+      → reader.finished s ≡ Some program → WholeProgram ts program × (program_depth program ≤ d)
+  program_whole d ts s program least e f = stands_whole least (stands_programs d ts s least e) program f

@@ -1,36 +1,59 @@
--- From the machine's answer to the grammar's, and to the one for the bytes.
-use Rattle.std.proofs.Common.{◌≡◌, ℕ, ◌<◌, ◌≤◌, List, [], ◌∷◌, length, Result, Ok, Err, refl, sym, subst, arith, false, eqb}
-use Rattle.std.proofs.lemmas.Bool.{eqb-false}
+-- From the reader's answer to the grammar's, and to the one for the bytes.
+use Rattle.std.proofs.Common.{◌≡◌, ℕ, ◌≤◌, List, ◌++◌, length, Result, Ok, Err, refl, sym, ◌∙◌, ap, subst, arith}
 use Rattle.std.specs.Result.{IsErrAnd, IfErr}
 use Rattle.snesl_values.specs.declared.refusal.Refusal.{Refusal}
-use Rattle.snesl_values.specs.declared.refusal.Refusal.TheVariants.{Syntax, Lex, NoMemory}
+use Rattle.snesl_values.specs.declared.refusal.Refusal.TheVariants.{Lex, NoMemory}
 use Rattle.snesl_lexer.specs.declared.token.Token.{Token}
 use Rattle.snesl_lexer.specs.Lexical.{IsBadOf, Tokens}
-use Rattle.snesl_tree.specs.declared.expr.Expr.{Expr}
+use Rattle.snesl_lexer.proofs.OneReading.{one_tokens, no_both, one_bad}
 use Rattle.snesl_tree.specs.declared.program.Program.{Program}
-use Rattle.snesl_tree.specs.Tree.{Tree}
-use Rattle.snesl_tree.specs.View.{tree_of}
-use Rattle.snesl_syntax.specs.declared.machine.Form.{Form}
-use Rattle.snesl_syntax.specs.Limits.{greatest_length, greatest_depth}
-use Rattle.snesl_syntax.specs.Grammar.{Answers, accepted, wrong, too_deep, ended}
-use Rattle.snesl_syntax.specs.Machine.{Frame, closed}
-use Rattle.snesl_syntax.specs.Parse.{Parses, too_long, bad_byte, read, IsOfText, IsRight, Returns}
-use Rattle.snesl_syntax.specs.Parsing.{frames_of, Finds, FindsOneOf}
-use Rattle.snesl_syntax.proofs.Piles.{length-frames_of}
-use Rattle.snesl_syntax.proofs.Unique.{one_parse}
+use Rattle.snesl_tree.specs.Tree.{ProgramTree, depth}
+use Rattle.snesl_tree.specs.View.{program_of}
+use Rattle.snesl_expressions.specs.Machine.{expressions}
+use Rattle.snesl_syntax.specs.declared.programs.Parsed.{Parsed}
+use Rattle.snesl_expressions.specs.Limits.{greatest_depth}
+use Rattle.snesl_syntax.specs.Limits.{greatest_length}
+use Rattle.snesl_syntax.specs.Grammar.{FrontProgram, program_depth}
+use Rattle.snesl_syntax.specs.Programs.{programs}
+use Rattle.snesl_syntax.specs.Answer.{answer}
+use Rattle.snesl_syntax.specs.Parse.{Answers, accepted, wrong, too_deep, ended, Parses, too_long, bad_byte, read, HaveOneAnswer, BeginsProgram, FrontsBeginPrograms, IsOfText, IsRight, Returns}
+use Rattle.snesl_syntax.specs.ProgramMachine.{Finds, FindsOneOf}
+use Rattle.snesl_expressions.proofs.Depths.{depth_pos}
+use Rattle.snesl_syntax.proofs.Exact.{so_far, answers, one_answer}
+use Rattle.snesl_syntax.proofs.ProgramsRead.{are_read}
 
-closed_open : (len : ℕ) (s : List Frame) (e : Tree) → 0 < length s → closed len s e ≡ Err (Syntax len)
-closed_open len [] e h = absurd (omega arith)
-closed_open len (f ∷ s) e h = refl
+-- the answer of the reader for tokens is one that the grammar wants
+pub programs_answer : (d len : ℕ) (ts : List Token) → 1 ≤ d → Answers d len ts (answer (programs expressions) d len (programs expressions).start ts)
+programs_answer d len ts least = answers (programs expressions) are_read d len ts least
 
-pub still_open : (len : ℕ) (fs : List Form) (e : Tree) → 0 < length fs → closed len (frames_of fs) e ≡ Err (Syntax len)
-still_open len fs e h = closed_open len (frames_of fs) e (omega (arith, length-frames_of fs))
+-- no text has two answers
+pub one_parse : HaveOneAnswer
+one_parse bytes r s (too_long h) (too_long k) = refl
+one_parse bytes r s (too_long h) (bad_byte k b) = absurd (omega arith)
+one_parse bytes r s (too_long h) (read k t a) = absurd (omega arith)
+one_parse bytes r s (bad_byte h b) (too_long k) = absurd (omega arith)
+one_parse bytes r s (bad_byte h b) (bad_byte {at = at} k c) = ap (λ n. Err (Lex n)) (one_bad b at c)
+one_parse bytes r s (bad_byte {at = at} h b) (read k t a) = absurd (no_both t at b)
+one_parse bytes r s (read h t a) (too_long k) = absurd (omega arith)
+one_parse bytes r s (read h t a) (bad_byte {at = at} k b) = absurd (no_both t at b)
+one_parse bytes r s (read {tokens = ts} h t a) (read {tokens = us} k u b) =
+    one_answer (programs expressions) are_read a (omega arith)
+    ∙ ap (answer (programs expressions) greatest_depth (length bytes) (programs expressions).start) (one_tokens t us u)
+    ∙ sym (one_answer (programs expressions) are_read b (omega arith))
 
-pub some_left : (n m : ℕ) → eqb n 0 ≡ false → n ≡ m → 0 < m
-some_left n m h e = let other : n ≡ 0 → ⊥ = eqb-false n 0 h in omega arith
+-- what begins a program is listed
+begun : (d : ℕ) (ts : List Token) → BeginsProgram d ts → FrontProgram d ts
+begun d ts b =
+    let least : 1 ≤ depth b.1.expression = depth_pos b.1.expression in
+    let shallow : program_depth b.1 ≤ d = b.3 in
+    let r = are_read.reads d (ts ++ b.0) b.1 b.2 b.3 in
+    so_far (programs expressions) are_read d r.0 (ts ++ b.0) (omega arith) r.1 ts b.0 refl
 
--- what is the machine's answer is one of the grammar's, where that is
-pub right_by : (P : Result Tree Refusal → Type 0) (x : Result Expr Refusal) (r : Result Tree Refusal) → P r → Finds x r → FindsOneOf P x
+pub fronts_begin : FrontsBeginPrograms
+fronts_begin d ts = (λ f. are_read.completes d ts f, begun d ts)
+
+-- what is the reader's answer is one of the grammar's, where that is
+pub right_by : (P : Result ProgramTree Refusal → Type 0) (x : Result Parsed Refusal) (r : Result ProgramTree Refusal) → P r → Finds x r → FindsOneOf P x
 right_by P (Ok e) r p h = subst P h p
 right_by P (Err NoMemory) r p h = tt
 right_by P (Err _) r p h = subst P h p
@@ -53,19 +76,19 @@ passed_on P (Ok program) refusal h k = absurd h
 passed_on P (Err e) refusal h k = subst (λ y. P (Err y)) (sym h) k
 
 -- what is one of the answers is the answer
-pub right_returns : (bytes : List ℕ) (x : Result Program Refusal) → IsRight (Parses bytes) x → (r : Result Tree Refusal) → Parses bytes r → Returns x r
-right_returns bytes (Ok program) right r p = one_parse bytes r (Ok (tree_of program.expr)) p right
+pub right_returns : (bytes : List ℕ) (x : Result Program Refusal) → IsRight (Parses bytes) x → (r : Result ProgramTree Refusal) → Parses bytes r → Returns x r
+right_returns bytes (Ok program) right r p = one_parse bytes r (Ok (program_of program)) p right
 right_returns bytes (Err NoMemory) right r p = tt
 right_returns bytes (Err _) right r p = one_parse bytes r _ p right
 
 -- the refusals that the grammar has are those of a text
-answer_of_text : {deep len : ℕ} {ts : List Token} {answer : Result Tree Refusal} → Answers deep len ts answer → IfErr answer IsOfText
+answer_of_text : {deep len : ℕ} {ts : List Token} {found : Result ProgramTree Refusal} → Answers deep len ts found → IfErr found IsOfText
 answer_of_text (accepted w h) = tt
 answer_of_text (wrong front rest stop so none) = tt
 answer_of_text (too_deep front rest stop so never deeper some) = tt
 answer_of_text (ended so none) = tt
 
-parsed_of_text : {bytes : List ℕ} {answer : Result Tree Refusal} → Parses bytes answer → IfErr answer IsOfText
+parsed_of_text : {bytes : List ℕ} {found : Result ProgramTree Refusal} → Parses bytes found → IfErr found IsOfText
 parsed_of_text (too_long h) = tt
 parsed_of_text (bad_byte h b) = tt
 parsed_of_text (read h t a) = answer_of_text a

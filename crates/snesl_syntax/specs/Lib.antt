@@ -1,6 +1,8 @@
 pub mod Limits
-pub mod Operators
+pub mod Types
 pub mod Grammar
-pub mod Machine
-pub mod Parsing
+pub mod Programs
+pub mod TypeMachine
+pub mod ProgramMachine
+pub mod Answer
 pub mod Parse

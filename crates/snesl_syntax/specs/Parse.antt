@@ -1,46 +1,66 @@
 -- What parsing answers.
-use Rattle.std.specs.Prelude.{◌≡◌, ◌↔◌, ℕ, ◌≤◌, ◌<◌, List, ◌++◌, length, Result, Ok, Err}
+use Rattle.std.specs.Prelude.{◌≡◌, ◌↔◌, ℕ, ◌≤◌, ◌<◌, List, [], ◌∷◌, ◌++◌, length, Result, Ok, Err}
 use Rattle.snesl_values.specs.declared.refusal.Refusal.{Refusal}
 use Rattle.snesl_values.specs.declared.refusal.Refusal.TheVariants.{TooLong, Lex, Syntax, Deep, NoMemory}
 use Rattle.snesl_lexer.specs.declared.token.Token.{Token}
 use Rattle.snesl_lexer.specs.Lexical.{Tokens, BadAt}
 use Rattle.snesl_tree.specs.declared.program.Program.{Program}
-use Rattle.snesl_tree.specs.Tree.{Tree, depth}
-use Rattle.snesl_tree.specs.View.{tree_of}
-use Rattle.snesl_syntax.specs.Limits.{greatest_length, greatest_depth}
-use Rattle.snesl_syntax.specs.Grammar.{Whole, Front, Answers}
+use Rattle.snesl_tree.specs.Tree.{ProgramTree}
+use Rattle.snesl_tree.specs.View.{program_of}
+use Rattle.snesl_expressions.specs.Limits.{greatest_depth}
+use Rattle.snesl_syntax.specs.Limits.{greatest_length}
+use Rattle.snesl_syntax.specs.Grammar.{WholeProgram, FrontProgram, program_depth}
+
+-- each beginning of the tokens begins a program of at most this depth
+abbrev pub BeginsSoFar : ℕ → List Token → Type 0
+BeginsSoFar deep ts = (front back : List Token) → ts ≡ front ++ back → FrontProgram deep front
+
+-- what is answered for the tokens of a text of so many bytes, within a depth
+pub data Answers (deep len : ℕ) : List Token → Result ProgramTree Refusal → Type 0 where
+  -- a program within the depth is accepted
+  accepted : {ts : List Token} {program : ProgramTree} → WholeProgram ts program → program_depth program ≤ deep → Answers deep len ts (Ok program)
+  -- a token is wrong: those before it begin a program within the depth, and with it they begin none of any depth
+  wrong : (front rest : List Token) (stop : Token) → BeginsSoFar deep front → ((any : ℕ) → ¬ FrontProgram any (front ++ (stop ∷ [])))
+      → Answers deep len (front ++ (stop ∷ rest)) (Err (Syntax stop.at))
+  -- a token is too deep: those before it begin a program within the depth, and with it they begin deeper ones alone
+  too_deep : (front rest : List Token) (stop : Token) → BeginsSoFar deep front → (¬ FrontProgram deep (front ++ (stop ∷ [])))
+      → (deeper : ℕ) → FrontProgram deeper (front ++ (stop ∷ []))
+      → Answers deep len (front ++ (stop ∷ rest)) (Err Deep)
+  -- the tokens end too early: they begin a program within the depth, and are none
+  ended : {ts : List Token} → BeginsSoFar deep ts → ((program : ProgramTree) → WholeProgram ts program → program_depth program ≤ deep → ⊥)
+      → Answers deep len ts (Err (Syntax len))
 
 -- the answer for the bytes of a text
-pub data Parses : List ℕ → Result Tree Refusal → Type 0 where
+pub data Parses : List ℕ → Result ProgramTree Refusal → Type 0 where
   -- a text over the greatest length is refused
   too_long : {bytes : List ℕ} → greatest_length < length bytes → Parses bytes (Err TooLong)
   -- a text with a bad byte is refused at the first one
   bad_byte : {bytes : List ℕ} {at : ℕ} → length bytes ≤ greatest_length → BadAt 0 bytes at → Parses bytes (Err (Lex at))
   -- a text of tokens is answered as these are
-  read : {bytes : List ℕ} {tokens : List Token} {answer : Result Tree Refusal} → length bytes ≤ greatest_length
+  read : {bytes : List ℕ} {tokens : List Token} {answer : Result ProgramTree Refusal} → length bytes ≤ greatest_length
       → Tokens 0 bytes tokens → Answers greatest_depth (length bytes) tokens answer → Parses bytes answer
 
 -- no text has two answers
 abbrev pub HaveOneAnswer : Type 0
-HaveOneAnswer = (bytes : List ℕ) (one other : Result Tree Refusal) → Parses bytes one → Parses bytes other → one ≡ other
+HaveOneAnswer = (bytes : List ℕ) (one other : Result ProgramTree Refusal) → Parses bytes one → Parses bytes other → one ≡ other
 
 -- a program within the depth begins with the tokens
 abbrev pub BeginsProgram : ℕ → List Token → Type 0
-BeginsProgram deep ts = (rest : List Token) × (tree : Tree) × Whole 0 (ts ++ rest) tree × (depth tree ≤ deep)
+BeginsProgram deep ts = (rest : List Token) × (program : ProgramTree) × WholeProgram (ts ++ rest) program × (program_depth program ≤ deep)
 
--- that is what `Front` says
+-- that is what `FrontProgram` says
 abbrev pub FrontsBeginPrograms : Type 0
-FrontsBeginPrograms = (deep : ℕ) (ts : List Token) → Front 0 deep ts ↔ BeginsProgram deep ts
+FrontsBeginPrograms = (deep : ℕ) (ts : List Token) → FrontProgram deep ts ↔ BeginsProgram deep ts
 
 -- what was returned is one of the answers, unless memory ran out
-abbrev pub IsRight : (Result Tree Refusal → Type 0) → Result Program Refusal → Type 0
-IsRight Answer (Ok program) = Answer (Ok (tree_of program.expr))
+abbrev pub IsRight : (Result ProgramTree Refusal → Type 0) → Result Program Refusal → Type 0
+IsRight Answer (Ok program) = Answer (Ok (program_of program))
 IsRight Answer (Err NoMemory) = Unit {0}
 IsRight Answer (Err refusal) = Answer (Err refusal)
 
 -- what was returned is this answer, unless memory ran out
-abbrev pub Returns : Result Program Refusal → Result Tree Refusal → Type 0
-Returns (Ok program) answer = answer ≡ Ok (tree_of program.expr)
+abbrev pub Returns : Result Program Refusal → Result ProgramTree Refusal → Type 0
+Returns (Ok program) answer = answer ≡ Ok (program_of program)
 Returns (Err NoMemory) answer = Unit {0}
 Returns (Err refusal) answer = answer ≡ Err refusal
 

@@ -2,9 +2,12 @@
 #![tactic(auto)]
 
 mod limits;
-mod machine;
-mod measured;
 mod parser;
+mod programs;
+mod types;
 
 pub use parser::{fronts_begin_programs, one_answer, parse};
-pub use snesl_tree::{Builtin, Expr, Operator, Program, Span};
+pub use snesl_tree::{
+    Binder, Builtin, Declaration, Expr, Function, Operator, Prefix, Program, Span, Typing,
+    WrittenType,
+};

@@ -2,25 +2,27 @@
 
 ghost use Rattle.std.specs.Prelude.{◌≡◌, Result, IfOk, IfErr};
 ghost use Rattle.snesl_values.specs.declared.refusal.Refusal.{Refusal};
-ghost use Rattle.snesl_tree.specs.Tree.{Tree};
-ghost use Rattle.snesl_syntax.specs.Limits.{greatest_depth};
-ghost use Rattle.snesl_syntax.specs.Grammar.{Answers};
-ghost use Rattle.snesl_syntax.specs.Machine.{answer, start};
-ghost use Rattle.snesl_syntax.specs.Parse.{Parses, HaveOneAnswer, FrontsBeginPrograms, IsOfText, IsRight, Returns};
-ghost use Rattle.snesl_syntax.specs.Parsing.{Finds, FindsOneOf};
+ghost use Rattle.snesl_tree.specs.Tree.{ProgramTree};
+ghost use Rattle.snesl_expressions.specs.Machine.{expressions};
+ghost use Rattle.snesl_expressions.specs.Limits.{greatest_depth};
+ghost use Rattle.snesl_syntax.specs.Programs.{programs};
+ghost use Rattle.snesl_syntax.specs.Answer.{answer};
+ghost use Rattle.snesl_syntax.specs.ProgramMachine.{Finds, FindsOneOf};
+ghost use Rattle.snesl_syntax.specs.Parse.{Answers, Parses, HaveOneAnswer, FrontsBeginPrograms, IsOfText, IsRight, Returns};
 
 use crate::limits::GREATEST_LENGTH;
-use crate::machine::{Machine, StepError};
+use crate::programs::{Parsed, ProgramMachine};
+use snesl_expressions::StepError;
 use snesl_lexer::{Token, tokens_of};
-use snesl_tree::{Expr, Program};
+use snesl_tree::Program;
 use snesl_values::Refusal;
 use std::alloc::Global;
 
 // The machine's answer for the tokens of a text of so many bytes.
-fn answered(alloc: Global, tokens: &[Token], len: usize) -> Result<Expr, Refusal>
-    ensures { Finds result (answer greatest_depth len start tokens.now) }
+fn answered(alloc: Global, tokens: &[Token], len: usize) -> Result<Parsed, Refusal>
+    ensures { Finds result (answer (programs expressions) greatest_depth len (programs expressions).start tokens.now) }
 {
-    let mut machine = Machine::new(alloc);
+    let mut machine = ProgramMachine::new(alloc);
     for token in tokens {
         machine = match machine.step(alloc, *token) {
             Ok(machine) => machine,
@@ -29,11 +31,14 @@ fn answered(alloc: Global, tokens: &[Token], len: usize) -> Result<Expr, Refusal
             Err(StepError::NoMemory) => return Err(Refusal::NoMemory),
         };
     }
-    machine.finish(alloc, len)
+    match machine.finish(alloc)? {
+        Some(parsed) => Ok(parsed),
+        None => Err(Refusal::Syntax(len)),
+    }
 }
 
-// The expression that the tokens of a text of so many bytes are, or the refusal.
-fn parse_tokens(alloc: Global, tokens: &[Token], len: usize) -> Result<Expr, Refusal>
+// The program that the tokens of a text of so many bytes are, or the refusal.
+fn parse_tokens(alloc: Global, tokens: &[Token], len: usize) -> Result<Parsed, Refusal>
     ensures { FindsOneOf (Answers greatest_depth len tokens.now) result }
 {
     answered(alloc, tokens, len)
@@ -41,11 +46,29 @@ fn parse_tokens(alloc: Global, tokens: &[Token], len: usize) -> Result<Expr, Ref
 
 /// The program that a text is, with a copy of the text.
 ///
-/// A program is a sum: products joined by `+` and `-`, which group to the left. A product is
-/// primaries joined by `*`. A primary is an integer, a name, `iota` or `reduce_add` with one or more
-/// arguments in parentheses, a sum in parentheses, or a comprehension `{body : name in source}`.
-/// An integer and a name have depth 1, every other form has 1 more than its deepest part. Parsing
-/// takes time linear in the length of the text.
+/// A program is declarations, none or more, and then an expression. A declaration is an input,
+/// `input name : type;`, or a function, `function name(name : type, ..) : type = expression;`, with
+/// one parameter or more.
+///
+/// A type is `int`, `bool`, a pair `(type, type)`, a vector `[type]` or a sequence `{type}`.
+///
+/// An expression is one of these, of which the first bind least:
+///
+/// - `let name = expression in expression`, and `if expression then expression else expression`;
+///   both reach as far to the right as they can
+/// - `or`; `and`; `==`, `<`, `<=`, `>` and `>=`; `++`; `+` and `-`; `*`, `/` and `%`: between two
+///   expressions. Of operators that bind alike the left one is taken first, but comparisons do not
+///   stand beside one another without parentheses
+/// - `-` and `not` before an expression
+/// - `!` between two expressions
+/// - an integer, `true`, `false` or a name; a built-in function or a name with one or more
+///   arguments in parentheses; an expression or a pair of two in parentheses; and in braces one or
+///   more items, `{item | condition}`, or a comprehension `{body : name in source; ..}`, of one to
+///   eight binders, with `| condition` behind them or without
+///
+/// `int` and `bool`, an integer, a truth value and a name have depth 1; every other type and
+/// expression has 1 more than its deepest part. A program is as deep as its deepest type, function
+/// body or expression. Parsing takes time linear in the length of the text.
 ///
 /// # Errors
 ///
@@ -64,7 +87,7 @@ pub fn parse(alloc: Global, text: &[u8]) -> Result<Program, Refusal>
     ensures right { IsRight (Parses text.now) result }
 
     // Each answer for the text is the result: every program within the limits is accepted, as its tree.
-    ensures accepts { (answer : Result Tree Refusal) → Parses text.now answer → Returns result answer }
+    ensures accepts { (answer : Result ProgramTree Refusal) → Parses text.now answer → Returns result answer }
 
     ensures keeps_text { IfOk result (λ program. program.text.items ≡ text.now) }
     ensures refusals { IfErr result IsOfText }
@@ -73,10 +96,11 @@ pub fn parse(alloc: Global, text: &[u8]) -> Result<Program, Refusal>
         return Err(Refusal::TooLong);
     }
     let tokens = tokens_of(alloc, text)?;
-    let expr = parse_tokens(alloc, &tokens, text.len())?;
+    let parsed = parse_tokens(alloc, &tokens, text.len())?;
     Ok(Program {
         text: Vec::from_slice(alloc, text)?,
-        expr,
+        declarations: parsed.declarations,
+        expr: parsed.expr,
     })
 }
 

@@ -17,12 +17,12 @@ fn separators(rt: HostRuntime) -> Result<(), Fail> {
         (b"---\n1", b"refused 3 at 0", 1),
         (b"\n---\n", b"refused 3 at 1", 1),
         // Lines that are not exactly the separator.
-        (b"1\n----\n", b"refused 3 at 3", 1),
-        (b"1\n--- \n", b"refused 3 at 3", 1),
-        (b"1\n ---\n", b"refused 3 at 4", 1),
-        (b"1---\n", b"refused 3 at 2", 1),
-        (b"1\n---\r", b"refused 3 at 3", 1),
-        (b"1\n--\n", b"refused 3 at 3", 1),
+        (b"1\n----\n", b"refused 3 at 7", 1),
+        (b"1\n--- \n", b"refused 3 at 7", 1),
+        (b"1\n ---\n", b"refused 3 at 7", 1),
+        (b"1---\n", b"refused 3 at 5", 1),
+        (b"1\n---\r", b"refused 3 at 6", 1),
+        (b"1\n--\n", b"refused 3 at 5", 1),
         // The input text.
         (b"1\n---\n x", b"refused 8 at 1", 1),
         (b"1\n---\n---\n", b"refused 8 at 0", 1),

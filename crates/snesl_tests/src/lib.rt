@@ -14,6 +14,8 @@ mod inputs;
 #[cfg(test)]
 mod jobs;
 #[cfg(test)]
+mod language;
+#[cfg(test)]
 mod limits;
 #[cfg(test)]
 mod network;

@@ -78,3 +78,61 @@ fn counts(rt: HostRuntime) -> Result<(), Fail> {
     let text = nested(rt.alloc(), 20_000, b"", b"iota(1", b",1", b")")?;
     assert_prints(&rt, rt.alloc(), &text, b"refused 6 at 0", 1)
 }
+
+// A comprehension of so many binders over sequences of one element.
+fn comprehension(alloc: Global, binders: u8) -> Result<Vec<u8>, AllocError> {
+    let mut text = b"{1 : ".to_vec(alloc)?;
+    for binder in 0..binders {
+        if binder > 0 {
+            text.extend_from_slice(b"; ")?;
+        }
+        text.push(b'a' + binder)?;
+        text.extend_from_slice(b" in iota(1)")?;
+    }
+    text.push(b'}')?;
+    Ok(text)
+}
+
+#[test]
+fn binders(rt: HostRuntime) -> Result<(), Fail> {
+    let text = comprehension(rt.alloc(), 8)?;
+    assert_prints(&rt, rt.alloc(), &text, b"{1}", 0)?;
+    let text = comprehension(rt.alloc(), 9)?;
+    assert_prints(&rt, rt.alloc(), &text, b"refused 3 at 115", 1)
+}
+
+#[test]
+fn types(rt: HostRuntime) -> Result<(), Fail> {
+    let alloc = rt.alloc();
+    let ty = nested(alloc, 64, b"{", b"int", b"}", b"; 1")?;
+    let mut text = b"input x : ".to_vec(alloc)?;
+    text.extend_from_slice(&ty)?;
+    assert_prints(&rt, alloc, &text, b"refused 4", 1)?;
+    let ty = nested(alloc, 63, b"{", b"int", b"}", b"; 1\n---\nx = {}")?;
+    let mut text = b"input x : ".to_vec(alloc)?;
+    text.extend_from_slice(&ty)?;
+    assert_prints(&rt, alloc, &text, b"1", 0)
+}
+
+// So many declared functions `aa`, `ab` .., and an expression.
+fn with_functions(alloc: Global, count: u8) -> Result<Vec<u8>, AllocError> {
+    let mut text = Vec::new(alloc);
+    for function in 0..count {
+        text.extend_from_slice(b"function ")?;
+        text.push(b'a' + function / 16)?;
+        text.push(b'a' + function % 16)?;
+        text.extend_from_slice(b"(x : int) : int = x;")?;
+    }
+    text.push(b'1')?;
+    Ok(text)
+}
+
+#[test]
+fn declarations(rt: HostRuntime) -> Result<(), Fail> {
+    let text = with_functions(rt.alloc(), 64)?;
+    assert_prints(&rt, rt.alloc(), &text, b"1", 0)?;
+    // Too many functions are refused before what else is wrong.
+    let mut text = with_functions(rt.alloc(), 65)?;
+    text.extend_from_slice(b" + y")?;
+    assert_prints(&rt, rt.alloc(), &text, b"refused 9", 1)
+}

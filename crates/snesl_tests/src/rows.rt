@@ -61,7 +61,7 @@ fn faults(rt: HostRuntime) -> Result<(), Fail> {
 
 #[test]
 fn refusals_of_the_text(rt: HostRuntime) -> Result<(), Fail> {
-    let rows: [(&[u8], &[u8]); 22] = [
+    let rows: [(&[u8], &[u8]); 19] = [
         (b"", b"refused 3 at 0"),
         (b"1 # 2", b"refused 2 at 2"),
         (b"1 2 # 3", b"refused 2 at 4"),
@@ -78,12 +78,9 @@ fn refusals_of_the_text(rt: HostRuntime) -> Result<(), Fail> {
         (b"1 +", b"refused 3 at 3"),
         (b"1 + + 1", b"refused 3 at 4"),
         (b"12ab", b"refused 3 at 2"),
-        (b"{1, 2", b"refused 3 at 2"),
         (b"{x : y}", b"refused 3 at 6"),
         (b"{x : iota in 1}", b"refused 3 at 5"),
-        (b"let x = 1 in x", b"refused 3 at 0"),
-        (b"1 <= 2", b"refused 3 at 2"),
-        (b"1 ++ 2", b"refused 3 at 2"),
+        (b"1 ++", b"refused 3 at 4"),
     ];
     for (program, line) in rows {
         assert_prints(&rt, rt.alloc(), program, line, 1)?;

@@ -2,7 +2,7 @@
 use Rattle.std.proofs.Math.Bool.{Bool-set}
 use Rattle.snesl_values.specs.Types.{Ty, int, bool, pair, vec, seq}
 use Rattle.snesl_values.specs.Values.{Value, an_int, a_bool, a_pair, a_vec, a_seq, Values, no_values, more_values, HasType, AllHaveType}
-use Rattle.snesl_types.specs.Eval.{Answer, gives, faults}
+use Rattle.snesl_evaluation.specs.Answer.{Answer, gives, faults}
 use Rattle.snesl_types.specs.Soundness.{Safe}
 
 mutual

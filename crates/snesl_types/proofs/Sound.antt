@@ -1,184 +1,253 @@
--- Evaluation keeps types: by induction over the derivation.
-use Rattle.std.proofs.Common.{◌≡◌, ◌≢◌, ℕ, suc, zero, ◌≤◌, Bool, true, false, if◌then◌else◌, List, [], ◌∷◌, Some, ℤ, pos, negsuc, ◌+ℤ◌, refl, subst, arith}
-use Rattle.std.proofs.lemmas.Bool.{leb-true, le-leb}
-use Rattle.std.specs.Prelude.{nat_le}
-use Rattle.std.specs.Str.{bytes_eq}
-use Rattle.snesl_values.specs.declared.fault.FaultKind.TheVariants.{Overflow, NegativeCount, Shape}
-use Rattle.snesl_values.specs.Integers.{IsInteger, is_integer, greatest_integer}
-use Rattle.snesl_values.specs.Types.{Ty, int, seq, is_concrete}
-use Rattle.snesl_values.specs.Values.{Value, an_int, a_bool, a_pair, a_vec, a_seq, Values, no_values, more_values, list_of, values_of, HasType, AllHaveType}
+-- What checking answers for an expression is what the rules say of it.
+use Rattle.std.proofs.Common.{◌≡◌, ℕ, ℤ, Bool, true, false, ◌&&◌, cond, List, [], ◌∷◌, ◌++◌, Option, Some, None, is_some, Result, Ok, Err, refl, sym, ap, subst, append_assoc, ◌∙◌}
+use Rattle.std.proofs.lemmas.List.{append-nil}
+use Rattle.snesl_values.specs.declared.refusal.Refusal.{Refusal}
+use Rattle.snesl_values.specs.declared.refusal.Refusal.TheVariants.{Mismatch, Streamed, TooBig, NoMemory}
+use Rattle.snesl_values.specs.Inputs.{Declaration}
+use Rattle.snesl_values.specs.Integers.{is_integer}
+use Rattle.snesl_values.specs.Types.{Ty, int, bool, pair, vec, seq}
 use Rattle.snesl_tree.specs.declared.operator.Builtin.{Builtin}
-use Rattle.snesl_tree.specs.declared.operator.Builtin.TheVariants.{Iota, ReduceAdd}
 use Rattle.snesl_tree.specs.declared.operator.Operator.{Operator}
+use Rattle.snesl_tree.specs.declared.operator.Prefix.{Prefix}
+use Rattle.snesl_tree.specs.declared.span.Span.{Span}
 use Rattle.snesl_tree.specs.Spelling.{spelling}
-use Rattle.snesl_tree.specs.Tree.{Tree, Trees}
-use Rattle.snesl_values.specs.Inputs.{Environment}
-use Rattle.snesl_types.specs.Eval.{Answer, gives, faults, go, go_all, named, in_range, computed, int_at, items_at, int_answer, seq_answer, binary_answer, numbers_below, iota_answer, sum_answer, applied, eval, eval_all}
-use Rattle.snesl_types.specs.Soundness.{Fits, Holds, Safe, TypedProgramsAreSound}
-use Rattle.snesl_types.specs.Typing.{Binding, open_to, shut, Context, found, shut_if_streamed, inside, result_of, Types, integer_type, name_type, binary_type, call_type, group_type, each_type, AllTypes, no_types, more_types}
+use Rattle.snesl_tree.specs.Tree.{Tree, Trees, Binders, Condition, integer, truth, name, binary, prefix, call, apply, group, pair as pair_tree, binding, choice, literal, filter, each, none, both, none_bound, binder, always, only_where}
+use Rattle.snesl_types.specs.Contexts.{Binding, open_to, shut, Context, bound, opened, found, inside, type_in, Signature, Signatures, function_named}
+use Rattle.snesl_types.specs.Forms.{is_same, operator_result, prefix_result, result_of, tabs_streamed}
+use Rattle.snesl_types.specs.Sizes.{is_small}
+use Rattle.snesl_types.specs.Ranges.{IsInRange, AreInRange, BindersInRange, ConditionInRange}
+use Rattle.snesl_types.specs.Programs.{and_then}
+use Rattle.snesl_types.specs.Typing.{Types, Gives, AllTypes, BindersType, ConditionTypes, has_type, integer_type, truth_type, name_type, binary_type, prefix_type, call_type, apply_type, group_type, pair_type, binding_type, choice_type, literal_type, filter_type, each_type, no_types, more_types, no_binders, more_binders, no_condition, condition_type}
+use Rattle.snesl_types.specs.Violations.{Violates, AnyViolates, BindersViolate, big_type, unbound, streamed, left_violates, right_violates, operands_mismatch, operand_violates, operand_mismatch, argument_violates, arguments_mismatch, tab_streamed, call_violates, call_unbound, call_mismatch, inner_violates, first_part_violates, second_part_violates, value_violates, binding_violates, choice_violates, positive_violates, negative_violates, choice_mismatch, item_violates, items_mismatch, filtered_violates, filter_violates, filter_mismatch, binder_violates, condition_violates, body_violates, condition_mismatch, first_violates, later_violates, source_violates, bound_twice, binder_mismatch, later_binder_violates}
+use Rattle.snesl_types.specs.Verdicts.{sized, rule, verdict, verdicts, binders_verdict, condition_verdict, of_binding, or_refused, of_builtin, of_function, of_items, of_binder, are_same, all_same}
+use Rattle.snesl_types.proofs.Outcomes.{Outcome, given, violated, out_of_range, then_outcome, both_outcome}
+use Rattle.snesl_types.proofs.Same.{and_true, and_left, and_right, same_eq, same_of, are_same_self, are_same_eq, all_same_of, all_same_are}
 
--- each value is of the type
-abbrev AllOf : List Value → Ty → Type 0
-AllOf [] t = Unit {0}
-AllOf (v ∷ vs) t = HasType v t × AllOf vs t
+-- a condition has violations of its own only where there is one
+abbrev pub ConditionViolates : List ℕ → Signatures → Context → Condition → Refusal → Type 0
+ConditionViolates text functions context always refusal = ⊥
+ConditionViolates text functions context (only_where tree) refusal = Violates text functions context tree refusal
 
--- the values are of these types, in order
-abbrev Each : List Value → List Ty → Type 0
-Each [] [] = Unit {0}
-Each (v ∷ vs) (t ∷ ts) = HasType v t × Each vs ts
-Each _ _ = ⊥
+module _ (text : List ℕ) (functions : Signatures) (context : Context) where
+  -- what the rule of a form says of a tree, and what the tree's typing says
+  abbrev pub OfForm : Tree → Result Ty Refusal → Type 0
+  OfForm tree r = Outcome (Gives text functions context tree) (Violates text functions context tree) (IsInRange tree) r
 
-listed : (vs : Values) (t : Ty) → AllHaveType vs t → AllOf (list_of vs) t
-listed no_values t h = tt
-listed (more_values v vs) t h = (h.0, listed vs t h.1)
+  abbrev pub OfTree : Tree → Result Ty Refusal → Type 0
+  OfTree tree r = Outcome (Types text functions context tree) (Violates text functions context tree) (IsInRange tree) r
 
-unlisted : (vs : List Value) (t : Ty) → AllOf vs t → AllHaveType (values_of vs) t
-unlisted [] t h = tt
-unlisted (v ∷ vs) t h = (h.0, unlisted vs t h.1)
+  abbrev pub OfTrees : List Ty → Trees → Result (List Ty) Refusal → Type 0
+  OfTrees earlier trees r =
+      Outcome (λ all. (ts : List Ty) × AllTypes text functions context trees ts × (all ≡ earlier ++ ts)) (AnyViolates text functions context trees) (AreInRange trees) r
 
-go_safe : {A B : Type 0} (P : A → Type 0) (Q : B → Type 0) (answer : Answer A) (next : A → Answer B)
-    → Safe P answer → ((x : A) → P x → Safe Q (next x)) → Safe Q (go answer next)
-go_safe P Q (gives x) next h k = k x h
-go_safe P Q (faults kind at) next h k = h
+  abbrev pub OfBinders : List Declaration → Binders → Result (List Declaration) Refusal → Type 0
+  OfBinders earlier binders r =
+      Outcome (BindersType text functions context earlier binders) (BindersViolate text functions context earlier binders) (BindersInRange binders) r
 
-overflow_other : Overflow ≢ Shape
-overflow_other e = cc
+  small_outcome : (tree : Tree) (t : Ty) → Gives text functions context tree t → (b : Bool) → is_small t ≡ b → OfTree tree (cond b (Ok t) (Err TooBig))
+  small_outcome tree t g true e = given (has_type g e)
+  small_outcome tree t g false e = violated (big_type g e)
 
-negative_other : NegativeCount ≢ Shape
-negative_other e = cc
+  sized_outcome : (tree : Tree) {r : Result Ty Refusal} → OfForm tree r → OfTree tree (sized r)
+  sized_outcome tree (given {x = t} g) = small_outcome tree t g (is_small t) refl
+  sized_outcome tree (violated v) = violated v
+  sized_outcome tree (out_of_range n) = out_of_range n
 
-int_safe : (at : ℕ) (v : Value) → HasType v int → Safe IsInteger (int_at at v)
-int_safe at (an_int n) h = h
-int_safe at (a_bool b) h = absurd h
-int_safe at (a_pair a b) h = absurd h
-int_safe at (a_vec vs) h = absurd h
-int_safe at (a_seq vs) h = absurd h
+  of_integer : (at : ℕ) (value : ℤ) (b : Bool) → is_integer value ≡ b → OfForm (integer at value) (cond b (Ok int) (Err NoMemory))
+  of_integer at value true e = given (integer_type e)
+  of_integer at value false e = out_of_range (λ h. cc)
 
-items_safe : (at : ℕ) (v : Value) (t : Ty) → HasType v (seq t) → Safe (λ vs. AllOf vs t) (items_at at v)
-items_safe at (a_seq vs) t h = listed vs t h
-items_safe at (an_int n) t h = absurd h
-items_safe at (a_bool b) t h = absurd h
-items_safe at (a_pair a b) t h = absurd h
-items_safe at (a_vec vs) t h = absurd h
+  of_name : (place : Span) (o : Option Binding) → found (spelling text place) context ≡ o → OfForm (name place) (of_binding place o)
+  of_name place None e = violated (unbound e)
+  of_name place (Some shut) e = violated (streamed e)
+  of_name place (Some (open_to t)) e = given (name_type e)
 
-in_range_safe : (at : ℕ) (n : ℤ) → Safe IsInteger (in_range at n)
-in_range_safe at n = by_test (is_integer n) refl
-  where
-    by_test : (b : Bool) → is_integer n ≡ b → Safe IsInteger (if b then gives n else faults Overflow at)
-    by_test true e = e
-    by_test false e = overflow_other
+  of_operands : (at : ℕ) (operator : Operator) (left right : Tree) (t u : Ty) → Types text functions context left t → Types text functions context right u
+      → (o : Option Ty) → operator_result operator t u ≡ o → OfForm (binary at operator left right) (or_refused (Mismatch at) o)
+  of_operands at operator left right t u a b None e = violated (operands_mismatch a b e)
+  of_operands at operator left right t u a b (Some v) e = given (binary_type a b e)
 
-int_answer_safe : (answer : Answer ℤ) → Safe IsInteger answer → Safe (λ v. HasType v int) (int_answer answer)
-int_answer_safe (gives n) h = h
-int_answer_safe (faults kind at) h = h
+  of_operand : (at : ℕ) (operator : Prefix) (operand : Tree) (t : Ty) → Types text functions context operand t
+      → (o : Option Ty) → prefix_result operator t ≡ o → OfForm (prefix at operator operand) (or_refused (Mismatch at) o)
+  of_operand at operator operand t a None e = violated (operand_mismatch a e)
+  of_operand at operator operand t a (Some v) e = given (prefix_type a e)
 
-seq_answer_safe : (answer : Answer (List Value)) (t : Ty) → Safe (λ vs. AllOf vs t) answer → Safe (λ v. HasType v (seq t)) (seq_answer answer)
-seq_answer_safe (gives vs) t h = unlisted vs t h
-seq_answer_safe (faults kind at) t h = h
+  of_call : (at : ℕ) (function : Builtin) (arguments : Trees) (ts : List Ty) → AllTypes text functions context arguments ts
+      → (o : Option Ty) → result_of function ts ≡ o → (b : Bool) → tabs_streamed function ts ≡ b
+      → OfForm (call at function arguments) (or_refused (cond b (Streamed at) (Mismatch at)) o)
+  of_call at function arguments ts all (Some t) e b f = given (call_type all e)
+  of_call at function arguments ts all None e true f = violated (tab_streamed all f)
+  of_call at function arguments ts all None e false f = violated (arguments_mismatch all e f)
 
-binary_safe : (at : ℕ) (operator : Operator) (x y : Value) → HasType x int → HasType y int
-    → Safe (λ v. HasType v int) (binary_answer at operator x y)
-binary_safe at operator x y hx hy =
-    go_safe IsInteger (λ v. HasType v int) (int_at at x) (λ m. go (int_at at y) (λ n. int_answer (in_range at (computed operator m n)))) (int_safe at x hx) (λ m hm.
-    go_safe IsInteger (λ v. HasType v int) (int_at at y) (λ n. int_answer (in_range at (computed operator m n))) (int_safe at y hy) (λ n hn.
-    int_answer_safe (in_range at (computed operator m n)) (in_range_safe at (computed operator m n))))
+  of_fit : (place : Span) (arguments : Trees) (ts : List Ty) (signature : Signature) → AllTypes text functions context arguments ts
+      → function_named (spelling text place) functions ≡ Some signature → (b : Bool) → are_same ts signature.parameters ≡ b
+      → OfForm (apply place arguments) (cond b (Ok signature.result) (Err (Mismatch place.at)))
+  of_fit place arguments ts signature all e true f =
+      given (apply_type (subst (AllTypes text functions context arguments) (are_same_eq ts signature.parameters f) all) e)
+  of_fit place arguments ts signature all e false f =
+      violated (call_mismatch all e (λ same. let g = ap (are_same ts) (sym same) ∙ are_same_refl in cc))
+    where
+      are_same_refl : are_same ts ts ≡ true
+      are_same_refl = are_same_self ts
 
-sum_safe : (at : ℕ) (so_far : ℤ) (vs : List Value) → IsInteger so_far → AllOf vs int → Safe IsInteger (sum_answer at so_far vs)
-sum_safe at so_far [] h hs = h
-sum_safe at so_far (v ∷ vs) h hs =
-    go_safe IsInteger IsInteger (int_at at v) (λ n. go (in_range at (so_far +ℤ n)) (λ sum. sum_answer at sum vs)) (int_safe at v hs.0) (λ n hn.
-    go_safe IsInteger IsInteger (in_range at (so_far +ℤ n)) (λ sum. sum_answer at sum vs) (in_range_safe at (so_far +ℤ n)) (λ sum hsum.
-    sum_safe at sum vs hsum hs.1))
+  of_apply : (place : Span) (arguments : Trees) (ts : List Ty) → AllTypes text functions context arguments ts
+      → (o : Option Signature) → function_named (spelling text place) functions ≡ o → OfForm (apply place arguments) (of_function place ts o)
+  of_apply place arguments ts all None e = violated (call_unbound all e)
+  of_apply place arguments ts all (Some signature) e = of_fit place arguments ts signature all e (are_same ts signature.parameters) refl
 
-less_fits : (n limit : ℕ) → nat_le (suc n) limit ≡ true → nat_le n limit ≡ true
-less_fits n limit h = let k : suc n ≤ limit = leb-true (suc n) limit h in le-leb n limit (omega arith)
+  of_branches : (at : ℕ) (condition positive negative : Tree) (t u v : Ty) → Types text functions context condition t
+      → Types text functions context positive u → Types text functions context negative v
+      → (b : Bool) → (is_same t bool && is_same u v) ≡ b → OfForm (choice at condition positive negative) (cond b (Ok u) (Err (Mismatch at)))
+  of_branches at condition positive negative t u v x y z true e =
+      given (choice_type (subst (Types text functions context condition) (same_eq t bool (and_left (is_same t bool) (is_same u v) e)) x) y
+      (subst (Types text functions context negative) (sym (same_eq u v (and_right (is_same t bool) (is_same u v) e))) z))
+  of_branches at condition positive negative t u v x y z false e =
+      violated (choice_mismatch x y z (λ same. let g = and_true (same_of same.0) (same_of same.1) in cc))
 
-below_safe : (n : ℕ) (others : List Value) → IsInteger (pos n) → AllOf others int → AllOf (numbers_below n others) int
-below_safe zero others h hs = hs
-below_safe (suc n) others h hs = let less : IsInteger (pos n) = less_fits n greatest_integer h in below_safe n (an_int (pos n) ∷ others) less (less, hs)
+  of_literal : (at : ℕ) (items : Trees) (ts : List Ty) → AllTypes text functions context items ts → OfForm (literal at items) (of_items at ts)
+  of_literal at items [] all = violated (items_mismatch all (λ h. h))
+  of_literal at items (t ∷ ts) all = by_test (all_same t ts) refl
+    where
+      by_test : (b : Bool) → all_same t ts ≡ b → OfForm (literal at items) (cond b (Ok (seq t)) (Err (Mismatch at)))
+      by_test true e = given (literal_type all (all_same_are t ts e))
+      by_test false e = violated (items_mismatch all (λ h. let g = all_same_of t ts h in cc))
 
-iota_safe : (at : ℕ) (n : ℤ) → IsInteger n → Safe (λ v. HasType v (seq int)) (iota_answer at n)
-iota_safe at (pos n) h = unlisted (numbers_below n []) int (below_safe n [] h tt)
-iota_safe at (negsuc n) h = negative_other
+  of_condition : (at : ℕ) (item condition : Tree) (t u : Ty) → Types text functions context item t → Types text functions context condition u
+      → (b : Bool) → is_same u bool ≡ b → OfForm (filter at item condition) (cond b (Ok (seq t)) (Err (Mismatch at)))
+  of_condition at item condition t u x y true e = given (filter_type x (subst (Types text functions context condition) (same_eq u bool e) y))
+  of_condition at item condition t u x y false e = violated (filter_mismatch x y (λ same. let g = same_of same in cc))
 
-applied_safe : (at : ℕ) (function : Builtin) (ts : List Ty) (t : Ty) (vs : List Value)
-    → result_of function ts ≡ Some t → Each vs ts → Safe (λ v. HasType v t) (applied at function vs)
-applied_safe at Iota (int ∷ []) t (v ∷ []) e h =
-    let same : seq int ≡ t = cc in
-    subst (λ u. Safe (λ v'. HasType v' u) (go (int_at at v) (iota_answer at))) same
-    (go_safe IsInteger (λ v'. HasType v' (seq int)) (int_at at v) (iota_answer at) (int_safe at v h.0) (iota_safe at))
-applied_safe at ReduceAdd (seq int ∷ []) t (v ∷ []) e h =
-    let same : int ≡ t = cc in
-    subst (λ u. Safe (λ v'. HasType v' u) (go (items_at at v) (λ vs. int_answer (sum_answer at (pos 0) vs)))) same
-    (go_safe (λ vs. AllOf vs int) (λ v'. HasType v' int) (items_at at v) (λ vs. int_answer (sum_answer at (pos 0) vs)) (items_safe at v int h.0) (λ vs hs.
-    int_answer_safe (sum_answer at (pos 0) vs) (sum_safe at (pos 0) vs refl hs)))
-applied_safe at Iota (int ∷ []) t [] e h = absurd h
-applied_safe at Iota (int ∷ []) t (v ∷ w ∷ vs) e h = absurd h.1
-applied_safe at ReduceAdd (seq int ∷ []) t [] e h = absurd h
-applied_safe at ReduceAdd (seq int ∷ []) t (v ∷ w ∷ vs) e h = absurd h.1
-applied_safe at _ _ t vs e h = cc
+  in_condition : (at : ℕ) (body : Tree) (binders : Binders) (condition : Condition) (items : List Declaration) (t u : Ty)
+      → BindersType text functions context [] binders items
+      → ConditionTypes text functions (opened items ++ inside context) condition t → Types text functions (opened items ++ inside context) body u
+      → (b : Bool) → is_same t bool ≡ b → OfForm (each at body binders condition) (cond b (Ok (seq u)) (Err (Mismatch at)))
+  in_condition at body binders condition items t u bs c y true e =
+      given (each_type bs (subst (ConditionTypes text functions (opened items ++ inside context) condition) (same_eq t bool e) c) y)
+  in_condition at body binders condition items t u bs c y false e = violated (condition_mismatch bs c y (λ same. let g = same_of same in cc))
 
-named_safe : (at : ℕ) (bytes : List ℕ) (context : Context) (environment : Environment) (t : Ty)
-    → found bytes context ≡ Some (open_to t) → Holds context environment → Safe (λ v. HasType v t) (named at bytes environment)
-named_safe at bytes [] environment t e h = cc
-named_safe at bytes (entry ∷ context) [] t e h = absurd h
-named_safe at bytes (entry ∷ context) ((spelled, value) ∷ environment) t e h =
-    subst (λ b. Safe (λ v. HasType v t) (if bytes_eq bytes b then gives value else named at bytes environment)) h.0
-    (by_test (bytes_eq bytes entry.bytes) e (λ later. named_safe at bytes context environment t later h.2))
-  where
-    by_test : (b : Bool) → (if b then Some entry.binding else found bytes context) ≡ Some (open_to t)
-        → (found bytes context ≡ Some (open_to t) → Safe (λ v. HasType v t) (named at bytes environment))
-        → Safe (λ v. HasType v t) (if b then gives value else named at bytes environment)
-    by_test true e' later = let same : entry.binding ≡ open_to t = cc in subst (Fits value) same h.1
-    by_test false e' later = later e'
+  -- a condition's violation is one of the comprehension
+  in_each : (at : ℕ) (body : Tree) (binders : Binders) (condition : Condition) (items : List Declaration) (r : Refusal)
+      → BindersType text functions context [] binders items → ConditionViolates text functions (opened items ++ inside context) condition r
+      → Violates text functions context (each at body binders condition) r
+  in_each at body binders always items r bs v = absurd v
+  in_each at body binders (only_where condition) items r bs v = condition_violates bs v
 
--- the values still fit where streamed names are shut
-inside_holds : (context : Context) (environment : Environment) → Holds context environment → Holds (inside context) environment
-inside_holds [] environment h = tt
-inside_holds (entry ∷ context) [] h = absurd h
-inside_holds (entry ∷ context) ((spelled, value) ∷ environment) h = (h.0, fits entry.binding h.1, inside_holds context environment h.2)
-  where
-    by_test : (b : Bool) (t : Ty) → HasType value t → Fits value (if b then open_to t else shut)
-    by_test true t f = f
-    by_test false t f = tt
-
-    fits : (binding : Binding) → Fits value binding → Fits value (shut_if_streamed binding)
-    fits (open_to t) f = by_test (is_concrete t) t f
-    fits shut f = tt
-
-all_safe : (f : Value → Answer Value) (s t : Ty) (vs : List Value) → ((v : Value) → HasType v s → Safe (λ w. HasType w t) (f v))
-    → AllOf vs s → Safe (λ ws. AllOf ws t) (go_all f vs)
-all_safe f s t [] k h = tt
-all_safe f s t (v ∷ vs) k h =
-    go_safe (λ w. HasType w t) (λ ws. AllOf ws t) (f v) (λ w. go (go_all f vs) (λ ws. gives (w ∷ ws))) (k v h.0) (λ w hw.
-    go_safe (λ ws. AllOf ws t) (λ ws. AllOf ws t) (go_all f vs) (λ ws. gives (w ∷ ws)) (all_safe f s t vs k h.1) (λ ws hws. (hw, hws)))
+abbrev OfCondition : List ℕ → Signatures → Context → Condition → Result Ty Refusal → Type 0
+OfCondition text functions context condition r =
+    Outcome (ConditionTypes text functions context condition) (ConditionViolates text functions context condition) (ConditionInRange condition) r
 
 mutual
-  sound : {text : List ℕ} {context : Context} {tree : Tree} {t : Ty} → Types text context tree t → (environment : Environment)
-      → Holds context environment → Safe (λ v. HasType v t) (eval tree text environment)
-  sound (integer_type h) environment holds = h
-  sound {text = text} {context = context} (name_type {place = place} {t = t} e) environment holds =
-      named_safe place.at (spelling text place) context environment t e holds
-  sound {text = text} (binary_type {at = at} {operator = operator} {left = left} {right = right} d1 d2) environment holds =
-      go_safe (λ v. HasType v int) (λ v. HasType v int) (eval left text environment) (λ x. go (eval right text environment) (λ y. binary_answer at operator x y)) (sound d1 environment holds) (λ x hx.
-      go_safe (λ v. HasType v int) (λ v. HasType v int) (eval right text environment) (λ y. binary_answer at operator x y) (sound d2 environment holds) (λ y hy.
-      binary_safe at operator x y hx hy))
-  sound {text = text} (call_type {at = at} {function = function} {arguments = arguments} {ts = ts} {t = t} ds e) environment holds =
-      go_safe (λ vs. Each vs ts) (λ v. HasType v t) (eval_all arguments text environment) (applied at function) (sound_all ds environment holds) (λ vs h.
-      applied_safe at function ts t vs e h)
-  sound (group_type d) environment holds = sound d environment holds
-  sound {text = text} {context = context} (each_type {at = at} {body = body} {source = source} {place = place} {item = item} {t = t} d1 d2) environment holds =
-      let f : Value → Answer Value = λ v. eval body text ((spelling text place, v) ∷ environment) in
-      go_safe (λ v. HasType v (seq item)) (λ v. HasType v (seq t)) (eval source text environment) (λ s. go (items_at at s) (λ vs. seq_answer (go_all f vs))) (sound d1 environment holds) (λ s hs.
-      go_safe (λ vs. AllOf vs item) (λ v. HasType v (seq t)) (items_at at s) (λ vs. seq_answer (go_all f vs)) (items_safe at s item hs) (λ vs hvs.
-      seq_answer_safe (go_all f vs) t (all_safe f item t vs (λ v hv. sound d2 ((spelling text place, v) ∷ environment) (refl, hv, inside_holds context environment holds)) hvs)))
+  pub form_sound : (text : List ℕ) (functions : Signatures) (context : Context) (tree : Tree) → OfForm text functions context tree (rule text functions context tree)
+  form_sound text functions context (integer at value) = of_integer text functions context at value (is_integer value) refl
+  form_sound text functions context (truth at value) = given truth_type
+  form_sound text functions context (name place) = of_name text functions context place (found (spelling text place) context) refl
+  form_sound text functions context (binary at operator left right) =
+      both_outcome _ (sized_outcome text functions context left (form_sound text functions context left)) (sized_outcome text functions context right (form_sound text functions context right))
+      (λ r v. left_violates v) (λ h. h.0) (λ t a r v. right_violates a v) (λ h. h.1)
+      (λ t u a b. of_operands text functions context at operator left right t u a b (operator_result operator t u) refl)
+  form_sound text functions context (prefix at operator operand) =
+      then_outcome _ (sized_outcome text functions context operand (form_sound text functions context operand))
+      (λ r v. operand_violates v) (λ h. h) (λ t a. of_operand text functions context at operator operand t a (prefix_result operator t) refl)
+  form_sound text functions context (call at function arguments) =
+      then_outcome _ (all_sound text functions context [] arguments) (λ r v. argument_violates v) (λ h. h)
+      (λ ts all. subst (λ us. OfForm text functions context (call at function arguments) (of_builtin at function us)) (sym all.2)
+      (of_call text functions context at function arguments all.0 all.1 (result_of function all.0) refl (tabs_streamed function all.0) refl))
+  form_sound text functions context (apply place arguments) =
+      then_outcome _ (all_sound text functions context [] arguments) (λ r v. call_violates v) (λ h. h)
+      (λ ts all. subst (λ us. OfForm text functions context (apply place arguments) (of_function place us (function_named (spelling text place) functions))) (sym all.2)
+      (of_apply text functions context place arguments all.0 all.1 (function_named (spelling text place) functions) refl))
+  form_sound text functions context (group at inner) = of_group at inner (sized_outcome text functions context inner (form_sound text functions context inner))
+    where
+      of_group : (at : ℕ) (inner : Tree) {r : Result Ty Refusal} → OfTree text functions context inner r → OfForm text functions context (group at inner) r
+      of_group at inner (given a) = given (group_type a)
+      of_group at inner (violated v) = violated (inner_violates v)
+      of_group at inner (out_of_range n) = out_of_range n
+  form_sound text functions context (pair_tree at first second) =
+      both_outcome _ (sized_outcome text functions context first (form_sound text functions context first)) (sized_outcome text functions context second (form_sound text functions context second))
+      (λ r v. first_part_violates v) (λ h. h.0) (λ t a r v. second_part_violates a v) (λ h. h.1) (λ t u a b. given (pair_type a b))
+  form_sound text functions context (binding at place value body) =
+      then_outcome _ (sized_outcome text functions context value (form_sound text functions context value)) (λ r v. value_violates v) (λ h. h.0)
+      (λ t a. of_let t a (sized_outcome text functions (bound (spelling text place) t ∷ context) body (form_sound text functions (bound (spelling text place) t ∷ context) body)))
+    where
+      of_let : (t : Ty) → Types text functions context value t → {r : Result Ty Refusal} → OfTree text functions (bound (spelling text place) t ∷ context) body r
+          → OfForm text functions context (binding at place value body) r
+      of_let t a (given b) = given (binding_type a b)
+      of_let t a (violated v) = violated (binding_violates a v)
+      of_let t a (out_of_range n) = out_of_range (λ h. n h.1)
+  form_sound text functions context (choice at condition positive negative) =
+      then_outcome _ (sized_outcome text functions context condition (form_sound text functions context condition)) (λ r v. choice_violates v) (λ h. h.0)
+      (λ t a. both_outcome _ (sized_outcome text functions context positive (form_sound text functions context positive)) (sized_outcome text functions context negative (form_sound text functions context negative))
+      (λ r v. positive_violates a v) (λ h. h.1) (λ u b r v. negative_violates a b v) (λ h. h.2)
+      (λ u v b c. of_branches text functions context at condition positive negative t u v a b c (is_same t bool && is_same u v) refl))
+  form_sound text functions context (literal at items) =
+      then_outcome _ (all_sound text functions context [] items) (λ r v. item_violates v) (λ h. h)
+      (λ ts all. subst (λ us. OfForm text functions context (literal at items) (of_items at us)) (sym all.2) (of_literal text functions context at items all.0 all.1))
+  form_sound text functions context (filter at item condition) =
+      both_outcome _ (sized_outcome text functions context item (form_sound text functions context item)) (sized_outcome text functions context condition (form_sound text functions context condition))
+      (λ r v. filtered_violates v) (λ h. h.0) (λ t a r v. filter_violates a v) (λ h. h.1)
+      (λ t u a b. of_condition text functions context at item condition t u a b (is_same u bool) refl)
+  form_sound text functions context (each at body binders condition) =
+      then_outcome _ (binders_sound text functions context [] binders) (λ r v. binder_violates v) (λ h. h.0)
+      (λ items bs. both_outcome _ (condition_sound text functions (opened items ++ inside context) condition)
+      (sized_outcome text functions (opened items ++ inside context) body (form_sound text functions (opened items ++ inside context) body))
+      (λ r v. in_each text functions context at body binders condition items r bs v) (λ h. h.1)
+      (λ t c r v. body_violates bs c v) (λ h. h.2)
+      (λ t u c b. in_condition text functions context at body binders condition items t u bs c b (is_same t bool) refl))
 
-  sound_all : {text : List ℕ} {context : Context} {trees : Trees} {ts : List Ty} → AllTypes text context trees ts → (environment : Environment)
-      → Holds context environment → Safe (λ vs. Each vs ts) (eval_all trees text environment)
-  sound_all no_types environment holds = tt
-  sound_all {text = text} (more_types {first = first} {others = others} {t = t} {ts = ts} d ds) environment holds =
-      go_safe (λ v. HasType v t) (λ vs. Each vs (t ∷ ts)) (eval first text environment) (λ v. go (eval_all others text environment) (λ vs. gives (v ∷ vs))) (sound d environment holds) (λ v hv.
-      go_safe (λ vs. Each vs ts) (λ vs. Each vs (t ∷ ts)) (eval_all others text environment) (λ vs. gives (v ∷ vs)) (sound_all ds environment holds) (λ vs hvs. (hv, hvs)))
+  all_sound : (text : List ℕ) (functions : Signatures) (context : Context) (earlier : List Ty) (trees : Trees)
+      → OfTrees text functions context earlier trees (verdicts text functions context earlier trees)
+  all_sound text functions context earlier none = given ([], no_types, sym (append-nil earlier))
+  all_sound text functions context earlier (both first others) =
+      then_outcome _ (sized_outcome text functions context first (form_sound text functions context first)) (λ r v. first_violates v) (λ h. h.0)
+      (λ t a. of_others t a (all_sound text functions context (earlier ++ (t ∷ [])) others))
+    where
+      of_others : (t : Ty) → Types text functions context first t → {r : Result (List Ty) Refusal} → OfTrees text functions context (earlier ++ (t ∷ [])) others r
+          → OfTrees text functions context earlier (both first others) r
+      of_others t a (given all) = given (t ∷ all.0, more_types a all.1, all.2 ∙ append_assoc earlier (t ∷ []) all.0)
+      of_others t a (violated v) = violated (later_violates a v)
+      of_others t a (out_of_range n) = out_of_range (λ h. n h.1)
 
-pub programs_are_sound : TypedProgramsAreSound
-programs_are_sound text context environment tree t d holds = sound d environment holds
+  binders_sound : (text : List ℕ) (functions : Signatures) (context : Context) (earlier : List Declaration) (binders : Binders)
+      → OfBinders text functions context earlier binders (binders_verdict text functions context earlier binders)
+  binders_sound text functions context earlier none_bound = given no_binders
+  binders_sound text functions context earlier (binder place source others) =
+      then_outcome _ (sized_outcome text functions context source (form_sound text functions context source)) (λ r v. source_violates v) (λ h. h.0)
+      (λ t a. of_place t a (type_in (spelling text place) earlier) refl (λ item. binders_sound text functions context (earlier ++ ((spelling text place, item) ∷ [])) others))
+    where
+      go_on : (item : Ty) → Types text functions context source (seq item) → type_in (spelling text place) earlier ≡ None
+          → {r : Result (List Declaration) Refusal} → OfBinders text functions context (earlier ++ ((spelling text place, item) ∷ [])) others r
+          → OfBinders text functions context earlier (binder place source others) r
+      go_on item a e (given bs) = given (more_binders a e bs)
+      go_on item a e (violated v) = violated (later_binder_violates a e v)
+      go_on item a e (out_of_range n) = out_of_range (λ h. n h.1)
+
+      next : Ty → Result (List Declaration) Refusal
+      next item = binders_verdict text functions context (earlier ++ ((spelling text place, item) ∷ [])) others
+
+      of_source : (t : Ty) → Types text functions context source t → type_in (spelling text place) earlier ≡ None
+          → ((item : Ty) → OfBinders text functions context (earlier ++ ((spelling text place, item) ∷ [])) others (next item))
+          → OfBinders text functions context earlier (binder place source others) (and_then (of_binder place false t) next)
+      of_source int a e h = violated (binder_mismatch a e (λ item same. cc))
+      of_source bool a e h = violated (binder_mismatch a e (λ item same. cc))
+      of_source (pair first second) a e h = violated (binder_mismatch a e (λ item same. cc))
+      of_source (vec t) a e h = violated (binder_mismatch a e (λ item same. cc))
+      of_source (seq t) a e h = go_on t a e (h t)
+
+      of_place : (t : Ty) → Types text functions context source t → (o : Option Ty) → type_in (spelling text place) earlier ≡ o
+          → ((item : Ty) → OfBinders text functions context (earlier ++ ((spelling text place, item) ∷ [])) others (next item))
+          → OfBinders text functions context earlier (binder place source others) (and_then (of_binder place (is_some o) t) next)
+      of_place t a (Some u) e h = violated (bound_twice a e)
+      of_place t a None e h = of_source t a e h
+
+  condition_sound : (text : List ℕ) (functions : Signatures) (context : Context) (condition : Condition)
+      → OfCondition text functions context condition (condition_verdict text functions context condition)
+  condition_sound text functions context always = given no_condition
+  condition_sound text functions context (only_where tree) = of_only (sized_outcome text functions context tree (form_sound text functions context tree))
+    where
+      of_only : {r : Result Ty Refusal} → OfTree text functions context tree r → OfCondition text functions context (only_where tree) r
+      of_only (given a) = given (condition_type a)
+      of_only (violated v) = violated v
+      of_only (out_of_range n) = out_of_range n
+
+pub tree_sound : (text : List ℕ) (functions : Signatures) (context : Context) (tree : Tree) → OfTree text functions context tree (verdict text functions context tree)
+tree_sound text functions context tree = sized_outcome text functions context tree (form_sound text functions context tree)

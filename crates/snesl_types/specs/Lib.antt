@@ -1,6 +1,12 @@
+pub mod Contexts
+pub mod Sizes
+pub mod Forms
 pub mod Typing
-pub mod Eval
-pub mod Typed
+pub mod Violations
+pub mod Ranges
+pub mod Programs
+pub mod Verdicts
 pub mod Names
-pub mod Answers
+pub mod Views
+pub mod Typed
 pub mod Soundness

@@ -1,21 +1,28 @@
--- The names that the checker sees, and what its refusals say.
-use Rattle.std.specs.Prelude.{◌≡◌, ℕ, Bool, true, false, List, [], ◌∷◌, Option, Some, None}
+-- The names that the checker sees.
+use Rattle.std.specs.Prelude.{ℕ, Bool, true, false, List, ◌∷◌, ◌++◌, map, Option, Some, None, Result, Box}
+use Rattle.std.specs.Global.{Global}
 use Rattle.snesl_values.specs.declared.refusal.Refusal.{Refusal}
-use Rattle.snesl_values.specs.declared.refusal.Refusal.TheVariants.{Mismatch, NoMemory}
-use Rattle.snesl_values.specs.Types.{Ty, ty_of, seq}
+use Rattle.snesl_values.specs.Types.{Ty, ty_of}
+use Rattle.snesl_values.specs.Inputs.{Declaration, declared}
 use Rattle.snesl_tree.specs.Spelling.{spelling}
-use Rattle.snesl_tree.specs.Tree.{Tree, Trees}
-use Rattle.snesl_types.specs.declared.checker.Names.{Names}
-use Rattle.snesl_types.specs.declared.checker.Names.TheVariants.{Empty, Bound', Inside'}
-use Rattle.snesl_types.specs.declared.checker.Meaning.{Meaning}
-use Rattle.snesl_types.specs.declared.checker.Meaning.TheVariants.{Unbound, Shut, Open}
-use Rattle.snesl_types.specs.Typing.{Binding, open_to, shut, Context, bound, inside, shut_if_streamed, Violates, AnyViolates}
+use Rattle.snesl_tree.specs.Tree.{Tree, Trees, Binders, Condition, always, only_where}
+use Rattle.snesl_tree.specs.declared.expr.Expr.{Expr}
+use Rattle.snesl_tree.specs.View.{tree_of}
+use Rattle.snesl_types.specs.declared.names.Names.{Names}
+use Rattle.snesl_types.specs.declared.names.Names.TheVariants.{Declared, Bound', Inside'}
+use Rattle.snesl_types.specs.declared.names.Meaning.{Meaning}
+use Rattle.snesl_types.specs.declared.names.Meaning.TheVariants.{Unbound, Shut, Open}
+use Rattle.snesl_types.specs.declared.names.Function.{Function}
+use Rattle.snesl_types.specs.declared.names.Scope.{Scope}
+use Rattle.snesl_types.specs.Contexts.{Binding, open_to, shut, Context, bound, opened, inside, shut_if_streamed, Signature, Signatures}
+use Rattle.snesl_types.specs.Sizes.{BodySizes}
+use Rattle.snesl_types.specs.Verdicts.{verdict, rule, verdicts, binders_verdict, condition_verdict}
 
 -- the context that the linked names hold
 abbrev pub context_of : List ℕ → Names → Context
-context_of text Empty = []
+context_of text (Declared names) = opened (declared names.now)
 context_of text (Bound' name ty p outer) = bound (spelling text name) (ty_of ty.now) ∷ context_of text outer
-context_of text (Inside' p outer) = inside (context_of text outer)
+context_of text (Inside' binders p outer) = opened (declared binders.now) ++ inside (context_of text outer)
 
 -- the binding that an answer of the look-up holds
 abbrev pub meaning_of : Meaning → Option Binding
@@ -23,27 +30,45 @@ meaning_of Unbound = None
 meaning_of Shut = Some shut
 meaning_of (Open ty) = Some (open_to (ty_of ty.now))
 
--- a binding as it is seen past the edge of a comprehension's body, or before it
+-- a binding as it is seen past the edge of a comprehension, or before it
 abbrev pub seen : Bool → Option Binding → Option Binding
 seen crossed None = None
 seen true (Some binding) = Some (shut_if_streamed binding)
 seen false (Some binding) = Some binding
 
--- a refusal is the first violation, unless memory ran out
-abbrev pub IsFirstIn : List ℕ → Context → Tree → Refusal → Type 0
-IsFirstIn text context tree NoMemory = Unit {0}
-IsFirstIn text context tree refusal = Violates text context tree refusal
+-- what a call sees of a function
+abbrev pub signature_in : List ℕ → Function → Signature
+signature_in text function = record {
+  bytes = spelling text function.name;
+  parameters = map (λ parameter. parameter.1) (declared function.parameters.items);
+  result = ty_of function.result;
+}
 
--- the same for arguments
-abbrev pub IsFirstInAny : List ℕ → Context → Trees → Refusal → Type 0
-IsFirstInAny text context trees NoMemory = Unit {0}
-IsFirstInAny text context trees refusal = AnyViolates text context trees refusal
+abbrev pub signatures_in : List ℕ → List Function → Signatures
+signatures_in text functions = map (signature_in text) functions
 
--- a refusal is a mismatch at this offset, for this reason, unless memory ran out
-abbrev pub IsMismatch : ℕ → Type 0 → Refusal → Type 0
-IsMismatch at reason NoMemory = Unit {0}
-IsMismatch at reason (Mismatch n) = (n ≡ at) × reason
-IsMismatch at reason refusal = ⊥
+abbrev pub sizes_in : List ℕ → List Function → BodySizes
+sizes_in text functions = map (λ function. (spelling text function.name, function.size)) functions
 
-abbrev pub IsNoSequence : Ty → Type 0
-IsNoSequence t = (item : Ty) → ¬ (t ≡ seq item)
+-- what the rules say of an expression in a scope
+abbrev pub typed_in : Scope → Tree → Result Ty Refusal
+typed_in scope tree = verdict scope.text.now (signatures_in scope.text.now scope.functions.now) (context_of scope.text.now scope.names.now) tree
+
+abbrev pub ruled_in : Scope → Tree → Result Ty Refusal
+ruled_in scope tree = rule scope.text.now (signatures_in scope.text.now scope.functions.now) (context_of scope.text.now scope.names.now) tree
+
+-- of arguments, or items, behind earlier ones
+abbrev pub all_typed_in : Scope → List Ty → Trees → Result (List Ty) Refusal
+all_typed_in scope earlier trees = verdicts scope.text.now (signatures_in scope.text.now scope.functions.now) (context_of scope.text.now scope.names.now) earlier trees
+
+-- of binders behind earlier ones
+abbrev pub binders_typed_in : Scope → List Declaration → Binders → Result (List Declaration) Refusal
+binders_typed_in scope earlier binders = binders_verdict scope.text.now (signatures_in scope.text.now scope.functions.now) (context_of scope.text.now scope.names.now) earlier binders
+
+-- of a condition
+abbrev pub condition_typed_in : Scope → Condition → Result Ty Refusal
+condition_typed_in scope condition = condition_verdict scope.text.now (signatures_in scope.text.now scope.functions.now) (context_of scope.text.now scope.names.now) condition
+
+abbrev pub condition_in : Option (Box Expr Global) → Condition
+condition_in None = always
+condition_in (Some condition) = only_where (tree_of condition.value)

@@ -1,10 +1,16 @@
-// Typing and plain evaluation.
+// Typing.
 #![tactic(auto)]
 
+mod builtins;
 pub mod checker;
-pub mod evaluator;
+mod declarations;
+mod expressions;
+mod forms;
+mod names;
+mod reference;
+mod sizes;
 pub mod typed;
 
 pub use checker::{check, one_typing};
-pub use evaluator::{plain, soundness};
+pub use reference::{plain, soundness};
 pub use typed::Typed;

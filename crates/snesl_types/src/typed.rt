@@ -1,29 +1,38 @@
 // Programs that have a type.
 
-ghost use Rattle.std.specs.Prelude.{◌≡◌, []};
+ghost use Rattle.std.specs.Prelude.{◌≡◌};
 ghost use Rattle.snesl_values.specs.Types.{ty_of};
-ghost use Rattle.snesl_tree.specs.View.{tree_of};
-ghost use Rattle.snesl_types.specs.Typing.{Types};
+ghost use Rattle.snesl_values.specs.Inputs.{declared};
+ghost use Rattle.snesl_tree.specs.View.{program_of as tree_of_program};
+ghost use Rattle.snesl_types.specs.Programs.{HasTyping};
 
 use snesl_tree::Program;
 use snesl_values::Ty;
 
-/// A program with its type. It keeps that the program has this type.
+/// A program with its inputs and its type. It keeps that the program has this type.
 #[derive(Debug, Drop)]
 pub struct Typed<'a> {
     pub(crate) program: &'a Program,
+    pub(crate) inputs: Vec<(Vec<u8>, Ty)>,
     pub(crate) ty: Ty,
-    pub(crate) ghost typed: { ∥ Types program.now.text.items [] (tree_of program.now.expr) (ty_of ty) ∥₁ },
+    pub(crate) ghost typed: { ∥ HasTyping program.now.text.items (tree_of_program program.now) (declared inputs.items) (ty_of ty) ∥₁ },
 }
 
 impl<'a> Typed<'a> {
-    ghost use Rattle.snesl_types.specs.Typed.{program_of, typed_ty};
+    ghost use Rattle.snesl_types.specs.Typed.{program_of, typed_inputs, typed_ty};
 
     /// The program.
     pub fn program(&self) -> &'a Program
         ensures { result.now ≡ program_of self.now }
     {
         self.program
+    }
+
+    /// The declared inputs in order, each a name and its type, as `read_inputs` takes them.
+    pub fn decls(&self) -> &[(Vec<u8>, Ty)]
+        ensures { declared result.now ≡ typed_inputs self.now }
+    {
+        &self.inputs
     }
 
     /// The program's type.

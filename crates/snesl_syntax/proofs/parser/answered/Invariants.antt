@@ -1,9 +1,12 @@
 use Rattle.std.proofs.Common.{◌≡◌, drop}
-use Rattle.snesl_syntax.specs.Limits.{greatest_depth}
-use Rattle.snesl_syntax.specs.Machine.{answer, start}
-use Rattle.snesl_syntax.specs.Parsing.{state_of}
+use Rattle.snesl_expressions.specs.Machine.{expressions}
+use Rattle.snesl_expressions.specs.Limits.{greatest_depth}
+use Rattle.snesl_syntax.specs.Programs.{programs}
+use Rattle.snesl_syntax.specs.Answer.{answer}
+use Rattle.snesl_syntax.specs.ProgramMachine.{program_state}
 use Rattle.snesl_syntax.proofs.parser.answered.Given as goal
 
 abbrev pub invariant-loop-token : goal.invariant-loop-token
 invariant-loop-token l =
-    answer greatest_depth l.len (state_of l.machine) (drop l.token-index l.tokens) ≡ answer greatest_depth l.len start l.tokens
+    answer (programs expressions) greatest_depth l.len (program_state l.machine) (drop l.token-index l.tokens)
+    ≡ answer (programs expressions) greatest_depth l.len (programs expressions).start l.tokens

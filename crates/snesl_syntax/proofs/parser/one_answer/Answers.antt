@@ -1,4 +1,4 @@
-use Rattle.snesl_syntax.proofs.Unique.{one_parse}
+use Rattle.snesl_syntax.proofs.Verdicts.{one_parse}
 use Rattle.snesl_syntax.proofs.parser.one_answer.Goals as goal
 
 pub returns : goal.returns

@@ -1,9 +1,8 @@
 use Rattle.std.proofs.Common.{arith, subst, sym, Ok}
 use Rattle.snesl_lexer.specs.Lexical.{Tokens}
-use Rattle.snesl_tree.specs.View.{tree_of}
+use Rattle.snesl_syntax.specs.ProgramMachine.{parsed_program}
 use Rattle.snesl_syntax.specs.Parse.{Parses, too_long, read, IsRight}
-use Rattle.snesl_syntax.proofs.Unique.{one_parse}
-use Rattle.snesl_syntax.proofs.Verdicts.{bad_right, tokens_right, passed_on, right_of_text, right_returns}
+use Rattle.snesl_syntax.proofs.Verdicts.{one_parse, bad_right, tokens_right, passed_on, right_of_text, right_returns}
 use Rattle.snesl_syntax.proofs.parser.parse.Goals as goal
 
 pub returns-then-text-gt-GREATEST_LENGTH-clause-right : goal.returns-then-text-gt-GREATEST_LENGTH-clause-right
@@ -22,24 +21,24 @@ pub returns-in_err-tokens-clause-refusals : goal.returns-in_err-tokens-clause-re
 returns-in_err-tokens-clause-refusals c =
     right_of_text c.args.text.now c.from_residual.result (returns-in_err-tokens-clause-right c)
 
-pub returns-in_err-expr-clause-right : goal.returns-in_err-expr-clause-right
-returns-in_err-expr-clause-right c =
-    passed_on (IsRight (Parses c.args.text.now)) c.from_residual-in_err-expr.result c.in_err-expr.field-0.0 c.from_residual-in_err-expr.ensures.1
-    (tokens_right c.args.text.now c.deref.result.now c.in_err-expr.field-0.0 (omega arith)
-    (subst (Tokens 0 c.args.text.now) (sym c.deref.ensures.value) c.in_ok-tokens.ensures.found) c.in_err-expr.ensures)
+pub returns-in_err-parsed-clause-right : goal.returns-in_err-parsed-clause-right
+returns-in_err-parsed-clause-right c =
+    passed_on (IsRight (Parses c.args.text.now)) c.from_residual-in_err-parsed.result c.in_err-parsed.field-0.0 c.from_residual-in_err-parsed.ensures.1
+    (tokens_right c.args.text.now c.deref.result.now c.in_err-parsed.field-0.0 (omega arith)
+    (subst (Tokens 0 c.args.text.now) (sym c.deref.ensures.value) c.in_ok-tokens.ensures.found) c.in_err-parsed.ensures)
 
-pub returns-in_err-expr-clause-accepts : goal.returns-in_err-expr-clause-accepts
-returns-in_err-expr-clause-accepts c =
-    right_returns c.args.text.now c.from_residual-in_err-expr.result (returns-in_err-expr-clause-right c)
+pub returns-in_err-parsed-clause-accepts : goal.returns-in_err-parsed-clause-accepts
+returns-in_err-parsed-clause-accepts c =
+    right_returns c.args.text.now c.from_residual-in_err-parsed.result (returns-in_err-parsed-clause-right c)
 
-pub returns-in_err-expr-clause-refusals : goal.returns-in_err-expr-clause-refusals
-returns-in_err-expr-clause-refusals c =
-    right_of_text c.args.text.now c.from_residual-in_err-expr.result (returns-in_err-expr-clause-right c)
+pub returns-in_err-parsed-clause-refusals : goal.returns-in_err-parsed-clause-refusals
+returns-in_err-parsed-clause-refusals c =
+    right_of_text c.args.text.now c.from_residual-in_err-parsed.result (returns-in_err-parsed-clause-right c)
 
 pub returns-clause-right : goal.returns-clause-right
 returns-clause-right c =
-    read (omega arith) (subst (Tokens 0 c.args.text.now) (sym c.deref.ensures.value) c.in_ok-tokens.ensures.found) c.in_ok-expr.ensures
+    read (omega arith) (subst (Tokens 0 c.args.text.now) (sym c.deref.ensures.value) c.in_ok-tokens.ensures.found) c.in_ok-parsed.ensures
 
 pub returns-clause-accepts : goal.returns-clause-accepts
 returns-clause-accepts c = λ answer reading.
-    one_parse c.args.text.now answer (Ok (tree_of c.in_ok-expr.expr)) reading (returns-clause-right c)
+    one_parse c.args.text.now answer (Ok (parsed_program c.in_ok-parsed.parsed)) reading (returns-clause-right c)

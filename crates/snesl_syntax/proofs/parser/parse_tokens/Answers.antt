@@ -1,12 +1,14 @@
 use Rattle.std.proofs.Common.{arith}
-use Rattle.snesl_syntax.specs.Limits.{greatest_depth}
-use Rattle.snesl_syntax.specs.Grammar.{Answers}
-use Rattle.snesl_syntax.specs.Machine.{answer, start}
-use Rattle.snesl_syntax.proofs.Exact.{answers}
-use Rattle.snesl_syntax.proofs.Verdicts.{right_by}
+use Rattle.snesl_expressions.specs.Machine.{expressions}
+use Rattle.snesl_expressions.specs.Limits.{greatest_depth}
+use Rattle.snesl_syntax.specs.Programs.{programs}
+use Rattle.snesl_syntax.specs.Answer.{answer}
+use Rattle.snesl_syntax.specs.Parse.{Answers}
+use Rattle.snesl_syntax.proofs.Verdicts.{programs_answer, right_by}
 use Rattle.snesl_syntax.proofs.parser.parse_tokens.Goals as goal
 
 pub returns : goal.returns
 returns c =
-    right_by (Answers greatest_depth c.args.len c.args.tokens.now) c.answered.result (answer greatest_depth c.args.len start c.args.tokens.now)
-    (answers greatest_depth c.args.len c.args.tokens.now (omega arith)) c.answered.ensures
+    right_by (Answers greatest_depth c.args.len c.args.tokens.now) c.answered.result
+    (answer (programs expressions) greatest_depth c.args.len (programs expressions).start c.args.tokens.now)
+    (programs_answer greatest_depth c.args.len c.args.tokens.now (omega arith)) c.answered.ensures

@@ -1,0 +1,192 @@
+use Rattle.std.proofs.Common.{◌≡◌, ℕ, ◌+◌, ◌++◌, List, map, drop, zip, length, Option, option_map, option_to_list, Err, Vec, Global, sym, ap, ◌∙◌, subst, arith}
+use Rattle.snesl_values.specs.declared.datum.Datum.{Datum}
+use Rattle.snesl_values.specs.Inputs.{Environment}
+use Rattle.snesl_values.specs.Values.{Value, value_of}
+use Rattle.snesl_tree.specs.Spelling.{spelling}
+use Rattle.snesl_tree.specs.View.{tree_of, trees_of, binders_of, declaration_of}
+use Rattle.snesl_tree.specs.declared.expr.Expr.{Expr, Each}
+use Rattle.snesl_tree.specs.Tree.{Binders}
+use Rattle.snesl_tree.proofs.Arguments.{tree_of-Call, tree_of-Apply, tree_of-Literal, binders_row}
+use Rattle.snesl_evaluation.specs.Answer.{Answer, go, go_all, go_join, gives}
+use Rattle.snesl_evaluation.specs.Builtins.{applied, seq_answer, truth_at}
+use Rattle.snesl_evaluation.specs.Eval.{calls_of, eval, in_step, kept, rows_of}
+use Rattle.snesl_evaluation.specs.Results.{Answers}
+use Rattle.snesl_evaluation.specs.Scopes.{all_in, binders_in, calls_in, column_of, each_in, entered, environment_in, eval_in, kept_at, kept_in, names_of, row_at, where_in}
+use Rattle.snesl_evaluation.proofs.Passed.{halt_passes, parameters_seen, parameters_differ, filter_seen}
+use Rattle.snesl_evaluation.proofs.Rows.{level_seen}
+use Rattle.snesl_evaluation.proofs.Steps.{after, row_given, row_faults, rows_end, kept_given, kept_faults, kept_end}
+use Rattle.snesl_evaluation.proofs.evaluator.+value.Goals as goal
+
+pub enter-returns-then-len-values : goal.enter-returns-then-len-values
+enter-returns-then-len-values t c =
+    let text = c.args.setting.now.text.now in
+    let parameters = c.args.function.now.parameters in
+    let calls = calls_of text (map declaration_of c.args.earlier.now) in
+    let same = parameters.ok.0 in
+    subst (λ halt. Answers value_of (Err halt) (entered text c.args.at c.args.function.now c.args.earlier.now (map value_of c.args.values.now))) (sym c.fault.ensures)
+    (ap (λ answer. go answer (λ environment. eval (tree_of c.args.function.now.body) text calls environment))
+    (parameters_differ c.args.at text parameters.items c.args.values.now (λ e. c.if-len-values.true (omega (arith, e, same, c.len.ensures)))))
+
+pub enter-returns-in_err-result : goal.enter-returns-in_err-result
+enter-returns-in_err-result t c =
+    let text = c.args.setting.now.text.now in
+    let parameters = c.args.function.now.parameters in
+    let calls = calls_of text (map declaration_of c.args.earlier.now) in
+    let same = parameters.ok.0 in
+    let body = λ (environment : Environment). eval (tree_of c.args.function.now.body) text calls environment in
+    halt_passes value_of value_of c.from_residual.result c.in_err-result.field-0.0 (body (zip (names_of text c.deref.result.now) (map value_of c.args.values.now)))
+    (entered text c.args.at c.args.function.now c.args.earlier.now (map value_of c.args.values.now)) c.from_residual.ensures.1 c.in_err-result.ensures
+    (λ kind at e.
+    ap (λ answer. go answer body) (parameters_seen c.args.at text parameters.items c.args.values.now (omega (arith, same, c.len.ensures, c.if-len-values.false)))
+    ∙ ap (λ l. body (zip (names_of text l) (map value_of c.args.values.now))) (sym c.deref.ensures.value)
+    ∙ e)
+
+pub enter-returns : goal.enter-returns
+enter-returns t c =
+    let text = c.args.setting.now.text.now in
+    let parameters = c.args.function.now.parameters in
+    let calls = calls_of text (map declaration_of c.args.earlier.now) in
+    let same = parameters.ok.0 in
+    let body = λ (environment : Environment). eval (tree_of c.args.function.now.body) text calls environment in
+    ap (λ answer. go answer body) (parameters_seen c.args.at text parameters.items c.args.values.now (omega (arith, same, c.len.ensures, c.if-len-values.false)))
+    ∙ ap (λ l. body (zip (names_of text l) (map value_of c.args.values.now))) (sym c.deref.ensures.value)
+    ∙ c.in_ok-result.ensures
+
+pub rows-returns-in_err-value : goal.rows-returns-in_err-value
+rows-returns-in_err-value t c =
+    let text = c.args.setting.now.text.now in
+    let columns = map (column_of text) c.args.columns.now in
+    let f = λ (row : Environment). eval (tree_of c.args.body.now) text (calls_in c.args.setting.now) (row ++ environment_in text c.args.scope.now) in
+    let i = c.loop-index.index in
+    let level = level_seen text c.args.number c.args.columns.now ∙ c.requires in
+    halt_passes value_of (λ (values : Vec Datum Global). map value_of values.items) c.from_residual.result c.in_err-value.field-0.0 (f (row_at i columns)) (go_all f (rows_of c.args.number columns)) c.from_residual.ensures.1 c.in_err-value.ensures
+    (λ kind at e. c.loop-index.invariant ∙ row_faults f c.args.number columns i (map value_of c.loop-index.values.items) kind at level (omega arith) e)
+
+pub rows-loop-index-preserved : goal.rows-loop-index-preserved
+rows-loop-index-preserved t c =
+    let text = c.args.setting.now.text.now in
+    let columns = map (column_of text) c.args.columns.now in
+    let f = λ (row : Environment). eval (tree_of c.args.body.now) text (calls_in c.args.setting.now) (row ++ environment_in text c.args.scope.now) in
+    let i = c.loop-index.index in
+    let level = level_seen text c.args.number c.args.columns.now ∙ c.requires in
+    c.loop-index.invariant
+    ∙ row_given f c.args.number columns i (map value_of c.loop-index.values.items) _ level (omega arith) c.in_ok-value.ensures
+    ∙ ap (λ done. after done (go_all f (drop (i + 1) (rows_of c.args.number columns)))) (sym c.in_ok-add.ensures)
+
+pub rows-returns : goal.rows-returns
+rows-returns t c =
+    let text = c.args.setting.now.text.now in
+    let columns = map (column_of text) c.args.columns.now in
+    let f = λ (row : Environment). eval (tree_of c.args.body.now) text (calls_in c.args.setting.now) (row ++ environment_in text c.args.scope.now) in
+    let done = map value_of c.loop-index.values.items in
+    let ended : c.loop-index.index ≡ c.args.number = omega arith in
+    c.loop-index.invariant
+    ∙ ap (λ j. after done (go_all f (drop j (rows_of c.args.number columns)))) ended
+    ∙ rows_end f c.args.number columns done
+
+pub rows_where-returns-in_err-found : goal.rows_where-returns-in_err-found
+rows_where-returns-in_err-found t c =
+    let text = c.args.setting.now.text.now in
+    let columns = map (column_of text) c.args.columns.now in
+    let f = λ (row : Environment). kept_at c.args.setting.now (row ++ environment_in text c.args.scope.now) c.args.at (tree_of c.args.body.now) (tree_of c.args.condition.now) in
+    let i = c.loop-index.index in
+    let level = level_seen text c.args.number c.args.columns.now ∙ c.requires in
+    halt_passes (λ (found : Option Datum). option_to_list (option_map value_of found)) (λ (values : Vec Datum Global). map value_of values.items) c.from_residual.result c.in_err-found.field-0.0 (f (row_at i columns)) (go_join f (rows_of c.args.number columns)) c.from_residual.ensures.1 c.in_err-found.ensures
+    (λ kind at e. c.loop-index.invariant ∙ kept_faults f c.args.number columns i (map value_of c.loop-index.values.items) kind at level (omega arith) e)
+
+pub rows_where-loop-index-preserved : goal.rows_where-loop-index-preserved
+rows_where-loop-index-preserved t c =
+    let text = c.args.setting.now.text.now in
+    let columns = map (column_of text) c.args.columns.now in
+    let f = λ (row : Environment). kept_at c.args.setting.now (row ++ environment_in text c.args.scope.now) c.args.at (tree_of c.args.body.now) (tree_of c.args.condition.now) in
+    let i = c.loop-index.index in
+    let level = level_seen text c.args.number c.args.columns.now ∙ c.requires in
+    c.loop-index.invariant
+    ∙ kept_given f c.args.number columns i (map value_of c.loop-index.values.items) _ level (omega arith) c.in_ok-found.ensures
+    ∙ ap (λ done. after done (go_join f (drop (i + 1) (rows_of c.args.number columns)))) (sym c.in_ok-add_found.ensures)
+
+pub rows_where-returns : goal.rows_where-returns
+rows_where-returns t c =
+    let text = c.args.setting.now.text.now in
+    let columns = map (column_of text) c.args.columns.now in
+    let f = λ (row : Environment). kept_at c.args.setting.now (row ++ environment_in text c.args.scope.now) c.args.at (tree_of c.args.body.now) (tree_of c.args.condition.now) in
+    let done = map value_of c.loop-index.values.items in
+    let ended : c.loop-index.index ≡ c.args.number = omega arith in
+    c.loop-index.invariant
+    ∙ ap (λ j. after done (go_join f (drop j (rows_of c.args.number columns)))) ended
+    ∙ kept_end f c.args.number columns done
+
+pub value-returns-in-Call : goal.value-returns-in-Call
+value-returns-in-Call t c =
+    let setting = c.args.setting.now in
+    let scope = c.args.scope.now in
+    let at = c.in-Call.at in
+    let function = c.in-Call.function in
+    let e =
+    ap (λ expr. eval_in setting scope (tree_of expr)) c.in-Call.is
+    ∙ ap (eval_in setting scope) (tree_of-Call at function c.in-Call.arguments)
+    ∙ ap (λ exprs. go (all_in setting scope (trees_of exprs)) (applied at function)) (sym c.deref-in-Call.ensures.value) in
+    subst (Answers value_of c.built_in.result) (sym e) c.built_in.ensures
+
+pub value-returns-in-Apply : goal.value-returns-in-Apply
+value-returns-in-Apply t c =
+    let setting = c.args.setting.now in
+    let scope = c.args.scope.now in
+    let function = c.in-Apply.function in
+    let e =
+    ap (λ expr. eval_in setting scope (tree_of expr)) c.in-Apply.is
+    ∙ ap (eval_in setting scope) (tree_of-Apply function c.in-Apply.arguments)
+    ∙ ap (λ exprs. go (all_in setting scope (trees_of exprs)) (calls_in setting function.at (spelling setting.text.now function))) (sym c.deref-in-Apply.ensures.value) in
+    subst (Answers value_of c.call.result) (sym e) c.call.ensures
+
+pub value-returns-in-Literal : goal.value-returns-in-Literal
+value-returns-in-Literal t c =
+    let setting = c.args.setting.now in
+    let scope = c.args.scope.now in
+    let e =
+    ap (λ expr. eval_in setting scope (tree_of expr)) c.in-Literal.is
+    ∙ ap (eval_in setting scope) (tree_of-Literal c.in-Literal.at c.in-Literal.items)
+    ∙ ap (λ exprs. seq_answer (all_in setting scope (trees_of exprs))) (sym c.deref-in-Literal.ensures.value) in
+    subst (Answers value_of c.literal.result) (sym e) c.literal.ensures
+
+pub value-returns-in-Filter : goal.value-returns-in-Filter
+value-returns-in-Filter t c =
+    let setting = c.args.setting.now in
+    let scope = c.args.scope.now in
+    let at = c.in-Filter.at in
+    let condition = c.in-Filter.condition.value in
+    let e =
+    ap (λ expr. eval_in setting scope (tree_of expr)) c.in-Filter.is
+    ∙ filter_seen (eval_in setting scope (tree_of condition)) (truth_at at) (λ b. kept b (eval_in setting scope (tree_of c.in-Filter.item.value)))
+    ∙ ap (λ item. seq_answer (kept_in setting scope at (tree_of item) (tree_of condition))) (sym c.deref-in-Filter.ensures)
+    ∙ ap (λ test. seq_answer (kept_in setting scope at (tree_of c.deref-in-Filter.result.now) (tree_of test))) (sym c.deref-in-Filter-2.ensures) in
+    subst (Answers value_of c.filter.result) (sym e) c.filter.ensures
+
+pub value-returns-in-None : goal.value-returns-in-None
+value-returns-in-None t c =
+    let setting = c.args.setting.now in
+    let scope = c.args.scope.now in
+    let at = c.in-Each.at in
+    let answer = λ (body : Expr) (binders : Binders). go (binders_in setting scope binders) (λ columns. go (in_step at columns) (λ rows. seq_answer (each_in setting scope (tree_of body) rows))) in
+    let e =
+    ap (λ expr. eval_in setting scope (tree_of expr)) c.in-Each.is
+    ∙ ap (λ condition. eval_in setting scope (tree_of (Each at c.in-Each.body c.in-Each.binders condition))) c.in-None.is
+    ∙ ap (answer c.in-Each.body.value) (binders_row c.in-Each.binders)
+    ∙ ap (λ body. answer body (binders_of c.in-Each.binders.items)) (sym c.deref-in-None.ensures)
+    ∙ ap (λ l. answer c.deref-in-None.result.now (binders_of l)) (sym c.deref-in-None-2.ensures.value) in
+    subst (Answers value_of c.each.result) (sym e) c.each.ensures
+
+pub value-returns : goal.value-returns
+value-returns t c =
+    let setting = c.args.setting.now in
+    let scope = c.args.scope.now in
+    let at = c.in-Each.at in
+    let answer = λ (body : Expr) (binders : Binders) (condition : Expr). go (binders_in setting scope binders) (λ columns. go (in_step at columns) (λ rows. seq_answer (where_in setting scope at (tree_of body) (tree_of condition) rows))) in
+    let e =
+    ap (λ expr. eval_in setting scope (tree_of expr)) c.in-Each.is
+    ∙ ap (λ condition. eval_in setting scope (tree_of (Each at c.in-Each.body c.in-Each.binders condition))) c.in-Some.is
+    ∙ ap (λ binders. answer c.in-Each.body.value binders c.in-Some.condition.value) (binders_row c.in-Each.binders)
+    ∙ ap (λ body. answer body (binders_of c.in-Each.binders.items) c.in-Some.condition.value) (sym c.deref-in-Some.ensures)
+    ∙ ap (λ l. answer c.deref-in-Some.result.now (binders_of l) c.in-Some.condition.value) (sym c.deref-in-Some-2.ensures.value)
+    ∙ ap (λ condition. answer c.deref-in-Some.result.now (binders_of c.deref-in-Some-2.result.now) condition) (sym c.deref-in-Some-3.ensures) in
+    subst (Answers value_of c.each_where.result) (sym e) c.each_where.ensures

@@ -1,0 +1,8 @@
+use Rattle.std.proofs.Common.{ap, ◌∙◌}
+use Rattle.snesl_values.specs.Values.{value_of}
+use Rattle.snesl_evaluation.specs.Builtins.{items_at}
+use Rattle.snesl_evaluation.proofs.Data.{items_at-Seq}
+use Rattle.snesl_evaluation.proofs.parts.into_items.Goals as goal
+
+pub returns-in-Seq : goal.returns-in-Seq
+returns-in-Seq c = ap (λ d. items_at c.args.at (value_of d)) c.in-Seq.is ∙ items_at-Seq c.args.at c.in-Seq.all

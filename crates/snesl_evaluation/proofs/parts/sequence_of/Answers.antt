@@ -1,0 +1,5 @@
+use Rattle.snesl_values.proofs.Data.{value_of-Seq}
+use Rattle.snesl_evaluation.proofs.parts.sequence_of.Goals as goal
+
+pub returns : goal.returns
+returns c = value_of-Seq c.args.items

@@ -1,0 +1,9 @@
+use Rattle.std.proofs.Common.{◌≡◌, map, drop, ◌++◌}
+use Rattle.snesl_values.specs.Values.{value_of}
+use Rattle.snesl_evaluation.specs.Answer.{go, go_all, gives}
+use Rattle.snesl_evaluation.specs.Builtins.{int_at}
+use Rattle.snesl_evaluation.proofs.sequences.integers.Given as goal
+
+abbrev pub invariant-loop-datum : goal.invariant-loop-datum
+invariant-loop-datum l =
+    go_all (int_at l.at) (map value_of l.all) ≡ go (go_all (int_at l.at) (map value_of (drop l.datum-index l.all))) (λ later. gives (l.read.items ++ later))

@@ -1,0 +1,10 @@
+use Rattle.std.proofs.Common.{◌≡◌, map, drop, ◌++◌}
+use Rattle.snesl_values.specs.Values.{an_int, value_of}
+use Rattle.snesl_operators.specs.Reductions.{scanned, scanned_from}
+use Rattle.snesl_evaluation.specs.Answer.{answer_at, go, gives}
+use Rattle.snesl_evaluation.proofs.sequences.scan_add.Given as goal
+
+abbrev pub invariant-loop-i : goal.invariant-loop-i
+invariant-loop-i l =
+    go (answer_at l.at (scanned l.numbers)) (λ sums. gives (map an_int sums))
+    ≡ go (answer_at l.at (scanned_from l.so_far (drop l.i l.numbers))) (λ later. gives (map value_of l.sums.items ++ map an_int later))

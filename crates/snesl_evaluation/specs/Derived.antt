@@ -1,0 +1,37 @@
+-- What derived forms mean.
+use Rattle.std.specs.Prelude.{◌≡◌, ℕ, List, ◌∷◌, true}
+use Rattle.snesl_values.specs.Inputs.{Environment}
+use Rattle.snesl_values.specs.Values.{Value}
+use Rattle.snesl_tree.specs.declared.operator.Builtin.TheVariants.{Concat, The}
+use Rattle.snesl_tree.specs.declared.operator.Operator.TheVariants.{Append}
+use Rattle.snesl_tree.specs.declared.operator.Prefix.TheVariants.{Not}
+use Rattle.snesl_tree.specs.declared.span.Span.{Span}
+use Rattle.snesl_tree.specs.Spelling.{spelling}
+use Rattle.snesl_tree.specs.Tree.{Tree, Trees, Binders, truth, name, prefix, binary, call, binding, choice, literal, filter, each, none, both, always, only_where}
+use Rattle.snesl_evaluation.specs.Eval.{Calls, eval}
+
+-- two expressions that have one answer wherever they stand
+abbrev pub MeanTheSame : Tree → Tree → Type 0
+MeanTheSame one other = (text : List ℕ) (calls : Calls) (environment : Environment) → eval one text calls environment ≡ eval other text calls environment
+
+-- an expression whose answer no value of this name changes
+abbrev pub IsUnused : Span → Tree → Type 0
+IsUnused place tree = (text : List ℕ) (calls : Calls) (environment : Environment) (v : Value) → eval tree text calls ((spelling text place, v) ∷ environment) ≡ eval tree text calls environment
+
+-- `{e : .. | b}` means `concat({ {e | b} : .. })`
+abbrev pub ConditionMeaning : Type 0
+ConditionMeaning = (at : ℕ) (item condition : Tree) (binders : Binders)
+    → MeanTheSame (each at item binders (only_where condition)) (call at Concat (both (each at (filter at item condition) binders always) none))
+
+-- `{e}` means `{e | true}`
+abbrev pub OneItemMeaning : Type 0
+OneItemMeaning = (at : ℕ) (item : Tree) → MeanTheSame (literal at (both item none)) (filter at item (truth at true))
+
+-- `{e, ..}` means `{e | true} ++ {..}`
+abbrev pub LiteralMeaning : Type 0
+LiteralMeaning = (at : ℕ) (item : Tree) (others : Trees) → MeanTheSame (literal at (both item others)) (binary at Append (filter at item (truth at true)) (literal at others))
+
+-- `if b then e else f` means `let t = b in the({e | t} ++ {f | not t})`, where e and f do not use t
+abbrev pub ChoiceMeaning : Type 0
+ChoiceMeaning = (at : ℕ) (t : Span) (condition positive negative : Tree) → IsUnused t positive → IsUnused t negative
+    → MeanTheSame (choice at condition positive negative) (binding at t condition (call at The (both (binary at Append (filter at positive (name t)) (filter at negative (prefix at Not (name t)))) none)))

@@ -1,0 +1,6 @@
+pub mod Answer
+pub mod Builtins
+pub mod Eval
+pub mod Results
+pub mod Scopes
+pub mod Derived

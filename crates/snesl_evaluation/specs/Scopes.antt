@@ -1,0 +1,108 @@
+-- What names and calls mean where the evaluator stands.
+use Rattle.std.specs.Prelude.{◌≡◌, ℕ, suc, ◌+◌, ◌==◌, Bool, List, [], ◌∷◌, ◌++◌, map, length, zip, filter_map, option_map, slice_get}
+use Rattle.std.specs.List.{list_all}
+use Rattle.snesl_values.specs.declared.fault.FaultKind.TheVariants.{Shape}
+use Rattle.snesl_values.specs.Inputs.{Environment, environment_of}
+use Rattle.snesl_values.specs.Values.{Value, value_of}
+use Rattle.snesl_tree.specs.declared.declaration.Declaration.{Declaration}
+use Rattle.snesl_tree.specs.declared.declaration.Declaration.TheVariants.{Input, Function as FunctionDeclaration}
+use Rattle.snesl_tree.specs.declared.declaration.Function.{Function}
+use Rattle.snesl_tree.specs.declared.declaration.Typing.{Typing}
+use Rattle.snesl_tree.specs.declared.expr.Expr.{size-Expr}
+use Rattle.snesl_tree.specs.Spelling.{spelling}
+use Rattle.snesl_tree.specs.Tree.{Tree, Trees, Binders}
+use Rattle.snesl_tree.specs.View.{declaration_of, tree_of, typed_of}
+use Rattle.snesl_evaluation.specs.declared.scope.Column.{Column}
+use Rattle.snesl_evaluation.specs.declared.scope.Scope.{Scope}
+use Rattle.snesl_evaluation.specs.declared.scope.Scope.TheVariants.{Inputs, Parameters, Bound', Row'}
+use Rattle.snesl_evaluation.specs.declared.scope.Setting.{Setting}
+use Rattle.snesl_evaluation.specs.Answer.{Answer, faults, go, go_all, go_join}
+use Rattle.snesl_evaluation.specs.Builtins.{truth_at}
+use Rattle.snesl_evaluation.specs.Eval.{Calls, Columns, calls_of, eval, eval_all, eval_binders, function_answer, kept}
+
+-- a name, spelled as the text has it, beside its items
+abbrev pub column_of : List ℕ → Column → List ℕ × List Value
+column_of text column = (spelling text column.name, map value_of column.items.items)
+
+-- what the names stand for in the row of this index
+abbrev pub row_at : ℕ → Columns → Environment
+row_at index columns = filter_map (λ column. option_map (λ v. (column.0, v)) (slice_get column.1 index)) columns
+
+-- the names of parameters, spelled as the text has them
+abbrev pub names_of : List ℕ → List Typing → List (List ℕ)
+names_of text parameters = map (λ parameter. spelling text parameter.name) parameters
+
+-- the values of the names in scope, the innermost first
+abbrev pub environment_in : List ℕ → Scope → Environment
+environment_in text (Inputs inputs) = environment_of inputs.now
+environment_in text (Parameters parameters values) = zip (names_of text parameters.now) (map value_of values.now)
+environment_in text (Bound' name value p outer) = (spelling text name, value_of value.now) ∷ environment_in text outer
+environment_in text (Row' columns index p outer) = row_at index (map (column_of text) columns.now) ++ environment_in text outer
+
+-- the calls of the functions that may be called
+abbrev pub calls_in : Setting → Calls
+calls_in setting = calls_of setting.text.now (map declaration_of setting.functions.now)
+
+-- the answer of an expression there
+abbrev pub eval_in : Setting → Scope → Tree → Answer Value
+eval_in setting scope tree = eval tree setting.text.now (calls_in setting) (environment_in setting.text.now scope)
+
+-- the answers of expressions there, of binders, and of an item under a condition
+abbrev pub all_in : Setting → Scope → Trees → Answer (List Value)
+all_in setting scope trees = eval_all trees setting.text.now (calls_in setting) (environment_in setting.text.now scope)
+
+abbrev pub binders_in : Setting → Scope → Binders → Answer Columns
+binders_in setting scope binders = eval_binders binders setting.text.now (calls_in setting) (environment_in setting.text.now scope)
+
+-- an item where its condition is true, with these entries before the names there
+abbrev pub kept_at : Setting → Environment → ℕ → Tree → Tree → Answer (List Value)
+kept_at setting environment at item condition =
+    go (eval condition setting.text.now (calls_in setting) environment) (λ v.
+    go (truth_at at v) (λ b. kept b (eval item setting.text.now (calls_in setting) environment)))
+
+abbrev pub kept_in : Setting → Scope → ℕ → Tree → Tree → Answer (List Value)
+kept_in setting scope at item condition = kept_at setting (environment_in setting.text.now scope) at item condition
+
+-- the values of a comprehension's body at rows before the names there
+abbrev pub each_in : Setting → Scope → Tree → List Environment → Answer (List Value)
+each_in setting scope body rows =
+    go_all (λ row. eval body setting.text.now (calls_in setting) (row ++ environment_in setting.text.now scope)) rows
+
+-- and at those rows where the condition is true
+abbrev pub where_in : Setting → Scope → ℕ → Tree → Tree → List Environment → Answer (List Value)
+where_in setting scope at body condition rows =
+    go_join (λ row. kept_at setting (row ++ environment_in setting.text.now scope) at body condition) rows
+
+-- the length of the first column
+abbrev pub first_height : List Column → ℕ
+first_height [] = 0
+first_height (column ∷ columns) = length column.items.items
+
+-- whether all columns have this length
+abbrev pub are_level : ℕ → List Column → Bool
+are_level n columns = list_all (λ column. length column.items.items == n) columns
+
+-- the answer of a function behind these declarations
+abbrev pub entered : List ℕ → ℕ → Function → List Declaration → List Value → Answer Value
+entered text at function earlier values =
+    function_answer at text (calls_of text (map declaration_of earlier)) (map typed_of function.parameters.items) (tree_of function.body) values
+
+-- calls of this name are calls of this function, which stands behind these declarations
+abbrev pub IsCalled : List ℕ → List Declaration → List ℕ → Function → List Declaration → Type 0
+IsCalled text declarations name function earlier =
+    (at : ℕ) (values : List Value) → calls_of text (map declaration_of declarations) at name values ≡ entered text at function earlier values
+
+-- calls of this name have no function
+abbrev pub IsUnknown : List ℕ → List Declaration → List ℕ → Type 0
+IsUnknown text declarations name =
+    (at : ℕ) (values : List Value) → calls_of text (map declaration_of declarations) at name values ≡ faults Shape at
+
+-- more than the depth of the function's body
+abbrev pub weight_of : Function → ℕ
+weight_of function = suc (size-Expr function.body)
+
+-- the weights of all functions
+abbrev pub weight : List Declaration → ℕ
+weight [] = 0
+weight (Input typing ∷ declarations) = weight declarations
+weight (FunctionDeclaration function ∷ declarations) = weight_of function + weight declarations

@@ -1,0 +1,151 @@
+// Built-in functions at data.
+
+ghost use Rattle.std.specs.Prelude.{◌∷◌, [], map};
+ghost use Rattle.snesl_values.specs.Values.{value_of};
+ghost use Rattle.snesl_tree.specs.declared.operator.Builtin.TheVariants as builtin;
+ghost use Rattle.snesl_evaluation.specs.Builtins.{applied, part_answer, reduce_answer, scan_answer};
+ghost use Rattle.snesl_evaluation.specs.Results.{Answers};
+
+use crate::halt::{Halt, fault};
+use crate::operators::scalar_result;
+use crate::parts::{elements, integer, items, sequence_of, vector_of};
+use crate::sequences::{add_copies, count_up, integers, joined, parts, reduce, scalars, scan_add, truths};
+use snesl_operators::Reduction;
+use snesl_tree::Builtin;
+use snesl_values::{Datum, FaultKind, copy_datum};
+use std::alloc::Global;
+
+// A built-in at its arguments.
+pub fn apply(
+    alloc: Global,
+    at: usize,
+    function: Builtin,
+    arguments: &[Datum],
+) -> Result<Datum, Halt>
+    ensures { Answers value_of result (applied at function (map value_of arguments.now)) }
+{
+    match (function, arguments) {
+        (Builtin::Iota, [count]) => iota(alloc, at, count),
+        (Builtin::ScanAdd, [sequence]) => scan(alloc, at, sequence),
+        (Builtin::ReduceAdd, [sequence]) => reduction(alloc, at, Reduction::Sum, sequence),
+        (Builtin::ReduceMax, [sequence]) => reduction(alloc, at, Reduction::Max, sequence),
+        (Builtin::ReduceAnd, [sequence]) => reduction(alloc, at, Reduction::All, sequence),
+        (Builtin::ReduceOr, [sequence]) => reduction(alloc, at, Reduction::Any, sequence),
+        (Builtin::Length, [sequence]) => length(at, sequence),
+        (Builtin::Concat, [sequence]) => concat(alloc, at, sequence),
+        (Builtin::Part, [sequence, flags]) => part(alloc, at, sequence, flags),
+        (Builtin::The, [sequence]) => the(alloc, at, sequence),
+        (Builtin::Tab, [sequence]) => tab(alloc, at, sequence),
+        (Builtin::Seq, [vector]) => seq(alloc, at, vector),
+        (Builtin::Fst, [pair]) => fst(alloc, at, pair),
+        (Builtin::Snd, [pair]) => snd(alloc, at, pair),
+        _ => Err(fault(FaultKind::Shape, at)),
+    }
+}
+
+fn iota(alloc: Global, at: usize, count: &Datum) -> Result<Datum, Halt>
+    ensures { Answers value_of result (applied at builtin.Iota (value_of count.now ∷ [])) }
+{
+    let n = integer(at, count)?;
+    if n < 0 {
+        return Err(fault(FaultKind::NegativeCount, at));
+    }
+    Ok(sequence_of(count_up(alloc, n as u64)?))
+}
+
+fn scan(alloc: Global, at: usize, sequence: &Datum) -> Result<Datum, Halt>
+    ensures { Answers value_of result (scan_answer at (value_of sequence.now)) }
+{
+    let all = items(at, sequence)?;
+    let numbers = integers(alloc, at, all)?;
+    let sums = scan_add(alloc, at, &numbers)?;
+    Ok(sequence_of(sums))
+}
+
+fn reduction(
+    alloc: Global,
+    at: usize,
+    reduction: Reduction,
+    sequence: &Datum,
+) -> Result<Datum, Halt>
+    ensures { Answers value_of result (reduce_answer at reduction (value_of sequence.now)) }
+{
+    let all = items(at, sequence)?;
+    let read = scalars(alloc, at, all)?;
+    scalar_result(at, reduce(reduction, &read))
+}
+
+fn length(at: usize, sequence: &Datum) -> Result<Datum, Halt>
+    ensures { Answers value_of result (applied at builtin.Length (value_of sequence.now ∷ [])) }
+{
+    let all = items(at, sequence)?;
+    match i64::try_from(all.len()) {
+        Ok(n) => Ok(Datum::Int(n)),
+        Err(_) => Err(fault(FaultKind::Overflow, at)),
+    }
+}
+
+fn concat(alloc: Global, at: usize, sequence: &Datum) -> Result<Datum, Halt>
+    ensures { Answers value_of result (applied at builtin.Concat (value_of sequence.now ∷ [])) }
+{
+    let all = items(at, sequence)?;
+    let values = joined(alloc, at, all)?;
+    Ok(sequence_of(values))
+}
+
+fn part(alloc: Global, at: usize, sequence: &Datum, flags: &Datum) -> Result<Datum, Halt>
+    ensures { Answers value_of result (part_answer at (value_of sequence.now) (value_of flags.now)) }
+{
+    let all = items(at, sequence)?;
+    let ends = items(at, flags)?;
+    let ends = truths(alloc, at, ends)?;
+    let values = parts(alloc, at, all, &ends)?;
+    Ok(sequence_of(values))
+}
+
+// The one item.
+fn the(alloc: Global, at: usize, sequence: &Datum) -> Result<Datum, Halt>
+    ensures { Answers value_of result (applied at builtin.The (value_of sequence.now ∷ [])) }
+{
+    let all = items(at, sequence)?;
+    match all {
+        [one] => Ok(copy_datum(alloc, one)?),
+        _ => Err(fault(FaultKind::The, at)),
+    }
+}
+
+fn tab(alloc: Global, at: usize, sequence: &Datum) -> Result<Datum, Halt>
+    ensures { Answers value_of result (applied at builtin.Tab (value_of sequence.now ∷ [])) }
+{
+    let all = items(at, sequence)?;
+    let mut values = Vec::with_capacity(alloc, all.len())?;
+    add_copies(alloc, &mut values, all)?;
+    Ok(vector_of(values))
+}
+
+fn seq(alloc: Global, at: usize, vector: &Datum) -> Result<Datum, Halt>
+    ensures { Answers value_of result (applied at builtin.Seq (value_of vector.now ∷ [])) }
+{
+    let all = elements(at, vector)?;
+    let mut values = Vec::with_capacity(alloc, all.len())?;
+    add_copies(alloc, &mut values, all)?;
+    Ok(sequence_of(values))
+}
+
+fn fst(alloc: Global, at: usize, pair: &Datum) -> Result<Datum, Halt>
+    ensures { Answers value_of result (applied at builtin.Fst (value_of pair.now ∷ [])) }
+{
+    match pair {
+        Datum::Pair(first, _) => Ok(copy_datum(alloc, first)?),
+        _ => Err(fault(FaultKind::Shape, at)),
+    }
+}
+
+fn snd(alloc: Global, at: usize, pair: &Datum) -> Result<Datum, Halt>
+    ensures { Answers value_of result (applied at builtin.Snd (value_of pair.now ∷ [])) }
+{
+    match pair {
+        Datum::Pair(_, second) => Ok(copy_datum(alloc, second)?),
+        _ => Err(fault(FaultKind::Shape, at)),
+    }
+}

@@ -1,0 +1,392 @@
+// Evaluation.
+
+ghost use Rattle.std.specs.Prelude.{◌≡◌, ◌∷◌, true, map, IfOk, option_map, option_to_list};
+ghost use Rattle.snesl_values.specs.Inputs.{environment_of};
+ghost use Rattle.snesl_values.specs.Values.{value_of};
+ghost use Rattle.snesl_tree.specs.Spelling.{spelling};
+ghost use Rattle.snesl_tree.specs.View.{binders_of, program_of, tree_of, trees_of};
+ghost use Rattle.snesl_evaluation.specs.Eval.{eval, in_step, program_value, rows_of};
+ghost use Rattle.snesl_evaluation.specs.Answer.{go};
+ghost use Rattle.snesl_evaluation.specs.Builtins.{applied, seq_answer};
+ghost use Rattle.snesl_evaluation.specs.Results.{Answers, IsAnswer};
+ghost use Rattle.snesl_evaluation.specs.Scopes.{all_in, are_level, binders_in, calls_in, column_of, each_in, entered, environment_in, eval_in, kept_in, where_in};
+
+use crate::builtins::apply;
+use crate::calls::find_function;
+use crate::halt::{Halt, fault};
+use crate::operators::{binary, prefix};
+use crate::parts::{add, add_found, filtered, into_items, pair, sequence_of, truth};
+use crate::scope::{Column, Scope, Setting, add_column, height, look_up};
+use snesl_tree::{Binder, Builtin, Declaration, Expr, Function, Program, Span};
+use snesl_values::{Datum, Fault, FaultKind, Inputs};
+use std::alloc::{AllocError, Global};
+
+/// Evaluates a program by its definition, with all of each sequence in memory. It is slow, and
+/// there to say what a program means: operands, arguments and items are evaluated in order from
+/// left to right, each whole before the next, and each even if nothing uses its value.
+/// `inputs` has the values that the program starts with.
+///
+/// Returns the program's value, or its first fault with the offset that the form at fault keeps, in
+/// bytes of the text from 0. A program that is not typed may end in the fault `Shape`.
+///
+/// The language is Streaming NESL (Madsen and Filinski, FHPC 2013); a comprehension is the
+/// apply-to-each form of NESL 3.1.
+///
+/// # Errors
+///
+/// `AllocError` where memory is refused, as for an `iota` of a number too great.
+pub fn evaluate(
+    alloc: Global,
+    program: &Program,
+    inputs: &Inputs,
+) -> Result<Result<Datum, Fault>, AllocError>
+    ensures exact { IfOk result (λ answer. IsAnswer answer (program_value program.now.text.items (program_of program.now) (environment_of inputs.now))) }
+{
+    let setting = Setting {
+        alloc,
+        text: &program.text,
+        functions: &program.declarations,
+    };
+    match value(&setting, &program.expr, &Scope::Inputs(inputs)) {
+        Ok(datum) => Ok(Ok(datum)),
+        Err(Halt::Faulted(fault)) => Ok(Err(fault)),
+        Err(Halt::NoMemory) => Err(AllocError),
+    }
+}
+
+// The value of an expression, or its first fault.
+#[cycle(value)]
+fn value(setting: &Setting, expr: &Expr, scope: &Scope) -> Result<Datum, Halt>
+    ensures { Answers value_of result (eval_in setting.now scope.now (tree_of expr.now)) }
+{
+    match expr {
+        Expr::Integer { value, .. } => Ok(Datum::Int(*value)),
+        Expr::Truth { value, .. } => Ok(Datum::Bool(*value)),
+        Expr::Name(name) => look_up(setting.alloc, *name, setting.text, scope),
+        Expr::Binary {
+            at,
+            operator,
+            left,
+            right,
+        } => {
+            let x = value(setting, left, scope)?;
+            let y = value(setting, right, scope)?;
+            binary(setting.alloc, *at, *operator, &x, &y)
+        }
+        Expr::Prefix {
+            at,
+            operator,
+            operand,
+        } => {
+            let x = value(setting, operand, scope)?;
+            prefix(*at, *operator, &x)
+        }
+        Expr::Call {
+            at,
+            function,
+            arguments,
+        } => built_in(setting, *at, *function, arguments, scope),
+        Expr::Apply {
+            function,
+            arguments,
+        } => call(setting, *function, arguments, scope),
+        Expr::Group { inner, .. } => value(setting, inner, scope),
+        Expr::Pair { first, second, .. } => {
+            let x = value(setting, first, scope)?;
+            let y = value(setting, second, scope)?;
+            Ok(pair(setting.alloc, x, y)?)
+        }
+        Expr::Let {
+            name,
+            value: bound,
+            body,
+            ..
+        } => {
+            let x = value(setting, bound, scope)?;
+            bind(setting, *name, &x, body, &*scope)
+        }
+        Expr::If {
+            at,
+            condition,
+            positive,
+            negative,
+        } => {
+            let x = value(setting, condition, scope)?;
+            if truth(*at, &x)? {
+                value(setting, positive, scope)
+            } else {
+                value(setting, negative, scope)
+            }
+        }
+        Expr::Literal { items, .. } => literal(setting, items, scope),
+        Expr::Filter {
+            at,
+            item,
+            condition,
+        } => filter(setting, *at, item, condition, scope),
+        Expr::Each {
+            at,
+            body,
+            binders,
+            condition,
+        } => match condition {
+            None => each(setting, *at, body, binders, scope),
+            Some(condition) => each_where(setting, *at, body, binders, condition, scope),
+        },
+    }
+}
+
+// A built-in function at arguments.
+#[cycle(value)]
+fn built_in(
+    setting: &Setting,
+    at: usize,
+    function: Builtin,
+    arguments: &[Expr],
+    scope: &Scope,
+) -> Result<Datum, Halt>
+    ensures { Answers value_of result (go (all_in setting.now scope.now (trees_of arguments.now)) (applied at function)) }
+{
+    let values = all_values(setting, arguments, scope)?;
+    apply(setting.alloc, at, function, &values)
+}
+
+// A declared function at arguments.
+#[cycle(value)]
+fn call(
+    setting: &Setting,
+    name: Span,
+    arguments: &[Expr],
+    scope: &Scope,
+) -> Result<Datum, Halt>
+    ensures { Answers value_of result (go (all_in setting.now scope.now (trees_of arguments.now)) (calls_in setting.now name.at (spelling setting.now.text.now name))) }
+{
+    let values = all_values(setting, arguments, scope)?;
+    let result = called(setting, name, &values)?;
+    Ok(result)
+}
+
+#[cycle(value)]
+fn literal(setting: &Setting, items: &[Expr], scope: &Scope) -> Result<Datum, Halt>
+    ensures { Answers value_of result (seq_answer (all_in setting.now scope.now (trees_of items.now))) }
+{
+    let values = all_values(setting, items, scope)?;
+    Ok(sequence_of(values))
+}
+
+// The sequence of an item where the condition is true, and else of nothing.
+#[cycle(value)]
+fn filter(
+    setting: &Setting,
+    at: usize,
+    item: &Expr,
+    condition: &Expr,
+    scope: &Scope,
+) -> Result<Datum, Halt>
+    ensures { Answers value_of result (seq_answer (kept_in setting.now scope.now at (tree_of item.now) (tree_of condition.now))) }
+{
+    let found = kept(setting, at, item, condition, scope)?;
+    Ok(filtered(setting.alloc, found)?)
+}
+
+// A comprehension with no condition.
+#[cycle(value)]
+fn each(
+    setting: &Setting,
+    at: usize,
+    body: &Expr,
+    binders: &[Binder],
+    scope: &Scope,
+) -> Result<Datum, Halt>
+    ensures { Answers value_of result (go (binders_in setting.now scope.now (binders_of binders.now)) (λ columns. go (in_step at columns) (λ rows. seq_answer (each_in setting.now scope.now (tree_of body.now) rows)))) }
+{
+    let columns = all_columns(setting, binders, scope)?;
+    let number = height(at, &columns)?;
+    let values = rows(setting, body, &columns, number, &*scope)?;
+    Ok(sequence_of(values))
+}
+
+// A comprehension with a condition.
+#[cycle(value)]
+fn each_where(
+    setting: &Setting,
+    at: usize,
+    body: &Expr,
+    binders: &[Binder],
+    condition: &Expr,
+    scope: &Scope,
+) -> Result<Datum, Halt>
+    ensures { Answers value_of result (go (binders_in setting.now scope.now (binders_of binders.now)) (λ columns. go (in_step at columns) (λ rows. seq_answer (where_in setting.now scope.now at (tree_of body.now) (tree_of condition.now) rows)))) }
+{
+    let columns = all_columns(setting, binders, scope)?;
+    let number = height(at, &columns)?;
+    let values = rows_where(setting, at, body, condition, &columns, number, &*scope)?;
+    Ok(sequence_of(values))
+}
+
+// The values of arguments, or of the items of a literal.
+#[cycle(value)]
+fn all_values(
+    setting: &Setting,
+    exprs: &[Expr],
+    scope: &Scope,
+) -> Result<Vec<Datum>, Halt>
+    ensures { Answers (λ values. map value_of values.items) result (all_in setting.now scope.now (trees_of exprs.now)) }
+{
+    let mut values = Vec::new(setting.alloc);
+    for expr in exprs {
+        let value = value(setting, expr, scope)?;
+        add(&mut values, value)?;
+    }
+    Ok(values)
+}
+
+// The names of a comprehension with the items of their sequences.
+#[cycle(value)]
+fn all_columns(
+    setting: &Setting,
+    binders: &[Binder],
+    scope: &Scope,
+) -> Result<Vec<Column>, Halt>
+    ensures { Answers (λ columns. map (column_of setting.now.text.now) columns.items) result (binders_in setting.now scope.now (binders_of binders.now)) }
+{
+    let mut columns = Vec::new(setting.alloc);
+    for binder in binders {
+        let sequence = value(setting, &binder.source, scope)?;
+        let items = into_items(binder.name.at, sequence)?;
+        add_column(&mut columns, binder.name, items)?;
+    }
+    Ok(columns)
+}
+
+// The value of a body, where the name has this value.
+#[cycle(value)]
+fn bind<'a>(
+    setting: &Setting,
+    name: Span,
+    bound: &'a Datum,
+    body: &Expr,
+    scope: &'a Scope<'a>,
+) -> Result<Datum, Halt>
+    ensures { Answers value_of result (eval (tree_of body.now) setting.now.text.now (calls_in setting.now) ((spelling setting.now.text.now name, value_of bound.now) ∷ environment_in setting.now.text.now scope.now)) }
+{
+    let inner = Scope::Bound {
+        name,
+        value: bound,
+        outer: scope,
+    };
+    let result = value(setting, body, &inner)?;
+    Ok(result)
+}
+
+// The item where the condition is true, and else nothing.
+#[cycle(value)]
+fn kept(
+    setting: &Setting,
+    at: usize,
+    item: &Expr,
+    condition: &Expr,
+    scope: &Scope,
+) -> Result<Option<Datum>, Halt>
+    ensures { Answers (λ kept. option_to_list (option_map value_of kept)) result (kept_in setting.now scope.now at (tree_of item.now) (tree_of condition.now)) }
+{
+    let x = value(setting, condition, scope)?;
+    if truth(at, &x)? {
+        let y = value(setting, item, scope)?;
+        Ok(Some(y))
+    } else {
+        Ok(None)
+    }
+}
+
+// The values of a body at each row of these columns.
+#[cycle(value)]
+fn rows<'a>(
+    setting: &Setting,
+    body: &Expr,
+    columns: &'a [Column],
+    number: usize,
+    scope: &'a Scope<'a>,
+) -> Result<Vec<Datum>, Halt>
+    requires { are_level number columns.now ≡ true }
+    ensures { Answers (λ values. map value_of values.items) result (each_in setting.now scope.now (tree_of body.now) (rows_of number (map (column_of setting.now.text.now) columns.now))) }
+{
+    let mut values = Vec::new(setting.alloc);
+    for index in 0..number {
+        let row = Scope::Row {
+            columns,
+            index,
+            outer: scope,
+        };
+        let value = value(setting, body, &row)?;
+        add(&mut values, value)?;
+    }
+    Ok(values)
+}
+
+// The same at the rows where the condition is true.
+#[cycle(value)]
+fn rows_where<'a>(
+    setting: &Setting,
+    at: usize,
+    body: &Expr,
+    condition: &Expr,
+    columns: &'a [Column],
+    number: usize,
+    scope: &'a Scope<'a>,
+) -> Result<Vec<Datum>, Halt>
+    requires { are_level number columns.now ≡ true }
+    ensures { Answers (λ values. map value_of values.items) result (where_in setting.now scope.now at (tree_of body.now) (tree_of condition.now) (rows_of number (map (column_of setting.now.text.now) columns.now))) }
+{
+    let mut values = Vec::new(setting.alloc);
+    for index in 0..number {
+        let row = Scope::Row {
+            columns,
+            index,
+            outer: scope,
+        };
+        let found = kept(setting, at, body, condition, &row)?;
+        add_found(&mut values, found)?;
+    }
+    Ok(values)
+}
+
+// A declared function at the values of its arguments.
+#[cycle(value)]
+fn called(
+    setting: &Setting,
+    name: Span,
+    values: &[Datum],
+) -> Result<Datum, Halt>
+    ensures { Answers value_of result (calls_in setting.now name.at (spelling setting.now.text.now name) (map value_of values.now)) }
+{
+    let bytes = name.spelled(setting.text);
+    match find_function(bytes, setting.text, setting.functions) {
+        Some((function, earlier)) => enter(setting, name.at, function, earlier, values),
+        None => Err(fault(FaultKind::Shape, name.at)),
+    }
+}
+
+// The value of a function's body, which sees its parameters and the functions before it.
+#[cycle(value)]
+fn enter(
+    setting: &Setting,
+    at: usize,
+    function: &Function,
+    earlier: &[Declaration],
+    values: &[Datum],
+) -> Result<Datum, Halt>
+    ensures { Answers value_of result (entered setting.now.text.now at function.now earlier.now (map value_of values.now)) }
+{
+    if function.parameters.len() != values.len() {
+        return Err(fault(FaultKind::Shape, at));
+    }
+    let inner = Setting {
+        alloc: setting.alloc,
+        text: &*setting.text,
+        functions: &*earlier,
+    };
+    let scope = Scope::Parameters(&function.parameters, &*values);
+    let result = value(&inner, &function.body, &scope)?;
+    Ok(result)
+}

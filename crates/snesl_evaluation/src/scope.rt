@@ -1,0 +1,180 @@
+// What names and calls stand for.
+
+ghost use Rattle.std.specs.Prelude.{◌≡◌, ℕ, List, [], ◌∷◌, ◌++◌, map, option_map, slice_get, true, zip, None, if◌then◌else◌, IfOk, OnOk};
+ghost use Rattle.std.specs.Str.{bytes_eq};
+ghost use Rattle.snesl_values.specs.Inputs.{value_in};
+ghost use Rattle.snesl_values.specs.Values.{value_of};
+ghost use Rattle.snesl_tree.specs.Spelling.{spelling};
+ghost use Rattle.snesl_evaluation.specs.Eval.{in_step, named, rows_of};
+ghost use Rattle.snesl_evaluation.specs.Results.{Answers};
+ghost use Rattle.snesl_evaluation.specs.Scopes.{are_level, column_of, environment_in, first_height, names_of, row_at};
+
+use crate::halt::{Halt, fault};
+use snesl_tree::{Declaration, Span, Typing};
+use snesl_values::{Datum, FaultKind, Inputs, copy_datum};
+use std::alloc::{AllocError, Global};
+
+// What stays the same in one body: the text, in which names are spelled, and the declarations
+// whose functions may be called.
+#[derive(Clone, Copy)]
+pub struct Setting<'a> {
+    pub alloc: Global,
+    pub text: &'a [u8],
+    pub functions: &'a [Declaration],
+}
+
+// A name of a comprehension, and the items that it stands for in turn.
+#[derive(Drop)]
+pub struct Column {
+    pub name: Span,
+    pub items: Vec<Datum>,
+}
+
+// What names stand for, the innermost first.
+#[derive(Drop)]
+pub enum Scope<'a> {
+    Inputs(&'a Inputs),
+    // As many values as parameters.
+    Parameters(&'a [Typing], &'a [Datum]),
+    Bound {
+        name: Span,
+        value: &'a Datum,
+        outer: &'a Scope<'a>,
+    },
+    // Each column's item at this index.
+    Row {
+        columns: &'a [Column],
+        index: usize,
+        outer: &'a Scope<'a>,
+    },
+}
+
+// A copy of the value of a name.
+pub fn look_up(alloc: Global, name: Span, text: &[u8], scope: &Scope) -> Result<Datum, Halt>
+    ensures { Answers value_of result (named name.at (spelling text.now name) (environment_in text.now scope.now)) }
+{
+    match find(name.spelled(text), text, scope) {
+        Some(datum) => Ok(copy_datum(alloc, datum)?),
+        None => Err(fault(FaultKind::Shape, name.at)),
+    }
+}
+
+// The value of a name.
+fn find<'a>(name: &[u8], text: &[u8], scope: &'a Scope<'a>) -> Option<&'a Datum>
+    ensures { option_map (λ datum. value_of datum.now) result ≡ value_in name.now (environment_in text.now scope.now) }
+{
+    match scope {
+        Scope::Inputs(inputs) => inputs.named(name),
+        Scope::Parameters(parameters, values) => find_parameter(name, text, parameters, values),
+        Scope::Bound {
+            name: bound,
+            value,
+            outer,
+        } => {
+            if name == bound.spelled(text) {
+                Some(value)
+            } else {
+                find(name, text, outer)
+            }
+        }
+        Scope::Row {
+            columns,
+            index,
+            outer,
+        } => match find_in_row(name, text, columns, *index) {
+            Some(datum) => Some(datum),
+            None => find(name, text, outer),
+        },
+    }
+}
+
+fn find_parameter<'a>(
+    name: &[u8],
+    text: &[u8],
+    parameters: &[Typing],
+    values: &'a [Datum],
+) -> Option<&'a Datum>
+    ensures { option_map (λ datum. value_of datum.now) result ≡ value_in name.now (zip (names_of text.now parameters.now) (map value_of values.now)) }
+{
+    let (parameter, parameters) = parameters.split_first()?;
+    let (value, values) = values.split_first()?;
+    if name == parameter.name.spelled(text) {
+        Some(value)
+    } else {
+        find_parameter(name, text, parameters, values)
+    }
+}
+
+fn find_in_row<'a>(
+    name: &[u8],
+    text: &[u8],
+    columns: &'a [Column],
+    index: usize,
+) -> Option<&'a Datum>
+    ensures { option_map (λ datum. value_of datum.now) result ≡ value_in name.now (row_at index (map (column_of text.now) columns.now)) }
+{
+    let (column, columns) = columns.split_first()?;
+    match find_in_column(name, text, column, index) {
+        Some(item) => Some(item),
+        None => find_in_row(name, text, columns, index),
+    }
+}
+
+fn find_in_column<'a>(
+    name: &[u8],
+    text: &[u8],
+    column: &'a Column,
+    index: usize,
+) -> Option<&'a Datum>
+    ensures { option_map (λ datum. value_of datum.now) result ≡ (if bytes_eq name.now (spelling text.now column.now.name) then slice_get (map value_of column.now.items.items) index else None) }
+{
+    if name == column.name.spelled(text) {
+        column.items.get(index)
+    } else {
+        None
+    }
+}
+
+pub fn add_column(
+    columns: &mut Vec<Column>,
+    name: Span,
+    items: Vec<Datum>,
+) -> Result<(), AllocError>
+    ensures { (text : List ℕ) → OnOk result (map (column_of text) columns.new.items ≡ map (column_of text) columns.old.items ++ (spelling text name, map value_of items.items) ∷ []) }
+{
+    columns.push(Column { name, items })?;
+    Ok(())
+}
+
+// The length of all columns.
+pub fn height(at: usize, columns: &[Column]) -> Result<usize, Halt>
+    ensures level { IfOk result (λ n. are_level n columns.now ≡ true) }
+    ensures in_step { (text : List ℕ) → Answers (λ n. rows_of n (map (column_of text) columns.now)) result (in_step at (map (column_of text) columns.now)) }
+{
+    let height = first_height(columns);
+    if are_level(columns, height) {
+        Ok(height)
+    } else {
+        Err(fault(FaultKind::Length, at))
+    }
+}
+
+fn first_height(columns: &[Column]) -> usize
+    ensures { result ≡ first_height columns.now }
+{
+    match columns {
+        [first, ..] => first.items.len(),
+        [] => 0,
+    }
+}
+
+fn are_level(columns: &[Column], height: usize) -> bool
+    ensures { result ≡ are_level height columns.now }
+{
+    for column in columns {
+        if column.items.len() != height {
+            return false;
+        }
+    }
+    true
+}

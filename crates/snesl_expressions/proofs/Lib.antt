@@ -1,0 +1,11 @@
+pub mod Reading
+pub mod Depths
+pub mod Runs
+pub mod Beginnings
+pub mod Spelled
+pub mod Closed
+pub mod Stands
+pub mod Expressions
+pub mod Rows
+pub mod Piles
+pub mod Closes

@@ -1,0 +1,26 @@
+use Rattle.std.proofs.Common.{arith, ap, sym, ◌∙◌, ◌≤◌, subst}
+use Rattle.snesl_tree.specs.View.{tree_of}
+use Rattle.snesl_expressions.specs.Limits.{greatest_depth}
+use Rattle.snesl_expressions.specs.Operators.{level}
+use Rattle.snesl_expressions.specs.Readers.{within}
+use Rattle.snesl_expressions.specs.Machine.{infix_move, floor}
+use Rattle.snesl_expressions.specs.Parsing.{Gives, frames_of}
+use Rattle.snesl_expressions.proofs.Closes.{infix_on, infix_off}
+use Rattle.snesl_expressions.proofs.closings.infix.Goals as goal
+
+pub returns-then-saturating_add-ge-GREATEST_DEPTH : goal.returns-then-saturating_add-ge-GREATEST_DEPTH
+returns-then-saturating_add-ge-GREATEST_DEPTH c =
+    let folded = rw c.left_level_of.ensures at c.in_ok-outer.ensures in
+    let low : floor (frames_of c.in_ok-outer.outer.items) ≤ level c.args.operator = omega (arith, ap (λ fs. floor (frames_of fs)) c.deref.ensures.value, c.floor_of.ensures, c.level_of.ensures.exact) in
+    ap (λ r. within greatest_depth (infix_move c.args.operator c.args.at r)) folded
+    ∙ infix_off c.in_ok-outer.outer.items c.args.operator c.args.at (tree_of c.in_ok-outer.left.expr) low
+    (omega (arith, c.in_ok-outer.left.exact, c.in_ok-outer.outer.ok.0, c.len.ensures, c.saturating_add.ensures))
+
+pub returns : goal.returns
+returns c =
+    let folded = rw c.left_level_of.ensures at c.in_ok-outer.ensures in
+    let low : floor (frames_of c.in_ok-outer.outer.items) ≤ level c.args.operator = omega (arith, ap (λ fs. floor (frames_of fs)) c.deref.ensures.value, c.floor_of.ensures, c.level_of.ensures.exact) in
+    let roomy = ap (λ r. within greatest_depth (infix_move c.args.operator c.args.at r)) folded
+    ∙ infix_on c.in_ok-outer.outer.items c.args.operator c.args.at (tree_of c.in_ok-outer.left.expr) low
+    (omega (arith, c.in_ok-outer.left.exact, c.in_ok-outer.outer.ok.0, c.len.ensures, c.saturating_add.ensures)) in
+    subst (Gives c.go_in.result) (sym roomy) c.go_in.ensures

@@ -1,0 +1,21 @@
+use Rattle.std.proofs.Common.{ap, sym, ◌∙◌, arith, Ok}
+use Rattle.snesl_tree.specs.View.{tree_of}
+use Rattle.snesl_expressions.specs.Limits.{greatest_depth}
+use Rattle.snesl_expressions.specs.Readers.{within}
+use Rattle.snesl_expressions.specs.Machine.{binder_name}
+use Rattle.snesl_expressions.specs.Parsing.{frames_of}
+use Rattle.snesl_expressions.proofs.Closes.{one_more_binder, no_more_binder}
+use Rattle.snesl_expressions.proofs.closings.next_binder.Goals as goal
+
+pub returns-then-len-ge-GREATEST_BINDER_COUNT : goal.returns-then-len-ge-GREATEST_BINDER_COUNT
+returns-then-len-ge-GREATEST_BINDER_COUNT c =
+    ap (within greatest_depth)
+    (no_more_binder c.args.bound.binders.items c.args.at (tree_of c.args.body.expr) c.args.name (frames_of c.args.outer.items) (tree_of c.args.source.expr)
+    (omega (arith, c.args.bound.binders.ok.0, c.len.ensures)))
+
+pub returns : goal.returns
+returns c =
+    ap (within greatest_depth)
+    (one_more_binder c.args.bound.binders.items c.args.at (tree_of c.args.body.expr) c.args.name (frames_of c.args.outer.items) (tree_of c.args.source.expr)
+    (omega (arith, c.args.bound.binders.ok.0, c.len.ensures)))
+    ∙ ap (λ bs. Ok (binder_name (frames_of c.args.outer.items) c.args.at (tree_of c.args.body.expr) bs)) (sym c.in_ok-bound.ensures)

@@ -1,0 +1,9 @@
+use Rattle.snesl_tree.specs.View.{tree_of}
+use Rattle.snesl_expressions.specs.Machine.{reduce}
+use Rattle.snesl_expressions.specs.Parsing.{frames_of}
+use Rattle.snesl_expressions.proofs.Closes.{popped}
+use Rattle.snesl_expressions.proofs.forms.find_innermost.Goals as goal
+
+pub returns-in-Some : goal.returns-in-Some
+returns-in-Some c =
+    popped (reduce 0 (frames_of c.args.forms.items) (tree_of c.args.last.expr)) c.in_ok-outer.outer.items c.pop.new.self.items c.in-Some.form (tree_of c.in_ok-outer.whole.expr) c.in_ok-outer.ensures c.in-Some.ensures.items

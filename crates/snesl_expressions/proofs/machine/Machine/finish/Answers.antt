@@ -1,0 +1,13 @@
+use Rattle.std.proofs.Common.{arith, ap, sym, ◌∙◌, vec_len, length}
+use Rattle.snesl_tree.specs.View.{tree_of}
+use Rattle.snesl_expressions.specs.Machine.{finished_of, alone}
+use Rattle.snesl_expressions.specs.Parsing.{state_at, frames_of}
+use Rattle.snesl_expressions.proofs.Closes.{still_open, some_left}
+use Rattle.snesl_expressions.proofs.machine.Machine.finish.Goals as goal
+
+pub returns-in-After : goal.returns-in-After
+returns-in-After c =
+    ap (λ p. finished_of (state_at (frames_of c.args.self.forms.items) p)) c.in-After.is
+    ∙ ap alone c.in_ok-outer-in-After.ensures
+    ∙ still_open c.in_ok-outer-in-After.outer.items (tree_of c.in_ok-outer-in-After.whole.expr)
+    (some_left (vec_len c.in_ok-outer-in-After.outer) (length c.in_ok-outer-in-After.outer.items) (sym c.if-is_empty.ensures) (omega (arith, c.in_ok-outer-in-After.outer.ok.0)))

@@ -1,0 +1,372 @@
+// What stands behind an operand: operators, and what ends a part of a form.
+
+ghost use Rattle.std.specs.Prelude.{◌∷◌};
+ghost use Rattle.snesl_tree.specs.View.{tree_of, trees_of, binders_of};
+ghost use Rattle.snesl_expressions.specs.Limits.{greatest_depth};
+ghost use Rattle.snesl_expressions.specs.Readers.{step, within};
+ghost use Rattle.snesl_expressions.specs.Machine.{expressions, after, joining, closing, apply_move, comma_move, paren_move, brace_move, colon_move, bar_move, semicolon_move, in_move, then_move, else_move, in_braces, in_source};
+ghost use Rattle.snesl_expressions.specs.Parsing.{frame_of, frames_of, Gives, ending_move};
+
+use crate::forms::{Form, Innermost, find_innermost, floor_of, left_level_of, level_of, reduced};
+use crate::limits::{GREATEST_BINDER_COUNT, GREATEST_DEPTH};
+use crate::machine::{Machine, Point, StepError, behind, enter, go_in};
+use crate::measured::{Arguments, Bound, Measured};
+use snesl_lexer::{Kind, Token};
+use snesl_tree::{Expr, Operator, Span};
+use std::alloc::Global;
+
+/// A token that ends a part of the innermost form with a closing token.
+#[derive(Clone, Copy)]
+pub enum Ending {
+    Comma,
+    RightParen,
+    RightBrace,
+    Colon,
+    Bar,
+    Semicolon,
+    In,
+    Then,
+    Else,
+}
+
+/// Behind an operand.
+pub fn after(
+    alloc: Global,
+    forms: Vec<Form>,
+    last: Measured,
+    token: Token,
+) -> Result<Machine, StepError>
+    ensures { Gives result (step expressions greatest_depth (after (frames_of forms.items) (tree_of last.expr)) token) }
+{
+    match token.kind {
+        Kind::Or => infix(alloc, forms, last, Operator::Or, token.at),
+        Kind::And => infix(alloc, forms, last, Operator::And, token.at),
+        Kind::Same => infix(alloc, forms, last, Operator::Equal, token.at),
+        Kind::Less => infix(alloc, forms, last, Operator::Less, token.at),
+        Kind::AtMost => infix(alloc, forms, last, Operator::AtMost, token.at),
+        Kind::Greater => infix(alloc, forms, last, Operator::Greater, token.at),
+        Kind::AtLeast => infix(alloc, forms, last, Operator::AtLeast, token.at),
+        Kind::Append => infix(alloc, forms, last, Operator::Append, token.at),
+        Kind::Plus => infix(alloc, forms, last, Operator::Add, token.at),
+        Kind::Minus => infix(alloc, forms, last, Operator::Subtract, token.at),
+        Kind::Star => infix(alloc, forms, last, Operator::Multiply, token.at),
+        Kind::Slash => infix(alloc, forms, last, Operator::Divide, token.at),
+        Kind::Percent => infix(alloc, forms, last, Operator::Remainder, token.at),
+        Kind::At => infix(alloc, forms, last, Operator::Index, token.at),
+        Kind::LeftParen => apply(alloc, forms, last),
+        Kind::Comma => closing(alloc, forms, last, Ending::Comma),
+        Kind::RightParen => closing(alloc, forms, last, Ending::RightParen),
+        Kind::RightBrace => closing(alloc, forms, last, Ending::RightBrace),
+        Kind::Colon => closing(alloc, forms, last, Ending::Colon),
+        Kind::Bar => closing(alloc, forms, last, Ending::Bar),
+        Kind::Semicolon => closing(alloc, forms, last, Ending::Semicolon),
+        Kind::In => closing(alloc, forms, last, Ending::In),
+        Kind::Then => closing(alloc, forms, last, Ending::Then),
+        Kind::Else => closing(alloc, forms, last, Ending::Else),
+        _ => Err(StepError::Unexpected),
+    }
+}
+
+// Where an operator stands behind an operand.
+fn infix(
+    alloc: Global,
+    forms: Vec<Form>,
+    last: Measured,
+    operator: Operator,
+    at: usize,
+) -> Result<Machine, StepError>
+    ensures { Gives result (within greatest_depth (joining operator at (frames_of forms.items) (tree_of last.expr))) }
+{
+    let (outer, left) = reduced(alloc, forms, last, left_level_of(operator))?;
+    if floor_of(&outer) > level_of(operator) {
+        return Err(StepError::Unexpected);
+    }
+    if left.deep.saturating_add(outer.len()) >= GREATEST_DEPTH {
+        return Err(StepError::TooDeep);
+    }
+    go_in(outer, Form::Binary { at, operator, left })
+}
+
+// Where a parenthesis opens behind an operand: only behind a function's name.
+fn apply(alloc: Global, forms: Vec<Form>, last: Measured) -> Result<Machine, StepError>
+    ensures { Gives result (within greatest_depth (apply_move (frames_of forms.items) (tree_of last.expr))) }
+{
+    match last.expr {
+        Expr::Name(function) => {
+            let given = Arguments::none(alloc);
+            enter(forms, Form::Apply { function, given })
+        }
+        _ => Err(StepError::Unexpected),
+    }
+}
+
+// Where a token ends a part of the innermost form that does not close by itself.
+fn closing(
+    alloc: Global,
+    forms: Vec<Form>,
+    last: Measured,
+    ending: Ending,
+) -> Result<Machine, StepError>
+    ensures { Gives result (within greatest_depth (closing (ending_move ending) (frames_of forms.items) (tree_of last.expr))) }
+{
+    let Innermost { outer, form, whole } = find_innermost(alloc, forms, last)?;
+    ended(alloc, outer, form, whole, ending)
+}
+
+// The same, where that form and the part are found.
+fn ended(
+    alloc: Global,
+    outer: Vec<Form>,
+    form: Form,
+    whole: Measured,
+    ending: Ending,
+) -> Result<Machine, StepError>
+    ensures { Gives result (within greatest_depth (ending_move ending (frame_of form ∷ frames_of outer.items) (tree_of whole.expr))) }
+{
+    match ending {
+        Ending::Comma => comma(outer, form, whole),
+        Ending::RightParen => right_paren(alloc, outer, form, whole),
+        Ending::RightBrace => right_brace(alloc, outer, form, whole),
+        Ending::Colon => colon(alloc, outer, form, whole),
+        Ending::Bar => bar(outer, form, whole),
+        Ending::Semicolon => semicolon(outer, form, whole),
+        Ending::In => let_in(outer, form, whole),
+        Ending::Then => then(outer, form, whole),
+        Ending::Else => or_else(outer, form, whole),
+    }
+}
+
+// A comma ends an argument, the first part of a pair, or an item.
+fn comma(outer: Vec<Form>, form: Form, whole: Measured) -> Result<Machine, StepError>
+    ensures { Gives result (within greatest_depth (comma_move (frame_of form ∷ frames_of outer.items) (tree_of whole.expr))) }
+{
+    match form {
+        Form::Call {
+            at,
+            function,
+            given,
+        } => {
+            let given = given.with(whole)?;
+            go_in(
+                outer,
+                Form::Call {
+                    at,
+                    function,
+                    given,
+                },
+            )
+        }
+        Form::Apply { function, given } => {
+            let given = given.with(whole)?;
+            go_in(outer, Form::Apply { function, given })
+        }
+        Form::Group { at } => go_in(outer, Form::Second { at, first: whole }),
+        Form::Braces { at, given } => {
+            let given = given.with(whole)?;
+            go_in(outer, Form::Braces { at, given })
+        }
+        _ => Err(StepError::Unexpected),
+    }
+}
+
+// A parenthesis closes a call, a group or a pair.
+fn right_paren(
+    alloc: Global,
+    outer: Vec<Form>,
+    form: Form,
+    whole: Measured,
+) -> Result<Machine, StepError>
+    ensures { Gives result (within greatest_depth (paren_move (frame_of form ∷ frames_of outer.items) (tree_of whole.expr))) }
+{
+    match form {
+        Form::Call {
+            at,
+            function,
+            given,
+        } => behind(outer, Measured::call(at, function, given.with(whole)?)),
+        Form::Apply { function, given } => {
+            behind(outer, Measured::apply(function, given.with(whole)?))
+        }
+        Form::Group { at } => behind(outer, Measured::group(alloc, at, whole)?),
+        Form::Second { at, first } => behind(outer, Measured::pair(alloc, at, first, whole)?),
+        _ => Err(StepError::Unexpected),
+    }
+}
+
+// A brace closes a literal, an item with its condition, or a comprehension.
+fn right_brace(
+    alloc: Global,
+    outer: Vec<Form>,
+    form: Form,
+    whole: Measured,
+) -> Result<Machine, StepError>
+    ensures { Gives result (within greatest_depth (brace_move (frame_of form ∷ frames_of outer.items) (tree_of whole.expr))) }
+{
+    match form {
+        Form::Braces { at, given } => behind(outer, Measured::literal(at, given.with(whole)?)),
+        Form::Filter { at, item } => behind(outer, Measured::filter(alloc, at, item, whole)?),
+        Form::Source {
+            at,
+            body,
+            bound,
+            name,
+        } => {
+            let bound = bound.with(name, whole)?;
+            behind(outer, Measured::each(alloc, at, body, bound)?)
+        }
+        Form::EachCondition { at, body, bound } => {
+            behind(outer, Measured::each_where(alloc, at, body, bound, whole)?)
+        }
+        _ => Err(StepError::Unexpected),
+    }
+}
+
+// A colon ends the body of a comprehension.
+fn colon(alloc: Global, outer: Vec<Form>, form: Form, whole: Measured) -> Result<Machine, StepError>
+    ensures { Gives result (within greatest_depth (colon_move (frame_of form ∷ frames_of outer.items) (tree_of whole.expr))) }
+{
+    match form {
+        Form::Braces { at, given } => begin_binders(alloc, outer, at, given, whole),
+        _ => Err(StepError::Unexpected),
+    }
+}
+
+// Where no item is given before it, an item may be the body of a comprehension.
+fn begin_binders(
+    alloc: Global,
+    outer: Vec<Form>,
+    at: usize,
+    given: Arguments,
+    body: Measured,
+) -> Result<Machine, StepError>
+    ensures { Gives result (within greatest_depth (colon_move (in_braces at (trees_of given.exprs.items) ∷ frames_of outer.items) (tree_of body.expr))) }
+{
+    if !given.exprs.is_empty() {
+        return Err(StepError::Unexpected);
+    }
+    let bound = Bound::none(alloc);
+    Ok(Machine {
+        forms: outer,
+        point: Point::BinderName { at, body, bound },
+    })
+}
+
+// A bar ends an item with a condition, or the binders of a comprehension.
+fn bar(outer: Vec<Form>, form: Form, whole: Measured) -> Result<Machine, StepError>
+    ensures { Gives result (within greatest_depth (bar_move (frame_of form ∷ frames_of outer.items) (tree_of whole.expr))) }
+{
+    match form {
+        Form::Braces { at, given } => begin_filter(outer, at, given, whole),
+        Form::Source {
+            at,
+            body,
+            bound,
+            name,
+        } => {
+            let bound = bound.with(name, whole)?;
+            go_in(outer, Form::EachCondition { at, body, bound })
+        }
+        _ => Err(StepError::Unexpected),
+    }
+}
+
+// Where no item is given before it, an item may have a condition.
+fn begin_filter(
+    outer: Vec<Form>,
+    at: usize,
+    given: Arguments,
+    item: Measured,
+) -> Result<Machine, StepError>
+    ensures { Gives result (within greatest_depth (bar_move (in_braces at (trees_of given.exprs.items) ∷ frames_of outer.items) (tree_of item.expr))) }
+{
+    if !given.exprs.is_empty() {
+        return Err(StepError::Unexpected);
+    }
+    go_in(outer, Form::Filter { at, item })
+}
+
+// A semicolon ends a binder before the eighth.
+fn semicolon(outer: Vec<Form>, form: Form, whole: Measured) -> Result<Machine, StepError>
+    ensures { Gives result (within greatest_depth (semicolon_move (frame_of form ∷ frames_of outer.items) (tree_of whole.expr))) }
+{
+    match form {
+        Form::Source {
+            at,
+            body,
+            bound,
+            name,
+        } => next_binder(outer, at, body, bound, name, whole),
+        _ => Err(StepError::Unexpected),
+    }
+}
+
+// Goes on to one more binder, where there may be one more.
+fn next_binder(
+    outer: Vec<Form>,
+    at: usize,
+    body: Measured,
+    bound: Bound,
+    name: Span,
+    source: Measured,
+) -> Result<Machine, StepError>
+    ensures { Gives result (within greatest_depth (semicolon_move (in_source at (tree_of body.expr) (binders_of bound.binders.items) name ∷ frames_of outer.items) (tree_of source.expr))) }
+{
+    if bound.binders.len() + 1 >= GREATEST_BINDER_COUNT {
+        return Err(StepError::Unexpected);
+    }
+    let bound = bound.with(name, source)?;
+    Ok(Machine {
+        forms: outer,
+        point: Point::BinderName { at, body, bound },
+    })
+}
+
+// `in` ends the value of a `let`.
+fn let_in(outer: Vec<Form>, form: Form, whole: Measured) -> Result<Machine, StepError>
+    ensures { Gives result (within greatest_depth (in_move (frame_of form ∷ frames_of outer.items) (tree_of whole.expr))) }
+{
+    match form {
+        Form::Value { at, name } => go_in(
+            outer,
+            Form::LetBody {
+                at,
+                name,
+                value: whole,
+            },
+        ),
+        _ => Err(StepError::Unexpected),
+    }
+}
+
+// `then` ends the condition of an `if`.
+fn then(outer: Vec<Form>, form: Form, whole: Measured) -> Result<Machine, StepError>
+    ensures { Gives result (within greatest_depth (then_move (frame_of form ∷ frames_of outer.items) (tree_of whole.expr))) }
+{
+    match form {
+        Form::Condition { at } => go_in(
+            outer,
+            Form::Positive {
+                at,
+                condition: whole,
+            },
+        ),
+        _ => Err(StepError::Unexpected),
+    }
+}
+
+// `else` ends the first branch of an `if`.
+fn or_else(outer: Vec<Form>, form: Form, whole: Measured) -> Result<Machine, StepError>
+    ensures { Gives result (within greatest_depth (else_move (frame_of form ∷ frames_of outer.items) (tree_of whole.expr))) }
+{
+    match form {
+        Form::Positive { at, condition } => go_in(
+            outer,
+            Form::Negative {
+                at,
+                condition,
+                positive: whole,
+            },
+        ),
+        _ => Err(StepError::Unexpected),
+    }
+}

@@ -1,0 +1,14 @@
+-- The reader of programs reads what the grammar says.
+use Rattle.std.proofs.Common.{refl}
+use Rattle.snesl_expressions.specs.Machine.{expressions}
+use Rattle.snesl_expressions.proofs.Expressions.{expressions_read}
+use Rattle.snesl_syntax.specs.Programs.{programs}
+use Rattle.snesl_syntax.proofs.Exact.{IsReaderOfPrograms}
+use Rattle.snesl_syntax.proofs.Runs.{ReadsExpressions}
+use Rattle.snesl_syntax.proofs.Beginnings.{programs_are_read}
+
+pub parts_are_read : ReadsExpressions expressions
+parts_are_read = record { is = expressions_read; no_input = λ at. refl; no_function = λ at. refl }
+
+pub are_read : IsReaderOfPrograms (programs expressions)
+are_read = programs_are_read expressions parts_are_read

@@ -1,0 +1,121 @@
+-- How programs are read, given how expressions are.
+use Rattle.std.specs.Prelude.{ℕ, List, [], ◌∷◌, ◌++◌, Option, Some, None}
+use Rattle.snesl_lexer.specs.declared.token.Kind.{Kind}
+use Rattle.snesl_lexer.specs.declared.token.Kind.TheVariants as kinds
+use Rattle.snesl_lexer.specs.declared.token.Token.{Token}
+use Rattle.snesl_tree.specs.declared.span.Span.{Span}
+use Rattle.snesl_tree.specs.Tree.{Tree, TypeTree, Typed, DeclarationTree, declares_input, declares_function, ProgramTree}
+use Rattle.snesl_expressions.specs.Readers.{Move, free, Reader}
+use Rattle.snesl_syntax.specs.Types.{TypeState, types}
+use Rattle.snesl_syntax.specs.Grammar.{typed}
+
+-- what a type is of, behind the declarations that are whole
+pub data TypeOf : Type 0 where
+  -- an input
+  of_input : (done : List DeclarationTree) (place : Span) → TypeOf
+  -- a parameter of a function, behind those that are given
+  of_parameter : (done : List DeclarationTree) (function : Span) (given : List Typed) (place : Span) → TypeOf
+  -- the result of a function
+  of_result : (done : List DeclarationTree) (function : Span) (parameters : List Typed) → TypeOf
+
+-- a function before its body, behind the declarations that are whole
+pub record Header : Type 0 where
+  pub done : List DeclarationTree
+  pub function : Span
+  pub parameters : List Typed
+  pub result : TypeTree
+
+-- What may come next, behind the declarations that are whole. Expressions are read in states of their own.
+pub data ProgramState (State : Type 0) : Type 0 where
+  -- a declaration or the expression begins
+  between : (done : List DeclarationTree) → ProgramState State
+  -- the name of an input comes, or its colon
+  awaits_input : (done : List DeclarationTree) → ProgramState State
+  awaits_input_colon : (done : List DeclarationTree) (place : Span) → ProgramState State
+  -- the name of a function comes, or its opening parenthesis
+  awaits_function : (done : List DeclarationTree) → ProgramState State
+  awaits_open : (done : List DeclarationTree) (function : Span) → ProgramState State
+  -- the name of the next parameter comes, or its colon
+  awaits_parameter : (done : List DeclarationTree) (function : Span) (given : List Typed) → ProgramState State
+  awaits_parameter_colon : (done : List DeclarationTree) (function : Span) (given : List Typed) (place : Span) → ProgramState State
+  -- the colon before the type of the result comes
+  awaits_result : (done : List DeclarationTree) (function : Span) (parameters : List Typed) → ProgramState State
+  -- a type is open, the body of a function, or the expression
+  in_type : (owner : TypeOf) (state : TypeState) → ProgramState State
+  in_body : (header : Header) (state : State) → ProgramState State
+  in_final : (done : List DeclarationTree) (state : State) → ProgramState State
+
+-- the move of a part that is open
+abbrev pub carried : {Inner Outer : Type 0} → (Inner → Outer) → Option (Move Inner) → Option (Move Outer)
+carried around None = None
+carried around (Some found) = Some (record { want = found.want; next = around found.next })
+
+-- the first move, or where there is none the other
+abbrev pub or_else : {State : Type 0} → Option (Move State) → Option (Move State) → Option (Move State)
+or_else None other = other
+or_else (Some found) other = Some found
+
+-- what the end of a part may lead to, where the part is whole
+abbrev pub when_whole : {Form State : Type 0} → Option Form → (Form → Option (Move State)) → Option (Move State)
+when_whole None ends = None
+when_whole (Some form) ends = ends form
+
+-- the name at an offset
+abbrev pub span : ℕ → ℕ → Span
+span at len = record { at = at; len = len }
+
+-- a semicolon ends the body of a function
+abbrev pub body_end : {State : Type 0} → Header → Kind → Tree → Option (Move (ProgramState State))
+body_end header kinds.Semicolon body =
+    free (between (header.done ++ declares_function header.function header.parameters header.result body ∷ []))
+body_end header _ body = None
+
+module _ {State : Type 0} (expressions : Reader State Tree) where
+  -- A semicolon ends the type of an input, a comma or a parenthesis that of a parameter, and `=` that of a result.
+  abbrev pub type_end : TypeOf → Kind → TypeTree → Option (Move (ProgramState State))
+  type_end (of_input done place) kinds.Semicolon written = free (between (done ++ declares_input (typed place written) ∷ []))
+  type_end (of_parameter done function given place) kinds.Comma written = free (awaits_parameter done function (given ++ typed place written ∷ []))
+  type_end (of_parameter done function given place) kinds.RightParen written = free (awaits_result done function (given ++ typed place written ∷ []))
+  type_end (of_result done function parameters) kinds.Equals result =
+      free (in_body (record { done = done; function = function; parameters = parameters; result = result }) expressions.start)
+  type_end _ _ written = None
+
+  -- the move of a token of this kind at this offset where no type, body or expression is open
+  abbrev pub fixed_move : ProgramState State → Kind → ℕ → Option (Move (ProgramState State))
+  fixed_move (between done) kinds.Input at = free (awaits_input done)
+  fixed_move (between done) kinds.Function at = free (awaits_function done)
+  fixed_move (awaits_input done) (kinds.Name len) at = free (awaits_input_colon done (span at len))
+  fixed_move (awaits_input_colon done place) kinds.Colon at = free (in_type (of_input done place) types.start)
+  fixed_move (awaits_function done) (kinds.Name len) at = free (awaits_open done (span at len))
+  fixed_move (awaits_open done function) kinds.LeftParen at = free (awaits_parameter done function [])
+  fixed_move (awaits_parameter done function given) (kinds.Name len) at = free (awaits_parameter_colon done function given (span at len))
+  fixed_move (awaits_parameter_colon done function given place) kinds.Colon at = free (in_type (of_parameter done function given place) types.start)
+  fixed_move (awaits_result done function parameters) kinds.Colon at = free (in_type (of_result done function parameters) types.start)
+  fixed_move _ _ at = None
+
+  -- A token goes on with the part that is open, or else ends it, where it is whole.
+  -- Between declarations a token begins the expression, or else a declaration.
+  abbrev pub program_move : ProgramState State → Token → Option (Move (ProgramState State))
+  program_move (between done) token =
+      or_else (carried (in_final done) (expressions.move expressions.start token)) (fixed_move (between done) token.kind token.at)
+  program_move (in_type owner state) token =
+      or_else (carried (in_type owner) (types.move state token)) (when_whole (types.finished state) (type_end owner token.kind))
+  program_move (in_body header state) token =
+      or_else (carried (in_body header) (expressions.move state token)) (when_whole (expressions.finished state) (body_end header token.kind))
+  program_move (in_final done state) token = carried (in_final done) (expressions.move state token)
+  program_move state token = fixed_move state token.kind token.at
+
+  -- the program with this expression, where that is whole
+  abbrev pub with_expression : List DeclarationTree → Option Tree → Option ProgramTree
+  with_expression done None = None
+  with_expression done (Some expression) = Some (record { declarations = done; expression = expression })
+
+  -- the program that the tokens so far are, where they are one
+  abbrev pub finished_program : ProgramState State → Option ProgramTree
+  finished_program (between done) = with_expression done (expressions.finished expressions.start)
+  finished_program (in_final done state) = with_expression done (expressions.finished state)
+  finished_program _ = None
+
+  -- programs are read from before their first declaration
+  abbrev pub programs : Reader (ProgramState State) ProgramTree
+  programs = record { start = between []; move = program_move; finished = finished_program }

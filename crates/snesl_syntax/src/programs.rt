@@ -1,0 +1,505 @@
+// The reader of a program between two tokens, and what a token makes of it.
+
+ghost use Rattle.std.specs.Prelude.{◌≡◌, Ok, map, IfOk};
+ghost use Rattle.snesl_lexer.specs.declared.token.Kind.TheVariants.{Semicolon};
+ghost use Rattle.snesl_tree.specs.View.{declaration_of, tree_of, type_tree, typed_of};
+ghost use Rattle.snesl_expressions.specs.Readers.{step, within};
+ghost use Rattle.snesl_expressions.specs.Machine.{expressions};
+ghost use Rattle.snesl_expressions.specs.Parsing.{state_of};
+ghost use Rattle.snesl_expressions.specs.Limits.{greatest_depth};
+ghost use Rattle.snesl_syntax.specs.Programs.{programs, between, awaits_input, awaits_input_colon, awaits_function, awaits_open, awaits_parameter, awaits_parameter_colon, awaits_result, in_type, in_body, in_final, of_input, of_parameter, of_result, carried, type_end, body_end};
+ghost use Rattle.snesl_syntax.specs.TypeMachine.{type_state, Steps};
+ghost use Rattle.snesl_syntax.specs.ProgramMachine.{owner_of, header_of, state_at, program_state, IsThisProgram};
+
+use crate::types::TypeMachine;
+use snesl_expressions::{Machine, StepError};
+use snesl_lexer::{Kind, Token};
+use snesl_tree::{Declaration, Expr, Function, Span, Typing, WrittenType};
+use std::alloc::{AllocError, Global};
+
+/// What a type is of.
+#[derive(Drop)]
+pub enum Owner {
+    Input {
+        name: Span,
+    },
+    Parameter {
+        function: Span,
+        given: Vec<Typing>,
+        name: Span,
+    },
+    Result {
+        function: Span,
+        parameters: Vec<Typing>,
+    },
+}
+
+/// A function before its body.
+#[derive(Drop)]
+pub struct Header {
+    pub name: Span,
+    pub parameters: Vec<Typing>,
+    pub result: WrittenType,
+}
+
+/// What may come next.
+#[derive(Drop)]
+pub enum ProgramPoint {
+    /// A declaration or the expression.
+    Between,
+    /// The name of an input.
+    Input,
+    /// The colon behind it.
+    InputColon {
+        name: Span,
+    },
+    /// The name of a function.
+    Function,
+    /// The parenthesis behind it.
+    Open {
+        function: Span,
+    },
+    /// The name of the next parameter.
+    Parameter {
+        function: Span,
+        given: Vec<Typing>,
+    },
+    /// The colon behind it.
+    ParameterColon {
+        function: Span,
+        given: Vec<Typing>,
+        name: Span,
+    },
+    /// The colon behind the parameters.
+    ResultColon {
+        function: Span,
+        parameters: Vec<Typing>,
+    },
+    /// The rest of a type.
+    Type {
+        owner: Owner,
+        machine: TypeMachine,
+    },
+    /// The rest of the body of a function.
+    Body {
+        header: Header,
+        machine: Machine,
+    },
+    /// The rest of the expression.
+    Final(Machine),
+}
+
+/// The reader of a program between two tokens, with the declarations that are whole.
+#[derive(Drop)]
+pub struct ProgramMachine {
+    done: Vec<Declaration>,
+    point: ProgramPoint,
+}
+
+/// The parts of a program.
+#[derive(Drop)]
+pub struct Parsed {
+    pub declarations: Vec<Declaration>,
+    pub expr: Expr,
+}
+
+// Goes on at a point.
+fn at_point(done: Vec<Declaration>, point: ProgramPoint) -> Result<ProgramMachine, StepError>
+    ensures { Steps program_state result (Ok (state_at (map declaration_of done.items) point)) }
+{
+    Ok(ProgramMachine { done, point })
+}
+
+// Where a declaration or the expression begins.
+fn between(alloc: Global, done: Vec<Declaration>, token: Token) -> Result<ProgramMachine, StepError>
+    ensures { Steps program_state result (step (programs expressions) greatest_depth (between (map declaration_of done.items)) token) }
+{
+    match token.kind {
+        Kind::Input => at_point(done, ProgramPoint::Input),
+        Kind::Function => at_point(done, ProgramPoint::Function),
+        _ => in_final(alloc, done, Machine::new(alloc), token),
+    }
+}
+
+// In the expression.
+fn in_final(
+    alloc: Global,
+    done: Vec<Declaration>,
+    machine: Machine,
+    token: Token,
+) -> Result<ProgramMachine, StepError>
+    ensures { Steps program_state result (step (programs expressions) greatest_depth (in_final (map declaration_of done.items) (state_of machine)) token) }
+{
+    let machine = machine.step(alloc, token)?;
+    at_point(done, ProgramPoint::Final(machine))
+}
+
+// Where the name of an input stands.
+fn input_name(done: Vec<Declaration>, token: Token) -> Result<ProgramMachine, StepError>
+    ensures { Steps program_state result (step (programs expressions) greatest_depth (awaits_input (map declaration_of done.items)) token) }
+{
+    match token.kind {
+        Kind::Name(len) => {
+            let name = Span { at: token.at, len };
+            at_point(done, ProgramPoint::InputColon { name })
+        }
+        _ => Err(StepError::Unexpected),
+    }
+}
+
+// Behind the name of an input.
+fn input_colon(
+    alloc: Global,
+    done: Vec<Declaration>,
+    name: Span,
+    token: Token,
+) -> Result<ProgramMachine, StepError>
+    ensures { Steps program_state result (step (programs expressions) greatest_depth (awaits_input_colon (map declaration_of done.items) name) token) }
+{
+    match token.kind {
+        Kind::Colon => {
+            let machine = TypeMachine::new(alloc);
+            let owner = Owner::Input { name };
+            at_point(done, ProgramPoint::Type { owner, machine })
+        }
+        _ => Err(StepError::Unexpected),
+    }
+}
+
+// Where the name of a function stands.
+fn function_name(done: Vec<Declaration>, token: Token) -> Result<ProgramMachine, StepError>
+    ensures { Steps program_state result (step (programs expressions) greatest_depth (awaits_function (map declaration_of done.items)) token) }
+{
+    match token.kind {
+        Kind::Name(len) => {
+            let function = Span { at: token.at, len };
+            at_point(done, ProgramPoint::Open { function })
+        }
+        _ => Err(StepError::Unexpected),
+    }
+}
+
+// Behind the name of a function.
+fn open(
+    alloc: Global,
+    done: Vec<Declaration>,
+    function: Span,
+    token: Token,
+) -> Result<ProgramMachine, StepError>
+    ensures { Steps program_state result (step (programs expressions) greatest_depth (awaits_open (map declaration_of done.items) function) token) }
+{
+    match token.kind {
+        Kind::LeftParen => {
+            let given = Vec::new(alloc);
+            at_point(done, ProgramPoint::Parameter { function, given })
+        }
+        _ => Err(StepError::Unexpected),
+    }
+}
+
+// Where the name of a parameter stands.
+fn parameter_name(
+    done: Vec<Declaration>,
+    function: Span,
+    given: Vec<Typing>,
+    token: Token,
+) -> Result<ProgramMachine, StepError>
+    ensures { Steps program_state result (step (programs expressions) greatest_depth (awaits_parameter (map declaration_of done.items) function (map typed_of given.items)) token) }
+{
+    match token.kind {
+        Kind::Name(len) => {
+            let name = Span { at: token.at, len };
+            at_point(
+                done,
+                ProgramPoint::ParameterColon {
+                    function,
+                    given,
+                    name,
+                },
+            )
+        }
+        _ => Err(StepError::Unexpected),
+    }
+}
+
+// Behind the name of a parameter.
+fn parameter_colon(
+    alloc: Global,
+    done: Vec<Declaration>,
+    function: Span,
+    given: Vec<Typing>,
+    name: Span,
+    token: Token,
+) -> Result<ProgramMachine, StepError>
+    ensures { Steps program_state result (step (programs expressions) greatest_depth (awaits_parameter_colon (map declaration_of done.items) function (map typed_of given.items) name) token) }
+{
+    match token.kind {
+        Kind::Colon => {
+            let machine = TypeMachine::new(alloc);
+            let owner = Owner::Parameter {
+                function,
+                given,
+                name,
+            };
+            at_point(done, ProgramPoint::Type { owner, machine })
+        }
+        _ => Err(StepError::Unexpected),
+    }
+}
+
+// Behind the parameters of a function.
+fn result_colon(
+    alloc: Global,
+    done: Vec<Declaration>,
+    function: Span,
+    parameters: Vec<Typing>,
+    token: Token,
+) -> Result<ProgramMachine, StepError>
+    ensures { Steps program_state result (step (programs expressions) greatest_depth (awaits_result (map declaration_of done.items) function (map typed_of parameters.items)) token) }
+{
+    match token.kind {
+        Kind::Colon => {
+            let machine = TypeMachine::new(alloc);
+            let owner = Owner::Result {
+                function,
+                parameters,
+            };
+            at_point(done, ProgramPoint::Type { owner, machine })
+        }
+        _ => Err(StepError::Unexpected),
+    }
+}
+
+// Behind the type of an input.
+fn input_end(
+    mut done: Vec<Declaration>,
+    name: Span,
+    ty: WrittenType,
+    kind: Kind,
+) -> Result<ProgramMachine, StepError>
+    ensures { Steps program_state result (within greatest_depth (type_end expressions (of_input (map declaration_of done.items) name) kind (type_tree ty))) }
+{
+    match kind {
+        Kind::Semicolon => {
+            done.push(Declaration::Input(Typing { name, ty }))?;
+            at_point(done, ProgramPoint::Between)
+        }
+        _ => Err(StepError::Unexpected),
+    }
+}
+
+// Behind the type of a parameter.
+fn parameter_end(
+    done: Vec<Declaration>,
+    function: Span,
+    mut given: Vec<Typing>,
+    parameter: Typing,
+    kind: Kind,
+) -> Result<ProgramMachine, StepError>
+    ensures { Steps program_state result (within greatest_depth (type_end expressions (of_parameter (map declaration_of done.items) function (map typed_of given.items) parameter.name) kind (type_tree parameter.ty))) }
+{
+    match kind {
+        Kind::Comma => {
+            given.push(parameter)?;
+            at_point(done, ProgramPoint::Parameter { function, given })
+        }
+        Kind::RightParen => {
+            given.push(parameter)?;
+            let parameters = given;
+            at_point(
+                done,
+                ProgramPoint::ResultColon {
+                    function,
+                    parameters,
+                },
+            )
+        }
+        _ => Err(StepError::Unexpected),
+    }
+}
+
+// Behind the type of a result.
+fn result_end(
+    alloc: Global,
+    done: Vec<Declaration>,
+    header: Header,
+    kind: Kind,
+) -> Result<ProgramMachine, StepError>
+    ensures { Steps program_state result (within greatest_depth (type_end expressions (of_result (map declaration_of done.items) header.name (map typed_of header.parameters.items)) kind (type_tree header.result))) }
+{
+    match kind {
+        Kind::Equals => {
+            let machine = Machine::new(alloc);
+            at_point(done, ProgramPoint::Body { header, machine })
+        }
+        _ => Err(StepError::Unexpected),
+    }
+}
+
+// Behind a type.
+fn type_ended(
+    alloc: Global,
+    done: Vec<Declaration>,
+    owner: Owner,
+    ty: WrittenType,
+    kind: Kind,
+) -> Result<ProgramMachine, StepError>
+    ensures { Steps program_state result (within greatest_depth (type_end expressions (owner_of (map declaration_of done.items) owner) kind (type_tree ty))) }
+{
+    match owner {
+        Owner::Input { name } => input_end(done, name, ty, kind),
+        Owner::Parameter {
+            function,
+            given,
+            name,
+        } => parameter_end(done, function, given, Typing { name, ty }, kind),
+        Owner::Result {
+            function,
+            parameters,
+        } => {
+            let header = Header {
+                name: function,
+                parameters,
+                result: ty,
+            };
+            result_end(alloc, done, header, kind)
+        }
+    }
+}
+
+// In a type, or behind it.
+fn in_type(
+    alloc: Global,
+    done: Vec<Declaration>,
+    owner: Owner,
+    machine: TypeMachine,
+    token: Token,
+) -> Result<ProgramMachine, StepError>
+    ensures { Steps program_state result (step (programs expressions) greatest_depth (in_type (owner_of (map declaration_of done.items) owner) (type_state machine)) token) }
+{
+    match machine.into_whole() {
+        Ok(ty) => type_ended(alloc, done, owner, ty, token.kind),
+        Err(machine) => {
+            let machine = machine.step(alloc, token)?;
+            at_point(done, ProgramPoint::Type { owner, machine })
+        }
+    }
+}
+
+// Where the body of a function goes on.
+fn body_step(
+    alloc: Global,
+    done: Vec<Declaration>,
+    header: Header,
+    machine: Machine,
+    token: Token,
+) -> Result<ProgramMachine, StepError>
+    ensures { Steps program_state result (within greatest_depth (carried (in_body (header_of (map declaration_of done.items) header)) (expressions.move (state_of machine) token))) }
+{
+    let machine = machine.step(alloc, token)?;
+    at_point(done, ProgramPoint::Body { header, machine })
+}
+
+// Takes a function with its body.
+fn function_ended(
+    mut done: Vec<Declaration>,
+    header: Header,
+    body: Expr,
+) -> Result<ProgramMachine, StepError>
+    ensures { Steps program_state result (within greatest_depth (body_end (header_of (map declaration_of done.items) header) Semicolon (tree_of body))) }
+{
+    let Header {
+        name,
+        parameters,
+        result,
+    } = header;
+    done.push(Declaration::Function(Function {
+        name,
+        parameters,
+        result,
+        body,
+    }))?;
+    at_point(done, ProgramPoint::Between)
+}
+
+// In the body of a function, or behind it.
+fn in_body(
+    alloc: Global,
+    done: Vec<Declaration>,
+    header: Header,
+    machine: Machine,
+    token: Token,
+) -> Result<ProgramMachine, StepError>
+    ensures { Steps program_state result (step (programs expressions) greatest_depth (in_body (header_of (map declaration_of done.items) header) (state_of machine)) token) }
+{
+    match token.kind {
+        Kind::Semicolon => {
+            if !machine.is_whole() {
+                return body_step(alloc, done, header, machine, token);
+            }
+            match machine.finish(alloc)? {
+                Some(body) => function_ended(done, header, body),
+                None => Err(StepError::Unexpected),
+            }
+        }
+        _ => body_step(alloc, done, header, machine, token),
+    }
+}
+
+impl ProgramMachine {
+    /// The machine before the first token.
+    pub fn new(alloc: Global) -> ProgramMachine
+        ensures { program_state result ≡ (programs expressions).start }
+    {
+        ProgramMachine {
+            done: Vec::new(alloc),
+            point: ProgramPoint::Between,
+        }
+    }
+
+    /// The machine behind the next token.
+    pub fn step(self, alloc: Global, token: Token) -> Result<ProgramMachine, StepError>
+        ensures { Steps program_state result (step (programs expressions) greatest_depth (program_state self) token) }
+    {
+        let ProgramMachine { done, point } = self;
+        match point {
+            ProgramPoint::Between => between(alloc, done, token),
+            ProgramPoint::Input => input_name(done, token),
+            ProgramPoint::InputColon { name } => input_colon(alloc, done, name, token),
+            ProgramPoint::Function => function_name(done, token),
+            ProgramPoint::Open { function } => open(alloc, done, function, token),
+            ProgramPoint::Parameter { function, given } => {
+                parameter_name(done, function, given, token)
+            }
+            ProgramPoint::ParameterColon {
+                function,
+                given,
+                name,
+            } => parameter_colon(alloc, done, function, given, name, token),
+            ProgramPoint::ResultColon {
+                function,
+                parameters,
+            } => result_colon(alloc, done, function, parameters, token),
+            ProgramPoint::Type { owner, machine } => in_type(alloc, done, owner, machine, token),
+            ProgramPoint::Body { header, machine } => in_body(alloc, done, header, machine, token),
+            ProgramPoint::Final(machine) => in_final(alloc, done, machine, token),
+        }
+    }
+
+    /// The program that the tokens so far are, where they are one.
+    pub fn finish(self, alloc: Global) -> Result<Option<Parsed>, AllocError>
+        ensures { IfOk result (λ found. IsThisProgram found ((programs expressions).finished (program_state self))) }
+    {
+        let ProgramMachine { done, point } = self;
+        match point {
+            ProgramPoint::Final(machine) => match machine.finish(alloc)? {
+                Some(expr) => Ok(Some(Parsed {
+                    declarations: done,
+                    expr,
+                })),
+                None => Ok(None),
+            },
+            _ => Ok(None),
+        }
+    }
+}

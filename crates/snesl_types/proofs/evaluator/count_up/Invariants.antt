@@ -1,7 +1,0 @@
-use Rattle.std.proofs.Common.{◌≡◌, map, []}
-use Rattle.snesl_values.specs.Values.{value_of}
-use Rattle.snesl_types.specs.Eval.{numbers_below}
-use Rattle.snesl_types.proofs.evaluator.count_up.Given as goal
-
-abbrev pub invariant-loop-i : goal.invariant-loop-i
-invariant-loop-i l = map value_of l.numbers.items ≡ numbers_below l.i []

@@ -1,5 +1,0 @@
-use Rattle.snesl_values.proofs.Data.{value_of-Seq}
-use Rattle.snesl_types.proofs.evaluator.sequence_of.Goals as goal
-
-pub returns : goal.returns
-returns c = value_of-Seq c.args.items

@@ -1,0 +1,200 @@
+-- The rules as functions: the type of an expression, or what it is refused for. That these answers and the
+-- rules agree is proved.
+use Rattle.std.specs.Prelude.{◌≡◌, ℕ, ◌⊎◌, min, nat_le, Bool, true, false, ◌&&◌, if◌then◌else◌, List, [], ◌∷◌, ◌++◌, Option, Some, None, is_some, Result, Ok, Err}
+use Rattle.snesl_values.specs.declared.refusal.Refusal.{Refusal}
+use Rattle.snesl_values.specs.declared.refusal.Refusal.TheVariants.{Name, Mismatch, Streamed, TooBig, NoMemory}
+use Rattle.snesl_values.specs.Inputs.{Declaration}
+use Rattle.snesl_values.specs.Integers.{is_integer}
+use Rattle.snesl_values.specs.Types.{Ty, int, bool, pair, seq}
+use Rattle.snesl_tree.specs.declared.operator.Builtin.{Builtin}
+use Rattle.snesl_tree.specs.declared.span.Span.{Span}
+use Rattle.snesl_tree.specs.Spelling.{spelling}
+use Rattle.snesl_tree.specs.Tree.{Tree, Trees, Binders, Condition, integer, truth, name, binary, prefix, call, apply, group, pair as pair_tree, binding, choice, literal, filter, each, none, both, none_bound, binder, always, only_where, TypeTree, Typed, DeclarationTree, declares_input, declares_function, ProgramTree}
+use Rattle.snesl_types.specs.Contexts.{Binding, open_to, shut, Context, bound, opened, found, inside, type_in, Signature, Signatures, function_named}
+use Rattle.snesl_types.specs.Forms.{is_same, operator_result, prefix_result, result_of, tabs_streamed}
+use Rattle.snesl_types.specs.Sizes.{size, greatest_size}
+use Rattle.snesl_types.specs.Programs.{Declared, and_then, small_type, written_type, with_inputs, signature_of, are_few, nothing_declared}
+
+-- a type that is there, and else a refusal
+abbrev pub or_refused : Refusal → Option Ty → Result Ty Refusal
+or_refused refusal None = Err refusal
+or_refused refusal (Some t) = Ok t
+
+-- what a variable's binding gives
+abbrev pub of_binding : Span → Option Binding → Result Ty Refusal
+of_binding place None = Err (Name place.at)
+of_binding place (Some shut) = Err (Streamed place.at)
+of_binding place (Some (open_to t)) = Ok t
+
+-- a built-in at arguments of these types
+abbrev pub of_builtin : ℕ → Builtin → List Ty → Result Ty Refusal
+of_builtin at function ts = or_refused (if tabs_streamed function ts then Streamed at else Mismatch at) (result_of function ts)
+
+abbrev pub are_same : List Ty → List Ty → Bool
+are_same [] [] = true
+are_same (t ∷ ts) (u ∷ us) = is_same t u && are_same ts us
+are_same _ _ = false
+
+-- a declared function at arguments of these types
+abbrev pub of_function : Span → List Ty → Option Signature → Result Ty Refusal
+of_function place ts None = Err (Name place.at)
+of_function place ts (Some signature) = if are_same ts signature.parameters then Ok signature.result else Err (Mismatch place.at)
+
+-- each of these types is this one
+abbrev pub all_same : Ty → List Ty → Bool
+all_same t [] = true
+all_same t (u ∷ us) = is_same u t && all_same t us
+
+-- a literal of items of these types
+abbrev pub of_items : ℕ → List Ty → Result Ty Refusal
+of_items at [] = Err (Mismatch at)
+of_items at (t ∷ ts) = if all_same t ts then Ok (seq t) else Err (Mismatch at)
+
+-- an `if` of these three
+abbrev pub of_choice : ℕ → Ty → Ty → Ty → Result Ty Refusal
+of_choice at t u v = if is_same t bool && is_same u v then Ok u else Err (Mismatch at)
+
+-- a sequence of items of the first type, where the second is that of a condition
+abbrev pub of_filter : ℕ → Ty → Ty → Result Ty Refusal
+of_filter at t u = if is_same u bool then Ok (seq t) else Err (Mismatch at)
+
+-- a binder of this name, which an earlier one may have taken, over a value of this type
+abbrev pub of_binder : Span → Bool → Ty → Result Ty Refusal
+of_binder place true t = Err (Name place.at)
+of_binder place false (seq t) = Ok t
+of_binder place false t = Err (Mismatch place.at)
+
+-- both, the first before the second
+abbrev pub both_of : {A B : Type 0} → Result A Refusal → Result B Refusal → Result (A × B) Refusal
+both_of (Ok a) (Ok b) = Ok (a, b)
+both_of (Ok a) (Err refusal) = Err refusal
+both_of (Err refusal) _ = Err refusal
+
+-- a type that is not too big
+abbrev pub sized : Result Ty Refusal → Result Ty Refusal
+sized r = and_then r small_type
+
+abbrev mutual
+  -- the type of an expression by the rule of its form, whatever the type's size; no answer at an integer out of range, which no program has
+  pub rule : (text : List ℕ) (functions : Signatures) → Context → Tree → Result Ty Refusal
+  rule text functions context (integer at value) = if is_integer value then Ok int else Err NoMemory
+  rule text functions context (truth at value) = Ok bool
+  rule text functions context (name place) = of_binding place (found (spelling text place) context)
+  rule text functions context (binary at operator left right) =
+      and_then (both_of (sized (rule text functions context left)) (sized (rule text functions context right)))
+      (λ ts. or_refused (Mismatch at) (operator_result operator ts.0 ts.1))
+  rule text functions context (prefix at operator operand) =
+      and_then (sized (rule text functions context operand)) (λ t. or_refused (Mismatch at) (prefix_result operator t))
+  rule text functions context (call at function arguments) =
+      and_then (verdicts text functions context [] arguments) (of_builtin at function)
+  rule text functions context (apply place arguments) =
+      and_then (verdicts text functions context [] arguments) (λ ts. of_function place ts (function_named (spelling text place) functions))
+  rule text functions context (group at inner) = sized (rule text functions context inner)
+  rule text functions context (pair_tree at first second) =
+      and_then (both_of (sized (rule text functions context first)) (sized (rule text functions context second))) (λ ts. Ok (pair ts.0 ts.1))
+  rule text functions context (binding at place value body) =
+      and_then (sized (rule text functions context value)) (λ t. sized (rule text functions (bound (spelling text place) t ∷ context) body))
+  rule text functions context (choice at condition positive negative) =
+      and_then (sized (rule text functions context condition)) (λ t.
+      and_then (both_of (sized (rule text functions context positive)) (sized (rule text functions context negative))) (λ ts. of_choice at t ts.0 ts.1))
+  rule text functions context (literal at items) = and_then (verdicts text functions context [] items) (of_items at)
+  rule text functions context (filter at item condition) =
+      and_then (both_of (sized (rule text functions context item)) (sized (rule text functions context condition))) (λ ts. of_filter at ts.0 ts.1)
+  rule text functions context (each at body binders condition) =
+      and_then (binders_verdict text functions context [] binders) (λ items.
+      and_then (both_of (condition_verdict text functions (opened items ++ inside context) condition)
+      (sized (rule text functions (opened items ++ inside context) body))) (λ ts. of_filter at ts.1 ts.0))
+
+  -- the types of arguments or items behind earlier ones
+  pub verdicts : (text : List ℕ) (functions : Signatures) → Context → List Ty → Trees → Result (List Ty) Refusal
+  verdicts text functions context earlier none = Ok earlier
+  verdicts text functions context earlier (both first others) =
+      and_then (sized (rule text functions context first)) (λ t. verdicts text functions context (earlier ++ (t ∷ [])) others)
+
+  -- the names of binders behind earlier ones, with the types of their elements
+  pub binders_verdict : (text : List ℕ) (functions : Signatures) → Context → List Declaration → Binders → Result (List Declaration) Refusal
+  binders_verdict text functions context earlier none_bound = Ok earlier
+  binders_verdict text functions context earlier (binder place source others) =
+      and_then (sized (rule text functions context source)) (λ t.
+      and_then (of_binder place (is_some (type_in (spelling text place) earlier)) t) (λ item.
+      binders_verdict text functions context (earlier ++ ((spelling text place, item) ∷ [])) others))
+
+  pub condition_verdict : (text : List ℕ) (functions : Signatures) → Context → Condition → Result Ty Refusal
+  condition_verdict text functions context always = Ok bool
+  condition_verdict text functions context (only_where condition) = sized (rule text functions context condition)
+
+-- the type of an expression
+abbrev pub verdict : (text : List ℕ) (functions : Signatures) → Context → Tree → Result Ty Refusal
+verdict text functions context tree = sized (rule text functions context tree)
+
+-- a name that must not stand for a type yet
+abbrev pub new_name : {A : Type 0} → List ℕ → Span → Option A → Result (List ℕ) Refusal
+new_name text place (Some earlier) = Err (Name place.at)
+new_name text place None = Ok (spelling text place)
+
+-- a name behind earlier ones, with its type
+abbrev pub name_verdict : List ℕ → List Declaration → Typed → Result Declaration Refusal
+name_verdict text earlier first =
+    and_then (new_name text first.place (type_in (spelling text first.place) earlier)) (λ bytes.
+    and_then (written_type first.written) (λ t. Ok (bytes, t)))
+
+-- names behind earlier ones, with their types
+abbrev pub names_verdict : List ℕ → List Declaration → List Typed → Result (List Declaration) Refusal
+names_verdict text earlier [] = Ok earlier
+names_verdict text earlier (first ∷ others) =
+    and_then (name_verdict text earlier first) (λ declaration. names_verdict text (earlier ++ (declaration ∷ [])) others)
+
+-- a function, after its name, its parameters and its result's type
+abbrev pub of_body : Span → Signature → Ty → Result Signature Refusal
+of_body place signature t = if is_same t signature.result then Ok signature else Err (Mismatch place.at)
+
+-- what a call sees of a function
+abbrev pub function_verdict : (text : List ℕ) (functions : Signatures) → Span → List Typed → TypeTree → Tree → Result Signature Refusal
+function_verdict text functions place parameters result body =
+    and_then (new_name text place (function_named (spelling text place) functions)) (λ bytes.
+    and_then (names_verdict text [] parameters) (λ declarations.
+    and_then (written_type result) (λ t.
+    and_then (verdict text functions (opened declarations) body) (of_body place (signature_of text place declarations t)))))
+
+-- a size up to one more than the greatest, which stands for all greater ones
+abbrev pub capped : ℕ → ℕ
+capped n = min n 65537
+
+-- with one more function, of this body
+abbrev pub with_capped_function : List ℕ → Declared → Signature → Tree → Declared
+with_capped_function text declared signature body = record {
+  inputs = declared.inputs;
+  functions = declared.functions ++ (signature ∷ []);
+  sizes = declared.sizes ++ ((signature.bytes, capped (size text declared.sizes body)) ∷ []);
+}
+
+-- one more declaration; sizes are capped
+abbrev pub declaration_verdict : List ℕ → Declared → DeclarationTree → Result Declared Refusal
+declaration_verdict text earlier (declares_input declared) =
+    and_then (name_verdict text earlier.inputs declared) (λ input. Ok (with_inputs earlier (earlier.inputs ++ (input ∷ []))))
+declaration_verdict text earlier (declares_function place parameters result body) =
+    and_then (function_verdict text earlier.functions place parameters result body) (λ signature. Ok (with_capped_function text earlier signature body))
+
+abbrev pub declarations_verdict : List ℕ → Declared → List DeclarationTree → Result Declared Refusal
+declarations_verdict text earlier [] = Ok earlier
+declarations_verdict text earlier (first ∷ others) =
+    and_then (declaration_verdict text earlier first) (λ declared. declarations_verdict text declared others)
+
+-- what was declared, and the type of the final expression, of this size
+abbrev pub of_expression : ℕ → Declared → Ty → Result (Declared × Ty) Refusal
+of_expression n declared t = if nat_le n greatest_size then Ok (declared, t) else Err TooBig
+
+abbrev pub expression_verdict : List ℕ → Declared → Tree → Result (Declared × Ty) Refusal
+expression_verdict text declared tree =
+    and_then (verdict text declared.functions (opened declared.inputs) tree) (of_expression (capped (size text declared.sizes tree)) declared)
+
+abbrev pub program_verdict : List ℕ → ProgramTree → Result (Declared × Ty) Refusal
+program_verdict text program =
+    if are_few program.declarations
+    then and_then (declarations_verdict text nothing_declared program.declarations) (λ declared. expression_verdict text declared program.expression)
+    else Err TooBig
+
+-- what the code answers is the verdict, unless memory ran out
+abbrev pub IsAnswer : {A B : Type 0} → (A → B) → Result B Refusal → Result A Refusal → Type 0
+IsAnswer view verdict (Ok x) = verdict ≡ Ok (view x)
+IsAnswer view verdict (Err refusal) = (refusal ≡ NoMemory) ⊎ (verdict ≡ Err refusal)

@@ -1,0 +1,225 @@
+// The types of expressions.
+
+ghost use Rattle.std.specs.Prelude.{[], map};
+ghost use Rattle.snesl_values.specs.Types.{ty_of};
+ghost use Rattle.snesl_values.specs.Inputs.{declared};
+ghost use Rattle.snesl_tree.specs.Spelling.{spelling};
+ghost use Rattle.snesl_tree.specs.View.{tree_of, trees_of, binders_of};
+ghost use Rattle.snesl_types.specs.Contexts.{found, function_named as function_among};
+ghost use Rattle.snesl_types.specs.Verdicts.{IsAnswer, of_binding, of_function, of_binder};
+ghost use Rattle.snesl_types.specs.Names.{context_of, signatures_in, typed_in, ruled_in, all_typed_in, binders_typed_in, condition_typed_in, condition_in};
+
+use crate::builtins::builtin_type;
+use crate::forms::{
+    arguments_fit, choice_type, filter_type, literal_type, operator_type, pair_of, prefix_type,
+    small,
+};
+use crate::names::{Meaning, Names, Scope, function_named, look_up, type_in};
+use snesl_tree::{Binder, Expr, Span};
+use snesl_values::{Refusal, Ty, copy_ty};
+use std::alloc::Global;
+
+// The type of an expression.
+#[cycle(typing)]
+pub(crate) fn type_of(alloc: Global, scope: &Scope<'_>, expr: &Expr) -> Result<Ty, Refusal>
+    ensures { IsAnswer ty_of (typed_in scope.now (tree_of expr.now)) result }
+{
+    let ty = type_by_rule(alloc, scope, expr)?;
+    small(ty)
+}
+
+// The type that the rule of its form gives to an expression, whatever the type's size.
+#[cycle(typing)]
+fn type_by_rule(alloc: Global, scope: &Scope<'_>, expr: &Expr) -> Result<Ty, Refusal>
+    ensures { IsAnswer ty_of (ruled_in scope.now (tree_of expr.now)) result }
+{
+    match expr {
+        Expr::Integer { value, .. } => {
+            // A number that is read is known to be in range.
+            let _value = *value;
+            Ok(Ty::Int)
+        }
+        Expr::Truth { .. } => Ok(Ty::Bool),
+        Expr::Name(name) => variable_type(alloc, scope, *name),
+        Expr::Binary {
+            at,
+            operator,
+            left,
+            right,
+        } => {
+            let left = type_of(alloc, scope, left)?;
+            let right = type_of(alloc, scope, right)?;
+            operator_type(alloc, *at, *operator, &left, &right)
+        }
+        Expr::Prefix {
+            at,
+            operator,
+            operand,
+        } => {
+            let operand = type_of(alloc, scope, operand)?;
+            prefix_type(*at, *operator, &operand)
+        }
+        Expr::Call {
+            at,
+            function,
+            arguments,
+        } => {
+            let types = types_of(alloc, scope, arguments)?;
+            builtin_type(alloc, *at, *function, &types)
+        }
+        Expr::Apply {
+            function,
+            arguments,
+        } => {
+            let types = types_of(alloc, scope, arguments)?;
+            call_type(alloc, scope, *function, &types)
+        }
+        Expr::Group { inner, .. } => type_of(alloc, scope, inner),
+        Expr::Pair { first, second, .. } => {
+            let first = type_of(alloc, scope, first)?;
+            let second = type_of(alloc, scope, second)?;
+            pair_of(alloc, first, second)
+        }
+        Expr::Let {
+            name,
+            value,
+            body,
+            ..
+        } => {
+            let value = type_of(alloc, scope, value)?;
+            let names = Names::Bound {
+                name: *name,
+                ty: &value,
+                outer: &*scope.names,
+            };
+            type_of(alloc, &(&*scope).with_names(&names), body)
+        }
+        Expr::If {
+            at,
+            condition,
+            positive,
+            negative,
+        } => {
+            let condition = type_of(alloc, scope, condition)?;
+            let positive = type_of(alloc, scope, positive)?;
+            let negative = type_of(alloc, scope, negative)?;
+            choice_type(*at, &condition, positive, &negative)
+        }
+        Expr::Literal { at, items } => {
+            let types = types_of(alloc, scope, items)?;
+            literal_type(alloc, *at, &types)
+        }
+        Expr::Filter {
+            at,
+            item,
+            condition,
+        } => {
+            let item = type_of(alloc, scope, item)?;
+            let condition = type_of(alloc, scope, condition)?;
+            filter_type(alloc, *at, item, &condition)
+        }
+        Expr::Each {
+            at,
+            body,
+            binders,
+            condition,
+        } => {
+            let items = binder_types(alloc, scope, binders)?;
+            let names = Names::Inside {
+                binders: &items,
+                outer: &*scope.names,
+            };
+            let inner = (&*scope).with_names(&names);
+            let condition = condition_type(alloc, &inner, condition)?;
+            let body = type_of(alloc, &inner, body)?;
+            filter_type(alloc, *at, body, &condition)
+        }
+    }
+}
+
+// The type of a condition, and that of a truth value where there is none.
+#[cycle(typing)]
+fn condition_type(
+    alloc: Global,
+    scope: &Scope<'_>,
+    condition: &Option<Box<Expr>>,
+) -> Result<Ty, Refusal>
+    ensures { IsAnswer ty_of (condition_typed_in scope.now (condition_in condition.now)) result }
+{
+    match condition {
+        Some(condition) => type_of(alloc, scope, condition),
+        None => Ok(Ty::Bool),
+    }
+}
+
+// The types of arguments or items, from left to right.
+#[cycle(typing)]
+fn types_of(alloc: Global, scope: &Scope<'_>, arguments: &[Expr]) -> Result<Vec<Ty>, Refusal>
+    ensures { IsAnswer (λ types. map ty_of types.items) (all_typed_in scope.now [] (trees_of arguments.now)) result }
+{
+    let mut types = Vec::new(alloc);
+    for argument in arguments {
+        let ty = type_of(alloc, scope, argument)?;
+        types.push(ty)?;
+    }
+    Ok(types)
+}
+
+// The names of binders with the types of their elements, from left to right.
+#[cycle(typing)]
+fn binder_types(
+    alloc: Global,
+    scope: &Scope<'_>,
+    binders: &[Binder],
+) -> Result<Vec<(Vec<u8>, Ty)>, Refusal>
+    ensures { IsAnswer (λ items. declared items.items) (binders_typed_in scope.now [] (binders_of binders.now)) result }
+{
+    let mut items = Vec::new(alloc);
+    for binder in binders {
+        let source = type_of(alloc, scope, &binder.source)?;
+        let bytes = binder.name.spelled(scope.text);
+        let taken = type_in(bytes, &items).is_some();
+        let item = item_type(alloc, binder.name, taken, &source)?;
+        let name = Vec::from_slice(alloc, bytes)?;
+        items.push((name, item))?;
+    }
+    Ok(items)
+}
+
+// The type of the elements that a binder over such a source stands for, where its name is not taken.
+fn item_type(alloc: Global, name: Span, taken: bool, source: &Ty) -> Result<Ty, Refusal>
+    ensures { IsAnswer ty_of (of_binder name taken (ty_of source.now)) result }
+{
+    match source {
+        _ if taken => Err(Refusal::Name(name.at)),
+        Ty::Seq(item) => Ok(copy_ty(alloc, item)?),
+        _ => Err(Refusal::Mismatch(name.at)),
+    }
+}
+
+// The type that a variable stands for.
+fn variable_type(alloc: Global, scope: &Scope<'_>, name: Span) -> Result<Ty, Refusal>
+    ensures { IsAnswer ty_of (of_binding name (found (spelling scope.now.text.now name) (context_of scope.now.text.now scope.now.names.now))) result }
+{
+    match look_up(scope.text, name, scope.names, false) {
+        Meaning::Unbound => Err(Refusal::Name(name.at)),
+        Meaning::Shut => Err(Refusal::Streamed(name.at)),
+        Meaning::Open(ty) => Ok(copy_ty(alloc, ty)?),
+    }
+}
+
+// The type of a declared function's result, at arguments of these types.
+fn call_type(alloc: Global, scope: &Scope<'_>, name: Span, types: &[Ty]) -> Result<Ty, Refusal>
+    ensures { IsAnswer ty_of (of_function name (map ty_of types.now) (function_among (spelling scope.now.text.now name) (signatures_in scope.now.text.now scope.now.functions.now))) result }
+{
+    match function_named(scope.text, name, scope.functions) {
+        None => Err(Refusal::Name(name.at)),
+        Some(function) => {
+            if arguments_fit(types, &function.parameters) {
+                Ok(copy_ty(alloc, &function.result)?)
+            } else {
+                Err(Refusal::Mismatch(name.at))
+            }
+        }
+    }
+}
