@@ -41,13 +41,17 @@ condition_meaning at item condition binders text calls environment = by_columns 
   where
     f : Environment → Answer (List Value)
     f row = go (eval condition text calls (row ++ environment)) (λ v. go (truth_at at v) (λ b. kept b (eval item text calls (row ++ environment))))
+
     g : Environment → Answer Value
     g row = go (eval condition text calls (row ++ environment)) (λ v. go (truth_at at v) (λ b. seq_answer (kept b (eval item text calls (row ++ environment)))))
+
     same : (row : Environment) → g row ≡ seq_answer (f row)
     same row = filter_seen (eval condition text calls (row ++ environment)) (truth_at at) (λ b. kept b (eval item text calls (row ++ environment)))
+
     by_rows : (rows : Answer (List Environment)) → go rows (λ rows. seq_answer (go_join f rows)) ≡ go (go (go rows (λ rows. seq_answer (go_all g rows))) (λ v. gives (v ∷ []))) (applied at Concat)
     by_rows (faults kind place) = refl
     by_rows (gives rows) = ap seq_answer (join_each at f g same rows) ∙ concat_each at (go_all g rows)
+
     by_columns : (columns : Answer Columns) → go columns (λ columns. go (in_step at columns) (λ rows. seq_answer (go_join f rows)))
         ≡ go (go (go columns (λ columns. go (in_step at columns) (λ rows. seq_answer (go_all g rows)))) (λ v. gives (v ∷ []))) (applied at Concat)
     by_columns (faults kind place) = refl

@@ -9,7 +9,9 @@ ghost use Rattle.snesl_evaluation.specs.Results.{Answers};
 use crate::halt::{Halt, fault};
 use crate::operators::scalar_result;
 use crate::parts::{elements, integer, items, sequence_of, vector_of};
-use crate::sequences::{add_copies, count_up, integers, joined, parts, reduce, scalars, scan_add, truths};
+use crate::sequences::{
+    add_copies, count_up, integers, joined, parts, reduce, scalars, scan_add, truths,
+};
 use snesl_operators::Reduction;
 use snesl_tree::Builtin;
 use snesl_values::{Datum, FaultKind, copy_datum};

@@ -153,12 +153,7 @@ fn built_in(
 
 // A declared function at arguments.
 #[cycle(value)]
-fn call(
-    setting: &Setting,
-    name: Span,
-    arguments: &[Expr],
-    scope: &Scope,
-) -> Result<Datum, Halt>
+fn call(setting: &Setting, name: Span, arguments: &[Expr], scope: &Scope) -> Result<Datum, Halt>
     ensures { Answers value_of result (go (all_in setting.now scope.now (trees_of arguments.now)) (calls_in setting.now name.at (spelling setting.now.text.now name))) }
 {
     let values = all_values(setting, arguments, scope)?;
@@ -226,11 +221,7 @@ fn each_where(
 
 // The values of arguments, or of the items of a literal.
 #[cycle(value)]
-fn all_values(
-    setting: &Setting,
-    exprs: &[Expr],
-    scope: &Scope,
-) -> Result<Vec<Datum>, Halt>
+fn all_values(setting: &Setting, exprs: &[Expr], scope: &Scope) -> Result<Vec<Datum>, Halt>
     ensures { Answers (λ values. map value_of values.items) result (all_in setting.now scope.now (trees_of exprs.now)) }
 {
     let mut values = Vec::new(setting.alloc);
@@ -243,11 +234,7 @@ fn all_values(
 
 // The names of a comprehension with the items of their sequences.
 #[cycle(value)]
-fn all_columns(
-    setting: &Setting,
-    binders: &[Binder],
-    scope: &Scope,
-) -> Result<Vec<Column>, Halt>
+fn all_columns(setting: &Setting, binders: &[Binder], scope: &Scope) -> Result<Vec<Column>, Halt>
     ensures { Answers (λ columns. map (column_of setting.now.text.now) columns.items) result (binders_in setting.now scope.now (binders_of binders.now)) }
 {
     let mut columns = Vec::new(setting.alloc);
@@ -353,11 +340,7 @@ fn rows_where<'a>(
 
 // A declared function at the values of its arguments.
 #[cycle(value)]
-fn called(
-    setting: &Setting,
-    name: Span,
-    values: &[Datum],
-) -> Result<Datum, Halt>
+fn called(setting: &Setting, name: Span, values: &[Datum]) -> Result<Datum, Halt>
     ensures { Answers value_of result (calls_in setting.now name.at (spelling setting.now.text.now name) (map value_of values.now)) }
 {
     let bytes = name.spelled(setting.text);

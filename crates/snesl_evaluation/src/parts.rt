@@ -107,10 +107,7 @@ pub fn add(values: &mut Vec<Datum>, value: Datum) -> Result<(), AllocError>
 pub fn pair(alloc: Global, first: Datum, second: Datum) -> Result<Datum, AllocError>
     ensures { IfOk result (λ datum. value_of datum ≡ a_pair (value_of first) (value_of second)) }
 {
-    Ok(Datum::Pair(
-        Box::new(alloc, first)?,
-        Box::new(alloc, second)?,
-    ))
+    Ok(Datum::Pair(Box::new(alloc, first)?, Box::new(alloc, second)?))
 }
 
 pub fn add_found(values: &mut Vec<Datum>, found: Option<Datum>) -> Result<(), AllocError>

@@ -112,7 +112,6 @@ pub fn scan_add(alloc: Global, at: usize, numbers: &[i64]) -> Result<Vec<Datum>,
 }
 
 fn total(at: usize, m: i64, n: i64) -> Result<i64, Halt>
-
     ensures { Answers (λ n. n) result (answer_at at (ranged (m +ℤ n))) }
 {
     match sum(m, n) {
@@ -122,12 +121,7 @@ fn total(at: usize, m: i64, n: i64) -> Result<i64, Halt>
 }
 
 // Items in parts, as flags say: each `false` takes the next item, and each `true` ends a part.
-pub fn parts(
-    alloc: Global,
-    at: usize,
-    items: &[Datum],
-    flags: &[bool],
-) -> Result<Vec<Datum>, Halt>
+pub fn parts(alloc: Global, at: usize, items: &[Datum], flags: &[bool]) -> Result<Vec<Datum>, Halt>
     ensures { Answers (λ values. map value_of values.items) result (go (parts_answer at (map value_of items.now) flags.now) (λ parts. gives (map sequence parts))) }
 {
     let mut parts = Vec::new(alloc);
@@ -150,11 +144,7 @@ pub fn parts(
 }
 
 // Adds a part to the others, and begins the next.
-fn end_part(
-    alloc: Global,
-    parts: &mut Vec<Datum>,
-    part: &mut Vec<Datum>,
-) -> Result<(), AllocError>
+fn end_part(alloc: Global, parts: &mut Vec<Datum>, part: &mut Vec<Datum>) -> Result<(), AllocError>
     ensures done { OnOk result (map value_of parts.new.items ≡ map value_of parts.old.items ++ sequence (map value_of part.old.items) ∷ []) }
     ensures begun { OnOk result (part.new.items ≡ []) }
 {

@@ -192,7 +192,7 @@ fn from_text_to_value(rt: HostRuntime) -> Result<(), Fail> {
     let typed = check(rt.alloc(), &program)?;
     assert!(rt; matches!(typed.ty(), Ty::Int));
     assert_eq!(rt; typed.program().expr.at(), 1);
-    let inputs = read_inputs(rt.alloc(), &[], b"").map_err(Refusal::from)?;
+    let inputs = read_inputs(rt.alloc(), typed.decls(), b"").map_err(Refusal::from)?;
     let value = plain(rt.alloc(), &typed, &inputs)?;
     assert!(rt; matches!(value, Ok(Datum::Int(14))));
     Ok(())
@@ -222,4 +222,23 @@ fn complaints(rt: HostRuntime) {
     let mut err = Counted::new(Vec::new(rt.alloc()));
     assert_eq!(rt; complain(NO_MEMORY_LINE, &mut err), 4);
     assert_eq!(rt; err.into_inner().as_slice(), b"refused 11\n".as_slice());
+}
+
+#[test]
+fn declared_inputs(rt: HostRuntime) -> Result<(), Fail> {
+    let program = parse(rt.alloc(), b"input n : int; input v : [bool]; (n, v)")?;
+    assert_eq!(rt; program.declarations.len(), 2);
+    let typed = check(rt.alloc(), &program)?;
+    assert_eq!(rt; typed.decls().len(), 2);
+    let inputs = read_inputs(rt.alloc(), typed.decls(), b"n = 3; v = [true]").map_err(
+        Refusal::from,
+    )?;
+    assert_eq!(rt; inputs.name(1), Some(b"v".as_slice()));
+    assert!(rt; typed.fits(&inputs));
+    let value = plain(rt.alloc(), &typed, &inputs)?;
+    assert!(rt; matches!(value, Ok(Datum::Pair(..))));
+    // One input too few.
+    let fewer = read_inputs(rt.alloc(), &[], b"").map_err(Refusal::from)?;
+    assert!(rt; !typed.fits(&fewer));
+    Ok(())
 }

@@ -113,10 +113,7 @@ fn faults_of_all_kinds(rt: HostRuntime) -> Result<(), Fail> {
         (b"(0 - 9223372036854775807 - 1) / (0 - 1)", b"fault 2 at 30"),
         (b"5 % 0", b"fault 1 at 2"),
         (b"- (- 9223372036854775807 - 1)", b"fault 2 at 0"),
-        (
-            b"scan_add({9223372036854775807,1,1})",
-            b"fault 2 at 0",
-        ),
+        (b"scan_add({9223372036854775807,1,1})", b"fault 2 at 0"),
         (
             b"reduce_add({9223372036854775807,1,0 - 1})",
             b"fault 2 at 0",
@@ -127,10 +124,7 @@ fn faults_of_all_kinds(rt: HostRuntime) -> Result<(), Fail> {
         // A pair is evaluated whole.
         (b"fst((1, 1 / 0))", b"fault 1 at 10"),
         // A fault inside a body has its place there.
-        (
-            b"function f(x : int) : int = 1 / x; f(0)",
-            b"fault 1 at 30",
-        ),
+        (b"function f(x : int) : int = 1 / x; f(0)", b"fault 1 at 30"),
         // The condition comes before the body.
         (b"{1 / x : x in {0} | 1 % x == 0}", b"fault 1 at 22"),
     ];
@@ -171,7 +165,10 @@ fn refusals_of_all_forms(rt: HostRuntime) -> Result<(), Fail> {
         (b"tab(1)", b"refused 6 at 0"),
         (b"{x : x in {1}; x in {2}}", b"refused 5 at 15"),
         (b"{x : x in {1}; y in x}", b"refused 5 at 20"),
-        (b"function f(x : int, x : int) : int = x; 1", b"refused 5 at 20"),
+        (
+            b"function f(x : int, x : int) : int = x; 1",
+            b"refused 5 at 20",
+        ),
         (
             b"function f(x : int) : int = x; function f(y : int) : int = y; 1",
             b"refused 5 at 40",
@@ -186,8 +183,14 @@ fn refusals_of_all_forms(rt: HostRuntime) -> Result<(), Fail> {
             b"refused 5 at 43",
         ),
         (b"function f(x : int) : bool = x; 1", b"refused 6 at 9"),
-        (b"function f(x : int) : int = x; f(true)", b"refused 6 at 31"),
-        (b"function f(x : int) : int = x; f(1, 2)", b"refused 6 at 31"),
+        (
+            b"function f(x : int) : int = x; f(true)",
+            b"refused 6 at 31",
+        ),
+        (
+            b"function f(x : int) : int = x; f(1, 2)",
+            b"refused 6 at 31",
+        ),
         (b"function f(x : int) : int = x; f", b"refused 5 at 31"),
         (b"f(y)", b"refused 5 at 2"),
         (b"f(1)", b"refused 5 at 0"),

@@ -49,8 +49,8 @@ function_safe : {text : List ℕ} {functions : Signatures} {place : Span} {writt
 function_safe {text = text} (function_type {written = written} {body = body} {parameters = parameters} {t = t} e names w d) calls hold at vs h =
     let all = parameters_safe names in
     let fits : Safe (FitsInputs parameters) (parameters_with at text written vs) =
-        subst (λ p. Safe (FitsInputs p) (parameters_with at text written vs)) (sym all.same)
-        (all.safe at vs (subst (λ p. HaveTypes vs (map (λ (parameter : Declaration). parameter.1) p)) all.same h)) in
+    subst (λ p. Safe (FitsInputs p) (parameters_with at text written vs)) (sym all.same)
+    (all.safe at vs (subst (λ p. HaveTypes vs (map (λ (parameter : Declaration). parameter.1) p)) all.same h)) in
     go_safe (FitsInputs parameters) (λ v. HasType v t) (parameters_with at text written vs) (λ environment. eval body text calls environment) fits (λ environment he.
     sound calls hold d environment (alone environment he))
   where

@@ -5,6 +5,7 @@ mod builtins;
 pub mod checker;
 mod declarations;
 mod expressions;
+mod fits;
 mod forms;
 mod names;
 mod reference;

@@ -1,13 +1,14 @@
 // Programs that have a type.
 
-ghost use Rattle.std.specs.Prelude.{◌≡◌};
+ghost use Rattle.std.specs.Prelude.{◌≡◌, ◌↔◌, IsTrue};
 ghost use Rattle.snesl_values.specs.Types.{ty_of};
-ghost use Rattle.snesl_values.specs.Inputs.{declared};
+ghost use Rattle.snesl_values.specs.Inputs.{declared, environment_of, Fits};
 ghost use Rattle.snesl_tree.specs.View.{program_of as tree_of_program};
 ghost use Rattle.snesl_types.specs.Programs.{HasTyping};
 
+use crate::fits::is_declared;
 use snesl_tree::Program;
-use snesl_values::Ty;
+use snesl_values::{Inputs, Ty};
 
 /// A program with its inputs and its type. It keeps that the program has this type.
 #[derive(Debug, Drop)]
@@ -33,6 +34,22 @@ impl<'a> Typed<'a> {
         ensures { declared result.now ≡ typed_inputs self.now }
     {
         &self.inputs
+    }
+
+    /// Whether the inputs have the declared names, in the order of declaration, and each a value of
+    /// its declared type.
+    pub fn fits(&self, inputs: &Inputs) -> bool
+        ensures { IsTrue result ↔ Fits (typed_inputs self.now) (environment_of inputs.now) }
+    {
+        if self.inputs.len() != inputs.len() {
+            return false;
+        }
+        for number in 0..self.inputs.len() {
+            if !is_declared(&self.inputs[number], inputs, number) {
+                return false;
+            }
+        }
+        true
     }
 
     /// The program's type.

@@ -49,6 +49,16 @@ impl Inputs {
         self.all.is_empty()
     }
 
+    /// The name of the input of this number, counted from 0 in the order of declaration, if there
+    /// are so many.
+    #[tactic(auto, unfolding(crate::specs::Inputs::environment_of))]
+    pub fn name(&self, number: usize) -> Option<&[u8]>
+        ensures { option_map (λ name. name.now) result ≡ option_map (λ entry. entry.0) (slice_get (environment_of self.now) number) }
+    {
+        let input = self.all.get(number)?;
+        Some(&input.name)
+    }
+
     /// The value of the input of this number, counted from 0 in the order of declaration, if there
     /// are so many.
     #[tactic(auto, unfolding(crate::specs::Inputs::environment_of))]

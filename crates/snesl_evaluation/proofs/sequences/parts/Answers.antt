@@ -42,24 +42,24 @@ loop-flag-preserved c =
     let n : suc i ≡ i + 1 = omega arith in
     let below : i < length flags = omega arith in
     elim c.if-flag.branch [
-        then-flag+in_ok-end_part w ↦
-            let here : get_or flags i false ≡ true = search rules in
-            let next = drop-cons flags i false below ∙ ap (λ b. b ∷ drop (suc i) flags) here in
-            c.loop-flag.invariant
-            ∙ ap (λ l. go (parts_answer at (drop taken vs) l) (behind at done part)) next
-            ∙ part_ends at done part (drop taken vs) (drop (suc i) flags)
-            ∙ at_same at vs flags taken c.if-flag.taken (suc i) (i + 1) (done ++ sequence part ∷ []) (map value_of c.if-flag.parts.items) [] (map value_of c.if-flag.part.items)
-            (sym w.taken-is) n (sym (ap (λ (v : Vec Datum Global). map value_of v.items) w.parts-is ∙ w.in_ok-end_part.ensures.done)) (sym (ap (λ (v : Vec Datum Global). map value_of v.items) w.part-is ∙ ap (map value_of) w.in_ok-end_part.ensures.begun))
+      | then-flag+in_ok-end_part w ↦
+          let here : get_or flags i false ≡ true = search rules in
+          let next = drop-cons flags i false below ∙ ap (λ b. b ∷ drop (suc i) flags) here in
+          c.loop-flag.invariant
+          ∙ ap (λ l. go (parts_answer at (drop taken vs) l) (behind at done part)) next
+          ∙ part_ends at done part (drop taken vs) (drop (suc i) flags)
+          ∙ at_same at vs flags taken c.if-flag.taken (suc i) (i + 1) (done ++ sequence part ∷ []) (map value_of c.if-flag.parts.items) [] (map value_of c.if-flag.part.items)
+          (sym w.taken-is) n (sym (ap (λ (v : Vec Datum Global). map value_of v.items) w.parts-is ∙ w.in_ok-end_part.ensures.done)) (sym (ap (λ (v : Vec Datum Global). map value_of v.items) w.part-is ∙ ap (map value_of) w.in_ok-end_part.ensures.begun))
       | else-flag+in_ok-taken w ↦
-            let here : get_or flags i false ≡ false = search rules in
-            let next = drop-cons flags i false below ∙ ap (λ b. b ∷ drop (suc i) flags) here in
-            let grown = map value_of w.take_item.new.part.items in
-            let more : suc taken ≡ taken + 1 = omega arith in
-            c.loop-flag.invariant
-            ∙ ap (λ l. go (parts_answer at (drop taken vs) l) (behind at done part)) next
-            ∙ part_grows at done part grown vs taken (drop (suc i) flags) w.in_ok-taken.ensures.taken
-            ∙ at_same at vs flags (suc taken) c.if-flag.taken (suc i) (i + 1) done (map value_of c.if-flag.parts.items) grown (map value_of c.if-flag.part.items)
-            (more ∙ sym (w.taken-is ∙ w.in_ok-taken.ensures.next)) n (sym (ap (λ (v : Vec Datum Global). map value_of v.items) w.parts-is)) (sym (ap (λ (v : Vec Datum Global). map value_of v.items) w.part-is))
+          let here : get_or flags i false ≡ false = search rules in
+          let next = drop-cons flags i false below ∙ ap (λ b. b ∷ drop (suc i) flags) here in
+          let grown = map value_of w.take_item.new.part.items in
+          let more : suc taken ≡ taken + 1 = omega arith in
+          c.loop-flag.invariant
+          ∙ ap (λ l. go (parts_answer at (drop taken vs) l) (behind at done part)) next
+          ∙ part_grows at done part grown vs taken (drop (suc i) flags) w.in_ok-taken.ensures.taken
+          ∙ at_same at vs flags (suc taken) c.if-flag.taken (suc i) (i + 1) done (map value_of c.if-flag.parts.items) grown (map value_of c.if-flag.part.items)
+          (more ∙ sym (w.taken-is ∙ w.in_ok-taken.ensures.next)) n (sym (ap (λ (v : Vec Datum Global). map value_of v.items) w.parts-is)) (sym (ap (λ (v : Vec Datum Global). map value_of v.items) w.part-is))
     ]
 
 pub returns-then-taken-items : goal.returns-then-taken-items
