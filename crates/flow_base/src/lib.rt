@@ -7,9 +7,11 @@
 #![tactic(auto)]
 
 mod node;
+mod printing;
 mod transducer;
 mod worker;
 
 pub use node::{Node, Phase};
+pub use printing::Printing;
 pub use transducer::{Transducer, keeps_laws};
 pub use worker::{Ask, Stop, Worker};

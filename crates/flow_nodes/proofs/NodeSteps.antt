@@ -4,7 +4,7 @@ use Rattle.std.proofs.Common.{arith}
 use Rattle.flow_edges.specs.Signals.{Signal}
 use Rattle.flow_nodes.specs.declared.stream_node.StreamNode.{StreamNode}
 use Rattle.flow_nodes.specs.declared.stream_node.StreamNode.TheVariants as nodes
-use Rattle.flow_nodes.specs.StreamNodes.{node_behaviour, state_of}
+use Rattle.flow_nodes.specs.StreamNodes.{node_behaviour, state_of, text_in}
 
 -- the same function, by cases of the variant
 abbrev pub by_variant : {R : Type 0} → (StreamNode → R) → StreamNode → R
@@ -30,6 +30,9 @@ by_variant f (nodes.Pack n) = f (nodes.Pack n)
 by_variant f (nodes.PackGroups n) = f (nodes.PackGroups n)
 by_variant f (nodes.Interleave n) = f (nodes.Interleave n)
 by_variant f (nodes.InterleaveGroups n) = f (nodes.InterleaveGroups n)
+by_variant f (nodes.Print n) = f (nodes.Print n)
+by_variant f (nodes.Seq n) = f (nodes.Seq n)
+by_variant f (nodes.Index n) = f (nodes.Index n)
 
 pub same_by_variant : {R : Type 0} (f : StreamNode → R) (x : StreamNode) → f x ≡ by_variant f x
 same_by_variant f x = grind arith
@@ -63,3 +66,9 @@ memory_at x = same_by_variant (λ n. node_behaviour.takes_memory (state_of n)) x
 
 -- each part of what a node does, by its variant
 pub ruleset node_steps = (want_at, inputs_at, outputs_at, kind_in_at, kind_out_at, read_at, written_at, wrote_at, memory_at)
+
+pub text_at : (x : StreamNode) → text_in (state_of x) ≡ by_variant (λ n. text_in (state_of n)) x
+text_at x = same_by_variant (λ n. text_in (state_of n)) x
+
+-- the text, by the variant
+pub ruleset text_steps = (text_at)

@@ -1,4 +1,5 @@
 -- A transducer of any kind: its states, and what it does.
+use Rattle.std.specs.Prelude.{ℕ, List, Option, Some, None, map}
 use Rattle.flow_base.specs.Transducers.{Behaviour, BehaviourLaws}
 use Rattle.flow_base.specs.Nodes.{NodeState, node_state, behaviour_of}
 use Rattle.flow_base.specs.NodeLaws.{behaviour_laws}
@@ -65,6 +66,15 @@ use Rattle.flow_segment.specs.InterleaveLaws.{interleave_laws, interleave_rows}
 use Rattle.flow_segment.specs.declared.interleave_groups.InterleaveGroups.{InterleaveGroups}
 use Rattle.flow_segment.specs.InterleaveGroupsMachine.{groups_machine}
 use Rattle.flow_segment.specs.InterleaveGroupsLaws.{groups_laws, groups_rows}
+use Rattle.snesl_values.specs.Types.{ty_of}
+use Rattle.flow_typed.specs.PrintMachine.{PrintState, print_behaviour}
+use Rattle.flow_typed.specs.PrintLaws.{print_laws}
+use Rattle.flow_typed.specs.Aheads.{state_in}
+use Rattle.flow_typed.specs.Dues.{due_cell}
+use Rattle.flow_typed.specs.SeqMachine.{SeqState, seq_state, seq_machine}
+use Rattle.flow_typed.specs.SeqLaws.{seq_laws, seq_rows}
+use Rattle.flow_typed.specs.IndexMachine.{IndexState, index_state, step_of as step_of_index, index_machine}
+use Rattle.flow_typed.specs.IndexLaws.{index_laws, index_rows}
 use Rattle.flow_nodes.specs.declared.stream_node.StreamNode.{StreamNode}
 use Rattle.flow_nodes.specs.declared.stream_node.StreamNode.TheVariants as nodes
 
@@ -92,6 +102,9 @@ pub data NodeKind : Type 0 where
   a_pack_groups : NodeKind
   an_interleave : NodeKind
   an_interleave_groups : NodeKind
+  a_print : NodeKind
+  a_seq_of_vector : NodeKind
+  an_index : NodeKind
 
 -- the states of each kind
 abbrev pub StateOf : NodeKind → Type 0
@@ -117,6 +130,9 @@ StateOf a_pack = NodeState PackState
 StateOf a_pack_groups = NodeState PackGroups
 StateOf an_interleave = NodeState InterleaveState
 StateOf an_interleave_groups = NodeState InterleaveGroups
+StateOf a_print = PrintState
+StateOf a_seq_of_vector = NodeState SeqState
+StateOf an_index = NodeState IndexState
 
 -- what each kind does
 abbrev pub behaviour_of_kind : (t : NodeKind) → Behaviour (StateOf t)
@@ -142,6 +158,9 @@ behaviour_of_kind a_pack = behaviour_of pack_machine
 behaviour_of_kind a_pack_groups = behaviour_of pack_groups_machine
 behaviour_of_kind an_interleave = behaviour_of interleave_machine
 behaviour_of_kind an_interleave_groups = behaviour_of groups_machine
+behaviour_of_kind a_print = print_behaviour
+behaviour_of_kind a_seq_of_vector = behaviour_of seq_machine
+behaviour_of_kind an_index = behaviour_of index_machine
 
 pub laws_of_kind : (t : NodeKind) → BehaviourLaws (behaviour_of_kind t)
 laws_of_kind a_source = source_laws
@@ -166,6 +185,9 @@ laws_of_kind a_pack = behaviour_laws pack_machine pack_laws pack_rows
 laws_of_kind a_pack_groups = behaviour_laws pack_groups_machine pack_groups_laws pack_groups_rows
 laws_of_kind an_interleave = behaviour_laws interleave_machine interleave_laws interleave_rows
 laws_of_kind an_interleave_groups = behaviour_laws groups_machine groups_laws groups_rows
+laws_of_kind a_print = print_laws
+laws_of_kind a_seq_of_vector = behaviour_laws seq_machine seq_laws seq_rows
+laws_of_kind an_index = behaviour_laws index_machine index_laws index_rows
 
 -- what a transducer of any kind does: what its kind does
 abbrev pub node_behaviour : Behaviour ((t : NodeKind) × StateOf t)
@@ -195,3 +217,14 @@ state_of (nodes.Pack n) = (a_pack, node_state (pack_state n.worker.kind (step_of
 state_of (nodes.PackGroups n) = (a_pack_groups, node_state n.worker n.phase n.at)
 state_of (nodes.Interleave n) = (an_interleave, node_state (interleave_state n.worker.kind (step_of_interleave n.worker.turn)) n.phase n.at)
 state_of (nodes.InterleaveGroups n) = (an_interleave_groups, node_state n.worker n.phase n.at)
+state_of (nodes.Print n) = (a_print, state_in (ty_of n.ty) n.todo.items n.text.items n.closing n.stuck n.at)
+state_of (nodes.Seq n) = (a_seq_of_vector, node_state (seq_state (ty_of n.worker.element) (map due_cell n.worker.dues.items)) n.phase n.at)
+state_of (nodes.Index n) = (an_index, node_state (index_state (ty_of n.worker.element) (step_of_index n.worker.stage)) n.phase n.at)
+
+-- the text so far of a transducer that prints, and nothing of any other
+abbrev pub text_of_kind : (t : NodeKind) → StateOf t → Option (List ℕ)
+text_of_kind a_print s = Some s.text
+text_of_kind _ s = None
+
+abbrev pub text_in : (t : NodeKind) × StateOf t → Option (List ℕ)
+text_in u = text_of_kind u.0 u.1

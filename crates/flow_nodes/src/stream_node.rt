@@ -3,7 +3,7 @@
 ghost use Rattle.std.specs.Prelude.{◌≡◌};
 ghost use Rattle.flow_nodes.specs.StreamNodes.{node_behaviour, state_of};
 
-use flow_base::{Node, Transducer};
+use flow_base::{Node, Printing, Transducer};
 use flow_edges::{Kind, Msg};
 use flow_scalar::{
     Binary, Const, Fork, Iota, Length, Reduce, ScanAdd, Sink, Source, Unary, UnitsOf,
@@ -12,6 +12,7 @@ use flow_segment::{
     AppendFlags, ConcatFlags, Dist, FlagOfBool, Interleave, InterleaveGroups, Pack, PackGroups,
     PartFlags, SameFlags, TheCheck,
 };
+use flow_typed::{Index, Print, Seq};
 use kahn::Want;
 use std::alloc::AllocError;
 
@@ -40,6 +41,9 @@ pub enum StreamNode {
     PackGroups(Node<PackGroups>),
     Interleave(Node<Interleave>),
     InterleaveGroups(Node<InterleaveGroups>),
+    Print(Print),
+    Seq(Node<Seq>),
+    Index(Node<Index>),
 }
 
 // What the node gives, whatever its kind is.
@@ -68,6 +72,9 @@ macro_rules! with_node {
             StreamNode::PackGroups($node) => $result,
             StreamNode::Interleave($node) => $result,
             StreamNode::InterleaveGroups($node) => $result,
+            StreamNode::Print($node) => $result,
+            StreamNode::Seq($node) => $result,
+            StreamNode::Index($node) => $result,
         }
     };
 }
@@ -110,5 +117,19 @@ impl Transducer for StreamNode {
 
     fn emit(&mut self) -> Result<Msg, AllocError> {
         with_node!(self, node => node.emit())
+    }
+}
+
+#[tactic(auto, using(crate::proofs::NodeSteps::text_steps))]
+impl Printing for StreamNode {
+    ghost use Rattle.flow_nodes.specs.StreamNodes.{text_in};
+
+    ghost printed = { λ n. text_in (state_of n) };
+
+    fn printed(&self) -> Option<&[u8]> {
+        match self {
+            StreamNode::Print(print) => Some(print.text()),
+            _ => None,
+        }
     }
 }

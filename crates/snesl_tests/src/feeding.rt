@@ -1,5 +1,5 @@
 // One transducer at a time, fed through its trait. Streams are written as words: `u` for a Unit, `F` and `T` for
-// flags, decimal numbers, `v` for the vector `[1]`, and `.` for the end.
+// flags, decimal numbers, `v` for the vector `[1]`, `e` for the vector `[]`, and `.` for the end.
 
 use flow_base::Transducer;
 use flow_edges::{Item, Msg};
@@ -21,6 +21,7 @@ fn message(alloc: Global, word: &str) -> Result<Msg, AllocError> {
             items.push(Datum::Int(1))?;
             Item::Vec(Datum::Vec(items))
         }
+        "e" => Item::Vec(Datum::Vec(Vec::new(alloc))),
         _ => Item::Int(word.parse::<i64>().unwrap_or(0)),
     }))
 }

@@ -1,5 +1,10 @@
 // Graphs built by hand, and their single steps.
 
+ghost use Rattle.std.specs.Prelude.{◌≡◌, IfOk};
+ghost use Rattle.flow_graph.specs.Graphs.{states_of, states_so_far};
+ghost use Rattle.flow_graph.specs.Networks.{AreOpened};
+ghost use Rattle.flow_nodes.specs.StreamNodes.{node_behaviour, state_of};
+
 use flow_base::{Node, Transducer};
 use flow_edges::{Ends, Item, Kind, Msg, Table};
 use flow_graph::{Edge, Graph, GraphBuilder, Moved, step_once};
@@ -12,13 +17,33 @@ use std::alloc::Global;
 use std::process::Abort;
 use std::test::Fail;
 
-// Adds an edge that may join.
-fn join(
+/// A builder with no nodes and no edges.
+pub fn empty(alloc: Global) -> GraphBuilder<StreamNode>
+    ensures { AreOpened node_behaviour (states_so_far result) }
+{
+    GraphBuilder::new(alloc)
+}
+
+/// Adds a node.
+pub fn add(builder: &mut GraphBuilder<StreamNode>, node: StreamNode) -> Result<(), Fail>
+    requires opened { AreOpened node_behaviour (states_so_far builder.old) }
+    requires node { node_behaviour.opening (state_of node) ≡ state_of node }
+    ensures { AreOpened node_behaviour (states_so_far builder.new) }
+{
+    builder.node(node)?;
+    Ok(())
+}
+
+/// Adds an edge that may join.
+pub fn join(
     rt: &impl Abort,
     builder: &mut GraphBuilder<StreamNode>,
     writer: (usize, usize),
     reader: (usize, usize),
-) -> Result<(), Fail> {
+) -> Result<(), Fail>
+    requires { AreOpened node_behaviour (states_so_far builder.old) }
+    ensures { AreOpened node_behaviour (states_so_far builder.new) }
+{
     let edge = Edge {
         writer: writer.0,
         writer_port: writer.1,
@@ -30,19 +55,37 @@ fn join(
     Ok(())
 }
 
-fn built(rt: &impl Abort, builder: GraphBuilder<StreamNode>) -> Graph<StreamNode> {
+/// The graph, in which each port has its edge.
+pub fn built(rt: &impl Abort, builder: GraphBuilder<StreamNode>) -> Graph<StreamNode>
+    requires { AreOpened node_behaviour (states_so_far builder) }
+    ensures { AreOpened node_behaviour (states_of result) }
+{
     assert!(rt; builder.complete());
     builder.build()
 }
 
-// The sum of the numbers below five: Source, Const 5, Iota, Reduce, Sink.
-fn sum_of_five(rt: &impl Abort, alloc: Global) -> Result<Graph<StreamNode>, Fail> {
-    let mut builder = GraphBuilder::new(alloc);
-    builder.node(StreamNode::Source(Source::new(alloc, Stream::Units(1))))?;
-    builder.node(StreamNode::Const(Node::new(Const::new(Scalar::Int(5)), 1)))?;
-    builder.node(StreamNode::Iota(Node::new(Iota::new(), 2)))?;
-    builder.node(StreamNode::Reduce(Node::new(Reduce::new(Reduction::Sum), 3)))?;
-    builder.node(StreamNode::Sink(Node::new(Sink::new(Kind::Int), 4)))?;
+/// The sum of the numbers below five: Source, Const 5, Iota, Reduce, Sink.
+pub fn sum_of_five(rt: &impl Abort, alloc: Global) -> Result<Graph<StreamNode>, Fail>
+    ensures { IfOk result (λ graph. AreOpened node_behaviour (states_of graph)) }
+{
+    let mut builder = empty(alloc);
+    add(
+        &mut builder,
+        StreamNode::Source(Source::new(alloc, Stream::Units(1))),
+    )?;
+    add(
+        &mut builder,
+        StreamNode::Const(Node::new(Const::new(Scalar::Int(5)), 1)),
+    )?;
+    add(&mut builder, StreamNode::Iota(Node::new(Iota::new(), 2)))?;
+    add(
+        &mut builder,
+        StreamNode::Reduce(Node::new(Reduce::new(Reduction::Sum), 3)),
+    )?;
+    add(
+        &mut builder,
+        StreamNode::Sink(Node::new(Sink::new(Kind::Int), 4)),
+    )?;
     join(rt, &mut builder, (0, 0), (1, 0))?;
     join(rt, &mut builder, (1, 0), (2, 0))?;
     join(rt, &mut builder, (2, 0), (3, 0))?;
@@ -124,15 +167,23 @@ fn nineteen_messages_in_any_order(rt: HostRuntime) -> Result<(), Fail> {
     Ok(())
 }
 
-// Sources of `1, 2` and of `1` into an addition at offset 7, and a sink.
-fn sum_of_unlike(rt: &impl Abort, alloc: Global) -> Result<Graph<StreamNode>, Fail> {
-    let mut builder = GraphBuilder::new(alloc);
+/// Sources of `1, 2` and of `1` into an addition at offset 7, and a sink.
+pub fn sum_of_unlike(rt: &impl Abort, alloc: Global) -> Result<Graph<StreamNode>, Fail>
+    ensures { IfOk result (λ graph. AreOpened node_behaviour (states_of graph)) }
+{
     let left = Stream::Ints([1, 2].to_vec(alloc)?);
     let right = Stream::Ints([1].to_vec(alloc)?);
-    builder.node(StreamNode::Source(Source::new(alloc, left)))?;
-    builder.node(StreamNode::Source(Source::new(alloc, right)))?;
-    builder.node(StreamNode::Binary(Node::new(Binary::new(BinaryOperator::Add), 7)))?;
-    builder.node(StreamNode::Sink(Node::new(Sink::new(Kind::Int), 0)))?;
+    let mut builder = empty(alloc);
+    add(&mut builder, StreamNode::Source(Source::new(alloc, left)))?;
+    add(&mut builder, StreamNode::Source(Source::new(alloc, right)))?;
+    add(
+        &mut builder,
+        StreamNode::Binary(Node::new(Binary::new(BinaryOperator::Add), 7)),
+    )?;
+    add(
+        &mut builder,
+        StreamNode::Sink(Node::new(Sink::new(Kind::Int), 0)),
+    )?;
     join(rt, &mut builder, (0, 0), (2, 0))?;
     join(rt, &mut builder, (1, 0), (2, 1))?;
     join(rt, &mut builder, (2, 0), (3, 0))?;
@@ -160,10 +211,19 @@ fn streams_that_end_unlike(rt: HostRuntime) -> Result<(), Fail> {
 #[test]
 fn edges_that_may_not_join(rt: HostRuntime) -> Result<(), Fail> {
     let alloc = rt.alloc();
-    let mut builder = GraphBuilder::new(alloc);
-    builder.node(StreamNode::Source(Source::new(alloc, Stream::Units(1))))?;
-    builder.node(StreamNode::Const(Node::new(Const::new(Scalar::Int(5)), 1)))?;
-    builder.node(StreamNode::Sink(Node::new(Sink::new(Kind::Int), 2)))?;
+    let mut builder = empty(alloc);
+    add(
+        &mut builder,
+        StreamNode::Source(Source::new(alloc, Stream::Units(1))),
+    )?;
+    add(
+        &mut builder,
+        StreamNode::Const(Node::new(Const::new(Scalar::Int(5)), 1)),
+    )?;
+    add(
+        &mut builder,
+        StreamNode::Sink(Node::new(Sink::new(Kind::Int), 2)),
+    )?;
     let edge = |writer, reader| Edge {
         writer,
         writer_port: 0,

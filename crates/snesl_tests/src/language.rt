@@ -1,6 +1,8 @@
 // The whole language: programs, their input texts, and what is printed.
 
 use crate::answering::assert_prints;
+use std::alloc::Global;
+use std::process::Abort;
 use std::test::Fail;
 
 #[test]
@@ -281,9 +283,24 @@ fn programs_with_inputs(rt: HostRuntime) -> Result<(), Fail> {
     Ok(())
 }
 
+// Asserts what is printed for each beginning of a text behind the same front, from the empty one on.
+fn assert_beginnings(
+    rt: &impl Abort,
+    alloc: Global,
+    front: &[u8],
+    text: &[u8],
+    lines: &[&[u8]],
+) -> Result<(), Fail> {
+    let mut job = front.to_vec(alloc)?;
+    for (line, byte) in lines.iter().zip(text) {
+        assert_prints(rt, alloc, &job, line, 1)?;
+        job.push(*byte)?;
+    }
+    Ok(())
+}
+
 #[test]
-fn cut_texts(rt: HostRuntime) -> Result<(), Fail> {
-    let program: &[u8] = b"iota(12)";
+fn cut_programs(rt: HostRuntime) -> Result<(), Fail> {
     let lines: [&[u8]; 8] = [
         b"refused 3 at 0",
         b"refused 5 at 0",
@@ -294,10 +311,11 @@ fn cut_texts(rt: HostRuntime) -> Result<(), Fail> {
         b"refused 3 at 6",
         b"refused 3 at 7",
     ];
-    for (len, line) in lines.iter().enumerate() {
-        assert_prints(&rt, rt.alloc(), &program[..len], line, 1)?;
-    }
-    let input: &[u8] = b"xs = {{},{1,2,3},{4}}";
+    assert_beginnings(&rt, rt.alloc(), b"", b"iota(12)", &lines)
+}
+
+#[test]
+fn cut_inputs(rt: HostRuntime) -> Result<(), Fail> {
     let lines: [&[u8]; 21] = [
         b"refused 8 at 0",
         b"refused 8 at 0",
@@ -321,12 +339,8 @@ fn cut_texts(rt: HostRuntime) -> Result<(), Fail> {
         b"refused 8 at 19",
         b"refused 8 at 20",
     ];
-    for (len, line) in lines.iter().enumerate() {
-        let mut job = b"input xs : {{int}}; {length(x) : x in xs}\n---\n".to_vec(rt.alloc())?;
-        job.extend_from_slice(&input[..len])?;
-        assert_prints(&rt, rt.alloc(), &job, line, 1)?;
-    }
-    Ok(())
+    let program = b"input xs : {{int}}; {length(x) : x in xs}\n---\n";
+    assert_beginnings(&rt, rt.alloc(), program, b"xs = {{},{1,2,3},{4}}", &lines)
 }
 
 #[test]

@@ -6,6 +6,8 @@ mod answering;
 #[cfg(test)]
 mod calls;
 #[cfg(test)]
+mod driving;
+#[cfg(test)]
 mod feeding;
 #[cfg(test)]
 mod graphs;
@@ -25,6 +27,10 @@ mod rows;
 mod scalar_nodes;
 #[cfg(test)]
 mod segment_nodes;
+#[cfg(test)]
+mod seq_index;
 pub mod stopping;
 #[cfg(test)]
 mod streams;
+#[cfg(test)]
+mod typed_nodes;

@@ -86,7 +86,7 @@ fn comprehension(alloc: Global, binders: u8) -> Result<Vec<u8>, AllocError> {
         if binder > 0 {
             text.extend_from_slice(b"; ")?;
         }
-        text.push(b'a' + binder)?;
+        text.push(b'a'.wrapping_add(binder))?;
         text.extend_from_slice(b" in iota(1)")?;
     }
     text.push(b'}')?;
@@ -119,8 +119,8 @@ fn with_functions(alloc: Global, count: u8) -> Result<Vec<u8>, AllocError> {
     let mut text = Vec::new(alloc);
     for function in 0..count {
         text.extend_from_slice(b"function ")?;
-        text.push(b'a' + function / 16)?;
-        text.push(b'a' + function % 16)?;
+        text.push(b'a'.wrapping_add(function / 16))?;
+        text.push(b'a'.wrapping_add(function % 16))?;
         text.extend_from_slice(b"(x : int) : int = x;")?;
     }
     text.push(b'1')?;

@@ -1,0 +1,85 @@
+// Times the serial drive on the network of `reduce_add({x * x : x in iota(n)})`. The outcome and the number of
+// messages go to standard output, the times to standard error. The first word of the command line is n.
+#![tactic(auto)]
+
+mod plan;
+
+use flow_drive::{Config, Drive, MAX_CHUNK, NoGate, Outcome, Rested, drive};
+use flow_nodes::StreamNode;
+use plan::squares;
+use std::env;
+use std::io::{self, Error, ErrorKind};
+use std::rt::Env;
+use std::sync::Arc;
+use std::time::{Duration, Instant};
+
+// The capacity of the edges.
+const CAPACITY: usize = 256;
+
+fn main(rt: HostRuntime) -> io::Result<()> {
+    let count = count_of(&rt)?;
+    for chunk in [16, 256, MAX_CHUNK] {
+        measure(&rt, count, chunk)?;
+    }
+    Ok(())
+}
+
+// The number on the command line, or a thousand.
+fn count_of<R: Env + AllocGlobal>(rt: &R) -> io::Result<i64> {
+    match env::args(rt)?.nth(1) {
+        Some(word) => Ok(word.as_str().parse::<i64>().unwrap_or(1_000)),
+        None => Ok(1_000),
+    }
+}
+
+// Drives the network once with this chunk.
+fn measure(rt: &HostRuntime, count: i64, chunk: usize) -> io::Result<()> {
+    let alloc = rt.alloc();
+    let graph = squares(alloc, count)?;
+    let config = Config {
+        capacity: CAPACITY,
+        chunk,
+        threads: 1,
+        idle: 1,
+        share: vec![in alloc; 0u8]?,
+        drive: Drive::Serial,
+    };
+    let gate = Arc::new(alloc, NoGate)?;
+    let start = Instant::now(rt)?;
+    let rested = match drive(alloc, graph, &config, gate) {
+        Ok(rested) => rested,
+        Err(_) => return Err(Error::from(ErrorKind::OutOfMemory)),
+    };
+    let time = start.elapsed(rt)?;
+    report(rt, &rested, count, chunk, time)
+}
+
+// Prints the outcome and the messages, and the times.
+fn report(
+    rt: &HostRuntime,
+    rested: &Rested<StreamNode>,
+    count: i64,
+    chunk: usize,
+    time: Duration,
+) -> io::Result<()> {
+    let sent = messages(rested);
+    let end = match rested.outcome() {
+        Outcome::Value => "value",
+        Outcome::Failed(_) => "fault",
+        Outcome::Stalled(_) => "stalled",
+    };
+    println!(rt; "chunk {chunk}: {end}, {sent} messages")?;
+    let nanos = time.as_nanos();
+    let per_element = nanos / u128::from(count.unsigned_abs().max(1));
+    let per_message = nanos / u128::from(sent.max(1));
+    eprintln!(rt; "chunk {chunk}: {per_element} ns an element, {per_message} ns a message")
+}
+
+// How many messages were sent, all edges together.
+fn messages(rested: &Rested<StreamNode>) -> u64 {
+    let mut sent: u64 = 0;
+    for edge in 0..rested.edges() {
+        sent = sent.saturating_add(rested.counts(edge).0);
+    }
+    sent
+}

@@ -1,0 +1,5 @@
+pub mod Visits
+pub mod Graphs
+pub mod Passes
+pub mod Rests
+pub mod Texts

@@ -1,0 +1,7 @@
+pub mod Configs
+pub mod Visits
+pub mod Drives
+pub mod Counts
+pub mod CountLaws
+pub mod Resteds
+pub mod Texts

@@ -1,0 +1,83 @@
+// Drives of graphs.
+ghost use Rattle.std.specs.Prelude.{◌≡◌, ◌↔◌, Err, IfOk};
+ghost use Rattle.flow_graph.specs.Graphs.{states_of, edges_of};
+ghost use Rattle.flow_graph.specs.Networks.{AreOpened};
+ghost use Rattle.flow_drive.specs.Configs.{IsLawful};
+ghost use Rattle.flow_drive.specs.Visits.{IsSameNetwork};
+ghost use Rattle.flow_drive.specs.Drives.{EndsMaximalRun};
+ghost use Rattle.flow_drive.specs.Resteds.{rested_states, rested_edges, rested_capacity, traffic_of};
+ghost use Rattle.flow_drive.specs.declared.driver.DriveError.TheVariants.{BadConfig, NoMemory};
+
+use crate::config::{Config, Drive};
+use crate::counted_ends::CountedEnds;
+use crate::gate::Gate;
+use crate::rested::Rested;
+use crate::serial::run_serial;
+use flow_base::Transducer;
+use flow_edges::Table;
+use flow_graph::Graph;
+use std::alloc::{AllocError, Global};
+use std::sync::Arc;
+use thiserror::Error;
+
+/// Why a graph was not driven.
+#[derive(Clone, Copy, Debug, PartialEq, Eq, Error)]
+pub enum DriveError {
+    /// The configuration is not lawful.
+    #[error("the configuration is not lawful")]
+    BadConfig,
+    /// Memory was refused.
+    #[error("out of memory")]
+    NoMemory,
+}
+
+impl From<AllocError> for DriveError {
+    ghost from_gives = { λ _ error. error ≡ NoMemory };
+
+    fn from(_: AllocError) -> Self {
+        DriveError::NoMemory
+    }
+}
+
+/// Drives a graph, as it was built, until no node can step: a maximal run of its network at the capacity of the
+/// configuration.
+///
+/// It is refused as `BadConfig` exactly where the configuration is not lawful, and else only as `NoMemory`.
+pub fn drive<T: Transducer + Drop, G: Gate + Drop>(
+    alloc: Global,
+    graph: Graph<T>,
+    config: &Config,
+    gate: Arc<G, Global>,
+) -> Result<Rested<T>, DriveError>
+    requires { AreOpened T.behaviour (states_of graph) }
+    ensures config { (result ≡ Err BadConfig) ↔ (IsLawful config.now → ⊥) }
+    ensures network { IfOk result (λ rested. IsSameNetwork T.behaviour (states_of graph) (edges_of graph) (rested_states rested) (rested_edges rested)) }
+    ensures capacity { IfOk result (λ rested. rested_capacity rested ≡ config.now.capacity) }
+    ensures run { IfOk result (λ rested. EndsMaximalRun T.behaviour config.now.capacity (states_of graph) (edges_of graph) (rested_states rested) (traffic_of rested)) }
+{
+    if !config.lawful() {
+        return Err(DriveError::BadConfig);
+    }
+    match config.drive {
+        Drive::Serial => Ok(drive_serial(alloc, graph, config)?),
+    }
+}
+
+// Drives a graph in the caller's thread.
+fn drive_serial<T: Transducer + Drop>(
+    alloc: Global,
+    graph: Graph<T>,
+    config: &Config,
+) -> Result<Rested<T>, AllocError>
+    requires opened { AreOpened T.behaviour (states_of graph) }
+    requires lawful { IsLawful config.now }
+    ensures network { IfOk result (λ rested. IsSameNetwork T.behaviour (states_of graph) (edges_of graph) (rested_states rested) (rested_edges rested)) }
+    ensures capacity { IfOk result (λ rested. rested_capacity rested ≡ config.now.capacity) }
+    ensures run { IfOk result (λ rested. EndsMaximalRun T.behaviour config.now.capacity (states_of graph) (edges_of graph) (rested_states rested) (traffic_of rested)) }
+{
+    let table = Table::new(alloc, graph.edges(), config.capacity)?;
+    let mut ends = CountedEnds::new(alloc, table, graph.edges())?;
+    let mut graph = graph;
+    run_serial(alloc, &mut graph, &mut ends, config.chunk)?;
+    Ok(Rested { graph, ends })
+}

@@ -1,0 +1,15 @@
+// What is called before each turn of a thread.
+
+/// What is called before each turn of a thread, in that thread.
+pub trait Gate {
+    /// The thread of this share is about to make its turn of this number, counted from 0.
+    fn turn(&self, share: usize, turn: usize);
+}
+
+/// A gate that does nothing.
+#[derive(Clone, Copy, Debug, Drop)]
+pub struct NoGate;
+
+impl Gate for NoGate {
+    fn turn(&self, _: usize, _: usize) {}
+}

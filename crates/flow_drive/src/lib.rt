@@ -1,0 +1,21 @@
+//! Drives: what runs a graph of stream transducers until no node can step.
+#![tactic(auto)]
+
+mod config;
+mod counted_ends;
+mod driver;
+mod gate;
+mod outcome;
+mod pass;
+mod queries;
+mod rested;
+mod serial;
+mod theorems;
+mod visit;
+
+pub use config::{Config, Drive, MAX_CHUNK, MAX_IDLE, MAX_SHARE, MAX_THREADS};
+pub use driver::{DriveError, drive};
+pub use gate::{Gate, NoGate};
+pub use kahn::Outcome;
+pub use rested::Rested;
+pub use theorems::rested_is_sound;

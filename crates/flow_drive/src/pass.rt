@@ -1,0 +1,51 @@
+// Passes over some nodes.
+ghost use Rattle.std.specs.Prelude.{◌≡◌, ◌<◌, true, length, IfOk};
+ghost use Rattle.std.specs.List.{All};
+ghost use Rattle.flow_edges.specs.Ends.{SameEnds};
+ghost use Rattle.flow_graph.specs.Graphs.{states_of, edges_of};
+ghost use Rattle.flow_drive.specs.Visits.{HasAllEnds, IsSameNetwork, Visits};
+
+use crate::visit::{is_over, visit};
+use flow_base::Transducer;
+use flow_edges::WholeEnds;
+use flow_graph::Graph;
+use std::alloc::AllocError;
+
+/// What came of a pass.
+#[derive(Clone, Copy, Debug)]
+pub struct Pass {
+    /// Whether a node made a step.
+    pub moved: bool,
+    /// Whether some node made none and makes none again.
+    pub over: bool,
+}
+
+/// Visits these nodes in their order.
+pub fn pass_over<T: Transducer, E: WholeEnds>(
+    graph: &mut Graph<T>,
+    ends: &mut E,
+    nodes: &[usize],
+    chunk: usize,
+) -> Result<Pass, AllocError>
+    requires inside { All (λ k. k < length (states_of graph.old)) nodes.now }
+    requires some { 0 < chunk }
+    requires ends { HasAllEnds (length (edges_of graph.old)) (E.view ends.old) }
+    ensures same { E.same ends.old ends.new }
+    ensures ends { SameEnds (E.view ends.old) (E.view ends.new) }
+    ensures network { IsSameNetwork T.behaviour (states_of graph.old) (edges_of graph.old) (states_of graph.new) (edges_of graph.new) }
+    ensures visits { IfOk result (λ pass. Visits T.behaviour (E.capacity ends.old) nodes.now (edges_of graph.old) (states_of graph.old) (E.view ends.old) (states_of graph.new) (E.view ends.new) pass.moved) }
+    ensures some { IfOk result (λ pass. pass.moved ≡ true → 0 < length nodes.now) }
+{
+    let mut pass = Pass {
+        moved: false,
+        over: false,
+    };
+    for &node in nodes {
+        if visit(graph, ends, node, chunk)? {
+            pass.moved = true;
+        } else if is_over(graph, node) {
+            pass.over = true;
+        }
+    }
+    Ok(pass)
+}

@@ -1,0 +1,73 @@
+// The drive of one thread.
+ghost use Rattle.std.specs.Prelude.{◌≡◌, ◌<◌, ◌⊎◌, ℕ, true, length, IfOk, OnOk};
+ghost use Rattle.std.specs.List.{All, Contains};
+ghost use Rattle.flow_edges.specs.Ends.{SameEnds};
+ghost use Rattle.flow_edges.specs.Tables.{IsFresh};
+ghost use Rattle.flow_graph.specs.Networks.{state_at, AreOpened};
+ghost use Rattle.flow_graph.specs.Graphs.{states_of, edges_of};
+ghost use Rattle.flow_drive.specs.Visits.{is_over, IsSameNetwork};
+ghost use Rattle.flow_drive.specs.Drives.{EndsMaximalRun};
+
+use crate::pass::pass_over;
+use crate::visit::is_over;
+use flow_base::Transducer;
+use flow_edges::WholeEnds;
+use flow_graph::Graph;
+use std::alloc::{AllocError, Global};
+
+/// Visits all nodes in ascending order, with at most `chunk` steps each, until a whole pass moves nothing.
+pub fn run_serial<T: Transducer, E: WholeEnds>(
+    alloc: Global,
+    graph: &mut Graph<T>,
+    ends: &mut E,
+    chunk: usize,
+) -> Result<(), AllocError>
+    requires opened { AreOpened T.behaviour (states_of graph.old) }
+    requires some { 0 < chunk }
+    requires fresh { IsFresh (length (edges_of graph.old)) (E.view ends.old) }
+    ensures same { E.same ends.old ends.new }
+    ensures ends { SameEnds (E.view ends.old) (E.view ends.new) }
+    ensures network { IsSameNetwork T.behaviour (states_of graph.old) (edges_of graph.old) (states_of graph.new) (edges_of graph.new) }
+    ensures run { OnOk result (EndsMaximalRun T.behaviour (E.capacity ends.old) (states_of graph.old) (edges_of graph.old) (states_of graph.new) (E.view ends.new)) }
+{
+    // Nodes that are over need no more visits.
+    let mut running = numbers_below(alloc, graph.nodes())?;
+    'passes: loop {
+        let pass = pass_over(graph, ends, &running, chunk)?;
+        if !pass.moved {
+            return Ok(());
+        }
+        if pass.over {
+            drop_over(graph, &mut running);
+        }
+    }
+}
+
+// The numbers below `end`, in ascending order.
+fn numbers_below(alloc: Global, end: usize) -> Result<Vec<usize>, AllocError>
+    ensures below { IfOk result (λ numbers. All (λ k. k < end) numbers.items) }
+    ensures all { IfOk result (λ numbers. (k : ℕ) → k < end → Contains numbers.items k) }
+{
+    let mut numbers = Vec::with_capacity(alloc, end)?;
+    for number in 0..end {
+        numbers.push(number)?;
+    }
+    Ok(numbers)
+}
+
+// Drops the nodes that are over, and leaves the others in their order.
+fn drop_over<T: Transducer>(graph: &Graph<T>, nodes: &mut Vec<usize>)
+    requires { All (λ k. k < length (states_of graph.now)) nodes.old.items }
+    ensures below { All (λ k. k < length (states_of graph.now)) nodes.new.items }
+    ensures others { (idle : T.State) (k : ℕ) → Contains nodes.old.items k → Contains nodes.new.items k ⊎ (is_over (T.behaviour.process.want (state_at idle (states_of graph.now) k)) ≡ true) }
+{
+    let mut kept = 0;
+    for i in 0..nodes.len() {
+        let node = nodes[i];
+        if !is_over(graph, node) {
+            nodes[kept] = node;
+            kept += 1;
+        }
+    }
+    nodes.truncate(kept);
+}

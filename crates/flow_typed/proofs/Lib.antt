@@ -1,0 +1,4 @@
+pub mod Members
+pub mod Printing
+pub mod Segments
+pub mod VectorSteps

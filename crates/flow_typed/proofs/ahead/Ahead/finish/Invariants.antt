@@ -1,0 +1,9 @@
+use Rattle.std.proofs.Common.{◌≡◌, ◌++◌}
+use Rattle.flow_typed.specs.PrintMachine.{closes}
+use Rattle.flow_typed.proofs.ahead.Ahead.finish.Given as goal
+
+abbrev pub invariant-loop : goal.invariant-loop
+invariant-loop l = record {
+  text : l.self.text.items ≡ l.fn.self.text.items ++ (l.bytes ++ closes l.counter);
+  todo : l.self.todo.items ≡ l.fn.self.todo.items;
+}

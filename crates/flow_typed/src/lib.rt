@@ -1,0 +1,19 @@
+//! Transducers that read or write whole values of a type: the items of a value go over the edges of its type.
+//!
+//! A scalar or a vector has one edge. A pair has the edges of both parts. A sequence has an edge of flags, `false` for
+//! each of its elements and then `true`, and behind it the edges of its elements.
+#![tactic(auto)]
+
+mod ahead;
+mod dues;
+mod index;
+mod print;
+mod seq;
+mod shapes;
+mod todo;
+mod vectors;
+
+pub use index::Index;
+pub use print::{Print, prints_text};
+pub use seq::Seq;
+pub use shapes::{is_value, kinds};

@@ -1,0 +1,51 @@
+// What is still to be read of a value that is printed.
+
+ghost use Rattle.snesl_values.specs.Types.{ty_of, seq};
+ghost use Rattle.flow_typed.specs.Places.{Fits};
+
+use snesl_values::Ty;
+
+/// The edges of a type from a port on, and the brackets that are closed behind a value that comes there.
+#[derive(Drop)]
+pub struct Place {
+    pub ty: Ty,
+    pub port: usize,
+    pub brackets: usize,
+    ghost fits: { Fits (ty_of ty) port brackets },
+}
+
+/// The flags of a sequence at a port, the type of its elements, and the brackets that are closed behind it.
+#[derive(Drop)]
+pub struct Flags {
+    pub item: Ty,
+    pub port: usize,
+    pub brackets: usize,
+    ghost fits: { Fits (seq (ty_of item)) port brackets },
+}
+
+/// What is still to be read of a value.
+#[derive(Drop)]
+pub enum Todo {
+    /// A value.
+    Whole(Place),
+    /// A value behind a comma.
+    Second(Place),
+    /// Further elements of a sequence.
+    Further(Flags),
+}
+
+impl Todo {
+    ghost use Rattle.std.specs.Prelude.{◌≡◌};
+    ghost use Rattle.flow_typed.specs.PrintMachine.{port_of};
+    ghost use Rattle.flow_typed.specs.Aheads.{todo_of};
+
+    /// The port at which the next item comes.
+    pub fn port(&self) -> usize
+        ensures { result ≡ port_of (todo_of self.now) }
+    {
+        match self {
+            Todo::Whole(place) | Todo::Second(place) => place.port,
+            Todo::Further(flags) => flags.port,
+        }
+    }
+}
