@@ -217,7 +217,7 @@ state_of (nodes.Pack n) = (a_pack, node_state (pack_state n.worker.kind (step_of
 state_of (nodes.PackGroups n) = (a_pack_groups, node_state n.worker n.phase n.at)
 state_of (nodes.Interleave n) = (an_interleave, node_state (interleave_state n.worker.kind (step_of_interleave n.worker.turn)) n.phase n.at)
 state_of (nodes.InterleaveGroups n) = (an_interleave_groups, node_state n.worker n.phase n.at)
-state_of (nodes.Print n) = (a_print, state_in (ty_of n.ty) n.todo.items n.text.items n.closing n.stuck n.at)
+state_of (nodes.Print n) = (a_print, state_in (ty_of n.ty) n.pending.items n.text.items n.closing n.stuck n.at)
 state_of (nodes.Seq n) = (a_seq_of_vector, node_state (seq_state (ty_of n.worker.element) (map due_cell n.worker.dues.items)) n.phase n.at)
 state_of (nodes.Index n) = (an_index, node_state (index_state (ty_of n.worker.element) (step_of_index n.worker.stage)) n.phase n.at)
 

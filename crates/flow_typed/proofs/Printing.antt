@@ -13,26 +13,26 @@ use Rattle.flow_base.specs.declared.worker.Stop.TheVariants.{Faulted as Stopped,
 use Rattle.flow_typed.specs.Shapes.{kinds_of, is_a}
 use Rattle.flow_typed.specs.Flats.{width}
 use Rattle.flow_typed.specs.Places.{Fits}
-use Rattle.flow_typed.specs.PrintMachine.{closes, Todo, whole, Reading, reading, entered, next, checked, kind_at, port_of, step_of, print_state, want_at, read_at, memory_at, print_behaviour}
-use Rattle.flow_typed.specs.Aheads.{todo_of, stack, Leads, Finds, Reaches, found, step_in, state_in}
-use Rattle.flow_typed.specs.declared.todo.Todo.{Todo as TodoInMemory}
+use Rattle.flow_typed.specs.PrintMachine.{closes, Pending, whole, Reading, reading, entered, next, checked, kind_at, port_of, step_of, print_state, want_at, read_at, memory_at, print_behaviour}
+use Rattle.flow_typed.specs.Aheads.{pending_of, stack, Leads, Finds, Reaches, found, step_in, state_in}
+use Rattle.flow_typed.specs.declared.pending.Pending.{Pending as PendingInMemory}
 use Rattle.flow_typed.specs.declared.ahead.Ahead.{Ahead}
 
 pub closes-more : (c : ℕ) → closes (c + 1) ≡ closes c ++ codes ")"
 closes-more zero = refl
 closes-more (suc c) = let e : suc c + 1 ≡ suc (c + 1) = omega arith in ap closes e ∙ ap (λ l. codes ")" ++ l) (closes-more c)
 
-pub stack-append : (xs ys : List TodoInMemory) (after : List Todo) → stack (xs ++ ys) after ≡ stack ys (stack xs after)
+pub stack-append : (xs ys : List PendingInMemory) (after : List Pending) → stack (xs ++ ys) after ≡ stack ys (stack xs after)
 stack-append [] ys after = refl
-stack-append (x ∷ xs) ys after = stack-append xs ys (todo_of x ∷ after)
+stack-append (x ∷ xs) ys after = stack-append xs ys (pending_of x ∷ after)
 
 -- one more is the next
-pub one_next : (old new : List TodoInMemory) (x : TodoInMemory) (a : Todo) (after : List Todo) → new ≡ old ++ x ∷ [] → todo_of x ≡ a → stack new after ≡ a ∷ stack old after
+pub one_next : (old new : List PendingInMemory) (x : PendingInMemory) (a : Pending) (after : List Pending) → new ≡ old ++ x ∷ [] → pending_of x ≡ a → stack new after ≡ a ∷ stack old after
 one_next old new x a after is same = ap (λ l. stack l after) is ∙ stack-append old (x ∷ []) after ∙ ap (λ t. t ∷ stack old after) same
 
 -- an element is the next, and then further ones
-pub two_next : {E : Type 0} (r : Result (Unit {0}) E) (old start one two : List TodoInMemory) (x y : TodoInMemory) (a b : Todo) → start ≡ old → one ≡ start ++ x ∷ [] → OnOk r (two ≡ one ++ y ∷ []) → todo_of x ≡ a → todo_of y ≡ b →
-    OnOk r ((after : List Todo) → stack two after ≡ b ∷ a ∷ stack old after)
+pub two_next : {E : Type 0} (r : Result (Unit {0}) E) (old start one two : List PendingInMemory) (x y : PendingInMemory) (a b : Pending) → start ≡ old → one ≡ start ++ x ∷ [] → OnOk r (two ≡ one ++ y ∷ []) → pending_of x ≡ a → pending_of y ≡ b →
+    OnOk r ((after : List Pending) → stack two after ≡ b ∷ a ∷ stack old after)
 two_next (Ok u) old start one two x y a b same first second of_x of_y = λ after. one_next one two y b after second of_y ∙ ap (λ l. b ∷ l) (one_next start one x a after first of_x ∙ ap (λ l. a ∷ stack l after) same)
 two_next (Err e) old start one two x y a b same first second of_x of_y = tt
 
@@ -56,11 +56,11 @@ pub bracket_fits : (ty : Ty) (p c : ℕ) → Fits ty p c → c + 1 < 2 ^ 64
 bracket_fits ty p c h = let some = some_edge ty in let b = h.1 in omega (arith, some, b)
 
 -- an item that goes to the first of a pair
-module _ (first second : Ty) (p c : ℕ) (x : Cell) (old between new : Ahead) (start : List TodoInMemory) (y : TodoInMemory) (said : between.text.items ≡ old.text.items ++ codes "(") (same : start ≡ old.todo.items) (there : between.todo.items ≡ start ++ y ∷ []) (is : todo_of y ≡ whole true second (p + width first) (suc c)) where
+module _ (first second : Ty) (p c : ℕ) (x : Cell) (old between new : Ahead) (start : List PendingInMemory) (y : PendingInMemory) (said : between.text.items ≡ old.text.items ++ codes "(") (same : start ≡ old.pending.items) (there : between.pending.items ≡ start ++ y ∷ []) (is : pending_of y ≡ whole true second (p + width first) (suc c)) where
   pub leads_pair : (r : Result (Unit {0}) Stop) → Leads (entered first p 0 x) r between new → Leads (entered (pair first second) p c x) r old new
   leads_pair (Ok u) h =
       λ after. ap₂ (λ a b. entered first p 0 x a b)
-      (sym (one_next start between.todo.items y (whole true second (p + width first) (suc c)) after there is ∙ ap (λ l. whole true second (p + width first) (suc c) ∷ stack l after) same))
+      (sym (one_next start between.pending.items y (whole true second (p + width first) (suc c)) after there is ∙ ap (λ l. whole true second (p + width first) (suc c) ∷ stack l after) same))
       (sym said)
       ∙ h after
   leads_pair (Err (Stopped kind)) h = (h.0, λ after before. h.1 (whole true second (p + width first) (suc c) ∷ after) (before ++ codes "("))
@@ -69,16 +69,16 @@ module _ (first second : Ty) (p c : ℕ) (x : Cell) (old between new : Ahead) (s
 -- the same behind another text
 abbrev in_front : List ℕ → Option Reading → Option Reading
 in_front u None = None
-in_front u (Some r) = Some (reading r.todo (u ++ r.text))
+in_front u (Some r) = Some (reading r.pending (u ++ r.text))
 
-front-cond : (u : List ℕ) (b : Bool) (r : Reading) → cond b (Some (reading r.todo (u ++ r.text))) None ≡ in_front u (cond b (Some r) None)
+front-cond : (u : List ℕ) (b : Bool) (r : Reading) → cond b (Some (reading r.pending (u ++ r.text))) None ≡ in_front u (cond b (Some r) None)
 front-cond u true r = refl
 front-cond u false r = refl
 
-said_behind : (u v w : List ℕ) (after : List Todo) → Some (reading after ((u ++ v) ++ w)) ≡ Some (reading after (u ++ (v ++ w)))
+said_behind : (u v w : List ℕ) (after : List Pending) → Some (reading after ((u ++ v) ++ w)) ≡ Some (reading after (u ++ (v ++ w)))
 said_behind u v w after = ap (λ l. Some (reading after l)) (append_assoc u v w)
 
-entered_behind : (ty : Ty) (p c : ℕ) (x : Cell) (after : List Todo) (u v : List ℕ) → entered ty p c x after (u ++ v) ≡ in_front u (entered ty p c x after v)
+entered_behind : (ty : Ty) (p c : ℕ) (x : Cell) (after : List Pending) (u v : List ℕ) → entered ty p c x after (u ++ v) ≡ in_front u (entered ty p c x after v)
 entered_behind int p c (int_cell n) after u v = said_behind u v _ after
 entered_behind int p c _ after u v = refl
 entered_behind bool p c (flag true) after u v = said_behind u v _ after
@@ -92,8 +92,8 @@ entered_behind (seq item) p c (flag true) after u v = said_behind u v _ _
 entered_behind (seq item) p c _ after u v = refl
 
 -- what leads from no text leads from any
-pub finds_entered : (ty : Ty) (p c : ℕ) (x : Cell) (said : List ℕ) (old new : Ahead) → old.todo.items ≡ [] → old.text.items ≡ said → ((after : List Todo) → entered ty p c x (stack old.todo.items after) old.text.items ≡ Some (reading (stack new.todo.items after) new.text.items)) →
-    (after : List Todo) (before : List ℕ) → entered ty p c x after (before ++ said) ≡ Some (reading (stack new.todo.items after) (before ++ new.text.items))
+pub finds_entered : (ty : Ty) (p c : ℕ) (x : Cell) (said : List ℕ) (old new : Ahead) → old.pending.items ≡ [] → old.text.items ≡ said → ((after : List Pending) → entered ty p c x (stack old.pending.items after) old.text.items ≡ Some (reading (stack new.pending.items after) new.text.items)) →
+    (after : List Pending) (before : List ℕ) → entered ty p c x after (before ++ said) ≡ Some (reading (stack new.pending.items after) (before ++ new.text.items))
 finds_entered ty p c x said old new none is leads after before =
     entered_behind ty p c x after before said
     ∙ ap (in_front before) (ap₂ (λ l u. entered ty p c x (stack l after) u) (sym none) (sym is) ∙ leads after)
@@ -121,7 +121,7 @@ none_last [] e = refl
 none_last (y ∷ ys) e = absurd (get_inside (y ∷ ys) (length (y ∷ ys) - 1) (omega arith) e)
 
 -- the last is the next to be read
-pub stack_last : (xs : List TodoInMemory) (x : TodoInMemory) (e : slice_get xs (length xs - 1) ≡ Some x) → stack xs [] ≡ todo_of x ∷ stack (last_of xs x e).0 []
+pub stack_last : (xs : List PendingInMemory) (x : PendingInMemory) (e : slice_get xs (length xs - 1) ≡ Some x) → stack xs [] ≡ pending_of x ∷ stack (last_of xs x e).0 []
 stack_last xs x e = let h = last_of xs x e in ap (λ l. stack l []) h.1 ∙ stack-append h.0 (x ∷ []) []
 
 take-front : {A : Type 0} (xs : List A) (x : A) → take (length xs) (xs ++ x ∷ []) ≡ xs
@@ -134,45 +134,45 @@ all_but_last all rest x e =
     let n : length all - 1 ≡ length rest = omega (arith, size) in
     ap₂ (λ k l. take k l) n e ∙ take-front rest x
 
-step_free : (l : List Todo) → step_in false 0 l ≡ step_of l
+step_free : (l : List Pending) → step_in false 0 l ≡ step_of l
 step_free [] = refl
 step_free (x ∷ xs) = refl
 
 -- the state where the last was taken and this was put in its place
-pub advanced : (ty : Ty) (text said new_text : List ℕ) (at : ℕ) (stuck : Bool) (old popped new more : List TodoInMemory) → stuck ≡ false → popped ≡ take (length old - 1) old → new ≡ popped ++ more → new_text ≡ text ++ said →
-    (rest : List TodoInMemory) (first : TodoInMemory) → old ≡ rest ++ first ∷ [] → state_in ty new new_text 0 stuck at ≡ print_state ty (step_of (stack more (stack rest []))) (text ++ said) at
+pub advanced : (ty : Ty) (text said new_text : List ℕ) (at : ℕ) (stuck : Bool) (old popped new more : List PendingInMemory) → stuck ≡ false → popped ≡ take (length old - 1) old → new ≡ popped ++ more → new_text ≡ text ++ said →
+    (rest : List PendingInMemory) (first : PendingInMemory) → old ≡ rest ++ first ∷ [] → state_in ty new new_text 0 stuck at ≡ print_state ty (step_of (stack more (stack rest []))) (text ++ said) at
 advanced ty text said new_text at stuck old popped new more free pop put is rest first e =
     let there : stack new [] ≡ stack more (stack rest []) = ap (λ l. stack l []) (put ∙ ap (λ l. l ++ more) (pop ∙ all_but_last old rest first e)) ∙ stack-append rest more [] in
     ap₂ (λ s t. print_state ty s t at) (ap₂ (λ b l. step_in b 0 l) free there ∙ step_free (stack more (stack rest []))) is
 
 -- what the state wants where something is still to be read, and where nothing is
-pub wants_last : (ty : Ty) (todo : List TodoInMemory) (text : List ℕ) (port : ℕ) (stuck : Bool) (at : ℕ) (x : TodoInMemory) → stuck ≡ false → slice_get todo (length todo - 1) ≡ Some x →
-    print_behaviour.process.want (state_in ty todo text port stuck at) ≡ cond (nat_lt (port_of (todo_of x)) (width ty)) (Read (port_of (todo_of x))) (Faulted (record { kind = Shape; at = at }))
-wants_last ty todo text port stuck at x free e =
-    ap₂ (λ b l. want_at (step_in b port l) (print_state ty (step_in b port l) text at)) free (stack_last todo x e)
+pub wants_last : (ty : Ty) (pending : List PendingInMemory) (text : List ℕ) (port : ℕ) (stuck : Bool) (at : ℕ) (x : PendingInMemory) → stuck ≡ false → slice_get pending (length pending - 1) ≡ Some x →
+    print_behaviour.process.want (state_in ty pending text port stuck at) ≡ cond (nat_lt (port_of (pending_of x)) (width ty)) (Read (port_of (pending_of x))) (Faulted (record { kind = Shape; at = at }))
+wants_last ty pending text port stuck at x free e =
+    ap₂ (λ b l. want_at (step_in b port l) (print_state ty (step_in b port l) text at)) free (stack_last pending x e)
 
-pub wants_read : (ty : Ty) (todo : List TodoInMemory) (text : List ℕ) (port : ℕ) (stuck : Bool) (at : ℕ) (x : TodoInMemory) (n p : ℕ) → stuck ≡ false → slice_get todo (length todo - 1) ≡ Some x → n ≡ width ty → p ≡ port_of (todo_of x) → p < n →
-    Read p ≡ print_behaviour.process.want (state_in ty todo text port stuck at)
-wants_read ty todo text port stuck at x n p free e size is lt =
-    let inside : nat_lt (port_of (todo_of x)) (width ty) ≡ true = grind (arith, nat_tests) in
-    ap Read is ∙ sym (wants_last ty todo text port stuck at x free e ∙ ap (λ b. cond b (Read (port_of (todo_of x))) (Faulted (record { kind = Shape; at = at }))) inside)
+pub wants_read : (ty : Ty) (pending : List PendingInMemory) (text : List ℕ) (port : ℕ) (stuck : Bool) (at : ℕ) (x : PendingInMemory) (n p : ℕ) → stuck ≡ false → slice_get pending (length pending - 1) ≡ Some x → n ≡ width ty → p ≡ port_of (pending_of x) → p < n →
+    Read p ≡ print_behaviour.process.want (state_in ty pending text port stuck at)
+wants_read ty pending text port stuck at x n p free e size is lt =
+    let inside : nat_lt (port_of (pending_of x)) (width ty) ≡ true = grind (arith, nat_tests) in
+    ap Read is ∙ sym (wants_last ty pending text port stuck at x free e ∙ ap (λ b. cond b (Read (port_of (pending_of x))) (Faulted (record { kind = Shape; at = at }))) inside)
 
-pub wants_fault : (ty : Ty) (todo : List TodoInMemory) (text : List ℕ) (port : ℕ) (stuck : Bool) (at : ℕ) (x : TodoInMemory) (n p : ℕ) → stuck ≡ false → slice_get todo (length todo - 1) ≡ Some x → n ≡ width ty → p ≡ port_of (todo_of x) → n ≤ p →
-    Faulted (record { kind = Shape; at = at }) ≡ print_behaviour.process.want (state_in ty todo text port stuck at)
-wants_fault ty todo text port stuck at x n p free e size is le =
-    let outside : nat_lt (port_of (todo_of x)) (width ty) ≡ false = grind (arith, nat_tests) in
-    sym (wants_last ty todo text port stuck at x free e ∙ ap (λ b. cond b (Read (port_of (todo_of x))) (Faulted (record { kind = Shape; at = at }))) outside)
+pub wants_fault : (ty : Ty) (pending : List PendingInMemory) (text : List ℕ) (port : ℕ) (stuck : Bool) (at : ℕ) (x : PendingInMemory) (n p : ℕ) → stuck ≡ false → slice_get pending (length pending - 1) ≡ Some x → n ≡ width ty → p ≡ port_of (pending_of x) → n ≤ p →
+    Faulted (record { kind = Shape; at = at }) ≡ print_behaviour.process.want (state_in ty pending text port stuck at)
+wants_fault ty pending text port stuck at x n p free e size is le =
+    let outside : nat_lt (port_of (pending_of x)) (width ty) ≡ false = grind (arith, nat_tests) in
+    sym (wants_last ty pending text port stuck at x free e ∙ ap (λ b. cond b (Read (port_of (pending_of x))) (Faulted (record { kind = Shape; at = at }))) outside)
 
 -- where an item leads that is given to the last
-pub found_last : (ty : Ty) (todo : List TodoInMemory) (text : List ℕ) (port : ℕ) (stuck : Bool) (at : ℕ) (x : TodoInMemory) (free : stuck ≡ false) (e : slice_get todo (length todo - 1) ≡ Some x) (c : Cell) →
-    found (step_in stuck port (stack todo [])) (state_in ty todo text port stuck at) c ≡ checked (is_of (kind_at (kinds_of ty) (port_of (todo_of x))) c) (next (todo_of x) c (stack (last_of todo x e).0 []) text)
-found_last ty todo text port stuck at x free e c =
-    ap₂ (λ b l. found (step_in b port l) (print_state ty (step_in b port l) text at) c) free (stack_last todo x e)
+pub found_last : (ty : Ty) (pending : List PendingInMemory) (text : List ℕ) (port : ℕ) (stuck : Bool) (at : ℕ) (x : PendingInMemory) (free : stuck ≡ false) (e : slice_get pending (length pending - 1) ≡ Some x) (c : Cell) →
+    found (step_in stuck port (stack pending [])) (state_in ty pending text port stuck at) c ≡ checked (is_of (kind_at (kinds_of ty) (port_of (pending_of x))) c) (next (pending_of x) c (stack (last_of pending x e).0 []) text)
+found_last ty pending text port stuck at x free e c =
+    ap₂ (λ b l. found (step_in b port l) (print_state ty (step_in b port l) text at) c) free (stack_last pending x e)
 
 -- an item of another kind than the port's leads nowhere
-pub found_none : (ty : Ty) (todo : List TodoInMemory) (text : List ℕ) (port : ℕ) (stuck : Bool) (at : ℕ) (x : TodoInMemory) → stuck ≡ false → slice_get todo (length todo - 1) ≡ Some x → (c : Cell) →
-    is_of (kind_at (kinds_of ty) (port_of (todo_of x))) c ≡ false → found (step_in stuck port (stack todo [])) (state_in ty todo text port stuck at) c ≡ None
-found_none ty todo text port stuck at x free e c other = found_last ty todo text port stuck at x free e c ∙ ap (λ b. checked b (next (todo_of x) c (stack (last_of todo x e).0 []) text)) other
+pub found_none : (ty : Ty) (pending : List PendingInMemory) (text : List ℕ) (port : ℕ) (stuck : Bool) (at : ℕ) (x : PendingInMemory) → stuck ≡ false → slice_get pending (length pending - 1) ≡ Some x → (c : Cell) →
+    is_of (kind_at (kinds_of ty) (port_of (pending_of x))) c ≡ false → found (step_in stuck port (stack pending [])) (state_in ty pending text port stuck at) c ≡ None
+found_none ty pending text port stuck at x free e c other = found_last ty pending text port stuck at x free e c ∙ ap (λ b. checked b (next (pending_of x) c (stack (last_of pending x e).0 []) text)) other
 
 not_empty : {A : Type 0} (xs rest : List A) (x : A) → xs ≡ rest ++ x ∷ [] → xs ≡ [] → ⊥
 not_empty xs rest x e none = go rest (sym none ∙ e)
@@ -182,54 +182,54 @@ not_empty xs rest x e none = go rest (sym none ∙ e)
     go (y ∷ rest) e = absurd (cc)
 
 -- what was found ahead of the last is where the item leads
-pub found_ahead : (ty : Ty) (todo : List TodoInMemory) (text : List ℕ) (port : ℕ) (stuck : Bool) (at : ℕ) (x : TodoInMemory) → stuck ≡ false → slice_get todo (length todo - 1) ≡ Some x → (c : Cell) →
-    is_of (kind_at (kinds_of ty) (port_of (todo_of x))) c ≡ true → (result : Result Ahead Stop) → Finds (next (todo_of x) c) result → Reaches (found (step_in stuck port (stack todo [])) (state_in ty todo text port stuck at) c) todo text result
-found_ahead ty todo text port stuck at x free e c fits result finds = go result finds
+pub found_ahead : (ty : Ty) (pending : List PendingInMemory) (text : List ℕ) (port : ℕ) (stuck : Bool) (at : ℕ) (x : PendingInMemory) → stuck ≡ false → slice_get pending (length pending - 1) ≡ Some x → (c : Cell) →
+    is_of (kind_at (kinds_of ty) (port_of (pending_of x))) c ≡ true → (result : Result Ahead Stop) → Finds (next (pending_of x) c) result → Reaches (found (step_in stuck port (stack pending [])) (state_in ty pending text port stuck at) c) pending text result
+found_ahead ty pending text port stuck at x free e c fits result finds = go result finds
   where
-    rest : List TodoInMemory
-    rest = (last_of todo x e).0
+    rest : List PendingInMemory
+    rest = (last_of pending x e).0
 
-    there : found (step_in stuck port (stack todo [])) (state_in ty todo text port stuck at) c ≡ next (todo_of x) c (stack (last_of todo x e).0 []) text
-    there = found_last ty todo text port stuck at x free e c ∙ ap (λ b. checked b (next (todo_of x) c (stack (last_of todo x e).0 []) text)) fits
+    there : found (step_in stuck port (stack pending [])) (state_in ty pending text port stuck at) c ≡ next (pending_of x) c (stack (last_of pending x e).0 []) text
+    there = found_last ty pending text port stuck at x free e c ∙ ap (λ b. checked b (next (pending_of x) c (stack (last_of pending x e).0 []) text)) fits
 
-    go : (result : Result Ahead Stop) → Finds (next (todo_of x) c) result → Reaches (found (step_in stuck port (stack todo [])) (state_in ty todo text port stuck at) c) todo text result
-    go (Ok ahead) h = ((last_of todo x e).0, x, (last_of todo x e).1, there ∙ h (stack (last_of todo x e).0 []) text)
-    go (Err (Stopped kind)) h = there ∙ h.1 (stack (last_of todo x e).0 []) text
-    go (Err OutOfMemory) h = not_empty todo (last_of todo x e).0 x (last_of todo x e).1
+    go : (result : Result Ahead Stop) → Finds (next (pending_of x) c) result → Reaches (found (step_in stuck port (stack pending [])) (state_in ty pending text port stuck at) c) pending text result
+    go (Ok ahead) h = ((last_of pending x e).0, x, (last_of pending x e).1, there ∙ h (stack (last_of pending x e).0 []) text)
+    go (Err (Stopped kind)) h = there ∙ h.1 (stack (last_of pending x e).0 []) text
+    go (Err OutOfMemory) h = not_empty pending (last_of pending x e).0 x (last_of pending x e).1
 
 -- what wants to read is not stuck
-pub not_stuck : (ty : Ty) (todo : List TodoInMemory) (text : List ℕ) (port : ℕ) (stuck : Bool) (at p : ℕ) → print_behaviour.process.want (state_in ty todo text port stuck at) ≡ Read p → stuck ≡ false
-not_stuck ty todo text port false at p e = refl
-not_stuck ty todo text port true at p e = absurd (cc)
+pub not_stuck : (ty : Ty) (pending : List PendingInMemory) (text : List ℕ) (port : ℕ) (stuck : Bool) (at p : ℕ) → print_behaviour.process.want (state_in ty pending text port stuck at) ≡ Read p → stuck ≡ false
+not_stuck ty pending text port false at p e = refl
+not_stuck ty pending text port true at p e = absurd (cc)
 
-stack_full : (xs : List TodoInMemory) (a : Todo) (after : List Todo) → (b : Todo) × (l : List Todo) × (stack xs (a ∷ after) ≡ b ∷ l)
+stack_full : (xs : List PendingInMemory) (a : Pending) (after : List Pending) → (b : Pending) × (l : List Pending) × (stack xs (a ∷ after) ≡ b ∷ l)
 stack_full [] a after = (a, after, refl)
-stack_full (x ∷ xs) a after = stack_full xs (todo_of x) (a ∷ after)
+stack_full (x ∷ xs) a after = stack_full xs (pending_of x) (a ∷ after)
 
 -- an end inside the value
-pub end_inside : (ty : Ty) (todo : List TodoInMemory) (text : List ℕ) (port : ℕ) (stuck : Bool) (at : ℕ) → (todo ≡ [] → ⊥) → state_in ty todo text port true at ≡ read_at (step_in stuck port (stack todo [])) (state_in ty todo text port stuck at) stop
+pub end_inside : (ty : Ty) (pending : List PendingInMemory) (text : List ℕ) (port : ℕ) (stuck : Bool) (at : ℕ) → (pending ≡ [] → ⊥) → state_in ty pending text port true at ≡ read_at (step_in stuck port (stack pending [])) (state_in ty pending text port stuck at) stop
 end_inside ty [] text port stuck at some = absurd (some refl)
-end_inside ty (x ∷ todo) text port true at some = refl
-end_inside ty (x ∷ todo) text port false at some =
-    let s = stack_full todo (todo_of x) [] in
+end_inside ty (x ∷ pending) text port true at some = refl
+end_inside ty (x ∷ pending) text port false at some =
+    let s = stack_full pending (pending_of x) [] in
     sym (ap (λ l. read_at (step_in false port l) (print_state ty (step_in false port l) text at) stop) s.2)
 
 -- where memory is not needed, nothing is still to be read
-pub none_ahead : (todo : List TodoInMemory) (port : ℕ) (stuck : Bool) → stuck ≡ false → memory_at (step_in stuck port (stack todo [])) ≡ false → todo ≡ []
+pub none_ahead : (pending : List PendingInMemory) (port : ℕ) (stuck : Bool) → stuck ≡ false → memory_at (step_in stuck port (stack pending [])) ≡ false → pending ≡ []
 none_ahead [] port stuck free e = refl
-none_ahead (x ∷ todo) port stuck free e =
-    let s = stack_full todo (todo_of x) [] in
+none_ahead (x ∷ pending) port stuck free e =
+    let s = stack_full pending (pending_of x) [] in
     let never : true ≡ false = sym (ap₂ (λ b l. memory_at (step_in b port l)) free s.2) ∙ e in
     absurd (cc)
 
 -- where all inputs have ended, nothing is read
-pub no_more_ends : (ty : Ty) (todo : List TodoInMemory) (text : List ℕ) (port : ℕ) (stuck : Bool) (at n p : ℕ) → todo ≡ [] → n ≡ width ty → n ≤ port → print_behaviour.process.want (state_in ty todo text port stuck at) ≡ Read p → ⊥
-no_more_ends ty todo text port stuck at n p none size le e =
+pub no_more_ends : (ty : Ty) (pending : List PendingInMemory) (text : List ℕ) (port : ℕ) (stuck : Bool) (at n p : ℕ) → pending ≡ [] → n ≡ width ty → n ≤ port → print_behaviour.process.want (state_in ty pending text port stuck at) ≡ Read p → ⊥
+no_more_ends ty pending text port stuck at n p none size le e =
     let outside : nat_lt port (width ty) ≡ false = grind (arith, nat_tests) in
-    let free = not_stuck ty todo text port stuck at p e in
+    let free = not_stuck ty pending text port stuck at p e in
     let never : Ended ≡ Read p = sym (ap₂ (λ b l. want_at (step_in b port (stack l [])) (print_state ty (step_in b port (stack l [])) text at)) free none ∙ ap (λ b. cond b (Read port) Ended) outside) ∙ e in
     absurd (cc)
 
 -- memory is refused only where something is still to be read
-pub refused : (there : Option Reading) (todo : List TodoInMemory) (text : List ℕ) (e : Stop) → e ≡ OutOfMemory → Reaches there todo text (Err e) → todo ≡ [] → ⊥
-refused there todo text e is h = subst (λ e. Reaches there todo text (Err e)) is h
+pub refused : (there : Option Reading) (pending : List PendingInMemory) (text : List ℕ) (e : Stop) → e ≡ OutOfMemory → Reaches there pending text (Err e) → pending ≡ [] → ⊥
+refused there pending text e is h = subst (λ e. Reaches there pending text (Err e)) is h

@@ -23,17 +23,17 @@ use Rattle.flow_typed.specs.Flats.{nothing, ◌⊕◌, width, spread, flat}
 use Rattle.flow_typed.specs.FlatLaws.{flat_one}
 use Rattle.flow_typed.specs.Sides.{spread_above, nothing_more}
 use Rattle.flow_typed.specs.Kinds.{spread_full, spread_kinds, full_append, flags_here}
-use Rattle.flow_typed.specs.PrintMachine.{Todo, whole, further, port_of, Reading, next, Step, within, closing, stuck, PrintState, print_state, print_opened, step_of, kind_at, want_at, moved, checked, read_at, print_behaviour}
+use Rattle.flow_typed.specs.PrintMachine.{Pending, whole, further, port_of, Reading, next, Step, within, closing, stuck, PrintState, print_state, print_opened, step_of, kind_at, want_at, moved, checked, read_at, print_behaviour}
 use Rattle.flow_typed.specs.PrintSteps.{segment, Ends, EndsAfter, next_law}
 
 -- What is still to come: the closed lists of bodies that are just what is to be read, each of the kind of its port, and
 -- the text that comes of them.
-record Owed (ty : Ty) (todo : List Todo) (text : List ℕ) (i : Lists Signal) (t : List ℕ) : Type 0 where
+record Owed (ty : Ty) (pending : List Pending) (text : List ℕ) (i : Lists Signal) (t : List ℕ) : Type 0 where
   bodies : Lists Cell
   are_closed : AreClosed (width ty) i bodies
   beyond : (p : ℕ) → width ty ≤ p → bodies p ≡ []
   kinds : (p : ℕ) → AllOf (kind_at (kinds_of ty) p) (bodies p)
-  ends : Ends todo text bodies t
+  ends : Ends pending text bodies t
 
 abbrev OwesAt : Step → Ty → List ℕ → Lists Signal → List ℕ → Type 0
 OwesAt (within first others) ty text i t = Owed ty (first ∷ others) text i t
@@ -46,26 +46,26 @@ OwesText s i t = OwesAt s.step s.ty s.text i t
 
 abbrev OwesAfter : Ty → Option Reading → Lists Signal → List ℕ → Type 0
 OwesAfter ty None i t = ⊥
-OwesAfter ty (Some r) i t = Owed ty r.todo r.text i t
+OwesAfter ty (Some r) i t = Owed ty r.pending r.text i t
 
 module _ (ty : Ty) (i : Lists Signal) (t : List ℕ) where
   -- where nothing is left to be read, the ends are owed
-  owed_todo : (todo : List Todo) (text : List ℕ) → Owed ty todo text i t ↔ OwesAt (step_of todo) ty text i t
-  owed_todo [] text = (
+  owed_pending : (pending : List Pending) (text : List ℕ) → Owed ty pending text i t ↔ OwesAt (step_of pending) ty text i t
+  owed_pending [] text = (
     λ h. (closed_ends (width ty) i h.bodies h.are_closed (λ p lt. ap (λ l. l p) h.ends.0), h.ends.1),
     λ h. record { bodies = nothing; are_closed = ends_closed (width ty) i h.0; beyond = λ p le. refl; kinds = λ p. tt; ends = (refl, h.1) },
   )
-  owed_todo (first ∷ others) text = iff_refl
+  owed_pending (first ∷ others) text = iff_refl
 
   owed_moved : (s : PrintState) (r : Option Reading) → s.ty ≡ ty → OwesAfter ty r i t ↔ OwesText (moved s r) i t
   owed_moved s None e = iff_refl
-  owed_moved s (Some r) e = subst (λ k. OwesAfter ty (Some r) i t ↔ OwesAt (step_of r.todo) k r.text i t) (sym e) (owed_todo r.todo r.text)
+  owed_moved s (Some r) e = subst (λ k. OwesAfter ty (Some r) i t ↔ OwesAt (step_of r.pending) k r.text i t) (sym e) (owed_pending r.pending r.text)
 
   pack : (r : Option Reading) (bodies : Lists Cell) → AreClosed (width ty) i bodies → ((p : ℕ) → width ty ≤ p → bodies p ≡ []) → ((p : ℕ) → AllOf (kind_at (kinds_of ty) p) (bodies p)) → EndsAfter r bodies t → OwesAfter ty r i t
   pack None bodies c b k h = h
   pack (Some r) bodies c b k h = record { bodies = bodies; are_closed = c; beyond = b; kinds = k; ends = h }
 
-  module _ (first : Todo) (others : List Todo) (text : List ℕ) (lt : port_of first < width ty) (x : Cell) where
+  module _ (first : Pending) (others : List Pending) (text : List ℕ) (lt : port_of first < width ty) (x : Cell) where
     abbrev here : ℕ
     here = port_of first
 
@@ -108,20 +108,20 @@ module _ (ty : Ty) (i : Lists Signal) (t : List ℕ) where
     back true is h = unpack (next first x others text) is (λ l. (next_law first others text t l x).1) h
 
 -- an item is there to be read
-todo_full : (first : Todo) (others : List Todo) (text : List ℕ) (bodies : Lists Cell) (t : List ℕ) → Ends (first ∷ others) text bodies t → IsFull (bodies (port_of first))
-todo_full (whole behind ty p c) others text bodies t h = subst (λ l. IsFull (l p)) (sym h.3) (full_append (spread ty p h.0 p) (h.1 p) (spread_full ty p h.0))
-todo_full (further item p c) others text bodies t h = subst (λ l. IsFull (l p)) (sym h.3) (full_append (segment item p h.0 p) (h.1 p) (full_append _ _ (flags_here p _)))
+pending_full : (first : Pending) (others : List Pending) (text : List ℕ) (bodies : Lists Cell) (t : List ℕ) → Ends (first ∷ others) text bodies t → IsFull (bodies (port_of first))
+pending_full (whole behind ty p c) others text bodies t h = subst (λ l. IsFull (l p)) (sym h.3) (full_append (spread ty p h.0 p) (h.1 p) (spread_full ty p h.0))
+pending_full (further item p c) others text bodies t h = subst (λ l. IsFull (l p)) (sym h.3) (full_append (segment item p h.0 p) (h.1 p) (full_append _ _ (flags_here p _)))
 
-owed_full : (ty : Ty) (first : Todo) (others : List Todo) (text : List ℕ) (i : Lists Signal) (t : List ℕ) → port_of first < width ty → Owed ty (first ∷ others) text i t → IsFull (i (port_of first))
+owed_full : (ty : Ty) (first : Pending) (others : List Pending) (text : List ℕ) (i : Lists Signal) (t : List ℕ) → port_of first < width ty → Owed ty (first ∷ others) text i t → IsFull (i (port_of first))
 owed_full ty first others text i t lt h = closed_full (i (port_of first)) (h.bodies (port_of first)) (h.are_closed (port_of first) lt)
 
 -- where an item is to be read, no end comes
-no_stop : (ty : Ty) (first : Todo) (others : List Todo) (text : List ℕ) (i : Lists Signal) (t : List ℕ) → port_of first < width ty → Owed ty (first ∷ others) text (push (port_of first) stop i) t → ⊥
+no_stop : (ty : Ty) (first : Pending) (others : List Pending) (text : List ℕ) (i : Lists Signal) (t : List ℕ) → port_of first < width ty → Owed ty (first ∷ others) text (push (port_of first) stop i) t → ⊥
 no_stop ty first others text i t lt h =
     let p = port_of first in
     let e : stop ∷ i p ≡ closed (h.bodies p) = sym (at_port p (stop ∷ i p) i) ∙ h.are_closed p lt in
     let none = stopped (i p) (h.bodies p) e in
-    subst (λ l. IsFull l) none.0 (todo_full first others text h.bodies t h.ends)
+    subst (λ l. IsFull l) none.0 (pending_full first others text h.bodies t h.ends)
 
 -- where an end is due, no item comes
 no_carry : (n p : ℕ) (x : Cell) (i : Lists Signal) → p < n → EndsFrom p n (push p (carry x) i) → ⊥
@@ -132,7 +132,7 @@ no_carry n p x i lt h =
 
 -- one message read, and the text in the end
 module _ (s : PrintState) (i : Lists Signal) (t : List ℕ) where
-  within_step : (first : Todo) (others : List Todo) → port_of first < width s.ty → (m : Signal) → Owed s.ty (first ∷ others) s.text (push (port_of first) m i) t ↔ OwesText (read_at (within first others) s m) i t
+  within_step : (first : Pending) (others : List Pending) → port_of first < width s.ty → (m : Signal) → Owed s.ty (first ∷ others) s.text (push (port_of first) m i) t ↔ OwesText (read_at (within first others) s m) i t
   within_step first others lt stop = (λ h. no_stop s.ty first others s.text i t lt h, λ h. absurd h)
   within_step first others lt (carry x) =
       let fits = is_of (kind_at (kinds_of s.ty) (port_of first)) x in
@@ -167,7 +167,7 @@ module _ (ty : Ty) (text : List ℕ) (at : ℕ) where
   moved_opening s None = refl
   moved_opening s (Some r) = refl
 
-  within_opening : (first : Todo) (others : List Todo) (m : Signal) → print_behaviour.opening (read_at (within first others) (state (within first others)) m) ≡ print_opened ty at
+  within_opening : (first : Pending) (others : List Pending) (m : Signal) → print_behaviour.opening (read_at (within first others) (state (within first others)) m) ≡ print_opened ty at
   within_opening first others stop = refl
   within_opening first others (carry x) = moved_opening (state (within first others)) (checked (is_of (kind_at (kinds_of ty) (port_of first)) x) (next first x others text))
 
@@ -179,7 +179,7 @@ module _ (ty : Ty) (text : List ℕ) (at : ℕ) where
   closing_over p k stop h = grind (arith, nat_tests)
   closing_over p k (carry x) h = refl
 
-  reads_within : (first : Todo) (others : List Todo) → port_of first < width ty → KeepsRead print_behaviour promise (state (within first others)) (port_of first)
+  reads_within : (first : Pending) (others : List Pending) → port_of first < width ty → KeepsRead print_behaviour promise (state (within first others)) (port_of first)
   reads_within first others lt =
       let s = state (within first others) in
       record {
@@ -215,12 +215,12 @@ module _ (ty : Ty) (text : List ℕ) (at : ℕ) where
   lt_of p n e = grind (arith, nat_tests)
 
   -- where a port lies beyond the edges, nothing is owed
-  never_beyond : (first : Todo) (others : List Todo) (i : Lists Signal) (t : List ℕ) → nat_lt (port_of first) (width ty) ≡ false → Owed ty (first ∷ others) text i t → ⊥
+  never_beyond : (first : Pending) (others : List Pending) (i : Lists Signal) (t : List ℕ) → nat_lt (port_of first) (width ty) ≡ false → Owed ty (first ∷ others) text i t → ⊥
   never_beyond first others i t e h =
       let le : width ty ≤ port_of first = grind (arith, nat_tests) in
-      subst (λ l. IsFull l) (h.beyond (port_of first) le) (todo_full first others text h.bodies t h.ends)
+      subst (λ l. IsFull l) (h.beyond (port_of first) le) (pending_full first others text h.bodies t h.ends)
 
-  each_within : (first : Todo) (others : List Todo) (b : Bool) → nat_lt (port_of first) (width ty) ≡ b → Keeps print_behaviour promise (state (within first others)) (cond b (Read (port_of first)) (Faulted (record { kind = Shape; at = at })))
+  each_within : (first : Pending) (others : List Pending) (b : Bool) → nat_lt (port_of first) (width ty) ≡ b → Keeps print_behaviour promise (state (within first others)) (cond b (Read (port_of first)) (Faulted (record { kind = Shape; at = at })))
   each_within first others true e = reads_within first others (lt_of (port_of first) (width ty) e)
   each_within first others false e = record { place = refl; never = λ i o h. never_beyond first others i h.0 e h.1 }
 
@@ -302,7 +302,7 @@ print_laws = promised_laws print_behaviour promise promise_laws
 one_read : (s : PrintState) (p : ℕ) (m : Signal) (i : Lists Signal) (t : List ℕ) → want_at s.step s ≡ Read p → OwesText (read_at s.step s m) i t → OwesText s (push p m i) t
 one_read s p m i t wants h = go s.step refl wants h
   where
-    go_within : (first : Todo) (others : List Todo) (b : Bool) → nat_lt (port_of first) (width s.ty) ≡ b → cond b (Read (port_of first)) (Faulted (record { kind = Shape; at = s.at })) ≡ Read p →
+    go_within : (first : Pending) (others : List Pending) (b : Bool) → nat_lt (port_of first) (width s.ty) ≡ b → cond b (Read (port_of first)) (Faulted (record { kind = Shape; at = s.at })) ≡ Read p →
         OwesText (read_at (within first others) s m) i t → OwesAt (within first others) s.ty s.text (push p m i) t
     go_within first others true e wants h =
         let same : port_of first ≡ p = cc in

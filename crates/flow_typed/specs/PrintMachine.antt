@@ -28,27 +28,27 @@ comma true = codes ","
 comma false = []
 
 -- What is still to be read of a value.
-pub data Todo : Type 0 where
+pub data Pending : Type 0 where
   -- a value of the type, on edges from this port on, printed behind a comma or not, and so many brackets closed behind it
-  whole : (behind_comma : Bool) → Ty → (port : ℕ) → (brackets : ℕ) → Todo
+  whole : (behind_comma : Bool) → Ty → (port : ℕ) → (brackets : ℕ) → Pending
   -- further elements of a sequence of such items, whose flags are at this port, and so many brackets closed behind it
-  further : Ty → (port : ℕ) → (brackets : ℕ) → Todo
+  further : Ty → (port : ℕ) → (brackets : ℕ) → Pending
 
 -- the port at which the next item comes
-abbrev pub port_of : Todo → ℕ
+abbrev pub port_of : Pending → ℕ
 port_of (whole behind ty p c) = p
 port_of (further ty p c) = p
 
 -- What is still to be read, and the text so far.
 pub record Reading : Type 0 where
-  pub todo : List Todo
+  pub pending : List Pending
   pub text : List ℕ
 
-abbrev pub reading : List Todo → List ℕ → Reading
-reading todo text = record { todo = todo; text = text }
+abbrev pub reading : List Pending → List ℕ → Reading
+reading pending text = record { pending = pending; text = text }
 
 -- where the first item of a value leads, if it is one: what comes after the value, and the text before it
-abbrev pub entered : Ty → ℕ → ℕ → Cell → List Todo → List ℕ → Option Reading
+abbrev pub entered : Ty → ℕ → ℕ → Cell → List Pending → List ℕ → Option Reading
 entered int p c (int_cell n) after before = Some (reading after (before ++ (signed_decimal n ++ closes c)))
 entered bool p c (flag true) after before = Some (reading after (before ++ (codes "true" ++ closes c)))
 entered bool p c (flag false) after before = Some (reading after (before ++ (codes "false" ++ closes c)))
@@ -59,20 +59,20 @@ entered (seq item) p c (flag true) after before = Some (reading after (before ++
 entered _ p c x after before = None
 
 -- where a flag between two elements leads
-abbrev pub continued : Ty → ℕ → ℕ → Cell → List Todo → List ℕ → Option Reading
+abbrev pub continued : Ty → ℕ → ℕ → Cell → List Pending → List ℕ → Option Reading
 continued item p c (flag false) after before = Some (reading (whole false item (p + 1) 0 ∷ further item p c ∷ after) (before ++ codes ","))
 continued item p c (flag true) after before = Some (reading after (before ++ (codes "}" ++ closes c)))
 continued item p c x after before = None
 
 -- where an item leads
-abbrev pub next : Todo → Cell → List Todo → List ℕ → Option Reading
+abbrev pub next : Pending → Cell → List Pending → List ℕ → Option Reading
 next (whole behind ty p c) x after before = entered ty p c x after (before ++ comma behind)
 next (further item p c) x after before = continued item p c x after before
 
 -- how far it is: some of the value is to be read, or the end of this input comes next, if there is such an input, or it
 -- met what it cannot go on from
 pub data Step : Type 0 where
-  within : Todo → List Todo → Step
+  within : Pending → List Pending → Step
   closing : ℕ → Step
   stuck : Step
 
@@ -91,7 +91,7 @@ abbrev pub print_opened : Ty → ℕ → PrintState
 print_opened ty at = print_state ty (within (whole false ty 0 0) []) [] at
 
 -- where nothing is left to be read, the ends are due
-abbrev pub step_of : List Todo → Step
+abbrev pub step_of : List Pending → Step
 step_of [] = closing 0
 step_of (first ∷ others) = within first others
 
@@ -108,7 +108,7 @@ want_at (closing p) s = cond (nat_lt p (width s.ty)) (Read p) Ended
 want_at stuck s = print_fault s
 
 abbrev pub moved : PrintState → Option Reading → PrintState
-moved s (Some r) = record s { step = step_of r.todo; text = r.text }
+moved s (Some r) = record s { step = step_of r.pending; text = r.text }
 moved s None = record s { step = stuck }
 
 -- an item of another kind than the port's leads nowhere

@@ -11,7 +11,7 @@ use Rattle.flow_typed.specs.Shapes.{is_a, all_are, cell_for}
 use Rattle.flow_typed.specs.Flats.{nothing, only_at, ◌⊕◌, width, spread, spread_all}
 use Rattle.flow_typed.specs.Sides.{sides_assoc, nothing_more, push_is, push_same, first_only, only_moves, spread_below}
 use Rattle.flow_typed.specs.Kinds.{both_true, and_true}
-use Rattle.flow_typed.specs.PrintMachine.{closes, comma, Todo, whole, further, port_of, Reading, reading, entered, continued, next}
+use Rattle.flow_typed.specs.PrintMachine.{closes, comma, Pending, whole, further, port_of, Reading, reading, entered, continued, next}
 
 -- what further elements put on the edges, and their flags
 abbrev pub segment : Ty → ℕ → Values → Lists Cell
@@ -26,14 +26,14 @@ abbrev pub SegmentFirst : Ty → ℕ → (Values → Lists Cell → Type 0) → 
 SegmentFirst item p P i = (vs : Values) × (rest : Lists Cell) × (all_are item vs ≡ true) × (i ≡ segment item p vs ⊕ rest) × P vs rest
 
 -- what is to be read is just this, and the text comes to be that
-abbrev pub Ends : List Todo → List ℕ → Lists Cell → List ℕ → Type 0
+abbrev pub Ends : List Pending → List ℕ → Lists Cell → List ℕ → Type 0
 Ends [] before i t = (i ≡ nothing) × (t ≡ before)
 Ends (whole behind ty p c ∷ after) before i t = ValueFirst ty p (λ said rest. Ends after ((before ++ comma behind) ++ (said ++ closes c)) rest t) i
 Ends (further item p c ∷ after) before i t = SegmentFirst item p (λ vs rest. Ends after (before ++ (further_text vs ++ (codes "}" ++ closes c))) rest t) i
 
 abbrev pub EndsAfter : Option Reading → Lists Cell → List ℕ → Type 0
 EndsAfter None i t = ⊥
-EndsAfter (Some r) i t = Ends r.todo r.text i t
+EndsAfter (Some r) i t = Ends r.pending r.text i t
 
 -- the item that is in front is that of the value
 one_forth : (p : ℕ) (y x : Cell) (i rest : Lists Cell) → push p x i ≡ only_at p (y ∷ []) ⊕ rest → (x ≡ y) × (i ≡ rest)
@@ -42,7 +42,7 @@ one_forth p y x i rest e = push_same p x y i rest (e ∙ push_is p y rest)
 one_back : (p : ℕ) (x : Cell) (i : Lists Cell) → push p x i ≡ only_at p (x ∷ []) ⊕ i
 one_back p x i = sym (push_is p x i)
 
-module _ (p c : ℕ) (after : List Todo) (before t : List ℕ) (i : Lists Cell) where
+module _ (p c : ℕ) (after : List Pending) (before t : List ℕ) (i : Lists Cell) where
   abbrev Then : List ℕ → Lists Cell → Type 0
   Then said rest = Ends after (before ++ (said ++ closes c)) rest t
 
@@ -168,8 +168,8 @@ further_is : (s a b l : List ℕ) → s ++ ((codes "," ++ a ++ b) ++ (codes "}" 
 further_is s a b l = simp (append_assoc, append-nil) refl
 
 -- the first of a pair comes first
-module _ (first second : Ty) (p c : ℕ) (after : List Todo) (before t : List ℕ) (i : Lists Cell) where
-  abbrev second_next : List Todo
+module _ (first second : Ty) (p c : ℕ) (after : List Pending) (before t : List ℕ) (i : Lists Cell) where
+  abbrev second_next : List Pending
   second_next = whole true second (p + width first) (suc c) ∷ after
 
   abbrev Pair : List ℕ → Lists Cell → Type 0
@@ -202,7 +202,7 @@ module _ (first second : Ty) (p c : ℕ) (after : List Todo) (before t : List �
             subst (λ s. Ends after s rest t) (sym (pair_text before (text a) (text b) (closes c))) g.4,
           )
 
-module _ (item : Ty) (p c : ℕ) (after : List Todo) (before t : List ℕ) (i : Lists Cell) where
+module _ (item : Ty) (p c : ℕ) (after : List Pending) (before t : List ℕ) (i : Lists Cell) where
   abbrev Seq : List ℕ → Lists Cell → Type 0
   Seq said rest = Ends after (before ++ (said ++ closes c)) rest t
 
@@ -212,7 +212,7 @@ module _ (item : Ty) (p c : ℕ) (after : List Todo) (before t : List ℕ) (i : 
   abbrev Further : Values → Lists Cell → Type 0
   Further vs rest = Ends after (before ++ (further_text vs ++ (codes "}" ++ closes c))) rest t
 
-  abbrev elements_next : List Todo
+  abbrev elements_next : List Pending
   elements_next = whole false item (p + 1) 0 ∷ further item p c ∷ after
 
   as_segment : (j : Lists Cell) → ValueFirst (seq item) p Seq j ↔ SegmentFirst item p All j
@@ -254,7 +254,7 @@ module _ (item : Ty) (p c : ℕ) (after : List Todo) (before t : List ℕ) (i : 
   further_law x = (λ h. other_item item p Further i x (λ e. absurd (cc)) (λ e. absurd (cc)) h, λ h. absurd h)
 
 -- an item in front of a value
-pub entered_law : (ty : Ty) (p c : ℕ) (after : List Todo) (before t : List ℕ) (i : Lists Cell) (x : Cell) →
+pub entered_law : (ty : Ty) (p c : ℕ) (after : List Pending) (before t : List ℕ) (i : Lists Cell) (x : Cell) →
     ValueFirst ty p (λ said rest. Ends after (before ++ (said ++ closes c)) rest t) (push p x i) ↔ EndsAfter (entered ty p c x after before) i t
 entered_law int p c after before t i x = int_law p c after before t i x
 entered_law bool p c after before t i x = bool_law p c after before t i x
@@ -266,6 +266,6 @@ entered_law (pair first second) p c after before t i x =
 entered_law (seq item) p c after before t i x = seq_law item p c after before t i x
 
 -- an item in front of what is still to be read
-pub next_law : (todo : Todo) (after : List Todo) (before t : List ℕ) (i : Lists Cell) (x : Cell) → Ends (todo ∷ after) before (push (port_of todo) x i) t ↔ EndsAfter (next todo x after before) i t
+pub next_law : (pending : Pending) (after : List Pending) (before t : List ℕ) (i : Lists Cell) (x : Cell) → Ends (pending ∷ after) before (push (port_of pending) x i) t ↔ EndsAfter (next pending x after before) i t
 next_law (whole behind ty p c) after before t i x = entered_law ty p c after (before ++ comma behind) t i x
 next_law (further item p c) after before t i x = further_law item p c after before t i x

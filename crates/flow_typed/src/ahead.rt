@@ -6,10 +6,10 @@ ghost use Rattle.flow_edges.specs.Cells.{cell_of};
 ghost use Rattle.flow_typed.specs.Places.{Fits};
 ghost use Rattle.flow_typed.specs.PrintMachine.{closes, entered, next};
 ghost use Rattle.flow_typed.specs.PrintMachine as machine;
-ghost use Rattle.flow_typed.specs.Aheads.{todo_of, stack, Leads, Finds};
+ghost use Rattle.flow_typed.specs.Aheads.{pending_of, stack, Leads, Finds};
 
+use crate::pending::{Flags, Pending, Place};
 use crate::shapes::{edge_count, is_value};
-use crate::todo::{Flags, Place, Todo};
 use flow_base::Stop;
 use flow_edges::Item;
 use snesl_values::{Datum, FaultKind, Ty, copy_ty, text_of};
@@ -18,39 +18,39 @@ use std::alloc::{AllocError, Global};
 /// What is still to be read, the next as the last, and the text so far.
 #[derive(Drop)]
 pub struct Ahead {
-    pub todo: Vec<Todo>,
+    pub pending: Vec<Pending>,
     pub text: Vec<u8>,
 }
 
 impl Ahead {
     /// Nothing to be read, and no text.
     pub fn new(alloc: Global) -> Ahead
-        ensures todo { result.todo.items ≡ [] }
+        ensures pending { result.pending.items ≡ [] }
         ensures text { result.text.items ≡ [] }
     {
         Ahead {
-            todo: Vec::new(alloc),
+            pending: Vec::new(alloc),
             text: Vec::new(alloc),
         }
     }
 
     /// What is then to be read, and what is then said, where the item is given to what is to be read next. `Shape` where
     /// it does not go on with that item.
-    pub fn after(alloc: Global, todo: &Todo, item: &Item) -> Result<Ahead, Stop>
-        ensures { Finds (next (todo_of todo.now) (cell_of item.now)) result }
+    pub fn after(alloc: Global, pending: &Pending, item: &Item) -> Result<Ahead, Stop>
+        ensures { Finds (next (pending_of pending.now) (cell_of item.now)) result }
     {
         let mut ahead = Ahead::new(alloc);
-        match todo {
-            Todo::Whole(place) => {
+        match pending {
+            Pending::Whole(place) => {
                 ahead.enter(alloc, &place.ty, place.port, place.brackets, item)?;
                 Ok(ahead)
             }
-            Todo::Second(place) => {
+            Pending::Second(place) => {
                 ahead.say(b",")?;
                 ahead.enter(alloc, &place.ty, place.port, place.brackets, item)?;
                 Ok(ahead)
             }
-            Todo::Further(flags) => match item {
+            Pending::Further(flags) => match item {
                 Item::Bool(false) => {
                     ahead.element(alloc, b",", &flags.item, flags.port, flags.brackets)?;
                     Ok(ahead)
@@ -65,17 +65,17 @@ impl Ahead {
     }
 
     // What was last is to be read next.
-    fn add(&mut self, todo: Todo) -> Result<(), AllocError>
-        ensures todo { OnOk result (self.new.todo.items ≡ self.old.todo.items ++ todo ∷ []) }
+    fn add(&mut self, pending: Pending) -> Result<(), AllocError>
+        ensures pending { OnOk result (self.new.pending.items ≡ self.old.pending.items ++ pending ∷ []) }
         ensures text { self.new.text.items ≡ self.old.text.items }
     {
-        self.todo.push(todo)?;
+        self.pending.push(pending)?;
         Ok(())
     }
 
     fn say(&mut self, bytes: &[u8]) -> Result<(), AllocError>
         ensures text { OnOk result (self.new.text.items ≡ self.old.text.items ++ bytes.now) }
-        ensures todo { self.new.todo.items ≡ self.old.todo.items }
+        ensures pending { self.new.pending.items ≡ self.old.pending.items }
     {
         self.text.extend_from_slice(bytes)
     }
@@ -83,7 +83,7 @@ impl Ahead {
     // The last text of a value, and the brackets closed behind it.
     fn finish(&mut self, bytes: &[u8], brackets: usize) -> Result<(), AllocError>
         ensures text { OnOk result (self.new.text.items ≡ self.old.text.items ++ (bytes.now ++ closes brackets)) }
-        ensures todo { self.new.todo.items ≡ self.old.todo.items }
+        ensures pending { self.new.pending.items ≡ self.old.pending.items }
     {
         self.text.extend_from_slice(bytes)?;
         for _ in 0..brackets {
@@ -103,7 +103,7 @@ impl Ahead {
     ) -> Result<(), AllocError>
         requires { Fits (seq (ty_of item.now)) port brackets }
         ensures text { OnOk result (self.new.text.items ≡ self.old.text.items ++ bytes.now) }
-        ensures todo { OnOk result ((after : List machine.Todo) → stack self.new.todo.items after ≡ machine.whole false (ty_of item.now) (port + 1) 0 ∷ machine.further (ty_of item.now) port brackets ∷ stack self.old.todo.items after) }
+        ensures pending { OnOk result ((after : List machine.Pending) → stack self.new.pending.items after ≡ machine.whole false (ty_of item.now) (port + 1) 0 ∷ machine.further (ty_of item.now) port brackets ∷ stack self.old.pending.items after) }
     {
         self.say(bytes)?;
         let further = Flags {
@@ -111,13 +111,13 @@ impl Ahead {
             port,
             brackets,
         };
-        self.add(Todo::Further(further))?;
+        self.add(Pending::Further(further))?;
         let element = Place {
             ty: copy_ty(alloc, item)?,
             port: port + 1,
             brackets: 0,
         };
-        self.add(Todo::Whole(element))
+        self.add(Pending::Whole(element))
     }
 
     // The first item of a value: what is then to be read of it, and the text before that. `Shape` where no value of the
@@ -162,7 +162,7 @@ impl Ahead {
                     port: port + edge_count(first),
                     brackets: brackets + 1,
                 };
-                self.add(Todo::Second(place))?;
+                self.add(Pending::Second(place))?;
                 self.enter(alloc, first, port, 0, item)
             }
             (Ty::Seq(element), Item::Bool(false)) => {

@@ -7,10 +7,10 @@
 mod ahead;
 mod dues;
 mod index;
+mod pending;
 mod print;
 mod seq;
 mod shapes;
-mod todo;
 mod vectors;
 
 pub use index::Index;

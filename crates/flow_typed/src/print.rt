@@ -10,8 +10,8 @@ ghost use Rattle.flow_typed.specs.Aheads.{stack, found, Reaches};
 ghost use Rattle.flow_typed.specs.PrintLaws.{PrintsText};
 
 use crate::ahead::Ahead;
+use crate::pending::{Pending, Place};
 use crate::shapes::kinds;
-use crate::todo::{Place, Todo};
 use flow_base::{Stop, Transducer};
 use flow_edges::{Item, Kind, Msg};
 use kahn::Want;
@@ -31,7 +31,7 @@ pub struct Print {
     ty: Ty,
     kinds: Vec<Kind>,
     // What is still to be read, the next as the last.
-    todo: Vec<Todo>,
+    pending: Vec<Pending>,
     text: Vec<u8>,
     // Where nothing is still to be read, the end of this input comes next, if there is one.
     closing: usize,
@@ -47,18 +47,18 @@ impl Print {
         ensures { IfOk result (λ print. ⟦<Print as Transducer>⟧.state print ≡ print_opened (ty_of ty) at) }
     {
         let kinds = kinds(alloc, &ty)?;
-        let mut todo = Vec::new(alloc);
+        let mut pending = Vec::new(alloc);
         let place = Place {
             ty: copy_ty(alloc, &ty)?,
             port: 0,
             brackets: 0,
         };
-        todo.push(Todo::Whole(place))?;
+        pending.push(Pending::Whole(place))?;
         Ok(Print {
             alloc,
             ty,
             kinds,
-            todo,
+            pending,
             text: Vec::new(alloc),
             closing: 0,
             stuck: false,
@@ -83,12 +83,12 @@ impl Print {
     // What comes in place of what is to be read next, where this is its next item. `Shape` where it is not.
     fn ahead(&self, item: &Item) -> Result<Ahead, Stop>
         requires { self.now.stuck ≡ false }
-        ensures { let state = ⟦<Print as Transducer>⟧.state self.now in Reaches (found state.step state (cell_of item.now)) self.now.todo.items self.now.text.items result }
+        ensures { let state = ⟦<Print as Transducer>⟧.state self.now in Reaches (found state.step state (cell_of item.now)) self.now.pending.items self.now.text.items result }
     {
-        match self.todo.last() {
-            Some(todo) => {
-                if self.kind_in(todo.port()).fits(item) {
-                    Ahead::after(self.alloc, todo, item)
+        match self.pending.last() {
+            Some(pending) => {
+                if self.kind_in(pending.port()).fits(item) {
+                    Ahead::after(self.alloc, pending, item)
                 } else {
                     Err(Stop::Faulted(FaultKind::Shape))
                 }
@@ -100,14 +100,14 @@ impl Print {
     // What was to be read next is done, and this comes in its place.
     fn advance(&mut self, ahead: Ahead) -> Result<(), AllocError>
         requires { self.old.stuck ≡ false }
-        ensures ok { OnOk result ((rest : List Todo) (first : Todo) → self.old.todo.items ≡ rest ++ first ∷ [] → ⟦<Print as Transducer>⟧.state self.new ≡ moved (⟦<Print as Transducer>⟧.state self.old) (Some (reading (stack ahead.todo.items (stack rest [])) (self.old.text.items ++ ahead.text.items)))) }
+        ensures ok { OnOk result ((rest : List Pending) (first : Pending) → self.old.pending.items ≡ rest ++ first ∷ [] → ⟦<Print as Transducer>⟧.state self.new ≡ moved (⟦<Print as Transducer>⟧.state self.old) (Some (reading (stack ahead.pending.items (stack rest [])) (self.old.text.items ++ ahead.text.items)))) }
         ensures err { OnErr result (⟦<Print as Transducer>⟧.state self.new ≡ ⟦<Print as Transducer>⟧.state self.old) }
     {
-        let mut todo = ahead.todo;
-        self.todo.reserve(todo.len())?;
+        let mut pending = ahead.pending;
+        self.pending.reserve(pending.len())?;
         self.text.extend_from_slice(&ahead.text)?;
-        self.todo.pop();
-        self.todo.append(&mut todo)?;
+        self.pending.pop();
+        self.pending.append(&mut pending)?;
         self.closing = 0;
         Ok(())
     }
@@ -129,7 +129,7 @@ impl Transducer for Print {
 
     ghost State = { PrintState };
 
-    ghost state = { λ n. state_in (ty_of n.ty) n.todo.items n.text.items n.closing n.stuck n.at };
+    ghost state = { λ n. state_in (ty_of n.ty) n.pending.items n.text.items n.closing n.stuck n.at };
 
     ghost behaviour = { print_behaviour };
 
@@ -139,9 +139,9 @@ impl Transducer for Print {
         if self.stuck {
             return self.fault();
         }
-        match self.todo.last() {
-            Some(todo) => {
-                let port = todo.port();
+        match self.pending.last() {
+            Some(pending) => {
+                let port = pending.port();
                 if port < self.kinds.len() {
                     Want::Read(port)
                 } else {
@@ -188,7 +188,7 @@ impl Transducer for Print {
                 Err(Stop::OutOfMemory) => Err(AllocError),
             },
             Msg::End => {
-                if !self.todo.is_empty() {
+                if !self.pending.is_empty() {
                     self.stuck = true;
                     return Ok(());
                 }

@@ -31,10 +31,10 @@ returns-in_ok-add-in-Pair-default t c =
     let one : c.args.brackets + 1 ≡ suc c.args.brackets = omega arith in
     let there : Leads (entered first c.args.port 0 x) c.enter.result c.add.new.self c.enter.new.self = subst (λ ty. Leads (entered (ty_of ty) c.args.port 0 x) c.enter.result c.add.new.self c.enter.new.self) c.deref-in-Pair-default-3.ensures c.enter.ensures in
     subst (λ ty. Leads (entered (ty_of ty) c.args.port c.args.brackets x) c.enter.result c.args.self.now c.enter.new.self) (sym c.in-Pair-default.is-0)
-    (leads_pair first second c.args.port c.args.brackets x c.args.self.now c.add.new.self c.enter.new.self c.say.new.self.todo.items _
+    (leads_pair first second c.args.port c.args.brackets x c.args.self.now c.add.new.self c.enter.new.self c.say.new.self.pending.items _
     (c.add.ensures.text ∙ c.in_ok-say-in-Pair-default.ensures.text)
-    c.say.ensures.todo
-    c.in_ok-add-in-Pair-default.ensures.todo
+    c.say.ensures.pending
+    c.in_ok-add-in-Pair-default.ensures.pending
     (ap (λ s. whole true s (c.args.port + c.edge_count.result) (c.args.brackets + 1)) copy ∙ ap (λ n. whole true second (c.args.port + n) (c.args.brackets + 1)) count ∙ ap (whole true second (c.args.port + width first)) one)
     c.enter.result
     there)

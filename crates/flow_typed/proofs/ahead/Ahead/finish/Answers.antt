@@ -10,5 +10,5 @@ loop-preserved c = record {
       ∙ ap (λ l. l ++ codes ")") c.loop.invariant.text
       ∙ append_assoc c.args.self.now.text.items (c.args.bytes.now ++ closes c.loop.counter) (codes ")")
       ∙ ap (λ l. c.args.self.now.text.items ++ l) (append_assoc c.args.bytes.now (closes c.loop.counter) (codes ")") ∙ ap (λ l. c.args.bytes.now ++ l) (sym (closes-more c.loop.counter)));
-  todo = c.loop.invariant.todo;
+  pending = c.loop.invariant.pending;
 }

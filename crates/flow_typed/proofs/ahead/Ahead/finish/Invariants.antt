@@ -5,5 +5,5 @@ use Rattle.flow_typed.proofs.ahead.Ahead.finish.Given as goal
 abbrev pub invariant-loop : goal.invariant-loop
 invariant-loop l = record {
   text : l.self.text.items ≡ l.fn.self.text.items ++ (l.bytes ++ closes l.counter);
-  todo : l.self.todo.items ≡ l.fn.self.todo.items;
+  pending : l.self.pending.items ≡ l.fn.self.pending.items;
 }

@@ -25,7 +25,7 @@ pub struct Flags {
 
 /// What is still to be read of a value.
 #[derive(Drop)]
-pub enum Todo {
+pub enum Pending {
     /// A value.
     Whole(Place),
     /// A value behind a comma.
@@ -34,18 +34,18 @@ pub enum Todo {
     Further(Flags),
 }
 
-impl Todo {
+impl Pending {
     ghost use Rattle.std.specs.Prelude.{◌≡◌};
     ghost use Rattle.flow_typed.specs.PrintMachine.{port_of};
-    ghost use Rattle.flow_typed.specs.Aheads.{todo_of};
+    ghost use Rattle.flow_typed.specs.Aheads.{pending_of};
 
     /// The port at which the next item comes.
     pub fn port(&self) -> usize
-        ensures { result ≡ port_of (todo_of self.now) }
+        ensures { result ≡ port_of (pending_of self.now) }
     {
         match self {
-            Todo::Whole(place) | Todo::Second(place) => place.port,
-            Todo::Further(flags) => flags.port,
+            Pending::Whole(place) | Pending::Second(place) => place.port,
+            Pending::Further(flags) => flags.port,
         }
     }
 }
