@@ -31,6 +31,7 @@ by_variant f (nodes.PackGroups n) = f (nodes.PackGroups n)
 by_variant f (nodes.Interleave n) = f (nodes.Interleave n)
 by_variant f (nodes.InterleaveGroups n) = f (nodes.InterleaveGroups n)
 by_variant f (nodes.Print n) = f (nodes.Print n)
+by_variant f (nodes.Tab n) = f (nodes.Tab n)
 by_variant f (nodes.Seq n) = f (nodes.Seq n)
 by_variant f (nodes.Index n) = f (nodes.Index n)
 

@@ -67,10 +67,14 @@ use Rattle.flow_segment.specs.declared.interleave_groups.InterleaveGroups.{Inter
 use Rattle.flow_segment.specs.InterleaveGroupsMachine.{groups_machine}
 use Rattle.flow_segment.specs.InterleaveGroupsLaws.{groups_laws, groups_rows}
 use Rattle.snesl_values.specs.Types.{ty_of}
+use Rattle.snesl_values.specs.Values.{value_of}
+use Rattle.flow_edges.specs.Cells.{cell_of}
 use Rattle.flow_typed.specs.PrintMachine.{PrintState, print_behaviour}
 use Rattle.flow_typed.specs.PrintLaws.{print_laws}
 use Rattle.flow_typed.specs.Aheads.{state_in}
 use Rattle.flow_typed.specs.Dues.{due_cell}
+use Rattle.flow_typed.specs.TabMachine.{TabState, tab_state, step_in as step_of_tab, tab_machine}
+use Rattle.flow_typed.specs.TabLaws.{tab_laws, tab_rows}
 use Rattle.flow_typed.specs.SeqMachine.{SeqState, seq_state, seq_machine}
 use Rattle.flow_typed.specs.SeqLaws.{seq_laws, seq_rows}
 use Rattle.flow_typed.specs.IndexMachine.{IndexState, index_state, step_of as step_of_index, index_machine}
@@ -103,6 +107,7 @@ pub data NodeKind : Type 0 where
   an_interleave : NodeKind
   an_interleave_groups : NodeKind
   a_print : NodeKind
+  a_tab : NodeKind
   a_seq_of_vector : NodeKind
   an_index : NodeKind
 
@@ -131,6 +136,7 @@ StateOf a_pack_groups = NodeState PackGroups
 StateOf an_interleave = NodeState InterleaveState
 StateOf an_interleave_groups = NodeState InterleaveGroups
 StateOf a_print = PrintState
+StateOf a_tab = NodeState TabState
 StateOf a_seq_of_vector = NodeState SeqState
 StateOf an_index = NodeState IndexState
 
@@ -159,6 +165,7 @@ behaviour_of_kind a_pack_groups = behaviour_of pack_groups_machine
 behaviour_of_kind an_interleave = behaviour_of interleave_machine
 behaviour_of_kind an_interleave_groups = behaviour_of groups_machine
 behaviour_of_kind a_print = print_behaviour
+behaviour_of_kind a_tab = behaviour_of tab_machine
 behaviour_of_kind a_seq_of_vector = behaviour_of seq_machine
 behaviour_of_kind an_index = behaviour_of index_machine
 
@@ -186,6 +193,7 @@ laws_of_kind a_pack_groups = behaviour_laws pack_groups_machine pack_groups_laws
 laws_of_kind an_interleave = behaviour_laws interleave_machine interleave_laws interleave_rows
 laws_of_kind an_interleave_groups = behaviour_laws groups_machine groups_laws groups_rows
 laws_of_kind a_print = print_laws
+laws_of_kind a_tab = behaviour_laws tab_machine tab_laws tab_rows
 laws_of_kind a_seq_of_vector = behaviour_laws seq_machine seq_laws seq_rows
 laws_of_kind an_index = behaviour_laws index_machine index_laws index_rows
 
@@ -218,6 +226,7 @@ state_of (nodes.PackGroups n) = (a_pack_groups, node_state n.worker n.phase n.at
 state_of (nodes.Interleave n) = (an_interleave, node_state (interleave_state n.worker.kind (step_of_interleave n.worker.turn)) n.phase n.at)
 state_of (nodes.InterleaveGroups n) = (an_interleave_groups, node_state n.worker n.phase n.at)
 state_of (nodes.Print n) = (a_print, state_in (ty_of n.ty) n.pending.items n.text.items n.closing n.stuck n.at)
+state_of (nodes.Tab n) = (a_tab, node_state (tab_state (ty_of n.worker.element) (step_of_tab n.worker.stage (map value_of n.worker.elements.items) (map cell_of n.worker.items.items))) n.phase n.at)
 state_of (nodes.Seq n) = (a_seq_of_vector, node_state (seq_state (ty_of n.worker.element) (map due_cell n.worker.dues.items)) n.phase n.at)
 state_of (nodes.Index n) = (an_index, node_state (index_state (ty_of n.worker.element) (step_of_index n.worker.stage)) n.phase n.at)
 

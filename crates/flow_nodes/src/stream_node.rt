@@ -12,7 +12,7 @@ use flow_segment::{
     AppendFlags, ConcatFlags, Dist, FlagOfBool, Interleave, InterleaveGroups, Pack, PackGroups,
     PartFlags, SameFlags, TheCheck,
 };
-use flow_typed::{Index, Print, Seq};
+use flow_typed::{Index, Print, Seq, Tab};
 use kahn::Want;
 use std::alloc::AllocError;
 
@@ -42,6 +42,7 @@ pub enum StreamNode {
     Interleave(Node<Interleave>),
     InterleaveGroups(Node<InterleaveGroups>),
     Print(Print),
+    Tab(Node<Tab>),
     Seq(Node<Seq>),
     Index(Node<Index>),
 }
@@ -73,6 +74,7 @@ macro_rules! with_node {
             StreamNode::Interleave($node) => $result,
             StreamNode::InterleaveGroups($node) => $result,
             StreamNode::Print($node) => $result,
+            StreamNode::Tab($node) => $result,
             StreamNode::Seq($node) => $result,
             StreamNode::Index($node) => $result,
         }

@@ -16,3 +16,7 @@ pub mod SeqMachine
 pub mod SeqLaws
 pub mod IndexMachine
 pub mod IndexLaws
+pub mod Parts
+pub mod TabMachine
+pub mod TabSteps
+pub mod TabLaws

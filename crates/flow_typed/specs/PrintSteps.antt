@@ -97,11 +97,11 @@ module _ (p c : ℕ) (after : List Pending) (before t : List ℕ) (i : Lists Cel
       back _ h = absurd h
 
 -- no elements, and their flag
-none_is : (item : Ty) (p : ℕ) (rest : Lists Cell) → segment item p no_values ⊕ rest ≡ push p T rest
+pub none_is : (item : Ty) (p : ℕ) (rest : Lists Cell) → segment item p no_values ⊕ rest ≡ push p T rest
 none_is item p rest = ap (λ l. l ⊕ rest) (nothing_more (only_at p (T ∷ []))) ∙ push_is p T rest
 
 -- a first element, behind its flag
-more_is : (item : Ty) (p : ℕ) (e : Value) (es : Values) (rest : Lists Cell) → segment item p (more_values e es) ⊕ rest ≡ push p F (spread item (p + 1) e ⊕ (segment item p es ⊕ rest))
+pub more_is : (item : Ty) (p : ℕ) (e : Value) (es : Values) (rest : Lists Cell) → segment item p (more_values e es) ⊕ rest ≡ push p F (spread item (p + 1) e ⊕ (segment item p es ⊕ rest))
 more_is item p e es rest =
     let one = spread item (p + 1) e in
     let others = spread_all item (p + 1) (list_of es) in

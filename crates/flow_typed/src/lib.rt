@@ -11,9 +11,11 @@ mod pending;
 mod print;
 mod seq;
 mod shapes;
+mod tab;
 mod vectors;
 
 pub use index::Index;
 pub use print::{Print, prints_text};
 pub use seq::Seq;
 pub use shapes::{is_value, kinds};
+pub use tab::Tab;

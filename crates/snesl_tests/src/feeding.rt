@@ -9,8 +9,8 @@ use std::alloc::{AllocError, Global};
 use std::process::Abort;
 use std::test::Fail;
 
-// The message that a word stands for.
-fn message(alloc: Global, word: &str) -> Result<Msg, AllocError> {
+/// The message that a word stands for.
+pub fn message(alloc: Global, word: &str) -> Result<Msg, AllocError> {
     Ok(Msg::Item(match word {
         "." => return Ok(Msg::End),
         "u" => Item::Unit,

@@ -33,4 +33,6 @@ pub mod stopping;
 #[cfg(test)]
 mod streams;
 #[cfg(test)]
+mod tab_node;
+#[cfg(test)]
 mod typed_nodes;
