@@ -1,6 +1,7 @@
 // What an edge carries.
 ghost use Rattle.std.specs.Prelude.{◌≡◌, false, IfOk, IsOk};
-ghost use Rattle.flow_edges.specs.Cells.{cell_of, is_of};
+ghost use Rattle.snesl_values.specs.Values.{value_of};
+ghost use Rattle.flow_edges.specs.Cells.{cell_of, datum as datum_cell, is_of};
 ghost use Rattle.flow_edges.specs.Signals.{signal_of, is_stop};
 
 use snesl_values::{Datum, copy_datum};
@@ -34,13 +35,22 @@ impl Kind {
     }
 }
 
-/// One item of a stream. Each variant is of the `Kind` of its name.
+/// One item of a stream. Each variant is of the `Kind` of its name. A vector lies in a box, so that all items are small.
 #[derive(Debug, Drop)]
 pub enum Item {
     Unit,
     Bool(bool),
     Int(i64),
-    Vec(Datum),
+    Vec(Box<Datum>),
+}
+
+impl Item {
+    /// An item that carries this value. Its only error is that memory was refused.
+    pub fn of_datum(alloc: Global, datum: Datum) -> Result<Item, AllocError>
+        ensures { IfOk result (λ item. cell_of item ≡ datum_cell (value_of datum)) }
+    {
+        Ok(Item::Vec(Box::new(alloc, datum)?))
+    }
 }
 
 impl Item {
@@ -53,7 +63,7 @@ impl Item {
             Item::Unit => Ok(Item::Unit),
             Item::Bool(truth) => Ok(Item::Bool(*truth)),
             Item::Int(number) => Ok(Item::Int(*number)),
-            Item::Vec(datum) => Ok(Item::Vec(copy_datum(alloc, datum)?)),
+            Item::Vec(datum) => Item::of_datum(alloc, copy_datum(alloc, datum)?),
         }
     }
 }

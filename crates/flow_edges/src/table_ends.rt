@@ -72,6 +72,10 @@ impl WholeEnds for Table {
         self.capacity
     }
 
+    fn held(&self, edge: usize) -> usize {
+        self.lines[edge].queue.len()
+    }
+
     ghost whole = { whole_table };
 
     ghost same_capacity = { λ a b same. same };

@@ -4,7 +4,7 @@ use crate::ends::Ends;
 /// Both ends of each edge. What was sent and not received is then what the edge holds, and both
 /// `room` and `ready` are exact.
 pub trait WholeEnds: Ends {
-    ghost use Rattle.std.specs.Prelude.{◌≡◌, ℕ};
+    ghost use Rattle.std.specs.Prelude.{◌≡◌, ℕ, true};
     ghost use Rattle.flow_edges.specs.Whole.{IsWhole};
 
     /// How many messages each edge holds at most.
@@ -13,6 +13,11 @@ pub trait WholeEnds: Ends {
     /// How many messages each edge holds at most.
     fn capacity(&self) -> usize
         ensures { result ≡ capacity self.now };
+
+    /// How many messages the edge holds.
+    fn held(&self, edge: usize) -> usize
+        requires { (Self.view self.now).reads edge ≡ true }
+        ensures { result ≡ (Self.view self.now).held edge };
 
     ghost whole: { (a : Self) → IsWhole (capacity a) (Self.view a) };
 

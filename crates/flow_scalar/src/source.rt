@@ -60,7 +60,7 @@ impl Stream {
                 None => None,
             }),
             Stream::Vectors(all) => match all.get(index) {
-                Some(datum) => Ok(Some(Item::Vec(copy_datum(alloc, datum)?))),
+                Some(datum) => Ok(Some(Item::of_datum(alloc, copy_datum(alloc, datum)?)?)),
                 None => Ok(None),
             },
         }

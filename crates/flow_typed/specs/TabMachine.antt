@@ -164,9 +164,10 @@ tab_fits (at_flag es) = AllInRange (values_of es)
 tab_fits (at_item es got) = AllInRange (values_of es) × CellsInRange got
 tab_fits (at_end es) = AllInRange (values_of es)
 
--- the items of an element are kept in memory, and its value
+-- the items of an element are kept in memory, and its value; the vector lies in a box
 abbrev pub tab_takes_memory : Step → Bool
 tab_takes_memory (at_item es got) = true
+tab_takes_memory (at_end es) = true
 tab_takes_memory _ = false
 
 abbrev pub tab_machine : Machine TabState

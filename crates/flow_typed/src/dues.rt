@@ -56,8 +56,8 @@ pub fn add_value(
         (Ty::Int, Datum::Int(number)) => add(dues, port, Item::Int(*number)),
         (Ty::Bool, Datum::Bool(truth)) => add(dues, port, Item::Bool(*truth)),
         (Ty::Vec(_), Datum::Vec(_)) => {
-            let copy = copy_datum(alloc, datum)?;
-            add(dues, port, Item::Vec(copy))
+            let copy = Item::of_datum(alloc, copy_datum(alloc, datum)?)?;
+            add(dues, port, copy)
         }
         (Ty::Pair(first, second), Datum::Pair(a, b)) => {
             add_value(alloc, dues, first, port, a)?;

@@ -11,7 +11,7 @@ ghost use Rattle.flow_typed.specs.PrintLaws.{PrintsText};
 
 use crate::ahead::Ahead;
 use crate::pending::{Pending, Place};
-use crate::shapes::kinds;
+use crate::shapes::{kind_at, kinds};
 use flow_base::{Stop, Transducer};
 use flow_edges::{Item, Kind, Msg};
 use kahn::Want;
@@ -167,10 +167,7 @@ impl Transducer for Print {
     }
 
     fn kind_in(&self, port: usize) -> Kind {
-        match self.kinds.get(port) {
-            Some(kind) => *kind,
-            None => Kind::Unit,
-        }
+        kind_at(&self.kinds, port)
     }
 
     fn kind_out(&self, _port: usize) -> Kind {

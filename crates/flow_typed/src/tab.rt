@@ -173,7 +173,7 @@ fn build(alloc: Global, ty: &Ty, items: &mut VecDeque<Item>) -> Result<Datum, St
         Ty::Vec(_) => match items.pop_front() {
             Some(Item::Vec(datum)) => {
                 if is_value(ty, &datum) {
-                    Ok(datum)
+                    Ok(Box::into_inner(datum))
                 } else {
                     Err(Stop::Faulted(FaultKind::Shape))
                 }
@@ -251,9 +251,12 @@ impl Worker for Tab {
     fn give(&mut self) -> Result<Item, AllocError> {
         match self.stage {
             Stage::End => {
+                // The box is asked for first, so that nothing has changed where it is refused.
+                let mut vector = Box::new(self.alloc, Datum::Vec(Vec::new(self.alloc)))?;
                 let elements = mem::replace(&mut self.elements, Vec::new(self.alloc));
+                *vector = Datum::Vec(elements);
                 self.stage = Stage::Start;
-                Ok(Item::Vec(Datum::Vec(elements)))
+                Ok(Item::Vec(vector))
             }
             _ => unreachable!(),
         }

@@ -17,14 +17,15 @@ pub fn vector_in(element: &Ty, item: Item) -> Result<Vec<Datum>, FaultKind>
     ensures kind { IfErr result (λ kind. kind ≡ FaultKind.Shape) }
     ensures none { OnErr result ((vs : Values) → cell_of item ≡ datum (a_vec vs) → all_are (ty_of element.now) vs ≡ false) }
 {
-    match item {
-        Item::Vec(Datum::Vec(all)) => {
-            if are_values(element, &all) {
-                Ok(all)
-            } else {
-                Err(FaultKind::Shape)
-            }
-        }
-        _ => Err(FaultKind::Shape),
+    let Item::Vec(vector) = item else {
+        return Err(FaultKind::Shape);
+    };
+    let Datum::Vec(all) = Box::into_inner(vector) else {
+        return Err(FaultKind::Shape);
+    };
+    if are_values(element, &all) {
+        Ok(all)
+    } else {
+        Err(FaultKind::Shape)
     }
 }

@@ -19,9 +19,9 @@ pub fn message(alloc: Global, word: &str) -> Result<Msg, AllocError> {
         "v" => {
             let mut items = Vec::new(alloc);
             items.push(Datum::Int(1))?;
-            Item::Vec(Datum::Vec(items))
+            Item::of_datum(alloc, Datum::Vec(items))?
         }
-        "e" => Item::Vec(Datum::Vec(Vec::new(alloc))),
+        "e" => Item::of_datum(alloc, Datum::Vec(Vec::new(alloc)))?,
         _ => Item::Int(word.parse::<i64>().unwrap_or(0)),
     }))
 }

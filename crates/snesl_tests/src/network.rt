@@ -24,6 +24,12 @@ fn looks(rt: &impl Abort, table: &mut Table) -> (bool, bool) {
     (table.room(0), is_ready(rt, table))
 }
 
+// How many messages the first edge holds.
+fn held(rt: &impl Abort, table: &Table) -> usize {
+    assert!(rt; table.has_reader(0));
+    table.held(0)
+}
+
 fn is_ready(rt: &impl Abort, table: &mut Table) -> bool {
     assert!(rt; table.has_reader(0));
     table.ready(0)
@@ -41,6 +47,7 @@ fn an_edge_of_two(rt: HostRuntime) -> Result<(), Fail> {
     assert_eq!(rt; looks(&rt, &mut table), (true, true));
     assert!(rt; put(&rt, &mut table, Msg::Item(Item::Int(2))).is_ok());
     assert_eq!(rt; looks(&rt, &mut table), (false, true));
+    assert_eq!(rt; held(&rt, &table), 2);
     match put(&rt, &mut table, Msg::Item(Item::Int(3))) {
         Ok(()) => assert!(rt; false, "a put into a full edge"),
         Err(refused) => {
@@ -51,6 +58,7 @@ fn an_edge_of_two(rt: HostRuntime) -> Result<(), Fail> {
     assert!(rt; matches!(take(&rt, &mut table), Some(Msg::Item(Item::Int(1)))));
     assert!(rt; matches!(take(&rt, &mut table), Some(Msg::Item(Item::Int(2)))));
     assert!(rt; take(&rt, &mut table).is_none());
+    assert_eq!(rt; held(&rt, &table), 0);
     Ok(())
 }
 
@@ -69,11 +77,12 @@ fn an_edge_that_ends(rt: HostRuntime) -> Result<(), Fail> {
 
 #[test]
 fn items(rt: HostRuntime) -> Result<(), Fail> {
+    let vector = Item::of_datum(rt.alloc(), Datum::Vec(Vec::new(rt.alloc())))?;
     let items = [
         (Kind::Unit, Item::Unit),
         (Kind::Bool, Item::Bool(true)),
         (Kind::Int, Item::Int(-7)),
-        (Kind::Vec, Item::Vec(Datum::Vec(Vec::new(rt.alloc())))),
+        (Kind::Vec, vector),
     ];
     for (kind, item) in &items {
         let copy = item.copy(rt.alloc())?;

@@ -36,7 +36,7 @@ fn pairs(alloc: Global) -> Result<Item, AllocError> {
     let inner = vector(alloc, Datum::Int(4), Datum::Int(5))?;
     let first = pair(alloc, Datum::Int(1), inner)?;
     let second = pair(alloc, Datum::Int(2), empty(alloc))?;
-    Ok(Item::Vec(vector(alloc, first, second)?))
+    Item::of_datum(alloc, vector(alloc, first, second)?)
 }
 
 // The type of those pairs.
@@ -109,8 +109,9 @@ fn sequences(rt: HostRuntime) -> Result<(), Fail> {
     let alloc = rt.alloc();
     let mut seq = Node::new(Seq::new(alloc, Ty::Int)?, 7);
     let mut items = Vec::new(alloc);
-    items.push(Item::Vec(vector(alloc, Datum::Int(8), Datum::Int(-9))?))?;
-    items.push(Item::Vec(empty(alloc)))?;
+    let numbers = vector(alloc, Datum::Int(8), Datum::Int(-9))?;
+    items.push(Item::of_datum(alloc, numbers)?)?;
+    items.push(Item::of_datum(alloc, empty(alloc))?)?;
     let outs = ["F F T T .", "8 -9 ."];
     assert_writes(&rt, alloc, &mut seq, items, &outs, Want::Ended)?;
 
@@ -123,7 +124,8 @@ fn sequences(rt: HostRuntime) -> Result<(), Fail> {
     // Booleans where integers are due, and an integer where a vector is due.
     let mut seq = Node::new(Seq::new(alloc, Ty::Int)?, 7);
     let mut items = Vec::new(alloc);
-    items.push(Item::Vec(vector(alloc, Datum::Int(1), Datum::Bool(true))?))?;
+    let mixed = vector(alloc, Datum::Int(1), Datum::Bool(true))?;
+    items.push(Item::of_datum(alloc, mixed)?)?;
     let shape = fault(FaultKind::Shape);
     assert_writes(&rt, alloc, &mut seq, items, &["", ""], shape)?;
     let mut seq = Node::new(Seq::new(alloc, Ty::Int)?, 7);

@@ -9,14 +9,12 @@ use Rattle.flow_typed.proofs.vectors.vector_in.Goals as goal
 
 pub returns-then-are_values-clause-vector : goal.returns-then-are_values-clause-vector
 returns-then-are_values-clause-vector c =
-    ap cell_of c.in-Vec-Vec.is ∙ ap (λ d. datum (value_of d)) c.in-Vec-Vec.field-0-is ∙ ap datum (value_of-Vec c.in-Vec-Vec.all)
-    ∙ sym (ap (λ v. datum (a_vec (values_of (map value_of v.items)))) c.in-Vec-Vec.all-is)
+    ap cell_of c.in-Vec.is ∙ ap (λ d. datum (value_of d)) (sym c.in-Vec-into_inner.ensures) ∙ ap datum (value_of-Vec c.in-Vec-into_inner.all)
 
-pub returns-in-Vec-Vec-clause-none : goal.returns-in-Vec-Vec-clause-none
-returns-in-Vec-Vec-clause-none c vs e =
+pub returns-else-are_values-clause-none : goal.returns-else-are_values-clause-none
+returns-else-are_values-clause-none c vs e =
     let item = ty_of c.args.element.now in
-    let all = values_of (map value_of c.in-Vec-Vec.all.items) in
-    let is : cell_of c.args.item ≡ datum (a_vec all) = ap cell_of c.in-Vec-Vec.is ∙ ap (λ d. datum (value_of d)) c.in-Vec-Vec.field-0-is ∙ ap datum (value_of-Vec c.in-Vec-Vec.all) in
-    let not : all_are item all ≡ false =
-    sym (c.if-are_values.ensures ∙ ap (λ l. all_are item (values_of (map value_of l))) c.deref.ensures.value ∙ ap (λ v. all_are item (values_of (map value_of v.items))) c.in-Vec-Vec.all-is) in
+    let all = values_of (map value_of c.in-Vec-into_inner.all.items) in
+    let is : cell_of c.args.item ≡ datum (a_vec all) = ap cell_of c.in-Vec.is ∙ ap (λ d. datum (value_of d)) (sym c.in-Vec-into_inner.ensures) ∙ ap datum (value_of-Vec c.in-Vec-into_inner.all) in
+    let not : all_are item all ≡ false = sym (c.if-are_values.ensures ∙ ap (λ l. all_are item (values_of (map value_of l))) c.deref.ensures.value) in
     same_vector item all vs (sym is ∙ e) not
