@@ -1,11 +1,13 @@
 -- Visits of the nodes of a graph.
-use Rattle.std.proofs.Common.{◌≡◌, ℕ, Bool, true, false, List, [], ◌∷◌, ◌++◌, length, Some, ◌||◌, refl, sym, ◌∙◌, subst, arith}
+use Rattle.std.proofs.Common.{◌≡◌, ℕ, Bool, true, false, List, [], ◌∷◌, ◌++◌, length, Some, ◌||◌, refl, sym, ◌∙◌, subst, nat_lt, arith}
+use Rattle.std.proofs.lemmas.Bool.Decides.{nat_tests}
 use Rattle.kahn.specs.Networks.{Network, IsWired}
 use Rattle.kahn.specs.Configurations.{Configuration, IsSound}
 use Rattle.kahn.specs.Turns.{Turn}
 use Rattle.kahn.proofs.Steps.{sound_run}
 use Rattle.flow_edges.specs.Ends.{View, SameEnds}
 use Rattle.flow_edges.specs.Signals.{Signal}
+use Rattle.flow_edges.specs.Tables.{IsFresh}
 use Rattle.flow_base.specs.Transducers.{Behaviour}
 use Rattle.flow_graph.specs.declared.edge.Edge.{Edge}
 use Rattle.flow_graph.specs.declared.step.Moved.{Moved}
@@ -20,6 +22,12 @@ same_ends_refl a = record { writes = λ k. refl; reads = λ k. refl }
 
 pub same_ends_then : (a v w : View) → SameEnds a v → SameEnds v w → SameEnds a w
 same_ends_then a v w s t = record { writes = λ k. t.writes k ∙ s.writes k; reads = λ k. t.reads k ∙ s.reads k }
+
+-- of fresh edges all ends are there
+pub fresh_all_ends : (edges : ℕ) (v : View) → IsFresh edges v → HasAllEnds edges v
+fresh_all_ends edges v fresh e low =
+    let is : nat_lt e edges ≡ true = grind (arith, nat_tests, low) in
+    (fresh.writes e ∙ is, fresh.reads e ∙ is)
 
 -- the same ends are all there
 pub all_ends_still : (edges edges' : ℕ) (a v : View) → edges' ≡ edges → SameEnds a v → HasAllEnds edges a → HasAllEnds edges' v

@@ -1,37 +1,43 @@
 // Ends that count the messages.
-ghost use Rattle.std.specs.Prelude.{◌≡◌, ◌≢◌, ℕ, ◌<◌, ◌+◌, [], length, replicate, slice_index_or, IfOk};
+ghost use Rattle.std.specs.Prelude.{◌≡◌, ◌≢◌, ℕ, ◌<◌, ◌+◌, true, [], length, replicate, slice_index_or, IfOk};
 ghost use Rattle.std.specs.Io.Iter.{u64_saturate};
 ghost use Rattle.flow_drive.specs.Counts.{AreCounts};
 
 use flow_edges::{Ends, Msg, Refused, WholeEnds};
 use std::alloc::{AllocError, Global};
 
-/// Ends of edges, and how many messages were sent on each, and received from each, as far as a `u64` can tell.
+/// Ends of edges, and how many messages were received from each, as far as a `u64` can tell.
 #[derive(Drop)]
 pub struct CountedEnds<E: Ends> {
     pub inner: E,
-    pub sent: Vec<u64>,
     pub received: Vec<u64>,
-    ghost counts_sent: { AreCounts (E.view inner).sent sent.items },
-    ghost counts_received: { AreCounts (E.view inner).received received.items },
+    ghost counts: { AreCounts (E.view inner).received received.items },
 }
 
 impl<E: Ends + Drop> CountedEnds<E> {
-    /// Counts the messages of the edges below `edges`, where none was sent so far.
+    /// Counts the messages of the edges below `edges`, where none was received so far.
     pub fn new(alloc: Global, inner: E, edges: usize) -> Result<CountedEnds<E>, AllocError>
-        requires sent { (e : ℕ) → (E.view inner).sent e ≡ [] }
-        requires received { (e : ℕ) → (E.view inner).received e ≡ [] }
+        requires { (e : ℕ) → (E.view inner).received e ≡ [] }
         ensures inner { IfOk result (λ ends. ends.inner ≡ inner) }
-        ensures sent { IfOk result (λ ends. length ends.sent.items ≡ edges) }
         ensures received { IfOk result (λ ends. length ends.received.items ≡ edges) }
     {
-        let sent = zeros(alloc, edges)?;
         let received = zeros(alloc, edges)?;
-        Ok(CountedEnds {
-            inner,
-            sent,
-            received,
-        })
+        Ok(CountedEnds { inner, received })
+    }
+}
+
+impl<E: WholeEnds> CountedEnds<E> {
+    /// How many messages were sent on the edge, and how many were received from it. A count stays at `u64::MAX`.
+    pub fn counts(&self, edge: usize) -> (u64, u64)
+        requires counted { edge < length self.now.received.items }
+        requires there { (E.view self.now.inner).reads edge ≡ true }
+        ensures sent { result.0 ≡ u64_saturate (length ((E.view self.now.inner).sent edge)) }
+        ensures received { result.1 ≡ u64_saturate (length ((E.view self.now.inner).received edge)) }
+    {
+        // What was sent was received or is held, so a put has nothing to count.
+        let received = self.received[edge];
+        let held = self.inner.held(edge) as u64;
+        (received.saturating_add(held), received)
     }
 }
 
@@ -59,9 +65,7 @@ impl<E: Ends> Ends for CountedEnds<E> {
     }
 
     fn put(&mut self, edge: usize, message: Msg) -> Result<(), Refused> {
-        self.inner.put(edge, message)?;
-        count_one(&mut self.sent, edge);
-        Ok(())
+        self.inner.put(edge, message)
     }
 
     fn take(&mut self, edge: usize) -> Option<Msg> {
@@ -80,6 +84,10 @@ impl<E: WholeEnds> WholeEnds for CountedEnds<E> {
 
     fn capacity(&self) -> usize {
         self.inner.capacity()
+    }
+
+    fn held(&self, edge: usize) -> usize {
+        self.inner.held(edge)
     }
 
     ghost whole = { λ a. E.whole a.inner };

@@ -47,7 +47,7 @@ impl<T: Transducer> Rested<T> {
         ensures sent { result.0 ≡ u64_saturate (length ((traffic_of self.now).sent edge)) }
         ensures received { result.1 ≡ u64_saturate (length ((traffic_of self.now).received edge)) }
     {
-        (self.ends.sent[edge], self.ends.received[edge])
+        self.ends.counts(edge)
     }
 
     /// How many times the ends of all edges met in the run.

@@ -2,6 +2,7 @@
 ghost use Rattle.std.specs.Prelude.{◌≡◌, length};
 ghost use Rattle.flow_edges.specs.Tables.{ends_of, capacity_of};
 ghost use Rattle.flow_graph.specs.Graphs.{states_of, edges_of};
+ghost use Rattle.flow_drive.specs.Visits.{HasAllEnds};
 ghost use Rattle.flow_drive.specs.Drives.{IsSoundAt, RestsAt};
 
 use crate::counted_ends::CountedEnds;
@@ -16,8 +17,8 @@ use flow_graph::Graph;
 pub struct Rested<T: Transducer> {
     pub(crate) graph: Graph<T>,
     pub(crate) ends: CountedEnds<Table>,
-    ghost counted_sent: { length ends.sent.items ≡ length (edges_of graph) },
-    ghost counted_received: { length ends.received.items ≡ length (edges_of graph) },
+    ghost counted: { length ends.received.items ≡ length (edges_of graph) },
+    ghost there: { HasAllEnds (length (edges_of graph)) (ends_of ends.inner) },
     ghost sound: { IsSoundAt T.behaviour (states_of graph) (edges_of graph) (ends_of ends.inner) },
     ghost rest: { RestsAt T.behaviour (states_of graph) (edges_of graph) (capacity_of ends.inner) (ends_of ends.inner) },
 }
