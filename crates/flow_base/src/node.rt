@@ -120,28 +120,29 @@ impl<W: Worker> Transducer for Node<W> {
     }
 
     fn give(&mut self, port: usize, message: Msg) -> Result<(), AllocError> {
-        match (self.phase, message) {
-            (Phase::Working, Msg::Item(item)) => match self.worker.take(item) {
-                Ok(()) => Ok(()),
-                Err(Stop::Faulted(kind)) => {
-                    self.phase = Phase::Faulted(kind);
+        match message {
+            Msg::Item(item) => match self.phase {
+                Phase::Working => match self.worker.take(item) {
+                    Ok(()) => Ok(()),
+                    Err(Stop::Faulted(kind)) => {
+                        self.phase = Phase::Faulted(kind);
+                        Ok(())
+                    }
+                    Err(Stop::OutOfMemory) => Err(AllocError),
+                },
+                _ => {
+                    self.phase = Phase::Faulted(FaultKind::Shape);
                     Ok(())
                 }
-                Err(Stop::OutOfMemory) => Err(AllocError),
             },
-            (Phase::Working, Msg::End) => {
-                self.phase = match self.worker.ask() {
-                    Ask::Begin => Phase::closing_after(0, self.worker.inputs()),
-                    _ => Phase::Faulted(FaultKind::Shape),
+            Msg::End => {
+                self.phase = match self.phase {
+                    Phase::Working => match self.worker.ask() {
+                        Ask::Begin => Phase::closing_after(0, self.worker.inputs()),
+                        _ => Phase::Faulted(FaultKind::Shape),
+                    },
+                    _ => Phase::closing_after(port, self.worker.inputs()),
                 };
-                Ok(())
-            }
-            (_, Msg::End) => {
-                self.phase = Phase::closing_after(port, self.worker.inputs());
-                Ok(())
-            }
-            (_, Msg::Item(_)) => {
-                self.phase = Phase::Faulted(FaultKind::Shape);
                 Ok(())
             }
         }

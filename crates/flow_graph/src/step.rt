@@ -54,6 +54,7 @@ impl<T: Transducer> Graph<T> {
     }
 
     /// Gives the node the message that it wanted to read.
+    #[inline(always)]
     fn give(&mut self, node: usize, port: usize, message: Msg) -> Result<(), AllocError>
         requires inside { node < length (states_of self.old) }
         requires wants { (idle : T.State) → T.behaviour.process.want (state_at idle (states_of self.old) node) ≡ Read port }

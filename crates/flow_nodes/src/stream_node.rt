@@ -93,6 +93,7 @@ impl Transducer for StreamNode {
 
     ghost laws = { sum_laws behaviour_of_kind laws_of_kind };
 
+    #[inline(always)]
     fn want(&self) -> Want {
         with_node!(self, node => node.want())
     }
@@ -113,6 +114,7 @@ impl Transducer for StreamNode {
         with_node!(self, node => node.kind_out(port))
     }
 
+    #[inline(always)]
     fn give(&mut self, port: usize, message: Msg) -> Result<(), AllocError> {
         with_node!(self, node => node.give(port, message))
     }
