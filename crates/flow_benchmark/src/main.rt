@@ -65,8 +65,8 @@ fn report(
     let sent = messages(rested);
     let end = match rested.outcome() {
         Outcome::Value => "value",
-        Outcome::Failed(_) => "fault",
-        Outcome::Stalled(_) => "stalled",
+        Outcome::Fault(_) => "fault",
+        Outcome::Stalled { .. } => "stalled",
     };
     println!(rt; "chunk {chunk}: {end}, {sent} messages")?;
     let nanos = time.as_nanos();

@@ -19,10 +19,10 @@ impl<T: Transducer> Rested<T> {
         ensures { ComesOut T.behaviour (rested_states self.now) (rested_edges self.now) (rested_capacity self.now) (traffic_of self.now) result }
     {
         if let Some(fault) = standing_fault(&self.graph) {
-            return Outcome::Failed(fault);
+            return Outcome::Fault(fault);
         }
         match first_to_write(&self.graph) {
-            Some(edge) => Outcome::Stalled(edge),
+            Some(edge) => Outcome::Stalled { edge },
             None => Outcome::Value,
         }
     }
@@ -50,7 +50,7 @@ impl<T: Transducer> Rested<T> {
         self.ends.counts(edge)
     }
 
-    /// How many times the ends of all edges met in the run.
+    /// How many times the ends of all edges met in the run. In one thread they never do.
     pub fn epochs(&self) -> u64
         ensures { result ≡ 0 }
     {

@@ -24,6 +24,7 @@ pub use constant::Const;
 pub use flow_base::{Ask, Node, Phase, Stop, Transducer, Worker, keeps_laws};
 pub use fork::Fork;
 pub use iota::Iota;
+pub use kahn::Want;
 pub use length::Length;
 pub use reduce::Reduce;
 pub use scalars::{item_of, kind_of, scalar_of};

@@ -52,7 +52,7 @@ all_flags (suc n) = (refl, all_flags n)
 none_of : (kind : Kind) (xs : List Cell) → xs ≡ [] → AllOf kind xs
 none_of kind xs e = subst (λ l. AllOf kind l) (sym e) tt
 
-kind_left : (xs ys : List Kind) (k : ℕ) → k < length xs → kind_at (xs ++ ys) k ≡ kind_at xs k
+pub kind_left : (xs ys : List Kind) (k : ℕ) → k < length xs → kind_at (xs ++ ys) k ≡ kind_at xs k
 kind_left [] ys k lt = absurd (omega arith)
 kind_left (x ∷ xs) ys zero lt = refl
 kind_left (x ∷ xs) ys (suc k) lt = kind_left xs ys k (omega arith)

@@ -17,6 +17,7 @@ pub mod SeqLaws
 pub mod IndexMachine
 pub mod IndexLaws
 pub mod Parts
+pub mod PartFits
 pub mod TabMachine
 pub mod TabSteps
 pub mod TabLaws

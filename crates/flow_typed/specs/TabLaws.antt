@@ -22,10 +22,11 @@ use Rattle.flow_typed.specs.Kinds.{both_true}
 use Rattle.flow_typed.specs.PrintMachine.{kind_at}
 use Rattle.flow_typed.specs.PrintSteps.{segment}
 use Rattle.flow_typed.specs.Parts.{parts, in_row, Built, built, built-parts, built-is}
+use Rattle.flow_typed.specs.PartFits.{part_fits, part_kind}
 use Rattle.flow_typed.specs.Dues.{Outputs}
 use Rattle.flow_typed.specs.DueRows.{listed, one_value, all_values}
 use Rattle.flow_typed.specs.TabMachine.{AreTabs, TabRow, Step, start, at_flag, at_item, at_end, tab_state, tab_ask, flag_given, closed, grown, item_given, with_step, vector_cell, SegmentLeft, ItemsLeft, tab_rest, CellsInRange, tab_machine}
-use Rattle.flow_typed.specs.TabSteps.{front_same, front_put, row_first, element_forth, element_back, end_forth, end_back, no_other, flag_full, room, item_full, item_kind}
+use Rattle.flow_typed.specs.TabSteps.{front_same, front_put, row_first, element_forth, element_back, end_forth, end_back, no_other, flag_full, room, item_full, item_fits}
 
 -- what is left where this step is reached
 abbrev LeftAt : Ty → Result Step FaultKind → Lists Cell → Lists Cell → Type 0
@@ -165,21 +166,21 @@ module _ (ty : Ty) (es : List Value) (got : List Cell) (x : Cell) (i o : Lists C
   grown_steps lt true e = (λ h. more_forth e h, λ h. more_back lt h)
   grown_steps lt false e = (λ h. last_forth e h, λ h. last_back lt (built ty (got ++ x ∷ [])) refl h)
 
-  kind_steps : suc (length got) < width (seq ty) → (fits : Bool) → is_of (kind_at (kinds_of ty) (length got)) x ≡ fits → Here ↔ LeftAt ty (cond fits (grown ty es (got ++ x ∷ [])) (Err Shape)) i o
-  kind_steps lt true e = grown_steps lt (nat_lt (length (got ++ x ∷ [])) (width ty)) refl
-  kind_steps lt false e = (
+  fit_steps : suc (length got) < width (seq ty) → (fits : Bool) → part_fits ty (length got) x ≡ fits → Here ↔ LeftAt ty (cond fits (grown ty es (got ++ x ∷ [])) (Err Shape)) i o
+  fit_steps lt true e = grown_steps lt (nat_lt (length (got ++ x ∷ [])) (width ty)) refl
+  fit_steps lt false e = (
     λ h.
-        let kind = item_kind ty es got (push (suc (length got)) x i) o h in
-        let never : true ≡ false = sym kind ∙ ap (is_of (kind_at (kinds_of ty) (length got))) (sym (first_is h).0) ∙ e in
+        let fits = item_fits ty es got (push (suc (length got)) x i) o h in
+        let never : true ≡ false = sym fits ∙ ap (part_fits ty (length got)) (sym (first_is h).0) ∙ e in
         absurd (cc),
     λ h. absurd h,
   )
 
   item_steps : (inside : Bool) → nat_lt (length got) (width ty) ≡ inside →
-      ItemsLeft ty es got (push (cond inside (suc (length got)) 0) x i) o ↔ LeftAt ty (cond inside (cond (is_of (kind_at (kinds_of ty) (length got)) x) (grown ty es (got ++ x ∷ [])) (Err Shape)) (Err Shape)) i o
+      ItemsLeft ty es got (push (cond inside (suc (length got)) 0) x i) o ↔ LeftAt ty (cond inside (cond (part_fits ty (length got) x) (grown ty es (got ++ x ∷ [])) (Err Shape)) (Err Shape)) i o
   item_steps true e =
       let below : length got < width ty = grind (arith, nat_tests, e) in
-      kind_steps (omega (arith, below)) (is_of (kind_at (kinds_of ty) (length got)) x) refl
+      fit_steps (omega (arith, below)) (part_fits ty (length got) x) refl
   item_steps false e = (
     λ h.
         let fits = room ty es got (push 0 x i) o h in
@@ -198,8 +199,8 @@ flag_kinds ty es (flag b) e = absurd (cc)
 flag_kinds ty es x e = refl
 
 item_kinds : (ty : Ty) (es : List Value) (got : List Cell) (x : Cell) (inside : Bool) → is_of (kind_at (kinds_of (seq ty)) (cond inside (suc (length got)) 0)) x ≡ false →
-    with_step ty (cond inside (cond (is_of (kind_at (kinds_of ty) (length got)) x) (grown ty es (got ++ x ∷ [])) (Err Shape)) (Err Shape)) ≡ Err Shape
-item_kinds ty es got x true e = ap (λ b. with_step ty (cond b (grown ty es (got ++ x ∷ [])) (Err Shape))) e
+    with_step ty (cond inside (cond (part_fits ty (length got) x) (grown ty es (got ++ x ∷ [])) (Err Shape)) (Err Shape)) ≡ Err Shape
+item_kinds ty es got x true e = ap (λ b. with_step ty (cond b (grown ty es (got ++ x ∷ [])) (Err Shape))) (part_kind ty (length got) x e)
 item_kinds ty es got x false e = refl
 
 -- Ranges.
@@ -313,7 +314,7 @@ each ty (at_item es got) = record {
   steps = λ x i o. item_steps ty es got x i o (nat_lt (length got) (width ty)) refl;
   stays = λ x. stays ty (at_item es got) (item_given ty es got x);
   kinds = λ x e. item_kinds ty es got x (nat_lt (length got) (width ty)) e;
-  fit = λ x h r. item_fit ty es got x (nat_lt (length got) (width ty)) (is_of (kind_at (kinds_of ty) (length got)) x) h.0 h.1 r;
+  fit = λ x h r. item_fit ty es got x (nat_lt (length got) (width ty)) (part_fits ty (length got) x) h.0 h.1 r;
 }
 each ty (at_end es) = record {
   port = omega arith;

@@ -6,7 +6,7 @@ use Rattle.snesl_values.specs.Types.{Ty, vec, seq, is_concrete}
 use Rattle.snesl_values.specs.declared.datum.Datum.{Datum}
 use Rattle.snesl_values.specs.Values.{Value, Values, a_vec, list_of, value_of, values_of}
 use Rattle.flow_edges.specs.declared.message.Item.{Item}
-use Rattle.flow_edges.specs.Cells.{Cell, unit, flag, datum, cell_of, is_of}
+use Rattle.flow_edges.specs.Cells.{Cell, unit, flag, datum, cell_of}
 use Rattle.flow_edges.specs.declared.message.Kind.TheVariants.{Vec as VecKind}
 use Rattle.flow_base.specs.Lists.{Lists, NothingAt}
 use Rattle.flow_base.specs.Ranges.{AllInRange, CellInRange}
@@ -20,6 +20,7 @@ use Rattle.flow_typed.specs.Flats.{◌⊕◌, width, flat}
 use Rattle.flow_typed.specs.PrintMachine.{kind_at}
 use Rattle.flow_typed.specs.PrintSteps.{segment}
 use Rattle.flow_typed.specs.Parts.{parts, in_row, Built, built}
+use Rattle.flow_typed.specs.PartFits.{part_fits}
 use Rattle.flow_typed.specs.Dues.{Outputs}
 use Rattle.flow_typed.specs.declared.tab.Stage.{Stage}
 use Rattle.flow_typed.specs.declared.tab.Stage.TheVariants.{Start, Flag, Item as ItemStage, End}
@@ -98,9 +99,9 @@ Makes made (Err OutOfMemory) items = Unit {0}
 abbrev pub grown : Ty → List Value → List Cell → Result Step FaultKind
 grown ty es got = cond (nat_lt (length got) (width ty)) (Ok (at_item es got)) (closed es (built ty got))
 
--- where the next item of an element leads: it is of the kind of its edge
+-- where the next item of an element leads: it is of the kind and the type of its edge
 abbrev pub item_given : Ty → List Value → List Cell → Cell → Result Step FaultKind
-item_given ty es got x = cond (nat_lt (length got) (width ty)) (cond (is_of (kind_at (kinds_of ty) (length got)) x) (grown ty es (got ++ x ∷ [])) (Err Shape)) (Err Shape)
+item_given ty es got x = cond (nat_lt (length got) (width ty)) (cond (part_fits ty (length got) x) (grown ty es (got ++ x ∷ [])) (Err Shape)) (Err Shape)
 
 -- where an item leads
 abbrev pub step_given : Ty → Step → Cell → Result Step FaultKind

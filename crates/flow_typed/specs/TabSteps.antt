@@ -3,19 +3,17 @@ use Rattle.std.specs.Prelude.{◌≡◌, ℕ, suc, ◌+◌, ◌<◌, true, List,
 use Rattle.std.proofs.Common.{inl, inr, arith, sym, ◌∙◌, ap, subst, append_assoc, append-nil, length-append}
 use Rattle.snesl_values.specs.Types.{Ty, int, bool, pair, vec, seq, is_concrete}
 use Rattle.snesl_values.specs.Values.{Value, Values, a_seq, no_values, more_values, list_of}
-use Rattle.flow_edges.specs.Cells.{Cell, is_of}
-use Rattle.flow_edges.specs.declared.message.Kind.{Kind}
+use Rattle.flow_edges.specs.Cells.{Cell}
 use Rattle.flow_base.specs.Lists.{Lists, push, NothingAt, IsFull}
 use Rattle.flow_base.specs.Ports.{ports, at_port, off_port, nothing_at, NothingAt-from, First-from}
 use Rattle.flow_base.specs.Flags.{F, T}
-use Rattle.flow_base.specs.Ranges.{AllOf}
-use Rattle.flow_typed.specs.Shapes.{is_a, all_are, kinds_of, cell_for, first_of, second_of}
+use Rattle.flow_typed.specs.Shapes.{is_a, all_are, cell_for, first_of, second_of}
 use Rattle.flow_typed.specs.Flats.{nothing, only_at, ◌⊕◌, width, spread}
-use Rattle.flow_typed.specs.Sides.{only_here, sides_assoc, nothing_more, push_is}
-use Rattle.flow_typed.specs.Kinds.{both_true, and_true, spread_full, spread_kinds}
-use Rattle.flow_typed.specs.PrintMachine.{kind_at}
+use Rattle.flow_typed.specs.Sides.{sides_assoc, nothing_more, push_is}
+use Rattle.flow_typed.specs.Kinds.{both_true, and_true, spread_full}
 use Rattle.flow_typed.specs.PrintSteps.{segment, none_is, more_is}
-use Rattle.flow_typed.specs.Parts.{parts, in_row, in_row-append, parts-length, spread-parts}
+use Rattle.flow_typed.specs.Parts.{parts, in_row, parts-length, spread-parts}
+use Rattle.flow_typed.specs.PartFits.{part_fits, part_is}
 use Rattle.flow_typed.specs.Dues.{Outputs}
 use Rattle.flow_typed.specs.TabMachine.{vector_cell, SegmentLeft, ItemsLeft}
 
@@ -138,11 +136,6 @@ module _ (ty : Ty) (es : List Value) (i o : Lists Cell) where
   pub flag_full : SegmentLeft ty es i o → IsFull (i 0)
   flag_full h = subst (λ l. IsFull l) (sym (h.edges_are 0 some_port)) (spread_full (seq ty) 0 (a_seq h.others))
 
--- of all that are of the kind, one in their midst is
-one_of : (kind : Kind) (xs : List Cell) (x : Cell) (ys : List Cell) → AllOf kind (xs ++ (x ∷ ys)) → is_of kind x ≡ true
-one_of kind [] x ys h = h.0
-one_of kind (y ∷ xs) x ys h = one_of kind xs x ys h.1
-
 -- At an item.
 module _ (ty : Ty) (es : List Value) (got : List Cell) where
   -- there is an edge for the next item
@@ -158,12 +151,6 @@ module _ (ty : Ty) (es : List Value) (got : List Cell) where
       let here : i k ≡ h.cell ∷ others k = h.edges_are k (omega (arith, size)) ∙ ap (λ l. l k) (row_first k h.cell h.cells (segment ty 0 h.others)) ∙ at_port k (h.cell ∷ others k) others in
       First-from (i k) h.cell (others k) (λ _ _. Unit {0}) here tt
 
-  -- and it is of the kind of its edge
-  pub item_kind : (i o : Lists Cell) (h : ItemsLeft ty es got i o) → is_of (kind_at (kinds_of ty) (length got)) h.cell ≡ true
-  item_kind i o h =
-      let k = 1 + length got in
-      let kind = kind_at (kinds_of ty) (length got) in
-      let later = in_row (k + 1) h.cells in
-      let row : spread ty 1 h.element ≡ in_row 1 got ⊕ in_row k (h.cell ∷ h.cells) = spread-parts ty 1 h.element h.concrete ∙ ap (in_row 1) h.parts_are ∙ in_row-append 1 got (h.cell ∷ h.cells) in
-      let here : spread ty 1 h.element k ≡ in_row 1 got k ++ (h.cell ∷ later k) = ap (λ l. l k) row ∙ ap (λ l. in_row 1 got k ++ (l ++ later k)) (only_here k (h.cell ∷ [])) in
-      one_of kind (in_row 1 got k) h.cell (later k) (subst (λ l. AllOf kind l) here (spread_kinds ty 1 (length got) h.element h.is))
+  -- and it is of the kind and the type of its edge
+  pub item_fits : (i o : Lists Cell) (h : ItemsLeft ty es got i o) → part_fits ty (length got) h.cell ≡ true
+  item_fits i o h = part_is ty h.element got h.cell h.cells h.concrete h.is h.parts_are

@@ -3,11 +3,13 @@
 ghost use Rattle.std.specs.Prelude.{◌≡◌, ◌<◌, ◌^◌, ◌++◌, map, length, IfOk, OnOk};
 ghost use Rattle.snesl_values.specs.Types.{ty_of};
 ghost use Rattle.snesl_values.specs.Values.{value_of, values_of};
+ghost use Rattle.flow_edges.specs.Cells.{cell_of};
 ghost use Rattle.flow_typed.specs.Shapes.{is_a, all_are, kinds_of};
 ghost use Rattle.flow_typed.specs.Flats.{width};
 ghost use Rattle.flow_typed.specs.PrintMachine.{kind_at};
+ghost use Rattle.flow_typed.specs.PartFits.{part_fits};
 
-use flow_edges::Kind;
+use flow_edges::{Item, Kind};
 use snesl_values::{Datum, Ty};
 use std::alloc::{AllocError, Global};
 
@@ -74,6 +76,27 @@ pub fn edge_count(ty: &Ty) -> usize
         Ty::Int | Ty::Bool | Ty::Vec(_) => 1,
         Ty::Pair(first, second) => edge_count(first) + edge_count(second),
         Ty::Seq(item) => edge_count(item) + 1,
+    }
+}
+
+/// Whether the item may be the one at this place, counted from 0, of a value of the concrete type. False at each place of
+/// a sequence.
+pub fn part_fits(ty: &Ty, place: usize, item: &Item) -> bool
+    requires { width (ty_of ty.now) < 2 ^ 64 }
+    ensures { result ≡ part_fits (ty_of ty.now) place (cell_of item.now) }
+{
+    match (ty, item) {
+        (Ty::Int, Item::Int(_)) | (Ty::Bool, Item::Bool(_)) => place == 0,
+        (Ty::Vec(_), Item::Vec(datum)) => place == 0 && is_value(ty, datum),
+        (Ty::Pair(first, second), _) => {
+            let edges = edge_count(first);
+            if place < edges {
+                part_fits(first, place, item)
+            } else {
+                part_fits(second, place - edges, item)
+            }
+        }
+        _ => false,
     }
 }
 

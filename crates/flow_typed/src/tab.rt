@@ -9,7 +9,7 @@ ghost use Rattle.flow_typed.specs.Shapes.{kinds_of};
 ghost use Rattle.flow_typed.specs.Parts.{built};
 ghost use Rattle.flow_typed.specs.TabMachine.{tab_state, start, step_in, staged, flag_given, grown, item_given, with_step, item_port, Makes};
 
-use crate::shapes::{add_kinds, is_value, kind_at};
+use crate::shapes::{add_kinds, is_value, kind_at, part_fits};
 use flow_base::{Ask, Stop, Worker};
 use flow_edges::{Item, Kind};
 use snesl_values::{Datum, FaultKind, Ty};
@@ -21,8 +21,7 @@ use std::mem;
 ///
 /// Reads port 0, flags: `false` for each element and then `true`. Behind each `false` it reads what the element puts on
 /// the edges of its type, at the ports from 1 on, one item at each. Behind `true` it writes the vector to port 0. Fault:
-/// `Shape` where the type is not concrete, where an item is not of its port's kind, and at the last item of an element
-/// where the items are not those of a value of the type.
+/// `Shape` where the type is not concrete, and where an item is not of its port's kind or type.
 ///
 /// It keeps the items of an element and lays out its value, which takes memory. Where it is refused, nothing was taken.
 #[derive(Drop)]
@@ -123,8 +122,7 @@ impl Tab {
         requires { self.old.stage ≡ Stage.Item }
         ensures { Takes (with_step (ty_of self.old.element) (item_given (ty_of self.old.element) (map value_of self.old.elements.items) (map cell_of self.old.items.items) (cell_of item))) (⟦<Tab as Worker>⟧.state self.old) result (⟦<Tab as Worker>⟧.state self.new) }
     {
-        let port = self.item_port();
-        if port == 0 || !self.kind_in(port).fits(&item) {
+        if self.item_port() == 0 || !part_fits(&self.element, self.items.len(), &item) {
             return Err(Stop::Faulted(FaultKind::Shape));
         }
         if self.items.push(item).is_err() {

@@ -6,7 +6,7 @@ use Rattle.snesl_values.specs.declared.fault.Fault.{Fault}
 use Rattle.kahn.specs.declared.want.Want.{Want}
 use Rattle.kahn.specs.declared.want.Want.TheVariants.{Read, Write, Ended, Faulted}
 use Rattle.kahn.specs.declared.outcome.Outcome.{Outcome}
-use Rattle.kahn.specs.declared.outcome.Outcome.TheVariants.{Value, Failed, Stalled}
+use Rattle.kahn.specs.declared.outcome.Outcome.TheVariants.{Value, Fault as Failed, Stalled}
 use Rattle.kahn.specs.Processes.{Process}
 use Rattle.kahn.specs.Networks.{Network, IsWired, AllLawful}
 use Rattle.kahn.specs.Configurations.{Configuration, IsSound, NoneFaulted, AllEnded, IsLeastBlocked}

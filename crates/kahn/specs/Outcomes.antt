@@ -4,7 +4,7 @@ use Rattle.std.specs.List.{Contains}
 use Rattle.snesl_values.specs.declared.fault.Fault.{Fault}
 use Rattle.kahn.specs.declared.want.Want.TheVariants.{Faulted}
 use Rattle.kahn.specs.declared.outcome.Outcome.{Outcome}
-use Rattle.kahn.specs.declared.outcome.Outcome.TheVariants.{Value, Failed, Stalled}
+use Rattle.kahn.specs.declared.outcome.Outcome.TheVariants.{Value, Fault as Failed, Stalled}
 use Rattle.kahn.specs.Processes.{Process}
 use Rattle.kahn.specs.Networks.{Network}
 use Rattle.kahn.specs.Configurations.{Configuration, AllEnded, NoneFaulted, IsLeastBlocked}

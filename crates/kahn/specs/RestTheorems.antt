@@ -3,7 +3,7 @@
 use Rattle.std.specs.Prelude.{◌≡◌, ℕ, ◌<◌, ◌≤◌, ◌⊎◌, List, length, Some}
 use Rattle.snesl_values.specs.declared.fault.Fault.{Fault}
 use Rattle.kahn.specs.declared.outcome.Outcome.{Outcome}
-use Rattle.kahn.specs.declared.outcome.Outcome.TheVariants.{Failed}
+use Rattle.kahn.specs.declared.outcome.Outcome.TheVariants.{Fault as Failed}
 use Rattle.kahn.specs.Processes.{Process, Event}
 use Rattle.kahn.specs.Networks.{Network}
 use Rattle.kahn.specs.Configurations.{Configuration, IsSound, NoneFaulted, AllEnded, IsComplete, IsLeastBlocked}

@@ -8,7 +8,7 @@ pub enum Outcome {
     /// Each node has ended.
     Value,
     /// Some node has faulted: the fault that is named of all to which nodes have come.
-    Failed(Fault),
+    Fault(Fault),
     /// No node has faulted, and not each has ended: the least edge that is full while its writer waits.
-    Stalled(usize),
+    Stalled { edge: usize },
 }

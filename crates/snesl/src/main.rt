@@ -34,7 +34,7 @@ fn answered<W: Write, E: Write>(
     Ok(answer(rt.alloc(), &words, &mut job, out, err))
 }
 
-// The words of the command line. Where one of them is no UTF-8, each is given as `?`.
+// The words of the command line. Where one of them is no UTF-8, the name and one word are given, each as `?`.
 fn args_of<R: Env + AllocGlobal>(rt: &R) -> io::Result<Vec<String>> {
     match env::args(rt) {
         Ok(args) => Ok(args.collect(rt.alloc())?),

@@ -30,7 +30,7 @@ use std::alloc::{AllocError, Global};
 /// bytes of the text from 0. A program that is not typed may end in the fault `Shape`.
 ///
 /// The language is Streaming NESL (Madsen and Filinski, FHPC 2013); a comprehension is the
-/// apply-to-each form of NESL 3.1.
+/// apply-to-each form of NESL 3.1 (Blelloch 1995).
 ///
 /// # Errors
 ///

@@ -76,15 +76,6 @@ pub fn into_items(at: usize, datum: Datum) -> Result<Vec<Datum>, Halt>
     }
 }
 
-pub fn into_elements(at: usize, datum: Datum) -> Result<Vec<Datum>, Halt>
-    ensures { Answers (λ all. map value_of all.items) result (elements_at at (value_of datum)) }
-{
-    match datum {
-        Datum::Vec(all) => Ok(all),
-        _ => Err(fault(FaultKind::Shape, at)),
-    }
-}
-
 pub fn sequence_of(items: Vec<Datum>) -> Datum
     ensures { value_of result ≡ sequence (map value_of items.items) }
 {

@@ -75,7 +75,8 @@ fn parse_tokens(alloc: Global, tokens: &[Token], len: usize) -> Result<Parsed, R
 /// The first of these that holds; offsets count bytes of the text from 0.
 ///
 /// - `TooLong`: the text has more than 65,536 bytes.
-/// - `Lex`: the offset of the first byte of the text at which no token begins.
+/// - `Lex`: the offset of the first byte of the text at which no token begins, or an integer over
+///   2^63 - 1 does.
 /// - `Syntax`: the offset of the first token with which no program within the depth of 64 goes on,
 ///   where no deeper one goes on with it either.
 /// - `Deep`: a deeper one goes on with that token.

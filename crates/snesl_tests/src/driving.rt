@@ -89,7 +89,7 @@ fn a_fault_at_seven(rt: HostRuntime) -> Result<(), Fail> {
     for capacity in [1, 4] {
         for chunk in [1, 1_024] {
             let rested = driven(rt.alloc(), sum_of_unlike(&rt, rt.alloc())?, capacity, chunk)?;
-            assert_eq!(rt; rested.outcome(), Outcome::Failed(shape));
+            assert_eq!(rt; rested.outcome(), Outcome::Fault(shape));
             // The numbers and the end from the left; the number and the end from the right; the sum.
             assert_eq!(rt; counts(&rt, &rested, 0).1, 2);
             assert_eq!(rt; counts(&rt, &rested, 1), (2, 2));
@@ -143,7 +143,7 @@ fn stalls_at_capacity_one(rt: HostRuntime) -> Result<(), Fail> {
     for chunk in [1, 2, 1_024] {
         let rested = driven(rt.alloc(), waits_for_its_length(&rt, rt.alloc())?, 1, chunk)?;
         // The fork has the end of the segment for an edge that holds its second flag.
-        assert_eq!(rt; rested.outcome(), Outcome::Stalled(1));
+        assert_eq!(rt; rested.outcome(), Outcome::Stalled { edge: 1 });
         assert_eq!(rt; counts(&rt, &rested, 0), (4, 3));
         assert_eq!(rt; counts(&rt, &rested, 1), (2, 1));
         assert_eq!(rt; counts(&rt, &rested, 2), (2, 2));

@@ -7,7 +7,7 @@ use std::test::Fail;
 
 #[test]
 fn values_of_all_forms(rt: HostRuntime) -> Result<(), Fail> {
-    let rows: [(&[u8], &[u8]); 43] = [
+    let rows: [(&[u8], &[u8]); 44] = [
         (b"scan_add({2,1,3})", b"{0,2,3}"),
         (
             b"part({3,1,4,1,5,9}, {false,false,true,false,true,true,false,false,false,true})",
@@ -84,6 +84,10 @@ fn values_of_all_forms(rt: HostRuntime) -> Result<(), Fail> {
             b"{0,0,2,0,3,6}",
         ),
         (b"part({0 | false}, {true | false})", b"{}"),
+        (
+            b"part({3,1,4}, {false,true,false,false,true})",
+            b"{{3},{1,4}}",
+        ),
     ];
     for (program, text) in rows {
         let status = if text.starts_with(b"refused") { 1 } else { 0 };

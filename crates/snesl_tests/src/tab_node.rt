@@ -1,6 +1,6 @@
 // The node that makes vectors of elements, through its trait.
 
-use crate::feeding::message;
+use crate::feeding::{assert_carries, message};
 use flow_base::{Node, Transducer};
 use flow_edges::{Item, Msg};
 use flow_typed::Tab;
@@ -76,4 +76,14 @@ fn vectors_of_elements(rt: HostRuntime) -> Result<(), Fail> {
     assert_makes(&rt, alloc, Ty::Int, "F", b"", SHAPE)?;
     let ty = Ty::Seq(Box::new(alloc, Ty::Int)?);
     assert_makes(&rt, alloc, ty, "F", b"", SHAPE)
+}
+
+// A vector of integers where one of booleans is due: the integer behind it is not asked for.
+#[test]
+fn vector_of_another_type(rt: HostRuntime) -> Result<(), Fail> {
+    let alloc = rt.alloc();
+    let first = Box::new(alloc, vector(alloc, Ty::Bool)?)?;
+    let second = Box::new(alloc, Ty::Int)?;
+    let mut node = Node::new(Tab::new(alloc, Ty::Pair(first, second))?, 7);
+    assert_carries(&rt, alloc, &mut node, &["F", "v", ""], &[""], SHAPE)
 }

@@ -10,7 +10,7 @@ use crate::span::Span;
 /// An expression. Offsets count bytes of the program text from 0; that of a binary form is its
 /// operator's, that of every other form its first token's.
 ///
-/// The comprehension is the apply-to-each form of NESL 3.1.
+/// The comprehension is the apply-to-each form of NESL 3.1 (Blelloch 1995).
 #[derive(Debug, Drop)]
 #[cycle(tree)]
 pub enum Expr {
