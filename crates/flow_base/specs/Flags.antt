@@ -1,5 +1,5 @@
--- Segments as flags, and lists cut into groups.
-use Rattle.std.specs.Prelude.{ℕ, zero, suc, List, [], ◌∷◌, ◌++◌, Option, Some, None, length, take, drop, true, false, cond, nat_le}
+-- Segments as flags, and lists of lists.
+use Rattle.std.specs.Prelude.{ℕ, zero, suc, List, [], ◌∷◌, ◌++◌, length, true, false}
 use Rattle.flow_edges.specs.Cells.{Cell, flag}
 
 -- F, which stands for an element, and T, which ends a segment
@@ -27,14 +27,3 @@ joined (xs ∷ rest) = xs ++ joined rest
 abbrev pub lengths : {A : Type 0} → List (List A) → List ℕ
 lengths [] = []
 lengths (xs ∷ rest) = length xs ∷ lengths rest
-
--- the first n items as a group in front of the others, where there are as many
-abbrev pub with_group : {A : Type 0} → List A → Option (List (List A)) → Option (List (List A))
-with_group xs None = None
-with_group xs (Some rest) = Some (xs ∷ rest)
-
--- a in consecutive groups of these lengths, where they add up to its length
-abbrev pub cut : {A : Type 0} → List ℕ → List A → Option (List (List A))
-cut [] [] = Some []
-cut [] (x ∷ a) = None
-cut (n ∷ ns) a = cond (nat_le n (length a)) (with_group (take n a) (cut ns (drop n a))) None

@@ -3,10 +3,7 @@ pub mod Ports
 pub mod Ranges
 pub mod Flags
 pub mod Workers
-pub mod Body
-pub mod Rows
 pub mod Segments
-pub mod Fans
 pub mod Transducers
 pub mod Promises
 pub mod Histories
@@ -21,3 +18,9 @@ pub mod NodeWrites
 pub mod NodeEnds
 pub mod NodeLaws
 pub mod Sums
+pub mod Columns
+pub mod Machines
+pub mod MachineRuns
+pub mod Bodies
+pub mod Computed
+pub mod Members

@@ -1,5 +1,5 @@
 -- Lists of items, one for each port.
-use Rattle.std.specs.Prelude.{◌≡◌, ℕ, zero, suc, ◌==◌, List, [], ◌∷◌, cond, ◌↔◌, Bool, true, false, refl}
+use Rattle.std.specs.Prelude.{◌≡◌, ℕ, zero, suc, ◌==◌, List, [], ◌∷◌, cond, ◌↔◌}
 
 -- for each port a list
 abbrev pub Lists : Type 0 → Type 0
@@ -33,20 +33,3 @@ First-full (x ∷ rest) P h = tt
 
 pub iff_refl : {A : Type 0} → A ↔ A
 iff_refl = (λ h. h, λ h. h)
-
--- the test is true, and P holds
-abbrev pub When : Bool → Type 0 → Type 0
-When true P = P
-When false P = ⊥
-
-pub when_holds : (b : Bool) (P : Type 0) → When b P → P
-when_holds true P h = h
-when_holds false P h = absurd h
-
-pub when_true : (b : Bool) (P : Type 0) → b ≡ true → P → When b P
-when_true true P e h = h
-when_true false P e h = absurd (cc)
-
-pub when_is : (b : Bool) (P : Type 0) → When b P → b ≡ true
-when_is true P h = refl
-when_is false P h = absurd h

@@ -1,10 +1,9 @@
 -- A worker as a transducer keeps the laws of transducers.
 use Rattle.std.specs.Prelude.{◌≡◌, ℕ, nat_lt, refl, ◌↔◌}
-use Rattle.std.proofs.Common.{sym, ap, subst}
+use Rattle.std.proofs.Common.{sym, subst}
 use Rattle.flow_edges.specs.Signals.{Signal}
 use Rattle.flow_base.specs.Lists.{Lists}
-use Rattle.flow_base.specs.Workers.{Machine, WorkerLaws, Obeys}
-use Rattle.flow_base.specs.Body.{RowLaw, BodyAs, begin_instances}
+use Rattle.flow_base.specs.Machines.{Move, begins, takes, gives, Machine, MachineLaws, ask_of, SoundAt}
 use Rattle.flow_base.specs.Transducers.{BehaviourLaws, IsLawfulTraffic}
 use Rattle.flow_base.specs.Promises.{Keeps, PromiseLaws}
 use Rattle.flow_base.specs.Promised.{promised_laws}
@@ -13,65 +12,43 @@ use Rattle.flow_base.specs.NodePromises.{Remains, owes_in, promise_of}
 use Rattle.flow_base.specs.NodeReads.{take_keeps, begin_keeps}
 use Rattle.flow_base.specs.NodeWrites.{give_keeps}
 use Rattle.flow_base.specs.NodeEnds.{closing_keeps, ending_keeps}
-use Rattle.flow_base.specs.declared.worker.Ask.{Ask}
-use Rattle.flow_base.specs.declared.worker.Ask.TheVariants.{Begin, Take, Give}
 use Rattle.flow_base.specs.declared.node.Phase.{Phase}
 use Rattle.flow_base.specs.declared.node.Phase.TheVariants.{Working, Closing, Ending, Faulted}
 
-module _ {S : Type 0} (m : Machine S) (laws : WorkerLaws m) where
-  working : (s : S) (at : ℕ) (ask : Ask) → m.ask s ≡ ask → Obeys m s ask → Keeps (behaviour_of m) (promise_of m) (node_state s Working at) (want_for ask)
-  working s at Begin e law = begin_keeps m laws s at e law.0 law.1
-  working s at (Take p) e law = take_keeps m laws s p at e law
-  working s at (Give q) e law = give_keeps m laws s q at e law
+module _ {P S : Type 0} (m : Machine P S) (laws : MachineLaws m) where
+  working : (p : P) (s : S) (at : ℕ) (v : Move S) → m.move p s ≡ v → SoundAt m p s v → Keeps (behaviour_of m) (promise_of m) (node_state (p, s) Working at) (want_for (ask_of v))
+  working p s at (begins t) e law = begin_keeps m p s at t e law.1
+  working p s at (takes q t) e law = take_keeps m p s at q t e law
+  working p s at (gives q c next) e law = give_keeps m p s q c next at e law
 
-  each : (s : S) (phase : Phase) (at : ℕ) → Keeps (behaviour_of m) (promise_of m) (node_state s phase at) (want_in m phase (node_state s phase at))
-  each s Working at = working s at (m.ask s) refl (laws.each s)
-  each s (Closing p) at = closing_keeps m s p at (nat_lt p (m.inputs s)) refl
-  each s (Ending q) at = ending_keeps m s q at (nat_lt q (m.outputs s)) refl
+  each : (s : P × S) (phase : Phase) (at : ℕ) → Keeps (behaviour_of m) (promise_of m) (node_state s phase at) (want_in m phase (node_state s phase at))
+  each s Working at = working s.0 s.1 at (m.move s.0 s.1) refl (laws.sound s.0 s.1)
+  each s (Closing p) at = closing_keeps m s p at (nat_lt p (m.inputs s.0)) refl
+  each s (Ending q) at = ending_keeps m s q at (nat_lt q (m.outputs s.0)) refl
   each s (Faulted kind) at = record { place = refl; never = λ i o h. h }
 
   -- where it opened it owes lawful traffic
-  opens : RowLaw m → (n : NodeState S) → opened (m.home n.worker) n.at ≡ n → (i o : Lists Signal) → owes_in m n.phase n.worker i o ↔ IsLawfulTraffic (behaviour_of m) n i o
-  opens rows n e i o = (λ h. forth (subst (λ p. owes_in m p n.worker i o) (sym phase) h), λ h. subst (λ p. owes_in m p n.worker i o) phase (back h))
+  opens : (n : NodeState (P × S)) → opened (n.worker.0, m.start) n.at ≡ n → (i o : Lists Signal) → owes_in m n.phase n.worker i o ↔ IsLawfulTraffic (behaviour_of m) n i o
+  opens n e i o = (λ h. forth (subst (λ k. owes_in m k.phase k.worker i o) (sym e) h), λ h. subst (λ k. owes_in m k.phase k.worker i o) e (back h))
     where
-      phase : Working ≡ n.phase
-      phase = ap (λ k. k.phase) e
+      forth : Remains m n.worker.0 (m.move n.worker.0 m.start) i o → IsLawfulTraffic (behaviour_of m) n i o
+      forth h = record { ins = h.ins; outs = h.outs; row = (laws.rows n.worker.0 h.ins h.outs).1 h.body; closed_ins = h.closed_ins; closed_outs = h.closed_outs }
 
-      home : m.home n.worker ≡ n.worker
-      home = ap (λ k. k.worker) e
+      back : IsLawfulTraffic (behaviour_of m) n i o → Remains m n.worker.0 (m.move n.worker.0 m.start) i o
+      back h = record { ins = h.ins; outs = h.outs; body = (laws.rows n.worker.0 h.ins h.outs).0 h.row; closed_ins = h.closed_ins; closed_outs = h.closed_outs }
 
-      ask : m.ask n.worker ≡ Begin
-      ask = subst (λ k. m.ask k ≡ Begin) home (laws.begins n.worker)
-
-      forth : Remains m (m.ask n.worker) n.worker i o → IsLawfulTraffic (behaviour_of m) n i o
-      forth h = record {
-        ins = h.ins;
-        outs = h.outs;
-        row = (rows n.worker h.ins h.outs home).1 ((begin_instances m laws n.worker h.ins h.outs home).0 (subst (λ a. BodyAs m a n.worker h.ins h.outs) ask h.body));
-        closed_ins = h.closed_ins;
-        closed_outs = h.closed_outs;
-      }
-
-      back : IsLawfulTraffic (behaviour_of m) n i o → Remains m (m.ask n.worker) n.worker i o
-      back h = record {
-        ins = h.ins;
-        outs = h.outs;
-        body = subst (λ a. BodyAs m a n.worker h.ins h.outs) (sym ask) ((begin_instances m laws n.worker h.ins h.outs home).1 ((rows n.worker h.ins h.outs home).0 h.row));
-        closed_ins = h.closed_ins;
-        closed_outs = h.closed_outs;
-      }
-
-  promise_laws : RowLaw m → PromiseLaws (behaviour_of m) (promise_of m)
-  promise_laws rows = record {
+  promise_laws : PromiseLaws (behaviour_of m) (promise_of m)
+  promise_laws = record {
     end = refl;
     each = λ n. each n.worker n.phase n.at;
-    opens = opens rows;
-    same_opening = λ n. ap (λ h. opened h n.at) (laws.same_home n.worker);
-    same_inputs = λ n. laws.same_inputs n.worker;
-    same_outputs = λ n. laws.same_outputs n.worker;
-    same_kinds_in = λ n. laws.same_kinds_in n.worker;
-    same_kinds_out = λ n. laws.same_kinds_out n.worker;
+    opens = opens;
+    same_opening = λ n. refl;
+    same_inputs = λ n. refl;
+    same_outputs = λ n. refl;
+    same_kinds_in = λ n p. refl;
+    same_kinds_out = λ n q. refl;
+    starts_of_kind = λ n e. subst (λ k. m.of_kind k.worker.0 k.worker.1) e (laws.starts_of_kind n.worker.0);
   }
 
-pub behaviour_laws : {S : Type 0} (m : Machine S) → WorkerLaws m → RowLaw m → BehaviourLaws (behaviour_of m)
-behaviour_laws m laws rows = promised_laws (behaviour_of m) (promise_of m) (promise_laws m laws rows)
+pub behaviour_laws : {P S : Type 0} (m : Machine P S) → MachineLaws m → BehaviourLaws (behaviour_of m)
+behaviour_laws m laws = promised_laws (behaviour_of m) (promise_of m) (promise_laws m laws)

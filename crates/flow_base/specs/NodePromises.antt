@@ -1,16 +1,15 @@
 -- What a worker as a transducer has still to read and write.
 use Rattle.std.specs.Prelude.{◌≡◌, ℕ, ◌<◌, [], Bool, true, false, cond, nat_lt, ◌↔◌}
-use Rattle.std.proofs.Common.{sym, ◌∙◌, ap, arith}
+use Rattle.std.proofs.Common.{arith}
 use Rattle.std.proofs.lemmas.Bool.Decides.{nat_tests}
 use Rattle.flow_edges.specs.Cells.{Cell}
 use Rattle.flow_edges.specs.Signals.{Signal}
 use Rattle.flow_base.specs.Lists.{Lists}
-use Rattle.flow_base.specs.Workers.{Machine, WorkerLaws}
-use Rattle.flow_base.specs.Body.{BodyAs}
+use Rattle.flow_base.specs.Machines.{Move, Machine}
+use Rattle.flow_base.specs.Bodies.{Body}
 use Rattle.flow_base.specs.Promises.{Promise}
 use Rattle.flow_base.specs.Nodes.{NodeState}
 use Rattle.flow_base.specs.ClosedLists.{AreClosed, EndsFrom, none_due, due_none}
-use Rattle.flow_base.specs.declared.worker.Ask.{Ask}
 use Rattle.flow_base.specs.declared.node.Phase.{Phase}
 use Rattle.flow_base.specs.declared.node.Phase.TheVariants.{Working, Closing, Ending, Faulted}
 
@@ -25,37 +24,30 @@ abbrev pub over_out : Phase → ℕ → Bool
 over_out (Ending k) q = nat_lt q k
 over_out _ q = false
 
-module _ {S : Type 0} (m : Machine S) where
-  -- The rest of the present instance and whole instances, and then the ends.
-  pub record Remains (ask : Ask) (s : S) (i o : Lists Signal) : Type 0 where
+module _ {P S : Type 0} (m : Machine P S) where
+  -- What a run from this move reads and writes, and then the ends.
+  pub record Remains (p : P) (v : Move S) (i o : Lists Signal) : Type 0 where
     pub ins : Lists Cell
     pub outs : Lists Cell
-    pub body : BodyAs m ask s ins outs
-    pub closed_ins : AreClosed (m.inputs s) i ins
-    pub closed_outs : AreClosed (m.outputs s) o outs
+    pub body : Body m p v ins outs
+    pub closed_ins : AreClosed (m.inputs p) i ins
+    pub closed_outs : AreClosed (m.outputs p) o outs
 
   -- what is still to be read and written in this phase
-  abbrev pub owes_in : Phase → S → Lists Signal → Lists Signal → Type 0
-  owes_in Working s i o = Remains (m.ask s) s i o
-  owes_in (Closing p) s i o = (p < m.inputs s) × EndsFrom p (m.inputs s) i × EndsFrom 0 (m.outputs s) o
-  owes_in (Ending q) s i o = ((r : ℕ) → r < m.inputs s → i r ≡ []) × EndsFrom q (m.outputs s) o
+  abbrev pub owes_in : Phase → P × S → Lists Signal → Lists Signal → Type 0
+  owes_in Working s i o = Remains s.0 (m.move s.0 s.1) i o
+  owes_in (Closing k) s i o = (k < m.inputs s.0) × EndsFrom k (m.inputs s.0) i × EndsFrom 0 (m.outputs s.0) o
+  owes_in (Ending q) s i o = ((r : ℕ) → r < m.inputs s.0 → i r ≡ []) × EndsFrom q (m.outputs s.0) o
   owes_in (Faulted kind) s i o = ⊥
 
-  abbrev pub promise_of : Promise (NodeState S)
+  abbrev pub promise_of : Promise (NodeState (P × S))
   promise_of = record {
     owes = λ n. owes_in n.phase n.worker;
     over_in = λ n. over_in n.phase;
     over_out = λ n. over_out n.phase;
   }
 
-  -- where the next end that comes is that of input p, the ends from p on are owed, and those of all outputs
-  pub closing_owes : (b : Bool) (s : S) (p : ℕ) (i o : Lists Signal) → nat_lt p (m.inputs s) ≡ b → (EndsFrom p (m.inputs s) i × EndsFrom 0 (m.outputs s) o) ↔ owes_in (cond b (Closing p) (Ending 0)) s i o
-  closing_owes true s p i o e = (λ h. (grind (arith, nat_tests), h.0, h.1), λ h. (h.1, h.2))
-  closing_owes false s p i o e = (λ h. (none_due p (m.inputs s) i e h.0, h.1), λ h. (due_none p (m.inputs s) i e h.0, h.1))
-
-  module _ (laws : WorkerLaws m) where
-    pub same_inputs : (s t : S) → m.home t ≡ m.home s → m.inputs t ≡ m.inputs s
-    same_inputs s t e = sym (laws.same_inputs t) ∙ ap m.inputs e ∙ laws.same_inputs s
-
-    pub same_outputs : (s t : S) → m.home t ≡ m.home s → m.outputs t ≡ m.outputs s
-    same_outputs s t e = sym (laws.same_outputs t) ∙ ap m.outputs e ∙ laws.same_outputs s
+  -- where the next end that comes is that of input k, the ends from k on are owed, and those of all outputs
+  pub closing_owes : (b : Bool) (s : P × S) (k : ℕ) (i o : Lists Signal) → nat_lt k (m.inputs s.0) ≡ b → (EndsFrom k (m.inputs s.0) i × EndsFrom 0 (m.outputs s.0) o) ↔ owes_in (cond b (Closing k) (Ending 0)) s i o
+  closing_owes true s k i o e = (λ h. (grind (arith, nat_tests), h.0, h.1), λ h. (h.1, h.2))
+  closing_owes false s k i o e = (λ h. (none_due k (m.inputs s.0) i e h.0, h.1), λ h. (due_none k (m.inputs s.0) i e h.0, h.1))

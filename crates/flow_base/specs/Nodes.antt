@@ -5,7 +5,7 @@ use Rattle.snesl_values.specs.declared.fault.FaultKind.TheVariants.{Shape}
 use Rattle.kahn.specs.declared.want.Want.{Want}
 use Rattle.kahn.specs.declared.want.Want.TheVariants.{Read, Write, Ended, Faulted as Stopped}
 use Rattle.flow_edges.specs.Signals.{Signal, carry, stop}
-use Rattle.flow_base.specs.Workers.{Machine}
+use Rattle.flow_base.specs.Machines.{Machine, move_of, ask_of, given_of, told_of, after_of}
 use Rattle.flow_base.specs.Transducers.{Behaviour}
 use Rattle.flow_base.specs.declared.worker.Ask.{Ask}
 use Rattle.flow_base.specs.declared.worker.Ask.TheVariants.{Begin, Take, Give}
@@ -34,51 +34,53 @@ want_for Begin = Read 0
 want_for (Take p) = Read p
 want_for (Give q) = Write q
 
-module _ {S : Type 0} (m : Machine S) where
-  abbrev pub want_in : Phase → NodeState S → Want
-  want_in Working n = want_for (m.ask n.worker)
-  want_in (Closing p) n = cond (nat_lt p (m.inputs n.worker)) (Read p) (Stopped (record { kind = Shape; at = n.at }))
-  want_in (Ending q) n = cond (nat_lt q (m.outputs n.worker)) (Write q) Ended
+-- the worker is seen as its parameters and its state
+module _ {P S : Type 0} (m : Machine P S) where
+  abbrev pub want_in : Phase → NodeState (P × S) → Want
+  want_in Working n = want_for (ask_of (move_of m n.worker))
+  want_in (Closing p) n = cond (nat_lt p (m.inputs n.worker.0)) (Read p) (Stopped (record { kind = Shape; at = n.at }))
+  want_in (Ending q) n = cond (nat_lt q (m.outputs n.worker.0)) (Write q) Ended
   want_in (Faulted kind) n = Stopped (record { kind = kind; at = n.at })
 
   -- the worker goes on, or the node has faulted
-  abbrev pub moved : NodeState S → Result S FaultKind → NodeState S
-  moved n (Ok next) = record n { worker = next }
+  abbrev pub moved : NodeState (P × S) → Result S FaultKind → NodeState (P × S)
+  moved n (Ok next) = record n { worker = (n.worker.0, next) }
   moved n (Err kind) = record n { phase = Faulted kind }
 
   -- the stream at the first port may end where an instance may begin, and at no other place
-  abbrev pub at_end : Ask → NodeState S → NodeState S
-  at_end Begin n = record n { phase = closing 1 (m.inputs n.worker) }
+  abbrev pub at_end : Ask → NodeState (P × S) → NodeState (P × S)
+  at_end Begin n = record n { phase = closing 1 (m.inputs n.worker.0) }
   at_end _ n = record n { phase = Faulted Shape }
 
   -- where an end is due, nothing else may come
-  abbrev pub given_in : Phase → NodeState S → Signal → NodeState S
-  given_in Working n (carry x) = moved n (m.given n.worker x)
-  given_in Working n stop = at_end (m.ask n.worker) n
-  given_in (Closing p) n stop = record n { phase = closing (p + 1) (m.inputs n.worker) }
+  abbrev pub given_in : Phase → NodeState (P × S) → Signal → NodeState (P × S)
+  given_in Working n (carry x) = moved n (given_of (move_of m n.worker) x)
+  given_in Working n stop = at_end (ask_of (move_of m n.worker)) n
+  given_in (Closing p) n stop = record n { phase = closing (p + 1) (m.inputs n.worker.0) }
   given_in (Closing p) n (carry x) = record n { phase = Faulted Shape }
   given_in _ n _ = n
 
-  abbrev pub told_in : Phase → NodeState S → Signal
-  told_in Working n = carry (m.told n.worker)
+  abbrev pub told_in : Phase → NodeState (P × S) → Signal
+  told_in Working n = carry (told_of (move_of m n.worker))
   told_in _ n = stop
 
-  abbrev pub after_in : Phase → NodeState S → NodeState S
-  after_in Working n = record n { worker = m.after n.worker }
+  abbrev pub after_in : Phase → NodeState (P × S) → NodeState (P × S)
+  after_in Working n = record n { worker = (n.worker.0, after_of n.worker.1 (move_of m n.worker)) }
   after_in (Ending q) n = record n { phase = Ending (q + 1) }
   after_in _ n = n
 
-  abbrev pub debt_in : Phase → NodeState S → ℕ
-  debt_in Working n = m.debt n.worker
-  debt_in (Ending q) n = m.outputs n.worker - q
+  abbrev pub debt_in : Phase → NodeState (P × S) → ℕ
+  debt_in Working n = m.debt n.worker.0 n.worker.1
+  debt_in (Ending q) n = m.outputs n.worker.0 - q
   debt_in _ n = 0
 
-  abbrev pub memory_in : Phase → NodeState S → Bool
-  memory_in Working n = m.takes_memory n.worker
+  abbrev pub memory_in : Phase → NodeState (P × S) → Bool
+  memory_in Working n = m.takes_memory n.worker.1
   memory_in _ n = false
 
-  abbrev pub behaviour_of : Behaviour (NodeState S)
+  abbrev pub behaviour_of : Behaviour (NodeState (P × S))
   behaviour_of = record {
+    sample = opened (m.sample, m.start) 0;
     process = record {
       want = λ n. want_in n.phase n;
       read = λ n message. given_in n.phase n message;
@@ -87,13 +89,14 @@ module _ {S : Type 0} (m : Machine S) where
       debt = λ n. debt_in n.phase n;
       end = stop;
     };
-    opening = λ n. opened (m.home n.worker) n.at;
-    inputs = λ n. m.inputs n.worker;
-    outputs = λ n. m.outputs n.worker;
-    kind_in = λ n. m.kind_in n.worker;
-    kind_out = λ n. m.kind_out n.worker;
+    opening = λ n. opened (n.worker.0, m.start) n.at;
+    inputs = λ n. m.inputs n.worker.0;
+    outputs = λ n. m.outputs n.worker.0;
+    kind_in = λ n. m.kind_in n.worker.0;
+    kind_out = λ n. m.kind_out n.worker.0;
     at = λ n. n.at;
-    row = λ n. m.row n.worker;
-    fits = λ n. m.fits n.worker;
+    row = λ n. m.row n.worker.0;
+    of_kind = λ n. m.of_kind n.worker.0 n.worker.1;
+    in_range = λ n. m.in_range n.worker.0 n.worker.1;
     takes_memory = λ n. memory_in n.phase n;
   }

@@ -1,4 +1,4 @@
--- A transducer that keeps its promises: which ends have passed, and which integers.
+-- A transducer that keeps its promises: which ends have passed, and of which kind and in which range its items are.
 use Rattle.std.specs.Prelude.{◌≡◌, ℕ, ◌<◌, List, [], ◌∷◌, true, refl}
 use Rattle.std.proofs.Common.{inl, inr, sym, ◌∙◌, ap, subst}
 use Rattle.kahn.specs.declared.want.Want.TheVariants.{Read, Write}
@@ -6,7 +6,7 @@ use Rattle.kahn.specs.Processes.{Event, Reads, Writes, Does, reads, writes, HasE
 use Rattle.kahn.proofs.Prefix.{reads_first, reads_later, writes_first, writes_later}
 use Rattle.flow_edges.specs.Signals.{Signal, stop}
 use Rattle.flow_base.specs.Ports.{ports}
-use Rattle.flow_base.specs.Ranges.{SignalInRange, SignalsInRange, SignalFits, SignalsFit}
+use Rattle.flow_base.specs.Ranges.{SignalInRange, SignalsInRange, SignalOfKind, SignalsOfKind}
 use Rattle.flow_base.specs.Transducers.{Behaviour}
 use Rattle.flow_base.specs.Promises.{Promise, PromiseLaws}
 use Rattle.flow_base.specs.Histories.{no_end, end_cases}
@@ -55,10 +55,27 @@ module _ {S : Type 0} (b : Behaviour S) (promise : Promise S) (laws : PromiseLaw
   kinds_stay : (s t : S) (q : ℕ) → b.opening t ≡ b.opening s → b.kind_out t q ≡ b.kind_out s q
   kinds_stay s t q e = sym (laws.same_kinds_out t q) ∙ ap (λ k. b.kind_out k q) e ∙ laws.same_kinds_out s q
 
-  -- where integers in the range came in, integers in the range go out, of the kind of their port
-  pub fits_out : (start : S) (h : List (Event Signal)) (s t : S) → b.opening s ≡ b.opening start → Does b.process s h t → b.fits s → ((p : ℕ) → p < b.inputs start → SignalsInRange (reads p h)) → (q : ℕ) → SignalsFit (b.kind_out start q) (writes q h)
-  fits_out start [] s t same does fits range q = tt
-  fits_out start (Reads p m ∷ h) s t same (wants, does) fits range q =
+  -- each item that goes out is of the kind of its port
+  pub of_kind_out : (start : S) (h : List (Event Signal)) (s t : S) → b.opening s ≡ b.opening start → Does b.process s h t → b.of_kind s → (q : ℕ) → SignalsOfKind (b.kind_out start q) (writes q h)
+  of_kind_out start [] s t same does held q = tt
+  of_kind_out start (Reads p m ∷ h) s t same (wants, does) held q =
+      let law = keeps b promise laws s (Read p) wants in
+      of_kind_out start h (b.process.read s m) t (law.stays m ∙ same) does (law.of_kind m held) q
+  of_kind_out start (Writes p m ∷ h) s t same (wants, is, does) held q =
+      let law = keeps b promise laws s (Write p) wants in
+      let kept = law.of_kind held in
+      let there : SignalsOfKind (b.kind_out start q) (writes q h) = of_kind_out start h (b.process.wrote s) t (law.stays ∙ same) does kept.1 q in
+      let here : SignalOfKind (b.kind_out start p) m = subst (λ x. SignalOfKind (b.kind_out start p) x) is (subst (λ kind. SignalOfKind kind (b.process.written s)) (kinds_stay start s p same) kept.0) in
+      elim (ports q p) [
+        | inl same_port ↦ subst (λ l. SignalsOfKind (b.kind_out start q) l) (sym (writes_first q p m h same_port)) (subst (λ k. SignalOfKind (b.kind_out start k) m) (sym same_port) here, there)
+        | inr other ↦ subst (λ l. SignalsOfKind (b.kind_out start q) l) (sym (writes_later q p m h other)) there
+      ]
+
+  -- where the integers that are held and those that came in lie in the range, so do those that go out
+  pub in_range_out : (start : S) (h : List (Event Signal)) (s t : S) → b.opening s ≡ b.opening start → Does b.process s h t → b.of_kind s → b.in_range s →
+      ((p : ℕ) → p < b.inputs start → SignalsInRange (reads p h)) → (q : ℕ) → SignalsInRange (writes q h)
+  in_range_out start [] s t same does held own range q = tt
+  in_range_out start (Reads p m ∷ h) s t same (wants, does) held own range q =
       let law = keeps b promise laws s (Read p) wants in
       let port : p < b.inputs start = subst (λ n. p < n) (inputs_stay b promise laws start s same) law.port in
       let here : SignalInRange m × SignalsInRange (reads p h) = subst (λ l. SignalsInRange l) (reads_first p p m h refl) (range p port) in
@@ -67,14 +84,12 @@ module _ {S : Type 0} (b : Behaviour S) (promise : Promise S) (laws : PromiseLaw
         | inl is ↦ subst (λ j. SignalsInRange (reads j h)) (sym is) here.1
         | inr other ↦ subst (λ l. SignalsInRange l) (reads_later k p m h other) (range k lt)
       ] in
-      fits_out start h (b.process.read s m) t (law.stays m ∙ same) does (law.fit m fits here.0) others q
-  fits_out start (Writes p m ∷ h) s t same (wants, is, does) fits range q =
+      in_range_out start h (b.process.read s m) t (law.stays m ∙ same) does (law.of_kind m held) (law.in_range m held own here.0) others q
+  in_range_out start (Writes p m ∷ h) s t same (wants, is, does) held own range q =
       let law = keeps b promise laws s (Write p) wants in
-      let fit = law.fit fits in
-      let there : SignalsFit (b.kind_out start q) (writes q h) = fits_out start h (b.process.wrote s) t (law.stays ∙ same) does fit.1 range q in
-      let kind : b.kind_out s p ≡ b.kind_out start p = kinds_stay start s p same in
-      let here : SignalFits (b.kind_out start p) m = subst (λ x. SignalFits (b.kind_out start p) x) is (subst (λ kind. SignalFits kind (b.process.written s)) kind fit.0) in
+      let kept = law.in_range held own in
+      let there : SignalsInRange (writes q h) = in_range_out start h (b.process.wrote s) t (law.stays ∙ same) does (law.of_kind held).1 kept.1 range q in
       elim (ports q p) [
-        | inl same_port ↦ subst (λ l. SignalsFit (b.kind_out start q) l) (sym (writes_first q p m h same_port)) (subst (λ k. SignalFits (b.kind_out start k) m) (sym same_port) here, there)
-        | inr other ↦ subst (λ l. SignalsFit (b.kind_out start q) l) (sym (writes_later q p m h other)) there
+        | inl same_port ↦ subst (λ l. SignalsInRange l) (sym (writes_first q p m h same_port)) (subst (λ x. SignalInRange x) is kept.0, there)
+        | inr other ↦ subst (λ l. SignalsInRange l) (sym (writes_later q p m h other)) there
       ]

@@ -5,6 +5,12 @@ use Rattle.std.proofs.Math.Path.{fun_ext}
 use Rattle.std.proofs.lemmas.Bool.Decides.{eqb_tells}
 use Rattle.flow_base.specs.Lists.{Lists, push, with_port, NothingAt, First}
 
+-- the lists, one for each port
+abbrev pub each_port : {A : Type 0} → List (List A) → Lists A
+each_port [] p = []
+each_port (l ∷ ls) zero = l
+each_port (l ∷ ls) (suc p) = each_port ls p
+
 pub ports : (q p : ℕ) → (q ≡ p) ⊎ (q ≢ p)
 ports q p = elim (eqb_tells q p) [ inl h ↦ inl h.1 | inr h ↦ inr h.1 ]
 

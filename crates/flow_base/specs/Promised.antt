@@ -14,7 +14,7 @@ use Rattle.flow_base.specs.Transducers.{Behaviour, BehaviourLaws, TransducerLaws
 use Rattle.flow_base.specs.Promises.{Promise, PromiseLaws}
 use Rattle.flow_base.specs.Histories.{read_in, written_in, closed_end, closed_begins, closed_inside, closed_beyond}
 use Rattle.flow_base.specs.Runs.{keeps, opening_stays, inputs_stay, outputs_stay, complete_owes, run_owed}
-use Rattle.flow_base.specs.Passed.{passed_in, passed_out, fits_out}
+use Rattle.flow_base.specs.Passed.{passed_in, passed_out, of_kind_out, in_range_out}
 
 never : (c : Bool) → c ≡ true → c ≡ false → ⊥
 never c yet over = let e : true ≡ false = sym yet ∙ over in cc
@@ -77,7 +77,8 @@ module _ {S : Type 0} (b : Behaviour S) (promise : Promise S) (laws : PromiseLaw
       beginnings = beginnings;
       complete = complete;
       one = one;
-      in_range = λ fits h s does range q lt. fits_out b promise laws start h start s refl does fits range q;
+      of_kind = λ h s does q lt. of_kind_out b promise laws start h start s refl does (laws.starts_of_kind start opens) q;
+      in_range = λ own h s does range q lt. in_range_out b promise laws start h start s refl does (laws.starts_of_kind start opens) own range q;
     }
 
   pub promised_laws : BehaviourLaws b
@@ -91,6 +92,7 @@ module _ {S : Type 0} (b : Behaviour S) (promise : Promise S) (laws : PromiseLaw
     same_outputs = laws.same_outputs;
     same_kinds_in = laws.same_kinds_in;
     same_kinds_out = laws.same_kinds_out;
+    starts_of_kind = laws.starts_of_kind;
     kinds = λ s p x wants other. (keeps b promise laws s (Read p) wants).kinds x other;
     faults_at = λ s fault faulted. (keeps b promise laws s (Faulted fault) faulted).place;
     opened = λ start opens. transducer_laws start opens;

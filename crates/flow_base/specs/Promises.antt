@@ -7,7 +7,7 @@ use Rattle.kahn.specs.declared.want.Want.TheVariants.{Read, Write, Ended, Faulte
 use Rattle.flow_edges.specs.Cells.{Cell, is_of}
 use Rattle.flow_edges.specs.Signals.{Signal, carry, stop}
 use Rattle.flow_base.specs.Lists.{Lists, push, with_port, First, IsFull}
-use Rattle.flow_base.specs.Ranges.{SignalInRange, SignalFits}
+use Rattle.flow_base.specs.Ranges.{SignalInRange, SignalOfKind}
 use Rattle.flow_base.specs.Transducers.{Behaviour, IsLawfulTraffic}
 
 -- What is promised in each state.
@@ -32,7 +32,9 @@ module _ {S : Type 0} (b : Behaviour S) (promise : Promise S) where
     pub still_in : (m : Signal) (k : ℕ) → promise.over_in s k ≡ true → promise.over_in (b.process.read s m) k ≡ true
     pub still_out : (m : Signal) (k : ℕ) → promise.over_out s k ≡ true → promise.over_out (b.process.read s m) k ≡ true
     pub kinds : (x : Cell) → is_of (b.kind_in s p) x ≡ false → b.process.want (b.process.read s (carry x)) ≡ Faulted (record { kind = Shape; at = b.at s })
-    pub fit : (m : Signal) → b.fits s → SignalInRange m → b.fits (b.process.read s m)
+    -- whatever is read, what is held stays of its kind; and in the range, where what is read is
+    pub of_kind : (m : Signal) → b.of_kind s → b.of_kind (b.process.read s m)
+    pub in_range : (m : Signal) → b.of_kind s → b.in_range s → SignalInRange m → b.in_range (b.process.read s m)
 
   -- What is kept to where the next is a write to port q.
   pub record KeepsWrite (s : S) (q : ℕ) : Type 0 where
@@ -45,7 +47,9 @@ module _ {S : Type 0} (b : Behaviour S) (promise : Promise S) where
     pub ends : b.process.written s ≡ stop → promise.over_out (b.process.wrote s) q ≡ true
     pub still_in : (k : ℕ) → promise.over_in s k ≡ true → promise.over_in (b.process.wrote s) k ≡ true
     pub still_out : (k : ℕ) → promise.over_out s k ≡ true → promise.over_out (b.process.wrote s) k ≡ true
-    pub fit : b.fits s → SignalFits (b.kind_out s q) (b.process.written s) × b.fits (b.process.wrote s)
+    -- what is written is of the kind, and in the range, where what is held is
+    pub of_kind : b.of_kind s → SignalOfKind (b.kind_out s q) (b.process.written s) × b.of_kind (b.process.wrote s)
+    pub in_range : b.of_kind s → b.in_range s → SignalInRange (b.process.written s) × b.in_range (b.process.wrote s)
 
   -- What is kept to where the process has ended: nothing is owed.
   pub record KeepsEnded (s : S) : Type 0 where
@@ -75,3 +79,5 @@ module _ {S : Type 0} (b : Behaviour S) (promise : Promise S) where
     pub same_outputs : (s : S) → b.outputs (b.opening s) ≡ b.outputs s
     pub same_kinds_in : (s : S) (p : ℕ) → b.kind_in (b.opening s) p ≡ b.kind_in s p
     pub same_kinds_out : (s : S) (q : ℕ) → b.kind_out (b.opening s) q ≡ b.kind_out s q
+    -- what is held in an opening state is of its kind
+    pub starts_of_kind : (s : S) → b.opening s ≡ s → b.of_kind s

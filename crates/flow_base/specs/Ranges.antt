@@ -1,4 +1,4 @@
--- Integers that lie in the language's range, wherever they stand.
+-- Integers that lie in the language's range, and items of a kind, wherever they stand.
 use Rattle.std.specs.Prelude.{◌≡◌, true, List, [], ◌∷◌}
 use Rattle.snesl_values.specs.Integers.{IsInteger}
 use Rattle.snesl_values.specs.Values.{Value, Values, an_int, a_bool, a_pair, a_vec, a_seq, no_values, more_values}
@@ -40,11 +40,11 @@ abbrev pub AllOf : Kind → List Cell → Type 0
 AllOf kind [] = Unit {0}
 AllOf kind (x ∷ xs) = (is_of kind x ≡ true) × AllOf kind xs
 
--- what the signal carries is of the kind, and its integers lie in the range
-abbrev pub SignalFits : Kind → Signal → Type 0
-SignalFits kind (carry x) = (is_of kind x ≡ true) × CellInRange x
-SignalFits kind stop = Unit {0}
+-- the signal is the end, or carries an item of the kind
+abbrev pub SignalOfKind : Kind → Signal → Type 0
+SignalOfKind kind (carry x) = is_of kind x ≡ true
+SignalOfKind kind stop = Unit {0}
 
-abbrev pub SignalsFit : Kind → List Signal → Type 0
-SignalsFit kind [] = Unit {0}
-SignalsFit kind (m ∷ ms) = SignalFits kind m × SignalsFit kind ms
+abbrev pub SignalsOfKind : Kind → List Signal → Type 0
+SignalsOfKind kind [] = Unit {0}
+SignalsOfKind kind (m ∷ ms) = SignalOfKind kind m × SignalsOfKind kind ms

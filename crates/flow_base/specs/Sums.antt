@@ -1,5 +1,5 @@
 -- The sum of behaviours: a transducer of any of several kinds, each with states of its own. A state of the sum is
--- a kind with a state of that kind.
+-- a kind with a state of that kind; its sample is that of the kind `some`.
 use Rattle.std.specs.Prelude.{◌≡◌, ℕ, ◌<◌, List, [], ◌∷◌, refl}
 use Rattle.std.proofs.Common.{sym, ap, subst}
 use Rattle.snesl_values.specs.declared.fault.Fault.{Fault}
@@ -12,7 +12,7 @@ use Rattle.flow_edges.specs.Signals.{Signal, stop}
 use Rattle.flow_base.specs.Lists.{Lists}
 use Rattle.flow_base.specs.Transducers.{Behaviour, BehaviourLaws, TransducerLaws, IsLawfulTraffic, closed, closed_at}
 
-module _ {Tag : Type 0} {StateOf : Tag → Type 0} (each : (t : Tag) → Behaviour (StateOf t)) where
+module _ {Tag : Type 0} {StateOf : Tag → Type 0} (some : Tag) (each : (t : Tag) → Behaviour (StateOf t)) where
   -- a kind, with a state of that kind
   abbrev pub SumState : Type 0
   SumState = (t : Tag) × StateOf t
@@ -20,6 +20,7 @@ module _ {Tag : Type 0} {StateOf : Tag → Type 0} (each : (t : Tag) → Behavio
   -- what a state of the sum does is what its kind does
   abbrev pub sum_of : Behaviour ((t : Tag) × StateOf t)
   sum_of = record {
+    sample = (some, (each some).sample);
     process = record {
       want = λ u. (each u.0).process.want u.1;
       read = λ u message. (u.0, (each u.0).process.read u.1 message);
@@ -35,7 +36,8 @@ module _ {Tag : Type 0} {StateOf : Tag → Type 0} (each : (t : Tag) → Behavio
     kind_out = λ u. (each u.0).kind_out u.1;
     at = λ u. (each u.0).at u.1;
     row = λ u. (each u.0).row u.1;
-    fits = λ u. (each u.0).fits u.1;
+    of_kind = λ u. (each u.0).of_kind u.1;
+    in_range = λ u. (each u.0).in_range u.1;
     takes_memory = λ u. (each u.0).takes_memory u.1;
   }
 
@@ -105,7 +107,8 @@ module _ {Tag : Type 0} {StateOf : Tag → Type 0} (each : (t : Tag) → Behavio
         beginnings = beginnings;
         complete = complete;
         one = kept.one;
-        in_range = λ fits h u does range. let d = sum_does t h start u does in kept.in_range fits h d.0 d.2 range;
+        of_kind = λ h u does. let d = sum_does t h start u does in kept.of_kind h d.0 d.2;
+        in_range = λ own h u does range. let d = sum_does t h start u does in kept.in_range own h d.0 d.2 range;
       }
 
     -- each state's opening state keeps the laws, and a state that is its own opening state is that one
@@ -113,6 +116,9 @@ module _ {Tag : Type 0} {StateOf : Tag → Type 0} (each : (t : Tag) → Behavio
     opened (t, s) opens =
         let first = (each t).opening s in
         subst (λ v. TransducerLaws sum_of v) opens (sum_kept t first ((laws t).opened first ((laws t).same_opening s)))
+
+    starts_of_kind : (u : SumState) → sum_of.opening u ≡ u → sum_of.of_kind u
+    starts_of_kind (t, s) opens = subst (λ v. sum_of.of_kind v) opens ((laws t).starts_of_kind ((each t).opening s) ((laws t).same_opening s))
 
     pub sum_laws : BehaviourLaws sum_of
     sum_laws = record {
@@ -125,6 +131,7 @@ module _ {Tag : Type 0} {StateOf : Tag → Type 0} (each : (t : Tag) → Behavio
       same_outputs = λ u. (laws u.0).same_outputs u.1;
       same_kinds_in = λ u. (laws u.0).same_kinds_in u.1;
       same_kinds_out = λ u. (laws u.0).same_kinds_out u.1;
+      starts_of_kind = starts_of_kind;
       kinds = λ u p x wants other. (laws u.0).kinds u.1 p x wants other;
       faults_at = λ u fault faulted. (laws u.0).faults_at u.1 fault faulted;
       opened = opened;

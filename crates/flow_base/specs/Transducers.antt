@@ -11,7 +11,7 @@ use Rattle.flow_edges.specs.Cells.{Cell, is_of}
 use Rattle.flow_edges.specs.Signals.{Signal, carry, stop}
 use Rattle.flow_edges.specs.declared.message.Kind.{Kind}
 use Rattle.flow_base.specs.Lists.{Lists}
-use Rattle.flow_base.specs.Ranges.{SignalsInRange, SignalsFit}
+use Rattle.flow_base.specs.Ranges.{SignalsInRange, SignalsOfKind}
 
 -- a message is to be written
 abbrev pub IsWrite : Want → Type 0
@@ -29,6 +29,8 @@ closed_at n bodies p = cond (nat_lt p n) (closed (bodies p)) []
 
 -- What a transducer does.
 pub record Behaviour (S : Type 0) : Type 1 where
+  -- some state: what stands for a node that is not there
+  pub sample : S
   -- the process that it is
   pub process : Process S Signal
   -- the state in which it opened
@@ -42,8 +44,10 @@ pub record Behaviour (S : Type 0) : Type 1 where
   pub at : S → ℕ
   -- the row: which bodies go out for which bodies in
   pub row : S → Lists Cell → Lists Cell → Type 0
-  -- what the state holds is of the kinds that it names, and its integers lie in the range
-  pub fits : S → Type 0
+  -- what the state holds is of the kinds that it names
+  pub of_kind : S → Type 0
+  -- the integers that it holds lie in the range
+  pub in_range : S → Type 0
   -- whether the next step from this state may take memory
   pub takes_memory : S → Bool
 
@@ -71,9 +75,11 @@ module _ {S : Type 0} (b : Behaviour S) where
     -- for given bodies in there are no two bodies out
     pub one : (ins outs same others : Lists Cell) → b.row start ins outs → b.row start same others → ((p : ℕ) → p < b.inputs start → ins p ≡ same p) →
         (q : ℕ) → q < b.outputs start → outs q ≡ others q
-    -- where integers in the range came in, integers in the range go out, of the kind of their port
-    pub in_range : b.fits start → (h : List (Event Signal)) (s : S) → Does b.process start h s →
-        ((p : ℕ) → p < b.inputs start → SignalsInRange (reads p h)) → (q : ℕ) → q < b.outputs start → SignalsFit (b.kind_out start q) (writes q h)
+    -- whatever came in, each item that goes out is of the kind of its port
+    pub of_kind : (h : List (Event Signal)) (s : S) → Does b.process start h s → (q : ℕ) → q < b.outputs start → SignalsOfKind (b.kind_out start q) (writes q h)
+    -- where its own integers and those that came in lie in the range, so do those that go out
+    pub in_range : b.in_range start → (h : List (Event Signal)) (s : S) → Does b.process start h s →
+        ((p : ℕ) → p < b.inputs start → SignalsInRange (reads p h)) → (q : ℕ) → q < b.outputs start → SignalsInRange (writes q h)
 
   -- What a transducer keeps to in each state.
   pub record BehaviourLaws : Type 0 where
@@ -86,6 +92,7 @@ module _ {S : Type 0} (b : Behaviour S) where
     pub same_outputs : (s : S) → b.outputs (b.opening s) ≡ b.outputs s
     pub same_kinds_in : (s : S) (p : ℕ) → b.kind_in (b.opening s) p ≡ b.kind_in s p
     pub same_kinds_out : (s : S) (q : ℕ) → b.kind_out (b.opening s) q ≡ b.kind_out s q
+    pub starts_of_kind : (s : S) → b.opening s ≡ s → b.of_kind s
     -- an item of another kind than its port's is a fault, and each fault is at the transducer's offset
     pub kinds : (s : S) (p : ℕ) (x : Cell) → b.process.want s ≡ Read p → is_of (b.kind_in s p) x ≡ false → b.process.want (b.process.read s (carry x)) ≡ Faulted (record { kind = Shape; at = b.at s })
     pub faults_at : (s : S) (fault : Fault) → b.process.want s ≡ Faulted fault → fault.at ≡ b.at s

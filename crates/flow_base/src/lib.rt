@@ -14,4 +14,4 @@ mod worker;
 pub use node::{Node, Phase};
 pub use printing::Printing;
 pub use transducer::{Transducer, keeps_laws};
-pub use worker::{Ask, Stop, Worker};
+pub use worker::{Ask, Stop, Worker, computes_row};

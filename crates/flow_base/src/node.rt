@@ -70,13 +70,13 @@ impl<W: Worker> Transducer for Node<W> {
     ghost use Rattle.flow_base.specs.Nodes.{NodeState, node_state, behaviour_of};
     ghost use Rattle.flow_base.specs.NodeLaws.{behaviour_laws};
 
-    ghost State = { NodeState W.State };
+    ghost State = { NodeState (W.Parameters × W.State) };
 
     ghost state = { λ n. node_state (W.state n.worker) n.phase n.at };
 
     ghost behaviour = { behaviour_of W.machine };
 
-    ghost laws = { behaviour_laws W.machine W.laws W.rows };
+    ghost laws = { behaviour_laws W.machine W.laws };
 
     fn want(&self) -> Want {
         match self.phase {

@@ -1,6 +1,7 @@
 // Workers: what a transducer does with one instance after another.
 
 ghost use Rattle.std.specs.Prelude.{◌≡◌, false, IfOk, OnErr, IsOk};
+ghost use Rattle.flow_base.specs.Computed.{ComputesRow};
 
 use flow_edges::{Item, Kind};
 use snesl_values::FaultKind;
@@ -52,55 +53,65 @@ impl From<AllocError> for Stop {
 pub trait Worker {
     ghost use Rattle.std.specs.Prelude.{ℕ};
     ghost use Rattle.flow_edges.specs.Cells.{cell_of};
-    ghost use Rattle.flow_base.specs.Workers.{Machine, Takes, IsReading, IsWriting, WorkerLaws};
-    ghost use Rattle.flow_base.specs.Body.{RowLaw};
+    ghost use Rattle.flow_base.specs.Workers.{Takes, IsReading, IsWriting};
+    ghost use Rattle.flow_base.specs.Machines.{Machine, MachineLaws, move_of, ask_of, given_of, told_of, after_of, with_parameters};
     ghost use Rattle.flow_base.specs.declared.worker.Stop.TheVariants.{OutOfMemory};
 
-    /// What its laws see of it.
+    /// What stays as it is from one instance to the next.
+    ghost Parameters: { Type 0 };
+
+    /// How far it is, with what it holds.
     ghost State: { Type 0 };
 
-    ghost state: { Self → State };
+    /// What its laws see of it.
+    ghost state: { Self → Parameters × State };
 
-    /// What it does, as a machine over these states.
-    ghost machine: { Machine State };
+    /// What it does, as a table over these states.
+    ghost machine: { Machine Parameters State };
 
     /// What it wants next.
     fn ask(&self) -> Ask
-        ensures { result ≡ machine.ask (state self.now) };
+        ensures { result ≡ ask_of (move_of machine (state self.now)) };
 
     /// The number of its input ports, from 0 on.
     fn inputs(&self) -> usize
-        ensures { result ≡ machine.inputs (state self.now) };
+        ensures { result ≡ machine.inputs (state self.now).0 };
 
     /// The number of its output ports, from 0 on.
     fn outputs(&self) -> usize
-        ensures { result ≡ machine.outputs (state self.now) };
+        ensures { result ≡ machine.outputs (state self.now).0 };
 
     /// The kind of the items at this input port.
     fn kind_in(&self, port: usize) -> Kind
-        ensures { result ≡ machine.kind_in (state self.now) port };
+        ensures { result ≡ machine.kind_in (state self.now).0 port };
 
     /// The kind of the items at this output port.
     fn kind_out(&self, port: usize) -> Kind
-        ensures { result ≡ machine.kind_out (state self.now) port };
+        ensures { result ≡ machine.kind_out (state self.now).0 port };
 
-    /// Takes the item that it wanted to read. `Faulted` where no instance goes on with it, and `OutOfMemory` where
-    /// memory was refused; then the worker is unchanged.
+    /// Takes the item that it wanted to read. `Faulted` where no instance goes on with it, and `OutOfMemory` where one
+    /// does but memory was refused: a fault is never answered as want of memory. In both the worker is unchanged.
     fn take(&mut self, item: Item) -> Result<(), Stop>
-        requires { IsReading (machine.ask (state self.old)) }
-        ensures takes { Takes (machine.given (state self.old) (cell_of item)) (state self.old) result (state self.new) }
-        ensures sure { machine.takes_memory (state self.old) ≡ false → result ≡ Err OutOfMemory → ⊥ };
+        requires { IsReading (ask_of (move_of machine (state self.old))) }
+        ensures takes { Takes (with_parameters (state self.old).0 (given_of (move_of machine (state self.old)) (cell_of item))) (state self.old) result (state self.new) }
+        ensures sure { machine.takes_memory (state self.old).1 ≡ false → result ≡ Err OutOfMemory → ⊥ };
 
     /// Gives the item that it wanted to write. An error where memory was refused; then the worker is unchanged.
     fn give(&mut self) -> Result<Item, AllocError>
-        requires { IsWriting (machine.ask (state self.old)) }
-        ensures ok { IfOk result (λ item. (cell_of item ≡ machine.told (state self.old)) × (state self.new ≡ machine.after (state self.old))) }
+        requires { IsWriting (ask_of (move_of machine (state self.old))) }
+        ensures ok { IfOk result (λ item.
+            (cell_of item ≡ told_of (move_of machine (state self.old))) ×
+            (state self.new ≡ ((state self.old).0, after_of (state self.old).1 (move_of machine (state self.old))))) }
         ensures err { OnErr result (state self.new ≡ state self.old) }
-        ensures sure { machine.takes_memory (state self.old) ≡ false → IsOk result };
+        ensures sure { machine.takes_memory (state self.old).1 ≡ false → IsOk result };
 
-    /// What it keeps to in each state.
-    ghost laws: { WorkerLaws machine };
-
-    /// Whole instances are what the row says.
-    ghost rows: { RowLaw machine };
+    /// What it keeps to in each state; whole instances are what the row says.
+    ghost laws: { MachineLaws machine };
 }
+
+/// A law and no code to run: the row of a worker is what its table computes. Whole instances read and write these
+/// lists exactly where what is computed of those that are read are those that are written.
+#[tactic(auto, using(crate::specs::Computed::computes_row))]
+pub fn computes_row<W: Worker>(worker: &W)
+    ensures { ComputesRow W.machine (W.state worker.now).0 }
+{}

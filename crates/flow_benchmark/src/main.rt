@@ -1,14 +1,15 @@
 // Times the serial drive on the network of `reduce_add({x * x : x in iota(n)})`. The outcome and the number of
-// messages go to standard output, the times to standard error. The first word of the command line is n.
+// messages go to standard output, the times to standard error. The first word of the command line is n, a thousand where
+// there is none.
 #![tactic(auto)]
 
 mod plan;
 
-use flow_drive::{Config, Drive, MAX_CHUNK, NoGate, Outcome, Rested, drive};
+use anyhow::{Context, Result};
+use flow_drive::{Config, Drive, MAX_CHUNK, NoGate, Outcome, Rested, Sharing, drive};
 use flow_nodes::StreamNode;
 use plan::squares;
 use std::env;
-use std::io::{self, Error, ErrorKind};
 use std::rt::Env;
 use std::sync::Arc;
 use std::time::{Duration, Instant};
@@ -16,7 +17,7 @@ use std::time::{Duration, Instant};
 // The capacity of the edges.
 const CAPACITY: usize = 256;
 
-fn main(rt: HostRuntime) -> io::Result<()> {
+fn main(rt: HostRuntime) -> Result<()> {
     let count = count_of(&rt)?;
     for chunk in [16, 256, MAX_CHUNK] {
         measure(&rt, count, chunk)?;
@@ -24,32 +25,31 @@ fn main(rt: HostRuntime) -> io::Result<()> {
     Ok(())
 }
 
-// The number on the command line, or a thousand.
-fn count_of<R: Env + AllocGlobal>(rt: &R) -> io::Result<i64> {
+// The number on the command line, or a thousand where there is no word.
+fn count_of<R: Env + AllocGlobal>(rt: &R) -> Result<i64> {
     match env::args(rt)?.nth(1) {
-        Some(word) => Ok(word.as_str().parse::<i64>().unwrap_or(1_000)),
+        Some(word) => word.as_str().parse::<i64>().context("n is no number"),
         None => Ok(1_000),
     }
 }
 
 // Drives the network once with this chunk.
-fn measure(rt: &HostRuntime, count: i64, chunk: usize) -> io::Result<()> {
+fn measure(rt: &HostRuntime, count: i64, chunk: usize) -> Result<()> {
     let alloc = rt.alloc();
     let graph = squares(alloc, count)?;
     let config = Config {
         capacity: CAPACITY,
         chunk,
-        threads: 1,
-        idle: 1,
-        share: vec![in alloc; 0u8]?,
+        sharing: Sharing {
+            threads: 1,
+            idle_turns: 1,
+            share: vec![in alloc; 0u8]?,
+        },
         drive: Drive::Serial,
     };
     let gate = Arc::new(alloc, NoGate)?;
     let start = Instant::now(rt)?;
-    let rested = match drive(alloc, graph, &config, gate) {
-        Ok(rested) => rested,
-        Err(_) => return Err(Error::from(ErrorKind::OutOfMemory)),
-    };
+    let rested = drive(alloc, graph, &config, gate)?;
     let time = start.elapsed(rt)?;
     report(rt, &rested, count, chunk, time)
 }
@@ -61,7 +61,7 @@ fn report(
     count: i64,
     chunk: usize,
     time: Duration,
-) -> io::Result<()> {
+) -> Result<()> {
     let sent = messages(rested);
     let end = match rested.outcome() {
         Outcome::Value => "value",
@@ -72,7 +72,8 @@ fn report(
     let nanos = time.as_nanos();
     let per_element = nanos / u128::from(count.unsigned_abs().max(1));
     let per_message = nanos / u128::from(sent.max(1));
-    eprintln!(rt; "chunk {chunk}: {per_element} ns an element, {per_message} ns a message")
+    eprintln!(rt; "chunk {chunk}: {per_element} ns an element, {per_message} ns a message")?;
+    Ok(())
 }
 
 // How many messages were sent, all edges together.

@@ -1,20 +1,25 @@
 -- Which configurations of a drive are lawful.
 use Rattle.std.specs.Prelude.{ℕ, ◌<◌, ◌≤◌, length}
 use Rattle.std.specs.List.{All}
-use Rattle.flow_edges.specs.declared.table.TheConstants.{MAX_CAPACITY}
-use Rattle.flow_drive.specs.declared.config.TheConstants.{MAX_CHUNK, MAX_THREADS, MAX_IDLE, MAX_SHARE}
+use Rattle.flow_edges.specs.Limits.{greatest_capacity}
 use Rattle.flow_drive.specs.declared.config.Config.{Config}
+use Rattle.flow_drive.specs.declared.config.Sharing.{Sharing}
+use Rattle.flow_drive.specs.Limits.{greatest_chunk, most_threads, most_idle_turns, most_entries}
 
 -- the number is at least 1 and at most `most`
 pub record IsWithin (most number : ℕ) : Type 0 where
   pub some : 1 ≤ number
   pub limit : number ≤ most
 
+-- What drives of several threads read lies within its limits.
+pub record IsLawfulSharing (sharing : Sharing) : Type 0 where
+  pub threads : IsWithin most_threads sharing.threads
+  pub idle_turns : IsWithin most_idle_turns sharing.idle_turns
+  pub entries : IsWithin most_entries (length sharing.share.items)
+  pub shares : All (λ share. share < sharing.threads) sharing.share.items
+
 -- Each field lies within its limits.
 pub record IsLawful (config : Config) : Type 0 where
-  pub capacity : IsWithin MAX_CAPACITY config.capacity
-  pub chunk : IsWithin MAX_CHUNK config.chunk
-  pub threads : IsWithin MAX_THREADS config.threads
-  pub idle : IsWithin MAX_IDLE config.idle
-  pub entries : IsWithin MAX_SHARE (length config.share.items)
-  pub shares : All (λ share. share < config.threads) config.share.items
+  pub capacity : IsWithin greatest_capacity config.capacity
+  pub chunk : IsWithin greatest_chunk config.chunk
+  pub sharing : IsLawfulSharing config.sharing

@@ -18,26 +18,26 @@ module _ {S : Type 0} (b : Behaviour S) where
   -- states `states'` and its edges the traffic `view`
   abbrev pub EndsMaximalRun : ℕ → List S → List Edge → List S → View → Type 0
   EndsMaximalRun capacity states edges states' view =
-      (idle : S) → let net = network_of b idle states edges in
-      (events : List (Event Signal)) × Maximal b.process net (Some capacity) events (start net) (configuration_of idle states' view)
+      let net = network_of b states edges in
+      (events : List (Event Signal)) × Maximal b.process net (Some capacity) events (start net) (configuration_of b states' view)
 
   module _ (states : List S) (edges : List Edge) where
     -- these states and this traffic are a sound configuration
     abbrev pub IsSoundAt : View → Type 0
-    IsSoundAt view = (idle : S) → ∥ IsSound b.process (network_of b idle states edges) (configuration_of idle states view) ∥₁
+    IsSoundAt view = ∥ IsSound b.process (network_of b states edges) (configuration_of b states view) ∥₁
 
     -- no node can step
     abbrev pub RestsAt : ℕ → View → Type 0
-    RestsAt capacity view = (idle : S) → AtRest b.process (network_of b idle states edges) (Some capacity) (configuration_of idle states view)
+    RestsAt capacity view = AtRest b.process (network_of b states edges) (Some capacity) (configuration_of b states view)
 
     -- they came out so
     abbrev pub ComesOut : ℕ → View → Outcome → Type 0
-    ComesOut capacity view outcome = (idle : S) → HasOutcome b.process (network_of b idle states edges) capacity (configuration_of idle states view) outcome
+    ComesOut capacity view outcome = HasOutcome b.process (network_of b states edges) capacity (configuration_of b states view) outcome
 
     -- the writer of the edge wants to write to it
-    abbrev pub WantsToWrite : S → ℕ → Type 0
-    WantsToWrite idle e = b.process.want (state_at idle states (edge_at edges e).writer) ≡ Write (edge_at edges e).writer_port
+    abbrev pub WantsToWrite : ℕ → Type 0
+    WantsToWrite e = b.process.want (state_at b states (edge_at edges e).writer) ≡ Write (edge_at edges e).writer_port
 
     -- e is the first edge whose writer wants to write to it
-    abbrev pub IsFirstToWrite : S → ℕ → Type 0
-    IsFirstToWrite idle e = (e < length edges) × WantsToWrite idle e × ((f : ℕ) → f < e → WantsToWrite idle f → ⊥)
+    abbrev pub IsFirstToWrite : ℕ → Type 0
+    IsFirstToWrite e = (e < length edges) × WantsToWrite e × ((f : ℕ) → f < e → WantsToWrite f → ⊥)

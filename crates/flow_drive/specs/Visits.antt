@@ -1,5 +1,5 @@
 -- What the visits of some nodes make of a network: each makes some steps, or none where it can make none.
-use Rattle.std.specs.Prelude.{◌≡◌, ℕ, ◌<◌, Bool, true, false, List, length, Option, Some}
+use Rattle.std.specs.Prelude.{◌≡◌, ℕ, ◌<◌, Bool, true, false, List, Option, Some}
 use Rattle.std.specs.List.{Contains}
 use Rattle.kahn.specs.declared.want.Want.{Want}
 use Rattle.kahn.specs.declared.want.Want.TheVariants.{Read, Write, Ended, Faulted}
@@ -32,15 +32,9 @@ abbrev pub HasAllEnds : ℕ → View → Type 0
 HasAllEnds edges view = (e : ℕ) → e < edges → (view.writes e ≡ true) × (view.reads e ≡ true)
 
 module _ {S : Type 0} (b : Behaviour S) where
-  -- Nodes in other states make the same network.
-  pub record IsSameNetwork (states : List S) (edges : List Edge) (states' : List S) (edges' : List Edge) : Type 0 where
-    pub nodes : length states' ≡ length states
-    pub same_edges : edges' ≡ edges
-    pub network : (idle : S) → network_of b idle states' edges' ≡ network_of b idle states edges
-
   -- from a sound configuration these nodes were visited
   abbrev pub Visits : ℕ → List ℕ → List Edge → List S → View → List S → View → Bool → Type 0
   Visits capacity nodes edges states view states' view' any =
-      (idle : S) → let net = network_of b idle states edges in
-      IsSound b.process net (configuration_of idle states view)
-      → IsVisited b.process net (Some capacity) nodes (configuration_of idle states view) (configuration_of idle states' view') any
+      let net = network_of b states edges in
+      IsSound b.process net (configuration_of b states view)
+      → IsVisited b.process net (Some capacity) nodes (configuration_of b states view) (configuration_of b states' view') any

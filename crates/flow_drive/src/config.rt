@@ -1,20 +1,20 @@
 // How a graph is to be driven.
 ghost use Rattle.std.specs.Prelude.{◌<◌, ◌↔◌, IsTrue};
 ghost use Rattle.std.specs.List.{All};
-ghost use Rattle.flow_drive.specs.Configs.{IsWithin, IsLawful};
+ghost use Rattle.flow_drive.specs.Configs.{IsWithin, IsLawfulSharing, IsLawful};
 
-use flow_edges::MAX_CAPACITY;
+use flow_edges::Table;
 
 /// The most steps of a node at one visit.
 pub const MAX_CHUNK: usize = 1_024;
 
-/// The most threads.
+/// The most threads of a drive.
 pub const MAX_THREADS: usize = 16;
 
-/// The most turns in a row without a step.
-pub const MAX_IDLE: usize = 1_000_000;
+/// The most turns in a row without a step that a thread makes.
+pub const MAX_IDLE_TURNS: usize = 1_000_000;
 
-/// The most entries of the list that deals out the nodes.
+/// The most entries of the list that deals out the nodes to threads.
 pub const MAX_SHARE: usize = 4_096;
 
 /// Which drive runs the graph.
@@ -27,19 +27,26 @@ pub enum Drive {
 /// How a graph is to be driven.
 #[derive(Debug, Drop)]
 pub struct Config {
-    /// How many messages an edge holds at most, 1 to [`MAX_CAPACITY`].
+    /// How many messages an edge holds at most, 1 to [`flow_edges::MAX_CAPACITY`].
     pub capacity: usize,
     /// How many steps a node makes at most before the next node has its turn, 1 to [`MAX_CHUNK`].
     pub chunk: usize,
+    /// How the nodes are shared out to threads: for drives of several threads. `Serial` does not read it.
+    pub sharing: Sharing,
+    /// The drive.
+    pub drive: Drive,
+}
+
+/// How nodes are shared out to threads, and when a thread ends: for drives of several threads.
+#[derive(Debug, Drop)]
+pub struct Sharing {
     /// How many threads there are, 1 to [`MAX_THREADS`].
     pub threads: usize,
-    /// How many turns in a row without a step a thread makes before it ends, 1 to [`MAX_IDLE`].
-    pub idle: usize,
+    /// How many turns in a row without a step a thread makes before it ends, 1 to [`MAX_IDLE_TURNS`].
+    pub idle_turns: usize,
     /// Which thread has each node: node `k` has the entry at `k` modulo the length. 1 to [`MAX_SHARE`] entries, each
     /// below `threads`.
     pub share: Vec<u8>,
-    /// The drive. `Serial` uses neither `threads` nor `idle` nor `share`.
-    pub drive: Drive,
 }
 
 impl Config {
@@ -47,10 +54,19 @@ impl Config {
     pub fn lawful(&self) -> bool
         ensures { IsTrue result ↔ IsLawful self.now }
     {
-        is_within(self.capacity, MAX_CAPACITY)
+        Table::is_capacity(self.capacity)
             && is_within(self.chunk, MAX_CHUNK)
-            && is_within(self.threads, MAX_THREADS)
-            && is_within(self.idle, MAX_IDLE)
+            && self.sharing.lawful()
+    }
+}
+
+impl Sharing {
+    /// Whether each field lies within its limits.
+    pub fn lawful(&self) -> bool
+        ensures { IsTrue result ↔ IsLawfulSharing self.now }
+    {
+        is_within(self.threads, MAX_THREADS)
+            && is_within(self.idle_turns, MAX_IDLE_TURNS)
             && is_within(self.share.len(), MAX_SHARE)
             && all_below(&self.share, self.threads)
     }

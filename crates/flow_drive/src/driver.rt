@@ -2,8 +2,8 @@
 ghost use Rattle.std.specs.Prelude.{◌≡◌, ◌↔◌, Err, IfOk};
 ghost use Rattle.flow_graph.specs.Graphs.{states_of, edges_of};
 ghost use Rattle.flow_graph.specs.Networks.{AreOpened};
+ghost use Rattle.flow_graph.specs.Shapes.{IsSameNetwork};
 ghost use Rattle.flow_drive.specs.Configs.{IsLawful};
-ghost use Rattle.flow_drive.specs.Visits.{IsSameNetwork};
 ghost use Rattle.flow_drive.specs.Drives.{EndsMaximalRun};
 ghost use Rattle.flow_drive.specs.Resteds.{rested_states, rested_edges, rested_capacity, traffic_of};
 ghost use Rattle.flow_drive.specs.declared.driver.DriveError.TheVariants.{BadConfig, NoMemory};
@@ -42,7 +42,8 @@ impl From<AllocError> for DriveError {
 /// Drives a graph, as it was built, until no node can step: a maximal run of its network at the capacity of the
 /// configuration.
 ///
-/// It is refused as `BadConfig` exactly where the configuration is not lawful, and else only as `NoMemory`.
+/// It is refused as `BadConfig` exactly where the configuration is not lawful, and else only as `NoMemory`. The gate is
+/// for drives of several threads.
 pub fn drive<T: Transducer + Drop, G: Gate + Drop>(
     alloc: Global,
     graph: Graph<T>,

@@ -1,6 +1,6 @@
-// What is called before each turn of a thread.
+// What is called before each turn of a thread: for drives of several threads.
 
-/// What is called before each turn of a thread, in that thread.
+/// What drives of several threads call before each turn of a thread, in that thread. `Serial` calls none.
 pub trait Gate {
     /// The thread of this share is about to make its turn of this number, counted from 0.
     fn turn(&self, share: usize, turn: usize);

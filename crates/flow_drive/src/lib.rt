@@ -13,7 +13,7 @@ mod serial;
 mod theorems;
 mod visit;
 
-pub use config::{Config, Drive, MAX_CHUNK, MAX_IDLE, MAX_SHARE, MAX_THREADS};
+pub use config::{Config, Drive, MAX_CHUNK, MAX_IDLE_TURNS, MAX_SHARE, MAX_THREADS, Sharing};
 pub use driver::{DriveError, drive};
 pub use gate::{Gate, NoGate};
 pub use kahn::Outcome;

@@ -15,7 +15,7 @@ use snesl_values::Fault;
 
 /// The fault that is named of all to which nodes have come.
 pub fn standing_fault<T: Transducer>(graph: &Graph<T>) -> Option<Fault>
-    ensures { (idle : T.State) (view : View) → let net = network_of T.behaviour idle (states_of graph.now) (edges_of graph.now) in let c = configuration_of idle (states_of graph.now) view in MatchOption result (NoneFaulted T.behaviour.process net c) (λ fault. NamesFault T.behaviour.process net c fault) }
+    ensures { (view : View) → let net = network_of T.behaviour (states_of graph.now) (edges_of graph.now) in let c = configuration_of T.behaviour (states_of graph.now) view in MatchOption result (NoneFaulted T.behaviour.process net c) (λ fault. NamesFault T.behaviour.process net c fault) }
 {
     let mut standing: Option<Fault> = None;
     for node in 0..graph.nodes() {
@@ -31,7 +31,7 @@ pub fn standing_fault<T: Transducer>(graph: &Graph<T>) -> Option<Fault>
 
 /// The first edge whose writer wants to write to it.
 pub fn first_to_write<T: Transducer>(graph: &Graph<T>) -> Option<usize>
-    ensures { (idle : T.State) → MatchOption result ((e : ℕ) → e < length (edges_of graph.now) → WantsToWrite T.behaviour (states_of graph.now) (edges_of graph.now) idle e → ⊥) (λ e. IsFirstToWrite T.behaviour (states_of graph.now) (edges_of graph.now) idle e) }
+    ensures { MatchOption result ((e : ℕ) → e < length (edges_of graph.now) → WantsToWrite T.behaviour (states_of graph.now) (edges_of graph.now) e → ⊥) (λ e. IsFirstToWrite T.behaviour (states_of graph.now) (edges_of graph.now) e) }
 {
     for number in 0..graph.edges() {
         let edge = graph.edge(number);

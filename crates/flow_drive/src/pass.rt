@@ -1,9 +1,9 @@
 // Passes over some nodes.
 ghost use Rattle.std.specs.Prelude.{◌≡◌, ◌<◌, true, length, IfOk};
 ghost use Rattle.std.specs.List.{All};
-ghost use Rattle.flow_edges.specs.Ends.{SameEnds};
 ghost use Rattle.flow_graph.specs.Graphs.{states_of, edges_of};
-ghost use Rattle.flow_drive.specs.Visits.{HasAllEnds, IsSameNetwork, Visits};
+ghost use Rattle.flow_graph.specs.Shapes.{KeepsShape};
+ghost use Rattle.flow_drive.specs.Visits.{HasAllEnds, Visits};
 
 use crate::visit::{is_over, visit};
 use flow_base::Transducer;
@@ -30,9 +30,7 @@ pub fn pass_over<T: Transducer, E: WholeEnds>(
     requires inside { All (λ k. k < length (states_of graph.old)) nodes.now }
     requires some { 0 < chunk }
     requires ends { HasAllEnds (length (edges_of graph.old)) (E.view ends.old) }
-    ensures same { E.same ends.old ends.new }
-    ensures ends { SameEnds (E.view ends.old) (E.view ends.new) }
-    ensures network { IsSameNetwork T.behaviour (states_of graph.old) (edges_of graph.old) (states_of graph.new) (edges_of graph.new) }
+    ensures shape { KeepsShape E.same E.view graph.old ends.old graph.new ends.new }
     ensures visits { IfOk result (λ pass. Visits T.behaviour (E.capacity ends.old) nodes.now (edges_of graph.old) (states_of graph.old) (E.view ends.old) (states_of graph.new) (E.view ends.new) pass.moved) }
     ensures some { IfOk result (λ pass. pass.moved ≡ true → 0 < length nodes.now) }
 {

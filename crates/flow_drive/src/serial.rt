@@ -1,11 +1,11 @@
 // The drive of one thread.
 ghost use Rattle.std.specs.Prelude.{◌≡◌, ◌<◌, ◌⊎◌, ℕ, true, length, IfOk, OnOk};
 ghost use Rattle.std.specs.List.{All, Contains};
-ghost use Rattle.flow_edges.specs.Ends.{SameEnds};
 ghost use Rattle.flow_edges.specs.Tables.{IsFresh};
 ghost use Rattle.flow_graph.specs.Networks.{state_at, AreOpened};
 ghost use Rattle.flow_graph.specs.Graphs.{states_of, edges_of};
-ghost use Rattle.flow_drive.specs.Visits.{is_over, IsSameNetwork};
+ghost use Rattle.flow_graph.specs.Shapes.{KeepsShape};
+ghost use Rattle.flow_drive.specs.Visits.{is_over};
 ghost use Rattle.flow_drive.specs.Drives.{EndsMaximalRun};
 
 use crate::pass::pass_over;
@@ -25,9 +25,7 @@ pub fn run_serial<T: Transducer, E: WholeEnds>(
     requires opened { AreOpened T.behaviour (states_of graph.old) }
     requires some { 0 < chunk }
     requires fresh { IsFresh (length (edges_of graph.old)) (E.view ends.old) }
-    ensures same { E.same ends.old ends.new }
-    ensures ends { SameEnds (E.view ends.old) (E.view ends.new) }
-    ensures network { IsSameNetwork T.behaviour (states_of graph.old) (edges_of graph.old) (states_of graph.new) (edges_of graph.new) }
+    ensures shape { KeepsShape E.same E.view graph.old ends.old graph.new ends.new }
     ensures run { OnOk result (EndsMaximalRun T.behaviour (E.capacity ends.old) (states_of graph.old) (edges_of graph.old) (states_of graph.new) (E.view ends.new)) }
 {
     // Nodes that are over need no more visits.
@@ -59,7 +57,7 @@ fn numbers_below(alloc: Global, end: usize) -> Result<Vec<usize>, AllocError>
 fn drop_over<T: Transducer>(graph: &Graph<T>, nodes: &mut Vec<usize>)
     requires { All (λ k. k < length (states_of graph.now)) nodes.old.items }
     ensures below { All (λ k. k < length (states_of graph.now)) nodes.new.items }
-    ensures others { (idle : T.State) (k : ℕ) → Contains nodes.old.items k → Contains nodes.new.items k ⊎ (is_over (T.behaviour.process.want (state_at idle (states_of graph.now) k)) ≡ true) }
+    ensures others { (k : ℕ) → Contains nodes.old.items k → Contains nodes.new.items k ⊎ (is_over (T.behaviour.process.want (state_at T.behaviour (states_of graph.now) k)) ≡ true) }
 {
     let mut kept = 0;
     for i in 0..nodes.len() {

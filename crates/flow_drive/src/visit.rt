@@ -1,9 +1,9 @@
 // Visits of one node.
 ghost use Rattle.std.specs.Prelude.{◌≡◌, ◌<◌, ◌∷◌, [], length, IfOk};
-ghost use Rattle.flow_edges.specs.Ends.{SameEnds};
 ghost use Rattle.flow_graph.specs.Networks.{state_at};
 ghost use Rattle.flow_graph.specs.Graphs.{states_of, edges_of};
-ghost use Rattle.flow_drive.specs.Visits.{is_over, HasAllEnds, IsSameNetwork, Visits};
+ghost use Rattle.flow_graph.specs.Shapes.{KeepsShape};
+ghost use Rattle.flow_drive.specs.Visits.{is_over, HasAllEnds, Visits};
 
 use flow_base::Transducer;
 use flow_edges::WholeEnds;
@@ -21,9 +21,7 @@ pub fn visit<T: Transducer, E: WholeEnds>(
     requires inside { node < length (states_of graph.old) }
     requires some { 0 < chunk }
     requires ends { HasAllEnds (length (edges_of graph.old)) (E.view ends.old) }
-    ensures same { E.same ends.old ends.new }
-    ensures ends { SameEnds (E.view ends.old) (E.view ends.new) }
-    ensures network { IsSameNetwork T.behaviour (states_of graph.old) (edges_of graph.old) (states_of graph.new) (edges_of graph.new) }
+    ensures shape { KeepsShape E.same E.view graph.old ends.old graph.new ends.new }
     ensures visits { IfOk result (λ any. Visits T.behaviour (E.capacity ends.old) (node ∷ []) (edges_of graph.old) (states_of graph.old) (E.view ends.old) (states_of graph.new) (E.view ends.new) any) }
 {
     let mut moved = false;
@@ -39,7 +37,7 @@ pub fn visit<T: Transducer, E: WholeEnds>(
 /// Whether the node makes no step again.
 pub fn is_over<T: Transducer>(graph: &Graph<T>, node: usize) -> bool
     requires { node < length (states_of graph.now) }
-    ensures { (idle : T.State) → result ≡ is_over (T.behaviour.process.want (state_at idle (states_of graph.now) node)) }
+    ensures { result ≡ is_over (T.behaviour.process.want (state_at T.behaviour (states_of graph.now) node)) }
 {
     matches!(graph.node(node).want(), Want::Ended | Want::Faulted(_))
 }

@@ -32,6 +32,10 @@ pub signals-nil : signals [] ≡ []
 unfolding signals
 signals-nil = refl
 
+pub signals-cons : (m : Msg) (ms : List Msg) → signals (m ∷ ms) ≡ signal_of m ∷ signals ms
+unfolding signals
+signals-cons m ms = refl
+
 pub signals-snoc : (ms : List Msg) (m : Msg) → signals (ms ++ m ∷ []) ≡ signals ms ++ signal_of m ∷ []
 unfolding signals
 signals-snoc [] m = refl

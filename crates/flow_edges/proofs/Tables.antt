@@ -1,16 +1,17 @@
 -- One line of a table, and the others.
-use Rattle.std.proofs.Common.{◌≡◌, ◌≢◌, ℕ, zero, suc, ◌+◌, ◌-◌, ◌<◌, ◌≤◌, List, [], ◌∷◌, ◌++◌, length, map, refl, ap, sym, ◌∙◌, get_or, set, arith, length-set, length-append, ◌⊎◌, inl, inr}
+use Rattle.std.proofs.Common.{◌≡◌, ◌≢◌, ℕ, zero, suc, ◌+◌, ◌-◌, ◌<◌, ◌≤◌, List, [], ◌∷◌, ◌++◌, length, map, refl, ap, sym, ◌∙◌, get_or, set, arith, length-set, length-append, append-nil, ◌⊎◌, inl, inr}
 use Rattle.std.proofs.lemmas.List.{get_or-map, map-set, get_or-set_same, get_or-set_other, length-map}
 use Rattle.std.proofs.lemmas.List.Elements.{All-append}
 use Rattle.std.proofs.lemmas.Bool.{cases_eq}
 use Rattle.std.specs.List.{All}
-use Rattle.std.specs.Prelude.{Option, Some, None, Result, Ok, Err, OnOk, IfErr, IfSome, IfNone}
+use Rattle.std.specs.Prelude.{Option, Some, None, Result, Ok, Err, OnOk, IfErr, IfSome, IfNone, IsSome}
 use Rattle.flow_edges.specs.declared.message.Msg.{Msg}
 use Rattle.flow_edges.specs.declared.line.Line.{Line}
 use Rattle.flow_edges.specs.Signals.{Signal, signals, signal_of}
-use Rattle.flow_edges.specs.Ends.{View, SameEnds, SameTraffic, LookedForRoom, LookedForMessages, Put, Taken}
+use Rattle.flow_edges.specs.Ends.{View, held, SameEnds, SameTraffic, LookedForRoom, LookedForMessages, Put, Taken}
 use Rattle.flow_edges.specs.Tables.{at_line, view_of_lines}
-use Rattle.flow_edges.proofs.Signals.{signals-snoc}
+use Rattle.flow_edges.specs.TableLaws.{signals-length}
+use Rattle.flow_edges.proofs.Signals.{signals-nil, signals-cons, signals-snoc}
 
 module _ {L X : Type 0} (f : L → X) (ls : List L) (e : ℕ) (d : X) where
   pub at_line-here : (old : L) → e < length ls → old ≡ get_or ls e old → at_line f ls e d ≡ f old
@@ -39,8 +40,8 @@ sent_on l = signals l.sent.items
 abbrev received_on : Line → List Signal
 received_on l = signals l.received.items
 
-abbrev held_on : Line → ℕ
-held_on l = length l.queue.items
+abbrev coming_on : Line → List Signal
+coming_on l = signals l.queue.items
 
 abbrev room_on : Line → ℕ
 room_on l = l.capacity - length l.queue.items
@@ -58,28 +59,34 @@ module _ (ls : List Line) (e : ℕ) (old new : Line) (h : e < length ls) (is : o
 
   pub line-put : (m : Msg) → new.sent.items ≡ old.sent.items ++ m ∷ [] → new.received.items ≡ old.received.items → new.queue.items ≡ old.queue.items ++ m ∷ [] → new.capacity ≡ old.capacity → Put before e (signal_of m) after
   line-put m sent received queue capacity =
-      let longer : held_on new ≡ held_on old + 1 = ap length queue ∙ length-append old.queue.items (m ∷ []) in
+      let longer : length new.queue.items ≡ length old.queue.items + 1 = ap length queue ∙ length-append old.queue.items (m ∷ []) in
       record {
         ends = same_ends;
         sent = at_line-same sent_on ls e [] new h ∙ ap signals sent ∙ signals-snoc old.sent.items m ∙ ap (λ xs. xs ++ signal_of m ∷ []) (sym (at_line-here sent_on ls e [] old h is));
         others = at_line-other sent_on ls e [] new;
         received = at_line-kept received_on ls e [] old new h is (ap signals received);
-        held = at_line-other held_on ls e 0 new;
-        held_here = omega (arith, at_line-same held_on ls e 0 new h, at_line-here held_on ls e 0 old h is);
+        coming = at_line-other coming_on ls e [] new;
+        coming_here = (
+          signal_of m ∷ [],
+          ap (λ xs. xs ++ signal_of m ∷ []) (at_line-here coming_on ls e [] old h is) ∙ sym (signals-snoc old.queue.items m) ∙ sym (ap signals queue) ∙ sym (at_line-same coming_on ls e [] new h),
+        );
         room = at_line-other room_on ls e 0 new;
         room_here = omega (arith, at_line-same room_on ls e 0 new h, at_line-here room_on ls e 0 old h is);
       }
 
   pub line-taken : (m : Msg) → new.received.items ≡ old.received.items ++ m ∷ [] → new.sent.items ≡ old.sent.items → old.queue.items ≡ m ∷ new.queue.items → new.capacity ≡ old.capacity → Taken before e (signal_of m) after
   line-taken m received sent queue capacity =
-      let shorter : held_on old ≡ held_on new + 1 = omega (arith, ap length queue) in
+      let shorter : length old.queue.items ≡ length new.queue.items + 1 = omega (arith, ap length queue) in
       record {
         ends = same_ends;
         received = at_line-same received_on ls e [] new h ∙ ap signals received ∙ signals-snoc old.received.items m ∙ ap (λ xs. xs ++ signal_of m ∷ []) (sym (at_line-here received_on ls e [] old h is));
         others = at_line-other received_on ls e [] new;
         sent = at_line-kept sent_on ls e [] old new h is (ap signals sent);
-        held = at_line-other held_on ls e 0 new;
-        held_here = omega (arith, at_line-same held_on ls e 0 new h, at_line-here held_on ls e 0 old h is);
+        coming = at_line-other coming_on ls e [] new;
+        coming_here = (
+          [],
+          append-nil (before.coming e) ∙ at_line-here coming_on ls e [] old h is ∙ ap signals queue ∙ signals-cons m new.queue.items ∙ ap (λ xs. signal_of m ∷ xs) (sym (at_line-same coming_on ls e [] new h)),
+        );
         room = at_line-other room_on ls e 0 new;
         room_here = omega (arith, at_line-same room_on ls e 0 new h, at_line-here room_on ls e 0 old h is);
       }
@@ -91,18 +98,32 @@ module _ (ls : List Line) (e : ℕ) (old new : Line) (h : e < length ls) (is : o
         sent = at_line-kept sent_on ls e [] old new h is (ap signals sent);
         received = at_line-kept received_on ls e [] old new h is (ap signals received);
       } in
-      let held = at_line-kept held_on ls e 0 old new h is (ap length queue) in
+      let coming = at_line-kept coming_on ls e [] old new h is (ap signals queue) in
       let room = at_line-kept room_on ls e 0 old new h is (cc (ap length queue)) in (
-        record { ends = same_ends; traffic = traffic; held = held; room = λ k _. room k; more = omega (arith, room e) },
-        record { ends = same_ends; traffic = traffic; room = room; held = λ k _. held k; more = omega (arith, held e) },
+        record { ends = same_ends; traffic = traffic; coming = coming; room = λ k _. room k; more = omega (arith, room e) },
+        record { ends = same_ends; traffic = traffic; room = room; coming = λ k _. coming k; more = ([], append-nil (before.coming e) ∙ sym (coming e)) },
       )
 
   -- a full line has no room, and an empty one holds nothing
   pub line-full : new.capacity ≤ length new.queue.items → after.room e ≡ 0
   line-full full = omega (arith, at_line-same room_on ls e 0 new h)
 
-  pub line-empty : new.queue.items ≡ [] → after.held e ≡ 0
-  line-empty empty = at_line-same held_on ls e 0 new h ∙ ap length empty
+  pub line-empty : new.queue.items ≡ [] → held after e ≡ 0
+  line-empty empty = ap length (at_line-same coming_on ls e [] new h ∙ ap signals empty ∙ signals-nil)
+
+-- as many messages are certain to come as the line's queue holds
+pub line-held : (ls : List Line) (e : ℕ) (l : Line) → e < length ls → l ≡ get_or ls e l → held (view_of_lines ls) e ≡ length l.queue.items
+line-held ls e l h is = ap length (at_line-here coming_on ls e [] l h is) ∙ signals-length l.queue.items
+
+-- a look that finds no more
+pub looked-same : (v : View) (e : ℕ) → LookedForMessages v e v
+looked-same v e = record {
+  ends = record { writes = λ k. refl; reads = λ k. refl };
+  traffic = record { sent = λ k. refl; received = λ k. refl };
+  room = λ k. refl;
+  coming = λ k _. refl;
+  more = ([], append-nil (v.coming e));
+}
 
 -- one line more, of which f says what it says where there is none
 pub at_line-snoc : {X : Type 0} (f : Line → X) (ls : List Line) (l : Line) (d : X) → ((k : ℕ) → at_line f ls k d ≡ d) → f l ≡ d → (k : ℕ) → at_line f (ls ++ l ∷ []) k d ≡ d
@@ -134,3 +155,8 @@ if_some P Q None f p = tt
 pub if_none : {X : Type 0} {P Q : Type 0} (r : Option X) → (P → Q) → IfNone r P → IfNone r Q
 if_none (Some x) f p = tt
 if_none None f p = f p
+
+-- an answer that is none only where the list was empty is there where it was not
+pub some_unless_empty : {X Y : Type 0} (r : Option X) (q : List Y) → 0 < length q → IfNone r (q ≡ []) → IsSome r
+some_unless_empty (Some x) q some none = refl
+some_unless_empty None q some none = absurd (omega (arith, some, ap length none))

@@ -2,5 +2,6 @@ pub mod Cells
 pub mod Signals
 pub mod Ends
 pub mod Whole
+pub mod Limits
 pub mod Tables
 pub mod TableLaws

@@ -8,6 +8,7 @@ use borrow.Author.Tests.{ltb-true}
 use Rattle.flow_edges.specs.declared.message.Msg.{Msg}
 use Rattle.flow_edges.specs.Signals.{signals, signal_of, orderly}
 use Rattle.flow_edges.specs.Tables.{view_of_lines, ends_of, capacity_of}
+use Rattle.flow_edges.specs.Ends.{held}
 use Rattle.flow_edges.specs.Whole.{IsWhole, waiting}
 
 pub same_capacity_refl : (a : Table) → capacity_of a ≡ capacity_of a
@@ -21,7 +22,7 @@ unfolding signals
 signals-append [] ns = refl
 signals-append (m ∷ ms) ns = ap (λ l. signal_of m ∷ l) (signals-append ms ns)
 
-signals-length : (ms : List Msg) → length (signals ms) ≡ length ms
+pub signals-length : (ms : List Msg) → length (signals ms) ≡ length ms
 unfolding signals
 signals-length [] = refl
 signals-length (m ∷ ms) = ap suc (signals-length ms)
@@ -42,14 +43,14 @@ lines_in_order (l ∷ ls) zero =
     ∙ ap signals l.fifo
 lines_in_order (l ∷ ls) (suc e) = lines_in_order ls e
 
-lines_held : (ls : List Line) (e : ℕ) → (view_of_lines ls).held e ≡ length (waiting (view_of_lines ls) e)
-lines_held [] e = refl
-lines_held (l ∷ ls) zero = sym (ap length (line_waits l) ∙ signals-length l.queue.items)
-lines_held (l ∷ ls) (suc e) = lines_held ls e
+lines_coming : (ls : List Line) (e : ℕ) → (view_of_lines ls).coming e ≡ waiting (view_of_lines ls) e
+lines_coming [] e = refl
+lines_coming (l ∷ ls) zero = sym (line_waits l)
+lines_coming (l ∷ ls) (suc e) = lines_coming ls e
 
-lines_room : (capacity : ℕ) (ls : List Line) → All (λ l. l.capacity ≡ capacity) ls → (e : ℕ) → e < length ls → (view_of_lines ls).room e + (view_of_lines ls).held e ≡ capacity
+lines_room : (capacity : ℕ) (ls : List Line) → All (λ l. l.capacity ≡ capacity) ls → (e : ℕ) → e < length ls → (view_of_lines ls).room e + held (view_of_lines ls) e ≡ capacity
 lines_room capacity [] even e there = absurd (omega arith)
-lines_room capacity (l ∷ ls) even zero there = omega (arith, l.bound, even 0 l (omega arith))
+lines_room capacity (l ∷ ls) even zero there = omega (arith, l.bound, even 0 l (omega arith), signals-length l.queue.items)
 lines_room capacity (l ∷ ls) even (suc e) there = lines_room capacity ls (λ k d low. even (suc k) d (omega arith)) e (omega arith)
 
 lines_orderly : (ls : List Line) (e : ℕ) → orderly ((view_of_lines ls).sent e) ≡ true
@@ -62,7 +63,7 @@ pub whole_table : (t : Table) → IsWhole (capacity_of t) (ends_of t)
 whole_table t = record {
   both = λ e. refl;
   in_order = lines_in_order t.lines.items;
-  held = lines_held t.lines.items;
+  coming = lines_coming t.lines.items;
   room = λ e there. lines_room t.capacity t.lines.items t.even e (omega (arith, ltb-true));
   orderly = lines_orderly t.lines.items;
 }

@@ -14,7 +14,7 @@ abbrev pub view_of_lines : List Line → View
 view_of_lines lines = record {
   sent = λ e. at_line (λ l. signals l.sent.items) lines e [];
   received = λ e. at_line (λ l. signals l.received.items) lines e [];
-  held = λ e. at_line (λ l. length l.queue.items) lines e 0;
+  coming = λ e. at_line (λ l. signals l.queue.items) lines e [];
   room = λ e. at_line (λ l. l.capacity - length l.queue.items) lines e 0;
   writes = λ e. nat_lt e (length lines);
   reads = λ e. nat_lt e (length lines);

@@ -1,7 +1,7 @@
 -- Both ends of each edge, seen at once.
 use Rattle.std.specs.Prelude.{◌≡◌, ℕ, ◌+◌, true, List, ◌++◌, length, drop}
 use Rattle.flow_edges.specs.Signals.{Signal, orderly}
-use Rattle.flow_edges.specs.Ends.{View}
+use Rattle.flow_edges.specs.Ends.{View, held}
 
 -- what was sent on edge e and not received, the oldest first
 abbrev pub waiting : View → ℕ → List Signal
@@ -13,9 +13,9 @@ pub record IsWhole (capacity : ℕ) (v : View) : Type 0 where
   pub both : (e : ℕ) → v.reads e ≡ v.writes e
   -- what was received and what waits is what was sent
   pub in_order : (e : ℕ) → v.received e ++ waiting v e ≡ v.sent e
-  -- all that waits is held
-  pub held : (e : ℕ) → v.held e ≡ length (waiting v e)
+  -- what the next takes give is what waits
+  pub coming : (e : ℕ) → v.coming e ≡ waiting v e
   -- what is not held is room
-  pub room : (e : ℕ) → v.writes e ≡ true → v.room e + v.held e ≡ capacity
+  pub room : (e : ℕ) → v.writes e ≡ true → v.room e + held v e ≡ capacity
   -- nothing was sent after a stop
   pub orderly : (e : ℕ) → orderly (v.sent e) ≡ true

@@ -23,7 +23,7 @@ pub struct Refused {
 pub trait Ends {
     ghost use Rattle.std.specs.Prelude.{◌≡◌, ◌<◌, ◌↔◌, true, false, IsTrue, IsOk, IsSome, IfSome, IfNone, OnOk, IfErr, IsErrAnd};
     ghost use Rattle.flow_edges.specs.Signals.{signal_of, ended};
-    ghost use Rattle.flow_edges.specs.Ends.{View, LookedForRoom, LookedForMessages, Put, Taken};
+    ghost use Rattle.flow_edges.specs.Ends.{View, held, LookedForRoom, LookedForMessages, Put, Taken};
     ghost use Rattle.flow_edges.specs.declared.ends.Why.TheVariants.{Full, Closed};
 
     /// What was put and taken on each edge, and what is certain.
@@ -52,7 +52,7 @@ pub trait Ends {
         requires { (view self.old).reads edge ≡ true }
         ensures same { same self.old self.new }
         ensures looked { LookedForMessages (view self.old) edge (view self.new) }
-        ensures value { IsTrue result ↔ (0 < (view self.new).held edge) };
+        ensures value { IsTrue result ↔ (0 < held (view self.new) edge) };
 
     /// Puts a message behind all others.
     ///
@@ -72,8 +72,8 @@ pub trait Ends {
         requires { (view self.old).reads edge ≡ true }
         ensures same { same self.old self.new }
         ensures some { IfSome result (λ m. Taken (view self.old) edge (signal_of m) (view self.new)) }
-        ensures none { IfNone result (LookedForMessages (view self.old) edge (view self.new) × ((view self.new).held edge ≡ 0)) }
-        ensures succeeds { 0 < (view self.old).held edge → IsSome result };
+        ensures none { IfNone result (LookedForMessages (view self.old) edge (view self.new) × (held (view self.new) edge ≡ 0)) }
+        ensures succeeds { 0 < held (view self.old) edge → IsSome result };
 
     ghost same_refl: { (a : Self) → same a a };
 

@@ -17,5 +17,8 @@ mod whole;
 pub use ends::{Ends, Refused, Why};
 pub use message::{Item, Kind, Msg};
 pub use table::{MAX_CAPACITY, Table};
-pub use theorems::{counts_are_exact, nothing_after_stop, put_adds_one, take_gives_oldest};
+pub use theorems::{
+    counts_are_exact, nothing_after_stop, put_adds_one, take_gives_oldest,
+    take_gives_what_was_certain,
+};
 pub use whole::WholeEnds;

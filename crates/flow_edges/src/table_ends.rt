@@ -1,5 +1,6 @@
 // A table of fresh edges, a table as ends, and a table as both ends of each edge.
-ghost use Rattle.std.specs.Prelude.{◌≡◌, ◌<◌, ◌≤◌, IfOk};
+ghost use Rattle.std.specs.Prelude.{◌≡◌, ◌<◌, ◌≤◌, ◌↔◌, IsTrue, IfOk};
+ghost use Rattle.flow_edges.specs.Limits.{greatest_capacity};
 ghost use Rattle.flow_edges.specs.Tables.{ends_of, capacity_of, IsFresh};
 
 use crate::ends::{Ends, Refused};
@@ -15,7 +16,7 @@ impl Table {
     /// is refused where there is no memory for it.
     pub fn new(alloc: Global, edges: usize, capacity: usize) -> Result<Table, AllocError>
         requires some { 0 < capacity }
-        requires limit { capacity ≤ MAX_CAPACITY }
+        requires limit { capacity ≤ greatest_capacity }
         ensures fresh { IfOk result (λ table. IsFresh edges (ends_of table)) }
         ensures capacity { IfOk result (λ table. capacity_of table ≡ capacity) }
     {
@@ -24,6 +25,13 @@ impl Table {
             lines.push(Line::new(alloc, capacity)?)?;
         }
         Ok(Table { lines, capacity })
+    }
+
+    /// Whether an edge of a table may hold so many messages at most: 1 to [`MAX_CAPACITY`].
+    pub fn is_capacity(capacity: usize) -> bool
+        ensures { IsTrue result ↔ ((0 < capacity) × (capacity ≤ greatest_capacity)) }
+    {
+        capacity >= 1 && capacity <= MAX_CAPACITY
     }
 }
 

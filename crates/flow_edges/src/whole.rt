@@ -5,6 +5,7 @@ use crate::ends::Ends;
 /// `room` and `ready` are exact.
 pub trait WholeEnds: Ends {
     ghost use Rattle.std.specs.Prelude.{◌≡◌, ℕ, true};
+    ghost use Rattle.flow_edges.specs.Ends.{held};
     ghost use Rattle.flow_edges.specs.Whole.{IsWhole};
 
     /// How many messages each edge holds at most.
@@ -17,7 +18,7 @@ pub trait WholeEnds: Ends {
     /// How many messages the edge holds.
     fn held(&self, edge: usize) -> usize
         requires { (Self.view self.now).reads edge ≡ true }
-        ensures { result ≡ (Self.view self.now).held edge };
+        ensures { result ≡ held (Self.view self.now) edge };
 
     ghost whole: { (a : Self) → IsWhole (capacity a) (Self.view a) };
 

@@ -6,7 +6,7 @@ use Rattle.std.proofs.lemmas.List.Elements.{All-push}
 use Rattle.flow_edges.specs.declared.message.Kind.{Kind}
 use Rattle.flow_edges.specs.declared.message.Kind.TheVariants.{Unit as UnitKind}
 use Rattle.flow_base.specs.Transducers.{Behaviour}
-use Rattle.flow_graph.specs.declared.edge.TheConstants.{MAX_NODES, MAX_EDGES}
+use Rattle.flow_graph.specs.Limits.{most_nodes, most_edges}
 use Rattle.flow_graph.specs.declared.edge.Edge.{Edge}
 use Rattle.flow_graph.specs.declared.wiring.Ports.{Ports}
 use Rattle.flow_graph.specs.Edges.{edge_at}
@@ -59,7 +59,7 @@ module _ {S : Type 0} (b : Behaviour S) (states : List S) (ports : List Ports) (
       let port : edge.reader_port < length (row_at (ins ports) edge.reader) = row_inside (ins ports) edge.reader edge.reader_port e (wired.ins.stands e l) in
       omega (arith, node_inside (ins ports) edge.reader edge.reader_port port, length-map ports (λ (n : Ports). n.inputs.items), nodes_are)
 
-  pub kept_node : IsWiring ports edges → (s : S) (after : List Ports) → b.opening s ≡ s → map length (ins after) ≡ map length (ins ports) ++ b.inputs s ∷ [] → map length (outs after) ≡ map length (outs ports) ++ b.outputs s ∷ [] → length states < MAX_NODES → IsKept b (states ++ s ∷ []) after edges
+  pub kept_node : IsWiring ports edges → (s : S) (after : List Ports) → b.opening s ≡ s → map length (ins after) ≡ map length (ins ports) ++ b.inputs s ∷ [] → map length (outs after) ≡ map length (outs ports) ++ b.outputs s ∷ [] → length states < most_nodes → IsKept b (states ++ s ∷ []) after edges
   kept_node wired s after opened i o few = record {
     inputs = i ∙ ap (λ (l : List ℕ). l ++ b.inputs s ∷ []) kept.inputs ∙ sym (map-append b.inputs states (s ∷ []));
     outputs = o ∙ ap (λ (l : List ℕ). l ++ b.outputs s ∷ []) kept.outputs ∙ sym (map-append b.outputs states (s ∷ []));
@@ -77,7 +77,7 @@ module _ {S : Type 0} (b : Behaviour S) (states : List S) (ports : List Ports) (
           ap (λ (ks : List Kind). get_or ks k UnitKind) (map-append f states (s ∷ []))
           ∙ get_or_append_left (map f states) (f s ∷ []) UnitKind k (omega (arith, length-map states f))
 
-  pub kept_edge : (x : Edge) (after : List Ports) → MayJoin b states edges x → map length (ins after) ≡ map length (ins ports) → map length (outs after) ≡ map length (outs ports) → length edges < MAX_EDGES → IsKept b states after (edges ++ x ∷ [])
+  pub kept_edge : (x : Edge) (after : List Ports) → MayJoin b states edges x → map length (ins after) ≡ map length (ins ports) → map length (outs after) ≡ map length (outs ports) → length edges < most_edges → IsKept b states after (edges ++ x ∷ [])
   kept_edge x after may i o few = record {
     inputs = i ∙ kept.inputs;
     outputs = o ∙ kept.outputs;

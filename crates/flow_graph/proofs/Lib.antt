@@ -7,3 +7,4 @@ pub mod Nets
 pub mod Looks
 pub mod Turns
 pub mod NodeEnds
+pub mod Shapes

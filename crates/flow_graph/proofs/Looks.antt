@@ -1,5 +1,6 @@
 -- One look at the ends after another, and a put after a look.
 use Rattle.std.proofs.Common.{◌≡◌, ℕ, ◌<◌, ◌↔◌, true, false, List, [], ◌∷◌, ◌++◌, Result, Ok, Err, OnOk, IfErr, IsOk, IsErrAnd, sym, ◌∙◌, ap, subst, arith}
+use mathlib.Core.List.{IsPrefix}
 use Rattle.kahn.specs.declared.want.Want.TheVariants.{Write}
 use Rattle.flow_base.specs.Transducers.{Behaviour}
 use Rattle.flow_edges.specs.Signals.{Signal, ended}
@@ -18,7 +19,7 @@ pub looked_twice : (a : View) (e : ℕ) (b c : View) → LookedForRoom a e b →
 looked_twice a e b c h g = record {
   ends = same_ends_then a b c h.ends g.ends;
   traffic = record { sent = λ k. g.traffic.sent k ∙ h.traffic.sent k; received = λ k. g.traffic.received k ∙ h.traffic.received k };
-  held = λ k. g.held k ∙ h.held k;
+  coming = λ k. g.coming k ∙ h.coming k;
   room = λ k ne. g.room k ne ∙ h.room k ne;
   more = omega (arith, h.more, g.more);
 }
@@ -30,8 +31,8 @@ put_looked before e m after h = record {
   sent = h.put.sent ∙ ap (λ l. l ++ m ∷ []) (h.looked.traffic.sent e);
   others = λ k ne. h.put.others k ne ∙ h.looked.traffic.sent k;
   received = λ k. h.put.received k ∙ h.looked.traffic.received k;
-  held = λ k ne. h.put.held k ne ∙ h.looked.held k;
-  held_here = omega (arith, h.looked.held e, h.put.held_here);
+  coming = λ k ne. h.put.coming k ne ∙ h.looked.coming k;
+  coming_here = subst (λ l. IsPrefix l (after.coming e)) (h.looked.coming e) h.put.coming_here;
   room = λ k ne. h.put.room k ne ∙ h.looked.room k ne;
   room_here = omega (arith, h.looked.more, h.put.room_here);
 }

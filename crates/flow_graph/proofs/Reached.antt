@@ -20,8 +20,8 @@ use Rattle.flow_graph.specs.Networks.{state_at, inputs_at, outputs_at, SameBut, 
 use Rattle.flow_graph.specs.Kept.{IsReached, IsKept}
 
 -- the state of one node, and the states of all
-pub state_read : {S T : Type 0} (state : T → S) (nodes : List T) (k : ℕ) (x : T) (idle : S) → k < length nodes → x ≡ get_or nodes k x → state x ≡ state_at idle (map state nodes) k
-state_read state nodes k x idle l is = ap state is ∙ sym (get_or-map state nodes k x idle l)
+pub state_read : {S T : Type 0} (state : T → S) (nodes : List T) (k : ℕ) (x : T) (d : S) → k < length nodes → x ≡ get_or nodes k x → state x ≡ get_or (map state nodes) k d
+state_read state nodes k x d l is = ap state is ∙ sym (get_or-map state nodes k x d l)
 
 -- the states after one node changed
 pub states_set : {S T : Type 0} (state : T → S) (nodes : List T) (k : ℕ) (y : T) (s : S) → state y ≡ s → map state (set nodes k y) ≡ set (map state nodes) k s
@@ -31,8 +31,8 @@ pub states_kept : {S T : Type 0} (state : T → S) (nodes : List T) (k : ℕ) (x
 states_kept state nodes k x y l is same =
     map-set state nodes k y ∙ ap (set (map state nodes) k) (same ∙ state_read state nodes k x (state x) l is) ∙ set-get_or (map state nodes) k (state x)
 
-pub state_written : {S : Type 0} (idle : S) (states states' : List S) (k : ℕ) (s : S) → k < length states → states' ≡ set states k s → state_at idle states' k ≡ s
-state_written {S = S} idle states states' k s l is = ap (λ (xs : List S). get_or xs k idle) is ∙ get_or-set_same states k s idle l
+pub state_written : {S : Type 0} (b : Behaviour S) (states states' : List S) (k : ℕ) (s : S) → k < length states → states' ≡ set states k s → state_at b states' k ≡ s
+state_written {S = S} b states states' k s l is = ap (λ (xs : List S). get_or xs k b.sample) is ∙ get_or-set_same states k s b.sample l
 
 -- f goes through the list, also beyond its end
 map_get : {X Y : Type 0} (f : X → Y) (xs : List X) (k : ℕ) (d : X) → f (get_or xs k d) ≡ get_or (map f xs) k (f d)
@@ -78,7 +78,7 @@ module _ {S : Type 0} (b : Behaviour S) (laws : BehaviourLaws b) where
     stays : {Y : Type 0} (f : S → Y) → ((s : S) → f (b.opening s) ≡ f s) → map f states' ≡ map f states
     stays f through = sym (map_through f b.opening states' through) ∙ ap (map f) same ∙ map_through f b.opening states through
 
-    same_length : length states' ≡ length states
+    pub same_length : length states' ≡ length states
     same_length = sym (length-map states' b.opening) ∙ ap length same ∙ length-map states b.opening
 
     pub kept_openings : (ports : List Ports) (edges : List Edge) → IsKept b states ports edges → All (IsReached b) states' → IsKept b states' ports edges
@@ -101,23 +101,23 @@ module _ {S : Type 0} (b : Behaviour S) (laws : BehaviourLaws b) where
     }
 
     -- the other nodes are as they were
-    pub same_but : (k : ℕ) (s : S → S) → ((idle : S) → states' ≡ set states k (s idle)) → SameBut k states states'
-    same_but k s is = record { nodes = same_length; others = λ idle j ne. ap (λ (l : List S). get_or l j idle) (is idle) ∙ get_or-set_other states k j (s idle) idle ne }
+    pub same_but : (k : ℕ) (s : S) → states' ≡ set states k s → SameBut b k states states'
+    same_but k s is = record { nodes = same_length; others = λ j ne. ap (λ (l : List S). get_or l j b.sample) is ∙ get_or-set_other states k j s b.sample ne }
 
     -- the network is the same
-    pub same_network : (idle : S) (edges edges' : List Edge) → edges' ≡ edges → network_of b idle states' edges' ≡ network_of b idle states edges
-    same_network idle edges edges' is = ap (network_of b idle states') is ∙ (λ i. record {
+    pub same_network : (edges edges' : List Edge) → edges' ≡ edges → network_of b states' edges' ≡ network_of b states edges
+    same_network edges edges' is = ap (network_of b states') is ∙ (λ i. record {
       nodes = same_length i;
       edges = length edges;
-      opening = state_at idle (same i);
+      opening = state_at b (same i);
       inputs = λ k. get_or (stays b.inputs laws.same_inputs i) k 0;
       outputs = λ k. get_or (stays b.outputs laws.same_outputs i) k 0;
-      writer = (network_of b idle states edges).writer;
-      writer_port = (network_of b idle states edges).writer_port;
-      reader = (network_of b idle states edges).reader;
-      reader_port = (network_of b idle states edges).reader_port;
-      in_edge = (network_of b idle states edges).in_edge;
-      out_edge = (network_of b idle states edges).out_edge;
+      writer = (network_of b states edges).writer;
+      writer_port = (network_of b states edges).writer_port;
+      reader = (network_of b states edges).reader;
+      reader_port = (network_of b states edges).reader_port;
+      in_edge = (network_of b states edges).in_edge;
+      out_edge = (network_of b states edges).out_edge;
     })
 
   -- the opening states after one node changed, which opened alike
@@ -152,15 +152,13 @@ module _ {S : Type 0} (b : Behaviour S) (laws : BehaviourLaws b) where
         let here : IsReached b (state x) = subst (IsReached b) (sym (state_read state nodes k x (state x) l is)) (All-get_or (IsReached b) (map state nodes) k (state x) (omega (arith, length-map nodes state)) all) in
         subst (All (IsReached b)) (sym (states_set state nodes k y (state y) refl)) (All-set (IsReached b) (map state nodes) k (state y) (follows.reached here) all)
 
-  pub wanted_in : (states : List S) (k p : ℕ) → k < length states → All (IsReached b) states → ((idle : S) → b.process.want (state_at idle states k) ≡ Read p) → p < inputs_at b states k
-  wanted_in [] k p l all wants = absurd (omega arith)
-  wanted_in (x ∷ xs) k p l all wants =
-      subst (λ n. p < n) (sym (get_or-map b.inputs (x ∷ xs) k x 0 l)) (wants_input (get_or (x ∷ xs) k x) p (wants x) (All-get_or (IsReached b) (x ∷ xs) k x l all))
+  pub wanted_in : (states : List S) (k p : ℕ) → k < length states → All (IsReached b) states → b.process.want (state_at b states k) ≡ Read p → p < inputs_at b states k
+  wanted_in states k p l all wants =
+      subst (λ n. p < n) (sym (get_or-map b.inputs states k b.sample 0 l)) (wants_input (state_at b states k) p wants (All-get_or (IsReached b) states k b.sample l all))
 
-  pub wanted_out : (states : List S) (k q : ℕ) → k < length states → All (IsReached b) states → ((idle : S) → b.process.want (state_at idle states k) ≡ Write q) → q < outputs_at b states k
-  wanted_out [] k q l all wants = absurd (omega arith)
-  wanted_out (x ∷ xs) k q l all wants =
-      subst (λ n. q < n) (sym (get_or-map b.outputs (x ∷ xs) k x 0 l)) (wants_output (get_or (x ∷ xs) k x) q (wants x) (All-get_or (IsReached b) (x ∷ xs) k x l all))
+  pub wanted_out : (states : List S) (k q : ℕ) → k < length states → All (IsReached b) states → b.process.want (state_at b states k) ≡ Write q → q < outputs_at b states k
+  wanted_out states k q l all wants =
+      subst (λ n. q < n) (sym (get_or-map b.outputs states k b.sample 0 l)) (wants_output (state_at b states k) q wants (All-get_or (IsReached b) states k b.sample l all))
 
 -- a node that writes wants some port
 pub writes_port : (w : Want) → IsWrite w → (q : ℕ) × (w ≡ Write q)

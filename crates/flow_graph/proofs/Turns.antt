@@ -17,18 +17,19 @@ use Rattle.flow_edges.specs.Ends.{View, SameTraffic}
 use Rattle.flow_edges.specs.Whole.{IsWhole, waiting}
 use Rattle.flow_edges.proofs.Waiting.{taken-begins, put-room, room-count, none-waits}
 use Rattle.flow_base.specs.Transducers.{Behaviour, BehaviourLaws}
+use Rattle.flow_base.specs.declared.transducer.Transducer.{Ghosts}
 use Rattle.std.specs.declared.alloc.AllocError.{AllocError}
 use Rattle.flow_graph.specs.declared.edge.Edge.{Edge}
-use Rattle.flow_graph.specs.declared.wiring.Ports.{Ports}
+use Rattle.flow_graph.specs.declared.graph.Graph.{Graph}
 use Rattle.flow_graph.specs.declared.step.Moved.{Moved}
 use Rattle.flow_graph.specs.declared.step.Moved.TheVariants.{One, Nothing}
 use Rattle.flow_graph.specs.Edges.{in_edge, out_edge}
-use Rattle.flow_graph.specs.Networks.{state_at, inputs_at, outputs_at, SameBut, IsJoined, HasEnds, network_of, configuration_of}
-use Rattle.flow_graph.specs.Tables.{IsWiring}
-use Rattle.flow_graph.specs.Kept.{IsKept}
-use Rattle.flow_graph.proofs.Nets.{wired_net, lawful_net}
+use Rattle.flow_graph.specs.Networks.{state_at, inputs_at, outputs_at, SameBut, HasEnds, network_of, configuration_of}
+use Rattle.flow_graph.specs.Graphs.{states_of, edges_of}
+use Rattle.flow_graph.proofs.Nets.{graph_wired, graph_lawful}
 use Rattle.flow_graph.proofs.Looks.{put_looked}
 use Rattle.flow_graph.specs.Steps.{Moves, Stays, Steps, is_one}
+use Rattle.flow_graph.specs.Turns.{TakesTurn, TurnsNetwork}
 
 -- a list with a stop has the end
 pub ended_has : {S : Type 0} (P : Process S Signal) → P.end ≡ stop → (ms : List Signal) → ended ms ≡ true → HasEnd P ms
@@ -37,12 +38,12 @@ ended_has P is [] h = absurd (cc)
 ended_has P is (stop ∷ ms) h = ([], ms, ap (λ x. x ∷ ms) is)
 ended_has P is (carry x ∷ ms) h = let rest = ended_has P is ms h in (carry x ∷ rest.0, rest.1, ap (λ l. carry x ∷ l) rest.2)
 
-module _ {S : Type 0} (b : Behaviour S) (laws : BehaviourLaws b) (idle : S) (states : List S) (edges : List Edge) (wired : IsWired (network_of b idle states edges)) (lawful : AllLawful b.process (network_of b idle states edges)) (node : ℕ) (inside : node < length states) where
+module _ {S : Type 0} (b : Behaviour S) (laws : BehaviourLaws b) (states : List S) (edges : List Edge) (wired : IsWired (network_of b states edges)) (lawful : AllLawful b.process (network_of b states edges)) (node : ℕ) (inside : node < length states) where
   abbrev net : Network S
-  net = network_of b idle states edges
+  net = network_of b states edges
 
   abbrev s : S
-  s = state_at idle states node
+  s = state_at b states node
 
   -- in a sound configuration no node wants to write an edge to which End was sent
   pub sound_open : (c : Configuration S Signal) → IsSound b.process net c → (q : ℕ) → b.process.want (c.state node) ≡ Write q → ended (c.sent (out_edge edges node q)) ≡ false
@@ -56,21 +57,21 @@ module _ {S : Type 0} (b : Behaviour S) (laws : BehaviourLaws b) (idle : S) (sta
         | inr free ↦ free
       ]
 
-  module _ (states' : List S) (capacity : ℕ) (a v : View) (others : SameBut node states states') (whole_a : IsWhole capacity a) (whole_v : IsWhole capacity v) (ends : HasEnds b states edges node a) (sound : IsSound b.process (network_of b idle states edges) (configuration_of idle states a)) where
+  module _ (states' : List S) (capacity : ℕ) (a v : View) (others : SameBut b node states states') (whole_a : IsWhole capacity a) (whole_v : IsWhole capacity v) (ends : HasEnds b states edges node a) (sound : IsSound b.process (network_of b states edges) (configuration_of b states a)) where
     abbrev c : Configuration S Signal
-    c = configuration_of idle states a
+    c = configuration_of b states a
 
     abbrev d : Configuration S Signal
-    d = configuration_of idle states' v
+    d = configuration_of b states' v
 
     abbrev s' : S
-    s' = state_at idle states' node
+    s' = state_at b states' node
 
     changed : (t : S) → s' ≡ t → d.state ≡ updated c.state node t
-    changed t is = updated_from c.state d.state node (others.others idle) ∙ ap (updated c.state node) is
+    changed t is = updated_from c.state d.state node others.others ∙ ap (updated c.state node) is
 
     unchanged : s' ≡ s → d.state ≡ c.state
-    unchanged is = same_from c.state d.state node is (others.others idle)
+    unchanged is = same_from c.state d.state node is others.others
 
     input_there : (p : ℕ) → b.process.want s ≡ Read p → p < inputs_at b states node
     input_there p wants = let reached = sound.reached node inside in (lawful node inside).in_port reached.history s p reached.does wants
@@ -135,13 +136,11 @@ module _ {S : Type 0} (b : Behaviour S) (laws : BehaviourLaws b) (idle : S) (sta
     sound_after moved h = sound_turn (is_one moved) (turn_of moved h)
 
 -- one turn over both ends of each edge, by its answer
-module _ {S : Type 0} (b : Behaviour S) (laws : BehaviourLaws b) (states : List S) (ports : List Ports) (edges : List Edge) (wired : IsWiring ports edges) (kept : IsKept b states ports edges) (joined : IsJoined b states edges) (node : ℕ) (inside : node < length states) (states' : List S) (capacity : ℕ) (a v : View) (others : SameBut node states states') (whole_a : IsWhole capacity a) (whole_v : IsWhole capacity v) (ends : HasEnds b states edges node a) where
-  pub whole_turn : (r : Result Moved AllocError) → ((idle : S) → Steps b edges node (state_at idle states node) (state_at idle states' node) a v r) → IfOk r (λ moved. (idle : S) → IsSound b.process (network_of b idle states edges) (configuration_of idle states a) → Turn b.process (network_of b idle states edges) (Some capacity) node (configuration_of idle states a) (configuration_of idle states' v) (is_one moved))
-  whole_turn (Ok moved) step = λ idle sound.
-      turn_of b laws idle states edges (wired_net b idle states ports edges wired kept joined) (lawful_net b idle states ports edges wired kept joined laws) node inside states' capacity a v others whole_a whole_v ends sound moved (step idle)
-  whole_turn (Err e) step = tt
-
-  pub whole_sound : (r : Result Moved AllocError) → ((idle : S) → Steps b edges node (state_at idle states node) (state_at idle states' node) a v r) → IfOk r (λ moved. (idle : S) → IsSound b.process (network_of b idle states edges) (configuration_of idle states a) → IsSound b.process (network_of b idle states edges) (configuration_of idle states' v))
-  whole_sound (Ok moved) step = λ idle sound.
-      sound_after b laws idle states edges (wired_net b idle states ports edges wired kept joined) (lawful_net b idle states ports edges wired kept joined laws) node inside states' capacity a v others whole_a whole_v ends sound moved (step idle)
-  whole_sound (Err e) step = tt
+module _ {X Y : Type 0} {t : Ghosts X} (laws : BehaviourLaws t.behaviour) (view : Y → View) (node : ℕ) (graph : Graph X t) (ends : Y) (graph' : Graph X t) (ends' : Y) (inside : node < length (states_of graph)) (there : HasEnds t.behaviour (states_of graph) (edges_of graph) node (view ends))
+    (capacity : ℕ) (whole : IsWhole capacity (view ends)) (whole' : IsWhole capacity (view ends')) where
+  pub turns_network : (r : Result Moved AllocError) → TakesTurn view node graph ends graph' ends' r → IfOk r (λ moved. TurnsNetwork view node graph ends graph' ends' capacity moved)
+  turns_network (Err e) taken = tt
+  turns_network (Ok moved) taken = record {
+    turn = λ sound. turn_of t.behaviour laws (states_of graph) (edges_of graph) (graph_wired graph) (graph_lawful graph laws) node inside (states_of graph') capacity (view ends) (view ends') taken.others whole whole' there sound moved taken.step;
+    sound = λ sound. sound_after t.behaviour laws (states_of graph) (edges_of graph) (graph_wired graph) (graph_lawful graph laws) node inside (states_of graph') capacity (view ends) (view ends') taken.others whole whole' there sound moved taken.step;
+  }

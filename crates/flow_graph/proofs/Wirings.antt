@@ -1,20 +1,33 @@
 -- A wiring with a node or an edge more.
-use Rattle.std.proofs.Common.{◌≡◌, ℕ, zero, suc, ◌<◌, ◌≤◌, Bool, true, false, if◌then◌else◌, IsSome, is_some, not, IsTrue, List, [], ◌∷◌, ◌++◌, length, get_or, set, map, replicate, Option, Some, None, refl, sym, ◌∙◌, ap, subst, arith, length-set, ◌⊎◌, inl, inr}
+use Rattle.std.proofs.Common.{◌≡◌, ℕ, zero, suc, ◌<◌, ◌≤◌, ◌↔◌, Bool, true, false, if◌then◌else◌, IsSome, IsTrue, List, [], ◌∷◌, ◌++◌, length, get_or, set, map, replicate, Option, Some, None, refl, sym, ◌∙◌, ap, subst, arith, length-set, ◌⊎◌, inl, inr}
 use Rattle.std.proofs.lemmas.Bool.{cases_eq, cases_lt}
-use Rattle.std.proofs.lemmas.List.{get_or-map, map-set, set-get_or, get_or_append_left, get_or_push, length_push, length-map, length-replicate, get_or-replicate, get_or_past, map-append, get_or_read, get_or_default}
-use Rattle.std.specs.List.{All}
+use Rattle.std.proofs.lemmas.List.{get_or-map, map-set, set-get_or, get_or_append_left, get_or_push, length_push, length-map, length-replicate, get_or-replicate, get_or_past, map-append, get_or_default}
+use Rattle.std.specs.List.{All, position_or_len}
+use Rattle.std.specs.Option.{ForSome}
 use Rattle.std.proofs.lemmas.List.Elements.{All-map}
 use Rattle.flow_graph.specs.declared.edge.Edge.{Edge}
 use Rattle.flow_graph.specs.declared.wiring.Ports.{Ports}
 use Rattle.flow_graph.specs.Edges.{edge_at, in_edge, out_edge, IsTakenIn, IsTakenOut}
 use Rattle.flow_graph.specs.Tables.{ins, outs, row_at, entry_at, count_at, IsTableOf, IsWiring, HasAllEdges, IsFull}
-use Rattle.flow_graph.proofs.Tables.{with_row, with_entry, entry_none, entry_is, number_is, number_none, node_inside}
+use Rattle.flow_graph.proofs.Tables.{at_port, with_row, with_entry, entry_none, entry_is, number_is, number_none, node_inside}
 
 -- a row is as long as the table counts
 pub row_length : (table : List (List (Option ℕ))) (k : ℕ) → length (row_at table k) ≡ count_at table k
 row_length [] k = refl
 row_length (t ∷ ts) zero = refl
 row_length (t ∷ ts) (suc k) = row_length ts k
+
+-- One side of the ports: what a node has there, and the node and the port of an edge there.
+pub record Side : Type 0 where
+  pub of : Ports → List (Option ℕ)
+  pub node : Edge → ℕ
+  pub port : Edge → ℕ
+
+abbrev pub input_side : Side
+input_side = record { of = λ node. node.inputs.items; node = λ edge. edge.reader; port = λ edge. edge.reader_port }
+
+abbrev pub output_side : Side
+output_side = record { of = λ node. node.outputs.items; node = λ edge. edge.writer; port = λ edge. edge.writer_port }
 
 -- the ports of one node, which f reads, and the table of all
 module _ (f : Ports → List (Option ℕ)) (ports : List Ports) (k : ℕ) (x : Ports) (inside : k < length ports) (is : x ≡ get_or ports k x) where
@@ -23,9 +36,6 @@ module _ (f : Ports → List (Option ℕ)) (ports : List Ports) (k : ℕ) (x : P
 
   pub count_is : length (f x) ≡ count_at (map f ports) k
   count_is = ap length row_is ∙ row_length (map f ports) k
-
-  pub entry_read : (p : ℕ) (y : Option ℕ) → p < length (f x) → y ≡ get_or (f x) p y → y ≡ entry_at (map f ports) k p
-  entry_read p y within read = get_or_read (f x) p y within read None ∙ ap (λ (r : List (Option ℕ)). get_or r p None) row_is
 
 -- a node that has ports is there
 pub node_there : (f : Ports → List (Option ℕ)) (ports : List Ports) (k p : ℕ) → p < count_at (map f ports) k → k < length ports
@@ -46,14 +56,15 @@ none_free n p = go (cases_lt p n)
     go (inl l) = get_or-replicate n p nothing None l
     go (inr past) = get_or_past (replicate n nothing) p None (omega (arith, length-replicate n nothing))
 
+-- a side with a node more, whose ports are free
+side_with_node : (side : Side) (ports : List Ports) (edges : List Edge) (node : Ports) (n : ℕ) → IsTableOf side.node side.port (map side.of ports) edges → side.of node ≡ replicate n None → IsTableOf side.node side.port (map side.of (ports ++ node ∷ [])) edges
+side_with_node side ports edges node n is free =
+    subst (λ t. IsTableOf side.node side.port t edges) (sym (map-append side.of ports (node ∷ [])))
+    (with_row side.node side.port (map side.of ports) edges is (side.of node) (λ p. ap (λ (r : List (Option ℕ)). get_or r p None) free ∙ none_free n p))
+
 pub wiring_with_node : (ports : List Ports) (edges : List Edge) (node : Ports) (inputs outputs : ℕ) → IsWiring ports edges → node.inputs.items ≡ replicate inputs None → node.outputs.items ≡ replicate outputs None → IsWiring (ports ++ node ∷ []) edges
-wiring_with_node ports edges node inputs outputs wired i o = record {
-  forward = wired.forward;
-  ins = subst (λ t. IsTableOf (λ edge. edge.reader) (λ edge. edge.reader_port) t edges) (sym (map-append (λ (n : Ports). n.inputs.items) ports (node ∷ [])))
-      (with_row (λ edge. edge.reader) (λ edge. edge.reader_port) (ins ports) edges wired.ins node.inputs.items (λ p. ap (λ (r : List (Option ℕ)). get_or r p None) i ∙ none_free inputs p));
-  outs = subst (λ t. IsTableOf (λ edge. edge.writer) (λ edge. edge.writer_port) t edges) (sym (map-append (λ (n : Ports). n.outputs.items) ports (node ∷ [])))
-      (with_row (λ edge. edge.writer) (λ edge. edge.writer_port) (outs ports) edges wired.outs node.outputs.items (λ p. ap (λ (r : List (Option ℕ)). get_or r p None) o ∙ none_free outputs p));
-}
+wiring_with_node ports edges node inputs outputs wired i o =
+    record { forward = wired.forward; ins = side_with_node input_side ports edges node inputs wired.ins i; outs = side_with_node output_side ports edges node outputs wired.outs o }
 
 -- and after a push that may be refused
 pub wiring_after_push : (ports after : List Ports) (edges : List Edge) (node : Ports) (inputs outputs : ℕ) (pushed : Bool) → after ≡ (if pushed then ports ++ node ∷ [] else ports) → IsWiring ports edges → node.inputs.items ≡ replicate inputs None → node.outputs.items ≡ replicate outputs None → IsWiring after edges
@@ -101,13 +112,18 @@ module _ (ports : List Ports) (edges : List Edge) (x : Edge) (w w' r r' : Ports)
   pub counts_outs : map length (outs both_ends) ≡ map length (outs ports)
   counts_outs = ap (map length) both_outs ∙ counts (outs ports) x.writer x.writer_port (Some (length edges))
 
+  -- a side with the edge more, at a port that was free
+  side_with_edge : (side : Side) → IsTableOf side.node side.port (map side.of ports) edges → map side.of both_ends ≡ set (map side.of ports) (side.node x) (set (row_at (map side.of ports) (side.node x)) (side.port x) (Some (length edges)))
+      → side.port x < count_at (map side.of ports) (side.node x) → length edges ≤ position_or_len (at_port side.node side.port (side.node x) (side.port x)) edges → IsTableOf side.node side.port (map side.of both_ends) (edges ++ x ∷ [])
+  side_with_edge side is both port free =
+      subst (λ t. IsTableOf side.node side.port t (edges ++ x ∷ [])) (sym both)
+      (with_entry side.node side.port (map side.of ports) edges is x (omega (arith, port, row_length (map side.of ports) (side.node x))) (entry_none side.node side.port (map side.of ports) edges is (side.node x) (side.port x) free))
+
   pub wiring_with_edge : IsWiring ports edges → x.writer_port < count_at (outs ports) x.writer → x.reader_port < count_at (ins ports) x.reader → length edges ≤ out_edge edges x.writer x.writer_port → length edges ≤ in_edge edges x.reader x.reader_port → IsWiring both_ends (edges ++ x ∷ [])
   wiring_with_edge wired o i free_o free_i = record {
     forward = λ e l. go e l (cases_eq e (length edges));
-    ins = subst (λ t. IsTableOf (λ edge. edge.reader) (λ edge. edge.reader_port) t (edges ++ x ∷ [])) (sym both_ins)
-        (with_entry (λ edge. edge.reader) (λ edge. edge.reader_port) (ins ports) edges wired.ins x (omega (arith, row_length (ins ports) x.reader)) (entry_none (λ edge. edge.reader) (λ edge. edge.reader_port) (ins ports) edges wired.ins x.reader x.reader_port free_i));
-    outs = subst (λ t. IsTableOf (λ edge. edge.writer) (λ edge. edge.writer_port) t (edges ++ x ∷ [])) (sym both_outs)
-        (with_entry (λ edge. edge.writer) (λ edge. edge.writer_port) (outs ports) edges wired.outs x (omega (arith, row_length (outs ports) x.writer)) (entry_none (λ edge. edge.writer) (λ edge. edge.writer_port) (outs ports) edges wired.outs x.writer x.writer_port free_o));
+    ins = side_with_edge input_side wired.ins both_ins i free_i;
+    outs = side_with_edge output_side wired.outs both_outs o free_o;
   }
     where
       go : (e : ℕ) → e < length (edges ++ x ∷ []) → ((e ≡ length edges) ⊎ (e ≡ length edges → ⊥)) → (edge_at (edges ++ x ∷ []) e).writer < (edge_at (edges ++ x ∷ []) e).reader
@@ -116,44 +132,56 @@ module _ (ports : List Ports) (edges : List Edge) (x : Edge) (w w' r r' : Ports)
           let old : e < length edges = omega (arith, length_push edges x) in
           subst (λ (y : Edge). y.writer < y.reader) (sym (get_or_append_left edges (x ∷ []) _ e old)) (wired.forward e old)
 
--- what `is_none` answers
-pub none_test : (y : Option ℕ) (r : Bool) → is_some y ≡ not r → (IsTrue r → y ≡ None) × (y ≡ None → IsTrue r)
-none_test None true h = (λ t. refl, λ n. refl)
-none_test None false h = absurd (cc)
-none_test (Some e) true h = absurd (cc)
-none_test (Some e) false h = (λ t. absurd (cc), λ n. absurd (cc))
+is_some_of : (o : Option ℕ) (e : ℕ) → o ≡ Some e → IsSome o
+is_some_of None e h = absurd (cc)
+is_some_of (Some x) e h = refl
 
+-- what a table says of one side
+module _ (side : Side) (ports : List Ports) (edges : List Edge) (is : IsTableOf side.node side.port (map side.of ports) edges) where
+  -- the number of the edge at port p of node k
+  abbrev number : ℕ → ℕ → ℕ
+  number k p = position_or_len (at_port side.node side.port k p) edges
+
+  pub table_some : (k p : ℕ) → number k p < length edges → entry_at (map side.of ports) k p ≡ Some (number k p)
+  table_some = entry_is side.node side.port (map side.of ports) edges is
+
+  pub some_table : (k p e : ℕ) → entry_at (map side.of ports) k p ≡ Some e → (number k p ≡ e) × (number k p < length edges)
+  some_table k p e h = let same = number_is side.node side.port (map side.of ports) edges is k p e h in (same, omega (arith, same, is.there k p e h))
+
+  module _ (k : ℕ) (x : Ports) (inside : k < length ports) (here : x ≡ get_or ports k x) where
+    -- the table has what the node has
+    node_entry : (p : ℕ) → get_or (side.of x) p None ≡ entry_at (map side.of ports) k p
+    node_entry p = ap (λ (r : List (Option ℕ)). get_or r p None) (row_is side.of ports k x inside here)
+
+    -- a port of the node that is free
+    pub free_is : (p : ℕ) (r : Bool) → IsTrue r ↔ ((p < length (side.of x)) × (get_or (side.of x) p None ≡ None)) → IsTrue r ↔ ((p < count_at (map side.of ports) k) × (length edges ≤ number k p))
+    free_is p r test =
+        let count = count_is side.of ports k x inside here in (
+          λ t. let h = test.0 t in (omega (arith, count, h.0), omega (arith, number_none side.node side.port (map side.of ports) edges is k p (sym (node_entry p) ∙ h.1))),
+          λ free. test.1 (omega (arith, count, free.0), node_entry p ∙ entry_none side.node side.port (map side.of ports) edges is k p free.1),
+        )
+
+    -- a port of the node with its edge
+    pub taken_some : (p : ℕ) → number k p < length edges → get_or (side.of x) p None ≡ Some (number k p)
+    taken_some p taken = node_entry p ∙ table_some k p taken
+
+    pub taken_there : (row : List (Option ℕ)) (p : ℕ) → row ≡ side.of x → p < count_at (map side.of ports) k → number k p < length edges → (p < length row) × IsSome (get_or row p None)
+    taken_there row p same port taken =
+        (omega (arith, ap length same, port, count_is side.of ports k x inside here), is_some_of (get_or row p None) (number k p) (ap (λ (r : List (Option ℕ)). get_or r p None) same ∙ taken_some p taken))
+
+    pub taken_is : (row : List (Option ℕ)) (p e : ℕ) → row ≡ side.of x → number k p < length edges → get_or row p None ≡ Some e → e ≡ number k p
+    taken_is row p e same taken read = let is_e : Some e ≡ Some (number k p) = sym read ∙ ap (λ (r : List (Option ℕ)). get_or r p None) same ∙ taken_some p taken in cc
+
+    -- what holds of the edge at each port of the node
+    pub from_ports : (P : ℕ → Type 0) → ((p : ℕ) → p < count_at (map side.of ports) k → number k p < length edges) → All (λ edge. ForSome edge P) (side.of x) → (p : ℕ) → p < count_at (map side.of ports) k → P (number k p)
+    from_ports P taken all p h = all p None (omega (arith, count_is side.of ports k x inside here)) (number k p) (taken_some p (taken p h))
+
+    pub to_ports : (P : ℕ → Type 0) → ((p : ℕ) → p < count_at (map side.of ports) k → P (number k p)) → All (λ edge. ForSome edge P) (side.of x)
+    to_ports P all p d within e some =
+        subst P (some_table k p e (sym (node_entry p) ∙ get_or_default (side.of x) p None d within ∙ some)).0 (all p (omega (arith, count_is side.of ports k x inside here)))
+
+-- all ports of all nodes
 module _ (ports : List Ports) (edges : List Edge) (wired : IsWiring ports edges) where
-  -- the table of the inputs, and where an edge goes
-  pub input_none : (k p : ℕ) → entry_at (ins ports) k p ≡ None → length edges ≤ in_edge edges k p
-  input_none k p h = omega (arith, number_none (λ edge. edge.reader) (λ edge. edge.reader_port) (ins ports) edges wired.ins k p h)
-
-  pub none_input : (k p : ℕ) → length edges ≤ in_edge edges k p → entry_at (ins ports) k p ≡ None
-  none_input = entry_none (λ edge. edge.reader) (λ edge. edge.reader_port) (ins ports) edges wired.ins
-
-  pub input_some : (k p : ℕ) → IsTakenIn edges k p → entry_at (ins ports) k p ≡ Some (in_edge edges k p)
-  input_some = entry_is (λ edge. edge.reader) (λ edge. edge.reader_port) (ins ports) edges wired.ins
-
-  pub some_input : (k p e : ℕ) → entry_at (ins ports) k p ≡ Some e → (in_edge edges k p ≡ e) × IsTakenIn edges k p
-  some_input k p e h =
-      let is : in_edge edges k p ≡ e = number_is (λ edge. edge.reader) (λ edge. edge.reader_port) (ins ports) edges wired.ins k p e h in
-      (is, omega (arith, wired.ins.there k p e h))
-
-  -- the table of the outputs, and where an edge comes from
-  pub output_none : (k q : ℕ) → entry_at (outs ports) k q ≡ None → length edges ≤ out_edge edges k q
-  output_none k q h = omega (arith, number_none (λ edge. edge.writer) (λ edge. edge.writer_port) (outs ports) edges wired.outs k q h)
-
-  pub none_output : (k q : ℕ) → length edges ≤ out_edge edges k q → entry_at (outs ports) k q ≡ None
-  none_output = entry_none (λ edge. edge.writer) (λ edge. edge.writer_port) (outs ports) edges wired.outs
-
-  pub output_some : (k q : ℕ) → IsTakenOut edges k q → entry_at (outs ports) k q ≡ Some (out_edge edges k q)
-  output_some = entry_is (λ edge. edge.writer) (λ edge. edge.writer_port) (outs ports) edges wired.outs
-
-  pub some_output : (k q e : ℕ) → entry_at (outs ports) k q ≡ Some e → (out_edge edges k q ≡ e) × IsTakenOut edges k q
-  some_output k q e h =
-      let is : out_edge edges k q ≡ e = number_is (λ edge. edge.writer) (λ edge. edge.writer_port) (outs ports) edges wired.outs k q e h in
-      (is, omega (arith, wired.outs.there k q e h))
-
   -- all ports of all nodes have their edges
   pub all_is_full : All HasAllEdges ports → IsFull ports edges
   all_is_full all = record { inputs = inputs; outputs = outputs }
@@ -168,21 +196,17 @@ module _ (ports : List Ports) (edges : List Edge) (wired : IsWiring ports edges)
           some_entry (entry_at (map f ports) k p) (rows k [] (omega (arith, node_there f ports k p h, length-map ports f)) p None (omega (arith, row_length (map f ports) k)))
 
       inputs : (k p : ℕ) → p < count_at (ins ports) k → IsTakenIn edges k p
-      inputs k p h = let e = at (λ n. n.inputs.items) (λ j d l. (all j d l).inputs) k p h in (some_input k p e.0 e.1).1
+      inputs k p h = let e = at input_side.of (λ j d l. (all j d l).inputs) k p h in (some_table input_side ports edges wired.ins k p e.0 e.1).1
 
       outputs : (k q : ℕ) → q < count_at (outs ports) k → IsTakenOut edges k q
-      outputs k q h = let e = at (λ n. n.outputs.items) (λ j d l. (all j d l).outputs) k q h in (some_output k q e.0 e.1).1
+      outputs k q h = let e = at output_side.of (λ j d l. (all j d l).outputs) k q h in (some_table output_side ports edges wired.outs k q e.0 e.1).1
 
   pub full_is_all : IsFull ports edges → All HasAllEdges ports
   full_is_all full k d l = record {
-    inputs = at (λ n. n.inputs.items) (λ p h. (in_edge edges k p, input_some k p (full.inputs k p h)));
-    outputs = at (λ n. n.outputs.items) (λ q h. (out_edge edges k q, output_some k q (full.outputs k q h)));
+    inputs = at input_side.of (λ p h. (in_edge edges k p, table_some input_side ports edges wired.ins k p (full.inputs k p h)));
+    outputs = at output_side.of (λ q h. (out_edge edges k q, table_some output_side ports edges wired.outs k q (full.outputs k q h)));
   }
     where
-      is_some_of : (o : Option ℕ) (e : ℕ) → o ≡ Some e → IsSome o
-      is_some_of None e h = absurd (cc)
-      is_some_of (Some x) e h = refl
-
       at : (f : Ports → List (Option ℕ)) → ((p : ℕ) → p < count_at (map f ports) k → (e : ℕ) × (entry_at (map f ports) k p ≡ Some e)) → All IsSome (f (get_or ports k d))
       at f each p o within =
           let x = get_or ports k d in

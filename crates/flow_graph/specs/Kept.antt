@@ -4,9 +4,9 @@ use Rattle.std.specs.List.{All}
 use Rattle.kahn.specs.Processes.{Event, Does}
 use Rattle.flow_edges.specs.Signals.{Signal}
 use Rattle.flow_base.specs.Transducers.{Behaviour}
-use Rattle.flow_graph.specs.declared.edge.TheConstants.{MAX_NODES, MAX_EDGES}
 use Rattle.flow_graph.specs.declared.edge.Edge.{Edge}
 use Rattle.flow_graph.specs.declared.wiring.Ports.{Ports}
+use Rattle.flow_graph.specs.Limits.{most_nodes, most_edges}
 use Rattle.flow_graph.specs.Edges.{edge_at}
 use Rattle.flow_graph.specs.Tables.{ins, outs}
 use Rattle.flow_graph.specs.Networks.{kind_from, kind_to}
@@ -23,5 +23,5 @@ module _ {S : Type 0} (b : Behaviour S) where
     pub outputs : map length (outs ports) ≡ map b.outputs states
     pub reached : All IsReached states
     pub kinds : (e : ℕ) → e < length edges → kind_from b states (edge_at edges e).writer (edge_at edges e).writer_port ≡ kind_to b states (edge_at edges e).reader (edge_at edges e).reader_port
-    pub few_nodes : length states ≤ MAX_NODES
-    pub few_edges : length edges ≤ MAX_EDGES
+    pub few_nodes : length states ≤ most_nodes
+    pub few_edges : length edges ≤ most_edges

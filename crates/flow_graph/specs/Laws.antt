@@ -8,31 +8,31 @@ use Rattle.flow_edges.specs.Signals.{stop, ended}
 use Rattle.flow_edges.specs.Ends.{View}
 use Rattle.flow_edges.specs.Tables.{IsFresh}
 use Rattle.flow_base.specs.Transducers.{Behaviour}
-use Rattle.flow_graph.specs.declared.edge.TheConstants.{MAX_NODES, MAX_EDGES}
 use Rattle.flow_graph.specs.declared.edge.Edge.{Edge}
+use Rattle.flow_graph.specs.Limits.{most_nodes, most_edges}
 use Rattle.flow_graph.specs.Edges.{edge_at, out_edge}
 use Rattle.flow_graph.specs.Networks.{state_at, kind_from, kind_to, AreOpened, network_of, configuration_of}
 
-module _ {S : Type 0} (b : Behaviour S) (idle : S) (states : List S) (edges : List Edge) where
+module _ {S : Type 0} (b : Behaviour S) (states : List S) (edges : List Edge) where
   -- A graph is a network of lawful processes that settle, each port with its edge.
   pub record IsNetwork : Type 0 where
-    pub wired : IsWired (network_of b idle states edges)
-    pub lawful : AllLawful b.process (network_of b idle states edges)
+    pub wired : IsWired (network_of b states edges)
+    pub lawful : AllLawful b.process (network_of b states edges)
     pub settles : Settles b.process
     pub end : b.process.end ≡ stop
 
   -- The items at both ends of an edge are of one kind, and there are not too many nodes and edges.
   pub record IsWithinLimits : Type 0 where
     pub kinds : (e : ℕ) → e < length edges → kind_from b states (edge_at edges e).writer (edge_at edges e).writer_port ≡ kind_to b states (edge_at edges e).reader (edge_at edges e).reader_port
-    pub few_nodes : length states ≤ MAX_NODES
-    pub few_edges : length edges ≤ MAX_EDGES
+    pub few_nodes : length states ≤ most_nodes
+    pub few_edges : length edges ≤ most_edges
 
   -- Where the nodes are in their opening states and nothing was sent, they are before any step.
   abbrev pub Opens : View → Type 0
-  Opens view = AreOpened b states → IsFresh (length edges) view → configuration_of idle states view ≡ start (network_of b idle states edges)
+  Opens view = AreOpened b states → IsFresh (length edges) view → configuration_of b states view ≡ start (network_of b states edges)
 
   -- In a sound configuration no node wants to write to an edge to which End was sent.
   abbrev pub WritesOpen : View → Type 0
   WritesOpen view =
-      IsSound b.process (network_of b idle states edges) (configuration_of idle states view)
-      → (k q : ℕ) → k < length states → b.process.want (state_at idle states k) ≡ Write q → ended (view.sent (out_edge edges k q)) ≡ false
+      IsSound b.process (network_of b states edges) (configuration_of b states view)
+      → (k q : ℕ) → k < length states → b.process.want (state_at b states k) ≡ Write q → ended (view.sent (out_edge edges k q)) ≡ false

@@ -1,7 +1,10 @@
 pub mod Edges
 pub mod Tables
 pub mod Networks
+pub mod Limits
 pub mod Kept
 pub mod Graphs
 pub mod Steps
+pub mod Shapes
+pub mod Turns
 pub mod Laws

@@ -12,16 +12,16 @@ use Rattle.flow_base.specs.Transducers.{Behaviour}
 use Rattle.flow_graph.specs.declared.edge.Edge.{Edge}
 use Rattle.flow_graph.specs.Edges.{edge_at, in_edge, out_edge, IsTakenIn, IsTakenOut}
 
--- the state of node k; `idle` where there is no such node
-abbrev pub state_at : {S : Type 0} → S → List S → ℕ → S
-state_at idle states k = slice_index_or states k idle
-
--- the same states, but for that of node k
-pub record SameBut {S : Type 0} (k : ℕ) (old new : List S) : Type 0 where
-  pub nodes : length new ≡ length old
-  pub others : (idle : S) (j : ℕ) → j ≢ k → state_at idle new j ≡ state_at idle old j
-
 module _ {S : Type 0} (b : Behaviour S) where
+  -- the state of node k; the sample where there is no such node
+  abbrev pub state_at : List S → ℕ → S
+  state_at states k = slice_index_or states k b.sample
+
+  -- The same states, but for that of node k.
+  pub record SameBut (k : ℕ) (old new : List S) : Type 0 where
+    pub nodes : length new ≡ length old
+    pub others : (j : ℕ) → j ≢ k → state_at new j ≡ state_at old j
+
   -- how many input ports, and how many output ports, node k has
   abbrev pub inputs_at : List S → ℕ → ℕ
   inputs_at states k = slice_index_or (map b.inputs states) k 0
@@ -61,12 +61,12 @@ module _ {S : Type 0} (b : Behaviour S) where
     pub writes : (q : ℕ) → q < outputs_at states k → view.writes (out_edge edges k q) ≡ true
 
   -- the network of the nodes that have these states, joined by these edges
-  abbrev pub network_of : S → List S → List Edge → Network S
-  network_of idle states edges =
+  abbrev pub network_of : List S → List Edge → Network S
+  network_of states edges =
       record {
         nodes = length states;
         edges = length edges;
-        opening = state_at idle (map b.opening states);
+        opening = state_at (map b.opening states);
         inputs = λ k. inputs_at states k;
         outputs = λ k. outputs_at states k;
         writer = λ e. (edge_at edges e).writer;
@@ -77,6 +77,6 @@ module _ {S : Type 0} (b : Behaviour S) where
         out_edge = out_edge edges;
       }
 
--- where these nodes stand, with what was sent and received on their edges
-abbrev pub configuration_of : {S : Type 0} → S → List S → View → Configuration S Signal
-configuration_of idle states view = record { state = state_at idle states; sent = view.sent; received = view.received }
+  -- where these nodes stand, with what was sent and received on their edges
+  abbrev pub configuration_of : List S → View → Configuration S Signal
+  configuration_of states view = record { state = state_at states; sent = view.sent; received = view.received }

@@ -4,7 +4,7 @@ use Rattle.std.specs.declared.alloc.AllocError.{AllocError}
 use Rattle.kahn.specs.declared.want.Want.{Want}
 use Rattle.kahn.specs.declared.want.Want.TheVariants.{Read, Write, Ended, Faulted}
 use Rattle.flow_edges.specs.Signals.{Signal, ended}
-use Rattle.flow_edges.specs.Ends.{View, LookedForRoom, LookedForMessages, Put, Taken}
+use Rattle.flow_edges.specs.Ends.{View, held, LookedForRoom, LookedForMessages, Put, Taken}
 use Rattle.flow_base.specs.Transducers.{Behaviour}
 use Rattle.flow_graph.specs.declared.edge.Edge.{Edge}
 use Rattle.flow_graph.specs.declared.step.Moved.{Moved}
@@ -31,7 +31,7 @@ module _ {S : Type 0} (b : Behaviour S) (edges : List Edge) (node : ℕ) (s s' :
 
   -- No event: no message was certain to be there, or no room, or the node was done.
   abbrev pub Stays : Want → Type 0
-  Stays (Read p) = (s' ≡ s) × LookedForMessages before (in_edge edges node p) after × (after.held (in_edge edges node p) ≡ 0)
+  Stays (Read p) = (s' ≡ s) × LookedForMessages before (in_edge edges node p) after × (held after (in_edge edges node p) ≡ 0)
   Stays (Write q) = (s' ≡ s) × LookedForRoom before (out_edge edges node q) after × (after.room (out_edge edges node q) ≡ 0)
   Stays Ended = (s' ≡ s) × (after ≡ before)
   Stays (Faulted fault) = (s' ≡ s) × (after ≡ before)

@@ -1,6 +1,7 @@
 // How graphs are built.
 ghost use Rattle.std.specs.Prelude.{◌≡◌, ◌++◌, ◌∷◌, [], ◌↔◌, ◌⊎◌, IsTrue, IfOk, OnErr, IfErr, length};
 ghost use Rattle.snesl_values.specs.declared.refusal.Refusal.TheVariants.{TooBig, NoMemory};
+ghost use Rattle.flow_graph.specs.Limits.{most_nodes, most_edges};
 ghost use Rattle.flow_graph.specs.Networks.{AreOpened, MayJoin, IsJoined};
 ghost use Rattle.flow_graph.specs.Graphs.{states_of, edges_of, states_so_far, edges_so_far};
 
@@ -35,7 +36,7 @@ impl<T: Transducer + Drop> GraphBuilder<T> {
         ensures edges { edges_so_far self.new ≡ edges_so_far self.old }
         ensures opened { AreOpened T.behaviour (states_so_far self.old) → AreOpened T.behaviour (states_so_far self.new) }
         ensures err { OnErr result (states_so_far self.new ≡ states_so_far self.old) }
-        ensures full { (result ≡ Err TooBig) ↔ (length (states_so_far self.old) ≡ MAX_NODES) }
+        ensures full { (result ≡ Err TooBig) ↔ (length (states_so_far self.old) ≡ most_nodes) }
         ensures memory { IfErr result (λ refusal. (refusal ≡ TooBig) ⊎ (refusal ≡ NoMemory)) }
     {
         let number = self.nodes.len();
@@ -91,7 +92,7 @@ impl<T: Transducer + Drop> GraphBuilder<T> {
         ensures edges { IfOk result (λ _. edges_so_far self.new ≡ edges_so_far self.old ++ edge ∷ []) }
         ensures nodes { states_so_far self.new ≡ states_so_far self.old }
         ensures err { OnErr result (edges_so_far self.new ≡ edges_so_far self.old) }
-        ensures full { (result ≡ Err TooBig) ↔ (length (edges_so_far self.old) ≡ MAX_EDGES) }
+        ensures full { (result ≡ Err TooBig) ↔ (length (edges_so_far self.old) ≡ most_edges) }
         ensures memory { IfErr result (λ refusal. (refusal ≡ TooBig) ⊎ (refusal ≡ NoMemory)) }
     {
         let number = self.wiring.edges.len();

@@ -37,7 +37,7 @@ impl<T: Transducer> Graph<T> {
     /// The node of this number.
     pub fn node(&self, number: usize) -> &T
         requires { number < length (states_of self.now) }
-        ensures { (idle : T.State) → T.state result.now ≡ state_at idle (states_of self.now) number }
+        ensures { T.state result.now ≡ state_at T.behaviour (states_of self.now) number }
     {
         &self.nodes[number]
     }

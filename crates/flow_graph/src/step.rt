@@ -2,12 +2,12 @@
 ghost use Rattle.std.specs.Prelude.{◌≡◌, ◌<◌, false, map, length, slice_set, IsOk, IfOk, OnOk, OnErr};
 ghost use Rattle.kahn.specs.declared.want.Want.TheVariants.{Read, Write};
 ghost use Rattle.flow_edges.specs.Signals.{signal_of};
-ghost use Rattle.flow_edges.specs.Ends.{SameEnds};
 ghost use Rattle.flow_base.specs.Transducers.{IsWrite};
 ghost use Rattle.flow_graph.specs.Edges.{in_edge, out_edge};
-ghost use Rattle.flow_graph.specs.Networks.{state_at, inputs_at, outputs_at, SameBut, HasEnds, network_of};
+ghost use Rattle.flow_graph.specs.Networks.{state_at, inputs_at, outputs_at, HasEnds};
 ghost use Rattle.flow_graph.specs.Graphs.{states_of, edges_of};
-ghost use Rattle.flow_graph.specs.Steps.{Steps};
+ghost use Rattle.flow_graph.specs.Shapes.{KeepsShape};
+ghost use Rattle.flow_graph.specs.Turns.{TakesTurn};
 
 use crate::graph::Graph;
 use flow_base::Transducer;
@@ -28,7 +28,7 @@ impl<T: Transducer> Graph<T> {
     /// What the node wants.
     fn want(&self, node: usize) -> Want
         requires { node < length (states_of self.now) }
-        ensures { (idle : T.State) → result ≡ T.behaviour.process.want (state_at idle (states_of self.now) node) }
+        ensures { result ≡ T.behaviour.process.want (state_at T.behaviour (states_of self.now) node) }
     {
         self.nodes[node].want()
     }
@@ -36,7 +36,7 @@ impl<T: Transducer> Graph<T> {
     /// The edge at the input port that the node wants to read.
     fn wanted_input(&self, node: usize, port: usize) -> usize
         requires inside { node < length (states_of self.now) }
-        requires wants { (idle : T.State) → T.behaviour.process.want (state_at idle (states_of self.now) node) ≡ Read port }
+        requires wants { T.behaviour.process.want (state_at T.behaviour (states_of self.now) node) ≡ Read port }
         ensures port { port < inputs_at T.behaviour (states_of self.now) node }
         ensures edge { result ≡ in_edge (edges_of self.now) node port }
     {
@@ -46,7 +46,7 @@ impl<T: Transducer> Graph<T> {
     /// The edge at the output port that the node wants to write.
     fn wanted_output(&self, node: usize, port: usize) -> usize
         requires inside { node < length (states_of self.now) }
-        requires wants { (idle : T.State) → T.behaviour.process.want (state_at idle (states_of self.now) node) ≡ Write port }
+        requires wants { T.behaviour.process.want (state_at T.behaviour (states_of self.now) node) ≡ Write port }
         ensures port { port < outputs_at T.behaviour (states_of self.now) node }
         ensures edge { result ≡ out_edge (edges_of self.now) node port }
     {
@@ -57,12 +57,12 @@ impl<T: Transducer> Graph<T> {
     #[inline(always)]
     fn give(&mut self, node: usize, port: usize, message: Msg) -> Result<(), AllocError>
         requires inside { node < length (states_of self.old) }
-        requires wants { (idle : T.State) → T.behaviour.process.want (state_at idle (states_of self.old) node) ≡ Read port }
+        requires wants { T.behaviour.process.want (state_at T.behaviour (states_of self.old) node) ≡ Read port }
         ensures edges { edges_of self.new ≡ edges_of self.old }
         ensures openings { map T.behaviour.opening (states_of self.new) ≡ map T.behaviour.opening (states_of self.old) }
-        ensures ok { OnOk result ((idle : T.State) → states_of self.new ≡ slice_set (states_of self.old) node (T.behaviour.process.read (state_at idle (states_of self.old) node) (signal_of message))) }
+        ensures ok { OnOk result (states_of self.new ≡ slice_set (states_of self.old) node (T.behaviour.process.read (state_at T.behaviour (states_of self.old) node) (signal_of message))) }
         ensures err { OnErr result (states_of self.new ≡ states_of self.old) }
-        ensures sure { (idle : T.State) → T.behaviour.takes_memory (state_at idle (states_of self.old) node) ≡ false → IsOk result }
+        ensures sure { T.behaviour.takes_memory (state_at T.behaviour (states_of self.old) node) ≡ false → IsOk result }
     {
         self.nodes[node].give(port, message)
     }
@@ -70,13 +70,13 @@ impl<T: Transducer> Graph<T> {
     /// The message that the node wanted to write.
     fn emit(&mut self, node: usize) -> Result<Msg, AllocError>
         requires inside { node < length (states_of self.old) }
-        requires wants { (idle : T.State) → IsWrite (T.behaviour.process.want (state_at idle (states_of self.old) node)) }
+        requires wants { IsWrite (T.behaviour.process.want (state_at T.behaviour (states_of self.old) node)) }
         ensures edges { edges_of self.new ≡ edges_of self.old }
         ensures openings { map T.behaviour.opening (states_of self.new) ≡ map T.behaviour.opening (states_of self.old) }
-        ensures message { IfOk result (λ message. (idle : T.State) → signal_of message ≡ T.behaviour.process.written (state_at idle (states_of self.old) node)) }
-        ensures ok { OnOk result ((idle : T.State) → states_of self.new ≡ slice_set (states_of self.old) node (T.behaviour.process.wrote (state_at idle (states_of self.old) node))) }
+        ensures message { IfOk result (λ message. signal_of message ≡ T.behaviour.process.written (state_at T.behaviour (states_of self.old) node)) }
+        ensures ok { OnOk result (states_of self.new ≡ slice_set (states_of self.old) node (T.behaviour.process.wrote (state_at T.behaviour (states_of self.old) node))) }
         ensures err { OnErr result (states_of self.new ≡ states_of self.old) }
-        ensures sure { (idle : T.State) → T.behaviour.takes_memory (state_at idle (states_of self.old) node) ≡ false → IsOk result }
+        ensures sure { T.behaviour.takes_memory (state_at T.behaviour (states_of self.old) node) ≡ false → IsOk result }
     {
         self.nodes[node].emit()
     }
@@ -94,12 +94,8 @@ pub fn step_once<T: Transducer, E: Ends>(
 ) -> Result<Moved, AllocError>
     requires inside { node < length (states_of graph.old) }
     requires ends { HasEnds T.behaviour (states_of graph.old) (edges_of graph.old) node (E.view ends.old) }
-    ensures same { E.same ends.old ends.new }
-    ensures ends { SameEnds (E.view ends.old) (E.view ends.new) }
-    ensures edges { edges_of graph.new ≡ edges_of graph.old }
-    ensures others { SameBut node (states_of graph.old) (states_of graph.new) }
-    ensures network { (idle : T.State) → network_of T.behaviour idle (states_of graph.new) (edges_of graph.new) ≡ network_of T.behaviour idle (states_of graph.old) (edges_of graph.old) }
-    ensures step { (idle : T.State) → Steps T.behaviour (edges_of graph.old) node (state_at idle (states_of graph.old) node) (state_at idle (states_of graph.new) node) (E.view ends.old) (E.view ends.new) result }
+    ensures shape { KeepsShape E.same E.view graph.old ends.old graph.new ends.new }
+    ensures turn { TakesTurn E.view node graph.old ends.old graph.new ends.new result }
 {
     match graph.want(node) {
         Want::Read(port) => {

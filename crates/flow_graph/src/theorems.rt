@@ -8,16 +8,16 @@ use flow_base::Transducer;
 
 /// A graph is a network of lawful processes (Kahn 1974), each port with its edge.
 pub fn graph_is_a_network<T: Transducer>(graph: &Graph<T>)
-    ensures network { (idle : T.State) → IsNetwork T.behaviour idle (states_of graph.now) (edges_of graph.now) }
-    ensures limits { (idle : T.State) → IsWithinLimits T.behaviour idle (states_of graph.now) (edges_of graph.now) }
+    ensures network { IsNetwork T.behaviour (states_of graph.now) (edges_of graph.now) }
+    ensures limits { IsWithinLimits T.behaviour (states_of graph.now) (edges_of graph.now) }
 {}
 
 /// Where its nodes are in their opening states and nothing was sent, a graph is where its network starts.
 pub fn graph_opens<T: Transducer>(graph: &Graph<T>)
-    ensures { (idle : T.State) (view : View) → Opens T.behaviour idle (states_of graph.now) (edges_of graph.now) view }
+    ensures { (view : View) → Opens T.behaviour (states_of graph.now) (edges_of graph.now) view }
 {}
 
 /// In a sound configuration no node wants to write to an edge to which End was sent.
 pub fn no_write_after_end<T: Transducer>(graph: &Graph<T>)
-    ensures { (idle : T.State) (view : View) → WritesOpen T.behaviour idle (states_of graph.now) (edges_of graph.now) view }
+    ensures { (view : View) → WritesOpen T.behaviour (states_of graph.now) (edges_of graph.now) view }
 {}

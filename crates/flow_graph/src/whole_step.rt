@@ -1,11 +1,9 @@
 // Single steps over both ends of each edge.
-ghost use Rattle.std.specs.Prelude.{◌≡◌, ◌<◌, length, Some, IfOk};
-ghost use Rattle.kahn.specs.Configurations.{IsSound};
-ghost use Rattle.kahn.specs.Turns.{Turn};
-ghost use Rattle.flow_edges.specs.Ends.{SameEnds};
-ghost use Rattle.flow_graph.specs.Networks.{state_at, SameBut, HasEnds, network_of, configuration_of};
+ghost use Rattle.std.specs.Prelude.{◌<◌, length, IfOk};
+ghost use Rattle.flow_graph.specs.Networks.{HasEnds};
 ghost use Rattle.flow_graph.specs.Graphs.{states_of, edges_of};
-ghost use Rattle.flow_graph.specs.Steps.{Steps, is_one};
+ghost use Rattle.flow_graph.specs.Shapes.{KeepsShape};
+ghost use Rattle.flow_graph.specs.Turns.{TakesTurn, TurnsNetwork};
 
 use crate::graph::Graph;
 use crate::step::{Moved, step_once};
@@ -25,16 +23,9 @@ pub fn step_whole<T: Transducer, E: WholeEnds>(
 ) -> Result<Moved, AllocError>
     requires inside { node < length (states_of graph.old) }
     requires ends { HasEnds T.behaviour (states_of graph.old) (edges_of graph.old) node (E.view ends.old) }
-    ensures same { E.same ends.old ends.new }
-    ensures ends { SameEnds (E.view ends.old) (E.view ends.new) }
-    ensures edges { edges_of graph.new ≡ edges_of graph.old }
-    ensures others { SameBut node (states_of graph.old) (states_of graph.new) }
-    ensures network { (idle : T.State) → network_of T.behaviour idle (states_of graph.new) (edges_of graph.new) ≡ network_of T.behaviour idle (states_of graph.old) (edges_of graph.old) }
-    ensures step { (idle : T.State) → Steps T.behaviour (edges_of graph.old) node (state_at idle (states_of graph.old) node) (state_at idle (states_of graph.new) node) (E.view ends.old) (E.view ends.new) result }
-
-    // The turn in the network, and that it keeps the configuration sound.
-    ensures turn { IfOk result (λ moved. (idle : T.State) → let net = network_of T.behaviour idle (states_of graph.old) (edges_of graph.old) in IsSound T.behaviour.process net (configuration_of idle (states_of graph.old) (E.view ends.old)) → Turn T.behaviour.process net (Some (E.capacity ends.old)) node (configuration_of idle (states_of graph.old) (E.view ends.old)) (configuration_of idle (states_of graph.new) (E.view ends.new)) (is_one moved)) }
-    ensures sound { IfOk result (λ _. (idle : T.State) → let net = network_of T.behaviour idle (states_of graph.old) (edges_of graph.old) in IsSound T.behaviour.process net (configuration_of idle (states_of graph.old) (E.view ends.old)) → IsSound T.behaviour.process net (configuration_of idle (states_of graph.new) (E.view ends.new))) }
+    ensures shape { KeepsShape E.same E.view graph.old ends.old graph.new ends.new }
+    ensures turn { TakesTurn E.view node graph.old ends.old graph.new ends.new result }
+    ensures network { IfOk result (λ moved. TurnsNetwork E.view node graph.old ends.old graph.new ends.new (E.capacity ends.old) moved) }
 {
     step_once(graph, ends, node)
 }

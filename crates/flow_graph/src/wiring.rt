@@ -1,5 +1,5 @@
 // How nodes are joined.
-ghost use Rattle.std.specs.Prelude.{◌≡◌, ℕ, ◌<◌, ◌≤◌, ◌++◌, ◌∷◌, [], ◌↔◌, IsTrue, IsSome, IfOk, OnOk, OnErr, Some, None, length, map, replicate, slice_set};
+ghost use Rattle.std.specs.Prelude.{◌≡◌, ℕ, ◌<◌, ◌≤◌, ◌++◌, ◌∷◌, [], ◌↔◌, IsTrue, IsSome, IfOk, OnOk, OnErr, Some, None, length, map, replicate, slice_index_or, slice_set};
 ghost use Rattle.std.specs.List.{All};
 ghost use Rattle.flow_graph.specs.Edges.{in_edge, out_edge, IsTakenIn, IsTakenOut};
 ghost use Rattle.flow_graph.specs.Tables.{ins, outs, count_at, IsWiring, HasAllEdges, IsFull};
@@ -101,8 +101,7 @@ impl Wiring {
         requires { node < length self.now.ports.items }
         ensures { IsTrue result ↔ ((port < count_at (ins self.now.ports.items) node) × (length self.now.edges.items ≤ in_edge self.now.edges.items node port)) }
     {
-        let inputs = &self.ports[node].inputs;
-        port < inputs.len() && inputs[port].is_none()
+        is_free(&self.ports[node].inputs, port)
     }
 
     /// Whether the node has this output port, with no edge.
@@ -110,8 +109,7 @@ impl Wiring {
         requires { node < length self.now.ports.items }
         ensures { IsTrue result ↔ ((port < count_at (outs self.now.ports.items) node) × (length self.now.edges.items ≤ out_edge self.now.edges.items node port)) }
     {
-        let outputs = &self.ports[node].outputs;
-        port < outputs.len() && outputs[port].is_none()
+        is_free(&self.ports[node].outputs, port)
     }
 
     /// Whether each port has its edge.
@@ -127,10 +125,7 @@ impl Wiring {
         requires taken { IsTakenIn self.now.edges.items node port }
         ensures { result ≡ in_edge self.now.edges.items node port }
     {
-        match self.ports[node].inputs[port] {
-            Some(edge) => edge,
-            None => unreachable!(),
-        }
+        edge_of(&self.ports[node].inputs, port)
     }
 
     /// The edge at this output port.
@@ -139,10 +134,7 @@ impl Wiring {
         requires taken { IsTakenOut self.now.edges.items node port }
         ensures { result ≡ out_edge self.now.edges.items node port }
     {
-        match self.ports[node].outputs[port] {
-            Some(edge) => edge,
-            None => unreachable!(),
-        }
+        edge_of(&self.ports[node].outputs, port)
     }
 }
 
@@ -163,6 +155,25 @@ fn all_taken(ports: &[Option<usize>]) -> bool
     ensures { IsTrue result ↔ All IsSome ports.now }
 {
     ports.iter().all(|edge| edge.is_some())
+}
+
+/// Whether there is this port, with no edge.
+fn is_free(ports: &[Option<usize>], port: usize) -> bool
+    ensures { IsTrue result ↔ ((port < length ports.now) × (slice_index_or ports.now port None ≡ None)) }
+{
+    port < ports.len() && ports[port].is_none()
+}
+
+/// The edge at this port.
+fn edge_of(ports: &[Option<usize>], port: usize) -> usize
+    requires inside { port < length ports.now }
+    requires taken { IsSome (slice_index_or ports.now port None) }
+    ensures { slice_index_or ports.now port None ≡ Some result }
+{
+    match ports[port] {
+        Some(edge) => edge,
+        None => unreachable!(),
+    }
 }
 
 /// So many ports with no edges.

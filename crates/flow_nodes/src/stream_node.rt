@@ -83,15 +83,15 @@ macro_rules! with_node {
 
 #[tactic(auto, using(crate::proofs::NodeSteps::node_steps))]
 impl Transducer for StreamNode {
-    ghost use Rattle.flow_nodes.specs.StreamNodes.{NodeKind, StateOf, behaviour_of_kind, laws_of_kind, sum_laws};
+    ghost use Rattle.flow_nodes.specs.StreamNodes.{NodeKind, member, node_laws};
 
-    ghost State = { (t : NodeKind) × StateOf t };
+    ghost State = { (t : NodeKind) × (member t).State };
 
     ghost state = { state_of };
 
     ghost behaviour = { node_behaviour };
 
-    ghost laws = { sum_laws behaviour_of_kind laws_of_kind };
+    ghost laws = { node_laws };
 
     #[inline(always)]
     fn want(&self) -> Want {

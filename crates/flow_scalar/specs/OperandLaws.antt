@@ -1,65 +1,56 @@
--- What follows where an item carries an operand, and where it carries none.
-use Rattle.std.specs.Prelude.{◌≡◌, true, false, List, [], ◌∷◌, Result, Ok, Err, IfOk, refl}
-use Rattle.std.proofs.Common.{ap, ◌∙◌}
+-- Where items lead that carry operands, and where values lead.
+use Rattle.std.specs.Prelude.{◌≡◌, Result, Ok, Err, IfOk, refl}
+use Rattle.std.proofs.Common.{sym, subst}
 use Rattle.snesl_values.specs.declared.fault.FaultKind.{FaultKind}
-use Rattle.snesl_values.specs.declared.fault.FaultKind.TheVariants.{Shape}
 use Rattle.snesl_operators.specs.Operators.{type_of, ScalarInRange}
 use Rattle.snesl_operators.specs.Reductions.{and_then}
 use Rattle.snesl_operators.specs.declared.scalar.Scalar.{Scalar}
 use Rattle.snesl_operators.specs.declared.scalar.Scalar.TheVariants.{Int, Bool as Truth}
 use Rattle.snesl_operators.specs.declared.scalar.ScalarType.{ScalarType}
 use Rattle.snesl_operators.specs.declared.scalar.ScalarType.TheVariants.{Int as IntType, Bool as BoolType}
-use Rattle.flow_edges.specs.Cells.{Cell, unit, int, flag, datum, is_of}
-use Rattle.flow_base.specs.Ranges.{CellInRange}
-use Rattle.flow_scalar.specs.Scalars.{kind_of_type, cell_of_scalar}
-use Rattle.flow_scalar.specs.Operands.{operand_in}
+use Rattle.flow_edges.specs.Cells.{Cell, int, flag}
+use Rattle.flow_base.specs.Machines.{taken, OnNext, OfNext, OfKind, OfRange}
+use Rattle.flow_scalar.specs.Scalars.{cell_of_scalar}
+use Rattle.flow_scalar.specs.Operands.{on_operand}
 
--- an item that carries a scalar of the type gives it
-pub operand_of_cell : (type : ScalarType) (k : Scalar) → type_of k ≡ type → operand_in type (cell_of_scalar k) ≡ Ok k
-operand_of_cell IntType (Int n) e = refl
-operand_of_cell BoolType (Truth b) e = refl
-operand_of_cell IntType (Truth b) e = absurd (cc)
-operand_of_cell BoolType (Int n) e = absurd (cc)
+-- an item that carries an operand leads where the operand does
+pub operand_leads : {S : Type 0} (type : ScalarType) (next : Scalar → Result S FaultKind) (k : Scalar) (P : S → Type 0) → type_of k ≡ type → OnNext (next k) P → OnNext (taken (on_operand type next) (cell_of_scalar k)) P
+operand_leads IntType next (Int n) P e h = h
+operand_leads BoolType next (Truth b) P e h = h
+operand_leads IntType next (Truth b) P e h = absurd (cc)
+operand_leads BoolType next (Int n) P e h = absurd (cc)
 
--- and only such an item does
-pub cell_of_operand : (type : ScalarType) (x : Cell) (k : Scalar) → operand_in type x ≡ Ok k → x ≡ cell_of_scalar k
-cell_of_operand IntType (int n) k e = let same : Int n ≡ k = cc in ap cell_of_scalar same
-cell_of_operand BoolType (flag b) k e = let same : Truth b ≡ k = cc in ap cell_of_scalar same
-cell_of_operand IntType unit k e = absurd (cc)
-cell_of_operand IntType (flag b) k e = absurd (cc)
-cell_of_operand IntType (datum v) k e = absurd (cc)
-cell_of_operand BoolType unit k e = absurd (cc)
-cell_of_operand BoolType (int n) k e = absurd (cc)
-cell_of_operand BoolType (datum v) k e = absurd (cc)
+-- and no other leads on
+pub operand_led : {S : Type 0} (type : ScalarType) (next : Scalar → Result S FaultKind) (x : Cell) (P : S → Type 0) → OnNext (taken (on_operand type next) x) P → (k : Scalar) × (x ≡ cell_of_scalar k) × OnNext (next k) P
+operand_led IntType next (int n) P h = (Int n, refl, h)
+operand_led BoolType next (flag b) P h = (Truth b, refl, h)
+operand_led IntType next _ P h = absurd h
+operand_led BoolType next _ P h = absurd h
 
--- where the only item carries a scalar of the type, it gives that one
-pub operand_first : (type : ScalarType) (x : Cell) (rest : List Cell) (k : Scalar) → type_of k ≡ type → x ∷ rest ≡ cell_of_scalar k ∷ [] → (operand_in type x ≡ Ok k) × (rest ≡ [])
-operand_first type x rest k e read =
-    let first : x ≡ cell_of_scalar k = cc in
-    let none : rest ≡ [] = cc in (ap (operand_in type) first ∙ operand_of_cell type k e, none)
+-- what holds wherever an operand of the type leads, holds wherever an item of its kind does
+pub operand_of_kind : {S : Type 0} (type : ScalarType) (next : Scalar → Result S FaultKind) (P : S → Type 0) → ((k : Scalar) → type_of k ≡ type → OfNext (next k) P) → OfKind P (on_operand type next)
+operand_of_kind IntType next P h (int n) e = h (Int n) refl
+operand_of_kind BoolType next P h (flag b) e = h (Truth b) refl
+operand_of_kind IntType next P h _ e = tt
+operand_of_kind BoolType next P h _ e = tt
 
--- an item of another kind gives none
-pub other_kind : (type : ScalarType) (x : Cell) → is_of (kind_of_type type) x ≡ false → operand_in type x ≡ Err Shape
-other_kind IntType (int n) e = absurd (cc)
-other_kind BoolType (flag b) e = absurd (cc)
-other_kind IntType _ e = refl
-other_kind BoolType _ e = refl
+-- so too with the range
+pub operand_of_range : {S : Type 0} (type : ScalarType) (next : Scalar → Result S FaultKind) (P : S → Type 0) → ((k : Scalar) → ScalarInRange k → OfNext (next k) P) → OfRange P (on_operand type next)
+operand_of_range IntType next P h (int n) e range = h (Int n) range
+operand_of_range BoolType next P h (flag b) e range = h (Truth b) tt
+operand_of_range IntType next P h _ e range = tt
+operand_of_range BoolType next P h _ e range = tt
 
--- the scalar is of the type, and its integer lies in the range where that of the item does
-pub operand_fits : (type : ScalarType) (x : Cell) → CellInRange x → IfOk (operand_in type x) (λ k. (type_of k ≡ type) × ScalarInRange k)
-operand_fits IntType (int n) h = (refl, h)
-operand_fits BoolType (flag b) h = (refl, tt)
-operand_fits IntType _ h = tt
-operand_fits BoolType _ h = tt
+-- a value leads on
+pub value_leads : {S : Type 0} (r : Result Scalar FaultKind) (state : Scalar → S) (v : Scalar) (P : S → Type 0) → r ≡ Ok v → P (state v) → OnNext (and_then r (λ v. Ok (state v))) P
+value_leads r state v P e h = subst (λ r. OnNext (and_then r (λ v. Ok (state v))) P) (sym e) h
 
--- a scalar is of the kind of its type, and its item lies in the range where it does
-pub scalar_fits : (type : ScalarType) (k : Scalar) → type_of k ≡ type → ScalarInRange k → (is_of (kind_of_type type) (cell_of_scalar k) ≡ true) × CellInRange (cell_of_scalar k)
-scalar_fits IntType (Int n) e h = (refl, h)
-scalar_fits BoolType (Truth b) e h = (refl, tt)
-scalar_fits IntType (Truth b) e h = absurd (cc)
-scalar_fits BoolType (Int n) e h = absurd (cc)
+-- and from a value alone
+pub value_led : {S : Type 0} (r : Result Scalar FaultKind) (state : Scalar → S) (P : S → Type 0) → OnNext (and_then r (λ v. Ok (state v))) P → (v : Scalar) × (r ≡ Ok v) × P (state v)
+value_led (Ok v) state P h = (v, refl, h)
+value_led (Err kind) state P h = absurd h
 
--- what goes on from a result, and ends well, has gone on
-pub went_on : {A B : Type 0} (r : Result A FaultKind) (next : A → Result B FaultKind) (b : B) → and_then r next ≡ Ok b → (a : A) × (r ≡ Ok a) × (next a ≡ Ok b)
-went_on (Ok a) next b e = (a, refl, e)
-went_on (Err kind) next b e = absurd (cc)
+-- what holds of the state with each value, holds wherever a value leads
+pub value_of : {S : Type 0} (r : Result Scalar FaultKind) (state : Scalar → S) (P : S → Type 0) → IfOk r (λ v. P (state v)) → OfNext (and_then r (λ v. Ok (state v))) P
+value_of (Ok v) state P h = h
+value_of (Err kind) state P h = tt

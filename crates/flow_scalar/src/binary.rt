@@ -24,7 +24,7 @@ pub enum Progress {
 ///
 /// Reads port 0 and then port 1, both of the type of the operator's operands; writes port 0, of the type of its value.
 /// An item of another kind is a fault of kind `Shape` at once, and where the operator has no value, its fault is that
-/// of the worker.
+/// of the worker. Row: `BinaryRow` (specs/Rows.antt).
 #[derive(Clone, Copy, Debug, PartialEq, Eq)]
 pub struct Binary {
     operator: BinaryOperator,
@@ -44,19 +44,20 @@ impl Binary {
 }
 
 impl Worker for Binary {
-    ghost use Rattle.flow_scalar.specs.declared.binary.Binary.{Binary};
-    ghost use Rattle.flow_scalar.specs.Binaries.{binary_machine};
-    ghost use Rattle.flow_scalar.specs.BinaryLaws.{binary_laws, binary_rows};
+    ghost use Rattle.snesl_operators.specs.declared.operator.BinaryOperator.{BinaryOperator};
+    ghost use Rattle.flow_scalar.specs.declared.binary.Progress.{Progress};
+    ghost use Rattle.flow_scalar.specs.BinaryMachine.{binary_machine, binary_view};
+    ghost use Rattle.flow_scalar.specs.laws.Binary.{binary_laws};
 
-    ghost State = { Binary };
+    ghost Parameters = { BinaryOperator };
 
-    ghost state = { λ n. n };
+    ghost State = { Progress };
+
+    ghost state = { binary_view };
 
     ghost machine = { binary_machine };
 
     ghost laws = { binary_laws };
-
-    ghost rows = { binary_rows };
 
     fn ask(&self) -> Ask {
         match self.progress {

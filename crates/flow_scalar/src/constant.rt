@@ -12,7 +12,7 @@ use std::alloc::AllocError;
 /// Writes a scalar once for each Unit. Each Unit is an instance.
 ///
 /// Reads port 0, of kind Unit; writes port 0, of the scalar's kind. An item of another kind is a fault of kind
-/// `Shape`.
+/// `Shape`. Row: `ConstRow` (specs/Rows.antt).
 #[derive(Clone, Copy, Debug, PartialEq, Eq)]
 pub struct Const {
     scalar: Scalar,
@@ -30,19 +30,20 @@ impl Const {
 }
 
 impl Worker for Const {
-    ghost use Rattle.flow_scalar.specs.declared.constant.Const.{Const};
-    ghost use Rattle.flow_scalar.specs.Constants.{const_machine};
-    ghost use Rattle.flow_scalar.specs.ConstLaws.{const_laws, const_rows};
+    ghost use Rattle.std.specs.Prelude.{Bool};
+    ghost use Rattle.snesl_operators.specs.declared.scalar.Scalar.{Scalar};
+    ghost use Rattle.flow_scalar.specs.ConstMachine.{const_machine, const_view};
+    ghost use Rattle.flow_scalar.specs.laws.Const.{const_laws};
 
-    ghost State = { Const };
+    ghost Parameters = { Scalar };
 
-    ghost state = { λ n. n };
+    ghost State = { Bool };
+
+    ghost state = { const_view };
 
     ghost machine = { const_machine };
 
     ghost laws = { const_laws };
-
-    ghost rows = { const_rows };
 
     fn ask(&self) -> Ask {
         if self.due { Ask::Give(0) } else { Ask::Begin }

@@ -1,7 +1,7 @@
 // Copies of each item.
 
-ghost use Rattle.std.specs.Prelude.{◌≡◌, ◌<◌, ◌≤◌};
-ghost use Rattle.flow_scalar.specs.Forks.{fork_opened, fork_machine};
+ghost use Rattle.std.specs.Prelude.{suc, ◌≡◌, ◌<◌, ◌≤◌};
+ghost use Rattle.flow_scalar.specs.ForkMachine.{fork_ports, idle};
 
 use flow_base::{Ask, Stop, Worker};
 use flow_edges::{Item, Kind};
@@ -13,6 +13,8 @@ use std::alloc::{AllocError, Global};
 ///
 /// A vector is copied for each output but the last, which gets the vector itself. Only such a copy takes memory; where
 /// it is refused, nothing was written, and the same output is next.
+///
+/// Row: `ForkRow` (specs/Rows.antt).
 #[derive(Drop)]
 pub struct Fork {
     alloc: Global,
@@ -29,8 +31,8 @@ impl Fork {
     /// A worker with so many outputs that reads items of this kind. It takes no memory before it copies a vector.
     pub fn new(alloc: Global, kind: Kind, outputs: usize) -> Fork
         requires { 2 ≤ outputs }
-        ensures state { ⟦<Fork as Worker>⟧.state result ≡ fork_opened kind outputs }
-        ensures outputs { fork_machine.outputs (fork_opened kind outputs) ≡ outputs }
+        ensures state { ⟦<Fork as Worker>⟧.state result ≡ (fork_ports kind outputs, idle) }
+        ensures outputs { suc (fork_ports kind outputs).others ≡ outputs }
     {
         Fork {
             alloc,
@@ -43,18 +45,18 @@ impl Fork {
 }
 
 impl Worker for Fork {
-    ghost use Rattle.flow_scalar.specs.Forks.{ForkState, fork_state, fork_machine};
-    ghost use Rattle.flow_scalar.specs.ForkLaws.{fork_laws, fork_rows};
+    ghost use Rattle.flow_scalar.specs.ForkMachine.{ForkPorts, fork_ports, Step, step_of, fork_machine};
+    ghost use Rattle.flow_scalar.specs.laws.Fork.{fork_laws};
 
-    ghost State = { ForkState };
+    ghost Parameters = { ForkPorts };
 
-    ghost state = { λ n. fork_state n.kind n.outputs n.next n.held };
+    ghost State = { Step };
+
+    ghost state = { λ n. (fork_ports n.kind n.outputs, step_of n.outputs n.next n.held) };
 
     ghost machine = { fork_machine };
 
     ghost laws = { fork_laws };
-
-    ghost rows = { fork_rows };
 
     fn ask(&self) -> Ask {
         match self.held {

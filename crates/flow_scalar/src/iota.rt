@@ -1,7 +1,7 @@
 // The numbers from 0 on that are below a number.
 
 ghost use Rattle.std.specs.Prelude.{◌≡◌};
-ghost use Rattle.flow_scalar.specs.Iotas.{number_after};
+ghost use Rattle.flow_scalar.specs.IotaMachine.{number_after};
 
 use flow_base::{Ask, Stop, Worker};
 use flow_edges::{Item, Kind};
@@ -13,6 +13,8 @@ use std::alloc::AllocError;
 /// Reads port 0, of kind Int. Writes for each number a flag that stands for an element to port 0, of kind Bool, and
 /// then the number to port 1, of kind Int; at last the flag that ends the segment. A negative integer is a fault of
 /// kind `NegativeCount`, and an item of another kind one of kind `Shape`.
+///
+/// Row: `IotaRow` (specs/Rows.antt).
 #[derive(Clone, Copy, Debug, PartialEq, Eq)]
 pub enum Iota {
     /// An integer comes.
@@ -41,18 +43,18 @@ impl Iota {
 
 impl Worker for Iota {
     ghost use Rattle.flow_scalar.specs.declared.iota.Iota.{Iota};
-    ghost use Rattle.flow_scalar.specs.Iotas.{iota_machine};
-    ghost use Rattle.flow_scalar.specs.IotaLaws.{iota_laws, iota_rows};
+    ghost use Rattle.flow_scalar.specs.IotaMachine.{iota_machine, iota_view};
+    ghost use Rattle.flow_scalar.specs.laws.Iota.{iota_laws};
+
+    ghost Parameters = { Unit {0} };
 
     ghost State = { Iota };
 
-    ghost state = { λ n. n };
+    ghost state = { iota_view };
 
     ghost machine = { iota_machine };
 
     ghost laws = { iota_laws };
-
-    ghost rows = { iota_rows };
 
     fn ask(&self) -> Ask {
         match self {

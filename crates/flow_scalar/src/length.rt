@@ -1,7 +1,7 @@
 // How many elements each segment has.
 
 ghost use Rattle.std.specs.Prelude.{◌≡◌};
-ghost use Rattle.flow_scalar.specs.Lengths.{one_more, length_ended};
+ghost use Rattle.flow_scalar.specs.LengthMachine.{one_more, length_ended};
 
 use flow_base::{Ask, Stop, Worker};
 use flow_edges::{Item, Kind};
@@ -12,6 +12,7 @@ use std::alloc::AllocError;
 ///
 /// Reads port 0, of kind Bool, and writes port 0, of kind Int. An item of another kind is a fault of kind `Shape`. A
 /// segment with more elements than the greatest integer is a fault of kind `Overflow`, at its end.
+/// Row: `LengthRow` (specs/Rows.antt).
 #[derive(Clone, Copy, Debug, PartialEq, Eq)]
 pub enum Length {
     /// So many elements of the segment came; or, where this is over the range of integers, at least so many.
@@ -49,18 +50,18 @@ impl Length {
 
 impl Worker for Length {
     ghost use Rattle.flow_scalar.specs.declared.length.Length.{Length};
-    ghost use Rattle.flow_scalar.specs.Lengths.{length_machine};
-    ghost use Rattle.flow_scalar.specs.LengthLaws.{length_laws, length_rows};
+    ghost use Rattle.flow_scalar.specs.LengthMachine.{length_machine, length_view};
+    ghost use Rattle.flow_scalar.specs.laws.Length.{length_laws};
+
+    ghost Parameters = { Unit {0} };
 
     ghost State = { Length };
 
-    ghost state = { λ n. n };
+    ghost state = { length_view };
 
     ghost machine = { length_machine };
 
     ghost laws = { length_laws };
-
-    ghost rows = { length_rows };
 
     fn ask(&self) -> Ask {
         match self {

@@ -16,6 +16,8 @@ use std::alloc::AllocError;
 /// 0, of the same kind as the elements. An item of another kind is a fault of kind `Shape`. A sum over the range of 64
 /// bits is a fault of kind `Overflow`, at the element that takes it there. The greatest of a segment without elements
 /// is a fault of kind `EmptyMax`, at the segment's end.
+///
+/// Row: `ReduceRow` (specs/Rows.antt).
 #[derive(Clone, Copy, Debug, PartialEq, Eq)]
 pub struct Reduce {
     reduction: Reduction,
@@ -37,11 +39,12 @@ enum Stage {
 
 impl Stage {
     ghost use Rattle.flow_edges.specs.Cells.{cell_of};
-    ghost use Rattle.flow_scalar.specs.Reduces.{stage_at_flag, stage_given};
+    ghost use Rattle.flow_base.specs.Machines.{taken, given_of};
+    ghost use Rattle.flow_scalar.specs.ReduceMachine.{at_flag, reduce_move};
 
     // Where the item leads that comes as a flag, after elements that reduce to what is so far.
     fn at_flag(so_far: Option<Scalar>, item: &Item) -> Result<Stage, FaultKind>
-        ensures { result ≡ stage_at_flag so_far (cell_of item.now) }
+        ensures { result ≡ taken (at_flag so_far) (cell_of item.now) }
     {
         match item {
             Item::Bool(false) => Ok(Stage::Element(so_far)),
@@ -51,8 +54,9 @@ impl Stage {
     }
 
     // Where the item leads.
+    #[tactic(auto, using(crate::specs::laws::Reduce::element_is))]
     fn next(self, reduction: Reduction, item: &Item) -> Result<Stage, FaultKind>
-        ensures { result ≡ stage_given reduction self (cell_of item.now) }
+        ensures { result ≡ given_of (reduce_move reduction self) (cell_of item.now) }
     {
         match self {
             Stage::Start => Stage::at_flag(reduction.nothing(), item),
@@ -79,19 +83,20 @@ impl Reduce {
 }
 
 impl Worker for Reduce {
-    ghost use Rattle.flow_scalar.specs.declared.reduce.Reduce.{Reduce};
-    ghost use Rattle.flow_scalar.specs.Reduces.{reduce_machine};
-    ghost use Rattle.flow_scalar.specs.ReduceLaws.{reduce_laws, reduce_rows};
+    ghost use Rattle.snesl_operators.specs.declared.operator.Reduction.{Reduction};
+    ghost use Rattle.flow_scalar.specs.ReduceMachine.{reduce_machine, reduce_view};
+    ghost use Rattle.flow_scalar.specs.laws.Reduce.{reduce_laws};
+    ghost use Rattle.flow_scalar.specs.declared.reduce.Stage.{Stage};
 
-    ghost State = { Reduce };
+    ghost Parameters = { Reduction };
 
-    ghost state = { λ s. s };
+    ghost State = { Stage };
+
+    ghost state = { reduce_view };
 
     ghost machine = { reduce_machine };
 
     ghost laws = { reduce_laws };
-
-    ghost rows = { reduce_rows };
 
     fn ask(&self) -> Ask {
         match self.stage {

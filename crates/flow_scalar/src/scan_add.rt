@@ -12,24 +12,28 @@ use std::alloc::AllocError;
 ///
 /// Reads port 0, the flags, of kind Bool, and port 1, the elements, of kind Int: for each flag that stands for an
 /// element it reads that element, and writes the sum to port 0, of kind Int. The flag that ends a segment is read
-/// alone. An item of another kind is a fault of kind `Shape`. A sum over the range of 64 bits is a fault of kind
-/// `Overflow`, when the flag comes of the element that it is to be written for: so the sum of all elements of a
-/// segment may be over the range.
+/// alone. An item of another kind is a fault of kind `Shape`. An element is added when the next one of its segment
+/// comes, and a sum over the range of 64 bits is then a fault of kind `Overflow`. So the last element of a segment is
+/// never added, and the sum of all may be over the range.
+///
+/// Row: `ScanAddRow` (specs/Rows.antt).
 #[derive(Clone, Copy, Debug, PartialEq, Eq)]
 pub enum ScanAdd {
     /// A segment begins.
     Start,
     /// A flag comes. The last element was `last`, and `before` the sum of those before it.
     Flag { before: i64, last: i64 },
-    /// An element comes, and `before` is the sum of those before it.
-    Element { before: i64 },
+    /// An element comes. The sum of those before it is still to be made: `before`, and `last` that is not yet added.
+    /// Both are 0 where it is the first of its segment.
+    Element { before: i64, last: i64 },
     /// The sum `before` is to be written, of the elements before `last`.
     Write { before: i64, last: i64 },
 }
 
 impl ScanAdd {
     ghost use Rattle.flow_edges.specs.Cells.{cell_of};
-    ghost use Rattle.flow_scalar.specs.ScanAdds.{scan_given};
+    ghost use Rattle.flow_base.specs.Machines.{given_of};
+    ghost use Rattle.flow_scalar.specs.ScanAddMachine.{scan_add_move};
 
     /// A worker before its first instance.
     pub fn new() -> ScanAdd
@@ -40,16 +44,21 @@ impl ScanAdd {
 
     // Where the item leads.
     fn next(self, item: &Item) -> Result<ScanAdd, FaultKind>
-        ensures { result ≡ scan_given self (cell_of item.now) }
+        ensures { result ≡ given_of (scan_add_move self) (cell_of item.now) }
     {
         match (self, item) {
-            (ScanAdd::Start, Item::Bool(false)) => Ok(ScanAdd::Element { before: 0 }),
+            (ScanAdd::Start, Item::Bool(false)) => Ok(ScanAdd::Element { before: 0, last: 0 }),
             (ScanAdd::Flag { before, last }, Item::Bool(false)) => {
-                let before = sum(before, last)?;
-                Ok(ScanAdd::Element { before })
+                Ok(ScanAdd::Element { before, last })
             }
             (ScanAdd::Start | ScanAdd::Flag { .. }, Item::Bool(true)) => Ok(ScanAdd::Start),
-            (ScanAdd::Element { before }, &Item::Int(last)) => Ok(ScanAdd::Write { before, last }),
+            (ScanAdd::Element { before, last }, &Item::Int(element)) => {
+                let before = sum(before, last)?;
+                Ok(ScanAdd::Write {
+                    before,
+                    last: element,
+                })
+            }
             _ => Err(FaultKind::Shape),
         }
     }
@@ -57,18 +66,18 @@ impl ScanAdd {
 
 impl Worker for ScanAdd {
     ghost use Rattle.flow_scalar.specs.declared.scan_add.ScanAdd.{ScanAdd};
-    ghost use Rattle.flow_scalar.specs.ScanAdds.{scan_machine};
-    ghost use Rattle.flow_scalar.specs.ScanAddLaws.{scan_laws, scan_rows};
+    ghost use Rattle.flow_scalar.specs.ScanAddMachine.{scan_add_machine, scan_add_view};
+    ghost use Rattle.flow_scalar.specs.laws.ScanAdd.{scan_add_laws};
+
+    ghost Parameters = { Unit {0} };
 
     ghost State = { ScanAdd };
 
-    ghost state = { λ s. s };
+    ghost state = { scan_add_view };
 
-    ghost machine = { scan_machine };
+    ghost machine = { scan_add_machine };
 
-    ghost laws = { scan_laws };
-
-    ghost rows = { scan_rows };
+    ghost laws = { scan_add_laws };
 
     fn ask(&self) -> Ask {
         match self {

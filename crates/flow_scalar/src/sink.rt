@@ -8,7 +8,7 @@ use snesl_values::FaultKind;
 use std::alloc::AllocError;
 
 /// Reads items of one kind and writes nothing. Each item is an instance. An item of another kind is a fault of kind
-/// `Shape`.
+/// `Shape`. Row: `SinkRow` (specs/Rows.antt).
 #[derive(Clone, Copy, Debug, PartialEq, Eq)]
 pub struct Sink {
     kind: Kind,
@@ -25,19 +25,20 @@ impl Sink {
 
 impl Worker for Sink {
     ghost use Rattle.flow_edges.specs.Cells.{cell_of};
-    ghost use Rattle.flow_scalar.specs.declared.sink.Sink.{Sink};
-    ghost use Rattle.flow_scalar.specs.Sinks.{sink_machine};
-    ghost use Rattle.flow_scalar.specs.SinkLaws.{sink_laws, sink_rows};
+    ghost use Rattle.flow_edges.specs.declared.message.Kind.{Kind};
+    ghost use Rattle.flow_base.specs.Machines.{told_of, after_of};
+    ghost use Rattle.flow_scalar.specs.SinkMachine.{sink_machine, sink_view};
+    ghost use Rattle.flow_scalar.specs.laws.Sink.{sink_laws};
 
-    ghost State = { Sink };
+    ghost Parameters = { Kind };
 
-    ghost state = { λ n. n };
+    ghost State = { Unit {0} };
+
+    ghost state = { sink_view };
 
     ghost machine = { sink_machine };
 
     ghost laws = { sink_laws };
-
-    ghost rows = { sink_rows };
 
     fn ask(&self) -> Ask {
         Ask::Begin
@@ -66,10 +67,11 @@ impl Worker for Sink {
         Ok(())
     }
 
+    // It has no output, so that nobody asks for this.
     fn give(&mut self) -> Result<Item, AllocError>
-        ensures ok { IfOk result (λ item. (cell_of item ≡ sink_machine.told self.old) × (self.new ≡ sink_machine.after self.old)) }
+        ensures ok { IfOk result (λ item. (cell_of item ≡ told_of (sink_machine.move self.old.kind tt)) × (self.new ≡ self.old)) }
         ensures err { OnErr result (self.new ≡ self.old) }
-        ensures sure { sink_machine.takes_memory self.old ≡ false → IsOk result }
+        ensures sure { sink_machine.takes_memory tt ≡ false → IsOk result }
     {
         Ok(Item::Unit)
     }

@@ -4,9 +4,10 @@ ghost use Rattle.std.specs.Prelude.{◌≡◌, ◌<◌, false, IfOk, OnOk, OnErr
 ghost use Rattle.std.specs.List.{slice_get};
 ghost use Rattle.flow_edges.specs.Cells.{cell_of, is_of};
 ghost use Rattle.flow_edges.specs.Signals.{signal_of};
-ghost use Rattle.flow_base.specs.Ranges.{SignalsInRange};
+ghost use Rattle.flow_base.specs.Ranges.{AllOf, SignalsInRange};
 ghost use Rattle.flow_base.specs.Transducers.{closed};
-ghost use Rattle.flow_scalar.specs.Sources.{stream_kind, stream_cells, is_vector, source_opened, source_behaviour};
+ghost use Rattle.flow_scalar.specs.Streams.{stream_kind, stream_cells, items_of};
+ghost use Rattle.flow_scalar.specs.SourceBehaviour.{is_vector, source_opened, source_behaviour};
 
 use flow_base::Transducer;
 use flow_edges::{Item, Kind, Msg};
@@ -71,6 +72,8 @@ impl Stream {
 ///
 /// It keeps its stream and writes copies. Only the copy of a vector takes memory; where it is refused, nothing was
 /// written, and the same item is written next.
+///
+/// Row: `SourceRow` (specs/Rows.antt).
 #[derive(Drop)]
 pub struct Source {
     alloc: Global,
@@ -82,12 +85,13 @@ pub struct Source {
 }
 
 impl Source {
-    /// A source that has written nothing. Where the integers of its stream lie in the range, all that it writes does,
-    /// and is of the stream's kind.
-    #[tactic(auto, using(crate::proofs::StreamKinds::stream_fits))]
+    /// A source that has written nothing. All that it writes is of the stream's kind, and lies in the range where the
+    /// integers of its stream do.
+    #[tactic(auto, using(crate::specs::Streams::stream_all_of))]
     pub fn new(alloc: Global, stream: Stream) -> Source
-        ensures state { ⟦<Source as Transducer>⟧.state result ≡ source_opened (stream_kind stream) (stream_cells stream) }
-        ensures fits { SignalsInRange (closed (stream_cells stream)) → source_behaviour.fits (source_opened (stream_kind stream) (stream_cells stream)) }
+        ensures state { ⟦<Source as Transducer>⟧.state result ≡ source_opened (items_of stream) }
+        ensures of_kind { AllOf (stream_kind stream) (stream_cells stream) }
+        ensures in_range { SignalsInRange (closed (stream_cells stream)) → source_behaviour.in_range (source_opened (items_of stream)) }
     {
         Source {
             alloc,
@@ -99,12 +103,12 @@ impl Source {
 }
 
 impl Transducer for Source {
-    ghost use Rattle.flow_scalar.specs.Sources.{SourceState, source_state};
-    ghost use Rattle.flow_scalar.specs.SourceLaws.{source_laws};
+    ghost use Rattle.flow_scalar.specs.SourceBehaviour.{SourceState, source_state};
+    ghost use Rattle.flow_scalar.specs.laws.Source.{source_laws};
 
     ghost State = { SourceState };
 
-    ghost state = { λ n. source_state (stream_kind n.stream) (stream_cells n.stream) n.written n.ended };
+    ghost state = { λ n. source_state n.stream n.written n.ended };
 
     ghost behaviour = { source_behaviour };
 
@@ -142,7 +146,7 @@ impl Transducer for Source {
         Ok(())
     }
 
-    #[tactic(auto, using(crate::proofs::Sending::sends_end, crate::proofs::Sending::next_of_left))]
+    #[tactic(auto, using(crate::proofs::Sending::sends_end))]
     fn emit(&mut self) -> Result<Msg, AllocError> {
         match self.stream.item(self.alloc, self.written)? {
             Some(item) => {

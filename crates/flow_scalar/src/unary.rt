@@ -12,7 +12,7 @@ use std::alloc::AllocError;
 /// Writes the operator's value at each item. Each item is an instance.
 ///
 /// Reads port 0 and writes port 0, both of the operator's type. An item of another kind is a fault of kind `Shape`,
-/// and where the operator has no value, its fault is that of the worker.
+/// and where the operator has no value, its fault is that of the worker. Row: `UnaryRow` (specs/Rows.antt).
 #[derive(Clone, Copy, Debug, PartialEq, Eq)]
 pub struct Unary {
     operator: UnaryOperator,
@@ -33,19 +33,21 @@ impl Unary {
 }
 
 impl Worker for Unary {
-    ghost use Rattle.flow_scalar.specs.declared.unary.Unary.{Unary};
-    ghost use Rattle.flow_scalar.specs.Unaries.{unary_machine};
-    ghost use Rattle.flow_scalar.specs.UnaryLaws.{unary_laws, unary_rows};
+    ghost use Rattle.std.specs.Prelude.{Option};
+    ghost use Rattle.snesl_operators.specs.declared.scalar.Scalar.{Scalar};
+    ghost use Rattle.snesl_operators.specs.declared.operator.UnaryOperator.{UnaryOperator};
+    ghost use Rattle.flow_scalar.specs.UnaryMachine.{unary_machine, unary_view};
+    ghost use Rattle.flow_scalar.specs.laws.Unary.{unary_laws};
 
-    ghost State = { Unary };
+    ghost Parameters = { UnaryOperator };
 
-    ghost state = { λ n. n };
+    ghost State = { Option Scalar };
+
+    ghost state = { unary_view };
 
     ghost machine = { unary_machine };
 
     ghost laws = { unary_laws };
-
-    ghost rows = { unary_rows };
 
     fn ask(&self) -> Ask {
         match self.value {

@@ -11,6 +11,7 @@ use std::alloc::AllocError;
 /// an instance.
 ///
 /// Reads port 0, of kind Bool, and writes port 0, of kind Unit. An item of another kind is a fault of kind `Shape`.
+/// Row: `UnitsOfRow` (specs/Rows.antt).
 #[derive(Clone, Copy, Debug, PartialEq, Eq)]
 pub struct UnitsOf {
     // A flag came that stands for an element, and a Unit is to be written for it.
@@ -27,19 +28,19 @@ impl UnitsOf {
 }
 
 impl Worker for UnitsOf {
-    ghost use Rattle.flow_scalar.specs.declared.units_of.UnitsOf.{UnitsOf};
-    ghost use Rattle.flow_scalar.specs.FlagUnits.{units_machine};
-    ghost use Rattle.flow_scalar.specs.UnitsLaws.{units_laws, units_rows};
+    ghost use Rattle.std.specs.Prelude.{Bool};
+    ghost use Rattle.flow_scalar.specs.UnitsOfMachine.{units_of_machine, units_of_view};
+    ghost use Rattle.flow_scalar.specs.laws.UnitsOf.{units_of_laws};
 
-    ghost State = { UnitsOf };
+    ghost Parameters = { Unit {0} };
 
-    ghost state = { λ n. n };
+    ghost State = { Bool };
 
-    ghost machine = { units_machine };
+    ghost state = { units_of_view };
 
-    ghost laws = { units_laws };
+    ghost machine = { units_of_machine };
 
-    ghost rows = { units_rows };
+    ghost laws = { units_of_laws };
 
     fn ask(&self) -> Ask {
         if self.due { Ask::Give(0) } else { Ask::Begin }

@@ -12,6 +12,8 @@ use std::alloc::AllocError;
 ///
 /// Reads port 0, the flags of the first segments, and port 1, those of the second ones; writes port 0, flags. Fault:
 /// `Shape` where an item is of another kind.
+///
+/// Row: `AppendFlagsRow` (specs/Rows.antt).
 #[derive(Clone, Copy, Debug, PartialEq, Eq)]
 pub enum AppendFlags {
     /// It is between two pairs.
@@ -30,7 +32,8 @@ pub enum AppendFlags {
 
 impl AppendFlags {
     ghost use Rattle.flow_edges.specs.Cells.{cell_of};
-    ghost use Rattle.flow_segment.specs.AppendFlagsMachine.{append_given};
+    ghost use Rattle.flow_base.specs.Machines.{given_of};
+    ghost use Rattle.flow_segment.specs.AppendFlagsMachine.{append_flags_move};
 
     /// A worker before its first pair of segments.
     pub fn new() -> AppendFlags
@@ -41,7 +44,7 @@ impl AppendFlags {
 
     // Where the item leads.
     fn next(self, item: &Item) -> Result<AppendFlags, FaultKind>
-        ensures { result ≡ append_given self (cell_of item.now) }
+        ensures { result ≡ given_of (append_flags_move self) (cell_of item.now) }
     {
         match (self, item) {
             (AppendFlags::Start | AppendFlags::First, Item::Bool(false)) => Ok(
@@ -57,18 +60,18 @@ impl AppendFlags {
 
 impl Worker for AppendFlags {
     ghost use Rattle.flow_segment.specs.declared.append_flags.AppendFlags.{AppendFlags};
-    ghost use Rattle.flow_segment.specs.AppendFlagsMachine.{append_machine};
-    ghost use Rattle.flow_segment.specs.AppendFlagsLaws.{append_laws, append_rows};
+    ghost use Rattle.flow_segment.specs.AppendFlagsMachine.{append_flags_machine, append_flags_view};
+    ghost use Rattle.flow_segment.specs.laws.AppendFlags.{append_flags_laws};
+
+    ghost Parameters = { Unit {0} };
 
     ghost State = { AppendFlags };
 
-    ghost state = { λ s. s };
+    ghost state = { append_flags_view };
 
-    ghost machine = { append_machine };
+    ghost machine = { append_flags_machine };
 
-    ghost laws = { append_laws };
-
-    ghost rows = { append_rows };
+    ghost laws = { append_flags_laws };
 
     fn ask(&self) -> Ask {
         match self {

@@ -12,6 +12,8 @@ use std::alloc::AllocError;
 ///
 /// Reads port 0, the flags of the outer segments, and port 1, those of the inner ones; writes port 0, flags. Fault:
 /// `Shape` where an item is of another kind.
+///
+/// Row: `ConcatFlagsRow` (specs/Rows.antt).
 #[derive(Clone, Copy, Debug, PartialEq, Eq)]
 pub enum ConcatFlags {
     /// It is between two outer segments.
@@ -28,7 +30,8 @@ pub enum ConcatFlags {
 
 impl ConcatFlags {
     ghost use Rattle.flow_edges.specs.Cells.{cell_of};
-    ghost use Rattle.flow_segment.specs.ConcatFlagsMachine.{concat_given};
+    ghost use Rattle.flow_base.specs.Machines.{given_of};
+    ghost use Rattle.flow_segment.specs.ConcatFlagsMachine.{concat_flags_move};
 
     /// A worker before its first outer segment.
     pub fn new() -> ConcatFlags
@@ -39,7 +42,7 @@ impl ConcatFlags {
 
     // Where the item leads.
     fn next(self, item: &Item) -> Result<ConcatFlags, FaultKind>
-        ensures { result ≡ concat_given self (cell_of item.now) }
+        ensures { result ≡ given_of (concat_flags_move self) (cell_of item.now) }
     {
         match (self, item) {
             (ConcatFlags::Start | ConcatFlags::Outer, Item::Bool(false)) => Ok(ConcatFlags::Inner),
@@ -53,18 +56,18 @@ impl ConcatFlags {
 
 impl Worker for ConcatFlags {
     ghost use Rattle.flow_segment.specs.declared.concat_flags.ConcatFlags.{ConcatFlags};
-    ghost use Rattle.flow_segment.specs.ConcatFlagsMachine.{concat_machine};
-    ghost use Rattle.flow_segment.specs.ConcatFlagsLaws.{concat_laws, concat_rows};
+    ghost use Rattle.flow_segment.specs.ConcatFlagsMachine.{concat_flags_machine, concat_flags_view};
+    ghost use Rattle.flow_segment.specs.laws.ConcatFlags.{concat_flags_laws};
+
+    ghost Parameters = { Unit {0} };
 
     ghost State = { ConcatFlags };
 
-    ghost state = { λ s. s };
+    ghost state = { concat_flags_view };
 
-    ghost machine = { concat_machine };
+    ghost machine = { concat_flags_machine };
 
-    ghost laws = { concat_laws };
-
-    ghost rows = { concat_rows };
+    ghost laws = { concat_flags_laws };
 
     fn ask(&self) -> Ask {
         match self {

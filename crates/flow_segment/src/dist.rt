@@ -15,6 +15,8 @@ use std::alloc::{AllocError, Global};
 ///
 /// Each item that is written is a copy. Only the copy of a vector takes memory; where it is refused, nothing was
 /// written, and the same copy is next.
+///
+/// Row: `DistRow` (specs/Rows.antt).
 #[derive(Drop)]
 pub struct Dist {
     alloc: Global,
@@ -25,11 +27,11 @@ pub struct Dist {
 }
 
 impl Dist {
-    ghost use Rattle.flow_segment.specs.DistMachine.{dist_state, at_start};
+    ghost use Rattle.flow_segment.specs.DistMachine.{at_start};
 
     /// A worker for items of this kind, before its first item. It takes no memory before it copies a vector.
     pub fn new(alloc: Global, kind: Kind) -> Dist
-        ensures { ⟦<Dist as Worker>⟧.state result ≡ dist_state kind at_start }
+        ensures { ⟦<Dist as Worker>⟧.state result ≡ (kind, at_start) }
     {
         Dist {
             alloc,
@@ -41,18 +43,19 @@ impl Dist {
 }
 
 impl Worker for Dist {
-    ghost use Rattle.flow_segment.specs.DistMachine.{DistState, dist_state, step_of, dist_machine};
-    ghost use Rattle.flow_segment.specs.DistLaws.{dist_laws, dist_rows};
+    ghost use Rattle.flow_edges.specs.declared.message.Kind.{Kind};
+    ghost use Rattle.flow_segment.specs.DistMachine.{Step, dist_machine, dist_view};
+    ghost use Rattle.flow_segment.specs.laws.Dist.{dist_laws};
 
-    ghost State = { DistState };
+    ghost Parameters = { Kind };
 
-    ghost state = { λ n. dist_state n.kind (step_of n.held n.copies) };
+    ghost State = { Step };
+
+    ghost state = { dist_view };
 
     ghost machine = { dist_machine };
 
     ghost laws = { dist_laws };
-
-    ghost rows = { dist_rows };
 
     fn ask(&self) -> Ask {
         match (&self.held, self.copies) {

@@ -11,6 +11,8 @@ use std::alloc::AllocError;
 /// an instance.
 ///
 /// Reads port 0, truth values; writes port 0, flags. Fault: `Shape` where an item is of another kind.
+///
+/// Row: `FlagOfBoolRow` (specs/Rows.antt).
 #[derive(Clone, Copy, Debug, PartialEq, Eq)]
 pub enum FlagOfBool {
     /// A truth value comes next.
@@ -32,18 +34,18 @@ impl FlagOfBool {
 
 impl Worker for FlagOfBool {
     ghost use Rattle.flow_segment.specs.declared.flag_of_bool.FlagOfBool.{FlagOfBool};
-    ghost use Rattle.flow_segment.specs.FlagOfBoolMachine.{flag_machine};
-    ghost use Rattle.flow_segment.specs.FlagOfBoolLaws.{flag_laws, flag_rows};
+    ghost use Rattle.flow_segment.specs.FlagOfBoolMachine.{flag_of_bool_machine, flag_of_bool_view};
+    ghost use Rattle.flow_segment.specs.laws.FlagOfBool.{flag_of_bool_laws};
+
+    ghost Parameters = { Unit {0} };
 
     ghost State = { FlagOfBool };
 
-    ghost state = { λ s. s };
+    ghost state = { flag_of_bool_view };
 
-    ghost machine = { flag_machine };
+    ghost machine = { flag_of_bool_machine };
 
-    ghost laws = { flag_laws };
-
-    ghost rows = { flag_rows };
+    ghost laws = { flag_of_bool_laws };
 
     fn ask(&self) -> Ask {
         match self {

@@ -47,7 +47,8 @@ impl Turn {
 /// one. A pair of segments is an instance.
 ///
 /// Reads port 0, the flags of the left, port 1, those of the right, port 2, the items of the left, and port 3, those of
-/// the right, all of one kind; writes port 0, of that kind. Fault: `Shape` where an item is of another kind.
+/// the right, all of one kind; writes port 0, of that kind. Fault: `Shape` where an item is of another kind. Row:
+/// `InterleaveRow` (specs/Rows.antt).
 #[derive(Debug, Drop)]
 pub struct Interleave {
     kind: Kind,
@@ -55,11 +56,11 @@ pub struct Interleave {
 }
 
 impl Interleave {
-    ghost use Rattle.flow_segment.specs.InterleaveMachine.{interleave_state, at_start};
+    ghost use Rattle.flow_segment.specs.InterleaveMachine.{at_start};
 
     /// A worker for items of this kind, before its first pair of segments.
     pub fn new(kind: Kind) -> Interleave
-        ensures { ⟦<Interleave as Worker>⟧.state result ≡ interleave_state kind at_start }
+        ensures { ⟦<Interleave as Worker>⟧.state result ≡ (kind, at_start) }
     {
         Interleave {
             kind,
@@ -69,18 +70,19 @@ impl Interleave {
 }
 
 impl Worker for Interleave {
-    ghost use Rattle.flow_segment.specs.InterleaveMachine.{InterleaveState, interleave_state, step_of, interleave_machine};
-    ghost use Rattle.flow_segment.specs.InterleaveLaws.{interleave_laws, interleave_rows};
+    ghost use Rattle.flow_edges.specs.declared.message.Kind.{Kind};
+    ghost use Rattle.flow_segment.specs.InterleaveMachine.{Step, interleave_machine, interleave_view};
+    ghost use Rattle.flow_segment.specs.laws.Interleave.{interleave_laws};
 
-    ghost State = { InterleaveState };
+    ghost Parameters = { Kind };
 
-    ghost state = { λ n. interleave_state n.kind (step_of n.turn) };
+    ghost State = { Step };
+
+    ghost state = { interleave_view };
 
     ghost machine = { interleave_machine };
 
     ghost laws = { interleave_laws };
-
-    ghost rows = { interleave_rows };
 
     fn ask(&self) -> Ask {
         match self.turn {

@@ -11,7 +11,8 @@ use std::alloc::AllocError;
 /// left one and then those of the right one. A pair of segments is an instance.
 ///
 /// Reads port 0, the flags of the left, port 1, those of the right, port 2, the groups of the left, and port 3, those of
-/// the right; writes port 0, flags. Fault: `Shape` where an item is of another kind.
+/// the right; writes port 0, flags. Fault: `Shape` where an item is of another kind. Row: `InterleaveGroupsRow`
+/// (specs/Rows.antt).
 #[derive(Clone, Copy, Debug, PartialEq, Eq)]
 pub enum InterleaveGroups {
     /// It is between two pairs.
@@ -36,7 +37,8 @@ pub enum InterleaveGroups {
 
 impl InterleaveGroups {
     ghost use Rattle.flow_edges.specs.Cells.{cell_of};
-    ghost use Rattle.flow_segment.specs.InterleaveGroupsMachine.{groups_given};
+    ghost use Rattle.flow_base.specs.Machines.{given_of};
+    ghost use Rattle.flow_segment.specs.InterleaveGroupsMachine.{interleave_groups_move};
 
     /// A worker before its first pair of segments.
     pub fn new() -> InterleaveGroups
@@ -47,7 +49,7 @@ impl InterleaveGroups {
 
     // Where the item leads.
     fn next(self, item: &Item) -> Result<InterleaveGroups, FaultKind>
-        ensures { result ≡ groups_given self (cell_of item.now) }
+        ensures { result ≡ given_of (interleave_groups_move self) (cell_of item.now) }
     {
         match (self, item) {
             (Self::Start | Self::Left, Item::Bool(false)) => Ok(Self::LeftGroup),
@@ -65,18 +67,18 @@ impl InterleaveGroups {
 
 impl Worker for InterleaveGroups {
     ghost use Rattle.flow_segment.specs.declared.interleave_groups.InterleaveGroups.{InterleaveGroups};
-    ghost use Rattle.flow_segment.specs.InterleaveGroupsMachine.{groups_machine};
-    ghost use Rattle.flow_segment.specs.InterleaveGroupsLaws.{groups_laws, groups_rows};
+    ghost use Rattle.flow_segment.specs.InterleaveGroupsMachine.{interleave_groups_machine, interleave_groups_view};
+    ghost use Rattle.flow_segment.specs.laws.InterleaveGroups.{interleave_groups_laws};
+
+    ghost Parameters = { Unit {0} };
 
     ghost State = { InterleaveGroups };
 
-    ghost state = { λ s. s };
+    ghost state = { interleave_groups_view };
 
-    ghost machine = { groups_machine };
+    ghost machine = { interleave_groups_machine };
 
-    ghost laws = { groups_laws };
-
-    ghost rows = { groups_rows };
+    ghost laws = { interleave_groups_laws };
 
     fn ask(&self) -> Ask {
         match self {

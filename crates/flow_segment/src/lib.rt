@@ -1,5 +1,5 @@
 //! Transducers over segments: those that count, join, choose and deal out the segments of sequences, and the items that
-//! go with them. The transducers over whole values of a type, which stand in a crate below, are named here too.
+//! go with them.
 //!
 //! A segment is a list of flags: `false` (F) for each of its elements, then `true` (T). Each transducer here is a
 //! [`Worker`](flow_base::Worker), of which [`Node`](flow_base::Node) makes a transducer.
@@ -21,7 +21,6 @@ pub use append_flags::AppendFlags;
 pub use concat_flags::ConcatFlags;
 pub use dist::Dist;
 pub use flag_of_bool::FlagOfBool;
-pub use flow_typed::{Index, Print, Seq, Tab, prints_text};
 pub use interleave::Interleave;
 pub use interleave_groups::InterleaveGroups;
 pub use pack::Pack;

@@ -22,7 +22,7 @@ enum Pair {
 /// Reads a truth value and an item, and writes the item where the truth value is true. Each such pair is an instance.
 ///
 /// Reads port 0, truth values, and port 1, items of one kind; writes port 0, of that kind. Fault: `Shape` where an item
-/// is of another kind.
+/// is of another kind. Row: `PackRow` (specs/Rows.antt).
 #[derive(Debug, Drop)]
 pub struct Pack {
     kind: Kind,
@@ -30,11 +30,11 @@ pub struct Pack {
 }
 
 impl Pack {
-    ghost use Rattle.flow_segment.specs.PackMachine.{pack_state, at_start};
+    ghost use Rattle.flow_segment.specs.PackMachine.{at_start};
 
     /// A worker for items of this kind, before its first pair.
     pub fn new(kind: Kind) -> Pack
-        ensures { ⟦<Pack as Worker>⟧.state result ≡ pack_state kind at_start }
+        ensures { ⟦<Pack as Worker>⟧.state result ≡ (kind, at_start) }
     {
         Pack {
             kind,
@@ -44,18 +44,19 @@ impl Pack {
 }
 
 impl Worker for Pack {
-    ghost use Rattle.flow_segment.specs.PackMachine.{PackState, pack_state, step_of, pack_machine};
-    ghost use Rattle.flow_segment.specs.PackLaws.{pack_laws, pack_rows};
+    ghost use Rattle.flow_edges.specs.declared.message.Kind.{Kind};
+    ghost use Rattle.flow_segment.specs.PackMachine.{Step, pack_machine, pack_view};
+    ghost use Rattle.flow_segment.specs.laws.Pack.{pack_laws};
 
-    ghost State = { PackState };
+    ghost Parameters = { Kind };
 
-    ghost state = { λ n. pack_state n.kind (step_of n.pair) };
+    ghost State = { Step };
+
+    ghost state = { pack_view };
 
     ghost machine = { pack_machine };
 
     ghost laws = { pack_laws };
-
-    ghost rows = { pack_rows };
 
     fn ask(&self) -> Ask {
         match self.pair {

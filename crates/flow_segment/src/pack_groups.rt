@@ -11,6 +11,8 @@ use std::alloc::AllocError;
 /// such pair is an instance.
 ///
 /// Reads port 0, truth values, and port 1, flags; writes port 0, flags. Fault: `Shape` where an item is of another kind.
+///
+/// Row: `PackGroupsRow` (specs/Rows.antt).
 #[derive(Clone, Copy, Debug, PartialEq, Eq)]
 pub enum PackGroups {
     /// It is between two pairs.
@@ -25,7 +27,8 @@ pub enum PackGroups {
 
 impl PackGroups {
     ghost use Rattle.flow_edges.specs.Cells.{cell_of};
-    ghost use Rattle.flow_segment.specs.PackGroupsMachine.{pack_groups_given};
+    ghost use Rattle.flow_base.specs.Machines.{given_of};
+    ghost use Rattle.flow_segment.specs.PackGroupsMachine.{pack_groups_move};
 
     /// A worker before its first pair of a truth value and a segment.
     pub fn new() -> PackGroups
@@ -36,7 +39,7 @@ impl PackGroups {
 
     // Where the item leads.
     fn next(self, item: &Item) -> Result<PackGroups, FaultKind>
-        ensures { result ≡ pack_groups_given self (cell_of item.now) }
+        ensures { result ≡ given_of (pack_groups_move self) (cell_of item.now) }
     {
         match (self, item) {
             (PackGroups::Start, Item::Bool(keep)) => Ok(PackGroups::Flag(*keep)),
@@ -51,18 +54,18 @@ impl PackGroups {
 
 impl Worker for PackGroups {
     ghost use Rattle.flow_segment.specs.declared.pack_groups.PackGroups.{PackGroups};
-    ghost use Rattle.flow_segment.specs.PackGroupsMachine.{pack_groups_machine};
-    ghost use Rattle.flow_segment.specs.PackGroupsLaws.{pack_groups_laws, pack_groups_rows};
+    ghost use Rattle.flow_segment.specs.PackGroupsMachine.{pack_groups_machine, pack_groups_view};
+    ghost use Rattle.flow_segment.specs.laws.PackGroups.{pack_groups_laws};
+
+    ghost Parameters = { Unit {0} };
 
     ghost State = { PackGroups };
 
-    ghost state = { λ s. s };
+    ghost state = { pack_groups_view };
 
     ghost machine = { pack_groups_machine };
 
     ghost laws = { pack_groups_laws };
-
-    ghost rows = { pack_groups_rows };
 
     fn ask(&self) -> Ask {
         match self {

@@ -13,7 +13,7 @@ use std::alloc::AllocError;
 /// Reads port 0, the flags of the segments, port 1, the truth values, and port 2, flags of as many elements as there are
 /// false; writes port 0, flags of as many elements as there are parts, and port 1, the flags of the parts. Faults:
 /// `Part` where a segment's last truth value is false, or port 2 has more or fewer elements; `Shape` where an item is of
-/// another kind.
+/// another kind. Row: `PartFlagsRow` (specs/Rows.antt).
 #[derive(Clone, Copy, Debug, PartialEq, Eq)]
 pub enum PartFlags {
     /// It is between two segments.
@@ -40,7 +40,8 @@ pub enum PartFlags {
 
 impl PartFlags {
     ghost use Rattle.flow_edges.specs.Cells.{cell_of};
-    ghost use Rattle.flow_segment.specs.PartFlagsMachine.{part_given, part_flag, part_after};
+    ghost use Rattle.flow_base.specs.Machines.{after_of};
+    ghost use Rattle.flow_segment.specs.PartFlagsMachine.{part_flags_move, part_flag, part_given};
 
     /// A worker before its first segment.
     pub fn new() -> PartFlags
@@ -51,7 +52,7 @@ impl PartFlags {
 
     // Where the flag or truth value leads.
     fn after_flag(self, flag: bool) -> Result<PartFlags, FaultKind>
-        ensures { result ≡ part_flag self flag }
+        ensures { result ≡ part_flag (part_flags_move self) flag }
     {
         match (self, flag) {
             (PartFlags::Start | PartFlags::Parted | PartFlags::Open, false) => Ok(PartFlags::Test),
@@ -66,7 +67,7 @@ impl PartFlags {
 
     // Where the item leads.
     fn next(self, item: &Item) -> Result<PartFlags, FaultKind>
-        ensures { result ≡ part_given self (cell_of item.now) }
+        ensures { result ≡ part_given (part_flags_move self) (cell_of item.now) }
     {
         match item {
             Item::Bool(flag) => self.after_flag(*flag),
@@ -76,7 +77,7 @@ impl PartFlags {
 
     // Where the write leads.
     fn after_write(self) -> PartFlags
-        ensures { result ≡ part_after self }
+        ensures { result ≡ after_of PartFlags.Start (part_flags_move self) }
     {
         match self {
             PartFlags::PartElement => PartFlags::Open,
@@ -89,18 +90,18 @@ impl PartFlags {
 
 impl Worker for PartFlags {
     ghost use Rattle.flow_segment.specs.declared.part_flags.PartFlags.{PartFlags};
-    ghost use Rattle.flow_segment.specs.PartFlagsMachine.{part_machine};
-    ghost use Rattle.flow_segment.specs.PartFlagsLaws.{part_laws, part_rows};
+    ghost use Rattle.flow_segment.specs.PartFlagsMachine.{part_flags_machine, part_flags_view};
+    ghost use Rattle.flow_segment.specs.laws.PartFlags.{part_flags_laws};
+
+    ghost Parameters = { Unit {0} };
 
     ghost State = { PartFlags };
 
-    ghost state = { λ s. s };
+    ghost state = { part_flags_view };
 
-    ghost machine = { part_machine };
+    ghost machine = { part_flags_machine };
 
-    ghost laws = { part_laws };
-
-    ghost rows = { part_rows };
+    ghost laws = { part_flags_laws };
 
     fn ask(&self) -> Ask {
         match self {

@@ -11,6 +11,8 @@ use std::alloc::AllocError;
 /// instance.
 ///
 /// Reads ports 0 and 1, flags. Faults: `Length` where the flags differ; `Shape` where an item is of another kind.
+///
+/// Row: `SameFlagsRow` (specs/Rows.antt).
 #[derive(Clone, Copy, Debug, PartialEq, Eq)]
 pub enum SameFlags {
     /// A flag of the first stream comes next.
@@ -21,7 +23,8 @@ pub enum SameFlags {
 
 impl SameFlags {
     ghost use Rattle.flow_edges.specs.Cells.{cell_of};
-    ghost use Rattle.flow_segment.specs.SameFlagsMachine.{same_given};
+    ghost use Rattle.flow_base.specs.Machines.{given_of};
+    ghost use Rattle.flow_segment.specs.SameFlagsMachine.{same_flags_move};
 
     /// A worker before its first pair of flags.
     pub fn new() -> SameFlags
@@ -32,7 +35,7 @@ impl SameFlags {
 
     // Where the item leads.
     fn next(self, item: &Item) -> Result<SameFlags, FaultKind>
-        ensures { result ≡ same_given self (cell_of item.now) }
+        ensures { result ≡ given_of (same_flags_move self) (cell_of item.now) }
     {
         match (self, item) {
             (SameFlags::Start, Item::Bool(flag)) => Ok(SameFlags::Second(*flag)),
@@ -51,18 +54,19 @@ impl SameFlags {
 impl Worker for SameFlags {
     ghost use Rattle.flow_edges.specs.Cells.{cell_of};
     ghost use Rattle.flow_segment.specs.declared.same_flags.SameFlags.{SameFlags};
-    ghost use Rattle.flow_segment.specs.SameFlagsMachine.{same_machine};
-    ghost use Rattle.flow_segment.specs.SameFlagsLaws.{same_laws, same_rows};
+    ghost use Rattle.flow_segment.specs.SameFlagsMachine.{same_flags_machine, same_flags_view};
+    ghost use Rattle.flow_base.specs.Machines.{told_of, after_of};
+    ghost use Rattle.flow_segment.specs.laws.SameFlags.{same_flags_laws};
+
+    ghost Parameters = { Unit {0} };
 
     ghost State = { SameFlags };
 
-    ghost state = { λ s. s };
+    ghost state = { same_flags_view };
 
-    ghost machine = { same_machine };
+    ghost machine = { same_flags_machine };
 
-    ghost laws = { same_laws };
-
-    ghost rows = { same_rows };
+    ghost laws = { same_flags_laws };
 
     fn ask(&self) -> Ask {
         match self {
@@ -94,9 +98,9 @@ impl Worker for SameFlags {
 
     // It has no output, so that nobody asks for this.
     fn give(&mut self) -> Result<Item, AllocError>
-        ensures ok { IfOk result (λ item. (cell_of item ≡ same_machine.told self.old) × (self.new ≡ same_machine.after self.old)) }
+        ensures ok { IfOk result (λ item. (cell_of item ≡ told_of (same_flags_machine.move tt self.old)) × (self.new ≡ after_of self.old (same_flags_machine.move tt self.old))) }
         ensures err { OnErr result (self.new ≡ self.old) }
-        ensures sure { same_machine.takes_memory self.old ≡ false → IsOk result }
+        ensures sure { same_flags_machine.takes_memory self.old ≡ false → IsOk result }
     {
         Ok(Item::Unit)
     }

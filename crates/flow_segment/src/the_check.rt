@@ -11,6 +11,8 @@ use std::alloc::AllocError;
 ///
 /// Reads port 0, flags. Faults: `The` where a segment has no element or a second one; `Shape` where an item is of
 /// another kind.
+///
+/// Row: `TheCheckRow` (specs/Rows.antt).
 #[derive(Clone, Copy, Debug, PartialEq, Eq)]
 pub enum TheCheck {
     /// It is between two segments.
@@ -21,7 +23,8 @@ pub enum TheCheck {
 
 impl TheCheck {
     ghost use Rattle.flow_edges.specs.Cells.{cell_of};
-    ghost use Rattle.flow_segment.specs.TheCheckMachine.{the_check_given};
+    ghost use Rattle.flow_base.specs.Machines.{given_of};
+    ghost use Rattle.flow_segment.specs.TheCheckMachine.{the_check_move};
 
     /// A worker before its first segment.
     pub fn new() -> TheCheck
@@ -32,7 +35,7 @@ impl TheCheck {
 
     // Where the item leads.
     fn next(self, item: &Item) -> Result<TheCheck, FaultKind>
-        ensures { result ≡ the_check_given self (cell_of item.now) }
+        ensures { result ≡ given_of (the_check_move self) (cell_of item.now) }
     {
         match (self, item) {
             (TheCheck::Start, Item::Bool(false)) => Ok(TheCheck::Element),
@@ -46,18 +49,19 @@ impl TheCheck {
 impl Worker for TheCheck {
     ghost use Rattle.flow_edges.specs.Cells.{cell_of};
     ghost use Rattle.flow_segment.specs.declared.the_check.TheCheck.{TheCheck};
-    ghost use Rattle.flow_segment.specs.TheCheckMachine.{the_check_machine};
-    ghost use Rattle.flow_segment.specs.TheCheckLaws.{the_check_laws, the_check_rows};
+    ghost use Rattle.flow_segment.specs.TheCheckMachine.{the_check_machine, the_check_view};
+    ghost use Rattle.flow_base.specs.Machines.{told_of, after_of};
+    ghost use Rattle.flow_segment.specs.laws.TheCheck.{the_check_laws};
+
+    ghost Parameters = { Unit {0} };
 
     ghost State = { TheCheck };
 
-    ghost state = { λ s. s };
+    ghost state = { the_check_view };
 
     ghost machine = { the_check_machine };
 
     ghost laws = { the_check_laws };
-
-    ghost rows = { the_check_rows };
 
     fn ask(&self) -> Ask {
         match self {
@@ -89,7 +93,7 @@ impl Worker for TheCheck {
 
     // It has no output, so that nobody asks for this.
     fn give(&mut self) -> Result<Item, AllocError>
-        ensures ok { IfOk result (λ item. (cell_of item ≡ the_check_machine.told self.old) × (self.new ≡ the_check_machine.after self.old)) }
+        ensures ok { IfOk result (λ item. (cell_of item ≡ told_of (the_check_machine.move tt self.old)) × (self.new ≡ after_of self.old (the_check_machine.move tt self.old))) }
         ensures err { OnErr result (self.new ≡ self.old) }
         ensures sure { the_check_machine.takes_memory self.old ≡ false → IsOk result }
     {

@@ -1,3 +1,4 @@
+pub mod Building
 pub mod Members
 pub mod Printing
 pub mod Segments

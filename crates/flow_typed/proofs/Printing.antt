@@ -10,10 +10,10 @@ use Rattle.flow_edges.specs.Signals.{stop}
 use Rattle.flow_edges.specs.Cells.{Cell, flag, int as int_cell, datum, is_of}
 use Rattle.flow_base.specs.declared.worker.Stop.{Stop}
 use Rattle.flow_base.specs.declared.worker.Stop.TheVariants.{Faulted as Stopped, OutOfMemory}
-use Rattle.flow_typed.specs.Shapes.{kinds_of, is_a}
+use Rattle.flow_typed.specs.Shapes.{kinds_of, is_a, kind_at}
 use Rattle.flow_typed.specs.Flats.{width}
 use Rattle.flow_typed.specs.Places.{Fits}
-use Rattle.flow_typed.specs.PrintMachine.{closes, Pending, whole, Reading, reading, entered, next, checked, kind_at, port_of, step_of, print_state, want_at, read_at, memory_at, print_behaviour}
+use Rattle.flow_typed.specs.PrintMachine.{closes, Pending, whole, Reading, reading, entered, next, checked, port_of, step_of, print_state, want_at, read_at, memory_at, print_behaviour}
 use Rattle.flow_typed.specs.Aheads.{pending_of, stack, Leads, Finds, Reaches, found, step_in, state_in}
 use Rattle.flow_typed.specs.declared.pending.Pending.{Pending as PendingInMemory}
 use Rattle.flow_typed.specs.declared.ahead.Ahead.{Ahead}

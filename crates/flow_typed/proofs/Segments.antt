@@ -5,11 +5,11 @@ use Rattle.snesl_values.specs.Types.{Ty, pair, seq}
 use Rattle.snesl_values.specs.Values.{value_of, values_of}
 use Rattle.snesl_values.proofs.Data.{value_of-Seq, list_values}
 use Rattle.flow_base.specs.Flags.{F}
-use Rattle.flow_base.specs.Rows.{joined_by}
+use Rattle.flow_base.specs.Segments.{joined_by}
 use Rattle.flow_typed.specs.Shapes.{is_a, all_are, kinds_of}
 use Rattle.flow_typed.specs.Flats.{width}
-use Rattle.flow_typed.specs.DueLaws.{has_edge}
-use Rattle.flow_typed.specs.Kinds.{both_true}
+use Rattle.flow_typed.specs.laws.Dues.{has_edge}
+use Rattle.flow_typed.specs.laws.Kinds.{both_true}
 use Rattle.flow_typed.specs.Dues.{DueCell, due, element_dues, dues_of, segment_dues}
 
 -- the parts of a pair have fewer edges than it has

@@ -4,8 +4,8 @@ use Rattle.snesl_values.specs.Types.{ty_of}
 use Rattle.snesl_values.specs.declared.fault.FaultKind.TheVariants.{Shape}
 use Rattle.flow_base.specs.declared.worker.Stop.{Stop}
 use Rattle.flow_base.specs.declared.worker.Stop.TheVariants.{Faulted, OutOfMemory}
-use Rattle.flow_typed.specs.PrintMachine.{Pending, whole, further, Reading, reading, next, kind_at, checked, port_of, Step, within, closing, stuck, PrintState, print_state}
-use Rattle.flow_typed.specs.Shapes.{kinds_of}
+use Rattle.flow_typed.specs.PrintMachine.{Pending, whole, further, Reading, reading, next, checked, port_of, Step, within, closing, stuck, PrintState, print_state}
+use Rattle.flow_typed.specs.Shapes.{kind_at, kinds_of}
 use Rattle.flow_edges.specs.Cells.{Cell, is_of}
 use Rattle.snesl_values.specs.Types.{Ty}
 use Rattle.flow_typed.specs.declared.pending.Pending.{Pending as PendingInMemory}

@@ -1,16 +1,15 @@
 -- Items that are due, each with the output that it goes to.
-use Rattle.std.specs.Prelude.{◌≡◌, ℕ, ◌+◌, ◌<◌, true, List, [], ◌∷◌, ◌++◌, length, cond, nat_lt}
+use Rattle.std.specs.Prelude.{◌≡◌, ℕ, ◌+◌, true, List, [], ◌∷◌, ◌++◌, length, cond, nat_lt}
 use Rattle.snesl_values.specs.Types.{Ty, pair, seq}
 use Rattle.snesl_values.specs.Values.{Value}
-use Rattle.flow_edges.specs.Cells.{Cell, unit, cell_of, is_of}
+use Rattle.flow_edges.specs.Cells.{Cell, cell_of, is_of}
 use Rattle.flow_edges.specs.declared.message.Kind.{Kind}
-use Rattle.flow_base.specs.Lists.{Lists, push, NothingAt}
+use Rattle.flow_base.specs.Lists.{Lists, push}
 use Rattle.flow_base.specs.Flags.{F, T}
 use Rattle.flow_base.specs.Ranges.{CellInRange}
-use Rattle.flow_base.specs.Rows.{joined_by}
-use Rattle.flow_typed.specs.Shapes.{cell_for, first_of, second_of, elements_of}
+use Rattle.flow_base.specs.Segments.{joined_by}
+use Rattle.flow_typed.specs.Shapes.{cell_for, first_of, second_of, elements_of, kind_at}
 use Rattle.flow_typed.specs.Flats.{nothing, width}
-use Rattle.flow_typed.specs.PrintMachine.{kind_at}
 use Rattle.flow_typed.specs.declared.dues.Due.{Due}
 
 -- What a due item carries, and the number of the output that it goes to.
@@ -48,26 +47,12 @@ abbrev pub items_at : ℕ → List DueCell → Lists Cell
 items_at outputs [] = nothing
 items_at outputs (d ∷ ds) = push (output_of outputs d.port) d.cell (items_at outputs ds)
 
--- these lists are at so many outputs
-abbrev pub Outputs : ℕ → Lists Cell → Lists Cell → Type 0
-Outputs outputs o lists = (q : ℕ) → q < outputs → o q ≡ lists q
+-- each due item is of the kind of its output
+abbrev pub DuesOfKind : List Kind → List DueCell → Type 0
+DuesOfKind kinds [] = Unit {0}
+DuesOfKind kinds (d ∷ ds) = (is_of (kind_at kinds (output_of (length kinds) d.port)) d.cell ≡ true) × DuesOfKind kinds ds
 
--- nothing is left to read at so many inputs, and just the due items are left to write
-abbrev pub DuesLeft : (inputs outputs : ℕ) → List DueCell → Lists Cell → Lists Cell → Type 0
-DuesLeft inputs outputs [] i o = NothingAt inputs i × NothingAt outputs o
-DuesLeft inputs outputs (d ∷ ds) i o = NothingAt inputs i × Outputs outputs o (items_at outputs (d ∷ ds))
-
--- what is written next
-abbrev pub first_cell : List DueCell → Cell
-first_cell [] = unit
-first_cell (d ∷ ds) = d.cell
-
--- what is due behind that
-abbrev pub later_dues : List DueCell → List DueCell
-later_dues [] = []
-later_dues (d ∷ ds) = ds
-
--- each due item is of the kind of its output, and its integers lie in the range
-abbrev pub DuesFit : List Kind → List DueCell → Type 0
-DuesFit kinds [] = Unit {0}
-DuesFit kinds (d ∷ ds) = (is_of (kind_at kinds (output_of (length kinds) d.port)) d.cell ≡ true) × CellInRange d.cell × DuesFit kinds ds
+-- the integers of the due items lie in the range
+abbrev pub DuesInRange : List DueCell → Type 0
+DuesInRange [] = Unit {0}
+DuesInRange (d ∷ ds) = CellInRange d.cell × DuesInRange ds

@@ -1,11 +1,11 @@
 -- What values put on the edges of their type.
-use Rattle.std.specs.Prelude.{ℕ, ◌+◌, ◌==◌, List, [], ◌∷◌, ◌++◌, length, map, cond}
+use Rattle.std.specs.Prelude.{◌≡◌, ℕ, ◌<◌, ◌+◌, ◌==◌, List, [], ◌∷◌, ◌++◌, length, map, cond}
 use Rattle.snesl_values.specs.Types.{Ty, pair, seq}
 use Rattle.snesl_values.specs.Values.{Value}
 use Rattle.flow_edges.specs.Cells.{Cell}
 use Rattle.flow_base.specs.Lists.{Lists}
 use Rattle.flow_base.specs.Flags.{T, elements, flags, joined, lengths}
-use Rattle.flow_base.specs.Rows.{joined_by}
+use Rattle.flow_base.specs.Segments.{joined_by}
 use Rattle.flow_typed.specs.Shapes.{kinds_of, cell_for, first_of, second_of, elements_of}
 
 -- nothing at any port
@@ -43,3 +43,7 @@ spread _ p v = only_at p (cell_for v ∷ [])
 -- what values of the type put there, one after another
 abbrev pub spread_all : Ty → ℕ → List Value → Lists Cell
 spread_all item p vs q = joined_by (λ e. spread item p e q) vs
+
+-- these lists are at so many ports
+abbrev pub Outputs : ℕ → Lists Cell → Lists Cell → Type 0
+Outputs ports o lists = (q : ℕ) → q < ports → o q ≡ lists q

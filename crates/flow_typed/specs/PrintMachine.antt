@@ -1,21 +1,18 @@
--- Printing of a value that comes item by item: the machine, and its row.
-use Rattle.std.specs.Prelude.{◌≡◌, ℕ, zero, suc, ◌+◌, ◌<◌, Bool, true, false, List, [], ◌∷◌, ◌++◌, Option, Some, None, cond, nat_lt, codes}
+-- Printing of a value that comes item by item: the machine.
+use Rattle.std.specs.Prelude.{ℕ, zero, suc, ◌+◌, Bool, true, false, List, [], ◌∷◌, ◌++◌, Option, Some, None, cond, nat_lt, codes}
 use Rattle.std.specs.Fmt.{signed_decimal}
-use Rattle.std.specs.List.{slice_get}
 use Rattle.snesl_values.specs.Types.{Ty, int, bool, pair, vec, seq}
-use Rattle.snesl_values.specs.Values.{Value}
 use Rattle.snesl_values.specs.Text.{text}
 use Rattle.snesl_values.specs.declared.fault.FaultKind.TheVariants.{Shape}
 use Rattle.kahn.specs.declared.want.Want.{Want}
 use Rattle.kahn.specs.declared.want.Want.TheVariants.{Read, Ended, Faulted}
 use Rattle.flow_edges.specs.Cells.{Cell, flag, int as int_cell, datum, is_of}
 use Rattle.flow_edges.specs.Signals.{Signal, carry, stop}
-use Rattle.flow_edges.specs.declared.message.Kind.{Kind}
 use Rattle.flow_edges.specs.declared.message.Kind.TheVariants.{Unit as UnitKind}
-use Rattle.flow_base.specs.Lists.{Lists}
 use Rattle.flow_base.specs.Transducers.{Behaviour}
-use Rattle.flow_typed.specs.Shapes.{is_a, kinds_of}
-use Rattle.flow_typed.specs.Flats.{width, flat}
+use Rattle.flow_typed.specs.Shapes.{is_a, kinds_of, kind_at}
+use Rattle.flow_typed.specs.Flats.{width}
+use Rattle.flow_typed.specs.Rows.{PrintRow}
 
 -- c closing brackets
 abbrev pub closes : ℕ → List ℕ
@@ -95,10 +92,6 @@ abbrev pub step_of : List Pending → Step
 step_of [] = closing 0
 step_of (first ∷ others) = within first others
 
--- the kind of the edge at this port
-abbrev pub kind_at : List Kind → ℕ → Kind
-kind_at kinds p = elim (slice_get kinds p) [ Some kind ↦ kind | None ↦ UnitKind ]
-
 abbrev pub print_fault : PrintState → Want
 print_fault s = Faulted (record { kind = Shape; at = s.at })
 
@@ -125,14 +118,9 @@ abbrev pub memory_at : Step → Bool
 memory_at (within first others) = true
 memory_at _ = false
 
--- what comes in is one value of the type
-pub record PrintRow (ty : Ty) (ins : Lists Cell) : Type 0 where
-  pub value : Value
-  pub is_one : is_a ty value ≡ true
-  pub edges_are : (p : ℕ) → p < width ty → ins p ≡ flat ty 0 (value ∷ []) p
-
 abbrev pub print_behaviour : Behaviour PrintState
 print_behaviour = record {
+  sample = print_opened bool 0;
   process = record {
     want = λ s. want_at s.step s;
     read = λ s message. read_at s.step s message;
@@ -148,6 +136,7 @@ print_behaviour = record {
   kind_out = λ _ _. UnitKind;
   at = λ s. s.at;
   row = λ s ins outs. PrintRow s.ty ins;
-  fits = λ _. Unit {0};
+  of_kind = λ _. Unit {0};
+  in_range = λ _. Unit {0};
   takes_memory = λ s. memory_at s.step;
 }

@@ -1,10 +1,11 @@
 -- Values of a type, whatever their integers, and the kinds of the edges of a type.
-use Rattle.std.specs.Prelude.{◌&&◌, Bool, true, false, List, [], ◌∷◌, ◌++◌}
+use Rattle.std.specs.Prelude.{ℕ, ◌&&◌, Bool, true, false, List, [], ◌∷◌, ◌++◌, Some, None}
+use Rattle.std.specs.List.{slice_get}
 use Rattle.snesl_values.specs.Types.{Ty, int, bool, pair, vec, seq}
 use Rattle.snesl_values.specs.Values.{Value, Values, an_int, a_bool, a_pair, a_vec, a_seq, no_values, more_values, list_of}
 use Rattle.flow_edges.specs.Cells.{Cell, flag, int as int_cell, datum}
 use Rattle.flow_edges.specs.declared.message.Kind.{Kind}
-use Rattle.flow_edges.specs.declared.message.Kind.TheVariants.{Bool as BoolKind, Int as IntKind, Vec as VecKind}
+use Rattle.flow_edges.specs.declared.message.Kind.TheVariants.{Unit as UnitKind, Bool as BoolKind, Int as IntKind, Vec as VecKind}
 
 -- whether the value is one of the type
 abbrev mutual
@@ -48,3 +49,7 @@ abbrev pub elements_of : Value → List Value
 elements_of (a_seq vs) = list_of vs
 elements_of (a_vec vs) = list_of vs
 elements_of _ = []
+
+-- the kind of the edge at this port, where there is one
+abbrev pub kind_at : List Kind → ℕ → Kind
+kind_at kinds p = elim (slice_get kinds p) [ Some kind ↦ kind | None ↦ UnitKind ]

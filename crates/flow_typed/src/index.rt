@@ -1,10 +1,11 @@
 // An element of each vector.
 
 ghost use Rattle.std.specs.Prelude.{◌≡◌, [], true, map, option_map, IfOk};
-ghost use Rattle.snesl_values.specs.Types.{ty_of};
+ghost use Rattle.snesl_values.specs.Types.{Ty as ElementType, ty_of};
 ghost use Rattle.snesl_values.specs.Values.{value_of, values_of};
 ghost use Rattle.flow_typed.specs.Shapes.{kinds_of};
-ghost use Rattle.flow_typed.specs.IndexMachine.{element_at, index_state, writing, holds_such};
+ghost use Rattle.flow_typed.specs.Rows.{element_at};
+ghost use Rattle.flow_typed.specs.IndexMachine.{writing, holds_such};
 
 use crate::dues::{Due, add_value};
 use crate::shapes::{kind_at, kinds};
@@ -31,6 +32,8 @@ pub enum Stage {
 /// port 1 is not an integer; `Index` where the index is negative or not below the vector's length.
 ///
 /// It lays out what it writes when it takes the index. Where memory for that is refused, nothing was taken.
+///
+/// Row: `IndexRow` (specs/Rows.antt).
 #[derive(Drop)]
 pub struct Index {
     alloc: Global,
@@ -46,7 +49,7 @@ impl Index {
     /// A worker for vectors of elements of this type, before its first vector. Its only error is that memory was
     /// refused.
     pub fn new(alloc: Global, element: Ty) -> Result<Index, AllocError>
-        ensures { IfOk result (λ worker. ⟦<Index as Worker>⟧.state worker ≡ index_state (ty_of element) (writing [])) }
+        ensures { IfOk result (λ worker. ⟦<Index as Worker>⟧.state worker ≡ (ty_of element, writing [])) }
     {
         let kinds = kinds(alloc, &element)?;
         Ok(Index {
@@ -69,18 +72,18 @@ fn element_at(all: &[Datum], index: i64) -> Option<&Datum>
 }
 
 impl Worker for Index {
-    ghost use Rattle.flow_typed.specs.IndexMachine.{IndexState, step_of, index_machine};
-    ghost use Rattle.flow_typed.specs.IndexLaws.{index_laws, index_rows};
+    ghost use Rattle.flow_typed.specs.IndexMachine.{Step, step_of, index_machine};
+    ghost use Rattle.flow_typed.specs.laws.Index.{index_laws};
 
-    ghost State = { IndexState };
+    ghost Parameters = { ElementType };
 
-    ghost state = { λ n. index_state (ty_of n.element) (step_of n.stage) };
+    ghost State = { Step };
+
+    ghost state = { λ n. (ty_of n.element, step_of n.stage) };
 
     ghost machine = { index_machine };
 
     ghost laws = { index_laws };
-
-    ghost rows = { index_rows };
 
     fn ask(&self) -> Ask {
         match &self.stage {

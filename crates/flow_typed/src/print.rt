@@ -7,7 +7,7 @@ ghost use Rattle.flow_edges.specs.Signals.{signal_of};
 ghost use Rattle.flow_typed.specs.Shapes.{kinds_of};
 ghost use Rattle.flow_typed.specs.PrintMachine.{print_opened, print_behaviour, reading, moved};
 ghost use Rattle.flow_typed.specs.Aheads.{stack, found, Reaches};
-ghost use Rattle.flow_typed.specs.PrintLaws.{PrintsText};
+ghost use Rattle.flow_typed.specs.laws.Print.{PrintsText};
 
 use crate::ahead::Ahead;
 use crate::pending::{Pending, Place};
@@ -25,6 +25,8 @@ use std::alloc::{AllocError, Global};
 /// input ends inside the value or does not end behind it.
 ///
 /// The text grows with each item, which takes memory; where it is refused, the transducer is unchanged.
+///
+/// Row: `PrintRow` (specs/Rows.antt).
 #[derive(Drop)]
 pub struct Print {
     alloc: Global,
@@ -124,7 +126,7 @@ impl Print {
 
 impl Transducer for Print {
     ghost use Rattle.flow_typed.specs.PrintMachine.{PrintState};
-    ghost use Rattle.flow_typed.specs.PrintLaws.{print_laws};
+    ghost use Rattle.flow_typed.specs.laws.Print.{print_laws};
     ghost use Rattle.flow_typed.specs.Aheads.{state_in};
 
     ghost State = { PrintState };

@@ -1,10 +1,9 @@
 // The elements of vectors, as sequences.
 
-ghost use Rattle.std.specs.Prelude.{◌≡◌, [], map, IfOk};
-ghost use Rattle.snesl_values.specs.Types.{ty_of, seq};
+ghost use Rattle.std.specs.Prelude.{◌≡◌, List, [], map, IfOk};
+ghost use Rattle.snesl_values.specs.Types.{Ty as ElementType, ty_of, seq};
 ghost use Rattle.flow_typed.specs.Shapes.{kinds_of};
-ghost use Rattle.flow_typed.specs.Dues.{due_cell};
-ghost use Rattle.flow_typed.specs.SeqMachine.{seq_state};
+ghost use Rattle.flow_typed.specs.Dues.{DueCell, due_cell};
 
 use crate::dues::{Due, add_segment};
 use crate::shapes::{add_kinds, kind_at};
@@ -22,6 +21,8 @@ use std::collections::VecDeque;
 /// is not a vector of such elements.
 ///
 /// It lays out what it writes when it takes a vector. Where memory for that is refused, nothing was taken.
+///
+/// Row: `SeqRow` (specs/Rows.antt).
 #[derive(Drop)]
 pub struct Seq {
     alloc: Global,
@@ -36,7 +37,7 @@ impl Seq {
     /// A worker for vectors of elements of this type, before its first vector. Its only error is that memory was
     /// refused.
     pub fn new(alloc: Global, element: Ty) -> Result<Seq, AllocError>
-        ensures { IfOk result (λ worker. ⟦<Seq as Worker>⟧.state worker ≡ seq_state (ty_of element) []) }
+        ensures { IfOk result (λ worker. ⟦<Seq as Worker>⟧.state worker ≡ (ty_of element, [])) }
     {
         let mut kinds = Vec::new(alloc);
         kinds.push(Kind::Bool)?;
@@ -51,18 +52,18 @@ impl Seq {
 }
 
 impl Worker for Seq {
-    ghost use Rattle.flow_typed.specs.SeqMachine.{SeqState, seq_machine};
-    ghost use Rattle.flow_typed.specs.SeqLaws.{seq_laws, seq_rows};
+    ghost use Rattle.flow_typed.specs.SeqMachine.{seq_machine};
+    ghost use Rattle.flow_typed.specs.laws.Seq.{seq_laws};
 
-    ghost State = { SeqState };
+    ghost Parameters = { ElementType };
 
-    ghost state = { λ n. seq_state (ty_of n.element) (map due_cell n.dues.items) };
+    ghost State = { List DueCell };
+
+    ghost state = { λ n. (ty_of n.element, map due_cell n.dues.items) };
 
     ghost machine = { seq_machine };
 
     ghost laws = { seq_laws };
-
-    ghost rows = { seq_rows };
 
     fn ask(&self) -> Ask {
         match self.dues.front() {

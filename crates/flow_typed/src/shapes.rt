@@ -4,10 +4,9 @@ ghost use Rattle.std.specs.Prelude.{◌≡◌, ◌<◌, ◌^◌, ◌++◌, map, 
 ghost use Rattle.snesl_values.specs.Types.{ty_of};
 ghost use Rattle.snesl_values.specs.Values.{value_of, values_of};
 ghost use Rattle.flow_edges.specs.Cells.{cell_of};
-ghost use Rattle.flow_typed.specs.Shapes.{is_a, all_are, kinds_of};
+ghost use Rattle.flow_typed.specs.Shapes.{is_a, all_are, kinds_of, kind_at};
 ghost use Rattle.flow_typed.specs.Flats.{width};
-ghost use Rattle.flow_typed.specs.PrintMachine.{kind_at};
-ghost use Rattle.flow_typed.specs.PartFits.{part_fits};
+ghost use Rattle.flow_typed.specs.Parts.{part_fits};
 
 use flow_edges::{Item, Kind};
 use snesl_values::{Datum, Ty};

@@ -1,13 +1,14 @@
 // The elements of sequences, as vectors.
 
 ghost use Rattle.std.specs.Prelude.{◌≡◌, [], map, List, IfOk};
-ghost use Rattle.snesl_values.specs.Types.{ty_of, seq};
+ghost use Rattle.snesl_values.specs.Types.{Ty as ElementType, ty_of, seq};
 ghost use Rattle.snesl_values.specs.Values.{Value, value_of, a_pair};
 ghost use Rattle.flow_edges.specs.Cells.{cell_of};
 ghost use Rattle.flow_base.specs.Workers.{Takes};
 ghost use Rattle.flow_typed.specs.Shapes.{kinds_of};
-ghost use Rattle.flow_typed.specs.Parts.{built};
-ghost use Rattle.flow_typed.specs.TabMachine.{tab_state, start, step_in, staged, flag_given, grown, item_given, with_step, item_port, Makes};
+ghost use Rattle.flow_typed.specs.Parts.{built, PartsFit};
+ghost use Rattle.flow_base.specs.Machines.{taken, with_parameters};
+ghost use Rattle.flow_typed.specs.TabMachine.{Step, start, step_in, staged, flag_taking, grown, item_given, item_port, Makes};
 
 use crate::shapes::{add_kinds, is_value, kind_at, part_fits};
 use flow_base::{Ask, Stop, Worker};
@@ -24,6 +25,8 @@ use std::mem;
 /// `Shape` where the type is not concrete, and where an item is not of its port's kind or type.
 ///
 /// It keeps the items of an element and lays out its value, which takes memory. Where it is refused, nothing was taken.
+///
+/// Row: `TabRow` (specs/Rows.antt).
 #[derive(Drop)]
 pub struct Tab {
     alloc: Global,
@@ -35,6 +38,7 @@ pub struct Tab {
     items: Vec<Item>,
     stage: Stage,
     ghost kinds_are: { kinds.items ≡ kinds_of (seq (ty_of element)) },
+    ghost items_fit: { PartsFit (ty_of element) (map cell_of items.items) },
 }
 
 // What comes next.
@@ -53,7 +57,7 @@ enum Stage {
 impl Tab {
     /// A worker for elements of this type, before its first sequence. Its only error is that memory was refused.
     pub fn new(alloc: Global, element: Ty) -> Result<Tab, AllocError>
-        ensures { IfOk result (λ worker. ⟦<Tab as Worker>⟧.state worker ≡ tab_state (ty_of element) start) }
+        ensures { IfOk result (λ worker. ⟦<Tab as Worker>⟧.state worker ≡ (ty_of element, start)) }
     {
         let mut kinds = Vec::new(alloc);
         kinds.push(Kind::Bool)?;
@@ -81,7 +85,7 @@ impl Tab {
 
     // Where a flag leads.
     fn at_flag(&self, item: &Item) -> Result<Stage, FaultKind>
-        ensures { (es : List Value) → staged es result ≡ flag_given (ty_of self.now.element) es (cell_of item.now) }
+        ensures { (es : List Value) → staged es result ≡ taken (flag_taking (ty_of self.now.element) es) (cell_of item.now) }
     {
         let Item::Bool(end) = item else {
             return Err(FaultKind::Shape);
@@ -99,7 +103,7 @@ impl Tab {
     // Where all items of the next element are there, adds the element.
     fn close(&mut self) -> Result<(), Stop>
         requires { self.old.stage ≡ Stage.Item }
-        ensures state { Takes (with_step (ty_of self.old.element) (grown (ty_of self.old.element) (map value_of self.old.elements.items) (map cell_of self.old.items.items))) (⟦<Tab as Worker>⟧.state self.old) result (⟦<Tab as Worker>⟧.state self.new) }
+        ensures state { Takes (with_parameters (ty_of self.old.element) (grown (ty_of self.old.element) (map value_of self.old.elements.items) (map cell_of self.old.items.items))) (⟦<Tab as Worker>⟧.state self.old) result (⟦<Tab as Worker>⟧.state self.new) }
         ensures items { self.new.items.items ≡ self.old.items.items }
     {
         if self.items.len() < self.kinds.len() - 1 {
@@ -120,7 +124,7 @@ impl Tab {
     // Takes the next item of an element.
     fn take_item(&mut self, item: Item) -> Result<(), Stop>
         requires { self.old.stage ≡ Stage.Item }
-        ensures { Takes (with_step (ty_of self.old.element) (item_given (ty_of self.old.element) (map value_of self.old.elements.items) (map cell_of self.old.items.items) (cell_of item))) (⟦<Tab as Worker>⟧.state self.old) result (⟦<Tab as Worker>⟧.state self.new) }
+        ensures { Takes (with_parameters (ty_of self.old.element) (item_given (ty_of self.old.element) (map value_of self.old.elements.items) (map cell_of self.old.items.items) (cell_of item))) (⟦<Tab as Worker>⟧.state self.old) result (⟦<Tab as Worker>⟧.state self.new) }
     {
         if self.item_port() == 0 || !part_fits(&self.element, self.items.len(), &item) {
             return Err(Stop::Faulted(FaultKind::Shape));
@@ -188,18 +192,18 @@ fn build(alloc: Global, ty: &Ty, items: &mut VecDeque<Item>) -> Result<Datum, St
 }
 
 impl Worker for Tab {
-    ghost use Rattle.flow_typed.specs.TabMachine.{TabState, tab_machine};
-    ghost use Rattle.flow_typed.specs.TabLaws.{tab_laws, tab_rows};
+    ghost use Rattle.flow_typed.specs.TabMachine.{tab_machine};
+    ghost use Rattle.flow_typed.specs.laws.Tab.{tab_laws};
 
-    ghost State = { TabState };
+    ghost Parameters = { ElementType };
 
-    ghost state = { λ n. tab_state (ty_of n.element) (step_in n.stage (map value_of n.elements.items) (map cell_of n.items.items)) };
+    ghost State = { Step };
+
+    ghost state = { λ n. (ty_of n.element, step_in n.stage (map value_of n.elements.items) (map cell_of n.items.items)) };
 
     ghost machine = { tab_machine };
 
     ghost laws = { tab_laws };
-
-    ghost rows = { tab_rows };
 
     fn ask(&self) -> Ask {
         match self.stage {

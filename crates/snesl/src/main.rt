@@ -1,8 +1,8 @@
 // Answers the job on standard input.
 #![tactic(auto)]
 
-use snesl_run::{NO_MEMORY_LINE, OUTPUT_LINE, answer, complain};
-use snesl_values::Counted;
+use snesl_run::{answer, complain};
+use snesl_values::{Counted, Refusal};
 use std::alloc::{AllocError, Global};
 use std::env::{self, FillError};
 use std::io::{self, ErrorKind, Write};
@@ -14,10 +14,10 @@ fn main(rt: HostRuntime) -> ExitCode {
     let mut err = Counted::new(rt.stderr());
     let status = match answered(&rt, &mut out, &mut err) {
         Ok(status) => status,
-        Err(_) => complain(NO_MEMORY_LINE, &mut err),
+        Err(_) => complain(Refusal::NoMemory, &mut err),
     };
     if out.flush().is_err() {
-        return ExitCode::from(complain(OUTPUT_LINE, &mut err));
+        return ExitCode::from(complain(Refusal::Output, &mut err));
     }
     ExitCode::from(status)
 }

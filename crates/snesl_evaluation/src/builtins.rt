@@ -18,6 +18,7 @@ use snesl_values::{Datum, FaultKind, copy_datum};
 use std::alloc::Global;
 
 // A built-in at its arguments.
+#[inline(never)]
 pub fn apply(
     alloc: Global,
     at: usize,

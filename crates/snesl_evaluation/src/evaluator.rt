@@ -1,13 +1,14 @@
 // Evaluation.
 
-ghost use Rattle.std.specs.Prelude.{◌≡◌, ◌∷◌, true, map, IfOk, option_map, option_to_list};
+ghost use Rattle.std.specs.Prelude.{◌≡◌, ◌∷◌, true, map, if◌then◌else◌, IfOk, option_map, option_to_list};
 ghost use Rattle.snesl_values.specs.Inputs.{environment_of};
-ghost use Rattle.snesl_values.specs.Values.{value_of};
+ghost use Rattle.snesl_values.specs.Values.{a_pair, value_of};
 ghost use Rattle.snesl_tree.specs.Spelling.{spelling};
-ghost use Rattle.snesl_tree.specs.View.{binders_of, program_of, tree_of, trees_of};
+ghost use Rattle.snesl_grammar.specs.View.{program_of};
+ghost use Rattle.snesl_tree.specs.View.{binders_of, tree_of, trees_of};
 ghost use Rattle.snesl_evaluation.specs.Eval.{eval, in_step, program_value, rows_of};
-ghost use Rattle.snesl_evaluation.specs.Answer.{go};
-ghost use Rattle.snesl_evaluation.specs.Builtins.{applied, seq_answer};
+ghost use Rattle.snesl_evaluation.specs.Answer.{gives, go};
+ghost use Rattle.snesl_evaluation.specs.Builtins.{applied, binary_answer, prefix_answer, seq_answer, truth_at};
 ghost use Rattle.snesl_evaluation.specs.Results.{Answers, IsAnswer};
 ghost use Rattle.snesl_evaluation.specs.Scopes.{all_in, are_level, binders_in, calls_in, column_of, each_in, entered, environment_in, eval_in, kept_in, where_in};
 
@@ -17,7 +18,8 @@ use crate::halt::{Halt, fault};
 use crate::operators::{binary, prefix};
 use crate::parts::{add, add_found, filtered, into_items, pair, sequence_of, truth};
 use crate::scope::{Column, Scope, Setting, add_column, height, look_up};
-use snesl_tree::{Binder, Builtin, Declaration, Expr, Function, Program, Span};
+use snesl_grammar::Program;
+use snesl_tree::{Binder, Builtin, Declaration, Expr, Function, Operator, Prefix, Span};
 use snesl_values::{Datum, Fault, FaultKind, Inputs};
 use std::alloc::{AllocError, Global};
 
@@ -54,8 +56,10 @@ pub fn evaluate(
     }
 }
 
-// The value of an expression, or its first fault.
+// The value of an expression, or its first fault. It only hands each form on to a function of its own,
+// and none is inlined into another: its frame, and theirs, are what evaluation takes of the stack.
 #[cycle(value)]
+#[inline(never)]
 fn value(setting: &Setting, expr: &Expr, scope: &Scope) -> Result<Datum, Halt>
     ensures { Answers value_of result (eval_in setting.now scope.now (tree_of expr.now)) }
 {
@@ -68,19 +72,12 @@ fn value(setting: &Setting, expr: &Expr, scope: &Scope) -> Result<Datum, Halt>
             operator,
             left,
             right,
-        } => {
-            let x = value(setting, left, scope)?;
-            let y = value(setting, right, scope)?;
-            binary(setting.alloc, *at, *operator, &x, &y)
-        }
+        } => binary_value(setting, *at, *operator, left, right, scope),
         Expr::Prefix {
             at,
             operator,
             operand,
-        } => {
-            let x = value(setting, operand, scope)?;
-            prefix(*at, *operator, &x)
-        }
+        } => prefix_value(setting, *at, *operator, operand, scope),
         Expr::Call {
             at,
             function,
@@ -91,33 +88,19 @@ fn value(setting: &Setting, expr: &Expr, scope: &Scope) -> Result<Datum, Halt>
             arguments,
         } => call(setting, *function, arguments, scope),
         Expr::Group { inner, .. } => value(setting, inner, scope),
-        Expr::Pair { first, second, .. } => {
-            let x = value(setting, first, scope)?;
-            let y = value(setting, second, scope)?;
-            Ok(pair(setting.alloc, x, y)?)
-        }
+        Expr::Pair { first, second, .. } => pair_value(setting, first, second, scope),
         Expr::Let {
             name,
             value: bound,
             body,
             ..
-        } => {
-            let x = value(setting, bound, scope)?;
-            bind(setting, *name, &x, body, &*scope)
-        }
+        } => let_value(setting, *name, bound, body, scope),
         Expr::If {
             at,
             condition,
             positive,
             negative,
-        } => {
-            let x = value(setting, condition, scope)?;
-            if truth(*at, &x)? {
-                value(setting, positive, scope)
-            } else {
-                value(setting, negative, scope)
-            }
-        }
+        } => if_value(setting, *at, condition, positive, negative, scope),
         Expr::Literal { items, .. } => literal(setting, items, scope),
         Expr::Filter {
             at,
@@ -136,8 +119,90 @@ fn value(setting: &Setting, expr: &Expr, scope: &Scope) -> Result<Datum, Halt>
     }
 }
 
+// An operator between two operands.
+#[cycle(value)]
+#[inline(never)]
+fn binary_value(
+    setting: &Setting,
+    at: usize,
+    operator: Operator,
+    left: &Expr,
+    right: &Expr,
+    scope: &Scope,
+) -> Result<Datum, Halt>
+    ensures { Answers value_of result (go (eval_in setting.now scope.now (tree_of left.now)) (λ v. go (eval_in setting.now scope.now (tree_of right.now)) (λ w. binary_answer at operator v w))) }
+{
+    let x = value(setting, left, scope)?;
+    let y = value(setting, right, scope)?;
+    binary(setting.alloc, at, operator, &x, &y)
+}
+
+// An operator before its operand.
+#[cycle(value)]
+#[inline(never)]
+fn prefix_value(
+    setting: &Setting,
+    at: usize,
+    operator: Prefix,
+    operand: &Expr,
+    scope: &Scope,
+) -> Result<Datum, Halt>
+    ensures { Answers value_of result (go (eval_in setting.now scope.now (tree_of operand.now)) (prefix_answer at operator)) }
+{
+    let x = value(setting, operand, scope)?;
+    prefix(at, operator, &x)
+}
+
+#[cycle(value)]
+#[inline(never)]
+fn pair_value(setting: &Setting, first: &Expr, second: &Expr, scope: &Scope) -> Result<Datum, Halt>
+    ensures { Answers value_of result (go (eval_in setting.now scope.now (tree_of first.now)) (λ v. go (eval_in setting.now scope.now (tree_of second.now)) (λ w. gives (a_pair v w)))) }
+{
+    let x = value(setting, first, scope)?;
+    let y = value(setting, second, scope)?;
+    Ok(pair(setting.alloc, x, y)?)
+}
+
+// A body where a name has the value of another expression.
+#[cycle(value)]
+#[inline(never)]
+fn let_value(
+    setting: &Setting,
+    name: Span,
+    bound: &Expr,
+    body: &Expr,
+    scope: &Scope,
+) -> Result<Datum, Halt>
+    ensures { Answers value_of result (go (eval_in setting.now scope.now (tree_of bound.now)) (λ v. eval (tree_of body.now) setting.now.text.now (calls_in setting.now) ((spelling setting.now.text.now name, v) ∷ environment_in setting.now.text.now scope.now))) }
+{
+    let x = value(setting, bound, scope)?;
+    bind(setting, name, &x, body, &*scope)
+}
+
+// One of two expressions, as a condition says.
+#[cycle(value)]
+#[inline(never)]
+fn if_value(
+    setting: &Setting,
+    at: usize,
+    condition: &Expr,
+    positive: &Expr,
+    negative: &Expr,
+    scope: &Scope,
+) -> Result<Datum, Halt>
+    ensures { Answers value_of result (go (eval_in setting.now scope.now (tree_of condition.now)) (λ v. go (truth_at at v) (λ b. if b then eval_in setting.now scope.now (tree_of positive.now) else eval_in setting.now scope.now (tree_of negative.now)))) }
+{
+    let x = value(setting, condition, scope)?;
+    if truth(at, &x)? {
+        value(setting, positive, scope)
+    } else {
+        value(setting, negative, scope)
+    }
+}
+
 // A built-in function at arguments.
 #[cycle(value)]
+#[inline(never)]
 fn built_in(
     setting: &Setting,
     at: usize,
@@ -153,6 +218,7 @@ fn built_in(
 
 // A declared function at arguments.
 #[cycle(value)]
+#[inline(never)]
 fn call(setting: &Setting, name: Span, arguments: &[Expr], scope: &Scope) -> Result<Datum, Halt>
     ensures { Answers value_of result (go (all_in setting.now scope.now (trees_of arguments.now)) (calls_in setting.now name.at (spelling setting.now.text.now name))) }
 {
@@ -162,6 +228,7 @@ fn call(setting: &Setting, name: Span, arguments: &[Expr], scope: &Scope) -> Res
 }
 
 #[cycle(value)]
+#[inline(never)]
 fn literal(setting: &Setting, items: &[Expr], scope: &Scope) -> Result<Datum, Halt>
     ensures { Answers value_of result (seq_answer (all_in setting.now scope.now (trees_of items.now))) }
 {
@@ -171,6 +238,7 @@ fn literal(setting: &Setting, items: &[Expr], scope: &Scope) -> Result<Datum, Ha
 
 // The sequence of an item where the condition is true, and else of nothing.
 #[cycle(value)]
+#[inline(never)]
 fn filter(
     setting: &Setting,
     at: usize,
@@ -186,6 +254,7 @@ fn filter(
 
 // A comprehension with no condition.
 #[cycle(value)]
+#[inline(never)]
 fn each(
     setting: &Setting,
     at: usize,
@@ -203,6 +272,7 @@ fn each(
 
 // A comprehension with a condition.
 #[cycle(value)]
+#[inline(never)]
 fn each_where(
     setting: &Setting,
     at: usize,
@@ -221,6 +291,7 @@ fn each_where(
 
 // The values of arguments, or of the items of a literal.
 #[cycle(value)]
+#[inline(never)]
 fn all_values(setting: &Setting, exprs: &[Expr], scope: &Scope) -> Result<Vec<Datum>, Halt>
     ensures { Answers (λ values. map value_of values.items) result (all_in setting.now scope.now (trees_of exprs.now)) }
 {
@@ -234,6 +305,7 @@ fn all_values(setting: &Setting, exprs: &[Expr], scope: &Scope) -> Result<Vec<Da
 
 // The names of a comprehension with the items of their sequences.
 #[cycle(value)]
+#[inline(never)]
 fn all_columns(setting: &Setting, binders: &[Binder], scope: &Scope) -> Result<Vec<Column>, Halt>
     ensures { Answers (λ columns. map (column_of setting.now.text.now) columns.items) result (binders_in setting.now scope.now (binders_of binders.now)) }
 {
@@ -248,6 +320,7 @@ fn all_columns(setting: &Setting, binders: &[Binder], scope: &Scope) -> Result<V
 
 // The value of a body, where the name has this value.
 #[cycle(value)]
+#[inline(never)]
 fn bind<'a>(
     setting: &Setting,
     name: Span,
@@ -268,6 +341,7 @@ fn bind<'a>(
 
 // The item where the condition is true, and else nothing.
 #[cycle(value)]
+#[inline(never)]
 fn kept(
     setting: &Setting,
     at: usize,
@@ -288,6 +362,7 @@ fn kept(
 
 // The values of a body at each row of these columns.
 #[cycle(value)]
+#[inline(never)]
 fn rows<'a>(
     setting: &Setting,
     body: &Expr,
@@ -313,6 +388,7 @@ fn rows<'a>(
 
 // The same at the rows where the condition is true.
 #[cycle(value)]
+#[inline(never)]
 fn rows_where<'a>(
     setting: &Setting,
     at: usize,
@@ -340,6 +416,7 @@ fn rows_where<'a>(
 
 // A declared function at the values of its arguments.
 #[cycle(value)]
+#[inline(never)]
 fn called(setting: &Setting, name: Span, values: &[Datum]) -> Result<Datum, Halt>
     ensures { Answers value_of result (calls_in setting.now name.at (spelling setting.now.text.now name) (map value_of values.now)) }
 {
@@ -352,6 +429,7 @@ fn called(setting: &Setting, name: Span, values: &[Datum]) -> Result<Datum, Halt
 
 // The value of a function's body, which sees its parameters and the functions before it.
 #[cycle(value)]
+#[inline(never)]
 fn enter(
     setting: &Setting,
     at: usize,

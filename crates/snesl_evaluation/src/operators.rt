@@ -24,6 +24,7 @@ pub fn scalar_result(at: usize, given: Result<Scalar, FaultKind>) -> Result<Datu
     }
 }
 
+#[inline(never)]
 pub fn prefix(at: usize, operator: Prefix, operand: &Datum) -> Result<Datum, Halt>
     ensures { Answers value_of result (prefix_answer at operator (value_of operand.now)) }
 {
@@ -40,6 +41,7 @@ fn unary(at: usize, operator: UnaryOperator, operand: &Datum) -> Result<Datum, H
     scalar_result(at, operator.apply(x))
 }
 
+#[inline(never)]
 pub fn binary(
     alloc: Global,
     at: usize,

@@ -95,6 +95,7 @@ pub fn add(values: &mut Vec<Datum>, value: Datum) -> Result<(), AllocError>
     Ok(())
 }
 
+#[inline(never)]
 pub fn pair(alloc: Global, first: Datum, second: Datum) -> Result<Datum, AllocError>
     ensures { IfOk result (λ datum. value_of datum ≡ a_pair (value_of first) (value_of second)) }
 {
@@ -111,6 +112,7 @@ pub fn add_found(values: &mut Vec<Datum>, found: Option<Datum>) -> Result<(), Al
 }
 
 // The sequence of what is there.
+#[inline(never)]
 pub fn filtered(alloc: Global, found: Option<Datum>) -> Result<Datum, AllocError>
     ensures { IfOk result (λ datum. value_of datum ≡ sequence (option_to_list (option_map value_of found))) }
 {

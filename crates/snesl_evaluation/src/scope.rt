@@ -50,6 +50,7 @@ pub enum Scope<'a> {
 }
 
 // A copy of the value of a name.
+#[inline(never)]
 pub fn look_up(alloc: Global, name: Span, text: &[u8], scope: &Scope) -> Result<Datum, Halt>
     ensures { Answers value_of result (named name.at (spelling text.now name) (environment_in text.now scope.now)) }
 {

@@ -5,8 +5,8 @@ use Rattle.snesl_lexer.specs.declared.token.Kind.{Kind}
 use Rattle.snesl_lexer.specs.declared.token.Kind.TheVariants.{In, Let, If, Then, Else, RightParen, LeftBrace, RightBrace, Colon, Semicolon, Comma, Bar, Equals}
 use Rattle.snesl_lexer.specs.declared.token.Token.{Token}
 use Rattle.snesl_tree.specs.Tree.{Tree, binary, prefix, call, apply, group, pair, binding, choice, literal, filter, each, none, both, none_bound, always, only_where, depth}
-use Rattle.snesl_expressions.specs.Operators.{level, prefix_level, sign, prefix_sign}
-use Rattle.snesl_expressions.specs.Grammar.{token, name_token, added, bound_also, binder_count, greatest_binder_count, Whole, binary_rule, prefix_rule, call_rule, apply_rule, group_rule, pair_rule, let_rule, if_rule, literal_rule, filter_rule, each_rule, each_where_rule}
+use Rattle.snesl_grammar.specs.Operators.{level, prefix_level, sign, prefix_sign}
+use Rattle.snesl_grammar.specs.Expressions.{token, name_token, added, bound_also, binder_count, greatest_binder_count, Whole, binary_rule, prefix_rule, call_rule, apply_rule, group_rule, pair_rule, let_rule, if_rule, literal_rule, filter_rule, each_rule, each_where_rule}
 use Rattle.snesl_expressions.specs.Machine.{Frame, in_binary, in_prefix, in_call, in_apply, in_second, in_let_body, in_positive, in_negative, in_braces, in_filter, in_each_condition, State, operand, after, binder_name, Folded, reduce, floor, comma_move, paren_move, brace_move, colon_move, bar_move, semicolon_move, in_move, then_move, else_move, closing}
 use Rattle.snesl_expressions.specs.Readers.{Move, free}
 use Rattle.snesl_expressions.proofs.Depths.{depth_pos, depth_added, depth_bound_also, count_bound_also}

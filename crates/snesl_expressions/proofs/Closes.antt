@@ -14,9 +14,9 @@ use Rattle.snesl_expressions.specs.declared.forms.Form.TheVariants.{Binary, Pref
 use Rattle.snesl_expressions.specs.declared.measured.Measured.{Measured}
 use Rattle.snesl_expressions.specs.declared.measured.Arguments.{Arguments}
 use Rattle.snesl_expressions.specs.declared.measured.Bound.{Bound}
-use Rattle.snesl_expressions.specs.Limits.{greatest_depth}
-use Rattle.snesl_expressions.specs.Operators.{level}
-use Rattle.snesl_expressions.specs.Grammar.{bound_also, greatest_binder_count}
+use Rattle.snesl_grammar.specs.Limits.{greatest_depth}
+use Rattle.snesl_grammar.specs.Operators.{level}
+use Rattle.snesl_grammar.specs.Expressions.{bound_also, greatest_binder_count}
 use Rattle.snesl_expressions.specs.Readers.{within, free, beyond_depth}
 use Rattle.snesl_expressions.specs.Machine.{Frame, in_binary, in_braces, in_source, operand, binder_name, Folded, reduce, floor, alone, infix_move, colon_move, bar_move, semicolon_move}
 use Rattle.snesl_expressions.specs.Parsing.{frame_of, piled, frames_of, closes, closed_with}

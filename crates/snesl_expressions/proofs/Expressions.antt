@@ -2,7 +2,7 @@
 use Rattle.std.proofs.Common.{◌≡◌}
 use Rattle.snesl_lexer.specs.declared.token.Kind.TheVariants.{Semicolon}
 use Rattle.snesl_tree.specs.Tree.{depth}
-use Rattle.snesl_expressions.specs.Grammar.{Whole, Front}
+use Rattle.snesl_grammar.specs.Expressions.{Whole, Front}
 use Rattle.snesl_expressions.specs.Machine.{expressions}
 use Rattle.snesl_expressions.specs.Readers.{IsReaderOf}
 use Rattle.snesl_expressions.proofs.Beginnings.{front_completes}

@@ -7,7 +7,7 @@ use Rattle.snesl_tree.specs.declared.span.Span.{Span}
 use Rattle.snesl_tree.specs.Tree.{Tree, Trees, Binders, Condition, none, both, none_bound, binder, each, depth, depth_of_all, depth_of_binders}
 use Rattle.snesl_tree.specs.View.{tree_of, trees_of, binder_row, binders_of}
 use Rattle.snesl_tree.proofs.Arguments.{binders_row}
-use Rattle.snesl_expressions.specs.Grammar.{added, bound_also, binder_count}
+use Rattle.snesl_grammar.specs.Expressions.{added, bound_also, binder_count}
 
 depth-added : (args : Trees) (e : Tree) → depth_of_all (added args e) ≡ max (depth_of_all args) (depth e)
 depth-added none e = omega arith

@@ -13,9 +13,9 @@ use Rattle.snesl_tree.specs.declared.operator.Builtin.{Builtin}
 use Rattle.snesl_tree.specs.declared.operator.Builtin.TheVariants as builtins
 use Rattle.snesl_tree.specs.declared.span.Span.{Span}
 use Rattle.snesl_tree.specs.Tree.{Tree, Binders, name, none, depth, depth_of_binders}
-use Rattle.snesl_expressions.specs.Operators.{level, left_level, prefix_level, sign, prefix_sign, word}
-use Rattle.snesl_expressions.specs.Grammar.{token, name_token, Whole, integer_rule, truth_rule, name_rule, Front, nothing, whole, binary_right, prefix_operand, call_word, call_arguments, apply_arguments, group_inner, pair_second, let_word, let_value, let_body, if_condition, if_positive, if_negative, brace_items, filter_condition, each_binders, each_condition, no_binder, binder_source}
-use Rattle.snesl_expressions.specs.Grammar.{let_name as let_name_front, binder_name as binder_name_front}
+use Rattle.snesl_grammar.specs.Operators.{level, left_level, prefix_level, sign, prefix_sign, word}
+use Rattle.snesl_grammar.specs.Expressions.{token, name_token, Whole, integer_rule, truth_rule, name_rule, Front, nothing, whole, binary_right, prefix_operand, call_word, call_arguments, apply_arguments, group_inner, pair_second, let_word, let_value, let_body, if_condition, if_positive, if_negative, brace_items, filter_condition, each_binders, each_condition, no_binder, binder_source}
+use Rattle.snesl_grammar.specs.Expressions.{let_name as let_name_front, binder_name as binder_name_front}
 use Rattle.snesl_expressions.specs.Machine.{Frame, in_binary, in_prefix, in_call, in_apply, in_value, in_condition, in_source, State, operand, after, opening, let_name, let_equals, binder_name, binder_in, Folded, reduce, floor, at_level, open_move, apply_move, comma_move, paren_move, brace_move, colon_move, bar_move, semicolon_move, in_move, then_move, else_move, joining, operand_move, after_move, move_of, alone, finished_of, expressions}
 use Rattle.snesl_expressions.specs.Readers.{Move, within, step, go}
 use Rattle.snesl_expressions.proofs.Reading.{bind_ok, within_ok}

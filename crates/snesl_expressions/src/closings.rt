@@ -2,12 +2,14 @@
 
 ghost use Rattle.std.specs.Prelude.{◌∷◌};
 ghost use Rattle.snesl_tree.specs.View.{tree_of, trees_of, binders_of};
-ghost use Rattle.snesl_expressions.specs.Limits.{greatest_depth};
+ghost use Rattle.snesl_grammar.specs.Limits.{greatest_depth};
 ghost use Rattle.snesl_expressions.specs.Readers.{step, within};
 ghost use Rattle.snesl_expressions.specs.Machine.{expressions, after, joining, closing, apply_move, comma_move, paren_move, brace_move, colon_move, bar_move, semicolon_move, in_move, then_move, else_move, in_braces, in_source};
 ghost use Rattle.snesl_expressions.specs.Parsing.{frame_of, frames_of, Gives, ending_move};
 
-use crate::forms::{Form, Innermost, find_innermost, floor_of, left_level_of, level_of, reduced};
+use crate::forms::{
+    Form, Innermost, find_innermost, floor_of, left_level_of, let_go, level_of, reduced,
+};
 use crate::limits::{GREATEST_BINDER_COUNT, GREATEST_DEPTH};
 use crate::machine::{Machine, Point, StepError, behind, enter, go_in};
 use crate::measured::{Arguments, Bound, Measured};
@@ -165,7 +167,10 @@ fn comma(outer: Vec<Form>, form: Form, whole: Measured) -> Result<Machine, StepE
             let given = given.with(whole)?;
             go_in(outer, Form::Braces { at, given })
         }
-        _ => Err(StepError::Unexpected),
+        _ => {
+            let_go(form);
+            Err(StepError::Unexpected)
+        }
     }
 }
 
@@ -189,7 +194,10 @@ fn right_paren(
         }
         Form::Group { at } => behind(outer, Measured::group(alloc, at, whole)?),
         Form::Second { at, first } => behind(outer, Measured::pair(alloc, at, first, whole)?),
-        _ => Err(StepError::Unexpected),
+        _ => {
+            let_go(form);
+            Err(StepError::Unexpected)
+        }
     }
 }
 
@@ -217,7 +225,10 @@ fn right_brace(
         Form::EachCondition { at, body, bound } => {
             behind(outer, Measured::each_where(alloc, at, body, bound, whole)?)
         }
-        _ => Err(StepError::Unexpected),
+        _ => {
+            let_go(form);
+            Err(StepError::Unexpected)
+        }
     }
 }
 
@@ -227,7 +238,10 @@ fn colon(alloc: Global, outer: Vec<Form>, form: Form, whole: Measured) -> Result
 {
     match form {
         Form::Braces { at, given } => begin_binders(alloc, outer, at, given, whole),
-        _ => Err(StepError::Unexpected),
+        _ => {
+            let_go(form);
+            Err(StepError::Unexpected)
+        }
     }
 }
 
@@ -266,7 +280,10 @@ fn bar(outer: Vec<Form>, form: Form, whole: Measured) -> Result<Machine, StepErr
             let bound = bound.with(name, whole)?;
             go_in(outer, Form::EachCondition { at, body, bound })
         }
-        _ => Err(StepError::Unexpected),
+        _ => {
+            let_go(form);
+            Err(StepError::Unexpected)
+        }
     }
 }
 
@@ -296,7 +313,10 @@ fn semicolon(outer: Vec<Form>, form: Form, whole: Measured) -> Result<Machine, S
             bound,
             name,
         } => next_binder(outer, at, body, bound, name, whole),
-        _ => Err(StepError::Unexpected),
+        _ => {
+            let_go(form);
+            Err(StepError::Unexpected)
+        }
     }
 }
 
@@ -334,7 +354,10 @@ fn let_in(outer: Vec<Form>, form: Form, whole: Measured) -> Result<Machine, Step
                 value: whole,
             },
         ),
-        _ => Err(StepError::Unexpected),
+        _ => {
+            let_go(form);
+            Err(StepError::Unexpected)
+        }
     }
 }
 
@@ -350,7 +373,10 @@ fn then(outer: Vec<Form>, form: Form, whole: Measured) -> Result<Machine, StepEr
                 condition: whole,
             },
         ),
-        _ => Err(StepError::Unexpected),
+        _ => {
+            let_go(form);
+            Err(StepError::Unexpected)
+        }
     }
 }
 
@@ -367,6 +393,9 @@ fn or_else(outer: Vec<Form>, form: Form, whole: Measured) -> Result<Machine, Ste
                 positive: whole,
             },
         ),
-        _ => Err(StepError::Unexpected),
+        _ => {
+            let_go(form);
+            Err(StepError::Unexpected)
+        }
     }
 }

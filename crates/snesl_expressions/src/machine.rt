@@ -3,13 +3,13 @@
 ghost use Rattle.std.specs.Prelude.{◌≡◌, ◌∷◌, ◌↔◌, Ok, IfOk, IsTrue, All};
 ghost use Rattle.std.specs.Option.{is_some};
 ghost use Rattle.snesl_tree.specs.View.{tree_of};
-ghost use Rattle.snesl_expressions.specs.Limits.{greatest_depth};
+ghost use Rattle.snesl_grammar.specs.Limits.{greatest_depth};
 ghost use Rattle.snesl_expressions.specs.Readers.{step, within};
 ghost use Rattle.snesl_expressions.specs.Machine.{expressions, open_move, at_level, operand, after};
 ghost use Rattle.snesl_expressions.specs.Parsing.{frame_of, frames_of, state_at, state_of, Gives, IsThis, closes};
 
 use crate::closings::after;
-use crate::forms::{Form, floor_of, has_room, is_closed_at, reduced};
+use crate::forms::{Form, floor_of, has_room, is_closed_at, let_go, reduced};
 use crate::measured::{Bound, Measured};
 use crate::operands::{binder_in, binder_name, let_equals, let_name, opening, operand};
 use snesl_lexer::Token;
@@ -104,6 +104,7 @@ pub fn open_at(forms: Vec<Form>, point: Point) -> Result<Machine, StepError>
     ensures { Gives result (within greatest_depth (open_move (frames_of forms.items) (state_at (frames_of forms.items) point))) }
 {
     if !has_room(&forms) {
+        let_go(point);
         return Err(StepError::TooDeep);
     }
     Ok(Machine { forms, point })
@@ -124,6 +125,7 @@ pub fn enter(forms: Vec<Form>, form: Form) -> Result<Machine, StepError>
     ensures { Gives result (within greatest_depth (open_move (frames_of forms.items) (operand (frame_of form ∷ frames_of forms.items)))) }
 {
     if !has_room(&forms) {
+        let_go(form);
         return Err(StepError::TooDeep);
     }
     go_in(forms, form)
@@ -134,6 +136,7 @@ pub fn enter_bare(forms: Vec<Form>, form: Form, tightness: u8) -> Result<Machine
     ensures { Gives result (within greatest_depth (at_level tightness (frames_of forms.items) (open_move (frames_of forms.items) (operand (frame_of form ∷ frames_of forms.items))))) }
 {
     if floor_of(&forms) > tightness {
+        let_go(form);
         return Err(StepError::Unexpected);
     }
     enter(forms, form)
@@ -205,7 +208,10 @@ impl Machine {
                     Ok(None)
                 }
             }
-            _ => Ok(None),
+            _ => {
+                let_go(point);
+                Ok(None)
+            }
         }
     }
 }

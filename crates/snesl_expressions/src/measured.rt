@@ -5,8 +5,8 @@
 ghost use Rattle.std.specs.Prelude.{◌≡◌, ◌+◌, suc, min, IfOk};
 ghost use Rattle.snesl_tree.specs.Tree.{depth, depth_of_all, depth_of_binders, integer, truth, name, binary, prefix, call, apply, group, pair, binding, choice, literal, filter, each, none, none_bound, always, only_where};
 ghost use Rattle.snesl_tree.specs.View.{tree_of, trees_of, binders_of};
-ghost use Rattle.snesl_expressions.specs.Limits.{greatest_depth};
-ghost use Rattle.snesl_expressions.specs.Grammar.{added, bound_also};
+ghost use Rattle.snesl_grammar.specs.Limits.{greatest_depth};
+ghost use Rattle.snesl_grammar.specs.Expressions.{added, bound_also};
 
 use crate::limits::GREATEST_DEPTH;
 use snesl_tree::{Binder, Builtin, Expr, Operator, Prefix, Span};

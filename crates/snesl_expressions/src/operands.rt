@@ -3,8 +3,8 @@
 ghost use Rattle.std.specs.Prelude.{◌∷◌};
 ghost use Rattle.snesl_tree.specs.Tree.{none};
 ghost use Rattle.snesl_tree.specs.View.{tree_of, binders_of};
-ghost use Rattle.snesl_expressions.specs.Limits.{greatest_depth};
-ghost use Rattle.snesl_expressions.specs.Operators.{prefix_level};
+ghost use Rattle.snesl_grammar.specs.Limits.{greatest_depth};
+ghost use Rattle.snesl_grammar.specs.Operators.{prefix_level};
 ghost use Rattle.snesl_expressions.specs.Readers.{step, within};
 ghost use Rattle.snesl_expressions.specs.Machine.{expressions, operand, opening, let_name, let_equals, binder_name, binder_in, open_move, at_level, in_prefix, in_braces};
 ghost use Rattle.snesl_expressions.specs.Parsing.{frames_of, Gives};

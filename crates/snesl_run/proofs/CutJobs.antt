@@ -4,7 +4,7 @@ use Rattle.std.proofs.lemmas.Bool.{cases_lt}
 use Rattle.snesl_values.specs.declared.refusal.Refusal.TheVariants.{TooLong}
 use Rattle.snesl_values.specs.Inputs.{InputMeans, OneInputMeaning, spells, refused_at, too_long as input_too_long, greatest_input_length}
 use Rattle.snesl_tree.specs.Tree.{ProgramTree}
-use Rattle.snesl_syntax.specs.Limits.{greatest_length}
+use Rattle.snesl_grammar.specs.Limits.{greatest_length}
 use Rattle.snesl_syntax.specs.Parse.{Parses, too_long, HaveOneAnswer}
 use Rattle.snesl_run.specs.Meaning.{Meaning, Means, no_program, ill_typed, bad_input, evaluated}
 use Rattle.snesl_run.specs.Job.{BeginsWithSeparator, at_the_end, before_line_feed, before_carriage_return, EndsLine, NoSeparatorBefore, IsJob, parted}

@@ -5,3 +5,6 @@ pub mod Running
 pub mod Printing
 pub mod OwnLines
 pub mod CutJobs
+pub mod InRange
+pub mod SomeMeaning
+pub mod SomeJob

@@ -1,87 +1,103 @@
 -- What is printed for a job.
-use Rattle.std.proofs.Common.{◌≡◌, ◌≢◌, ℕ, List, Option, Some, None, Result, Ok, Err, Vec, IfOk, MatchResult, refl, sym, subst}
+use Rattle.std.proofs.Common.{◌≡◌, ℕ, ◌≤◌, true, false, List, Option, Some, None, Result, Ok, Err, Vec, IfOk, MatchResult, refl, sym, subst}
 use Rattle.std.specs.Global.{Global}
 use Rattle.std.specs.declared.alloc.AllocError.{AllocError}
 use Rattle.snesl_values.specs.declared.counted.Counted.{Counted}
 use Rattle.snesl_values.specs.declared.fault.Fault.{Fault}
 use Rattle.snesl_values.specs.declared.refusal.Refusal.{Refusal}
-use Rattle.snesl_values.specs.declared.refusal.Refusal.TheVariants.{NoMemory, Output}
+use Rattle.snesl_values.specs.declared.refusal.Refusal.TheVariants.{NoMemory, Output, Read}
+use Rattle.snesl_values.specs.Refusals.{is_of_the_system, status_of_refusal}
 use Rattle.snesl_run.specs.Meaning.{Meaning, Means, is_refused, has_fault, has_value}
 use Rattle.snesl_run.specs.Job.{IsJob}
 use Rattle.snesl_run.specs.Runs.{HasOutcome, HasError}
-use Rattle.snesl_run.specs.Streams.{Taken, taken, IsCutOff, WasTold}
-use Rattle.snesl_run.specs.Prints.{Prints, written, cut_off, Printed, meant, unfinished, HasNoMemory, line_of, status_of, refusal_line, fault_line}
+use Rattle.snesl_run.specs.Streams.{Taken, Given, taken, IsCutOff, WasTold}
+use Rattle.snesl_run.specs.Prints.{Prints, written, cut_off, Refuses, of_the_job, of_the_system, PrintsMeaning, Printed, meant, unfinished, HasRead, Answered, unread, out_of_memory, refusal_line, fault_line}
 
 -- a line that could not be written
-pub cut_off_line : {out err : Taken} {line : List ℕ} {status : ℕ} (code : ℕ) → IsCutOff out line → WasTold err (refusal_line Output) → code ≡ 4
-    → Prints out err line status code
+pub cut_off_line : {out err : Taken} {line : List ℕ} {status : ℕ} (code : ℕ) → IsCutOff out line → WasTold err (refusal_line Output)
+    → code ≡ status_of_refusal Output → Prints out err line status code
 cut_off_line {out = out} {err = err} {line = line} {status = status} code cut told e =
     subst (λ n. Prints out err line status n) (sym e) (cut_off cut told)
 
--- what a line that was made is printed as
-made_line : {W : Type 0} (contents : W → Option (List ℕ)) (before mid after : Counted W) (err : Taken)
-    (job program input : List ℕ) (m : Meaning) (line : Result (Vec ℕ Global) AllocError) (status : ℕ)
-    → IsJob job program input → Means program input m → mid ≡ before
-    → IfOk line (λ l. l.items ≡ line_of m)
-    → MatchResult line (λ l. Prints (taken contents mid after) err l.items (status_of m) status) (λ _. HasNoMemory (taken contents mid after) err status)
-    → Printed job (taken contents before after) err status
-made_line contents before mid after err job program input m (Ok l) status split means same made printed =
-    subst (λ w. Printed job (taken contents w after) err status) same
-    (meant program input m split means (subst (λ b. Prints (taken contents mid after) err b (status_of m) status) made printed))
-made_line contents before mid after err job program input m (Err e) status split means same made printed =
-    subst (λ w. Printed job (taken contents w after) err status) same (unfinished printed)
+-- a refusal of the system that was said
+pub system_refused : {out err : Taken} (refusal : Refusal) (code : ℕ) → is_of_the_system refusal ≡ true → out.nothing → WasTold err (refusal_line refusal)
+    → code ≡ status_of_refusal refusal → Refuses out err refusal code
+system_refused {out = out} {err = err} refusal code h untouched told e =
+    subst (λ n. Refuses out err refusal n) (sym e) (of_the_system h untouched told)
 
-pub printed_fault : {W : Type 0} (contents : W → Option (List ℕ)) (before mid after : Counted W) (err : Taken)
-    (job program input : List ℕ) (fault : Fault) (outcome : Option Fault) (wrote : List ℕ → Type 0)
-    (line : Result (Vec ℕ Global) AllocError) (status : ℕ)
-    → IsJob job program input → HasOutcome program input wrote (mid ≡ before) outcome → Some fault ≡ outcome
-    → IfOk line (λ l. l.items ≡ fault_line fault.kind fault.at)
-    → MatchResult line (λ l. Prints (taken contents mid after) err l.items 2 status) (λ _. HasNoMemory (taken contents mid after) err status)
-    → Printed job (taken contents before after) err status
-printed_fault contents before mid after err job program input fault outcome wrote line status split has e made printed =
-    let h : HasOutcome program input wrote (mid ≡ before) (Some fault) = subst (λ o. HasOutcome program input wrote (mid ≡ before) o) (sym e) has in
-    made_line contents before mid after err job program input (has_fault fault.kind fault.at) line status split h.0 h.1 made printed
+-- a refusal of the job whose line was printed
+pub job_refused : {out err : Taken} (refusal : Refusal) (line : List ℕ) (first status : ℕ) → is_of_the_system refusal ≡ false → line ≡ refusal_line refusal
+    → first ≡ status_of_refusal refusal → Prints out err line first status → Refuses out err refusal status
+job_refused {out = out} {err = err} refusal line first status h is e printed =
+    of_the_job h (subst (λ n. Prints out err (refusal_line refusal) n status) e (subst (λ l. Prints out err l first status) is printed))
 
-other_error : (program input : List ℕ) (wrote : List ℕ → Type 0) (untouched failed : Type 0) (refusal : Refusal) → refusal ≢ NoMemory → refusal ≢ Output
-    → HasError program input wrote untouched failed refusal → Means program input (is_refused refusal) × untouched
-other_error program input wrote untouched failed NoMemory a b h = absurd (a refl)
-other_error program input wrote untouched failed Output a b h = absurd (b refl)
-other_error program input wrote untouched failed refusal a b h = h
+-- a job that could not be read
+pub read_refused : {words : ℕ} {reader : Given} {out err : Taken} (refusal : Refusal) (code : ℕ) → words ≤ 1 → HasRead reader (Err refusal) → out.nothing
+    → WasTold err (refusal_line refusal) → code ≡ status_of_refusal refusal → Answered words reader out err code
+read_refused NoMemory code few h untouched told e = out_of_memory few h (system_refused NoMemory code refl untouched told e)
+read_refused Read code few h untouched told e = unread few h (system_refused Read code refl untouched told e)
+read_refused refusal code few h untouched told e = absurd h
 
-pub printed_refusal : {W : Type 0} (contents : W → Option (List ℕ)) (before mid after : Counted W) (err : Taken)
-    (job program input : List ℕ) (refusal error : Refusal) (wrote : List ℕ → Type 0) (failed : Type 0)
-    (line : Result (Vec ℕ Global) AllocError) (status : ℕ)
-    → IsJob job program input → HasError program input wrote (mid ≡ before) failed error → refusal ≡ error → refusal ≢ NoMemory → refusal ≢ Output
-    → IfOk line (λ l. l.items ≡ refusal_line refusal)
-    → MatchResult line (λ l. Prints (taken contents mid after) err l.items 1 status) (λ _. HasNoMemory (taken contents mid after) err status)
-    → Printed job (taken contents before after) err status
-printed_refusal contents before mid after err job program input refusal error wrote failed line status split has e a b made printed =
-    let h = other_error program input wrote (mid ≡ before) failed refusal a b
-    (subst (λ r. HasError program input wrote (mid ≡ before) failed r) (sym e) has) in
-    made_line contents before mid after err job program input (is_refused refusal) line status split h.0 h.1 made printed
+-- what is printed for a job whose meaning leaves the writer as it was
+module _ {W : Type 0} (contents : W → Option (List ℕ)) (before mid after : Counted W) (err : Taken)
+    (job program input : List ℕ) (split : IsJob job program input) where
+  -- a line that could be made is printed as the meaning, and else memory is refused
+  made_line : (m : Meaning) (bytes : List ℕ) (line : Result (Vec ℕ Global) AllocError) (first status : ℕ)
+      → Means program input m → mid ≡ before
+      → ((out : Taken) → Prints out err bytes first status → PrintsMeaning out err m status)
+      → IfOk line (λ l. l.items ≡ bytes)
+      → MatchResult line (λ l. Prints (taken contents mid after) err l.items first status) (λ _. Refuses (taken contents mid after) err NoMemory status)
+      → Printed job (taken contents before after) err status
+  made_line m bytes (Ok l) first status means same as_meaning made printed =
+      subst (λ w. Printed job (taken contents w after) err status) same
+      (meant program input m split means
+      (as_meaning (taken contents mid after) (subst (λ b. Prints (taken contents mid after) err b first status) made printed)))
+  made_line m bytes (Err e) first status means same as_meaning made printed =
+      subst (λ w. Printed job (taken contents w after) err status) same (unfinished printed)
 
--- want of memory
-pub printed_nothing : {W : Type 0} (contents : W → Option (List ℕ)) (before after : Counted W) (err : Taken)
-    (job program input : List ℕ) (error : Refusal) (wrote : List ℕ → Type 0) (failed : Type 0) (status : ℕ)
-    → HasError program input wrote (after ≡ before) failed error → NoMemory ≡ error → WasTold err (refusal_line NoMemory) → status ≡ 4
-    → Printed job (taken contents before after) err status
-printed_nothing contents before after err job program input error wrote failed status has e told s =
-    unfinished (subst (λ r. HasError program input wrote (after ≡ before) failed r) (sym e) has, told, s)
+  pub printed_fault : (fault : Fault) (outcome : Option Fault) (line : Result (Vec ℕ Global) AllocError) (status : ℕ)
+      → HasOutcome program input (taken contents before mid) outcome → Some fault ≡ outcome
+      → IfOk line (λ l. l.items ≡ fault_line fault.kind fault.at)
+      → MatchResult line (λ l. Prints (taken contents mid after) err l.items 2 status) (λ _. Refuses (taken contents mid after) err NoMemory status)
+      → Printed job (taken contents before after) err status
+  printed_fault fault outcome line status has e made printed =
+      let h : HasOutcome program input (taken contents before mid) (Some fault) =
+      subst (λ o. HasOutcome program input (taken contents before mid) o) (sym e) has in
+      made_line (has_fault fault.kind fault.at) (fault_line fault.kind fault.at) line 2 status h.0 h.1 (λ out p. p) made printed
 
--- a value's line that could not be written
-pub printed_beginning : (out err : Taken) (job program input : List ℕ) (error : Refusal) (status : ℕ)
-    → IsJob job program input → HasError program input out.these out.nothing out.failed error → Output ≡ error
-    → WasTold err (refusal_line Output) → status ≡ 4 → Printed job out err status
-printed_beginning out err job program input error status split has e told s =
-    let h : HasError program input out.these out.nothing out.failed Output =
-    subst (λ r. HasError program input out.these out.nothing out.failed r) (sym e) has in
-    meant program input (has_value h.0) split h.3 (cut_off_line status (h.1, h.2, h.4, h.5, h.6) told s)
+  job_error : (refusal : Refusal) → is_of_the_system refusal ≡ false → HasError program input (taken contents before mid) refusal
+      → Means program input (is_refused refusal) × (mid ≡ before)
+  job_error NoMemory f h = absurd (cc)
+  job_error Output f h = absurd (cc)
+  job_error refusal f h = h
 
--- a value's line that was written
-pub printed_value : (out err : Taken) (job program input : List ℕ) (outcome : Option Fault)
-    → IsJob job program input → HasOutcome program input out.these out.nothing outcome → None ≡ outcome
-    → err.nothing → Printed job out err 0
-printed_value out err job program input outcome split has e silent =
-    let h : HasOutcome program input out.these out.nothing None =
-    subst (λ o. HasOutcome program input out.these out.nothing o) (sym e) has in
-    meant program input (has_value h.0) split h.1 (written h.2 silent)
+  -- the job is at fault
+  pub printed_refusal : (refusal error : Refusal) (line : Result (Vec ℕ Global) AllocError) (first status : ℕ)
+      → HasError program input (taken contents before mid) error → refusal ≡ error → is_of_the_system refusal ≡ false → first ≡ status_of_refusal refusal
+      → IfOk line (λ l. l.items ≡ refusal_line refusal)
+      → MatchResult line (λ l. Prints (taken contents mid after) err l.items first status) (λ _. Refuses (taken contents mid after) err NoMemory status)
+      → Printed job (taken contents before after) err status
+  printed_refusal refusal error line first status has e f s made printed =
+      let h = job_error refusal f (subst (λ r. HasError program input (taken contents before mid) r) (sym e) has) in
+      made_line (is_refused refusal) (refusal_line refusal) line first status h.0 h.1
+      (λ out p. job_refused refusal (refusal_line refusal) first status f refl s p) made printed
+
+module _ (out err : Taken) (job program input : List ℕ) (split : IsJob job program input) where
+  -- the system is at fault
+  system_error : (refusal : Refusal) (status : ℕ) → is_of_the_system refusal ≡ true → HasError program input out refusal
+      → WasTold err (refusal_line refusal) → status ≡ status_of_refusal refusal → Printed job out err status
+  system_error NoMemory status f has told s = unfinished (system_refused NoMemory status f has told s)
+  system_error Output status f has told s = meant program input (has_value has.0) split has.1 (cut_off_line status has.2 told s)
+  system_error refusal status f has told s =
+      meant program input (is_refused refusal) split has.0 (system_refused refusal status f has.1 told s)
+
+  pub printed_system_error : (refusal error : Refusal) (status : ℕ) → HasError program input out error → refusal ≡ error → is_of_the_system refusal ≡ true
+      → WasTold err (refusal_line refusal) → status ≡ status_of_refusal refusal → Printed job out err status
+  printed_system_error refusal error status has e f told s =
+      system_error refusal status f (subst (λ r. HasError program input out r) (sym e) has) told s
+
+  -- a value's line that was written
+  pub printed_value : (outcome : Option Fault) → HasOutcome program input out outcome → None ≡ outcome → err.nothing → Printed job out err 0
+  printed_value outcome has e silent =
+      let h : HasOutcome program input out None = subst (λ o. HasOutcome program input out o) (sym e) has in
+      meant program input (has_value h.0) split h.1 (written h.2 silent)

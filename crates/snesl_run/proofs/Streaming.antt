@@ -32,9 +32,9 @@ consumes_more (Some us) None c xs ys p q = absurd p
 consumes_more (Some us) (Some vs) None xs ys p q = absurd q
 consumes_more (Some us) (Some vs) (Some ws) xs ys p q = p ∙ ap (λ l. xs ++ l) q ∙ sym (append_assoc xs ys ws)
 
--- a call that failed is seen in the count
+-- one call failed, where none had before
 pub failed_once : (n m k : ℕ) → m ≡ n → k ≡ one_more m → HasFailed n k
-failed_once n m k e f = grind arith
+failed_once n m k e f = f ∙ ap one_more e
 
 -- what `&s[n..]` holds
 pub rest_is : (l : List ℕ) (n : ℕ) → take (length l - n) (drop n l) ≡ drop n l

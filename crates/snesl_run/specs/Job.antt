@@ -25,8 +25,12 @@ pub data IsJob : List ℕ → List ℕ → List ℕ → Type 0 where
   -- no line is the separator
   program_alone : (job : List ℕ) → ((n : ℕ) → NoSeparatorBefore n job) → IsJob job job []
 
--- a job is split in one way
+-- no job is split in two ways
 abbrev pub HaveOneJob : Type 0
 HaveOneJob =
     (job program input program' input' : List ℕ) → IsJob job program input → IsJob job program' input'
     → (program ≡ program') × (input ≡ input')
+
+-- each job is split in some way
+abbrev pub HaveSomeJob : Type 0
+HaveSomeJob = (job : List ℕ) → (program : List ℕ) × (input : List ℕ) × IsJob job program input

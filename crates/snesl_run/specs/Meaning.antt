@@ -37,6 +37,10 @@ pub data Means (text input : List ℕ) : Meaning → Type 0 where
       → InputMeans declared.inputs input (spells environment)
       → Means text input (meaning_of (program_value text program environment))
 
--- a program and an input text have one meaning
+-- no program and input text have two meanings
 abbrev pub HaveOneMeaning : Type 0
 HaveOneMeaning = (program input : List ℕ) (m n : Meaning) → Means program input m → Means program input n → m ≡ n
+
+-- a program and an input text have a meaning
+abbrev pub HaveSomeMeaning : Type 0
+HaveSomeMeaning = (program input : List ℕ) → (m : Meaning) × Means program input m

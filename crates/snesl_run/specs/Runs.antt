@@ -7,6 +7,7 @@ use Rattle.snesl_values.specs.declared.refusal.Refusal.TheVariants.{NoMemory, Ou
 use Rattle.snesl_values.specs.Values.{Value}
 use Rattle.snesl_values.specs.Text.{text}
 use Rattle.snesl_run.specs.Meaning.{Means, is_refused, has_value, has_fault}
+use Rattle.snesl_run.specs.Streams.{Taken, IsWhole, IsCutOff}
 use Rattle.snesl_run.specs.declared.report.Report.{Report}
 use Rattle.snesl_run.specs.declared.report.RunError.{RunError}
 
@@ -23,23 +24,21 @@ abbrev pub value_line : Value → List ℕ
 value_line v = text v ++ 10 ∷ []
 
 -- no fault: the value's line was written; a fault: it is that of the program, and nothing was written
-abbrev pub HasOutcome : (program input : List ℕ) (wrote : List ℕ → Type 0) (untouched : Type 0) → Option Fault → Type 0
-HasOutcome program input wrote untouched None = (v : Value) × Means program input (has_value v) × wrote (value_line v)
-HasOutcome program input wrote untouched (Some fault) = Means program input (has_fault fault.kind fault.at) × untouched
+abbrev pub HasOutcome : (program input : List ℕ) → Taken → Option Fault → Type 0
+HasOutcome program input out None = (v : Value) × Means program input (has_value v) × IsWhole out (value_line v)
+HasOutcome program input out (Some fault) = Means program input (has_fault fault.kind fault.at) × out.nothing
 
 -- want of memory leaves the writer untouched; a failed writer has taken a beginning of the value's line;
 -- any other refusal is that of the program and its input, and leaves the writer untouched
-abbrev pub HasError : (program input : List ℕ) (wrote : List ℕ → Type 0) (untouched failed : Type 0) → Refusal → Type 0
-HasError program input wrote untouched failed NoMemory = untouched
-HasError program input wrote untouched failed Output =
-    (v : Value) × (front : List ℕ) × (rest : List ℕ) × Means program input (has_value v) × (value_line v ≡ front ++ rest) × wrote front × failed
-HasError program input wrote untouched failed refusal = Means program input (is_refused refusal) × untouched
+abbrev pub HasError : (program input : List ℕ) → Taken → Refusal → Type 0
+HasError program input out NoMemory = out.nothing
+HasError program input out Output = (v : Value) × Means program input (has_value v) × IsCutOff out (value_line v)
+HasError program input out refusal = Means program input (is_refused refusal) × out.nothing
 
--- what a run answers: `wrote bytes` says that the writer took these bytes, `untouched` that it is as before,
--- `failed` that a write failed
-abbrev pub HasRun : (program input : List ℕ) (wrote : List ℕ → Type 0) (untouched failed : Type 0) → Result Report RunError → Type 0
-HasRun program input wrote untouched failed (Ok report) = HasOutcome program input wrote untouched (outcome_of report)
-HasRun program input wrote untouched failed (Err error) = HasError program input wrote untouched failed (refusal_of error)
+-- what a run does to the writer, and answers
+abbrev pub HasRun : (program input : List ℕ) → Taken → Result Report RunError → Type 0
+HasRun program input out (Ok report) = HasOutcome program input out (outcome_of report)
+HasRun program input out (Err error) = HasError program input out (refusal_of error)
 
 -- what is known before the first write: the value's line or the fault; or a refusal that is that of the program and its
 -- input, unless memory ran out

@@ -2,7 +2,7 @@
 use Rattle.std.specs.Prelude.{◌≡◌, ℕ, ◌⊎◌, List, ◌++◌, Bool, true, false, Option}
 use Rattle.std.specs.Io.KnownBytes.{Appends, Consumes, IsAtEnd}
 use Rattle.snesl_values.specs.declared.counted.Counted.{Counted}
-use Rattle.snesl_values.specs.Counted.{counted_inner, failures_of, HasFailed}
+use Rattle.snesl_values.specs.Counted.{counted_inner, failures_of, HasWorked, HasFailed}
 
 -- what a writer took
 pub record Taken : Type 1 where
@@ -10,7 +10,9 @@ pub record Taken : Type 1 where
   pub nothing : Type 0
   -- it took these bytes
   pub these : List ℕ → Type 0
-  -- a write failed
+  -- no call failed
+  pub worked : Type 0
+  -- one call failed
   pub failed : Type 0
 
 -- what a reader gave
@@ -21,7 +23,9 @@ pub record Given : Type 1 where
   pub these : List ℕ → Type 0
   -- it is at its end
   pub ended : Type 0
-  -- a read failed
+  -- no call failed
+  pub worked : Type 0
+  -- one call failed
   pub failed : Type 0
 
 -- the writer before a call and after it, by the bytes that it holds where these are known
@@ -29,6 +33,7 @@ abbrev pub taken : {W : Type 0} → (W → Option (List ℕ)) → Counted W → 
 taken contents old new = record {
   nothing = new ≡ old;
   these = λ bytes. Appends (contents (counted_inner old)) (contents (counted_inner new)) bytes;
+  worked = HasWorked (failures_of old) (failures_of new);
   failed = HasFailed (failures_of old) (failures_of new);
 }
 
@@ -38,18 +43,23 @@ given remaining old new = record {
   nothing = new ≡ old;
   these = λ bytes. Consumes (remaining (counted_inner old)) (remaining (counted_inner new)) bytes;
   ended = IsAtEnd (remaining (counted_inner new));
+  worked = HasWorked (failures_of old) (failures_of new);
   failed = HasFailed (failures_of old) (failures_of new);
 }
 
--- the writer took a beginning of the bytes, and then a write failed
+-- the writer took all bytes, and no call failed
+abbrev pub IsWhole : Taken → List ℕ → Type 0
+IsWhole out bytes = out.these bytes × out.worked
+
+-- the writer took a beginning of the bytes, and one call failed
 abbrev pub IsCutOff : Taken → List ℕ → Type 0
 IsCutOff out bytes = (front : List ℕ) × (rest : List ℕ) × (bytes ≡ front ++ rest) × out.these front × out.failed
 
 -- all bytes were taken, or they were cut off
 abbrev pub HasSent : Taken → List ℕ → Bool → Type 0
-HasSent out bytes true = out.these bytes
+HasSent out bytes true = IsWhole out bytes
 HasSent out bytes false = IsCutOff out bytes
 
--- an attempt to send the bytes was made: each was taken, or they were cut off
+-- an attempt to send the bytes was made: all were taken, or they were cut off
 abbrev pub WasTold : Taken → List ℕ → Type 0
-WasTold out bytes = out.these bytes ⊎ IsCutOff out bytes
+WasTold out bytes = IsWhole out bytes ⊎ IsCutOff out bytes

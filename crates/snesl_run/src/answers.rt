@@ -2,12 +2,11 @@
 
 ghost use Rattle.std.specs.Prelude.{length, MatchResult};
 ghost use Rattle.snesl_run.specs.Streams.{given, taken};
-ghost use Rattle.snesl_run.specs.Prints.{Answered, Printed, Prints, HasNoMemory};
+ghost use Rattle.snesl_run.specs.Prints.{Answered, Printed, Prints, Refuses};
+ghost use Rattle.snesl_values.specs.declared.refusal.Refusal.TheVariants.{NoMemory};
 
 use crate::job::split;
-use crate::lines::{
-    BAD_CONFIG_LINE, NO_MEMORY_LINE, OUTPUT_LINE, READ_LINE, fault_line, refusal_line,
-};
+use crate::lines::{BAD_CONFIG_LINE, fault_line, refusal_line};
 use crate::reading::read_job;
 use crate::runs::run;
 use crate::send::{complain, print};
@@ -23,9 +22,10 @@ use std::io::{Read, Write};
 /// `refused N at K` or `refused N` (1). A word beyond the program's name is `refused 10` (1), and
 /// then the job is not read.
 ///
-/// `refused N` goes to `err`, where that can be written, and the status is 4, where memory was
-/// refused (11), `out` could not be written (12) or `job` could not be read (14). No call of a
-/// reader or a writer that failed is tried again.
+/// A refusal of the system goes to `err` as `refused N`, where that can be written, with status 4:
+/// memory was refused (11), `out` could not be written (12) or `job` could not be read (14). No call
+/// of a reader or a writer that failed is tried again: of each of the three at most one call failed,
+/// of `job` only where 14 is said, and of `out` only where 12 is.
 ///
 /// At most 65,536 + 5 + 16,777,217 bytes of the job are read, since no more decides the answer: a
 /// program at its limit, the longest separator's line, and one byte over the input text's limit.
@@ -40,12 +40,11 @@ pub fn answer<R: Read, W: Write, E: Write>(
         (taken W.contents out.old out.new) (taken E.contents err.old err.new) result }
 {
     if words.len() > 1 {
-        return print(BAD_CONFIG_LINE, 1, out, err);
+        return print(BAD_CONFIG_LINE, Refusal::BadConfig.status(), out, err);
     }
     match read_job(alloc, job) {
         Ok(job) => print_meaning(alloc, &job, out, err),
-        Err(Refusal::Read) => complain(READ_LINE, err),
-        Err(_) => complain(NO_MEMORY_LINE, err),
+        Err(refusal) => complain(refusal, err),
     }
 }
 
@@ -64,11 +63,14 @@ fn print_meaning<W: Write, E: Write>(
             None => 0,
             Some(fault) => print_made(fault_line(alloc, fault), 2, out, err),
         },
-        Err(error) => match error.refusal() {
-            Refusal::NoMemory => complain(NO_MEMORY_LINE, err),
-            Refusal::Output => complain(OUTPUT_LINE, err),
-            refusal => print_made(refusal_line(alloc, refusal), 1, out, err),
-        },
+        Err(error) => {
+            let refusal = error.refusal();
+            if refusal.is_of_the_system() {
+                complain(refusal, err)
+            } else {
+                print_made(refusal_line(alloc, refusal), refusal.status(), out, err)
+            }
+        }
     }
 }
 
@@ -81,10 +83,10 @@ fn print_made<W: Write, E: Write>(
 ) -> u8
     ensures { MatchResult line
         (λ line. Prints (taken W.contents out.old out.new) (taken E.contents err.old err.new) line.items status result)
-        (λ _. HasNoMemory (taken W.contents out.old out.new) (taken E.contents err.old err.new) result) }
+        (λ _. Refuses (taken W.contents out.old out.new) (taken E.contents err.old err.new) NoMemory result) }
 {
     match line {
         Ok(line) => print(&line, status, out, err),
-        Err(_) => complain(NO_MEMORY_LINE, err),
+        Err(_) => complain(Refusal::NoMemory, err),
     }
 }

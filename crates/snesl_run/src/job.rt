@@ -1,7 +1,7 @@
 // The parts of a job.
 
 ghost use Rattle.std.specs.Prelude.{◌≡◌, ◌==◌, MatchOption, List, ℕ, position};
-ghost use Rattle.snesl_run.specs.Job.{BeginsWithSeparator, IsJob, HaveOneJob};
+ghost use Rattle.snesl_run.specs.Job.{BeginsWithSeparator, IsJob, HaveOneJob, HaveSomeJob};
 
 // The program and the input text of a job.
 pub(crate) fn split(job: &[u8]) -> (&[u8], &[u8])
@@ -43,7 +43,8 @@ fn line_len(bytes: &[u8]) -> Option<usize>
     bytes.iter().position(|b| *b == b'\n')
 }
 
-/// A law and no code to run: a job has one program and one input text.
+/// A law and no code to run: a job has a program and an input text, and no others.
 pub fn one_job()
-    ensures { HaveOneJob }
+    ensures one { HaveOneJob }
+    ensures some { HaveSomeJob }
 {}

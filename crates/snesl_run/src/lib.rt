@@ -14,7 +14,6 @@ pub mod send;
 pub use answers::answer;
 pub use cuts::cut_changes_nothing;
 pub use job::one_job;
-pub use lines::{NO_MEMORY_LINE, OUTPUT_LINE};
 pub use meaning::one_meaning;
 pub use report::{Report, RunError};
 pub use runs::run;

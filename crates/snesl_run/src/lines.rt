@@ -1,22 +1,29 @@
 // The lines that are printed.
 
-ghost use Rattle.std.specs.Prelude.{◌≡◌, ◌++◌, IfOk, OnOk};
+ghost use Rattle.std.specs.Prelude.{◌≡◌, ◌++◌, IfOk, OnOk, IsTrue};
+ghost use Rattle.snesl_values.specs.Refusals.{is_of_the_system};
 ghost use Rattle.snesl_run.specs.Prints.{fault_line, refusal_line, place_text};
 
 use itoa::Buffer;
 use snesl_values::{Fault, Refusal};
 use std::alloc::{AllocError, Global};
 
-// These lines stand here whole, so that they can be printed where memory is refused.
+// This line and the next ones stand here whole, so that they can be said where memory is refused.
 pub(crate) const BAD_CONFIG_LINE: &[u8] = b"refused 10\n";
 
-pub(crate) const READ_LINE: &[u8] = b"refused 14\n";
-
-/// What is said where memory was refused.
-pub const NO_MEMORY_LINE: &[u8] = b"refused 11\n";
-
-/// What is said where standard output could not be written.
-pub const OUTPUT_LINE: &[u8] = b"refused 12\n";
+// The line of a refusal of the system.
+pub(crate) fn system_line(refusal: Refusal) -> &'static [u8]
+    requires { IsTrue (is_of_the_system refusal) }
+    ensures { result.now ≡ refusal_line refusal }
+{
+    match refusal {
+        Refusal::NoMemory => b"refused 11\n",
+        Refusal::Output => b"refused 12\n",
+        Refusal::NoThread => b"refused 13\n",
+        Refusal::Read => b"refused 14\n",
+        _ => b"refused 15\n",
+    }
+}
 
 // `fault N at K`.
 pub(crate) fn fault_line(alloc: Global, fault: Fault) -> Result<Vec<u8>, AllocError>

@@ -1,8 +1,6 @@
 // Running a program for an input text.
 
-ghost use Rattle.snesl_values.specs.Counted.{counted_inner, failures_of, HasFailed};
-ghost use Rattle.std.specs.Prelude.{◌≡◌};
-ghost use Rattle.std.specs.Io.KnownBytes.{Appends};
+ghost use Rattle.snesl_run.specs.Streams.{taken};
 ghost use Rattle.snesl_run.specs.Runs.{HasRun, HasEvaluated};
 
 use crate::report::{Report, RunError};
@@ -14,26 +12,23 @@ use std::alloc::Global;
 use std::io::Write;
 
 /// Writes the value of a program for an input text to `out`, as one line, or answers the fault that
-/// the program ends in. Nothing is written where there is a fault or a refusal of the program.
+/// the program ends in. Nothing is written where there is a fault or a refusal of the program. No
+/// call of `out` failed where a report is answered.
 ///
 /// # Errors
 ///
 /// - A refusal from 1 to 9: that of the program text, else of its typing, else of the input text.
 /// - `NoMemory`: memory was refused. Nothing was written, since memory is taken before the first
 ///   write.
-/// - `Output`: a write failed or took no byte. The writer has taken a beginning of the line, and no
-///   second try was made, at an interrupted call either.
+/// - `Output`: a write failed or took no byte, and no other call failed. The writer has taken a
+///   beginning of the line, and no second try was made, at an interrupted call either.
 pub fn run<W: Write>(
     alloc: Global,
     program: &[u8],
     input: &[u8],
     out: &mut Counted<W>,
 ) -> Result<Report, RunError>
-    ensures { HasRun program.now input.now
-        (λ bytes. Appends (W.contents (counted_inner out.old)) (W.contents (counted_inner out.new)) bytes)
-        (out.new ≡ out.old)
-        (HasFailed (failures_of out.old) (failures_of out.new))
-        result }
+    ensures { HasRun program.now input.now (taken W.contents out.old out.new) result }
 {
     match evaluated(alloc, program, input)? {
         Err(fault) => Ok(Report {

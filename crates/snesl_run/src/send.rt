@@ -1,11 +1,12 @@
 // Sending bytes to a writer.
 
-ghost use Rattle.std.specs.Prelude.{◌≡◌};
+ghost use Rattle.std.specs.Prelude.{◌≡◌, IsTrue};
+ghost use Rattle.snesl_values.specs.Refusals.{is_of_the_system, status_of_refusal};
 ghost use Rattle.snesl_run.specs.Streams.{taken, HasSent, WasTold};
-ghost use Rattle.snesl_run.specs.Prints.{Prints};
+ghost use Rattle.snesl_run.specs.Prints.{Prints, refusal_line};
 
-use crate::lines::OUTPUT_LINE;
-use snesl_values::Counted;
+use crate::lines::system_line;
+use snesl_values::{Counted, Refusal};
 use std::io::Write;
 
 // Whether the writer took all bytes. A write that fails, or that takes no byte, ends it: there is
@@ -23,8 +24,8 @@ pub(crate) fn send<W: Write>(out: &mut Counted<W>, bytes: &[u8]) -> bool
     true
 }
 
-// Prints a line, and gives the exit status: this one, or 4 where the line could not be written,
-// which is said on `err`.
+// Prints a line, and gives the exit status: this one, or that of `Output` where the line could not
+// be written, which is said on `err`.
 pub(crate) fn print<W: Write, E: Write>(
     line: &[u8],
     status: u8,
@@ -36,16 +37,17 @@ pub(crate) fn print<W: Write, E: Write>(
     if send(out, line) {
         status
     } else {
-        complain(OUTPUT_LINE, err)
+        complain(Refusal::Output, err)
     }
 }
 
-/// Says a line on `err`, where that can be written, and returns the exit status of a run that could
-/// not be finished, 4.
-pub fn complain<E: Write>(line: &[u8], err: &mut Counted<E>) -> u8
-    ensures status { result ≡ 4 }
-    ensures told { WasTold (taken E.contents err.old err.new) line.now }
+/// Says a refusal of the system as a line on `err`, where that can be written, and returns its exit
+/// status, 4.
+pub fn complain<E: Write>(refusal: Refusal, err: &mut Counted<E>) -> u8
+    requires { IsTrue (is_of_the_system refusal) }
+    ensures status { result ≡ status_of_refusal refusal }
+    ensures told { WasTold (taken E.contents err.old err.new) (refusal_line refusal) }
 {
-    let _ = send(err, line);
-    4
+    let _ = send(err, system_line(refusal));
+    refusal.status()
 }

@@ -4,10 +4,10 @@ use Rattle.snesl_lexer.specs.declared.token.Kind.TheVariants.{Int, Function, Lef
 use Rattle.snesl_lexer.specs.declared.token.Token.{Token}
 use Rattle.snesl_tree.specs.declared.span.Span.{Span}
 use Rattle.snesl_tree.specs.Tree.{Tree, name, depth, TypeTree, int_type, type_depth, Typed, DeclarationTree, declares_input, declares_function, ProgramTree}
-use Rattle.snesl_expressions.specs.Grammar.{token, name_token, name_rule}
+use Rattle.snesl_grammar.specs.Expressions.{token, name_token, name_rule}
 use Rattle.snesl_expressions.specs.Readers.{Reader}
-use Rattle.snesl_syntax.specs.Types.{WholeType, int_rule}
-use Rattle.snesl_syntax.specs.Grammar.{typed, parameters_depth, declaration_depth, declarations_depth, program_depth, WholeParameters, one_parameter, more_parameters, WholeDeclaration, input_rule, function_rule, more_declarations, WholeProgram, program_rule, FrontParameter, no_parameter, parameter_name, parameter_type, FrontParameters, first_parameter, next_parameter, FrontDeclaration, input_word, input_name, input_type, function_word, function_name, function_parameters, function_closed, function_result, function_body, FrontProgram, in_declaration, in_expression}
+use Rattle.snesl_grammar.specs.Types.{WholeType, int_rule}
+use Rattle.snesl_grammar.specs.Programs.{typed, parameters_depth, declaration_depth, declarations_depth, program_depth, WholeParameters, one_parameter, more_parameters, WholeDeclaration, input_rule, function_rule, more_declarations, WholeProgram, program_rule, FrontParameter, no_parameter, parameter_name, parameter_type, FrontParameters, first_parameter, next_parameter, FrontDeclaration, input_word, input_name, input_type, function_word, function_name, function_parameters, function_closed, function_result, function_body, FrontProgram, in_declaration, in_expression}
 use Rattle.snesl_syntax.specs.Programs.{programs}
 use Rattle.snesl_syntax.proofs.TypesRead.{type_depth_pos, types_are_read}
 use Rattle.snesl_syntax.proofs.Exact.{IsReaderOfPrograms}

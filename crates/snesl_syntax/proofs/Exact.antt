@@ -7,7 +7,7 @@ use Rattle.snesl_values.specs.declared.refusal.Refusal.TheVariants.{Syntax}
 use Rattle.snesl_tree.specs.Tree.{ProgramTree}
 use Rattle.snesl_expressions.specs.Readers.{Stop, unexpected, beyond_depth, Reader, step, bind, go}
 use Rattle.snesl_expressions.proofs.Reading.{bind_ok, within_unexpected, within_deeper, goes_on, ends_with, go_more, go_front}
-use Rattle.snesl_syntax.specs.Grammar.{WholeProgram, FrontProgram, program_depth}
+use Rattle.snesl_grammar.specs.Programs.{WholeProgram, FrontProgram, program_depth}
 use Rattle.snesl_syntax.specs.Answer.{at_end, refusal_of, answer_from, answer}
 use Rattle.snesl_syntax.specs.Parse.{BeginsSoFar, Answers, accepted, wrong, too_deep, ended}
 use Rattle.snesl_expressions.specs.Readers.{IsReaderOf}

@@ -8,3 +8,4 @@ pub mod Piles
 pub mod ProgramsRead
 pub mod Parts
 pub mod Verdicts
+pub mod SomeAnswer

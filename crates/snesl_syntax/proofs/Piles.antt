@@ -4,7 +4,7 @@ use Rattle.std.proofs.lemmas.Bool.{lt-leb}
 use Rattle.snesl_tree.specs.Tree.{TypeTree}
 use Rattle.snesl_expressions.specs.Readers.{beyond_depth, within}
 use Rattle.snesl_syntax.specs.declared.types.TypeForm.{TypeForm}
-use Rattle.snesl_expressions.specs.Limits.{greatest_depth}
+use Rattle.snesl_grammar.specs.Limits.{greatest_depth}
 use Rattle.snesl_syntax.specs.Types.{TypeFrame, type_begins, type_ended, open_type, finished_type}
 use Rattle.snesl_syntax.specs.TypeMachine.{frame_of, piled, frames_of}
 

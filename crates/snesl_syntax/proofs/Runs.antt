@@ -4,11 +4,12 @@ use Rattle.snesl_lexer.specs.declared.token.Kind.TheVariants.{Input, Function, L
 use Rattle.snesl_lexer.specs.declared.token.Token.{Token}
 use Rattle.snesl_tree.specs.declared.span.Span.{Span}
 use Rattle.snesl_tree.specs.Tree.{Tree, depth, TypeTree, type_depth, Typed, DeclarationTree, declares_input, declares_function, ProgramTree}
-use Rattle.snesl_expressions.specs.Grammar.{token, name_token, Whole, Front}
+use Rattle.snesl_grammar.specs.Expressions.{token, name_token, Whole, Front}
 use Rattle.snesl_expressions.specs.Readers.{free, Reader, step, go}
 use Rattle.snesl_expressions.proofs.Reading.{bind_ok, within_ok, fits_step, goes_on, steps_on, ends_with}
-use Rattle.snesl_syntax.specs.Types.{WholeType, TypeState, types}
-use Rattle.snesl_syntax.specs.Grammar.{typed, parameters_depth, declaration_depth, declarations_depth, program_depth, WholeParameters, one_parameter, more_parameters, WholeDeclaration, input_rule, function_rule, WholeDeclarations, no_declarations, more_declarations, WholeProgram, program_rule}
+use Rattle.snesl_grammar.specs.Types.{WholeType}
+use Rattle.snesl_syntax.specs.Types.{TypeState, types}
+use Rattle.snesl_grammar.specs.Programs.{typed, parameters_depth, declaration_depth, declarations_depth, program_depth, WholeParameters, one_parameter, more_parameters, WholeDeclaration, input_rule, function_rule, WholeDeclarations, no_declarations, more_declarations, WholeProgram, program_rule}
 use Rattle.snesl_syntax.specs.Programs.{TypeOf, of_input, of_parameter, of_result, Header, ProgramState, between, awaits_input, awaits_input_colon, awaits_function, awaits_open, awaits_parameter, awaits_parameter_colon, awaits_result, in_type, in_body, in_final, carried, or_else, when_whole, body_end, type_end, fixed_move, with_expression, finished_program, programs}
 use Rattle.snesl_expressions.specs.Readers.{IsReaderOf}
 use Rattle.snesl_syntax.proofs.Moves.{free_step, go_carried}

@@ -6,11 +6,12 @@ use Rattle.snesl_lexer.specs.declared.token.Kind.TheVariants.{Name, Input, Funct
 use Rattle.snesl_lexer.specs.declared.token.Token.{Token}
 use Rattle.snesl_tree.specs.declared.span.Span.{Span}
 use Rattle.snesl_tree.specs.Tree.{Tree, depth, TypeTree, type_depth, Typed, DeclarationTree, declares_input, declares_function, ProgramTree}
-use Rattle.snesl_expressions.specs.Grammar.{token, name_token, Whole, Front, nothing}
+use Rattle.snesl_grammar.specs.Expressions.{token, name_token, Whole, Front, nothing}
 use Rattle.snesl_expressions.specs.Readers.{Move, Reader, go}
 use Rattle.snesl_expressions.proofs.Reading.{ends_with, fits_step}
-use Rattle.snesl_syntax.specs.Types.{WholeType, FrontType, TypeState, types}
-use Rattle.snesl_syntax.specs.Grammar.{typed, parameters_depth, declaration_depth, declarations_depth, program_depth, WholeParameters, one_parameter, more_parameters, WholeDeclaration, input_rule, function_rule, WholeDeclarations, no_declarations, more_declarations, WholeProgram, program_rule, FrontParameter, no_parameter, parameter_name, parameter_type, FrontParameters, first_parameter, next_parameter, FrontDeclaration, input_word, input_name, input_type, function_word, function_name, function_parameters, function_closed, function_result, function_body, FrontProgram, in_declaration, in_expression}
+use Rattle.snesl_grammar.specs.Types.{WholeType, FrontType}
+use Rattle.snesl_syntax.specs.Types.{TypeState, types}
+use Rattle.snesl_grammar.specs.Programs.{typed, parameters_depth, declaration_depth, declarations_depth, program_depth, WholeParameters, one_parameter, more_parameters, WholeDeclaration, input_rule, function_rule, WholeDeclarations, no_declarations, more_declarations, WholeProgram, program_rule, FrontParameter, no_parameter, parameter_name, parameter_type, FrontParameters, first_parameter, next_parameter, FrontDeclaration, input_word, input_name, input_type, function_word, function_name, function_parameters, function_closed, function_result, function_body, FrontProgram, in_declaration, in_expression}
 use Rattle.snesl_syntax.specs.Programs.{TypeOf, of_input, of_parameter, of_result, Header, ProgramState, between, awaits_input, awaits_input_colon, awaits_function, awaits_open, awaits_parameter, awaits_parameter_colon, awaits_result, in_type, in_body, in_final, carried, when_whole, span, body_end, type_end, fixed_move, with_expression, programs}
 use Rattle.snesl_syntax.proofs.Moves.{Good, good_or, good_carried, good_when, go_stands}
 use Rattle.snesl_syntax.proofs.TypesRead.{types_are_read}

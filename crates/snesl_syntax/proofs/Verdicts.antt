@@ -1,19 +1,19 @@
 -- From the reader's answer to the grammar's, and to the one for the bytes.
 use Rattle.std.proofs.Common.{◌≡◌, ℕ, ◌≤◌, List, ◌++◌, length, Result, Ok, Err, refl, sym, ◌∙◌, ap, subst, arith}
-use Rattle.std.specs.Result.{IsErrAnd, IfErr}
+use Rattle.std.specs.Result.{IsErrAnd, IfOk, IfErr}
 use Rattle.snesl_values.specs.declared.refusal.Refusal.{Refusal}
 use Rattle.snesl_values.specs.declared.refusal.Refusal.TheVariants.{Lex, NoMemory}
 use Rattle.snesl_lexer.specs.declared.token.Token.{Token}
 use Rattle.snesl_lexer.specs.Lexical.{IsBadOf, Tokens}
 use Rattle.snesl_lexer.proofs.OneReading.{one_tokens, no_both, one_bad}
-use Rattle.snesl_tree.specs.declared.program.Program.{Program}
+use Rattle.snesl_grammar.specs.declared.program.Program.{Program}
 use Rattle.snesl_tree.specs.Tree.{ProgramTree, depth}
-use Rattle.snesl_tree.specs.View.{program_of}
+use Rattle.snesl_grammar.specs.View.{program_of}
 use Rattle.snesl_expressions.specs.Machine.{expressions}
 use Rattle.snesl_syntax.specs.declared.programs.Parsed.{Parsed}
-use Rattle.snesl_expressions.specs.Limits.{greatest_depth}
-use Rattle.snesl_syntax.specs.Limits.{greatest_length}
-use Rattle.snesl_syntax.specs.Grammar.{FrontProgram, program_depth}
+use Rattle.snesl_grammar.specs.Limits.{greatest_length, greatest_depth}
+use Rattle.snesl_grammar.specs.Programs.{FrontProgram, program_depth}
+use Rattle.snesl_grammar.specs.Spelled.{IsSpelled}
 use Rattle.snesl_syntax.specs.Programs.{programs}
 use Rattle.snesl_syntax.specs.Answer.{answer}
 use Rattle.snesl_syntax.specs.Parse.{Answers, accepted, wrong, too_deep, ended, Parses, too_long, bad_byte, read, HaveOneAnswer, BeginsProgram, FrontsBeginPrograms, IsOfText, IsRight, Returns}
@@ -97,3 +97,17 @@ pub right_of_text : (bytes : List ℕ) (x : Result Program Refusal) → IsRight 
 right_of_text bytes (Ok program) right = tt
 right_of_text bytes (Err NoMemory) right = tt
 right_of_text bytes (Err _) right = parsed_of_text right
+
+-- a program that is accepted is spelled by the text
+tokens_spell : {bytes : List ℕ} {tokens : List Token} {found : Result ProgramTree Refusal} → length bytes ≤ greatest_length
+    → Tokens 0 bytes tokens → Answers greatest_depth (length bytes) tokens found → IfOk found (IsSpelled bytes)
+tokens_spell {tokens = tokens} h t (accepted w d) = record { is_short = h; tokens = tokens; are_tokens = t; is_whole = w; is_shallow = d }
+tokens_spell h t (wrong front rest stop so none) = tt
+tokens_spell h t (too_deep front rest stop so never deeper some) = tt
+tokens_spell h t (ended so none) = tt
+
+-- and so it is by a copy of the text
+pub copy_spells : (bytes copy : List ℕ) (tokens : List Token) (program : ProgramTree) → length bytes ≤ greatest_length → Tokens 0 bytes tokens
+    → Answers greatest_depth (length bytes) tokens (Ok program) → copy ≡ bytes → IsSpelled copy program
+copy_spells bytes copy tokens program h t a same =
+    subst (λ l. IsSpelled l program) (sym same) (tokens_spell {found = Ok program} h t a)

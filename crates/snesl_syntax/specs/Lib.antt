@@ -1,6 +1,4 @@
-pub mod Limits
 pub mod Types
-pub mod Grammar
 pub mod Programs
 pub mod TypeMachine
 pub mod ProgramMachine

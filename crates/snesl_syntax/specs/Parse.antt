@@ -4,12 +4,11 @@ use Rattle.snesl_values.specs.declared.refusal.Refusal.{Refusal}
 use Rattle.snesl_values.specs.declared.refusal.Refusal.TheVariants.{TooLong, Lex, Syntax, Deep, NoMemory}
 use Rattle.snesl_lexer.specs.declared.token.Token.{Token}
 use Rattle.snesl_lexer.specs.Lexical.{Tokens, BadAt}
-use Rattle.snesl_tree.specs.declared.program.Program.{Program}
+use Rattle.snesl_grammar.specs.declared.program.Program.{Program}
 use Rattle.snesl_tree.specs.Tree.{ProgramTree}
-use Rattle.snesl_tree.specs.View.{program_of}
-use Rattle.snesl_expressions.specs.Limits.{greatest_depth}
-use Rattle.snesl_syntax.specs.Limits.{greatest_length}
-use Rattle.snesl_syntax.specs.Grammar.{WholeProgram, FrontProgram, program_depth}
+use Rattle.snesl_grammar.specs.View.{program_of}
+use Rattle.snesl_grammar.specs.Limits.{greatest_length, greatest_depth}
+use Rattle.snesl_grammar.specs.Programs.{WholeProgram, FrontProgram, program_depth}
 
 -- each beginning of the tokens begins a program of at most this depth
 abbrev pub BeginsSoFar : ℕ → List Token → Type 0
@@ -43,6 +42,10 @@ pub data Parses : List ℕ → Result ProgramTree Refusal → Type 0 where
 -- no text has two answers
 abbrev pub HaveOneAnswer : Type 0
 HaveOneAnswer = (bytes : List ℕ) (one other : Result ProgramTree Refusal) → Parses bytes one → Parses bytes other → one ≡ other
+
+-- each text has an answer
+abbrev pub HaveSomeAnswer : Type 0
+HaveSomeAnswer = (bytes : List ℕ) → (answer : Result ProgramTree Refusal) × Parses bytes answer
 
 -- a program within the depth begins with the tokens
 abbrev pub BeginsProgram : ℕ → List Token → Type 0

@@ -7,7 +7,7 @@ use Rattle.snesl_tree.specs.declared.span.Span.{Span}
 use Rattle.snesl_tree.specs.Tree.{Tree, TypeTree, Typed, DeclarationTree, declares_input, declares_function, ProgramTree}
 use Rattle.snesl_expressions.specs.Readers.{Move, free, Reader}
 use Rattle.snesl_syntax.specs.Types.{TypeState, types}
-use Rattle.snesl_syntax.specs.Grammar.{typed}
+use Rattle.snesl_grammar.specs.Programs.{typed}
 
 -- what a type is of, behind the declarations that are whole
 pub data TypeOf : Type 0 where

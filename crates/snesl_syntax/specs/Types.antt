@@ -1,44 +1,9 @@
--- Types: which tokens are one, which begin one, and how they are read.
-use Rattle.std.specs.Prelude.{ℕ, suc, ◌≤◌, List, [], ◌∷◌, ◌++◌, length, Option, Some, None}
+-- How types are read.
+use Rattle.std.specs.Prelude.{ℕ, suc, List, [], ◌∷◌, length, Option, Some, None}
 use Rattle.snesl_lexer.specs.declared.token.Kind.{Kind}
 use Rattle.snesl_lexer.specs.declared.token.Kind.TheVariants.{Int, Bool, LeftParen, RightParen, LeftBracket, RightBracket, LeftBrace, RightBrace, Comma}
-use Rattle.snesl_lexer.specs.declared.token.Token.{Token}
-use Rattle.snesl_tree.specs.Tree.{TypeTree, int_type, bool_type, pair_type, vector_type, sequence_type, type_depth}
-use Rattle.snesl_expressions.specs.Grammar.{token}
+use Rattle.snesl_tree.specs.Tree.{TypeTree, int_type, bool_type, pair_type, vector_type, sequence_type}
 use Rattle.snesl_expressions.specs.Readers.{Move, free, Reader}
-
--- the tokens are this type
-pub data WholeType : List Token → TypeTree → Type 0 where
-  -- `int` and `bool` are types
-  int_rule : {at : ℕ} → WholeType (token Int at ∷ []) (int_type at)
-  bool_rule : {at : ℕ} → WholeType (token Bool at ∷ []) (bool_type at)
-  -- `(first, second)` is a pair
-  pair_type_rule : {at : ℕ} (comma closed : ℕ) {ts us : List Token} {first second : TypeTree}
-      → WholeType ts first → WholeType us second
-      → WholeType (token LeftParen at ∷ (ts ++ (token Comma comma ∷ (us ++ (token RightParen closed ∷ []))))) (pair_type at first second)
-  -- `[item]` is a vector
-  vector_rule : {at : ℕ} (closed : ℕ) {ts : List Token} {item : TypeTree}
-      → WholeType ts item → WholeType (token LeftBracket at ∷ (ts ++ (token RightBracket closed ∷ []))) (vector_type at item)
-  -- `{item}` is a sequence
-  sequence_rule : {at : ℕ} (closed : ℕ) {ts : List Token} {item : TypeTree}
-      → WholeType ts item → WholeType (token LeftBrace at ∷ (ts ++ (token RightBrace closed ∷ []))) (sequence_type at item)
-
--- a type of at most this depth begins with the tokens
-pub data FrontType : ℕ → List Token → Type 0 where
-  -- no tokens yet
-  no_type : {deep : ℕ} → FrontType (suc deep) []
-  -- a whole type begins itself
-  whole_type : {deep : ℕ} {ts : List Token} {tree : TypeTree} → WholeType ts tree → type_depth tree ≤ deep → FrontType deep ts
-  -- the tokens end in the first part of a pair
-  pair_type_first : {deep at : ℕ} {ts : List Token} → FrontType deep ts → FrontType (suc deep) (token LeftParen at ∷ ts)
-  -- the tokens end in its second part
-  pair_type_second : {deep at : ℕ} (comma : ℕ) {ts us : List Token} {first : TypeTree}
-      → WholeType ts first → type_depth first ≤ deep → FrontType deep us
-      → FrontType (suc deep) (token LeftParen at ∷ (ts ++ (token Comma comma ∷ us)))
-  -- the tokens end in the item of a vector
-  vector_item : {deep at : ℕ} {ts : List Token} → FrontType deep ts → FrontType (suc deep) (token LeftBracket at ∷ ts)
-  -- the tokens end in the item of a sequence
-  sequence_item : {deep at : ℕ} {ts : List Token} → FrontType deep ts → FrontType (suc deep) (token LeftBrace at ∷ ts)
 
 -- any token may follow a type, none goes on with one that is whole
 abbrev pub MayFollowType : Kind → Type 0

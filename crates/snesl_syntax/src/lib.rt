@@ -7,7 +7,7 @@ mod programs;
 mod types;
 
 pub use parser::{fronts_begin_programs, one_answer, parse};
+pub use snesl_grammar::Program;
 pub use snesl_tree::{
-    Binder, Builtin, Declaration, Expr, Function, Operator, Prefix, Program, Span, Typing,
-    WrittenType,
+    Binder, Builtin, Declaration, Expr, Function, Operator, Prefix, Span, Typing, WrittenType,
 };

@@ -4,17 +4,17 @@ ghost use Rattle.std.specs.Prelude.{◌≡◌, Result, IfOk, IfErr};
 ghost use Rattle.snesl_values.specs.declared.refusal.Refusal.{Refusal};
 ghost use Rattle.snesl_tree.specs.Tree.{ProgramTree};
 ghost use Rattle.snesl_expressions.specs.Machine.{expressions};
-ghost use Rattle.snesl_expressions.specs.Limits.{greatest_depth};
+ghost use Rattle.snesl_grammar.specs.Limits.{greatest_depth};
 ghost use Rattle.snesl_syntax.specs.Programs.{programs};
 ghost use Rattle.snesl_syntax.specs.Answer.{answer};
 ghost use Rattle.snesl_syntax.specs.ProgramMachine.{Finds, FindsOneOf};
-ghost use Rattle.snesl_syntax.specs.Parse.{Answers, Parses, HaveOneAnswer, FrontsBeginPrograms, IsOfText, IsRight, Returns};
+ghost use Rattle.snesl_syntax.specs.Parse.{Answers, Parses, HaveOneAnswer, HaveSomeAnswer, FrontsBeginPrograms, IsOfText, IsRight, Returns};
 
 use crate::limits::GREATEST_LENGTH;
 use crate::programs::{Parsed, ProgramMachine};
 use snesl_expressions::StepError;
+use snesl_grammar::Program;
 use snesl_lexer::{Token, tokens_of};
-use snesl_tree::Program;
 use snesl_values::Refusal;
 use std::alloc::Global;
 
@@ -98,16 +98,18 @@ pub fn parse(alloc: Global, text: &[u8]) -> Result<Program, Refusal>
     }
     let tokens = tokens_of(alloc, text)?;
     let parsed = parse_tokens(alloc, &tokens, text.len())?;
+    let copy = Vec::from_slice(alloc, text)?;
     Ok(Program {
-        text: Vec::from_slice(alloc, text)?,
+        text: copy,
         declarations: parsed.declarations,
         expr: parsed.expr,
     })
 }
 
-/// No text has two answers.
+/// Each text has an answer, and no text has two.
 pub fn one_answer()
-    ensures { HaveOneAnswer }
+    ensures one { HaveOneAnswer }
+    ensures some { HaveSomeAnswer }
 {}
 
 /// The tokens that begin a program of a depth, as the grammar lists them, are those to which others

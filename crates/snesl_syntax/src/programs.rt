@@ -6,7 +6,7 @@ ghost use Rattle.snesl_tree.specs.View.{declaration_of, tree_of, type_tree, type
 ghost use Rattle.snesl_expressions.specs.Readers.{step, within};
 ghost use Rattle.snesl_expressions.specs.Machine.{expressions};
 ghost use Rattle.snesl_expressions.specs.Parsing.{state_of};
-ghost use Rattle.snesl_expressions.specs.Limits.{greatest_depth};
+ghost use Rattle.snesl_grammar.specs.Limits.{greatest_depth};
 ghost use Rattle.snesl_syntax.specs.Programs.{programs, between, awaits_input, awaits_input_colon, awaits_function, awaits_open, awaits_parameter, awaits_parameter_colon, awaits_result, in_type, in_body, in_final, of_input, of_parameter, of_result, carried, type_end, body_end};
 ghost use Rattle.snesl_syntax.specs.TypeMachine.{type_state, Steps};
 ghost use Rattle.snesl_syntax.specs.ProgramMachine.{owner_of, header_of, state_at, program_state, IsThisProgram};
@@ -499,7 +499,14 @@ impl ProgramMachine {
                 })),
                 None => Ok(None),
             },
-            _ => Ok(None),
+            _ => {
+                let_go(point);
+                Ok(None)
+            }
         }
     }
 }
+
+// Lets a value go. The drop of a point, written out in a function that takes one apart, is most of what its proof
+// goes through; here it is one call.
+fn let_go<T: Drop>(_: T) {}

@@ -2,7 +2,7 @@
 
 ghost use Rattle.std.specs.Prelude.{◌≡◌, ◌<◌, ◌↔◌, suc, length, IsTrue, Ok, ◌∷◌};
 ghost use Rattle.snesl_tree.specs.View.{type_tree};
-ghost use Rattle.snesl_expressions.specs.Limits.{greatest_depth};
+ghost use Rattle.snesl_grammar.specs.Limits.{greatest_depth};
 ghost use Rattle.snesl_expressions.specs.Readers.{step, within};
 ghost use Rattle.snesl_syntax.specs.Types.{types, type_begins, type_ended, in_first, in_second, in_vector, in_sequence, open_type};
 ghost use Rattle.snesl_syntax.specs.TypeMachine.{frame_of, frames_of, type_state, Steps, IsWholeType};

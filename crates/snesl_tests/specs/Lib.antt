@@ -1,1 +1,2 @@
+pub mod Faltering
 pub mod Stopping

@@ -1,7 +1,7 @@
 // Each public call once, with ample memory.
 
 use snesl_lexer::{Kind, Token, tokens_of};
-use snesl_run::{NO_MEMORY_LINE, complain, run};
+use snesl_run::{complain, run};
 use snesl_syntax::{Expr, Span, parse};
 use snesl_types::{check, plain};
 use snesl_values::{
@@ -220,7 +220,7 @@ fn runs(rt: HostRuntime) -> Result<(), Fail> {
 #[test]
 fn complaints(rt: HostRuntime) {
     let mut err = Counted::new(Vec::new(rt.alloc()));
-    assert_eq!(rt; complain(NO_MEMORY_LINE, &mut err), 4);
+    assert_eq!(rt; complain(Refusal::NoMemory, &mut err), 4);
     assert_eq!(rt; err.into_inner().as_slice(), b"refused 11\n".as_slice());
 }
 

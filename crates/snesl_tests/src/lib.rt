@@ -1,4 +1,4 @@
-// Tests that cross crates, and the readers and writers that they fail with.
+// Tests of the language that cross crates, and the readers and writers that they fail with.
 #![tactic(auto)]
 
 #[cfg(test)]
@@ -6,33 +6,14 @@ mod answering;
 #[cfg(test)]
 mod calls;
 #[cfg(test)]
-mod driving;
+mod declared_inputs;
+pub mod faltering;
 #[cfg(test)]
-mod feeding;
-#[cfg(test)]
-mod graphs;
+mod faltering_streams;
 #[cfg(test)]
 mod inputs;
 #[cfg(test)]
 mod jobs;
-#[cfg(test)]
-mod language;
-#[cfg(test)]
-mod limits;
-#[cfg(test)]
-mod network;
-#[cfg(test)]
-mod rows;
-#[cfg(test)]
-mod scalar_nodes;
-#[cfg(test)]
-mod segment_nodes;
-#[cfg(test)]
-mod seq_index;
 pub mod stopping;
 #[cfg(test)]
 mod streams;
-#[cfg(test)]
-mod tab_node;
-#[cfg(test)]
-mod typed_nodes;

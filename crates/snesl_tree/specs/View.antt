@@ -9,8 +9,7 @@ use Rattle.snesl_tree.specs.declared.declaration.Typing.{Typing}
 use Rattle.snesl_tree.specs.declared.declaration.Declaration.{Declaration}
 use Rattle.snesl_tree.specs.declared.declaration.Declaration.TheVariants.{Input, Function as FunctionDeclaration}
 use Rattle.snesl_tree.specs.declared.declaration.Function.{Function}
-use Rattle.snesl_tree.specs.declared.program.Program.{Program}
-use Rattle.snesl_tree.specs.Tree.{Tree, Trees, Binders, Condition, integer, truth, name, binary, prefix, call, apply, group, pair, binding, choice, literal, filter, each, none, both, none_bound, binder, always, only_where, TypeTree, int_type, bool_type, pair_type, vector_type, sequence_type, Typed, DeclarationTree, declares_input, declares_function, ProgramTree}
+use Rattle.snesl_tree.specs.Tree.{Tree, Trees, Binders, Condition, integer, truth, name, binary, prefix, call, apply, group, pair, binding, choice, literal, filter, each, none, both, none_bound, binder, always, only_where, TypeTree, int_type, bool_type, pair_type, vector_type, sequence_type, Typed, DeclarationTree, declares_input, declares_function}
 
 abbrev mutual
   pub tree_of : Expr → Tree
@@ -67,6 +66,3 @@ function_of f = declares_function f.name (map typed_of f.parameters.items) (type
 abbrev pub declaration_of : Declaration → DeclarationTree
 declaration_of (Input typing) = declares_input (typed_of typing)
 declaration_of (FunctionDeclaration f) = function_of f
-
-abbrev pub program_of : Program → ProgramTree
-program_of program = record { declarations = map declaration_of program.declarations.items; expression = tree_of program.expr }

@@ -4,11 +4,9 @@
 pub mod declaration;
 pub mod expr;
 pub mod operator;
-pub mod program;
 pub mod span;
 
 pub use declaration::{Declaration, Function, Typing, WrittenType};
 pub use expr::{Binder, Expr};
 pub use operator::{Builtin, Operator, Prefix};
-pub use program::Program;
 pub use span::Span;

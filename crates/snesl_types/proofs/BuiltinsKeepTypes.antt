@@ -1,12 +1,12 @@
 -- Operators and built-in functions keep types.
-use Rattle.std.proofs.Common.{◌≡◌, ◌≢◌, ℕ, suc, zero, ◌+◌, ◌≤◌, Bool, true, false, cond, List, [], ◌∷◌, ◌++◌, map, length, Option, Some, None, Result, Ok, Err, ℤ, pos, negsuc, ◌+ℤ◌, ◌-ℤ◌, ◌*ℤ◌, refl, sym, ap, subst, arith}
-use Rattle.std.specs.Prelude.{◌&&◌, neg_ℤ, int_div, int_rem, int_lt, slice_get, IfOk, if◌then◌else◌}
+use Rattle.std.proofs.Common.{◌≡◌, ◌≢◌, ℕ, suc, zero, ◌+◌, ◌≤◌, Bool, true, false, List, [], ◌∷◌, ◌++◌, map, length, Option, Some, None, Result, Ok, Err, ℤ, pos, negsuc, ◌+ℤ◌, ◌-ℤ◌, ◌*ℤ◌, refl, sym, subst, arith}
+use Rattle.std.specs.Prelude.{neg_ℤ, int_div, int_lt, slice_get, if◌then◌else◌}
 use Rattle.std.specs.List.{range_with_len}
 use Rattle.std.proofs.lemmas.Bool.{leb-true, le-leb}
 use Rattle.snesl_values.specs.declared.fault.FaultKind.{FaultKind}
-use Rattle.snesl_values.specs.declared.fault.FaultKind.TheVariants.{Divide, Overflow, NegativeCount, Length as LengthFault, Part as PartFault, The as TheFault, EmptyMax, Index as IndexFault, Shape}
+use Rattle.snesl_values.specs.declared.fault.FaultKind.TheVariants.{Overflow, Index as IndexFault, Shape}
 use Rattle.snesl_values.specs.Integers.{IsInteger, is_integer, greatest_integer}
-use Rattle.snesl_values.specs.Types.{Ty, int, bool, pair, vec, seq, is_concrete}
+use Rattle.snesl_values.specs.Types.{Ty, int, bool, pair, vec, seq, is_concrete, is_same}
 use Rattle.snesl_values.specs.Values.{Value, an_int, a_bool, a_pair, a_vec, a_seq, Values, no_values, more_values, list_of, values_of, HasType, AllHaveType}
 use Rattle.snesl_operators.specs.declared.scalar.Scalar.{Scalar}
 use Rattle.snesl_operators.specs.declared.scalar.Scalar.TheVariants.{Int, Bool as Truth}
@@ -14,7 +14,7 @@ use Rattle.snesl_operators.specs.declared.operator.Reduction.{Reduction}
 use Rattle.snesl_operators.specs.declared.operator.Reduction.TheVariants.{Sum, Max, All, Any}
 use Rattle.snesl_operators.specs.Operators.{ranged, quotient, remainder, an_integer}
 use Rattle.snesl_operators.specs.Reductions.{reduced, reduced_from, reduced_more, reduced_all, reduced_nothing, and_then, some_of, scanned, scanned_from}
-use Rattle.snesl_operators.proofs.OperatorLaws.{ranged_integer, rem_integer}
+use Rattle.snesl_operators.proofs.OperatorLaws.{rem_integer}
 use Rattle.snesl_tree.specs.declared.operator.Builtin.{Builtin}
 use Rattle.snesl_tree.specs.declared.operator.Builtin.TheVariants.{Iota, ScanAdd, ReduceAdd, ReduceMax, ReduceAnd, ReduceOr, Length, Concat, Part, The, Tab, Seq, Fst, Snd}
 use Rattle.snesl_tree.specs.declared.operator.Operator.{Operator}
@@ -22,8 +22,9 @@ use Rattle.snesl_tree.specs.declared.operator.Operator.TheVariants.{Or, And, Equ
 use Rattle.snesl_tree.specs.declared.operator.Prefix.{Prefix}
 use Rattle.snesl_tree.specs.declared.operator.Prefix.TheVariants.{Negate, Not}
 use Rattle.snesl_evaluation.specs.Answer.{Answer, gives, faults, go, go_all, go_join, or_fault, answer_at}
-use Rattle.snesl_evaluation.specs.Builtins.{int_at, truth_at, scalar_at, items_at, elements_at, each_at, sequence, seq_answer, scalar_answer, scalar_value, item_answer, append_answer, prefix_answer, binary_answer, numbers_below, iota_answer, reduce_answer, scan_answer, into_first, parts_answer, part_answer, the_answer, applied}
-use Rattle.snesl_types.specs.Forms.{is_same, operator_result, prefix_result, result_of}
+use Rattle.snesl_evaluation.specs.Builtins.{int_at, truth_at, scalar_at, items_at, elements_at, each_at, sequence, seq_answer, scalar_answer, item_answer, append_answer, prefix_answer, binary_answer, numbers_below, iota_answer, reduce_answer, scan_answer, into_first, parts_answer, part_answer, the_answer, applied}
+use Rattle.snesl_values.proofs.SameTypes.{same_eq}
+use Rattle.snesl_types.specs.Forms.{operator_result, prefix_result, result_of}
 use Rattle.snesl_types.specs.Soundness.{HaveTypes, Safe}
 
 -- each value is of the type
@@ -121,19 +122,6 @@ integer_safe : (at : ℕ) (r : Result ℤ FaultKind) → Proper r → Safe (λ v
 integer_safe at (Ok n) h = h
 integer_safe at (Err kind) h = h
 
-pub same_is : (t u : Ty) → is_same t u ≡ true → t ≡ u
-same_is int int e = refl
-same_is bool bool e = refl
-same_is (pair t t') (pair u u') e = by_test (is_same t u) (is_same t' u') e (same_is t u) (same_is t' u')
-  where
-    by_test : (a b : Bool) → (a && b) ≡ true → (a ≡ true → t ≡ u) → (b ≡ true → t' ≡ u') → pair t t' ≡ pair u u'
-    by_test true true e h k = cc (h refl, k refl)
-    by_test true false e h k = cc
-    by_test false b e h k = cc
-same_is (vec t) (vec u) e = ap vec (same_is t u e)
-same_is (seq t) (seq u) e = ap seq (same_is t u e)
-same_is _ _ e = cc
-
 append_safe : (at : ℕ) (v w : Value) (t : Ty) → HasType v (seq t) → HasType w (seq t) → Safe (λ x. HasType x (seq t)) (append_answer at v w)
 append_safe at v w t hv hw =
     go_safe (λ vs. AllOf vs t) (λ x. HasType x (seq t)) (items_at at v) (λ vs. go (items_at at w) (λ ws. gives (sequence (vs ++ ws)))) (items_safe at v t hv) (λ vs hvs.
@@ -179,7 +167,7 @@ binary_safe at Append (seq t) (seq u) r v w e hv hw = by_test (is_same t u) refl
     by_test : (b : Bool) → is_same t u ≡ b → (if b then Some (seq t) else None) ≡ Some r → Safe (λ x. HasType x r) (append_answer at v w)
     by_test true same e' =
         let result : seq t ≡ r = cc in
-        let item : u ≡ t = sym (same_is t u same) in
+        let item : u ≡ t = sym (same_eq t u same) in
         subst (λ s. Safe (λ x. HasType x s) (append_answer at v w)) result (append_safe at v w t hv (subst (λ s. HasType w (seq s)) item hw))
     by_test false same e' = cc
 binary_safe at Add int int r v w e hv hw =

@@ -5,20 +5,21 @@ use Rattle.snesl_values.specs.declared.refusal.Refusal.{Refusal}
 use Rattle.snesl_values.specs.declared.refusal.Refusal.TheVariants.{Mismatch, Streamed, TooBig, NoMemory}
 use Rattle.snesl_values.specs.Inputs.{Declaration}
 use Rattle.snesl_values.specs.Integers.{is_integer}
-use Rattle.snesl_values.specs.Types.{Ty, int, bool, pair, vec, seq, is_concrete}
+use Rattle.snesl_values.specs.Types.{Ty, int, bool, pair, vec, seq, is_concrete, is_same}
 use Rattle.snesl_tree.specs.declared.operator.Builtin.{Builtin}
 use Rattle.snesl_tree.specs.declared.operator.Builtin.TheVariants.{Tab}
 use Rattle.snesl_tree.specs.declared.span.Span.{Span}
-use Rattle.snesl_tree.specs.Tree.{Tree, Trees, Binders, Condition}
-use Rattle.snesl_types.specs.Contexts.{Context, Signature, Signatures}
-use Rattle.snesl_types.specs.Forms.{is_same, result_of, tabs_streamed}
+use Rattle.snesl_tree.specs.Tree.{Tree, Trees, Binders, Condition, each, none_bound, binder}
+use Rattle.snesl_types.specs.Contexts.{Context, opened, inside, Signature, Signatures}
+use Rattle.snesl_types.specs.Forms.{result_of, tabs_streamed}
 use Rattle.snesl_types.specs.Sizes.{is_small}
-use Rattle.snesl_types.specs.Programs.{small_type}
+use Rattle.snesl_types.specs.Programs.{small_type, and_then}
 use Rattle.snesl_types.specs.Typing.{Types, Gives, AllTypes, BindersType, ConditionTypes, AllAre, has_type, integer_type, truth_type, name_type, binary_type, prefix_type, call_type, apply_type, group_type, pair_type, binding_type, choice_type, literal_type, filter_type, each_type, no_types, more_types, no_binders, more_binders, no_condition, condition_type}
-use Rattle.snesl_types.specs.Violations.{AreAlike, Violates, AnyViolates, BindersViolate, big_type, unbound, streamed, left_violates, right_violates, operands_mismatch, operand_violates, operand_mismatch, argument_violates, arguments_mismatch, tab_streamed, call_violates, call_unbound, call_mismatch, inner_violates, first_part_violates, second_part_violates, value_violates, binding_violates, choice_violates, positive_violates, negative_violates, choice_mismatch, item_violates, items_mismatch, filtered_violates, filter_violates, filter_mismatch, binder_violates, condition_violates, body_violates, condition_mismatch, first_violates, later_violates, source_violates, bound_twice, binder_mismatch, later_binder_violates}
-use Rattle.snesl_types.specs.Verdicts.{sized, rule, verdict, verdicts, binders_verdict, condition_verdict, of_binding, or_refused, of_builtin, of_function, of_items, of_choice, of_filter, of_binder}
+use Rattle.snesl_types.specs.Violations.{AreAlike, Violates, AnyViolates, BindersViolate, big_type, unbound, streamed, left_violates, right_violates, operands_mismatch, operand_violates, operand_mismatch, argument_violates, arguments_mismatch, tab_streamed, call_violates, call_unbound, call_mismatch, inner_violates, first_part_violates, second_part_violates, value_violates, binding_violates, choice_violates, positive_violates, negative_violates, choice_mismatch, item_violates, items_mismatch, filtered_violates, filter_violates, filter_mismatch, binder_violates, condition_violates, body_violates, condition_mismatch, binder_missing, first_violates, later_violates, source_violates, bound_twice, binder_mismatch, later_binder_violates}
+use Rattle.snesl_types.specs.Verdicts.{sized, rule, verdict, verdicts, binders_verdict, condition_verdict, of_binding, or_refused, of_builtin, of_function, of_items, of_choice, of_filter, of_each, of_binder, both_of}
 use Rattle.snesl_types.proofs.Outcomes.{then_ok, then_err, both_ok, left_err, right_err}
-use Rattle.snesl_types.proofs.Same.{and_left, and_right, same_self, same_eq, not_true, are_same_self, are_same_eq, all_same_of, all_same_are}
+use Rattle.snesl_values.proofs.SameTypes.{and_left, and_right, same_self, same_eq}
+use Rattle.snesl_types.proofs.Same.{not_true, are_same_self, are_same_eq, all_same_of, all_same_are}
 
 small_ok : (t : Ty) → is_small t ≡ true → small_type t ≡ Ok t
 small_ok t e = ap (λ b. cond b (Ok t) (Err TooBig)) e
@@ -72,6 +73,19 @@ items_err at (t ∷ ts) n = ap (λ b. cond b (Ok (seq t)) (Err (Mismatch at))) (
 
 filter_err : (at : ℕ) (t u : Ty) → ¬ (u ≡ bool) → of_filter at t u ≡ Err (Mismatch at)
 filter_err at t u n = ap (λ b. cond b (Ok (seq t)) (Err (Mismatch at))) (not_true (λ e. n (same_eq u bool e)))
+
+each_err : (at : ℕ) (binders : Binders) (t u : Ty) → ¬ (u ≡ bool) → of_each at binders t u ≡ Err (Mismatch at)
+each_err at none_bound t u n = refl
+each_err at (binder place source others) t u n = filter_err at t u n
+
+no_binder_err : (text : List ℕ) (functions : Signatures) (context : Context) (at : ℕ) (body : Tree) (condition : Condition) (items : List Declaration) (t u : Ty)
+    → binders_verdict text functions context [] none_bound ≡ Ok items
+    → condition_verdict text functions (opened items ++ inside context) condition ≡ Ok t → verdict text functions (opened items ++ inside context) body ≡ Ok u
+    → rule text functions context (each at body none_bound condition) ≡ Err (Mismatch at)
+no_binder_err text functions context at body condition items t u bound_by c b =
+    then_ok (λ all. and_then (both_of (condition_verdict text functions (opened all ++ inside context) condition)
+    (verdict text functions (opened all ++ inside context) body)) (λ ts. of_each at none_bound ts.1 ts.0)) bound_by
+    (then_ok (λ ts. of_each at none_bound ts.1 ts.0) (both_ok c b) refl)
 
 binder_err : (place : Span) (t : Ty) → ((item : Ty) → ¬ (t ≡ seq item)) → of_binder place false t ≡ Err (Mismatch place.at)
 binder_err place int n = refl
@@ -160,8 +174,10 @@ mutual
   violates_complete (binder_violates v) = ap sized (then_err _ (binder_complete v))
   violates_complete (condition_violates bs v) = ap sized (then_ok _ (binders_complete bs) (then_err _ (left_err _ (violates_complete v))))
   violates_complete (body_violates bs c v) = ap sized (then_ok _ (binders_complete bs) (then_err _ (right_err (condition_complete c) (violates_complete v))))
-  violates_complete (condition_mismatch {at = at} {t = t} {u = u} bs c b n) =
-      ap sized (then_ok _ (binders_complete bs) (then_ok _ (both_ok (condition_complete c) (type_complete b)) (filter_err at u t n)))
+  violates_complete (condition_mismatch {at = at} {binders = binders} {t = t} {u = u} bs c b n) =
+      ap sized (then_ok _ (binders_complete bs) (then_ok _ (both_ok (condition_complete c) (type_complete b)) (each_err at binders u t n)))
+  violates_complete {text = text} {functions = functions} (binder_missing {context = context} {at = at} {body = body} {condition = condition} {items = items} {t = t} {u = u} bs c b) =
+      ap sized (no_binder_err text functions context at body condition items t u (binders_complete bs) (condition_complete c) (type_complete b))
 
   any_complete : {text : List ℕ} {functions : Signatures} {context : Context} {trees : Trees} {refusal : Refusal} (earlier : List Ty)
       → AnyViolates text functions context trees refusal → verdicts text functions context earlier trees ≡ Err refusal

@@ -1,5 +1,5 @@
 -- Evaluation keeps types: by induction over the derivation.
-use Rattle.std.proofs.Common.{◌≡◌, ℕ, zero, suc, Bool, append_assoc, true, false, List, [], ◌∷◌, ◌++◌, map, length, replicate, Option, Some, None, refl, sym, ap, subst, ◌∙◌}
+use Rattle.std.proofs.Common.{◌≡◌, ℕ, zero, suc, Bool, append_assoc, true, false, List, [], ◌∷◌, ◌++◌, length, replicate, Some, refl, sym, subst, ◌∙◌}
 use Rattle.std.specs.Prelude.{if◌then◌else◌, ◌==◌}
 use Rattle.std.specs.List.{list_all}
 use Rattle.std.specs.Str.{bytes_eq}
@@ -9,14 +9,14 @@ use Rattle.snesl_values.specs.Inputs.{Declaration, Environment, value_in, Fits a
 use Rattle.snesl_values.specs.Types.{Ty, bool, pair, seq, is_concrete}
 use Rattle.snesl_values.specs.Values.{Value, a_pair, HasType}
 use Rattle.snesl_tree.specs.Spelling.{spelling}
-use Rattle.snesl_tree.specs.Tree.{Tree, Trees, Binders, Condition, always, only_where}
+use Rattle.snesl_tree.specs.Tree.{Tree, Trees, Binders, binder}
 use Rattle.snesl_evaluation.specs.Answer.{Answer, gives, faults, go, go_all, go_join, or_fault}
 use Rattle.snesl_evaluation.specs.Builtins.{truth_at, items_at, seq_answer, prefix_answer, binary_answer, applied}
 use Rattle.snesl_evaluation.specs.Eval.{Calls, named, kept, Columns, height, beside, rows_of, in_step, eval, eval_all, eval_binders}
-use Rattle.snesl_types.specs.Contexts.{Binding, open_to, shut, Context, bound, opened, found, shut_if_streamed, inside, Signature, Signatures}
+use Rattle.snesl_types.specs.Contexts.{Binding, open_to, shut, Context, opened, found, shut_if_streamed, inside, Signatures}
 use Rattle.snesl_types.specs.Soundness.{Fits, Holds, HaveTypes, Safe, CallsHold, TypedExpressionsAreSound}
-use Rattle.snesl_types.specs.Typing.{AllAre, Types, has_type, Gives, integer_type, truth_type, name_type, binary_type, prefix_type, call_type, apply_type, group_type, pair_type, binding_type, choice_type, literal_type, filter_type, each_type, AllTypes, no_types, more_types, BindersType, no_binders, more_binders, ConditionTypes, no_condition, condition_type}
-use Rattle.snesl_types.proofs.BuiltinsKeepTypes.{AllOf, unlisted, joined_of, go_safe, truth_safe, items_safe, seq_answer_safe, binary_safe, prefix_safe, applied_safe}
+use Rattle.snesl_types.specs.Typing.{AllAre, Types, has_type, Gives, integer_type, truth_type, name_type, binary_type, prefix_type, call_type, apply_type, group_type, pair_type, binding_type, choice_type, literal_type, filter_type, each_type, AllTypes, no_types, more_types, BindersType, no_binders, more_binders, no_condition, condition_type}
+use Rattle.snesl_types.proofs.BuiltinsKeepTypes.{AllOf, joined_of, go_safe, truth_safe, items_safe, seq_answer_safe, binary_safe, prefix_safe, applied_safe}
 
 named_safe : (at : ℕ) (bytes : List ℕ) (context : Context) (environment : Environment) (t : Ty)
     → found bytes context ≡ Some (open_to t) → Holds context environment → Safe (λ v. HasType v t) (named at bytes environment)
@@ -181,12 +181,14 @@ module _ {text : List ℕ} {functions : Signatures} (calls : Calls) (hold : Call
         go_safe (λ v. HasType v bool) (λ v. HasType v (seq t)) (eval condition text calls environment) (λ v. go (truth_at at v) rest) (sound d2 environment holds) (λ v hv.
         go_safe (λ b. Unit {0}) (λ v. HasType v (seq t)) (truth_at at v) rest (truth_safe at v hv) (λ b hb.
         seq_answer_safe (kept b (eval item text calls environment)) t (kept_safe b (eval item text calls environment) t (sound d1 environment holds))))
-    gives_sound {context = context} (each_type {at = at} {body = body} {binders = binders} {items = items} {t = t} db no_condition d) environment holds =
+    gives_sound {context = context} (each_type {at = at} {body = body} {place = place} {source = source} {others = others} {items = items} {t = t} db no_condition d) environment holds =
+        let binders : Binders = binder place source others in
         let f : Environment → Answer Value = λ row. eval body text calls (row ++ environment) in
         go_safe (ColumnsFit items) (λ v. HasType v (seq t)) (eval_binders binders text calls environment) (λ columns. go (in_step at columns) (λ rows. seq_answer (go_all f rows))) (columns_of (eval_binders binders text calls environment) (binders_sound db environment holds)) (λ columns hc.
         go_safe (RowsFit items) (λ v. HasType v (seq t)) (in_step at columns) (λ rows. seq_answer (go_all f rows)) (in_step_safe at items columns hc) (λ rows hr.
         seq_answer_safe (go_all f rows) t (body_all items t f (λ row hrow. sound d (row ++ environment) (opened_holds items row (inside context) environment hrow (inside_holds context environment holds))) rows hr)))
-    gives_sound {context = context} (each_type {at = at} {body = body} {binders = binders} {items = items} {t = t} db (condition_type {condition = condition} dc) d) environment holds =
+    gives_sound {context = context} (each_type {at = at} {body = body} {place = place} {source = source} {others = others} {items = items} {t = t} db (condition_type {condition = condition} dc) d) environment holds =
+        let binders : Binders = binder place source others in
         let rest : Environment → Bool → Answer (List Value) = λ row b. kept b (eval body text calls (row ++ environment)) in
         let f : Environment → Answer (List Value) = λ row. go (eval condition text calls (row ++ environment)) (λ v. go (truth_at at v) (rest row)) in
         go_safe (ColumnsFit items) (λ v. HasType v (seq t)) (eval_binders binders text calls environment) (λ columns. go (in_step at columns) (λ rows. seq_answer (go_join f rows))) (columns_of (eval_binders binders text calls environment) (binders_sound db environment holds)) (λ columns hc.

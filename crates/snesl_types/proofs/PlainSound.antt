@@ -11,8 +11,8 @@ use Rattle.snesl_evaluation.specs.Eval.{program_value}
 use Rattle.snesl_evaluation.specs.Results.{IsAnswer}
 use Rattle.snesl_types.specs.declared.typed.Typed.{Typed}
 use Rattle.snesl_types.specs.Soundness.{Safe, IsSound}
-use Rattle.snesl_tree.specs.declared.program.Program.{Program}
-use Rattle.snesl_tree.specs.View.{program_of as tree_of_program}
+use Rattle.snesl_grammar.specs.declared.program.Program.{Program}
+use Rattle.snesl_grammar.specs.View.{program_of as tree_of_program}
 use Rattle.snesl_types.specs.Typed.{program_of, typed_inputs, typed_text, typed_tree, typed_ty}
 use Rattle.snesl_types.proofs.Once.{Safe-prop}
 use Rattle.snesl_types.proofs.ProgramsKeepTypes.{programs_are_sound}

@@ -1,19 +1,18 @@
 -- Programs keep types: each function's calls do, under the functions before it.
-use Rattle.std.proofs.Common.{◌≡◌, ℕ, Bool, true, false, List, [], ◌∷◌, ◌++◌, map, Option, Some, None, refl, sym, ap, subst, ◌∙◌, append_assoc}
+use Rattle.std.proofs.Common.{◌≡◌, ℕ, Bool, true, false, List, [], ◌∷◌, ◌++◌, map, Some, None, refl, sym, ap, subst, ◌∙◌, append_assoc}
 use Rattle.std.proofs.lemmas.List.{append-nil}
 use Rattle.std.proofs.lemmas.Slice.Eq.{bytes_eq-Decides}
 use Rattle.std.specs.Prelude.{if◌then◌else◌}
 use Rattle.std.specs.Str.{bytes_eq}
 use Rattle.snesl_values.specs.Inputs.{Declaration, Environment, Fits as FitsInputs}
-use Rattle.snesl_values.specs.Types.{Ty}
 use Rattle.snesl_values.specs.Values.{Value, HasType}
 use Rattle.snesl_tree.specs.declared.span.Span.{Span}
 use Rattle.snesl_tree.specs.Spelling.{spelling}
 use Rattle.snesl_tree.specs.Tree.{Tree, TypeTree, Typed, DeclarationTree, declares_input, declares_function}
-use Rattle.snesl_evaluation.specs.Answer.{Answer, gives, faults, go}
+use Rattle.snesl_evaluation.specs.Answer.{gives}
 use Rattle.snesl_evaluation.specs.Eval.{Calls, eval, no_calls, parameters_with, function_answer, with_declaration, calls_after}
-use Rattle.snesl_types.specs.Contexts.{opened, type_in, Signature, Signatures, function_named}
-use Rattle.snesl_types.specs.Programs.{Declared, named, NamesType, no_names, more_names, FunctionTypes, function_type, DeclarationsType, no_declarations, input_declared, function_declared, ProgramTypes}
+use Rattle.snesl_types.specs.Contexts.{opened, Signature, Signatures, function_named}
+use Rattle.snesl_types.specs.Programs.{Declared, named, NamesType, no_names, more_names, FunctionTypes, function_type, DeclarationsType, no_declarations, input_declared, function_declared}
 use Rattle.snesl_types.specs.Soundness.{HaveTypes, Safe, Holds, CallsHold, TypedProgramsAreSound}
 use Rattle.snesl_types.proofs.BuiltinsKeepTypes.{go_safe}
 use Rattle.snesl_types.proofs.KeepsTypes.{sound, opened_holds}

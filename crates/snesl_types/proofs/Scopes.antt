@@ -12,7 +12,7 @@ use Rattle.snesl_tree.specs.Tree.{Tree, Binders, Condition, each, always, only_w
 use Rattle.snesl_tree.specs.View.{tree_of, binders_of}
 use Rattle.snesl_tree.proofs.Arguments.{binders_row}
 use Rattle.snesl_types.specs.declared.names.Scope.{Scope}
-use Rattle.snesl_types.specs.Verdicts.{verdict, condition_verdict, IsAnswer, both_of, of_filter}
+use Rattle.snesl_types.specs.Verdicts.{verdict, condition_verdict, IsAnswer, both_of, of_each}
 use Rattle.snesl_types.specs.Contexts.{Context, opened, inside}
 use Rattle.snesl_types.specs.Programs.{and_then}
 use Rattle.snesl_types.proofs.Passing.{refused_first, refused_left, refused_right, both_there, answered_second}
@@ -56,7 +56,7 @@ module _ (inner scope : Scope) (items : List Declaration)
   abbrev then_all : (List Declaration) → Result Ty Refusal
   then_all all =
       and_then (both_of (condition_verdict_at scope (opened all ++ inside (context_of scope.text.now scope.names.now)) condition)
-      (verdict_at scope (opened all ++ inside (context_of scope.text.now scope.names.now)) body)) (λ ts. of_filter at ts.1 ts.0)
+      (verdict_at scope (opened all ++ inside (context_of scope.text.now scope.names.now)) body)) (λ ts. of_each at binders ts.1 ts.0)
 
   whole : (r : Result TyTree Refusal) → IsAnswer ty_of (then_all items) r → IsAnswer ty_of (ruled_in scope tree) r
   whole r h = subst (λ x. IsAnswer ty_of (ruled_in scope x) r) (sym is)
@@ -78,7 +78,7 @@ module _ (inner scope : Scope) (items : List Declaration)
       (subst (λ z. (e ≡ NoMemory) ⊎ (z ≡ Err e)) (typed_within inner scope here within body) v)))
 
   pub each_answered : (t u : Ty) (r : Result TyTree Refusal)
-      → condition_typed_in inner condition ≡ Ok t → typed_in inner body ≡ Ok u → IsAnswer ty_of (of_filter at u t) r → IsAnswer ty_of (ruled_in scope tree) r
+      → condition_typed_in inner condition ≡ Ok t → typed_in inner body ≡ Ok u → IsAnswer ty_of (of_each at binders u t) r → IsAnswer ty_of (ruled_in scope tree) r
   each_answered t u r e f h = whole r
       (answered_second ty_of (both_of (condition_verdict_at scope here condition) (verdict_at scope here body)) _ (t, u) r
       (both_there _ _ t u (sym (condition_typed_within inner scope here within condition) ∙ e) (sym (typed_within inner scope here within body) ∙ f)) h)

@@ -5,7 +5,7 @@ use Rattle.snesl_values.specs.declared.refusal.Refusal.{Refusal}
 use Rattle.snesl_values.specs.declared.refusal.Refusal.TheVariants.{Mismatch, Streamed, TooBig, NoMemory}
 use Rattle.snesl_values.specs.Inputs.{Declaration}
 use Rattle.snesl_values.specs.Integers.{is_integer}
-use Rattle.snesl_values.specs.Types.{Ty, int, bool, pair, vec, seq}
+use Rattle.snesl_values.specs.Types.{Ty, int, bool, pair, vec, seq, is_same}
 use Rattle.snesl_tree.specs.declared.operator.Builtin.{Builtin}
 use Rattle.snesl_tree.specs.declared.operator.Operator.{Operator}
 use Rattle.snesl_tree.specs.declared.operator.Prefix.{Prefix}
@@ -13,15 +13,16 @@ use Rattle.snesl_tree.specs.declared.span.Span.{Span}
 use Rattle.snesl_tree.specs.Spelling.{spelling}
 use Rattle.snesl_tree.specs.Tree.{Tree, Trees, Binders, Condition, integer, truth, name, binary, prefix, call, apply, group, pair as pair_tree, binding, choice, literal, filter, each, none, both, none_bound, binder, always, only_where}
 use Rattle.snesl_types.specs.Contexts.{Binding, open_to, shut, Context, bound, opened, found, inside, type_in, Signature, Signatures, function_named}
-use Rattle.snesl_types.specs.Forms.{is_same, operator_result, prefix_result, result_of, tabs_streamed}
+use Rattle.snesl_types.specs.Forms.{operator_result, prefix_result, result_of, tabs_streamed}
 use Rattle.snesl_types.specs.Sizes.{is_small}
 use Rattle.snesl_types.specs.Ranges.{IsInRange, AreInRange, BindersInRange, ConditionInRange}
 use Rattle.snesl_types.specs.Programs.{and_then}
 use Rattle.snesl_types.specs.Typing.{Types, Gives, AllTypes, BindersType, ConditionTypes, has_type, integer_type, truth_type, name_type, binary_type, prefix_type, call_type, apply_type, group_type, pair_type, binding_type, choice_type, literal_type, filter_type, each_type, no_types, more_types, no_binders, more_binders, no_condition, condition_type}
-use Rattle.snesl_types.specs.Violations.{Violates, AnyViolates, BindersViolate, big_type, unbound, streamed, left_violates, right_violates, operands_mismatch, operand_violates, operand_mismatch, argument_violates, arguments_mismatch, tab_streamed, call_violates, call_unbound, call_mismatch, inner_violates, first_part_violates, second_part_violates, value_violates, binding_violates, choice_violates, positive_violates, negative_violates, choice_mismatch, item_violates, items_mismatch, filtered_violates, filter_violates, filter_mismatch, binder_violates, condition_violates, body_violates, condition_mismatch, first_violates, later_violates, source_violates, bound_twice, binder_mismatch, later_binder_violates}
-use Rattle.snesl_types.specs.Verdicts.{sized, rule, verdict, verdicts, binders_verdict, condition_verdict, of_binding, or_refused, of_builtin, of_function, of_items, of_binder, are_same, all_same}
+use Rattle.snesl_types.specs.Violations.{Violates, AnyViolates, BindersViolate, big_type, unbound, streamed, left_violates, right_violates, operands_mismatch, operand_violates, operand_mismatch, argument_violates, arguments_mismatch, tab_streamed, call_violates, call_unbound, call_mismatch, inner_violates, first_part_violates, second_part_violates, value_violates, binding_violates, choice_violates, positive_violates, negative_violates, choice_mismatch, item_violates, items_mismatch, filtered_violates, filter_violates, filter_mismatch, binder_violates, condition_violates, body_violates, condition_mismatch, binder_missing, first_violates, later_violates, source_violates, bound_twice, binder_mismatch, later_binder_violates}
+use Rattle.snesl_types.specs.Verdicts.{sized, rule, verdict, verdicts, binders_verdict, condition_verdict, of_binding, or_refused, of_builtin, of_function, of_items, of_each, of_binder, are_same, all_same}
 use Rattle.snesl_types.proofs.Outcomes.{Outcome, given, violated, out_of_range, then_outcome, both_outcome}
-use Rattle.snesl_types.proofs.Same.{and_true, and_left, and_right, same_eq, same_of, are_same_self, are_same_eq, all_same_of, all_same_are}
+use Rattle.snesl_values.proofs.SameTypes.{and_true, and_left, and_right, same_eq, same_of}
+use Rattle.snesl_types.proofs.Same.{are_same_self, are_same_eq, all_same_of, all_same_are}
 
 -- a condition has violations of its own only where there is one
 abbrev pub ConditionViolates : List ℕ → Signatures → Context → Condition → Refusal → Type 0
@@ -117,13 +118,21 @@ module _ (text : List ℕ) (functions : Signatures) (context : Context) where
   of_condition at item condition t u x y true e = given (filter_type x (subst (Types text functions context condition) (same_eq u bool e) y))
   of_condition at item condition t u x y false e = violated (filter_mismatch x y (λ same. let g = same_of same in cc))
 
-  in_condition : (at : ℕ) (body : Tree) (binders : Binders) (condition : Condition) (items : List Declaration) (t u : Ty)
+  in_condition : (at : ℕ) (body : Tree) (place : Span) (source : Tree) (others : Binders) (condition : Condition) (items : List Declaration) (t u : Ty)
+      → BindersType text functions context [] (binder place source others) items
+      → ConditionTypes text functions (opened items ++ inside context) condition t → Types text functions (opened items ++ inside context) body u
+      → (b : Bool) → is_same t bool ≡ b → OfForm (each at body (binder place source others) condition) (cond b (Ok (seq u)) (Err (Mismatch at)))
+  in_condition at body place source others condition items t u bs c y true e =
+      given (each_type bs (subst (ConditionTypes text functions (opened items ++ inside context) condition) (same_eq t bool e) c) y)
+  in_condition at body place source others condition items t u bs c y false e = violated (condition_mismatch bs c y (λ same. let g = same_of same in cc))
+
+  of_comprehension : (at : ℕ) (body : Tree) (binders : Binders) (condition : Condition) (items : List Declaration) (t u : Ty)
       → BindersType text functions context [] binders items
       → ConditionTypes text functions (opened items ++ inside context) condition t → Types text functions (opened items ++ inside context) body u
-      → (b : Bool) → is_same t bool ≡ b → OfForm (each at body binders condition) (cond b (Ok (seq u)) (Err (Mismatch at)))
-  in_condition at body binders condition items t u bs c y true e =
-      given (each_type bs (subst (ConditionTypes text functions (opened items ++ inside context) condition) (same_eq t bool e) c) y)
-  in_condition at body binders condition items t u bs c y false e = violated (condition_mismatch bs c y (λ same. let g = same_of same in cc))
+      → OfForm (each at body binders condition) (of_each at binders u t)
+  of_comprehension at body none_bound condition items t u bs c y = violated (binder_missing bs c y)
+  of_comprehension at body (binder place source others) condition items t u bs c y =
+      in_condition at body place source others condition items t u bs c y (is_same t bool) refl
 
   -- a condition's violation is one of the comprehension
   in_each : (at : ℕ) (body : Tree) (binders : Binders) (condition : Condition) (items : List Declaration) (r : Refusal)
@@ -192,7 +201,7 @@ mutual
       (sized_outcome text functions (opened items ++ inside context) body (form_sound text functions (opened items ++ inside context) body))
       (λ r v. in_each text functions context at body binders condition items r bs v) (λ h. h.1)
       (λ t c r v. body_violates bs c v) (λ h. h.2)
-      (λ t u c b. in_condition text functions context at body binders condition items t u bs c b (is_same t bool) refl))
+      (λ t u c b. of_comprehension text functions context at body binders condition items t u bs c b))
 
   all_sound : (text : List ℕ) (functions : Signatures) (context : Context) (earlier : List Ty) (trees : Trees)
       → OfTrees text functions context earlier trees (verdicts text functions context earlier trees)

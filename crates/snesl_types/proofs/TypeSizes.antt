@@ -1,9 +1,8 @@
 -- Sizes of types, and types that are the same.
 use Rattle.std.proofs.Common.{◌≡◌, ◌<◌, arith, Bool, true, false, ◌&&◌, List, [], ◌∷◌, length, map, ap, refl, suc}
-use Rattle.snesl_values.specs.Types.{Ty, int, bool, pair, vec, seq}
+use Rattle.snesl_values.specs.Types.{Ty, int, bool, pair, vec, seq, is_same}
 use Rattle.snesl_types.specs.Sizes.{type_size}
 use Rattle.snesl_types.specs.Verdicts.{are_same}
-use Rattle.snesl_types.specs.Forms.{is_same}
 
 pub type_size_positive : (t : Ty) → 0 < type_size t
 type_size_positive int = omega arith

@@ -1,21 +1,12 @@
 -- The tables of types: what operators and built-in functions take and give.
-use Rattle.std.specs.Prelude.{Bool, true, false, not, ◌&&◌, if◌then◌else◌, List, [], ◌∷◌, Option, Some, None}
-use Rattle.snesl_values.specs.Types.{Ty, int, bool, pair, vec, seq, is_concrete}
+use Rattle.std.specs.Prelude.{Bool, false, not, if◌then◌else◌, List, [], ◌∷◌, Option, Some, None}
+use Rattle.snesl_values.specs.Types.{Ty, int, bool, pair, vec, seq, is_concrete, is_same}
 use Rattle.snesl_tree.specs.declared.operator.Operator.{Operator}
 use Rattle.snesl_tree.specs.declared.operator.Operator.TheVariants.{Or, And, Equal, Less, AtMost, Greater, AtLeast, Append, Add, Subtract, Multiply, Divide, Remainder, Index}
 use Rattle.snesl_tree.specs.declared.operator.Prefix.{Prefix}
 use Rattle.snesl_tree.specs.declared.operator.Prefix.TheVariants.{Negate, Not}
 use Rattle.snesl_tree.specs.declared.operator.Builtin.{Builtin}
 use Rattle.snesl_tree.specs.declared.operator.Builtin.TheVariants.{Iota, ScanAdd, ReduceAdd, ReduceMax, ReduceAnd, ReduceOr, Length, Concat, Part, The, Tab, Seq, Fst, Snd}
-
--- whether two types are the same tree
-abbrev pub is_same : Ty → Ty → Bool
-is_same int int = true
-is_same bool bool = true
-is_same (pair first second) (pair other another) = is_same first other && is_same second another
-is_same (vec item) (vec other) = is_same item other
-is_same (seq item) (seq other) = is_same item other
-is_same _ _ = false
 
 -- the type of an operator's value at operands of these types
 abbrev pub operator_result : Operator → Ty → Ty → Option Ty

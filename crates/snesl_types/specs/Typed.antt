@@ -2,9 +2,9 @@
 use Rattle.std.specs.Prelude.{ℕ, List}
 use Rattle.snesl_values.specs.Types.{Ty, ty_of}
 use Rattle.snesl_values.specs.Inputs.{Declaration, declared}
-use Rattle.snesl_tree.specs.declared.program.Program.{Program}
+use Rattle.snesl_grammar.specs.declared.program.Program.{Program}
 use Rattle.snesl_tree.specs.Tree.{ProgramTree}
-use Rattle.snesl_tree.specs.View.{program_of as tree_of_program}
+use Rattle.snesl_grammar.specs.View.{program_of as tree_of_program}
 use Rattle.snesl_types.specs.declared.typed.Typed.{Typed}
 
 abbrev pub program_of : Typed → Program

@@ -65,12 +65,13 @@ mutual
     filter_type : {context : Context} {at : ℕ} {item condition : Tree} {t : Ty}
         → Types text functions context item t → Types text functions context condition bool
         → Gives text functions context (filter at item condition) (seq t)
-    -- the condition and the body see the outer names as from inside, and the binders' names
-    each_type : {context : Context} {at : ℕ} {body : Tree} {binders : Binders} {condition : Condition} {items : List Declaration} {t : Ty}
-        → BindersType text functions context [] binders items
+    -- there is a binder; the condition and the body see the outer names as from inside, and the binders' names
+    each_type : {context : Context} {at : ℕ} {body : Tree} {place : Span} {source : Tree} {others : Binders} {condition : Condition}
+        {items : List Declaration} {t : Ty}
+        → BindersType text functions context [] (binder place source others) items
         → ConditionTypes text functions (opened items ++ inside context) condition bool
         → Types text functions (opened items ++ inside context) body t
-        → Gives text functions context (each at body binders condition) (seq t)
+        → Gives text functions context (each at body (binder place source others) condition) (seq t)
 
   -- these arguments, or items, have these types
   pub data AllTypes (text : List ℕ) (functions : Signatures) : Context → Trees → List Ty → Type 0 where

@@ -5,13 +5,13 @@ use Rattle.snesl_values.specs.declared.refusal.Refusal.{Refusal}
 use Rattle.snesl_values.specs.declared.refusal.Refusal.TheVariants.{Name, Mismatch, Streamed, TooBig, NoMemory}
 use Rattle.snesl_values.specs.Inputs.{Declaration}
 use Rattle.snesl_values.specs.Integers.{is_integer}
-use Rattle.snesl_values.specs.Types.{Ty, int, bool, pair, seq}
+use Rattle.snesl_values.specs.Types.{Ty, int, bool, pair, seq, is_same}
 use Rattle.snesl_tree.specs.declared.operator.Builtin.{Builtin}
 use Rattle.snesl_tree.specs.declared.span.Span.{Span}
 use Rattle.snesl_tree.specs.Spelling.{spelling}
 use Rattle.snesl_tree.specs.Tree.{Tree, Trees, Binders, Condition, integer, truth, name, binary, prefix, call, apply, group, pair as pair_tree, binding, choice, literal, filter, each, none, both, none_bound, binder, always, only_where, TypeTree, Typed, DeclarationTree, declares_input, declares_function, ProgramTree}
 use Rattle.snesl_types.specs.Contexts.{Binding, open_to, shut, Context, bound, opened, found, inside, type_in, Signature, Signatures, function_named}
-use Rattle.snesl_types.specs.Forms.{is_same, operator_result, prefix_result, result_of, tabs_streamed}
+use Rattle.snesl_types.specs.Forms.{operator_result, prefix_result, result_of, tabs_streamed}
 use Rattle.snesl_types.specs.Sizes.{size, greatest_size}
 use Rattle.snesl_types.specs.Programs.{Declared, and_then, small_type, written_type, with_inputs, signature_of, are_few, nothing_declared}
 
@@ -58,6 +58,11 @@ of_choice at t u v = if is_same t bool && is_same u v then Ok u else Err (Mismat
 abbrev pub of_filter : ℕ → Ty → Ty → Result Ty Refusal
 of_filter at t u = if is_same u bool then Ok (seq t) else Err (Mismatch at)
 
+-- a comprehension of these binders, whose body has the first type, and whose condition the second
+abbrev pub of_each : ℕ → Binders → Ty → Ty → Result Ty Refusal
+of_each at none_bound t u = Err (Mismatch at)
+of_each at (binder place source others) t u = of_filter at t u
+
 -- a binder of this name, which an earlier one may have taken, over a value of this type
 abbrev pub of_binder : Span → Bool → Ty → Result Ty Refusal
 of_binder place true t = Err (Name place.at)
@@ -103,7 +108,7 @@ abbrev mutual
   rule text functions context (each at body binders condition) =
       and_then (binders_verdict text functions context [] binders) (λ items.
       and_then (both_of (condition_verdict text functions (opened items ++ inside context) condition)
-      (sized (rule text functions (opened items ++ inside context) body))) (λ ts. of_filter at ts.1 ts.0))
+      (sized (rule text functions (opened items ++ inside context) body))) (λ ts. of_each at binders ts.1 ts.0))
 
   -- the types of arguments or items behind earlier ones
   pub verdicts : (text : List ℕ) (functions : Signatures) → Context → List Ty → Trees → Result (List Ty) Refusal

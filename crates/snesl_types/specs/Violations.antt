@@ -9,7 +9,7 @@ use Rattle.snesl_tree.specs.declared.operator.Operator.{Operator}
 use Rattle.snesl_tree.specs.declared.operator.Prefix.{Prefix}
 use Rattle.snesl_tree.specs.declared.span.Span.{Span}
 use Rattle.snesl_tree.specs.Spelling.{spelling}
-use Rattle.snesl_tree.specs.Tree.{Tree, Trees, Binders, Condition, name, binary, prefix, call, apply, group, pair as pair_tree, binding, choice, literal, filter, each, both, binder, only_where}
+use Rattle.snesl_tree.specs.Tree.{Tree, Trees, Binders, Condition, name, binary, prefix, call, apply, group, pair as pair_tree, binding, choice, literal, filter, each, both, none_bound, binder, only_where}
 use Rattle.snesl_types.specs.Contexts.{shut, Context, bound, opened, found, inside, type_in, Signature, Signatures, function_named}
 use Rattle.snesl_types.specs.Forms.{operator_result, prefix_result, result_of, tabs_streamed}
 use Rattle.snesl_types.specs.Sizes.{is_small}
@@ -141,6 +141,12 @@ mutual
         → Types text functions (opened items ++ inside context) body u
         → ¬ (t ≡ bool)
         → Violates text functions context (each at body binders condition) (Mismatch at)
+    -- a comprehension without a binder
+    binder_missing : {context : Context} {at : ℕ} {body : Tree} {condition : Condition} {items : List Declaration} {t u : Ty}
+        → BindersType text functions context [] none_bound items
+        → ConditionTypes text functions (opened items ++ inside context) condition t
+        → Types text functions (opened items ++ inside context) body u
+        → Violates text functions context (each at body none_bound condition) (Mismatch at)
 
   -- the first violation in arguments, or items
   pub data AnyViolates (text : List ℕ) (functions : Signatures) : Context → Trees → Refusal → Type 0 where

@@ -5,7 +5,7 @@ ghost use Rattle.snesl_values.specs.Types.{ty_of, int, bool, pair, vec, seq};
 ghost use Rattle.snesl_tree.specs.declared.operator.Builtin.TheVariants.{Tab};
 ghost use Rattle.snesl_types.specs.Verdicts.{IsAnswer, of_builtin};
 
-use crate::forms::{same_ty, sequence_of};
+use crate::forms::sequence_of;
 use snesl_tree::Builtin;
 use snesl_values::{Refusal, Ty, copy_ty};
 use std::alloc::Global;
@@ -40,7 +40,7 @@ fn part_type(
     ensures { IsAnswer ty_of (of_builtin at function (ty_of source.now ∷ ty_of flags.now ∷ [])) result }
 {
     match (function, source, flags) {
-        (Builtin::Part, Ty::Seq(_), Ty::Seq(flag)) if same_ty(flag, &Ty::Bool) => {
+        (Builtin::Part, Ty::Seq(_), Ty::Seq(flag)) if flag.is(&Ty::Bool) => {
             let part = copy_ty(alloc, source)?;
             sequence_of(alloc, part)
         }

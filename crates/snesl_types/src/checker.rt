@@ -1,7 +1,7 @@
 // Checking: the type of a program, or the first rule that it violates.
 
 ghost use Rattle.std.specs.Prelude.{◌≡◌, IfOk, IfErr};
-ghost use Rattle.snesl_tree.specs.View.{program_of as tree_of_program};
+ghost use Rattle.snesl_grammar.specs.View.{program_of as tree_of_program};
 ghost use Rattle.snesl_types.specs.Programs.{HasTyping, HaveOneTyping, HaveSomeTyping, IsFirstViolation, IsMemoryIfTyped};
 ghost use Rattle.snesl_types.specs.Typed.{program_of, typed_inputs, typed_ty};
 ghost use Rattle.snesl_types.specs.Verdicts.{IsAnswer, program_verdict, expression_verdict};
@@ -14,7 +14,8 @@ use crate::expressions::type_of;
 use crate::names::{Names, Scope};
 use crate::sizes::size_of;
 use crate::typed::Typed;
-use snesl_tree::{Expr, Program};
+use snesl_grammar::Program;
+use snesl_tree::Expr;
 use snesl_values::{Refusal, Ty};
 use std::alloc::Global;
 

@@ -13,7 +13,7 @@ ghost use Rattle.snesl_types.specs.Verdicts.{IsAnswer, name_verdict, names_verdi
 ghost use Rattle.snesl_types.specs.Views.{declared_in};
 
 use crate::expressions::type_of;
-use crate::forms::{pair_of, same_ty, sequence_of, small};
+use crate::forms::{pair_of, sequence_of, small};
 use crate::names::{Function, Names, Scope, function_named, type_in};
 use crate::sizes::size_of;
 use snesl_tree::{Declaration, Function as WrittenFunction, Typing, WrittenType};
@@ -103,7 +103,7 @@ fn function_of(
         names: &names,
     };
     let ty = type_of(alloc, &scope, &written.body)?;
-    if !same_ty(&ty, &result) {
+    if !ty.is(&result) {
         return Err(Refusal::Mismatch(name.at));
     }
     let size = size_of(text, functions, &written.body);

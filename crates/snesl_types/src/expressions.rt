@@ -11,8 +11,8 @@ ghost use Rattle.snesl_types.specs.Names.{context_of, signatures_in, typed_in, r
 
 use crate::builtins::builtin_type;
 use crate::forms::{
-    arguments_fit, choice_type, filter_type, literal_type, operator_type, pair_of, prefix_type,
-    small,
+    arguments_fit, choice_type, each_type, filter_type, literal_type, operator_type, pair_of,
+    prefix_type, small,
 };
 use crate::names::{Meaning, Names, Scope, function_named, look_up, type_in};
 use snesl_tree::{Binder, Expr, Span};
@@ -132,7 +132,7 @@ fn type_by_rule(alloc: Global, scope: &Scope<'_>, expr: &Expr) -> Result<Ty, Ref
             let inner = (&*scope).with_names(&names);
             let condition = condition_type(alloc, &inner, condition)?;
             let body = type_of(alloc, &inner, body)?;
-            filter_type(alloc, *at, body, &condition)
+            each_type(alloc, *at, binders, body, &condition)
         }
     }
 }

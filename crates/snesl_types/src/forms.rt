@@ -2,33 +2,20 @@
 
 ghost use Rattle.std.specs.Prelude.{◌≡◌, ◌+◌, ◌<◌, map, Ok, IfSome, IfNone};
 ghost use Rattle.snesl_values.specs.declared.refusal.Refusal.TheVariants.{Mismatch};
-ghost use Rattle.snesl_values.specs.Types.{ty_of, int, bool, pair, vec, seq};
+ghost use Rattle.snesl_values.specs.Types.{ty_of, int, bool, pair, vec, seq, is_same};
 ghost use Rattle.snesl_values.specs.Inputs.{declared};
-ghost use Rattle.snesl_types.specs.Forms.{is_same, operator_result, prefix_result};
+ghost use Rattle.snesl_tree.specs.View.{binders_of};
+ghost use Rattle.snesl_types.specs.Forms.{operator_result, prefix_result};
 ghost use Rattle.snesl_types.specs.Programs.{small_type};
 ghost use Rattle.snesl_types.specs.Sizes.{type_size};
-ghost use Rattle.snesl_types.specs.Verdicts.{IsAnswer, or_refused, are_same, all_same as all_are, of_items, of_choice, of_filter};
+ghost use Rattle.snesl_types.specs.Verdicts.{IsAnswer, or_refused, are_same, all_same as all_are, of_items, of_choice, of_filter, of_each};
 
-use snesl_tree::{Operator, Prefix};
+use snesl_tree::{Binder, Operator, Prefix};
 use snesl_values::{Refusal, Ty, copy_ty};
 use std::alloc::Global;
 
 /// The greatest size of a type.
 const GREATEST_TYPE_SIZE: usize = 256;
-
-// Whether two types are the same.
-pub(crate) fn same_ty(a: &Ty, b: &Ty) -> bool
-    ensures { result ≡ is_same (ty_of a.now) (ty_of b.now) }
-{
-    match (a, b) {
-        (Ty::Int, Ty::Int) | (Ty::Bool, Ty::Bool) => true,
-        (Ty::Pair(first, second), Ty::Pair(other, another)) => {
-            same_ty(first, other) && same_ty(second, another)
-        }
-        (Ty::Vec(item), Ty::Vec(other)) | (Ty::Seq(item), Ty::Seq(other)) => same_ty(item, other),
-        _ => false,
-    }
-}
 
 // The type, where it is not too big.
 pub(crate) fn small(ty: Ty) -> Result<Ty, Refusal>
@@ -117,7 +104,7 @@ fn append_type(
     ensures { IsAnswer ty_of (or_refused (Mismatch at) (operator_result operator (seq (ty_of item.now)) (seq (ty_of other.now)))) result }
 {
     match operator {
-        Operator::Append if same_ty(item, other) => {
+        Operator::Append if item.is(other) => {
             let item = copy_ty(alloc, item)?;
             sequence_of(alloc, item)
         }
@@ -164,7 +151,7 @@ fn all_same(ty: &Ty, others: &[Ty]) -> bool
     ensures { result ≡ all_are (ty_of ty.now) (map ty_of others.now) }
 {
     for other in others {
-        if !same_ty(other, ty) {
+        if !other.is(ty) {
             return false;
         }
     }
@@ -179,7 +166,7 @@ pub(crate) fn arguments_fit(types: &[Ty], parameters: &[(Vec<u8>, Ty)]) -> bool
         return false;
     }
     for i in 0..types.len() {
-        if !same_ty(&types[i], &parameters[i].1) {
+        if !types[i].is(&parameters[i].1) {
             return false;
         }
     }
@@ -195,7 +182,7 @@ pub(crate) fn choice_type(
 ) -> Result<Ty, Refusal>
     ensures { IsAnswer ty_of (of_choice at (ty_of condition.now) (ty_of positive) (ty_of negative.now)) result }
 {
-    if same_ty(condition, &Ty::Bool) && same_ty(&positive, negative) {
+    if condition.is(&Ty::Bool) && positive.is(negative) {
         Ok(positive)
     } else {
         Err(Refusal::Mismatch(at))
@@ -206,10 +193,26 @@ pub(crate) fn choice_type(
 pub(crate) fn filter_type(alloc: Global, at: usize, item: Ty, condition: &Ty) -> Result<Ty, Refusal>
     ensures { IsAnswer ty_of (of_filter at (ty_of item) (ty_of condition.now)) result }
 {
-    if same_ty(condition, &Ty::Bool) {
+    if condition.is(&Ty::Bool) {
         sequence_of(alloc, item)
     } else {
         Err(Refusal::Mismatch(at))
+    }
+}
+
+// The type of a comprehension of these binders, with such a body and condition.
+pub(crate) fn each_type(
+    alloc: Global,
+    at: usize,
+    binders: &[Binder],
+    body: Ty,
+    condition: &Ty,
+) -> Result<Ty, Refusal>
+    ensures { IsAnswer ty_of (of_each at (binders_of binders.now) (ty_of body) (ty_of condition.now)) result }
+{
+    match binders {
+        [] => Err(Refusal::Mismatch(at)),
+        _ => filter_type(alloc, at, body, condition),
     }
 }
 

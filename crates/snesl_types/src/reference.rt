@@ -1,7 +1,7 @@
 // Plain evaluation of typed programs.
 
-ghost use Rattle.std.specs.Prelude.{IfOk};
-ghost use Rattle.snesl_values.specs.Inputs.{Fits, environment_of};
+ghost use Rattle.std.specs.Prelude.{◌≡◌, IfOk};
+ghost use Rattle.snesl_values.specs.Inputs.{declarations_of, environment_of};
 ghost use Rattle.snesl_evaluation.specs.Eval.{program_value};
 ghost use Rattle.snesl_evaluation.specs.Results.{IsAnswer};
 ghost use Rattle.snesl_types.specs.Soundness.{IsSound, TypedExpressionsAreSound, TypedProgramsAreSound};
@@ -9,11 +9,11 @@ ghost use Rattle.snesl_types.specs.Typed.{typed_inputs, typed_text, typed_tree, 
 
 use crate::typed::Typed;
 use snesl_evaluation::evaluate;
-use snesl_values::{Datum, Fault, Inputs};
+use snesl_values::{Datum, Fault, Inputs, inputs_fit};
 use std::alloc::{AllocError, Global};
 
 /// Evaluates a typed program by its definition, with all of each sequence in memory. It is slow, and
-/// there to say what a program means. `inputs` are the values of the declared inputs.
+/// there to say what a program means. `inputs` were read for the declared inputs.
 ///
 /// Returns the program's value, which is of the program's type, or its first fault with the offset
 /// that the form at fault keeps, in bytes of the text from 0. The fault is never `Shape`.
@@ -28,10 +28,11 @@ pub fn plain(
     typed: &Typed,
     inputs: &Inputs,
 ) -> Result<Result<Datum, Fault>, AllocError>
-    requires fits { Fits (typed_inputs typed.now) (environment_of inputs.now) }
+    requires fits { declarations_of inputs.now ≡ typed_inputs typed.now }
     ensures exact { IfOk result (λ answer. IsAnswer answer (program_value (typed_text typed.now) (typed_tree typed.now) (environment_of inputs.now))) }
     ensures sound { IfOk result (IsSound (typed_ty typed.now)) }
 {
+    inputs_fit(inputs);
     evaluate(alloc, typed.program(), inputs)
 }
 

@@ -2,12 +2,12 @@
 
 ghost use Rattle.std.specs.Prelude.{◌≡◌, ◌↔◌, IsTrue};
 ghost use Rattle.snesl_values.specs.Types.{ty_of};
-ghost use Rattle.snesl_values.specs.Inputs.{declared, environment_of, Fits};
-ghost use Rattle.snesl_tree.specs.View.{program_of as tree_of_program};
+ghost use Rattle.snesl_values.specs.Inputs.{declarations_of, declared};
+ghost use Rattle.snesl_grammar.specs.View.{program_of as tree_of_program};
 ghost use Rattle.snesl_types.specs.Programs.{HasTyping};
 
-use crate::fits::is_declared;
-use snesl_tree::Program;
+use crate::fits::same_decls;
+use snesl_grammar::Program;
 use snesl_values::{Inputs, Ty};
 
 /// A program with its inputs and its type. It keeps that the program has this type.
@@ -36,20 +36,11 @@ impl<'a> Typed<'a> {
         &self.inputs
     }
 
-    /// Whether the inputs have the declared names, in the order of declaration, and each a value of
-    /// its declared type.
+    /// Whether the inputs were read for the declared inputs: for these names and types, in this order.
     pub fn fits(&self, inputs: &Inputs) -> bool
-        ensures { IsTrue result ↔ Fits (typed_inputs self.now) (environment_of inputs.now) }
+        ensures { IsTrue result ↔ (declarations_of inputs.now ≡ typed_inputs self.now) }
     {
-        if self.inputs.len() != inputs.len() {
-            return false;
-        }
-        for number in 0..self.inputs.len() {
-            if !is_declared(&self.inputs[number], inputs, number) {
-                return false;
-            }
-        }
-        true
+        same_decls(inputs.decls(), &self.inputs)
     }
 
     /// The program's type.

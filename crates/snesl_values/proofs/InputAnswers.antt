@@ -1,7 +1,7 @@
 -- What the reader of an input text answers.
 use Rattle.std.proofs.Common.{◌≡◌, ℕ, ◌≤◌, List, length, Result, Ok, Err, IfOk, IfErr, ◌⊎◌, inl, inr, refl, ap, ◌∙◌}
 use Rattle.std.specs.Result.{IsOk, IsErrAnd}
-use Rattle.snesl_values.specs.declared.inputs.Inputs.{Inputs}
+use Rattle.snesl_values.specs.declared.environment.Inputs.{Inputs}
 use Rattle.snesl_values.specs.declared.inputs.InputError.{InputError}
 use Rattle.snesl_values.specs.declared.inputs.InputError.TheVariants.{Bad, NoMemory}
 use Rattle.snesl_values.specs.Inputs.{greatest_input_length, Declaration, Environment, environment_of, InputMeans, unlawful, spells, refused_at}
@@ -23,10 +23,14 @@ lawful_answered ds text (Err error) (inl is) environment means = inr (ap (λ e. 
 lawful_answered ds text (Err error) (inr (at, is, other)) environment means =
     let same = one_meaning ds text (refused_at at) (spells environment) other means in cc
 
+-- a text that spells an environment is not refused
+pub not_refused : (ds : List Declaration) (text : List ℕ) (environment : Environment) (at : ℕ) → InputMeans ds text (spells environment)
+    → InputMeans ds text (refused_at at) → ⊥
+not_refused ds text environment at spelled means = let same = one_meaning ds text (spells environment) (refused_at at) spelled means in cc
+
 pub unlawful_answered : (ds : List Declaration) (text : List ℕ) (r : Result Inputs InputError) → IfOk r (λ inputs. InputMeans ds text (spells (environment_of inputs)))
     → IfErr r (IsRight ds text) → (at : ℕ) → InputMeans ds text (refused_at at) → (r ≡ Err (Bad at)) ⊎ (r ≡ Err NoMemory)
-unlawful_answered ds text (Ok inputs) spelled right at means =
-    let same = one_meaning ds text (spells (environment_of inputs)) (refused_at at) spelled means in cc
+unlawful_answered ds text (Ok inputs) spelled right at means = absurd (not_refused ds text (environment_of inputs) at spelled means)
 unlawful_answered ds text (Err error) spelled (inl is) at means = inr (ap (λ e. Err e) is)
 unlawful_answered ds text (Err error) spelled (inr (other, is, stops)) at means =
     let same = one_meaning ds text (refused_at other) (refused_at at) stops means in

@@ -3,7 +3,7 @@ use Rattle.std.proofs.Common.{◌≡◌, ℕ, suc, ◌+◌, ◌-◌, ◌≤◌, 
 use Rattle.snesl_values.specs.Values.{Value, HasType}
 use Rattle.snesl_values.specs.InputTokens.{Token, word, next_at, next_token, Reads, none, Takes}
 use Rattle.snesl_values.specs.Inputs.{Declaration, Environment, Fits, equals, semicolon, value_tokens, entry_tokens, further_entries, environment_tokens, AreEntries, IsLawful, MayFollow, StopsAt, declared, declaration_of, entry_of}
-use Rattle.snesl_values.specs.declared.inputs.Input.{Input}
+use Rattle.snesl_values.specs.declared.environment.Input.{Input}
 use Rattle.snesl_values.specs.declared.ty.Ty.{Ty as TyTree}
 use Rattle.snesl_values.specs.Wants.{Want, one, perhaps, a_value, Fills, entry_wants, further_wants, wants_of, IsEntry, AllRead, IsStop, IsStopOf}
 use Rattle.snesl_values.specs.declared.inputs.InputError.{InputError}

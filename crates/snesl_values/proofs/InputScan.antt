@@ -143,12 +143,15 @@ another_sign text at start byte e unlike found = ⊎_elim
     (cases_lt start (length text))
 
 -- a word
+letter_in_word : (b : ℕ) → is_ascii_alphabetic b ≡ true → is_word b ≡ true
+letter_in_word b l = grind (arith, nat_tests)
+
 pub word_taken : (text : List ℕ) (at start len : ℕ) (expected : List ℕ) → start ≡ next_at text at → at ≤ start → start < length text
     → is_ascii_alphabetic (get_or text start 0) ≡ true → len ≡ prefix_len is_word (drop start text) → take len (drop start text) ≡ expected
     → Takes text at (word expected) (start + len)
 word_taken text at start len expected e from h letter count same =
     let counted : len ≡ 1 + prefix_len is_word (drop (suc start) text) =
-    count ∙ ap (prefix_len is_word) (drop-cons text start 0 h) ∙ cond-true _ (1 + prefix_len is_word (drop (suc start) text)) 0 (word_letter (get_or text start 0) letter) in
+    count ∙ ap (prefix_len is_word) (drop-cons text start 0 h) ∙ cond-true _ (1 + prefix_len is_word (drop (suc start) text)) 0 (letter_in_word (get_or text start 0) letter) in
     let some : 0 < len = omega arith in
     let most : len ≤ length (drop start text) = subst (λ n. n ≤ length (drop start text)) (sym count) (prefix_len-le-length is_word (drop start text)) in
     let lens : length (take_while is_word (drop start text)) ≡ len = length-prefix_len is_word (drop start text) ∙ sym count in
@@ -158,9 +161,6 @@ word_taken text at start len expected e from h letter count same =
     (first-letters (get_or text start 0) (drop (suc start) text) letter)
     ∙ ap (λ n. Some (word (take_while is_word (drop start text)), n)) lens ∙ ap (λ w. Some (word w, len)) word_is)
     some (omega (arith, length-drop start text))
-  where
-    word_letter : (b : ℕ) → is_ascii_alphabetic b ≡ true → is_word b ≡ true
-    word_letter b l = grind (arith, nat_tests)
 
 no_word : (n : ℤ) (w : List ℕ) → integer_token n ≡ word w → ⊥
 no_word n w e = by_test (is_integer n) e
@@ -285,10 +285,9 @@ minus_in_range : (digits : List ℕ) (n : ℤ) → (minus_lexeme digits).0 ≡ i
 minus_in_range [] n e = cc
 minus_in_range (d ∷ ds) n e = (omega arith, integer_in_range (negated (value_from 0 (d ∷ ds))) n e)
 
-digit_counts : (b : ℕ) (bs : List ℕ) → is_ascii_digit b ≡ true → 0 < length (take_while is_ascii_digit (b ∷ bs))
-digit_counts b bs e =
-    let count : length (take_while is_ascii_digit (b ∷ bs)) ≡ 1 + prefix_len is_ascii_digit bs =
-    length-prefix_len is_ascii_digit (b ∷ bs) ∙ cond-true (is_ascii_digit b) (1 + prefix_len is_ascii_digit bs) 0 e in
+take_while_some : (p : ℕ → Bool) (b : ℕ) (bs : List ℕ) → p b ≡ true → 0 < length (take_while p (b ∷ bs))
+take_while_some p b bs e =
+    let count : length (take_while p (b ∷ bs)) ≡ 1 + prefix_len p bs = length-prefix_len p (b ∷ bs) ∙ cond-true (p b) (1 + prefix_len p bs) 0 e in
     omega arith
 
 integer_only : (b : ℕ) (bs : List ℕ) (n : ℤ) (o : Option Lexeme) → Stands b bs o → option_map (λ (lexeme : Lexeme). lexeme.0) o ≡ Some (integer n)
@@ -296,7 +295,7 @@ integer_only : (b : ℕ) (bs : List ℕ) (n : ℤ) (o : Option Lexeme) → Stand
     ⊎ ((b ≡ 45) × (0 < length (take_while is_ascii_digit bs)) × IsInteger (negated (value_from 0 (take_while is_ascii_digit bs))))
 integer_only b bs n o (letters h) e = cc
 integer_only b bs n o (digits h) e =
-    inl (digit_counts b bs h, integer_in_range (pos (value_from 0 (take_while is_ascii_digit (b ∷ bs)))) n (let f : integer_token (pos (value_from 0 (take_while is_ascii_digit (b ∷ bs)))) ≡ integer n = cc in f))
+    inl (take_while_some is_ascii_digit b bs h, integer_in_range (pos (value_from 0 (take_while is_ascii_digit (b ∷ bs)))) n (let f : integer_token (pos (value_from 0 (take_while is_ascii_digit (b ∷ bs)))) ≡ integer n = cc in f))
 integer_only b bs n o (minus h) e =
     let r = minus_in_range (take_while is_ascii_digit bs) n (let f : (minus_lexeme (take_while is_ascii_digit bs)).0 ≡ integer n = cc in f) in inr (h, r.0, r.1)
 integer_only b bs n o (a_sign h) e = cc
@@ -349,3 +348,79 @@ something b bs o other e = cc
 pub some_next : (text : List ℕ) (at start : ℕ) → start ≡ next_at text at → start < length text → next_token text at ≡ None → ⊥
 some_next text at start e h nothing =
     something (get_or text start 0) (drop (suc start) text) _ (stands (get_or text start 0) (drop (suc start) text)) (sym (next_token-is text at start e h) ∙ nothing)
+
+-- a token is an integer in the range, or no integer
+abbrev pub InRange : Token → Type 0
+InRange (integer n) = IsInteger n
+InRange _ = Unit {0}
+
+-- what comes next: nothing, or a token
+pub data Coming (text : List ℕ) (at : ℕ) : Type 0 where
+  nothing_comes : next_token text at ≡ None → Coming text at
+  comes : (token : Token) (end : ℕ) → Takes text at token end → InRange token → Coming text at
+
+-- a lexeme that ends in these bytes
+record IsWithin (bytes : ℕ) (o : Option Lexeme) : Type 0 where
+  token : Token
+  len : ℕ
+  is : o ≡ Some (token, len)
+  some : 0 < len
+  most : len ≤ bytes
+  in_range : InRange token
+
+integer_token_range : (n : ℤ) → InRange (integer_token n)
+integer_token_range n = by_test (is_integer n) refl
+  where
+    by_test : (t : Bool) → is_integer n ≡ t → InRange (cond t (integer n) bad)
+    by_test true e = e
+    by_test false e = tt
+
+take_while_most : (p : ℕ → Bool) (bs : List ℕ) → length (take_while p bs) ≤ length bs
+take_while_most p bs = subst (λ n. n ≤ length bs) (sym (length-prefix_len p bs)) (prefix_len-le-length p bs)
+
+minus_within : (bs digits : List ℕ) → length digits ≤ length bs → IsWithin (suc (length bs)) (Some (minus_lexeme digits))
+minus_within bs [] h = record { token = bad; len = 1; is = refl; some = omega arith; most = omega arith; in_range = tt }
+minus_within bs (d ∷ ds) h = record {
+  token = integer_token (negated (value_from 0 (d ∷ ds)));
+  len = suc (length (d ∷ ds));
+  is = refl;
+  some = omega arith;
+  most = omega arith;
+  in_range = integer_token_range (negated (value_from 0 (d ∷ ds)));
+}
+
+found_within : (b : ℕ) (bs : List ℕ) (o : Option Lexeme) → Stands b bs o → IsWithin (suc (length bs)) o
+found_within b bs o (letters h) = record {
+  token = word (take_while is_word (b ∷ bs));
+  len = length (take_while is_word (b ∷ bs));
+  is = refl;
+  some = take_while_some is_word b bs (letter_in_word b h);
+  most = take_while_most is_word (b ∷ bs);
+  in_range = tt;
+}
+found_within b bs o (digits h) = record {
+  token = integer_token (pos (value_from 0 (take_while is_ascii_digit (b ∷ bs))));
+  len = length (take_while is_ascii_digit (b ∷ bs));
+  is = refl;
+  some = take_while_some is_ascii_digit b bs h;
+  most = take_while_most is_ascii_digit (b ∷ bs);
+  in_range = integer_token_range (pos (value_from 0 (take_while is_ascii_digit (b ∷ bs))));
+}
+found_within b bs o (minus h) = minus_within bs (take_while is_ascii_digit bs) (take_while_most is_ascii_digit bs)
+found_within b bs o (a_sign h) = record { token = sign b; len = 1; is = refl; some = omega arith; most = omega arith; in_range = tt }
+found_within b bs o other = record { token = bad; len = 1; is = refl; some = omega arith; most = omega arith; in_range = tt }
+
+pub coming : (text : List ℕ) (at : ℕ) → at ≤ length text → Coming text at
+coming text at within = by_length (cases_lt (next_at text at) (length text))
+  where
+    by_length : (next_at text at < length text) ⊎ (length text ≤ next_at text at) → Coming text at
+    by_length (inl below) =
+        let start : ℕ = next_at text at in
+        let b : ℕ = get_or text start 0 in
+        let behind : List ℕ = drop (suc start) text in
+        let found = found_within b behind (first (b ∷ behind)) (stands b behind) in
+        comes found.token (start + found.len)
+        (taken text at start found.len found.token refl (omega (arith, next_at-is text at)) (ap first (drop-cons text start 0 below) ∙ found.is) found.some
+        (omega (arith, found.most, length-drop (suc start) text)))
+        found.in_range
+    by_length (inr over) = nothing_comes (no_next text at (next_at text at) refl over)

@@ -1,5 +1,5 @@
 -- What counted readers and writers count.
-use Rattle.std.specs.Prelude.{◌≡◌, ℕ, suc, ◌<◌, min, Bool, true, false, ◌&&◌, ◌==◌, nat_lt, if◌then◌else◌, ◌⊎◌, Ok, Err}
+use Rattle.std.specs.Prelude.{◌≡◌, ℕ, suc, min, Bool, true, false, ◌&&◌, ◌==◌, nat_lt, if◌then◌else◌, Ok, Err}
 use Rattle.std.specs.declared.result.Result.{Result}
 use Rattle.snesl_values.specs.declared.counted.Counted.{Counted}
 
@@ -28,11 +28,20 @@ abbrev pub read_failed : {E : Type 0} → Result ℕ E → Bool
 read_failed (Ok given) = false
 read_failed (Err e) = true
 
+-- a flush fails where it ends in an error
+abbrev pub flush_failed : {D E : Type 0} → Result D E → Bool
+flush_failed (Ok done) = false
+flush_failed (Err e) = true
+
 -- a write fails where it ends in an error, and where it takes none of the bytes that it was given
 abbrev pub write_failed : {E : Type 0} → Result ℕ E → ℕ → Bool
 write_failed (Ok taken) given = taken == 0 && nat_lt 0 given
 write_failed (Err e) given = true
 
--- some call has failed between these counts, as far as they tell
+-- no call has failed between these counts, as far as they tell: a count that stands at its most stays
+abbrev pub HasWorked : ℕ → ℕ → Type 0
+HasWorked before after = after ≡ before
+
+-- exactly one call has failed between these counts, as far as they tell
 abbrev pub HasFailed : ℕ → ℕ → Type 0
-HasFailed before after = (before < after) ⊎ (after ≡ most_failures)
+HasFailed before after = after ≡ one_more before

@@ -1,36 +1,18 @@
 -- What an input text spells, and where it is refused.
-use Rattle.std.specs.Prelude.{◌≡◌, ℕ, ◌<◌, ◌≤◌, true, false, List, [], ◌∷◌, ◌++◌, ◌⊎◌, map, length, codes, Option, Some, None, if◌then◌else◌, Vec}
-use Rattle.std.specs.Global.{Global}
+use Rattle.std.specs.Prelude.{◌≡◌, ℕ, ◌<◌, ◌≤◌, true, false, List, [], ◌∷◌, ◌++◌, ◌⊎◌, map, length, codes, Option, Some, None, if◌then◌else◌}
 use Rattle.std.specs.Str.{bytes_eq}
-use Rattle.snesl_values.specs.declared.inputs.Input.{Input}
-use Rattle.snesl_values.specs.declared.inputs.Inputs.{Inputs}
+use Rattle.snesl_values.specs.declared.environment.Inputs.{Inputs}
 use Rattle.snesl_values.specs.declared.inputs.InputError.{InputError}
 use Rattle.snesl_values.specs.declared.inputs.InputError.TheVariants.{Bad, NoMemory}
 use Rattle.snesl_values.specs.declared.refusal.Refusal.{Refusal}
 use Rattle.snesl_values.specs.declared.refusal.Refusal.TheVariants as refusals
-use Rattle.snesl_values.specs.declared.ty.Ty.{Ty as TyTree}
-use Rattle.snesl_values.specs.Types.{Ty, ty_of}
-use Rattle.snesl_values.specs.Values.{Value, an_int, a_bool, a_pair, a_vec, a_seq, Values, no_values, more_values, HasType, value_of}
+pub use Rattle.snesl_values.specs.Declarations.{Declaration, Environment, Fits, declaration_of, declared, entry_of}
+use Rattle.snesl_values.specs.Values.{Value, an_int, a_bool, a_pair, a_vec, a_seq, Values, no_values, more_values}
 use Rattle.snesl_values.specs.InputTokens.{Token, word, integer, sign, next_at, next_token, Reads}
 
 -- the greatest length of an input text, in bytes
 abbrev pub greatest_input_length : ℕ
 greatest_input_length = 16777216
-
--- a declared name and its type
-abbrev pub Declaration : Type 0
-Declaration = List ℕ × Ty
-
--- the values of the declared inputs, each beside its name
-abbrev pub Environment : Type 0
-Environment = List (List ℕ × Value)
-
--- the names are the declared ones in order, and each value has its declared type
-abbrev pub Fits : List Declaration → Environment → Type 0
-Fits [] [] = Unit {0}
-Fits (declaration ∷ declarations) (entry ∷ environment) =
-    (entry.0 ≡ declaration.0) × HasType entry.1 declaration.1 × Fits declarations environment
-Fits _ _ = ⊥
 
 -- the signs = ; , ( ) [ ] { }
 abbrev pub equals : Token
@@ -145,23 +127,19 @@ pub data InputMeans (declarations : List Declaration) (text : List ℕ) : InputA
   unlawful : {at : ℕ} → length text ≤ greatest_input_length → StopsAt (IsLawful declarations) text 0 at
       → InputMeans declarations text (refused_at at)
 
--- a text has one answer
+-- no text has two answers
 abbrev pub OneInputMeaning : Type 0
 OneInputMeaning =
     (declarations : List Declaration) (text : List ℕ) (a b : InputAnswer)
     → InputMeans declarations text a → InputMeans declarations text b → a ≡ b
 
--- the declaration that a name and a type are
-abbrev pub declaration_of : (Vec ℕ Global × TyTree) → Declaration
-declaration_of pair = (pair.0.items, ty_of pair.1)
+-- each text has an answer
+abbrev pub SomeInputMeaning : Type 0
+SomeInputMeaning = (declarations : List Declaration) (text : List ℕ) → (answer : InputAnswer) × InputMeans declarations text answer
 
--- the same for all of them
-abbrev pub declared : List (Vec ℕ Global × TyTree) → List Declaration
-declared = map declaration_of
-
--- a name and the value that was read for it
-abbrev pub entry_of : Input → List ℕ × Value
-entry_of input = (input.name.items, value_of input.value)
+-- the declarations for which inputs were read
+unfoldable pub declarations_of : Inputs → List Declaration
+declarations_of inputs = declared inputs.decls.items
 
 -- the names and values that were read
 unfoldable pub environment_of : Inputs → Environment

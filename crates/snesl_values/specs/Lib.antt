@@ -7,6 +7,7 @@ pub mod Text
 pub mod Blanks
 pub mod Characters
 pub mod InputTokens
+pub mod Declarations
 pub mod Inputs
 pub mod Wants
 pub mod Counted

@@ -1,5 +1,5 @@
--- The number of each refusal, and the offset that it names.
-use Rattle.std.specs.Prelude.{ℕ, Option, Some, None}
+-- The number of each refusal, the offset that it names, and where it is said.
+use Rattle.std.specs.Prelude.{ℕ, Bool, true, false, if◌then◌else◌, Option, Some, None}
 use Rattle.snesl_values.specs.declared.refusal.Refusal.{Refusal}
 use Rattle.snesl_values.specs.declared.refusal.Refusal.TheVariants.{TooLong, Lex, Syntax, Deep, Name, Mismatch, Streamed, BadInput, TooBig, BadConfig, NoMemory, Output, NoThread, Read, Short}
 
@@ -29,3 +29,16 @@ offset_of_refusal (Mismatch at) = Some at
 offset_of_refusal (Streamed at) = Some at
 offset_of_refusal (BadInput at) = Some at
 offset_of_refusal _ = None
+
+-- refusals 11 to 15 are of the system and not of the job
+abbrev pub is_of_the_system : Refusal → Bool
+is_of_the_system NoMemory = true
+is_of_the_system Output = true
+is_of_the_system NoThread = true
+is_of_the_system Read = true
+is_of_the_system Short = true
+is_of_the_system _ = false
+
+-- the exit status of a refusal
+abbrev pub status_of_refusal : Refusal → ℕ
+status_of_refusal refusal = if is_of_the_system refusal then 4 else 1

@@ -26,3 +26,12 @@ is_concrete bool = true
 is_concrete (pair first second) = is_concrete first && is_concrete second
 is_concrete (vec item) = is_concrete item
 is_concrete (seq item) = false
+
+-- whether two types are the same
+abbrev pub is_same : Ty → Ty → Bool
+is_same int int = true
+is_same bool bool = true
+is_same (pair first second) (pair other another) = is_same first other && is_same second another
+is_same (vec item) (vec other) = is_same item other
+is_same (seq item) (seq other) = is_same item other
+is_same _ _ = false

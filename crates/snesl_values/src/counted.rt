@@ -3,7 +3,7 @@
 ghost use Rattle.std.specs.Prelude.{◌≡◌, length};
 ghost use Rattle.std.specs.Io.{ReadsAtMost, WritesAtMost};
 ghost use Rattle.std.specs.Io.KnownBytes.{Keeps, ReadConsumes, WriteAppends};
-ghost use Rattle.snesl_values.specs.Counted.{counted_inner, failures_of, one_more, counted, read_failed, write_failed};
+ghost use Rattle.snesl_values.specs.Counted.{counted_inner, failures_of, one_more, counted, read_failed, write_failed, flush_failed};
 
 use std::io::{self, Read, Write};
 
@@ -30,8 +30,9 @@ impl<T> Counted<T> {
         self.inner
     }
 
-    /// How many calls have failed: those of `read` and `write` that ended in an error, and those of
-    /// `write` that took none of the bytes that they were given. The count stays at `u64::MAX`.
+    /// How many calls have failed: those of `read`, `write` and `flush` that ended in an error, and
+    /// those of `write` that took none of the bytes that they were given. The count stays at
+    /// `u64::MAX`.
     pub fn failures(&self) -> u64
         ensures { result ≡ failures_of self.now }
     {
@@ -83,8 +84,12 @@ impl<W: Write> Write for Counted<W> {
 
     fn flush(&mut self) -> io::Result<()>
         ensures bytes { Keeps (W.contents (counted_inner self.old)) (W.contents (counted_inner self.new)) }
-        ensures counts { failures_of self.new ≡ failures_of self.old }
+        ensures counts { failures_of self.new ≡ counted (failures_of self.old) (flush_failed result) }
     {
-        self.inner.flush()
+        let flushed = self.inner.flush();
+        if flushed.is_err() {
+            self.count_failure();
+        }
+        flushed
     }
 }

@@ -1,89 +1,21 @@
 // Input texts.
 
-ghost use Rattle.std.specs.Prelude.{◌≡◌, ◌↔◌, ℕ, ◌≤◌, ◌∷◌, [], ◌⊎◌, length, map, IsTrue, IfOk, IfErr, IsOk, Err, Option, Some, None, option_map};
-ghost use Rattle.std.specs.List.{slice_get};
-ghost use Rattle.snesl_values.specs.Types.{ty_of};
-ghost use Rattle.snesl_values.specs.Values.{value_of};
-ghost use Rattle.snesl_values.specs.Inputs.{Environment, declared, declaration_of, entry_of, environment_of, value_in, Fits, spells, refused_at, InputMeans, OneInputMeaning};
+ghost use Rattle.std.specs.Prelude.{◌≡◌, ℕ, ◌≤◌, [], ◌⊎◌, length, map, IfOk, IfErr, IsOk, Err};
+ghost use Rattle.snesl_values.specs.Declarations.{Environment, declared, declaration_of, entry_of, Fits};
+ghost use Rattle.snesl_values.specs.Inputs.{declarations_of, environment_of, spells, refused_at, InputMeans, OneInputMeaning, SomeInputMeaning};
 ghost use Rattle.snesl_values.specs.Wants.{entry_wants, IsStop, IsStopOf, IsEntry, AllRead};
 ghost use Rattle.snesl_values.specs.declared.inputs.InputError.TheVariants.{Bad, NoMemory};
 
-use crate::datum::Datum;
+use crate::environment::{Input, Inputs};
 use crate::reader::{expect_sign, expect_word, read_value};
 use crate::refusal::Refusal;
 use crate::scan::{behind_sign, skip_blanks};
-use crate::ty::Ty;
+use crate::ty::{Ty, copy_ty};
 use std::alloc::{AllocError, AllocFailed, Global};
 use thiserror::Error;
 
 /// The greatest length of an input text, in bytes.
 const GREATEST_INPUT_LENGTH: usize = 16_777_216;
-
-// A declared name and its value.
-#[derive(Debug, Drop)]
-struct Input {
-    name: Vec<u8>,
-    value: Datum,
-}
-
-/// The values of a program's declared inputs, in the order of declaration.
-#[derive(Debug, Drop)]
-pub struct Inputs {
-    all: Vec<Input>,
-}
-
-impl Inputs {
-    /// How many inputs there are.
-    #[tactic(auto, unfolding(crate::specs::Inputs::environment_of))]
-    pub fn len(&self) -> usize
-        ensures { result ≡ length (environment_of self.now) }
-    {
-        self.all.len()
-    }
-
-    /// Whether there is no input.
-    #[tactic(auto, unfolding(crate::specs::Inputs::environment_of))]
-    pub fn is_empty(&self) -> bool
-        ensures { IsTrue result ↔ (environment_of self.now ≡ []) }
-    {
-        self.all.is_empty()
-    }
-
-    /// The name of the input of this number, counted from 0 in the order of declaration, if there
-    /// are so many.
-    #[tactic(auto, unfolding(crate::specs::Inputs::environment_of))]
-    pub fn name(&self, number: usize) -> Option<&[u8]>
-        ensures { option_map (λ name. name.now) result ≡ option_map (λ entry. entry.0) (slice_get (environment_of self.now) number) }
-    {
-        let input = self.all.get(number)?;
-        Some(&input.name)
-    }
-
-    /// The value of the input of this number, counted from 0 in the order of declaration, if there
-    /// are so many.
-    #[tactic(auto, unfolding(crate::specs::Inputs::environment_of))]
-    pub fn value(&self, number: usize) -> Option<&Datum>
-        ensures { option_map (λ datum. value_of datum.now) result ≡ option_map (λ entry. entry.1) (slice_get (environment_of self.now) number) }
-    {
-        match self.all.get(number) {
-            Some(input) => Some(&input.value),
-            None => None,
-        }
-    }
-
-    /// The value of the first input of this name, if there is one.
-    #[tactic(auto, unfolding(crate::specs::Inputs::environment_of))]
-    pub fn named(&self, name: &[u8]) -> Option<&Datum>
-        ensures { option_map (λ datum. value_of datum.now) result ≡ value_in name.now (environment_of self.now) }
-    {
-        for input in &self.all {
-            if input.name.as_slice() == name {
-                return Some(&input.value);
-            }
-        }
-        None
-    }
-}
 
 /// Why an input text was not read.
 #[derive(Clone, Copy, Debug, PartialEq, Eq, Error)]
@@ -153,6 +85,9 @@ pub fn read_inputs(
     ensures lawful { (environment : Environment) → InputMeans (declared decls.now) bytes.now (spells environment) → IsOk result ⊎ (result ≡ Err NoMemory) }
     ensures unlawful { (at : ℕ) → InputMeans (declared decls.now) bytes.now (refused_at at) → (result ≡ Err (Bad at)) ⊎ (result ≡ Err NoMemory) }
 
+    // The inputs are of the declarations for which they were read.
+    ensures declares { IfOk result (λ inputs. declarations_of inputs ≡ declared decls.now) }
+
     // The names are the declared ones, and the values have their types.
     ensures fits { IfOk result (λ inputs. Fits (declared decls.now) (environment_of inputs)) }
 {
@@ -164,7 +99,21 @@ pub fn read_inputs(
     if end < bytes.len() {
         return Err(InputError::Bad(end));
     }
-    Ok(Inputs { all })
+    let decls = copy_decls(alloc, decls)?;
+    Ok(Inputs { decls, all })
+}
+
+// The same declarations in memory of their own.
+fn copy_decls(alloc: Global, decls: &[(Vec<u8>, Ty)]) -> Result<Vec<(Vec<u8>, Ty)>, AllocError>
+    ensures { IfOk result (λ copies. declared copies.items ≡ declared decls.now) }
+{
+    let mut copies = Vec::with_capacity(alloc, decls.len())?;
+    for declaration in decls {
+        let name = Vec::from_slice(alloc, &declaration.0)?;
+        let ty = copy_ty(alloc, &declaration.1)?;
+        copies.push((name, ty))?;
+    }
+    Ok(copies)
 }
 
 // The values of the declarations, read from the start of a text, and the offset behind them.
@@ -212,7 +161,13 @@ fn read_entry(
     Ok((Input { name, value }, end))
 }
 
-/// A law and no code to run: a text means one thing.
+/// A law and no code to run: the values are of the declarations for which they were read.
+pub fn inputs_fit(inputs: &Inputs)
+    ensures { Fits (declarations_of inputs.now) (environment_of inputs.now) }
+{}
+
+/// A law and no code to run: a text means one thing for the declarations, and no more than one.
 pub fn one_input_meaning()
-    ensures { OneInputMeaning }
+    ensures one { OneInputMeaning }
+    ensures some { SomeInputMeaning }
 {}

@@ -1,7 +1,7 @@
 // Refusals.
 
 ghost use Rattle.std.specs.Prelude.{◌≡◌};
-ghost use Rattle.snesl_values.specs.Refusals.{number_of_refusal, offset_of_refusal};
+ghost use Rattle.snesl_values.specs.Refusals.{number_of_refusal, offset_of_refusal, is_of_the_system, status_of_refusal};
 
 use std::alloc::{AllocError, AllocFailed};
 
@@ -78,6 +78,24 @@ impl Refusal {
             | Refusal::BadInput(at) => Some(*at),
             _ => None,
         }
+    }
+
+    /// Whether the system is at fault and not the job: true of 11 to 15. Such a refusal is said on
+    /// standard error, any other on standard output.
+    pub fn is_of_the_system(&self) -> bool
+        ensures { result ≡ is_of_the_system self.now }
+    {
+        matches!(
+            self,
+            Refusal::NoMemory | Refusal::Output | Refusal::NoThread | Refusal::Read | Refusal::Short
+        )
+    }
+
+    /// The exit status of a program that ends in the refusal: 4 where the system is at fault, else 1.
+    pub fn status(&self) -> u8
+        ensures { result ≡ status_of_refusal self.now }
+    {
+        if self.is_of_the_system() { 4 } else { 1 }
     }
 }
 

@@ -1,7 +1,7 @@
 // Types.
 
 ghost use Rattle.std.specs.Prelude.{◌≡◌, IfOk};
-ghost use Rattle.snesl_values.specs.Types.{ty_of, is_concrete};
+ghost use Rattle.snesl_values.specs.Types.{ty_of, is_concrete, is_same};
 
 use std::alloc::{AllocError, Global};
 
@@ -29,6 +29,20 @@ impl Ty {
             Ty::Pair(first, second) => first.concrete() && second.concrete(),
             Ty::Vec(item) => item.concrete(),
             Ty::Seq(_) => false,
+        }
+    }
+
+    /// Whether this is the same type as another.
+    pub fn is(&self, other: &Ty) -> bool
+        ensures { result ≡ is_same (ty_of self.now) (ty_of other.now) }
+    {
+        match (self, other) {
+            (Ty::Int, Ty::Int) | (Ty::Bool, Ty::Bool) => true,
+            (Ty::Pair(first, second), Ty::Pair(other, another)) => {
+                first.is(other) && second.is(another)
+            }
+            (Ty::Vec(item), Ty::Vec(other)) | (Ty::Seq(item), Ty::Seq(other)) => item.is(other),
+            _ => false,
         }
     }
 }

@@ -1,7 +1,7 @@
 use Rattle.std.proofs.Common.{◌≡◌, length, ap, subst, sym, ◌∙◌}
 use Rattle.flow_edges.specs.Tables.{ends_of, capacity_of, IsFresh}
 use Rattle.flow_graph.specs.Graphs.{states_of, edges_of}
-use Rattle.flow_graph.proofs.Nets.{wired_net}
+use Rattle.flow_graph.proofs.Nets.{graph_wired}
 use Rattle.flow_drive.specs.Drives.{EndsMaximalRun}
 use Rattle.flow_drive.proofs.Graphs.{all_ends_still, fresh_all_ends}
 use Rattle.flow_drive.proofs.Rests.{run_sound, run_rests}
@@ -16,15 +16,15 @@ invariant_of-result g c =
     let states' = states_of c.run_serial.new.graph in
     let edges' = edges_of c.run_serial.new.graph in
     let view = ends_of c.run_serial.new.ends.inner in
-    let same = c.run_serial.ensures.network in
-    let counted = c.run_serial.ensures.same in
+    let same = c.run_serial.ensures.shape.network in
+    let counted = c.run_serial.ensures.shape.same in
     let count : length edges ≡ length edges' = ap length (sym same.same_edges) in
     let fresh : IsFresh c.edges.result (ends_of c.in_ok-ends.ends.inner) = subst (λ t. IsFresh c.edges.result (ends_of t)) (sym c.in_ok-ends.ensures.inner) c.in_ok-table.ensures.fresh in
     let run : EndsMaximalRun b (capacity_of c.run_serial.new.ends.inner) states edges states' view = subst (λ n. EndsMaximalRun b n states edges states' view) (sym counted.inner) c.in_ok-run_serial.ensures.run in
     record {
       counted = counted.received ∙ c.in_ok-ends.ensures.received ∙ c.edges-2.ensures ∙ count;
-      there = all_ends_still c.edges.result (length edges') (ends_of c.in_ok-ends.ends.inner) view (sym (c.edges.ensures ∙ count)) c.run_serial.ensures.ends (fresh_all_ends c.edges.result (ends_of c.in_ok-ends.ends.inner) fresh);
-      sound = run_sound b (capacity_of c.run_serial.new.ends.inner) states edges states' edges' view same run (λ idle. wired_net b idle states graph.wiring.ports.items edges graph.wiring.wired graph.kept graph.joined);
+      there = all_ends_still c.edges.result (length edges') (ends_of c.in_ok-ends.ends.inner) view (sym (c.edges.ensures ∙ count)) c.run_serial.ensures.shape.ends (fresh_all_ends c.edges.result (ends_of c.in_ok-ends.ends.inner) fresh);
+      sound = run_sound b (capacity_of c.run_serial.new.ends.inner) states edges states' edges' view same run (graph_wired graph);
       rest = run_rests b (capacity_of c.run_serial.new.ends.inner) states edges states' edges' view same run;
     }
 

@@ -5,4 +5,4 @@ use Rattle.flow_drive.proofs.outcome.first_to_write.Given as goal
 
 -- no writer of the edges so far wants to write to its edge
 abbrev pub invariant-loop-number : goal.invariant-loop-number
-invariant-loop-number g l = (idle : g.T.Transducer.State) (e : ℕ) → e < l.number → WantsToWrite g.T.Transducer.behaviour (states_of l.graph) (edges_of l.graph) idle e → ⊥
+invariant-loop-number g l = (e : ℕ) → e < l.number → WantsToWrite g.T.Transducer.behaviour (states_of l.graph) (edges_of l.graph) e → ⊥

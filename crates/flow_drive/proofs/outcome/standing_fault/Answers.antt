@@ -19,20 +19,20 @@ still want n None none before = rw (add-one n) (none_still want n none before)
 still want n (Some f) none before = rw (add-one n) (named_still want n f none before)
 
 pub loop-node-preserved : goal.loop-node-preserved
-loop-node-preserved g c idle =
+loop-node-preserved g c =
     let b = g.T.Transducer.behaviour in
     let n = c.loop-node.node in
     let states = states_of c.args.graph.now in
-    let want : ℕ → Want = λ k. b.process.want (state_at idle states k) in
-    let here : want n ≡ c.want.result = ap b.process.want (sym (c.node.ensures idle)) ∙ sym c.want.ensures in
+    let want : ℕ → Want = λ k. b.process.want (state_at b states k) in
+    let here : want n ≡ c.want.result = ap b.process.want (sym c.node.ensures) ∙ sym c.want.ensures in
     elim c.match-want.branch [
       | in-Faulted+in-None w ↦
-          let none : NoneBelow want n = rw w.in-None.is at c.loop-node.invariant idle in
+          let none : NoneBelow want n = rw w.in-None.is at c.loop-node.invariant in
           rw (w.standing-is, add-one n) (named_newly want n w.in-Faulted.fault (here ∙ w.in-Faulted.is) none)
       | in-Faulted+in-Some w ↦
-          let below : NamesBelow want n w.in-Some.other = rw w.in-Some.is at c.loop-node.invariant idle in
+          let below : NamesBelow want n w.in-Some.other = rw w.in-Some.is at c.loop-node.invariant in
           rw (w.standing-is, add-one n) (named_next want n w.in-Some.other w.in-Faulted.fault w.named.result (here ∙ w.in-Faulted.is) below w.named.ensures)
-      | in_default w ↦ rw w.standing-is (still want n c.loop-node.standing (λ f is. w.in_default.not-Faulted f (sym here ∙ is)) (c.loop-node.invariant idle))
+      | in_default w ↦ rw w.standing-is (still want n c.loop-node.standing (λ f is. w.in_default.not-Faulted f (sym here ∙ is)) c.loop-node.invariant)
     ]
 
 -- what is known of all nodes
@@ -41,9 +41,9 @@ all_known P net c None none = λ k inside f is. none k f inside is
 all_known P net c (Some f) below = names_from P net 0 c f below
 
 pub returns : goal.returns
-returns g c idle view =
+returns g c view =
     let b = g.T.Transducer.behaviour in
     let states = states_of c.args.graph.now in
     let count : c.loop-node.node ≡ length states = omega (arith, c.loop-node-test.false, c.nodes-node-end.ensures, c.loop-node.auto.node-end) in
-    all_known b.process (network_of b idle states (edges_of c.args.graph.now)) (configuration_of idle states view) c.loop-node.standing
-    (subst (λ n. Stands (λ k. b.process.want (state_at idle states k)) n c.loop-node.standing) count (c.loop-node.invariant idle))
+    all_known b.process (network_of b states (edges_of c.args.graph.now)) (configuration_of b states view) c.loop-node.standing
+    (subst (λ n. Stands (λ k. b.process.want (state_at b states k)) n c.loop-node.standing) count c.loop-node.invariant)

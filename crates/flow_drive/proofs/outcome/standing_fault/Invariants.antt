@@ -7,6 +7,5 @@ use Rattle.flow_drive.proofs.outcome.standing_fault.Given as goal
 -- the fault that is named of those to which the nodes so far have come
 abbrev pub invariant-loop-node : goal.invariant-loop-node
 invariant-loop-node g l =
-    (idle : g.T.Transducer.State)
-    → MatchOption l.standing (NoneBelow (λ k. g.T.Transducer.behaviour.process.want (state_at idle (states_of l.graph) k)) l.node)
-    (λ fault. NamesBelow (λ k. g.T.Transducer.behaviour.process.want (state_at idle (states_of l.graph) k)) l.node fault)
+    MatchOption l.standing (NoneBelow (λ k. g.T.Transducer.behaviour.process.want (state_at g.T.Transducer.behaviour (states_of l.graph) k)) l.node)
+    (λ fault. NamesBelow (λ k. g.T.Transducer.behaviour.process.want (state_at g.T.Transducer.behaviour (states_of l.graph) k)) l.node fault)

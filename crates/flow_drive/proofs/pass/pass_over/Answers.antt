@@ -2,16 +2,17 @@ use Rattle.std.proofs.Common.{◌≡◌, ◌||◌, ◌+◌, Bool, [], ◌∷◌,
 use Rattle.std.proofs.lemmas.List.{take_all}
 use Rattle.std.proofs.Math.Seq.{take-suc}
 use Rattle.flow_graph.specs.Graphs.{states_of, edges_of}
-use Rattle.flow_graph.proofs.Nets.{wired_net}
+use Rattle.flow_graph.proofs.Nets.{graph_wired}
+use Rattle.flow_graph.proofs.Shapes.{shape_then}
 use Rattle.flow_drive.specs.Visits.{Visits}
 use Rattle.flow_drive.proofs.Visits.{or_moved, or_calm}
-use Rattle.flow_drive.proofs.Graphs.{same_ends_then, same_network_then, visits_push}
+use Rattle.flow_drive.proofs.Graphs.{visits_push}
 use Rattle.flow_drive.proofs.pass.pass_over.Goals as goal
 use Rattle.flow_drive.proofs.pass.pass_over.Goals.{then-branch, else-branch+then-is_over, else-branch+else-is_over}
 
-pub returns-in_err-visit-clause-network : goal.returns-in_err-visit-clause-network
-returns-in_err-visit-clause-network g c =
-    same_network_then g.T.Transducer.behaviour (states_of c.args.graph.now) (states_of c.loop-node.graph) (states_of c.visit.new.graph) (edges_of c.args.graph.now) (edges_of c.loop-node.graph) (edges_of c.visit.new.graph) c.loop-node.invariant.network c.visit.ensures.network
+pub returns-in_err-visit-clause-shape : goal.returns-in_err-visit-clause-shape
+returns-in_err-visit-clause-shape g c =
+    shape_then g.E.Ends.same g.E.Ends.view g.met.E.Ends.same_trans c.args.graph.now c.args.ends.now c.loop-node.graph c.loop-node.ends c.visit.new.graph c.visit.new.ends c.loop-node.invariant.shape c.visit.ensures.shape
 
 pub loop-node-preserved : goal.loop-node-preserved
 loop-node-preserved g c =
@@ -30,10 +31,10 @@ loop-node-preserved g c =
     let inv = c.loop-node.invariant in
     let capacity = g.E.WholeEnds.capacity c.args.ends.now in
     let capacity' = g.E.WholeEnds.capacity c.loop-node.ends in
-    let even : capacity' ≡ capacity = g.met.E.WholeEnds.same_capacity c.args.ends.now c.loop-node.ends inv.same in
+    let even : capacity' ≡ capacity = g.met.E.WholeEnds.same_capacity c.args.ends.now c.loop-node.ends inv.shape.same in
     let one : Bool = c.in_ok-visit.field-0 in
     let pushed : Visits b capacity (take i nodes ++ get_or nodes i 0 ∷ []) edges states view states'' view'' (c.loop-node.pass.moved || one) =
-    visits_push b capacity states edges view (λ idle. wired_net b idle states graph.wiring.ports.items edges graph.wiring.wired graph.kept graph.joined) states' edges' view' inv.network capacity' even (take i nodes) (get_or nodes i 0) states'' view'' c.loop-node.pass.moved one inv.visits c.in_ok-visit.ensures.visits in
+    visits_push b capacity states edges view (graph_wired graph) states' edges' view' inv.shape.network capacity' even (take i nodes) (get_or nodes i 0) states'' view'' c.loop-node.pass.moved one inv.visits c.in_ok-visit.ensures.visits in
     let longer : take (i + 1) nodes ≡ take i nodes ++ get_or nodes i 0 ∷ [] = ap (λ n. take n nodes) (add-one i) ∙ take-suc nodes i 0 c.loop-node-test.true in
     let visits : (now : Bool) → (c.loop-node.pass.moved || one) ≡ now → Visits b capacity (take (i + 1) nodes) edges states view states'' view'' now =
     λ now is. subst (λ any. Visits b capacity (take (i + 1) nodes) edges states view states'' view'' any) is (subst (λ l. Visits b capacity l edges states view states'' view'' (c.loop-node.pass.moved || one)) (sym longer) pushed) in
@@ -44,9 +45,7 @@ loop-node-preserved g c =
       | else-branch+else-is_over w ↦ or_calm c.loop-node.pass.moved one now w.if-branch.false (ap (λ p. p.moved) w.pass-is)
     ] in
     record {
-      same = g.met.E.Ends.same_trans c.args.ends.now c.loop-node.ends c.visit.new.ends inv.same c.visit.ensures.same;
-      ends = same_ends_then view view' view'' inv.ends c.visit.ensures.ends;
-      network = same_network_then b states states' states'' edges edges' (edges_of c.visit.new.graph) inv.network c.visit.ensures.network;
+      shape = shape_then g.E.Ends.same g.E.Ends.view g.met.E.Ends.same_trans c.args.graph.now c.args.ends.now c.loop-node.graph c.loop-node.ends c.visit.new.graph c.visit.new.ends c.loop-node.invariant.shape c.visit.ensures.shape;
       visits = visits now is;
       some = λ h. omega arith;
     }

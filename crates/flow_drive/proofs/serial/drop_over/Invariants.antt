@@ -11,7 +11,7 @@ invariant-loop-i g l = record {
   few : l.kept ≤ l.i;
   below : (j d : ℕ) → j < l.kept → get_or l.nodes.items j d < length (states_of l.graph);
   rest : (j d : ℕ) → l.i ≤ j → get_or l.nodes.items j d ≡ get_or l.fn.nodes.items j d;
-  seen : (idle : g.T.Transducer.State) (j d : ℕ) → j < l.i
+  seen : (j d : ℕ) → j < l.i
       → ((m : ℕ) × (m < l.kept) × (get_or l.nodes.items m d ≡ get_or l.fn.nodes.items j d))
-      ⊎ (is_over (g.T.Transducer.behaviour.process.want (state_at idle (states_of l.graph) (get_or l.fn.nodes.items j d))) ≡ true);
+      ⊎ (is_over (g.T.Transducer.behaviour.process.want (state_at g.T.Transducer.behaviour (states_of l.graph) (get_or l.fn.nodes.items j d))) ≡ true);
 }

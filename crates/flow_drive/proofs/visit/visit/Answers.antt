@@ -8,10 +8,11 @@ use Rattle.flow_graph.specs.declared.step.Moved.TheVariants.{One, Nothing}
 use Rattle.flow_graph.specs.Graphs.{states_of, edges_of}
 use Rattle.flow_graph.specs.Networks.{network_of}
 use Rattle.flow_graph.specs.Steps.{is_one}
-use Rattle.flow_graph.proofs.Nets.{wired_net}
+use Rattle.flow_graph.proofs.Nets.{graph_wired}
+use Rattle.flow_graph.proofs.Shapes.{shape_refl, shape_then}
 use Rattle.flow_drive.specs.Visits.{Visits}
 use Rattle.flow_drive.proofs.Visits.{or_calm}
-use Rattle.flow_drive.proofs.Graphs.{same_ends_refl, same_ends_then, same_network_refl, same_network_then, visits_none, visits_turn, visits_again, visits_any, visits_push}
+use Rattle.flow_drive.proofs.Graphs.{visits_none, visits_turn, visits_again, visits_any, visits_push}
 use Rattle.flow_drive.proofs.visit.visit.Goals as goal
 
 -- what the test for `Nothing` says
@@ -29,18 +30,14 @@ loop-init g c =
     let graph = c.args.graph.now in
     let view = g.E.Ends.view c.args.ends.now in
     record {
-      same = g.met.E.Ends.same_refl c.args.ends.now;
-      ends = same_ends_refl view;
-      network = same_network_refl b (states_of graph) (edges_of graph);
+      shape = shape_refl g.E.Ends.same g.E.Ends.view g.met.E.Ends.same_refl graph c.args.ends.now;
       visits = visits_none b (g.E.WholeEnds.capacity c.args.ends.now) (states_of graph) (edges_of graph) view;
       first = λ h. refl;
     }
 
-pub returns-in_err-step_whole-clause-network : goal.returns-in_err-step_whole-clause-network
-returns-in_err-step_whole-clause-network g c =
-    let step = c.step_whole.ensures in
-    same_network_then g.T.Transducer.behaviour (states_of c.args.graph.now) (states_of c.loop.graph) (states_of c.step_whole.new.graph) (edges_of c.args.graph.now) (edges_of c.loop.graph) (edges_of c.step_whole.new.graph)
-    c.loop.invariant.network (record { nodes = step.others.nodes; same_edges = step.edges; network = step.network })
+pub returns-in_err-step_whole-clause-shape : goal.returns-in_err-step_whole-clause-shape
+returns-in_err-step_whole-clause-shape g c =
+    shape_then g.E.Ends.same g.E.Ends.view g.met.E.Ends.same_trans c.args.graph.now c.args.ends.now c.loop.graph c.loop.ends c.step_whole.new.graph c.step_whole.new.ends c.loop.invariant.shape c.step_whole.ensures.shape
 
 pub loop-preserved : goal.loop-preserved
 loop-preserved g c =
@@ -57,25 +54,20 @@ loop-preserved g c =
     let capacity = g.E.WholeEnds.capacity c.args.ends.now in
     let capacity' = g.E.WholeEnds.capacity c.loop.ends in
     let inv = c.loop.invariant in
-    let step = c.step_whole.ensures in
     let moved : Moved = c.in_ok-step_whole.field-0 in
-    let even : capacity' ≡ capacity = g.met.E.WholeEnds.same_capacity c.args.ends.now c.loop.ends inv.same in
-    let turn : Visits b capacity' (c.args.node ∷ []) edges' states' view' states'' view'' (is_one moved) = visits_turn b capacity' states' edges' view' c.args.node states'' view'' moved c.in_ok-step_whole.ensures.turn in
-    let wired : (idle : g.T.Transducer.State) → IsWired (network_of b idle states edges) = λ idle. wired_net b idle states graph.wiring.ports.items edges graph.wiring.wired graph.kept graph.joined in
+    let even : capacity' ≡ capacity = g.met.E.WholeEnds.same_capacity c.args.ends.now c.loop.ends inv.shape.same in
+    let turn : Visits b capacity' (c.args.node ∷ []) edges' states' view' states'' view'' (is_one moved) = visits_turn b capacity' states' edges' view' c.args.node states'' view'' moved c.in_ok-step_whole.ensures.network.turn in
+    let wired : IsWired (network_of b states edges) = graph_wired graph in
     let one : Visits b capacity' (c.args.node ∷ []) edges' states' view' states'' view'' true = subst (λ any. Visits b capacity' (c.args.node ∷ []) edges' states' view' states'' view'' any) (stepped moved c.if-eq.ensures) turn in
     record {
-      same = g.met.E.Ends.same_trans c.args.ends.now c.loop.ends c.step_whole.new.ends inv.same step.same;
-      ends = same_ends_then view view' view'' inv.ends step.ends;
-      network = same_network_then b states states' states'' edges edges' (edges_of c.step_whole.new.graph) inv.network (record { nodes = step.others.nodes; same_edges = step.edges; network = step.network });
-      visits = visits_again b capacity states edges view wired states' edges' view' inv.network capacity' even [] (c.args.node ∷ []) states'' view'' c.loop.moved inv.visits one;
+      shape = shape_then g.E.Ends.same g.E.Ends.view g.met.E.Ends.same_trans c.args.graph.now c.args.ends.now c.loop.graph c.loop.ends c.step_whole.new.graph c.step_whole.new.ends c.loop.invariant.shape c.step_whole.ensures.shape;
+      visits = visits_again b capacity states edges view wired states' edges' view' inv.shape.network capacity' even [] (c.args.node ∷ []) states'' view'' c.loop.moved inv.visits one;
       first = λ h. cc;
     }
 
-pub returns-then-eq-clause-network : goal.returns-then-eq-clause-network
-returns-then-eq-clause-network g c =
-    let step = c.step_whole.ensures in
-    same_network_then g.T.Transducer.behaviour (states_of c.args.graph.now) (states_of c.loop.graph) (states_of c.step_whole.new.graph) (edges_of c.args.graph.now) (edges_of c.loop.graph) (edges_of c.step_whole.new.graph)
-    c.loop.invariant.network (record { nodes = step.others.nodes; same_edges = step.edges; network = step.network })
+pub returns-then-eq-clause-shape : goal.returns-then-eq-clause-shape
+returns-then-eq-clause-shape g c =
+    shape_then g.E.Ends.same g.E.Ends.view g.met.E.Ends.same_trans c.args.graph.now c.args.ends.now c.loop.graph c.loop.ends c.step_whole.new.graph c.step_whole.new.ends c.loop.invariant.shape c.step_whole.ensures.shape
 
 pub returns-then-eq-clause-visits : goal.returns-then-eq-clause-visits
 returns-then-eq-clause-visits g c =
@@ -92,13 +84,12 @@ returns-then-eq-clause-visits g c =
     let capacity = g.E.WholeEnds.capacity c.args.ends.now in
     let capacity' = g.E.WholeEnds.capacity c.loop.ends in
     let inv = c.loop.invariant in
-    let step = c.step_whole.ensures in
     let moved : Moved = c.in_ok-step_whole.field-0 in
-    let even : capacity' ≡ capacity = g.met.E.WholeEnds.same_capacity c.args.ends.now c.loop.ends inv.same in
-    let turn : Visits b capacity' (c.args.node ∷ []) edges' states' view' states'' view'' (is_one moved) = visits_turn b capacity' states' edges' view' c.args.node states'' view'' moved c.in_ok-step_whole.ensures.turn in
-    let wired : (idle : g.T.Transducer.State) → IsWired (network_of b idle states edges) = λ idle. wired_net b idle states graph.wiring.ports.items edges graph.wiring.wired graph.kept graph.joined in
+    let even : capacity' ≡ capacity = g.met.E.WholeEnds.same_capacity c.args.ends.now c.loop.ends inv.shape.same in
+    let turn : Visits b capacity' (c.args.node ∷ []) edges' states' view' states'' view'' (is_one moved) = visits_turn b capacity' states' edges' view' c.args.node states'' view'' moved c.in_ok-step_whole.ensures.network.turn in
+    let wired : IsWired (network_of b states edges) = graph_wired graph in
     subst (λ any. Visits b capacity (c.args.node ∷ []) edges states view states'' view'' any) (or_calm c.loop.moved (is_one moved) c.loop.moved (stayed moved c.if-eq.ensures) refl)
-    (visits_push b capacity states edges view wired states' edges' view' inv.network capacity' even [] c.args.node states'' view'' c.loop.moved (is_one moved) inv.visits turn)
+    (visits_push b capacity states edges view wired states' edges' view' inv.shape.network capacity' even [] c.args.node states'' view'' c.loop.moved (is_one moved) inv.visits turn)
 
 pub returns-after-loop-clause-visits : goal.returns-after-loop-clause-visits
 returns-after-loop-clause-visits g c =

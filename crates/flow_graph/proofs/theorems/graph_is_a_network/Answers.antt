@@ -1,5 +1,4 @@
-use Rattle.flow_graph.specs.Graphs.{states_of}
-use Rattle.flow_graph.proofs.Nets.{wired_net, lawful_net}
+use Rattle.flow_graph.proofs.Nets.{graph_wired, graph_lawful}
 use Rattle.flow_graph.proofs.theorems.graph_is_a_network.Goals as goal
 
 pub returns : goal.returns
@@ -8,11 +7,11 @@ returns g c =
     let b = g.T.Transducer.behaviour in
     let laws = g.met.T.Transducer.laws in
     record {
-      network = λ idle. record {
-        wired = wired_net b idle (states_of graph) graph.wiring.ports.items graph.wiring.edges.items graph.wiring.wired graph.kept graph.joined;
-        lawful = lawful_net b idle (states_of graph) graph.wiring.ports.items graph.wiring.edges.items graph.wiring.wired graph.kept graph.joined laws;
+      network = record {
+        wired = graph_wired graph;
+        lawful = graph_lawful graph laws;
         settles = laws.settles;
         end = laws.end;
       };
-      limits = λ idle. record { kinds = graph.kept.kinds; few_nodes = graph.kept.few_nodes; few_edges = graph.kept.few_edges };
+      limits = record { kinds = graph.kept.kinds; few_nodes = graph.kept.few_nodes; few_edges = graph.kept.few_edges };
     }

@@ -3,4 +3,4 @@ use Rattle.flow_graph.proofs.Nets.{opens}
 use Rattle.flow_graph.proofs.theorems.graph_opens.Goals as goal
 
 pub returns : goal.returns
-returns g c idle view = opens g.T.Transducer.behaviour idle (states_of c.args.graph.now) (edges_of c.args.graph.now) view
+returns g c view = opens g.T.Transducer.behaviour (states_of c.args.graph.now) (edges_of c.args.graph.now) view

@@ -5,7 +5,7 @@ use Rattle.snesl_values.specs.Values.{value_of, values_of}
 use Rattle.snesl_values.proofs.Data.{value_of-Seq}
 use Rattle.flow_typed.specs.Shapes.{is_a, all_are, kinds_of}
 use Rattle.flow_typed.specs.Flats.{width}
-use Rattle.flow_typed.specs.Kinds.{both_true}
+use Rattle.flow_typed.specs.laws.Kinds.{both_true}
 use Rattle.flow_typed.specs.Dues.{due_cell, dues_of, segment_dues}
 use Rattle.flow_typed.proofs.Segments.{parts_narrower, member_is, sequence_dues}
 use Rattle.flow_typed.proofs.dues.+add_value.Goals as goal

@@ -1,7 +1,7 @@
 use Rattle.std.proofs.Common.{◌≡◌, ◌++◌, ◌+◌, ◌*◌, map, take}
 use Rattle.snesl_values.specs.Types.{ty_of}
 use Rattle.snesl_values.specs.Values.{value_of}
-use Rattle.flow_base.specs.Rows.{joined_by}
+use Rattle.flow_base.specs.Segments.{joined_by}
 use Rattle.flow_typed.specs.Flats.{width}
 use Rattle.flow_typed.specs.Dues.{due_cell, element_dues, dues_of}
 use Rattle.flow_typed.proofs.dues.+add_value.Given as goal

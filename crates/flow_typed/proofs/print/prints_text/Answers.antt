@@ -1,4 +1,4 @@
-use Rattle.flow_typed.specs.PrintLaws.{prints_text}
+use Rattle.flow_typed.specs.laws.Print.{prints_text}
 use Rattle.flow_typed.proofs.print.prints_text.Goals as goal
 
 pub returns : goal.returns

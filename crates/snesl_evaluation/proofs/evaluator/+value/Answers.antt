@@ -1,14 +1,14 @@
-use Rattle.std.proofs.Common.{◌≡◌, ℕ, ◌+◌, ◌++◌, List, map, drop, zip, length, Option, option_map, option_to_list, Err, Vec, Global, sym, ap, ◌∙◌, subst, arith}
+use Rattle.std.proofs.Common.{◌≡◌, ℕ, ◌+◌, ◌∷◌, ◌++◌, if◌then◌else◌, List, map, drop, zip, length, Option, option_map, option_to_list, Err, Vec, Global, sym, ap, ◌∙◌, subst, arith}
 use Rattle.snesl_values.specs.declared.datum.Datum.{Datum}
 use Rattle.snesl_values.specs.Inputs.{Environment}
-use Rattle.snesl_values.specs.Values.{Value, value_of}
+use Rattle.snesl_values.specs.Values.{Value, a_pair, value_of}
 use Rattle.snesl_tree.specs.Spelling.{spelling}
 use Rattle.snesl_tree.specs.View.{tree_of, trees_of, binders_of, declaration_of}
 use Rattle.snesl_tree.specs.declared.expr.Expr.{Expr, Each}
 use Rattle.snesl_tree.specs.Tree.{Binders}
 use Rattle.snesl_tree.proofs.Arguments.{tree_of-Call, tree_of-Apply, tree_of-Literal, binders_row}
 use Rattle.snesl_evaluation.specs.Answer.{Answer, go, go_all, go_join, gives}
-use Rattle.snesl_evaluation.specs.Builtins.{applied, seq_answer, truth_at}
+use Rattle.snesl_evaluation.specs.Builtins.{applied, binary_answer, seq_answer, truth_at}
 use Rattle.snesl_evaluation.specs.Eval.{calls_of, eval, in_step, kept, rows_of}
 use Rattle.snesl_evaluation.specs.Results.{Answers}
 use Rattle.snesl_evaluation.specs.Scopes.{all_in, binders_in, calls_in, column_of, each_in, entered, environment_in, eval_in, kept_at, kept_in, names_of, row_at, where_in}
@@ -116,6 +116,55 @@ rows_where-returns t c =
     ∙ ap (λ j. after done (go_join f (drop j (rows_of c.args.number columns)))) ended
     ∙ kept_end f c.args.number columns done
 
+pub value-returns-in-Binary : goal.value-returns-in-Binary
+value-returns-in-Binary t c =
+    let setting = c.args.setting.now in
+    let scope = c.args.scope.now in
+    let at = c.in-Binary.at in
+    let operator = c.in-Binary.operator in
+    let answer = λ (left right : Expr). go (eval_in setting scope (tree_of left)) (λ v. go (eval_in setting scope (tree_of right)) (λ w. binary_answer at operator v w)) in
+    let e =
+    ap (λ expr. eval_in setting scope (tree_of expr)) c.in-Binary.is
+    ∙ ap (λ left. answer left c.in-Binary.right.value) (sym c.deref.ensures)
+    ∙ ap (λ right. answer c.deref.result.now right) (sym c.deref-in-Binary.ensures) in
+    subst (Answers value_of c.binary_value.result) (sym e) c.binary_value.ensures
+
+pub value-returns-in-Pair : goal.value-returns-in-Pair
+value-returns-in-Pair t c =
+    let setting = c.args.setting.now in
+    let scope = c.args.scope.now in
+    let answer = λ (first second : Expr). go (eval_in setting scope (tree_of first)) (λ v. go (eval_in setting scope (tree_of second)) (λ w. gives (a_pair v w))) in
+    let e =
+    ap (λ expr. eval_in setting scope (tree_of expr)) c.in-Pair.is
+    ∙ ap (λ first. answer first c.in-Pair.second.value) (sym c.deref-in-Pair.ensures)
+    ∙ ap (λ second. answer c.deref-in-Pair.result.now second) (sym c.deref-in-Pair-2.ensures) in
+    subst (Answers value_of c.pair_value.result) (sym e) c.pair_value.ensures
+
+pub value-returns-in-Let : goal.value-returns-in-Let
+value-returns-in-Let t c =
+    let setting = c.args.setting.now in
+    let scope = c.args.scope.now in
+    let text = setting.text.now in
+    let answer = λ (bound body : Expr). go (eval_in setting scope (tree_of bound)) (λ v. eval (tree_of body) text (calls_in setting) ((spelling text c.in-Let.name, v) ∷ environment_in text scope)) in
+    let e =
+    ap (λ expr. eval_in setting scope (tree_of expr)) c.in-Let.is
+    ∙ ap (λ bound. answer bound c.in-Let.body.value) (sym c.deref-in-Let.ensures)
+    ∙ ap (λ body. answer c.deref-in-Let.result.now body) (sym c.deref-in-Let-2.ensures) in
+    subst (Answers value_of c.let_value.result) (sym e) c.let_value.ensures
+
+pub value-returns-in-If : goal.value-returns-in-If
+value-returns-in-If t c =
+    let setting = c.args.setting.now in
+    let scope = c.args.scope.now in
+    let at = c.in-If.at in
+    let answer = λ (condition positive negative : Expr). go (eval_in setting scope (tree_of condition)) (λ v. go (truth_at at v) (λ b. if b then eval_in setting scope (tree_of positive) else eval_in setting scope (tree_of negative))) in
+    let e =
+    ap (λ expr. eval_in setting scope (tree_of expr)) c.in-If.is
+    ∙ ap (λ condition. answer condition c.in-If.positive.value c.in-If.negative.value) (sym c.deref-in-If.ensures)
+    ∙ ap (λ positive. answer c.deref-in-If.result.now positive c.in-If.negative.value) (sym c.deref-in-If-2.ensures)
+    ∙ ap (λ negative. answer c.deref-in-If.result.now c.deref-in-If-2.result.now negative) (sym c.deref-in-If-3.ensures) in
+    subst (Answers value_of c.if_value.result) (sym e) c.if_value.ensures
+
 pub value-returns-in-Call : goal.value-returns-in-Call
 value-returns-in-Call t c =
     let setting = c.args.setting.now in
@@ -176,8 +225,8 @@ value-returns-in-None t c =
     ∙ ap (λ l. answer c.deref-in-None.result.now (binders_of l)) (sym c.deref-in-None-2.ensures.value) in
     subst (Answers value_of c.each.result) (sym e) c.each.ensures
 
-pub value-returns : goal.value-returns
-value-returns t c =
+pub value-returns-in-Some : goal.value-returns-in-Some
+value-returns-in-Some t c =
     let setting = c.args.setting.now in
     let scope = c.args.scope.now in
     let at = c.in-Each.at in

@@ -22,6 +22,21 @@ binders_depth binders = Weighed.most (λ x. TheLaws.the_size x) binders
 abbrev pub decreases-value : goal.decreases-value
 decreases-value l = rank (size-Expr l.expr.now) (weight l.setting.now.functions.now) 0
 
+abbrev pub decreases-binary_value : goal.decreases-binary_value
+decreases-binary_value l = rank (max (size-Expr l.left.now) (size-Expr l.right.now)) (weight l.setting.now.functions.now) 1
+
+abbrev pub decreases-prefix_value : goal.decreases-prefix_value
+decreases-prefix_value l = rank (size-Expr l.operand.now) (weight l.setting.now.functions.now) 1
+
+abbrev pub decreases-pair_value : goal.decreases-pair_value
+decreases-pair_value l = rank (max (size-Expr l.first.now) (size-Expr l.second.now)) (weight l.setting.now.functions.now) 1
+
+abbrev pub decreases-let_value : goal.decreases-let_value
+decreases-let_value l = rank (max (size-Expr l.bound.now) (size-Expr l.body.now)) (weight l.setting.now.functions.now) 2
+
+abbrev pub decreases-if_value : goal.decreases-if_value
+decreases-if_value l = rank (max (size-Expr l.condition.now) (max (size-Expr l.positive.now) (size-Expr l.negative.now))) (weight l.setting.now.functions.now) 1
+
 abbrev pub decreases-all_values : goal.decreases-all_values
 decreases-all_values l = rank (goal.size-all_values l) (weight l.setting.now.functions.now) 1
 

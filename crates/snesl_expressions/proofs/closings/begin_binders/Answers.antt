@@ -1,6 +1,6 @@
 use Rattle.std.proofs.Common.{ap, sym, arith, length, vec_len}
 use Rattle.snesl_tree.specs.View.{tree_of}
-use Rattle.snesl_expressions.specs.Limits.{greatest_depth}
+use Rattle.snesl_grammar.specs.Limits.{greatest_depth}
 use Rattle.snesl_expressions.specs.Readers.{within}
 use Rattle.snesl_expressions.specs.Parsing.{frames_of}
 use Rattle.snesl_expressions.proofs.Closes.{given_colon, some_left}

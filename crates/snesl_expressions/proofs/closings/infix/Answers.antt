@@ -1,7 +1,7 @@
 use Rattle.std.proofs.Common.{arith, ap, sym, ◌∙◌, ◌≤◌, subst}
 use Rattle.snesl_tree.specs.View.{tree_of}
-use Rattle.snesl_expressions.specs.Limits.{greatest_depth}
-use Rattle.snesl_expressions.specs.Operators.{level}
+use Rattle.snesl_grammar.specs.Limits.{greatest_depth}
+use Rattle.snesl_grammar.specs.Operators.{level}
 use Rattle.snesl_expressions.specs.Readers.{within}
 use Rattle.snesl_expressions.specs.Machine.{infix_move, floor}
 use Rattle.snesl_expressions.specs.Parsing.{Gives, frames_of}

@@ -1,5 +1,5 @@
 use Rattle.std.proofs.Common.{arith, suc, length, refl, subst, sym, ◌∷◌}
-use Rattle.snesl_expressions.specs.Limits.{greatest_depth}
+use Rattle.snesl_grammar.specs.Limits.{greatest_depth}
 use Rattle.snesl_expressions.specs.Machine.{operand}
 use Rattle.snesl_expressions.specs.Parsing.{frame_of, frames_of, Gives}
 use Rattle.snesl_expressions.proofs.Piles.{at_least, has_room, has_no_room}

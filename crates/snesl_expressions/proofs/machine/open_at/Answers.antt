@@ -1,5 +1,5 @@
 use Rattle.std.proofs.Common.{arith, suc, length, refl}
-use Rattle.snesl_expressions.specs.Limits.{greatest_depth}
+use Rattle.snesl_grammar.specs.Limits.{greatest_depth}
 use Rattle.snesl_expressions.specs.Parsing.{frames_of, state_at}
 use Rattle.snesl_expressions.proofs.Piles.{at_least, has_room, has_no_room}
 use Rattle.snesl_expressions.proofs.machine.open_at.Goals as goal

@@ -1,7 +1,7 @@
-use Rattle.std.proofs.Common.{refl, subst}
-use Rattle.snesl_run.specs.Streams.{taken, WasTold}
-use Rattle.snesl_run.proofs.OwnLines.{no_memory_line}
+use Rattle.std.proofs.Common.{refl}
+use Rattle.snesl_values.specs.declared.refusal.Refusal.TheVariants.{NoMemory}
+use Rattle.snesl_run.proofs.Printing.{system_refused}
 use Rattle.snesl_run.proofs.answers.print_made.Goals as goal
 
 pub returns-in-Err : goal.returns-in-Err
-returns-in-Err g c = rw c.in-Err.is (refl, subst (λ l. WasTold (taken g.E.Write.contents c.args.err.now c.complain.new.err) l) no_memory_line c.complain.ensures.told, c.complain.ensures.status)
+returns-in-Err g c = rw c.in-Err.is (system_refused NoMemory c.complain.result refl refl c.complain.ensures.told c.complain.ensures.status)

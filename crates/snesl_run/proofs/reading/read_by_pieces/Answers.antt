@@ -1,6 +1,6 @@
 use Rattle.std.proofs.Common.{length, drop, refl, sym, ap, ◌∙◌, subst, inl, inr, arith}
 use Rattle.std.specs.Io.KnownBytes.{Consumes, IsAtEnd}
-use Rattle.snesl_values.specs.Counted.{counted_inner, failures_of}
+use Rattle.snesl_values.specs.Counted.{counted_inner, failures_of, HasWorked}
 use Rattle.snesl_run.proofs.Streaming.{consumes_none, read_on, read_none, read_length, room_left, some_room, failed_once}
 use Rattle.snesl_run.proofs.reading.read_by_pieces.Goals as goal
 use Rattle.snesl_run.proofs.reading.read_by_pieces.Goals.{else-loop-bytes-test, then-loop-bytes-test+in-Ok+then-n-eq0}
@@ -36,6 +36,8 @@ returns g c =
       | else-loop-bytes-test w ↦ (
         subst (λ j. Consumes (g.R.Read.remaining (counted_inner c.args.job.now)) (g.R.Read.remaining (counted_inner j)) c.loop-bytes.bytes.items)
             (sym w.job-is) c.loop-bytes.invariant.taken,
+        subst (λ j. HasWorked (failures_of c.args.job.now) (failures_of j)) (sym w.job-is) c.loop-bytes.invariant.count,
+        c.loop-bytes.invariant.within,
         inr (omega arith),
       )
       | then-loop-bytes-test+in-Ok+then-n-eq0 w ↦ (
@@ -44,6 +46,8 @@ returns g c =
             (read_none (g.R.Read.remaining (counted_inner c.args.job.now)) (g.R.Read.remaining (counted_inner c.loop-bytes.job))
             (g.R.Read.remaining (counted_inner w.read.new.self)) c.loop-bytes.bytes.items w.read.new.buf w.in-Ok.n
             c.loop-bytes.invariant.taken w.in-Ok.ensures.bytes.0 w.if-n-eq0.true),
+        subst (λ j. HasWorked (failures_of c.args.job.now) (failures_of j)) (sym w.job-is) (w.in-Ok.ensures.counts ∙ c.loop-bytes.invariant.count),
+        c.loop-bytes.invariant.within,
         inl (subst (λ j. IsAtEnd (g.R.Read.remaining (counted_inner j))) (sym w.job-is)
             (w.in-Ok.ensures.bytes.1 w.if-n-eq0.true (some_room c.loop-bytes.piece w.min-room.result (length w.read.new.buf) (omega (arith, w.min-room.ensures, w.len-in-loop-bytes.ensures, w.loop-bytes-test.true, c.loop-bytes.auto.piece), omega (arith, w.min-room.ensures, w.len-in-loop-bytes.ensures, w.loop-bytes-test.true, c.loop-bytes.auto.piece)) w.read.auto.buf))),
       )

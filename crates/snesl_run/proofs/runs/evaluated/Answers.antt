@@ -1,7 +1,7 @@
 use Rattle.std.proofs.Common.{subst, sym, ap, ◌∙◌}
 use Rattle.snesl_values.specs.Inputs.{declared, environment_of, refusal_of}
 use Rattle.snesl_values.specs.Values.{value_of}
-use Rattle.snesl_tree.specs.View.{program_of as tree_of_program}
+use Rattle.snesl_grammar.specs.View.{program_of as tree_of_program}
 use Rattle.snesl_evaluation.specs.Answer.{gives, faults}
 use Rattle.snesl_evaluation.specs.Eval.{program_value}
 use Rattle.snesl_types.specs.Programs.{IsFirstViolation}

@@ -1,7 +1,5 @@
-use Rattle.std.proofs.Common.{refl, subst}
-use Rattle.snesl_run.specs.Streams.{taken, WasTold}
+use Rattle.std.proofs.Common.{refl}
 use Rattle.snesl_run.specs.Prints.{written}
-use Rattle.snesl_run.proofs.OwnLines.{output_line}
 use Rattle.snesl_run.proofs.Printing.{cut_off_line}
 use Rattle.snesl_run.proofs.send.print.Goals as goal
 
@@ -9,5 +7,4 @@ pub returns-then-send : goal.returns-then-send
 returns-then-send g c = written c.if-send.ensures refl
 
 pub returns-else-send : goal.returns-else-send
-returns-else-send g c = cut_off_line c.complain.result c.if-send.ensures
-    (subst (λ l. WasTold (taken g.E.Write.contents c.args.err.now c.complain.new.err) l) output_line c.complain.ensures.told) c.complain.ensures.status
+returns-else-send g c = cut_off_line c.complain.result c.if-send.ensures c.complain.ensures.told c.complain.ensures.status

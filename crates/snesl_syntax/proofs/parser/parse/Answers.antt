@@ -2,7 +2,7 @@ use Rattle.std.proofs.Common.{arith, subst, sym, Ok}
 use Rattle.snesl_lexer.specs.Lexical.{Tokens}
 use Rattle.snesl_syntax.specs.ProgramMachine.{parsed_program}
 use Rattle.snesl_syntax.specs.Parse.{Parses, too_long, read, IsRight}
-use Rattle.snesl_syntax.proofs.Verdicts.{one_parse, bad_right, tokens_right, passed_on, right_of_text, right_returns}
+use Rattle.snesl_syntax.proofs.Verdicts.{one_parse, bad_right, tokens_right, passed_on, right_of_text, right_returns, copy_spells}
 use Rattle.snesl_syntax.proofs.parser.parse.Goals as goal
 
 pub returns-then-text-gt-GREATEST_LENGTH-clause-right : goal.returns-then-text-gt-GREATEST_LENGTH-clause-right
@@ -34,6 +34,14 @@ returns-in_err-parsed-clause-accepts c =
 pub returns-in_err-parsed-clause-refusals : goal.returns-in_err-parsed-clause-refusals
 returns-in_err-parsed-clause-refusals c =
     right_of_text c.args.text.now c.from_residual-in_err-parsed.result (returns-in_err-parsed-clause-right c)
+
+pub invariant_of-result : goal.invariant_of-result
+invariant_of-result c =
+    let found : Tokens 0 c.args.text.now c.deref.result.now = subst (Tokens 0 c.args.text.now) (sym c.deref.ensures.value) c.in_ok-tokens.ensures.found in
+    record {
+      spelled = ∣ copy_spells c.args.text.now c.in_ok-copy.copy.items c.deref.result.now (parsed_program c.in_ok-parsed.parsed)
+          (omega arith) found c.in_ok-parsed.ensures c.in_ok-copy.ensures.items ∣₁;
+    }
 
 pub returns-clause-right : goal.returns-clause-right
 returns-clause-right c =

@@ -1,6 +1,6 @@
 use Rattle.std.proofs.Common.{arith}
 use Rattle.snesl_expressions.specs.Machine.{expressions}
-use Rattle.snesl_expressions.specs.Limits.{greatest_depth}
+use Rattle.snesl_grammar.specs.Limits.{greatest_depth}
 use Rattle.snesl_syntax.specs.Programs.{programs}
 use Rattle.snesl_syntax.specs.Answer.{answer}
 use Rattle.snesl_syntax.specs.Parse.{Answers}

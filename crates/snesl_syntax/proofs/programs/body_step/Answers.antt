@@ -1,6 +1,6 @@
 use Rattle.std.proofs.Common.{map}
 use Rattle.snesl_tree.specs.View.{declaration_of}
-use Rattle.snesl_expressions.specs.Limits.{greatest_depth}
+use Rattle.snesl_grammar.specs.Limits.{greatest_depth}
 use Rattle.snesl_expressions.specs.Readers.{within}
 use Rattle.snesl_expressions.specs.Machine.{expressions}
 use Rattle.snesl_expressions.specs.Parsing.{state_of}

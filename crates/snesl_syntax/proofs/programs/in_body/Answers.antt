@@ -2,7 +2,7 @@ use Rattle.std.proofs.Common.{map, subst, sym}
 use Rattle.snesl_tree.specs.View.{declaration_of}
 use Rattle.snesl_expressions.specs.Readers.{within}
 use Rattle.snesl_expressions.specs.Parsing.{state_of}
-use Rattle.snesl_expressions.specs.Limits.{greatest_depth}
+use Rattle.snesl_grammar.specs.Limits.{greatest_depth}
 use Rattle.snesl_syntax.specs.TypeMachine.{Steps}
 use Rattle.snesl_syntax.specs.ProgramMachine.{header_of, program_state}
 use Rattle.snesl_syntax.proofs.Parts.{body_goes_on}

@@ -1,6 +1,6 @@
 use Rattle.std.proofs.Common.{map, subst, sym}
 use Rattle.snesl_tree.specs.View.{declaration_of}
-use Rattle.snesl_expressions.specs.Limits.{greatest_depth}
+use Rattle.snesl_grammar.specs.Limits.{greatest_depth}
 use Rattle.snesl_expressions.specs.Machine.{expressions}
 use Rattle.snesl_expressions.specs.Parsing.{state_of}
 use Rattle.snesl_syntax.specs.Programs.{in_final}

@@ -2,7 +2,7 @@ use Rattle.std.proofs.Common.{map, subst, sym}
 use Rattle.snesl_tree.specs.View.{declaration_of}
 use Rattle.snesl_expressions.specs.Readers.{within}
 use Rattle.snesl_expressions.specs.Machine.{expressions}
-use Rattle.snesl_expressions.specs.Limits.{greatest_depth}
+use Rattle.snesl_grammar.specs.Limits.{greatest_depth}
 use Rattle.snesl_syntax.specs.Types.{types}
 use Rattle.snesl_syntax.specs.Programs.{in_type, programs}
 use Rattle.snesl_syntax.specs.TypeMachine.{type_state, Stops}

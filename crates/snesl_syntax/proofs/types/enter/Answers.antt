@@ -1,5 +1,5 @@
 use Rattle.std.proofs.Common.{arith, suc, length, refl, subst, sym}
-use Rattle.snesl_expressions.specs.Limits.{greatest_depth}
+use Rattle.snesl_grammar.specs.Limits.{greatest_depth}
 use Rattle.snesl_syntax.specs.TypeMachine.{frame_of, type_state, Steps}
 use Rattle.snesl_expressions.proofs.Piles.{at_least}
 use Rattle.snesl_syntax.proofs.Piles.{has_room, has_no_room}

@@ -1,5 +1,5 @@
 use Rattle.snesl_values.specs.Types.{ty_of}
-use Rattle.snesl_tree.specs.View.{program_of}
+use Rattle.snesl_grammar.specs.View.{program_of}
 use Rattle.snesl_types.specs.Programs.{IsFirstViolation, IsMemoryIfTyped}
 use Rattle.snesl_types.specs.Views.{declared_in}
 use Rattle.snesl_types.proofs.Passing.{passed_on}

@@ -6,7 +6,7 @@ use Rattle.snesl_tree.proofs.Arguments.{tree_of-Call, tree_of-Apply, tree_of-Lit
 use Rattle.snesl_types.specs.Names.{context_of, ruled_in, typed_in, all_typed_in, binders_typed_in, condition_in}
 use Rattle.snesl_types.specs.Contexts.{opened, inside}
 use Rattle.snesl_values.specs.Inputs.{declared}
-use Rattle.snesl_types.specs.Verdicts.{IsAnswer}
+use Rattle.snesl_types.specs.Verdicts.{IsAnswer, of_each}
 use Rattle.snesl_values.specs.declared.refusal.Refusal.TheVariants.{NoMemory}
 use Rattle.snesl_types.proofs.Scopes.{tree_of-Each, Within, each_condition_refused, each_body_refused, each_answered}
 use Rattle.snesl_types.proofs.Passing.{refused_first, answered_second}
@@ -123,5 +123,6 @@ type_by_rule-returns-in_ok-body-in-Each t c =
           ∙ ap (λ text. opened items ++ inside (context_of text scope.names.now)) c.with_names-inner.ensures.text;
     } in
     each_answered inner scope items within (tree_of c.args.expr.now) (tree_of c.in-Each.body.value) (binders_of c.in-Each.binders.items) (condition_in c.in-Each.condition) each_tree bound_by
-    (ty_of c.in_ok-condition-in-Each.condition) (ty_of c.in_ok-body-in-Each.body) c.filter_type-in-Each.result
-    c.in_ok-condition-in-Each.ensures (ap (λ x. typed_in inner (tree_of x)) (sym c.deref-in-Each-3.ensures) ∙ c.in_ok-body-in-Each.ensures) c.filter_type-in-Each.ensures
+    (ty_of c.in_ok-condition-in-Each.condition) (ty_of c.in_ok-body-in-Each.body) c.each_type.result
+    c.in_ok-condition-in-Each.ensures (ap (λ x. typed_in inner (tree_of x)) (sym c.deref-in-Each-3.ensures) ∙ c.in_ok-body-in-Each.ensures)
+    (subst (λ l. IsAnswer ty_of (of_each c.in-Each.at (binders_of l) (ty_of c.in_ok-body-in-Each.body) (ty_of c.in_ok-condition-in-Each.condition)) c.each_type.result) c.deref-in-Each-4.ensures.value c.each_type.ensures)

@@ -1,9 +1,10 @@
-use Rattle.std.proofs.Common.{inr, Err, Ok, refl, sym, subst, arith}
+use Rattle.std.proofs.Common.{inr, Err, map, refl, sym, subst, arith}
 use Rattle.snesl_values.specs.declared.inputs.InputError.TheVariants.{Bad}
-use Rattle.snesl_values.specs.Inputs.{declared, environment_of, StopsAt, IsLawful, InputMeans, spells, too_long, lawful, unlawful}
+use Rattle.snesl_values.specs.Declarations.{declared, entry_of, Fits}
+use Rattle.snesl_values.specs.Inputs.{declarations_of, environment_of, StopsAt, IsLawful, InputMeans, spells, too_long, lawful, unlawful}
 use Rattle.snesl_values.proofs.InputScan.{some_next, no_next}
 use Rattle.snesl_values.proofs.InputWants.{passed_on}
-use Rattle.snesl_values.proofs.InputAnswers.{no_ok, IsRight, right_stop, lawful_answered, unlawful_answered}
+use Rattle.snesl_values.proofs.InputAnswers.{no_ok, IsRight, right_stop, lawful_answered, unlawful_answered, not_refused}
 use Rattle.snesl_values.proofs.inputs.read_inputs.Goals as goal
 
 pub returns-then-bytes-gt-GREATEST_INPUT_LENGTH-clause-refused : goal.returns-then-bytes-gt-GREATEST_INPUT_LENGTH-clause-refused
@@ -72,13 +73,21 @@ returns-clause-spelled c =
     c.in_ok-all.ensures.read.spells
 
 pub returns-clause-unlawful : goal.returns-clause-unlawful
-unfolding environment_of
-returns-clause-unlawful c =
-    unlawful_answered (declared c.args.decls.now) c.args.bytes.now (Ok (record { all = c.in_ok-all.all }))
+returns-clause-unlawful c = λ at means.
+    absurd (not_refused (declared c.args.decls.now) c.args.bytes.now (map entry_of c.in_ok-all.all.items) at
     (lawful (omega arith) c.in_ok-all.ensures.read.reads
     (no_next c.args.bytes.now c.in_ok-all.behind c.skip_blanks-end.result c.skip_blanks-end.ensures.offset (omega arith))
     c.in_ok-all.ensures.read.spells)
-    tt
+    means)
+
+pub invariant_of-result : goal.invariant_of-result
+invariant_of-result c = record {
+  fit = ∣ subst (λ ds. Fits ds (map entry_of c.in_ok-all.all.items)) (sym c.in_ok-decls.ensures) c.in_ok-all.ensures.read.spells.fits ∣₁;
+}
+
+pub returns-clause-declares : goal.returns-clause-declares
+unfolding declarations_of
+returns-clause-declares c = c.in_ok-decls.ensures
 
 pub returns-clause-fits : goal.returns-clause-fits
 unfolding environment_of

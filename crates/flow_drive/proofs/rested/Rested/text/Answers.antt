@@ -12,13 +12,13 @@ pub loop-node-preserved : goal.loop-node-preserved
 loop-node-preserved g c text_in told =
     let states = states_of c.args.self.now.graph in
     let k = c.loop-node.node in
-    let s = g.T.Transducer.state c.node.result.now in
+    let b = g.T.Transducer.behaviour in
     let inside : k < length states = omega (arith, c.loop-node-test.true, c.nodes-node-end.ensures) in
     let before : List ℕ = last_text text_in (take k states) in
-    let here : text_in (state_at s states k) ≡ option_map (λ text. text.now) c.printed.result =
-    sym (c.printed.ensures ∙ told c.node.result.now ∙ ap text_in (c.node.ensures s)) in
+    let here : text_in (state_at b states k) ≡ option_map (λ text. text.now) c.printed.result =
+    sym (c.printed.ensures ∙ told c.node.result.now ∙ ap text_in c.node.ensures) in
     let next : last_text text_in (take (k + 1) states) ≡ unwrap_or (option_map (λ text. text.now) c.printed.result) c.loop-node.last.now =
-    next_text text_in states k s inside
+    next_text text_in states k b.sample inside
     ∙ ap (λ text. unwrap_or text before) here
     ∙ ap (λ text. unwrap_or (option_map (λ t. t.now) c.printed.result) text) (sym (c.loop-node.invariant text_in told)) in
     elim c.match-printed.branch [

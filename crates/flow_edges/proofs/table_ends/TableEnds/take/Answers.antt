@@ -1,6 +1,6 @@
 use Rattle.std.proofs.Common.{◌<◌, length, arith, sym, ◌∙◌}
 use borrow.Author.Tests.{ltb-true}
-use Rattle.flow_edges.proofs.Tables.{line-taken, line-kept, line-empty, if_some, if_none}
+use Rattle.flow_edges.proofs.Tables.{line-taken, line-kept, line-empty, line-held, if_some, if_none, some_unless_empty}
 use Rattle.flow_edges.proofs.table_ends.TableEnds.take.Goals as goal
 
 pub returns-clause-some : goal.returns-clause-some
@@ -18,3 +18,10 @@ returns-clause-none c =
       (line-kept ls c.args.edge _ new h c.index_mut.ensures.value c.take.ensures.sent p.0 (p.1 ∙ sym p.2) c.take.ensures.capacity).1,
       line-empty ls c.args.edge _ new h c.index_mut.ensures.value p.1,
     )) c.take.ensures.none
+
+pub returns-clause-succeeds : goal.returns-clause-succeeds
+returns-clause-succeeds c some =
+    let ls = c.args.self.now.lines.items in
+    let h : c.args.edge < length ls = omega (arith, ltb-true) in
+    let old = c.index_mut.result.now in
+    some_unless_empty c.take.result old.queue.items (omega (arith, some, line-held ls c.args.edge old h c.index_mut.ensures.value)) (if_none c.take.result (λ p. p.2) c.take.ensures.none)

@@ -11,7 +11,7 @@ emit-requires g c =
     let nodes = c.args.self.now.nodes.items in
     let x = c.index_mut.result.now in
     let l : c.args.node < length nodes = omega (arith, c.requires.inside, length-map nodes state) in
-    subst (λ s. IsWrite (b.process.want s)) (sym (state_read state nodes c.args.node x (state x) l c.index_mut.ensures.value)) (c.requires.wants (state x))
+    subst (λ s. IsWrite (b.process.want s)) (sym (state_read state nodes c.args.node x b.sample l c.index_mut.ensures.value)) c.requires.wants
 
 pub invariant_of-self : goal.invariant_of-self
 invariant_of-self g c =
@@ -23,7 +23,7 @@ invariant_of-self g c =
     let x = c.index_mut.result.now in
     let y = c.emit.new.self in
     let l : c.args.node < length nodes = omega (arith, c.requires.inside, length-map nodes state) in
-    let wants = writes_port (b.process.want (state x)) (subst (λ s. IsWrite (b.process.want s)) (sym (state_read state nodes c.args.node x (state x) l c.index_mut.ensures.value)) (c.requires.wants (state x))) in
+    let wants = writes_port (b.process.want (state x)) (subst (λ s. IsWrite (b.process.want s)) (sym (state_read state nodes c.args.node x b.sample l c.index_mut.ensures.value)) c.requires.wants) in
     let wrote : OnOk c.emit.result (state y ≡ b.process.wrote (state x)) = if_ok _ c.emit.result (λ m p. p.1) c.emit.ensures.ok in
     let follows : Follows b laws (state x) (state y) = follows_wrote b laws (state x) (state y) wants.0 wants.1 (either c.emit.result wrote c.emit.ensures.err) in
     let opening = nodes_opening b laws state nodes c.args.node x y l c.index_mut.ensures.value follows in
@@ -41,7 +41,7 @@ returns-clause-openings g c =
     let x = c.index_mut.result.now in
     let y = c.emit.new.self in
     let l : c.args.node < length nodes = omega (arith, c.requires.inside, length-map nodes state) in
-    let wants = writes_port (b.process.want (state x)) (subst (λ s. IsWrite (b.process.want s)) (sym (state_read state nodes c.args.node x (state x) l c.index_mut.ensures.value)) (c.requires.wants (state x))) in
+    let wants = writes_port (b.process.want (state x)) (subst (λ s. IsWrite (b.process.want s)) (sym (state_read state nodes c.args.node x b.sample l c.index_mut.ensures.value)) c.requires.wants) in
     let wrote : OnOk c.emit.result (state y ≡ b.process.wrote (state x)) = if_ok _ c.emit.result (λ m p. p.1) c.emit.ensures.ok in
     nodes_opening b laws state nodes c.args.node x y l c.index_mut.ensures.value (follows_wrote b laws (state x) (state y) wants.0 wants.1 (either c.emit.result wrote c.emit.ensures.err))
 
@@ -52,7 +52,7 @@ returns-clause-message g c =
     let nodes = c.args.self.now.nodes.items in
     let x = c.index_mut.result.now in
     let l : c.args.node < length nodes = omega (arith, c.requires.inside, length-map nodes state) in
-    if_ok_if _ _ c.emit.result (λ m p idle. p.0 ∙ ap b.process.written (state_read state nodes c.args.node x idle l c.index_mut.ensures.value)) c.emit.ensures.ok
+    if_ok_if _ _ c.emit.result (λ m p. p.0 ∙ ap b.process.written (state_read state nodes c.args.node x b.sample l c.index_mut.ensures.value)) c.emit.ensures.ok
 
 pub returns-clause-ok : goal.returns-clause-ok
 returns-clause-ok g c =
@@ -61,7 +61,7 @@ returns-clause-ok g c =
     let nodes = c.args.self.now.nodes.items in
     let x = c.index_mut.result.now in
     let l : c.args.node < length nodes = omega (arith, c.requires.inside, length-map nodes state) in
-    if_ok _ c.emit.result (λ m p idle. states_set state nodes c.args.node c.emit.new.self _ (p.1 ∙ ap b.process.wrote (state_read state nodes c.args.node x idle l c.index_mut.ensures.value))) c.emit.ensures.ok
+    if_ok _ c.emit.result (λ m p. states_set state nodes c.args.node c.emit.new.self _ (p.1 ∙ ap b.process.wrote (state_read state nodes c.args.node x b.sample l c.index_mut.ensures.value))) c.emit.ensures.ok
 
 pub returns-clause-err : goal.returns-clause-err
 returns-clause-err g c =

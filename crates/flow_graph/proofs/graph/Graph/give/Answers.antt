@@ -13,7 +13,7 @@ give-requires g c =
     let nodes = c.args.self.now.nodes.items in
     let x = c.index_mut.result.now in
     let l : c.args.node < length nodes = omega (arith, c.requires.inside, length-map nodes state) in
-    ap b.process.want (state_read state nodes c.args.node x (state x) l c.index_mut.ensures.value) ∙ c.requires.wants (state x)
+    ap b.process.want (state_read state nodes c.args.node x b.sample l c.index_mut.ensures.value) ∙ c.requires.wants
 
 pub invariant_of-self : goal.invariant_of-self
 invariant_of-self g c =
@@ -25,7 +25,7 @@ invariant_of-self g c =
     let x = c.index_mut.result.now in
     let y = c.give.new.self in
     let l : c.args.node < length nodes = omega (arith, c.requires.inside, length-map nodes state) in
-    let wants : b.process.want (state x) ≡ Read c.args.port = ap b.process.want (state_read state nodes c.args.node x (state x) l c.index_mut.ensures.value) ∙ c.requires.wants (state x) in
+    let wants : b.process.want (state x) ≡ Read c.args.port = ap b.process.want (state_read state nodes c.args.node x b.sample l c.index_mut.ensures.value) ∙ c.requires.wants in
     let follows : Follows b laws (state x) (state y) = follows_read b laws (state x) (state y) c.args.port (signal_of c.args.message) wants (either c.give.result c.give.ensures.ok c.give.ensures.err) in
     let opening = nodes_opening b laws state nodes c.args.node x y l c.index_mut.ensures.value follows in
     record {
@@ -42,7 +42,7 @@ returns-clause-openings g c =
     let x = c.index_mut.result.now in
     let y = c.give.new.self in
     let l : c.args.node < length nodes = omega (arith, c.requires.inside, length-map nodes state) in
-    let wants : b.process.want (state x) ≡ Read c.args.port = ap b.process.want (state_read state nodes c.args.node x (state x) l c.index_mut.ensures.value) ∙ c.requires.wants (state x) in
+    let wants : b.process.want (state x) ≡ Read c.args.port = ap b.process.want (state_read state nodes c.args.node x b.sample l c.index_mut.ensures.value) ∙ c.requires.wants in
     let follows : Follows b laws (state x) (state y) = follows_read b laws (state x) (state y) c.args.port (signal_of c.args.message) wants (either c.give.result c.give.ensures.ok c.give.ensures.err) in
     nodes_opening b laws state nodes c.args.node x y l c.index_mut.ensures.value follows
 
@@ -53,7 +53,7 @@ returns-clause-ok g c =
     let nodes = c.args.self.now.nodes.items in
     let x = c.index_mut.result.now in
     let l : c.args.node < length nodes = omega (arith, c.requires.inside, length-map nodes state) in
-    on_ok c.give.result (λ is idle. states_set state nodes c.args.node c.give.new.self _ (is ∙ ap (λ s. b.process.read s (signal_of c.args.message)) (state_read state nodes c.args.node x idle l c.index_mut.ensures.value))) c.give.ensures.ok
+    on_ok c.give.result (λ is. states_set state nodes c.args.node c.give.new.self _ (is ∙ ap (λ s. b.process.read s (signal_of c.args.message)) (state_read state nodes c.args.node x b.sample l c.index_mut.ensures.value))) c.give.ensures.ok
 
 pub returns-clause-err : goal.returns-clause-err
 returns-clause-err g c =

@@ -1,5 +1,5 @@
 use Rattle.std.proofs.Common.{List, inl, inr, length, map, sym, subst, arith, ◌<◌}
-use Rattle.flow_graph.specs.declared.edge.TheConstants.{MAX_EDGES}
+use Rattle.flow_graph.specs.Limits.{most_edges}
 use Rattle.flow_graph.specs.declared.edge.Edge.{Edge}
 use Rattle.flow_graph.specs.Kept.{IsKept}
 use Rattle.flow_graph.proofs.Kept.{kept_edge, kept_same, added_or_not}
@@ -13,7 +13,7 @@ invariant_of-self g c =
     let edges : List Edge = builder.wiring.edges.items in
     let ports = builder.wiring.ports.items in
     let after = c.add_edge.new.self.ports.items in
-    let few : length edges < MAX_EDGES = omega (arith, builder.wiring.edges.ok.0) in
+    let few : length edges < most_edges = omega (arith, builder.wiring.edges.ok.0) in
     let same = c.add_edge.ensures in
     record {
       kept = elim (added_or_not c.add_edge.result edges c.add_edge.new.self.edges.items c.args.edge same.ok same.err) [

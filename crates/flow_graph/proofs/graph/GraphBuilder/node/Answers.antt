@@ -1,6 +1,6 @@
 use Rattle.std.proofs.Common.{◌<◌, ◌++◌, List, [], ◌∷◌, length, map, sym, ◌∙◌, ap, subst, arith}
 use Rattle.std.proofs.lemmas.List.{length-map, map-append}
-use Rattle.flow_graph.specs.declared.edge.TheConstants.{MAX_NODES}
+use Rattle.flow_graph.specs.Limits.{most_nodes}
 use Rattle.flow_graph.specs.declared.edge.Edge.{Edge}
 use Rattle.flow_graph.specs.Tables.{ins, outs}
 use Rattle.flow_graph.specs.Kept.{IsKept}
@@ -18,7 +18,7 @@ invariant_of-self-2 g c =
     let ports = builder.wiring.ports.items in
     let edges : List Edge = builder.wiring.edges.items in
     let after = c.add_node.new.self.ports.items in
-    let few : length states < MAX_NODES = omega (arith, builder.nodes.ok.0, length-map nodes state) in
+    let few : length states < most_nodes = omega (arith, builder.nodes.ok.0, length-map nodes state) in
     let is = pushed c.push.result c.reserve.new.self.items c.push.new.self.items c.args.node c.push.ensures.items (c.push.ensures.succeeds (omega (arith, c.in_ok-reserve.ensures.ok, c.reserve.ensures.len))) ∙ ap (λ l. l ++ c.args.node ∷ []) c.reserve.ensures.items in
     let kept : IsKept b (states ++ s ∷ []) after edges = kept_node b states ports edges builder.kept builder.wiring.wired s after c.requires
     (c.in_ok-add_node.ensures.inputs ∙ ap (λ n. map length (ins ports) ++ n ∷ []) c.inputs-inputs.ensures)

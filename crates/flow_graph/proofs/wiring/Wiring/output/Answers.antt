@@ -1,33 +1,15 @@
-use Rattle.std.proofs.Common.{◌≡◌, ◌<◌, Some, None, length, arith}
-use Rattle.flow_graph.specs.Edges.{out_edge}
-use Rattle.flow_graph.specs.Tables.{outs, entry_at}
-use Rattle.flow_graph.proofs.Wirings.{count_is, entry_read, node_there, output_some}
+use Rattle.flow_graph.proofs.Wirings.{output_side, node_there, taken_there, taken_is}
 use Rattle.flow_graph.proofs.wiring.Wiring.output.Goals as goal
 
-pub index-requires-2 : goal.index-requires-2
-index-requires-2 c =
-    let ports = c.args.self.now.ports.items in
-    let node = c.index.result.now in
-    omega (arith, node.outputs.ok.0, count_is (λ n. n.outputs.items) ports c.args.node node (node_there (λ n. n.outputs.items) ports c.args.node c.args.port c.requires.port) c.index.ensures)
-
-pub unreachable-requires : goal.unreachable-requires
-unreachable-requires c =
+pub edge_of-requires : goal.edge_of-requires
+edge_of-requires c =
     let wiring = c.args.self.now in
-    let node = c.index.result.now in
-    let there : c.args.node < length wiring.ports.items = node_there (λ n. n.outputs.items) wiring.ports.items c.args.node c.args.port c.requires.port in
-    let within : c.args.port < length node.outputs.items = omega (arith, count_is (λ n. n.outputs.items) wiring.ports.items c.args.node node there c.index.ensures) in
-    let read : c.index-2.result.now ≡ entry_at (outs wiring.ports.items) c.args.node c.args.port = entry_read (λ n. n.outputs.items) wiring.ports.items c.args.node node there c.index.ensures c.args.port c.index-2.result.now within c.index-2.ensures in
-    let some : entry_at (outs wiring.ports.items) c.args.node c.args.port ≡ Some (out_edge wiring.edges.items c.args.node c.args.port) = output_some wiring.ports.items wiring.edges.items wiring.wired c.args.node c.args.port c.requires.taken in
-    let none : c.index-2.result.now ≡ None = c.in-None.is in
-    cc
+    let inside = node_there output_side.of wiring.ports.items c.args.node c.args.port c.requires.port in
+    let there = taken_there output_side wiring.ports.items wiring.edges.items wiring.wired.outs c.args.node c.index.result.now inside c.index.ensures c.deref.result.now c.args.port c.deref.ensures.value c.requires.port c.requires.taken in
+    record { inside = there.0; taken = there.1 }
 
 pub returns : goal.returns
 returns c =
     let wiring = c.args.self.now in
-    let node = c.index.result.now in
-    let there : c.args.node < length wiring.ports.items = node_there (λ n. n.outputs.items) wiring.ports.items c.args.node c.args.port c.requires.port in
-    let within : c.args.port < length node.outputs.items = omega (arith, count_is (λ n. n.outputs.items) wiring.ports.items c.args.node node there c.index.ensures) in
-    let read : c.index-2.result.now ≡ entry_at (outs wiring.ports.items) c.args.node c.args.port = entry_read (λ n. n.outputs.items) wiring.ports.items c.args.node node there c.index.ensures c.args.port c.index-2.result.now within c.index-2.ensures in
-    let some : entry_at (outs wiring.ports.items) c.args.node c.args.port ≡ Some (out_edge wiring.edges.items c.args.node c.args.port) = output_some wiring.ports.items wiring.edges.items wiring.wired c.args.node c.args.port c.requires.taken in
-    let is : c.index-2.result.now ≡ Some c.in-Some.edge = c.in-Some.is in
-    cc
+    let inside = node_there output_side.of wiring.ports.items c.args.node c.args.port c.requires.port in
+    taken_is output_side wiring.ports.items wiring.edges.items wiring.wired.outs c.args.node c.index.result.now inside c.index.ensures c.deref.result.now c.args.port c.edge_of.result c.deref.ensures.value c.requires.taken c.edge_of.ensures

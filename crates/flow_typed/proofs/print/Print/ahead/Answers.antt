@@ -2,8 +2,7 @@ use Rattle.std.proofs.Common.{◌∙◌, ◌-◌, ap, sym, length}
 use Rattle.snesl_values.specs.Types.{ty_of}
 use Rattle.std.specs.List.{slice_get}
 use Rattle.flow_edges.specs.Cells.{cell_of, is_of}
-use Rattle.flow_typed.specs.Shapes.{kinds_of}
-use Rattle.flow_typed.specs.PrintMachine.{kind_at}
+use Rattle.flow_typed.specs.Shapes.{kinds_of, kind_at}
 use Rattle.flow_typed.proofs.Printing.{found_ahead, found_none}
 use Rattle.flow_typed.proofs.print.Print.ahead.Goals as goal
 

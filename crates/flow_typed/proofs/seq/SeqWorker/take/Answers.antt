@@ -5,7 +5,6 @@ use Rattle.snesl_values.specs.Values.{value_of}
 use Rattle.flow_edges.specs.Cells.{cell_of}
 use Rattle.flow_base.specs.Workers.{Takes}
 use Rattle.flow_typed.specs.Dues.{due_cell, segment_dues}
-use Rattle.flow_typed.specs.SeqMachine.{seq_state}
 use Rattle.flow_typed.proofs.VectorSteps.{seq_takes}
 use Rattle.flow_typed.proofs.seq.SeqWorker.take.Goals as goal
 
@@ -16,5 +15,5 @@ returns-clause-takes c =
     let values = map value_of c.in_ok-all.all.items in
     let laid : map due_cell c.add_segment.new.dues.items ≡ segment_dues item 0 values =
     c.in_ok-add_segment.ensures ∙ ap₂ (λ ds l. map due_cell ds ++ segment_dues item 0 (map value_of l)) c.new-dues.ensures.items c.deref.ensures.value in
-    subst (λ r. Takes r (seq_state item dues) (Ok (tt {0})) (seq_state item (map due_cell c.add_segment.new.dues.items)))
-    (sym (seq_takes item dues (cell_of c.args.item) values c.requires c.in_ok-all.ensures.vector c.in_ok-all.ensures.of_type)) (ap (seq_state item) laid)
+    subst (λ r. Takes r (item, dues) (Ok (tt {0})) (item, map due_cell c.add_segment.new.dues.items))
+    (sym (seq_takes item dues (cell_of c.args.item) values c.requires c.in_ok-all.ensures.vector c.in_ok-all.ensures.of_type)) (ap (λ ds. (item, ds)) laid)

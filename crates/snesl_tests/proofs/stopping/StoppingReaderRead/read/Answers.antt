@@ -1,12 +1,7 @@
-use Rattle.std.proofs.Common.{◌≡◌, ℕ, ◌<◌, List, [], ◌∷◌, ◌++◌, length, take, refl, sym, ap, ◌∙◌, arith, eqb, false}
-use Rattle.std.proofs.Common.{set}
+use Rattle.std.proofs.Common.{◌≡◌, ◌<◌, ◌++◌, length, sym, ap, ◌∙◌, arith}
 use Rattle.std.proofs.lemmas.Bool.{eqb-false}
 use Rattle.snesl_tests.proofs.stopping.StoppingReaderRead.read.Goals as goal
-
--- the first byte alone, once it was written
-written_first : (xs : List ℕ) (b : ℕ) → 0 < length xs → take 1 (set xs 0 b) ≡ b ∷ []
-written_first [] b h = absurd (omega arith)
-written_first (x ∷ xs) b h = refl
+use Rattle.snesl_tests.proofs.Buffers.{written_first}
 
 pub returns-clause-bytes : goal.returns-clause-bytes
 returns-clause-bytes c =

@@ -1,0 +1,71 @@
+-- The machine of Fork: an item that comes goes to each output, one after another.
+use Rattle.std.specs.Prelude.{◌≡◌, ℕ, zero, suc, ◌+◌, ◌-◌, Bool, true, false, Option, Some, None, Ok}
+use Rattle.flow_edges.specs.Cells.{Cell, cell_of, is_of}
+use Rattle.flow_edges.specs.declared.message.Item.{Item}
+use Rattle.flow_edges.specs.declared.message.Kind.{Kind}
+use Rattle.flow_edges.specs.declared.message.Kind.TheVariants.{Vec as VecKind, Unit as UnitKind}
+use Rattle.flow_base.specs.Ranges.{CellInRange}
+use Rattle.flow_base.specs.Machines.{Move, begins, gives, on_kind, Machine}
+use Rattle.flow_scalar.specs.Rows.{ForkRow}
+
+-- the kind of the items, and how many outputs there are beside one
+pub record ForkPorts : Type 0 where
+  pub kind : Kind
+  pub others : ℕ
+
+-- the ports of a fork with so many outputs
+abbrev pub fork_ports : Kind → ℕ → ForkPorts
+fork_ports kind outputs = record { kind = kind; others = outputs - 1 }
+
+-- it holds no item, or an item that so many outputs are to get after the next one
+pub data Step : Type 0 where
+  idle : Step
+  holding : Cell → ℕ → Step
+
+-- how far a fork is with so many outputs, of which the next one is this
+abbrev pub step_of : ℕ → ℕ → Option Item → Step
+step_of outputs next None = idle
+step_of outputs next (Some item) = holding (cell_of item) (outputs - (next + 1))
+
+-- an item of the kind is held for all outputs, and written to one after another
+abbrev pub fork_move : ForkPorts → Step → Move Step
+fork_move p idle = begins (on_kind p.kind (λ x. Ok (holding x p.others)))
+fork_move p (holding x zero) = gives (p.others - 0) x idle
+fork_move p (holding x (suc left)) = gives (p.others - suc left) x (holding x left)
+
+-- a write to each output that is left
+abbrev pub fork_debt : Step → ℕ
+fork_debt idle = 0
+fork_debt (holding x left) = left + 1
+
+-- the item that it holds is of the kind
+abbrev pub fork_of_kind : ForkPorts → Step → Type 0
+fork_of_kind p idle = Unit {0}
+fork_of_kind p (holding x left) = is_of p.kind x ≡ true
+
+-- and its integers lie in the range
+abbrev pub fork_in_range : Step → Type 0
+fork_in_range idle = Unit {0}
+fork_in_range (holding x left) = CellInRange x
+
+-- the copy of a vector may take memory; the last output gets the item itself
+abbrev pub fork_takes_memory : Step → Bool
+fork_takes_memory (holding x (suc left)) = is_of VecKind x
+fork_takes_memory _ = false
+
+-- the machine, with its ports as parameters
+abbrev pub fork_machine : Machine ForkPorts Step
+fork_machine = record {
+  sample = fork_ports UnitKind 1;
+  move = fork_move;
+  start = idle;
+  row = λ p. ForkRow p.kind (suc p.others);
+  inputs = λ _. 1;
+  outputs = λ p. suc p.others;
+  kind_in = λ p _. p.kind;
+  kind_out = λ p _. p.kind;
+  debt = λ _. fork_debt;
+  of_kind = fork_of_kind;
+  in_range = λ _. fork_in_range;
+  takes_memory = fork_takes_memory;
+}

@@ -1,0 +1,11 @@
+pub mod Binary
+pub mod Const
+pub mod Fork
+pub mod Iota
+pub mod Length
+pub mod Reduce
+pub mod ScanAdd
+pub mod Sink
+pub mod Source
+pub mod Unary
+pub mod UnitsOf

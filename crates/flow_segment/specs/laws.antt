@@ -1,0 +1,11 @@
+pub mod AppendFlags
+pub mod ConcatFlags
+pub mod Dist
+pub mod FlagOfBool
+pub mod Interleave
+pub mod InterleaveGroups
+pub mod Pack
+pub mod PackGroups
+pub mod PartFlags
+pub mod SameFlags
+pub mod TheCheck

@@ -1,0 +1,85 @@
+// When a scan adds: with the element that the sum is written for, and not with its flag.
+
+ghost use Rattle.std.specs.Prelude.{IfOk};
+ghost use Rattle.flow_graph.specs.Graphs.{states_of};
+ghost use Rattle.flow_graph.specs.Networks.{AreOpened};
+ghost use Rattle.flow_nodes.specs.StreamNodes.{node_behaviour};
+
+use crate::driving::driven;
+use crate::feeding::assert_carries;
+use crate::graphs::{add, built, empty, join};
+use flow_base::Node;
+use flow_drive::Outcome;
+use flow_edges::Kind;
+use flow_graph::Graph;
+use flow_nodes::StreamNode;
+use flow_scalar::{Binary, ScanAdd, Sink, Source, Stream};
+use kahn::Want;
+use snesl_operators::BinaryOperator;
+use snesl_values::{Fault, FaultKind};
+use std::alloc::Global;
+use std::process::Abort;
+use std::test::Fail;
+
+#[test]
+fn adds_with_the_element(rt: HostRuntime) -> Result<(), Fail> {
+    let alloc = rt.alloc();
+    let wanted = ["0 9223372036854775807"];
+    let mut scan = Node::new(ScanAdd::new(), 7);
+    let ins = ["F F F", "9223372036854775807 1"];
+    assert_carries(&rt, alloc, &mut scan, &ins, &wanted, Want::Read(1))?;
+    let mut scan = Node::new(ScanAdd::new(), 7);
+    let ins = ["F F F", "9223372036854775807 1 1"];
+    let overflow = Want::Faulted(Fault {
+        kind: FaultKind::Overflow,
+        at: 7,
+    });
+    assert_carries(&rt, alloc, &mut scan, &ins, &wanted, overflow)
+}
+
+// The sums at offset 0 of the quotients at offset 35, of which the third has no value, and its sum neither.
+fn scan_of_quotients(rt: &impl Abort, alloc: Global) -> Result<Graph<StreamNode>, Fail>
+    ensures { IfOk result (λ graph. AreOpened node_behaviour (states_of graph)) }
+{
+    let flags = Stream::Bools([false, false, false, true].to_vec(alloc)?);
+    let over = Stream::Ints([i64::MAX, 1, 1].to_vec(alloc)?);
+    let under = Stream::Ints([1, 1, 0].to_vec(alloc)?);
+    let mut builder = empty(alloc);
+    add(&mut builder, StreamNode::Source(Source::new(alloc, flags)))?;
+    add(&mut builder, StreamNode::Source(Source::new(alloc, over)))?;
+    add(&mut builder, StreamNode::Source(Source::new(alloc, under)))?;
+    add(
+        &mut builder,
+        StreamNode::Binary(Node::new(Binary::new(BinaryOperator::Divide), 35)),
+    )?;
+    add(
+        &mut builder,
+        StreamNode::ScanAdd(Node::new(ScanAdd::new(), 0)),
+    )?;
+    add(
+        &mut builder,
+        StreamNode::Sink(Node::new(Sink::new(Kind::Int), 0)),
+    )?;
+    join(rt, &mut builder, (0, 0), (4, 0))?;
+    join(rt, &mut builder, (1, 0), (3, 0))?;
+    join(rt, &mut builder, (2, 0), (3, 1))?;
+    join(rt, &mut builder, (3, 0), (4, 1))?;
+    join(rt, &mut builder, (4, 0), (5, 0))?;
+    Ok(built(rt, builder))
+}
+
+#[test]
+fn names_the_fault_of_the_element(rt: HostRuntime) -> Result<(), Fail> {
+    let divide = Fault {
+        kind: FaultKind::Divide,
+        at: 35,
+    };
+    for capacity in [1, 4] {
+        for chunk in [1, 1_024] {
+            let graph = scan_of_quotients(&rt, rt.alloc())?;
+            let rested = driven(rt.alloc(), graph, capacity, chunk)?;
+            assert_eq!(rt; rested.outcome(), Outcome::Fault(divide));
+        }
+    }
+    Ok(())
+}

@@ -1,0 +1,13 @@
+pub mod DueFits
+pub mod Dues
+pub mod Edges
+pub mod Flats
+pub mod Index
+pub mod Kinds
+pub mod PartFits
+pub mod Parts
+pub mod Print
+pub mod PrintSteps
+pub mod Seq
+pub mod Sides
+pub mod Tab

@@ -1,0 +1,34 @@
+-- Declared inputs and their values.
+use Rattle.std.specs.Prelude.{◌≡◌, ℕ, List, [], ◌∷◌, map, Vec}
+use Rattle.std.specs.Global.{Global}
+use Rattle.snesl_values.specs.declared.environment.Input.{Input}
+use Rattle.snesl_values.specs.declared.ty.Ty.{Ty as TyTree}
+use Rattle.snesl_values.specs.Types.{Ty, ty_of}
+use Rattle.snesl_values.specs.Values.{Value, HasType, value_of}
+
+-- a declared name and its type
+abbrev pub Declaration : Type 0
+Declaration = List ℕ × Ty
+
+-- the values of the declared inputs, each beside its name
+abbrev pub Environment : Type 0
+Environment = List (List ℕ × Value)
+
+-- the names are the declared ones in order, and each value has its declared type
+abbrev pub Fits : List Declaration → Environment → Type 0
+Fits [] [] = Unit {0}
+Fits (declaration ∷ declarations) (entry ∷ environment) =
+    (entry.0 ≡ declaration.0) × HasType entry.1 declaration.1 × Fits declarations environment
+Fits _ _ = ⊥
+
+-- the declaration that a name and a type are
+abbrev pub declaration_of : (Vec ℕ Global × TyTree) → Declaration
+declaration_of pair = (pair.0.items, ty_of pair.1)
+
+-- the same for all of them
+abbrev pub declared : List (Vec ℕ Global × TyTree) → List Declaration
+declared = map declaration_of
+
+-- a name and the value that was read for it
+abbrev pub entry_of : Input → List ℕ × Value
+entry_of input = (input.name.items, value_of input.value)
