@@ -1,3 +1,4 @@
+pub mod FlagTables
 pub mod FlagOfBoolMachine
 pub mod TheCheckMachine
 pub mod SameFlagsMachine

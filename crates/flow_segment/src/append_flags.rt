@@ -1,11 +1,6 @@
 // Segments joined to segments, place by place.
 
-ghost use Rattle.std.specs.Prelude.{◌≡◌};
-
-use flow_base::{Ask, Stop, Worker};
-use flow_edges::{Item, Kind};
-use snesl_values::FaultKind;
-use std::alloc::AllocError;
+use crate::over_flags::{OverFlags, Stage, Step};
 
 /// Reads pairs of segments, and writes for each one segment: the elements of the first, then those of the second. A
 /// pair of segments is an instance.
@@ -14,8 +9,11 @@ use std::alloc::AllocError;
 /// `Shape` where an item is of another kind.
 ///
 /// Row: `AppendFlagsRow` (specs/Rows.antt).
+pub type AppendFlags = OverFlags<AppendFlagsStage>;
+
+/// How far it is.
 #[derive(Clone, Copy, Debug, PartialEq, Eq)]
-pub enum AppendFlags {
+pub enum AppendFlagsStage {
     /// It is between two pairs.
     Start,
     /// A flag of the first segment comes next.
@@ -30,94 +28,34 @@ pub enum AppendFlags {
     End,
 }
 
-impl AppendFlags {
-    ghost use Rattle.flow_edges.specs.Cells.{cell_of};
-    ghost use Rattle.flow_base.specs.Machines.{given_of};
-    ghost use Rattle.flow_segment.specs.AppendFlagsMachine.{append_flags_move};
-
-    /// A worker before its first pair of segments.
-    pub fn new() -> AppendFlags
-        ensures { result ≡ AppendFlags.Start }
-    {
-        AppendFlags::Start
-    }
-
-    // Where the item leads.
-    fn next(self, item: &Item) -> Result<AppendFlags, FaultKind>
-        ensures { result ≡ given_of (append_flags_move self) (cell_of item.now) }
-    {
-        match (self, item) {
-            (AppendFlags::Start | AppendFlags::First, Item::Bool(false)) => Ok(
-                AppendFlags::FirstElement,
-            ),
-            (AppendFlags::Start | AppendFlags::First, Item::Bool(true)) => Ok(AppendFlags::Second),
-            (AppendFlags::Second, Item::Bool(false)) => Ok(AppendFlags::SecondElement),
-            (AppendFlags::Second, Item::Bool(true)) => Ok(AppendFlags::End),
-            _ => Err(FaultKind::Shape),
-        }
-    }
-}
-
-impl Worker for AppendFlags {
-    ghost use Rattle.flow_segment.specs.declared.append_flags.AppendFlags.{AppendFlags};
-    ghost use Rattle.flow_segment.specs.AppendFlagsMachine.{append_flags_machine, append_flags_view};
+impl Stage for AppendFlagsStage {
+    ghost use Rattle.flow_segment.specs.AppendFlagsMachine.{append_flags_table};
     ghost use Rattle.flow_segment.specs.laws.AppendFlags.{append_flags_laws};
 
-    ghost Parameters = { Unit {0} };
-
-    ghost State = { AppendFlags };
-
-    ghost state = { append_flags_view };
-
-    ghost machine = { append_flags_machine };
+    ghost table = { append_flags_table };
 
     ghost laws = { append_flags_laws };
 
-    fn ask(&self) -> Ask {
+    fn start() -> AppendFlagsStage {
+        Self::Start
+    }
+
+    fn step(self) -> Step<AppendFlagsStage> {
         match self {
-            AppendFlags::Start => Ask::Begin,
-            AppendFlags::First => Ask::Take(0),
-            AppendFlags::Second => Ask::Take(1),
-            AppendFlags::FirstElement | AppendFlags::SecondElement => Ask::Give(0),
-            AppendFlags::End => Ask::Give(0),
+            Self::Start => Step::Begin(Ok(Self::FirstElement), Ok(Self::Second)),
+            Self::First => Step::Take(0, Ok(Self::FirstElement), Ok(Self::Second)),
+            Self::Second => Step::Take(1, Ok(Self::SecondElement), Ok(Self::End)),
+            Self::FirstElement => Step::Give(0, false, Self::First),
+            Self::SecondElement => Step::Give(0, false, Self::Second),
+            Self::End => Step::Give(0, true, Self::Start),
         }
     }
 
-    fn inputs(&self) -> usize {
+    fn inputs() -> usize {
         2
     }
 
-    fn outputs(&self) -> usize {
+    fn outputs() -> usize {
         1
-    }
-
-    fn kind_in(&self, _port: usize) -> Kind {
-        Kind::Bool
-    }
-
-    fn kind_out(&self, _port: usize) -> Kind {
-        Kind::Bool
-    }
-
-    fn take(&mut self, item: Item) -> Result<(), Stop> {
-        *self = self.next(&item)?;
-        Ok(())
-    }
-
-    fn give(&mut self) -> Result<Item, AllocError> {
-        match *self {
-            AppendFlags::FirstElement => {
-                *self = AppendFlags::First;
-                Ok(Item::Bool(false))
-            }
-            AppendFlags::SecondElement => {
-                *self = AppendFlags::Second;
-                Ok(Item::Bool(false))
-            }
-            _ => {
-                *self = AppendFlags::Start;
-                Ok(Item::Bool(true))
-            }
-        }
     }
 }

@@ -11,6 +11,7 @@ mod dist;
 mod flag_of_bool;
 mod interleave;
 mod interleave_groups;
+mod over_flags;
 mod pack;
 mod pack_groups;
 mod part_flags;

@@ -1,11 +1,7 @@
 // Segments, parted at truth values.
 
-ghost use Rattle.std.specs.Prelude.{◌≡◌};
-
-use flow_base::{Ask, Stop, Worker};
-use flow_edges::{Item, Kind};
+use crate::over_flags::{OverFlags, Stage, Step};
 use snesl_values::FaultKind;
-use std::alloc::AllocError;
 
 /// Reads segments with a truth value for each element, and parts them: a false stands for an element of a part, and a
 /// true ends it. A segment is an instance.
@@ -14,8 +10,11 @@ use std::alloc::AllocError;
 /// false; writes port 0, flags of as many elements as there are parts, and port 1, the flags of the parts. Faults:
 /// `Part` where a segment's last truth value is false, or port 2 has more or fewer elements; `Shape` where an item is of
 /// another kind. Row: `PartFlagsRow` (specs/Rows.antt).
+pub type PartFlags = OverFlags<PartFlagsStage>;
+
+/// How far it is.
 #[derive(Clone, Copy, Debug, PartialEq, Eq)]
-pub enum PartFlags {
+pub enum PartFlagsStage {
     /// It is between two segments.
     Start,
     /// A flag of the segment comes next, after a true.
@@ -38,109 +37,38 @@ pub enum PartFlags {
     End,
 }
 
-impl PartFlags {
-    ghost use Rattle.flow_edges.specs.Cells.{cell_of};
-    ghost use Rattle.flow_base.specs.Machines.{after_of};
-    ghost use Rattle.flow_segment.specs.PartFlagsMachine.{part_flags_move, part_flag, part_given};
-
-    /// A worker before its first segment.
-    pub fn new() -> PartFlags
-        ensures { result ≡ PartFlags.Start }
-    {
-        PartFlags::Start
-    }
-
-    // Where the flag or truth value leads.
-    fn after_flag(self, flag: bool) -> Result<PartFlags, FaultKind>
-        ensures { result ≡ part_flag (part_flags_move self) flag }
-    {
-        match (self, flag) {
-            (PartFlags::Start | PartFlags::Parted | PartFlags::Open, false) => Ok(PartFlags::Test),
-            (PartFlags::Start | PartFlags::Parted, true) => Ok(PartFlags::Last),
-            (PartFlags::Test, false) => Ok(PartFlags::Element),
-            (PartFlags::Test, true) => Ok(PartFlags::Part),
-            (PartFlags::Element, false) => Ok(PartFlags::PartElement),
-            (PartFlags::Last, true) => Ok(PartFlags::End),
-            _ => Err(FaultKind::Part),
-        }
-    }
-
-    // Where the item leads.
-    fn next(self, item: &Item) -> Result<PartFlags, FaultKind>
-        ensures { result ≡ part_given (part_flags_move self) (cell_of item.now) }
-    {
-        match item {
-            Item::Bool(flag) => self.after_flag(*flag),
-            _ => Err(FaultKind::Shape),
-        }
-    }
-
-    // Where the write leads.
-    fn after_write(self) -> PartFlags
-        ensures { result ≡ after_of PartFlags.Start (part_flags_move self) }
-    {
-        match self {
-            PartFlags::PartElement => PartFlags::Open,
-            PartFlags::Part => PartFlags::PartEnd,
-            PartFlags::PartEnd => PartFlags::Parted,
-            _ => PartFlags::Start,
-        }
-    }
-}
-
-impl Worker for PartFlags {
-    ghost use Rattle.flow_segment.specs.declared.part_flags.PartFlags.{PartFlags};
-    ghost use Rattle.flow_segment.specs.PartFlagsMachine.{part_flags_machine, part_flags_view};
+impl Stage for PartFlagsStage {
+    ghost use Rattle.flow_segment.specs.PartFlagsMachine.{part_flags_table};
     ghost use Rattle.flow_segment.specs.laws.PartFlags.{part_flags_laws};
 
-    ghost Parameters = { Unit {0} };
-
-    ghost State = { PartFlags };
-
-    ghost state = { part_flags_view };
-
-    ghost machine = { part_flags_machine };
+    ghost table = { part_flags_table };
 
     ghost laws = { part_flags_laws };
 
-    fn ask(&self) -> Ask {
+    fn start() -> PartFlagsStage {
+        Self::Start
+    }
+
+    fn step(self) -> Step<PartFlagsStage> {
         match self {
-            PartFlags::Start => Ask::Begin,
-            PartFlags::Parted | PartFlags::Open => Ask::Take(0),
-            PartFlags::Test => Ask::Take(1),
-            PartFlags::Element | PartFlags::Last => Ask::Take(2),
-            PartFlags::Part | PartFlags::End => Ask::Give(0),
-            PartFlags::PartElement | PartFlags::PartEnd => Ask::Give(1),
+            Self::Start => Step::Begin(Ok(Self::Test), Ok(Self::Last)),
+            Self::Parted => Step::Take(0, Ok(Self::Test), Ok(Self::Last)),
+            Self::Open => Step::Take(0, Ok(Self::Test), Err(FaultKind::Part)),
+            Self::Test => Step::Take(1, Ok(Self::Element), Ok(Self::Part)),
+            Self::Element => Step::Take(2, Ok(Self::PartElement), Err(FaultKind::Part)),
+            Self::PartElement => Step::Give(1, false, Self::Open),
+            Self::Part => Step::Give(0, false, Self::PartEnd),
+            Self::PartEnd => Step::Give(1, true, Self::Parted),
+            Self::Last => Step::Take(2, Err(FaultKind::Part), Ok(Self::End)),
+            Self::End => Step::Give(0, true, Self::Start),
         }
     }
 
-    fn inputs(&self) -> usize {
+    fn inputs() -> usize {
         3
     }
 
-    fn outputs(&self) -> usize {
+    fn outputs() -> usize {
         2
-    }
-
-    fn kind_in(&self, _port: usize) -> Kind {
-        Kind::Bool
-    }
-
-    fn kind_out(&self, _port: usize) -> Kind {
-        Kind::Bool
-    }
-
-    fn take(&mut self, item: Item) -> Result<(), Stop> {
-        *self = self.next(&item)?;
-        Ok(())
-    }
-
-    fn give(&mut self) -> Result<Item, AllocError> {
-        let flag = match *self {
-            PartFlags::PartElement | PartFlags::Part => false,
-            _ => true,
-        };
-        *self = self.after_write();
-        Ok(Item::Bool(flag))
     }
 }

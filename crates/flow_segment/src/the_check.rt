@@ -1,11 +1,7 @@
 // Segments of one element.
 
-ghost use Rattle.std.specs.Prelude.{◌≡◌, false, IfOk, OnErr, IsOk};
-
-use flow_base::{Ask, Stop, Worker};
-use flow_edges::{Item, Kind};
+use crate::over_flags::{OverFlags, Stage, Step};
 use snesl_values::FaultKind;
-use std::alloc::AllocError;
 
 /// Reads segments of exactly one element each, and writes nothing. Each segment is an instance.
 ///
@@ -13,90 +9,41 @@ use std::alloc::AllocError;
 /// another kind.
 ///
 /// Row: `TheCheckRow` (specs/Rows.antt).
+pub type TheCheck = OverFlags<TheCheckStage>;
+
+/// How far it is.
 #[derive(Clone, Copy, Debug, PartialEq, Eq)]
-pub enum TheCheck {
+pub enum TheCheckStage {
     /// It is between two segments.
     Start,
     /// The segment's element has come.
     Element,
 }
 
-impl TheCheck {
-    ghost use Rattle.flow_edges.specs.Cells.{cell_of};
-    ghost use Rattle.flow_base.specs.Machines.{given_of};
-    ghost use Rattle.flow_segment.specs.TheCheckMachine.{the_check_move};
-
-    /// A worker before its first segment.
-    pub fn new() -> TheCheck
-        ensures { result ≡ TheCheck.Start }
-    {
-        TheCheck::Start
-    }
-
-    // Where the item leads.
-    fn next(self, item: &Item) -> Result<TheCheck, FaultKind>
-        ensures { result ≡ given_of (the_check_move self) (cell_of item.now) }
-    {
-        match (self, item) {
-            (TheCheck::Start, Item::Bool(false)) => Ok(TheCheck::Element),
-            (TheCheck::Element, Item::Bool(true)) => Ok(TheCheck::Start),
-            (_, Item::Bool(_)) => Err(FaultKind::The),
-            _ => Err(FaultKind::Shape),
-        }
-    }
-}
-
-impl Worker for TheCheck {
-    ghost use Rattle.flow_edges.specs.Cells.{cell_of};
-    ghost use Rattle.flow_segment.specs.declared.the_check.TheCheck.{TheCheck};
-    ghost use Rattle.flow_segment.specs.TheCheckMachine.{the_check_machine, the_check_view};
-    ghost use Rattle.flow_base.specs.Machines.{told_of, after_of};
+impl Stage for TheCheckStage {
+    ghost use Rattle.flow_segment.specs.TheCheckMachine.{the_check_table};
     ghost use Rattle.flow_segment.specs.laws.TheCheck.{the_check_laws};
 
-    ghost Parameters = { Unit {0} };
-
-    ghost State = { TheCheck };
-
-    ghost state = { the_check_view };
-
-    ghost machine = { the_check_machine };
+    ghost table = { the_check_table };
 
     ghost laws = { the_check_laws };
 
-    fn ask(&self) -> Ask {
+    fn start() -> TheCheckStage {
+        Self::Start
+    }
+
+    fn step(self) -> Step<TheCheckStage> {
         match self {
-            TheCheck::Start => Ask::Begin,
-            TheCheck::Element => Ask::Take(0),
+            Self::Start => Step::Begin(Ok(Self::Element), Err(FaultKind::The)),
+            Self::Element => Step::Take(0, Err(FaultKind::The), Ok(Self::Start)),
         }
     }
 
-    fn inputs(&self) -> usize {
+    fn inputs() -> usize {
         1
     }
 
-    fn outputs(&self) -> usize {
+    fn outputs() -> usize {
         0
-    }
-
-    fn kind_in(&self, _port: usize) -> Kind {
-        Kind::Bool
-    }
-
-    fn kind_out(&self, _port: usize) -> Kind {
-        Kind::Bool
-    }
-
-    fn take(&mut self, item: Item) -> Result<(), Stop> {
-        *self = self.next(&item)?;
-        Ok(())
-    }
-
-    // It has no output, so that nobody asks for this.
-    fn give(&mut self) -> Result<Item, AllocError>
-        ensures ok { IfOk result (λ item. (cell_of item ≡ told_of (the_check_machine.move tt self.old)) × (self.new ≡ after_of self.old (the_check_machine.move tt self.old))) }
-        ensures err { OnErr result (self.new ≡ self.old) }
-        ensures sure { the_check_machine.takes_memory self.old ≡ false → IsOk result }
-    {
-        Ok(Item::Unit)
     }
 }

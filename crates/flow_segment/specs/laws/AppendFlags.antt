@@ -8,13 +8,15 @@ use Rattle.flow_base.specs.Columns.{Columns, push_column, rows_from}
 use Rattle.flow_base.specs.Machines.{MachineLaws, SoundAt, Runs}
 use Rattle.flow_base.specs.MachineRuns.{Then, reading, writing, run_is}
 use Rattle.flow_segment.specs.Rows.{append_flags_reads, append_flags_writes}
-use Rattle.flow_segment.specs.AppendFlagsMachine.{append_flags_move, append_flags_machine, append_flags_view}
-use Rattle.flow_segment.specs.declared.append_flags.AppendFlags.{AppendFlags}
-use Rattle.flow_segment.specs.declared.append_flags.AppendFlags.TheVariants.{Start, First, Second, FirstElement, SecondElement, End}
+use Rattle.flow_segment.specs.FlagTables.{stage_view}
+use Rattle.flow_segment.specs.AppendFlagsMachine.{append_flags_move, append_flags_machine}
+use Rattle.flow_segment.specs.declared.over_flags.OverFlags.{OverFlags}
+use Rattle.flow_segment.specs.declared.append_flags.AppendFlagsStage.{AppendFlagsStage}
+use Rattle.flow_segment.specs.declared.append_flags.AppendFlagsStage.TheVariants.{Start, First, Second, FirstElement, SecondElement, End}
 use Rattle.flow_base.specs.Members.{NodeOf, node_of}
 use Rattle.flow_base.specs.declared.node.Node.{Node}
 
-sound : (s : AppendFlags) → SoundAt append_flags_machine tt s (append_flags_move s)
+sound : (s : AppendFlagsStage) → SoundAt append_flags_machine tt s (append_flags_move s)
 sound Start = (refl, (omega arith, refl, λ _. (tt, tt), λ _ _. (tt, tt)))
 sound First = (omega arith, refl, λ _. (tt, tt), λ _ _. (tt, tt))
 sound Second = (omega arith, refl, λ _. (tt, tt), λ _ _. (tt, tt))
@@ -38,7 +40,7 @@ written_is : (xs : List (ℕ × ℕ)) → flags (map (λ x. x.0 + x.1) xs) ≡ a
 written_is [] = refl
 written_is (x ∷ xs) = ap (λ h. elements (x.0 + x.1) (T ∷ h)) (written_is xs) ∙ elements-add x.0 x.1 (T ∷ all_written xs)
 
-abbrev Does : AppendFlags → List Cell → List Cell → List Cell → Type 0
+abbrev Does : AppendFlagsStage → List Cell → List Cell → List Cell → Type 0
 Does s f g h = Runs append_flags_machine tt s (f ∷ g ∷ []) (h ∷ [])
 
 -- what is left of a pair of segments, and then a run, is a run
@@ -59,7 +61,7 @@ runs [] = (zero, (refl, refl))
 runs (x ∷ xs) = first_start (first_runs x.0 x.1 (runs xs))
 
 -- what a run reads and writes
-data Owes : AppendFlags → Columns → Columns → Type 0 where
+data Owes : AppendFlagsStage → Columns → Columns → Type 0 where
   start : (xs : List (ℕ × ℕ)) → Owes Start (append_flags_reads xs) (all_written xs ∷ [])
   first : (n m : ℕ) (xs : List (ℕ × ℕ)) → Owes First (elements n (T ∷ firsts xs) ∷ elements m (T ∷ seconds xs) ∷ []) (elements n (elements m (T ∷ all_written xs)) ∷ [])
   second : (m : ℕ) (xs : List (ℕ × ℕ)) → Owes Second (firsts xs ∷ elements m (T ∷ seconds xs) ∷ []) (elements m (T ∷ all_written xs) ∷ [])
@@ -67,7 +69,7 @@ data Owes : AppendFlags → Columns → Columns → Type 0 where
   second_element : {i o : Columns} → Owes Second i o → Owes SecondElement i (push_column 0 F o)
   last : {i o : Columns} → Owes Start i o → Owes End i (push_column 0 T o)
 
-earlier : (s : AppendFlags) (x : Cell) (i o : Columns) → Then (λ next. Owes next i o) (append_flags_move s) x → Owes s (reading (append_flags_move s) x i) (writing (append_flags_move s) o)
+earlier : (s : AppendFlagsStage) (x : Cell) (i o : Columns) → Then (λ next. Owes next i o) (append_flags_move s) x → Owes s (reading (append_flags_move s) x i) (writing (append_flags_move s) o)
 earlier Start (flag false) _ _ (first_element (first n m xs)) = start ((suc n, m) ∷ xs)
 earlier Start (flag true) _ _ (second m xs) = start ((zero, m) ∷ xs)
 earlier First (flag false) _ _ (first_element (first n m xs)) = first (suc n) m xs
@@ -94,5 +96,5 @@ append_flags_laws = record {
 }
 
 -- the transducer that a node makes of it
-abbrev pub append_flags_node : NodeOf (Node AppendFlags)
-append_flags_node = node_of append_flags_view append_flags_machine append_flags_laws
+abbrev pub append_flags_node : NodeOf (Node (OverFlags AppendFlagsStage))
+append_flags_node = node_of stage_view append_flags_machine append_flags_laws

@@ -9,13 +9,15 @@ use Rattle.flow_base.specs.Columns.{Columns, push_column, rows_from}
 use Rattle.flow_base.specs.Machines.{MachineLaws, SoundAt, Runs}
 use Rattle.flow_base.specs.MachineRuns.{Then, reading, writing, run_is}
 use Rattle.flow_segment.specs.Rows.{concat_flags_reads, concat_flags_writes}
-use Rattle.flow_segment.specs.ConcatFlagsMachine.{concat_flags_move, concat_flags_machine, concat_flags_view}
-use Rattle.flow_segment.specs.declared.concat_flags.ConcatFlags.{ConcatFlags}
-use Rattle.flow_segment.specs.declared.concat_flags.ConcatFlags.TheVariants.{Start, Outer, Inner, Element, End}
+use Rattle.flow_segment.specs.FlagTables.{stage_view}
+use Rattle.flow_segment.specs.ConcatFlagsMachine.{concat_flags_move, concat_flags_machine}
+use Rattle.flow_segment.specs.declared.over_flags.OverFlags.{OverFlags}
+use Rattle.flow_segment.specs.declared.concat_flags.ConcatFlagsStage.{ConcatFlagsStage}
+use Rattle.flow_segment.specs.declared.concat_flags.ConcatFlagsStage.TheVariants.{Start, Outer, Inner, Element, End}
 use Rattle.flow_base.specs.Members.{NodeOf, node_of}
 use Rattle.flow_base.specs.declared.node.Node.{Node}
 
-sound : (s : ConcatFlags) → SoundAt concat_flags_machine tt s (concat_flags_move s)
+sound : (s : ConcatFlagsStage) → SoundAt concat_flags_machine tt s (concat_flags_move s)
 sound Start = (refl, (omega arith, refl, λ _. (tt, tt), λ _ _. (tt, tt)))
 sound Outer = (omega arith, refl, λ _. (tt, tt), λ _ _. (tt, tt))
 sound Inner = (omega arith, refl, λ _. (tt, tt), λ _ _. (tt, tt))
@@ -39,7 +41,7 @@ written_is (ms ∷ groups) = go ms ∙ ap (λ h. all_elements ms (T ∷ h)) (wri
     go [] = refl
     go (m ∷ ms) = ap (λ k. elements k (T ∷ flags (map sum groups))) (sum_by-cons (λ x. x) m ms) ∙ elements-add m (sum ms) (T ∷ flags (map sum groups)) ∙ ap (elements m) (go ms)
 
-abbrev Does : ConcatFlags → List Cell → List Cell → List Cell → Type 0
+abbrev Does : ConcatFlagsStage → List Cell → List Cell → List Cell → Type 0
 Does s f g h = Runs concat_flags_machine tt s (f ∷ g ∷ []) (h ∷ [])
 
 -- what is left of these segments is a run
@@ -60,14 +62,14 @@ runs [] = (zero, (refl, refl))
 runs (ms ∷ groups) = outer_start (outer_runs ms (lengths groups) (joined groups) (runs groups))
 
 -- what a run reads and writes
-data Owes : ConcatFlags → Columns → Columns → Type 0 where
+data Owes : ConcatFlagsStage → Columns → Columns → Type 0 where
   start : (groups : List (List ℕ)) → Owes Start (concat_flags_reads groups) (all_written groups ∷ [])
   outer : (ms : List ℕ) (groups : List (List ℕ)) → Owes Outer (elements (length ms) (T ∷ flags (lengths groups)) ∷ flags (ms ++ joined groups) ∷ []) (all_elements ms (T ∷ all_written groups) ∷ [])
   inner : (m : ℕ) (ms : List ℕ) (groups : List (List ℕ)) → Owes Inner (elements (length ms) (T ∷ flags (lengths groups)) ∷ elements m (T ∷ flags (ms ++ joined groups)) ∷ []) (elements m (all_elements ms (T ∷ all_written groups)) ∷ [])
   element : {i o : Columns} → Owes Inner i o → Owes Element i (push_column 0 F o)
   last : {i o : Columns} → Owes Start i o → Owes End i (push_column 0 T o)
 
-earlier : (s : ConcatFlags) (x : Cell) (i o : Columns) → Then (λ next. Owes next i o) (concat_flags_move s) x → Owes s (reading (concat_flags_move s) x i) (writing (concat_flags_move s) o)
+earlier : (s : ConcatFlagsStage) (x : Cell) (i o : Columns) → Then (λ next. Owes next i o) (concat_flags_move s) x → Owes s (reading (concat_flags_move s) x i) (writing (concat_flags_move s) o)
 earlier Start (flag false) _ _ (inner m ms groups) = start ((m ∷ ms) ∷ groups)
 earlier Start (flag true) _ _ (last (start groups)) = start ([] ∷ groups)
 earlier Outer (flag false) _ _ (inner m ms groups) = outer (m ∷ ms) groups
@@ -93,5 +95,5 @@ concat_flags_laws = record {
 }
 
 -- the transducer that a node makes of it
-abbrev pub concat_flags_node : NodeOf (Node ConcatFlags)
-concat_flags_node = node_of concat_flags_view concat_flags_machine concat_flags_laws
+abbrev pub concat_flags_node : NodeOf (Node (OverFlags ConcatFlagsStage))
+concat_flags_node = node_of stage_view concat_flags_machine concat_flags_laws

@@ -7,13 +7,15 @@ use Rattle.flow_base.specs.Columns.{Columns, push_column, rows_from}
 use Rattle.flow_base.specs.Machines.{MachineLaws, SoundAt, Runs}
 use Rattle.flow_base.specs.MachineRuns.{Then, reading, writing, run_is}
 use Rattle.flow_segment.specs.Rows.{flag_of_bool_reads, flag_of_bool_writes}
-use Rattle.flow_segment.specs.FlagOfBoolMachine.{flag_of_bool_move, flag_of_bool_machine, flag_of_bool_view}
-use Rattle.flow_segment.specs.declared.flag_of_bool.FlagOfBool.{FlagOfBool}
-use Rattle.flow_segment.specs.declared.flag_of_bool.FlagOfBool.TheVariants.{Start, Element, End}
+use Rattle.flow_segment.specs.FlagTables.{stage_view}
+use Rattle.flow_segment.specs.FlagOfBoolMachine.{flag_of_bool_move, flag_of_bool_machine}
+use Rattle.flow_segment.specs.declared.over_flags.OverFlags.{OverFlags}
+use Rattle.flow_segment.specs.declared.flag_of_bool.FlagOfBoolStage.{FlagOfBoolStage}
+use Rattle.flow_segment.specs.declared.flag_of_bool.FlagOfBoolStage.TheVariants.{Start, Element, End}
 use Rattle.flow_base.specs.Members.{NodeOf, node_of}
 use Rattle.flow_base.specs.declared.node.Node.{Node}
 
-sound : (s : FlagOfBool) → SoundAt flag_of_bool_machine tt s (flag_of_bool_move s)
+sound : (s : FlagOfBoolStage) → SoundAt flag_of_bool_machine tt s (flag_of_bool_move s)
 sound Start = (refl, (omega arith, refl, λ _. (tt, tt), λ _ _. (tt, tt)))
 sound Element = (omega arith, omega arith, λ _. (refl, tt), λ _ _. (tt, tt))
 sound End = (omega arith, omega arith, λ _. (refl, tt), λ _ _. (tt, tt))
@@ -24,12 +26,12 @@ runs (true ∷ truths) = let k = runs truths in (suc (suc (suc k.0)), (refl, (re
 runs (false ∷ truths) = let k = runs truths in (suc (suc k.0), (refl, k.1))
 
 -- what a run reads and writes
-data Owes : FlagOfBool → Columns → Columns → Type 0 where
+data Owes : FlagOfBoolStage → Columns → Columns → Type 0 where
   start : (truths : List Bool) → Owes Start (flag_of_bool_reads truths) (flag_of_bool_writes truths)
   element : {i o : Columns} → Owes End i o → Owes Element i (push_column 0 F o)
   last : {i o : Columns} → Owes Start i o → Owes End i (push_column 0 T o)
 
-earlier : (s : FlagOfBool) (x : Cell) (i o : Columns) → Then (λ next. Owes next i o) (flag_of_bool_move s) x → Owes s (reading (flag_of_bool_move s) x i) (writing (flag_of_bool_move s) o)
+earlier : (s : FlagOfBoolStage) (x : Cell) (i o : Columns) → Then (λ next. Owes next i o) (flag_of_bool_move s) x → Owes s (reading (flag_of_bool_move s) x i) (writing (flag_of_bool_move s) o)
 earlier Start (flag true) _ _ (element (last (start truths))) = start (true ∷ truths)
 earlier Start (flag false) _ _ (last (start truths)) = start (false ∷ truths)
 earlier Element _ _ _ o = element o
@@ -48,5 +50,5 @@ flag_of_bool_laws = record {
 }
 
 -- the transducer that a node makes of it
-abbrev pub flag_of_bool_node : NodeOf (Node FlagOfBool)
-flag_of_bool_node = node_of flag_of_bool_view flag_of_bool_machine flag_of_bool_laws
+abbrev pub flag_of_bool_node : NodeOf (Node (OverFlags FlagOfBoolStage))
+flag_of_bool_node = node_of stage_view flag_of_bool_machine flag_of_bool_laws

@@ -7,13 +7,15 @@ use Rattle.flow_base.specs.Columns.{Columns, push_column, rows_from}
 use Rattle.flow_base.specs.Machines.{Runs, SoundAt, MachineLaws}
 use Rattle.flow_base.specs.MachineRuns.{reading, writing, Then, run_is}
 use Rattle.flow_segment.specs.Rows.{Sides, lefts, rights, alternated, interleave_groups_reads}
-use Rattle.flow_segment.specs.InterleaveGroupsMachine.{interleave_groups_move, interleave_groups_machine, interleave_groups_view}
-use Rattle.flow_segment.specs.declared.interleave_groups.InterleaveGroups.{InterleaveGroups}
-use Rattle.flow_segment.specs.declared.interleave_groups.InterleaveGroups.TheVariants.{Start, Left, LeftGroup, LeftElement, LeftEnd, Right, RightGroup, RightElement, RightEnd}
+use Rattle.flow_segment.specs.FlagTables.{stage_view}
+use Rattle.flow_segment.specs.InterleaveGroupsMachine.{interleave_groups_move, interleave_groups_machine}
+use Rattle.flow_segment.specs.declared.over_flags.OverFlags.{OverFlags}
+use Rattle.flow_segment.specs.declared.interleave_groups.InterleaveGroupsStage.{InterleaveGroupsStage}
+use Rattle.flow_segment.specs.declared.interleave_groups.InterleaveGroupsStage.TheVariants.{Start, Left, LeftGroup, LeftElement, LeftEnd, Right, RightGroup, RightElement, RightEnd}
 use Rattle.flow_base.specs.Members.{NodeOf, node_of}
 use Rattle.flow_base.specs.declared.node.Node.{Node}
 
-sound : (s : InterleaveGroups) → SoundAt interleave_groups_machine tt s (interleave_groups_move s)
+sound : (s : InterleaveGroupsStage) → SoundAt interleave_groups_machine tt s (interleave_groups_move s)
 sound Start = (refl, (omega arith, refl, λ _. (tt, tt), λ _ _. (tt, tt)))
 sound Left = (omega arith, refl, λ _. (tt, tt), λ _ _. (tt, tt))
 sound LeftGroup = (omega arith, refl, λ _. (tt, tt), λ _ _. (tt, tt))
@@ -24,7 +26,7 @@ sound RightGroup = (omega arith, refl, λ _. (tt, tt), λ _ _. (tt, tt))
 sound RightElement = (omega arith, omega arith, λ _. (refl, tt), λ _ _. (tt, tt))
 sound RightEnd = (omega arith, omega arith, λ _. (refl, tt), λ _ _. (tt, tt))
 
-abbrev Does : InterleaveGroups → List Cell → List Cell → List Cell → List Cell → List Cell → Type 0
+abbrev Does : InterleaveGroupsStage → List Cell → List Cell → List Cell → List Cell → List Cell → Type 0
 Does s f g p q r = Runs interleave_groups_machine tt s (f ∷ g ∷ p ∷ q ∷ []) (r ∷ [])
 
 -- a group of a side and then a run are a run
@@ -54,7 +56,7 @@ runs [] = (zero, (refl, refl))
 runs ((us, vs) ∷ xs) = left_start (left_runs us (joined (lefts xs)) (vs ++ alternated xs) (right_runs vs (joined (rights xs)) (alternated xs) (runs xs)))
 
 -- what a run reads and writes
-data Owes : InterleaveGroups → Columns → Columns → Type 0 where
+data Owes : InterleaveGroupsStage → Columns → Columns → Type 0 where
   start : (xs : Sides ℕ) → Owes Start (interleave_groups_reads xs) (flags (alternated xs) ∷ [])
   right : (vs : List ℕ) (xs : Sides ℕ) →
       Owes Right (flags (lengths (lefts xs)) ∷ elements (length vs) (T ∷ flags (lengths (rights xs))) ∷ flags (joined (lefts xs)) ∷ flags (vs ++ joined (rights xs)) ∷ []) (flags (vs ++ alternated xs) ∷ [])
@@ -68,7 +70,7 @@ data Owes : InterleaveGroups → Columns → Columns → Type 0 where
   left_element : {i o : Columns} → Owes LeftGroup i o → Owes LeftElement i (push_column 0 F o)
   left_end : {i o : Columns} → Owes Left i o → Owes LeftEnd i (push_column 0 T o)
 
-earlier : (s : InterleaveGroups) (x : Cell) (i o : Columns) → Then (λ next. Owes next i o) (interleave_groups_move s) x → Owes s (reading (interleave_groups_move s) x i) (writing (interleave_groups_move s) o)
+earlier : (s : InterleaveGroupsStage) (x : Cell) (i o : Columns) → Then (λ next. Owes next i o) (interleave_groups_move s) x → Owes s (reading (interleave_groups_move s) x i) (writing (interleave_groups_move s) o)
 earlier Start (flag false) _ _ (left_group m (left us vs xs)) = start ((m ∷ us, vs) ∷ xs)
 earlier Start (flag true) _ _ (right vs xs) = start (([], vs) ∷ xs)
 earlier Left (flag false) _ _ (left_group m (left us vs xs)) = left (m ∷ us) vs xs
@@ -97,5 +99,5 @@ interleave_groups_laws = record {
 }
 
 -- the transducer that a node makes of it
-abbrev pub interleave_groups_node : NodeOf (Node InterleaveGroups)
-interleave_groups_node = node_of interleave_groups_view interleave_groups_machine interleave_groups_laws
+abbrev pub interleave_groups_node : NodeOf (Node (OverFlags InterleaveGroupsStage))
+interleave_groups_node = node_of stage_view interleave_groups_machine interleave_groups_laws

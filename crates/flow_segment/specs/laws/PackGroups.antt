@@ -7,20 +7,22 @@ use Rattle.flow_base.specs.Columns.{Columns, push_column, rows_from}
 use Rattle.flow_base.specs.Machines.{MachineLaws, SoundAt, Runs}
 use Rattle.flow_base.specs.MachineRuns.{Then, reading, writing, run_is}
 use Rattle.flow_segment.specs.Rows.{pack_groups_reads, kept_flags, pack_groups_writes}
-use Rattle.flow_segment.specs.PackGroupsMachine.{pack_groups_move, pack_groups_machine, pack_groups_view}
-use Rattle.flow_segment.specs.declared.pack_groups.PackGroups.{PackGroups}
-use Rattle.flow_segment.specs.declared.pack_groups.PackGroups.TheVariants.{Start, Flag, Element, End}
+use Rattle.flow_segment.specs.FlagTables.{stage_view}
+use Rattle.flow_segment.specs.PackGroupsMachine.{pack_groups_move, pack_groups_machine}
+use Rattle.flow_segment.specs.declared.over_flags.OverFlags.{OverFlags}
+use Rattle.flow_segment.specs.declared.pack_groups.PackGroupsStage.{PackGroupsStage}
+use Rattle.flow_segment.specs.declared.pack_groups.PackGroupsStage.TheVariants.{Start, Flag, Element, End}
 use Rattle.flow_base.specs.Members.{NodeOf, node_of}
 use Rattle.flow_base.specs.declared.node.Node.{Node}
 
-sound : (s : PackGroups) → SoundAt pack_groups_machine tt s (pack_groups_move s)
+sound : (s : PackGroupsStage) → SoundAt pack_groups_machine tt s (pack_groups_move s)
 sound Start = (refl, (omega arith, refl, λ _. (tt, tt), λ _ _. (tt, tt)))
 sound (Flag true) = (omega arith, refl, λ _. (tt, tt), λ _ _. (tt, tt))
 sound (Flag false) = (omega arith, refl, λ _. (tt, tt), λ _ _. (tt, tt))
 sound Element = (omega arith, omega arith, λ _. (refl, tt), λ _ _. (tt, tt))
 sound End = (omega arith, omega arith, λ _. (refl, tt), λ _ _. (tt, tt))
 
-abbrev Does : PackGroups → List Cell → List Cell → List Cell → Type 0
+abbrev Does : PackGroupsStage → List Cell → List Cell → List Cell → Type 0
 Does s b f g = Runs pack_groups_machine tt s (b ∷ f ∷ []) (g ∷ [])
 
 -- a segment that is kept, or dropped, and then a run, is a run
@@ -38,14 +40,14 @@ runs ((true, n) ∷ xs) = let k = kept n (runs xs) in (suc k.0, k.1)
 runs ((false, n) ∷ xs) = let k = dropped n (runs xs) in (suc k.0, k.1)
 
 -- what a run reads and writes
-data Owes : PackGroups → Columns → Columns → Type 0 where
+data Owes : PackGroupsStage → Columns → Columns → Type 0 where
   start : (xs : List (Bool × ℕ)) → Owes Start (pack_groups_reads xs) (pack_groups_writes xs)
   keeps : (n : ℕ) (xs : List (Bool × ℕ)) → Owes (Flag true) (map (λ x. flag x.0) xs ∷ elements n (T ∷ flags (map (λ x. x.1) xs)) ∷ []) (elements n (T ∷ kept_flags xs) ∷ [])
   drops : (n : ℕ) (xs : List (Bool × ℕ)) → Owes (Flag false) (map (λ x. flag x.0) xs ∷ elements n (T ∷ flags (map (λ x. x.1) xs)) ∷ []) (kept_flags xs ∷ [])
   element : {i o : Columns} → Owes (Flag true) i o → Owes Element i (push_column 0 F o)
   last : {i o : Columns} → Owes Start i o → Owes End i (push_column 0 T o)
 
-earlier : (s : PackGroups) (x : Cell) (i o : Columns) → Then (λ next. Owes next i o) (pack_groups_move s) x → Owes s (reading (pack_groups_move s) x i) (writing (pack_groups_move s) o)
+earlier : (s : PackGroupsStage) (x : Cell) (i o : Columns) → Then (λ next. Owes next i o) (pack_groups_move s) x → Owes s (reading (pack_groups_move s) x i) (writing (pack_groups_move s) o)
 earlier Start (flag true) _ _ (keeps n xs) = start ((true, n) ∷ xs)
 earlier Start (flag false) _ _ (drops n xs) = start ((false, n) ∷ xs)
 earlier (Flag true) (flag false) _ _ (element (keeps n xs)) = keeps (suc n) xs
@@ -70,5 +72,5 @@ pack_groups_laws = record {
 }
 
 -- the transducer that a node makes of it
-abbrev pub pack_groups_node : NodeOf (Node PackGroups)
-pack_groups_node = node_of pack_groups_view pack_groups_machine pack_groups_laws
+abbrev pub pack_groups_node : NodeOf (Node (OverFlags PackGroupsStage))
+pack_groups_node = node_of stage_view pack_groups_machine pack_groups_laws

@@ -10,13 +10,15 @@ use Rattle.flow_base.specs.Columns.{Columns, push_column, rows_from}
 use Rattle.flow_base.specs.Machines.{Runs, SoundAt, MachineLaws}
 use Rattle.flow_base.specs.MachineRuns.{reading, writing, Then, run_is}
 use Rattle.flow_segment.specs.Rows.{part_flags_reads, part_flags_writes}
-use Rattle.flow_segment.specs.PartFlagsMachine.{part_flags_move, part_flags_machine, part_flags_view}
-use Rattle.flow_segment.specs.declared.part_flags.PartFlags.{PartFlags}
-use Rattle.flow_segment.specs.declared.part_flags.PartFlags.TheVariants.{Start, Parted, Open, Test, Element, PartElement, Part, PartEnd, Last, End}
+use Rattle.flow_segment.specs.FlagTables.{stage_view}
+use Rattle.flow_segment.specs.PartFlagsMachine.{part_flags_move, part_flags_machine}
+use Rattle.flow_segment.specs.declared.over_flags.OverFlags.{OverFlags}
+use Rattle.flow_segment.specs.declared.part_flags.PartFlagsStage.{PartFlagsStage}
+use Rattle.flow_segment.specs.declared.part_flags.PartFlagsStage.TheVariants.{Start, Parted, Open, Test, Element, PartElement, Part, PartEnd, Last, End}
 use Rattle.flow_base.specs.Members.{NodeOf, node_of}
 use Rattle.flow_base.specs.declared.node.Node.{Node}
 
-sound : (s : PartFlags) → SoundAt part_flags_machine tt s (part_flags_move s)
+sound : (s : PartFlagsStage) → SoundAt part_flags_machine tt s (part_flags_move s)
 sound Start = (refl, (omega arith, refl, λ _. (tt, tt), λ _ _. (tt, tt)))
 sound Parted = (omega arith, refl, λ _. (tt, tt), λ _ _. (tt, tt))
 sound Open = (omega arith, refl, λ _. (tt, tt), λ _ _. (tt, tt))
@@ -53,7 +55,7 @@ each_reads groups = sum_flags suc groups ∷ flags (joined groups) ∷ sum_flags
 reads_are : (groups : List (List ℕ)) → part_flags_reads groups ≡ each_reads groups
 reads_are groups = ap₂ (λ g f. g ∷ flags (joined groups) ∷ f ∷ []) (sums_are suc groups) (sums_are (λ m. m) groups)
 
-abbrev Does : PartFlags → List Cell → List Cell → List Cell → List Cell → List Cell → Type 0
+abbrev Does : PartFlagsStage → List Cell → List Cell → List Cell → List Cell → List Cell → Type 0
 Does s g b f h k = Runs part_flags_machine tt s (g ∷ b ∷ f ∷ []) (h ∷ k ∷ [])
 
 -- a part, of which one flag has come, and then a run is a run
@@ -76,7 +78,7 @@ runs [] = (zero, (refl, refl))
 runs (ms ∷ groups) = parted_start (parted_runs ms (joined groups) (runs groups))
 
 -- what a run reads and writes
-data Owes : PartFlags → Columns → Columns → Type 0 where
+data Owes : PartFlagsStage → Columns → Columns → Type 0 where
   start : (groups : List (List ℕ)) → Owes Start (each_reads groups) (part_flags_writes groups)
   parted : (ms : List ℕ) (groups : List (List ℕ)) → Owes Parted
       (all_elements suc ms (T ∷ sum_flags suc groups) ∷ flags (ms ++ joined groups) ∷ all_elements (λ m. m) ms (T ∷ sum_flags (λ m. m) groups) ∷ [])
@@ -92,7 +94,7 @@ data Owes : PartFlags → Columns → Columns → Type 0 where
   last : {i o : Columns} → Owes End i o → Owes Last (push_column 2 T i) o
   end : {i o : Columns} → Owes Start i o → Owes End i (push_column 0 T o)
 
-earlier : (s : PartFlags) (x : Cell) (i o : Columns) → Then (λ next. Owes next i o) (part_flags_move s) x → Owes s (reading (part_flags_move s) x i) (writing (part_flags_move s) o)
+earlier : (s : PartFlagsStage) (x : Cell) (i o : Columns) → Then (λ next. Owes next i o) (part_flags_move s) x → Owes s (reading (part_flags_move s) x i) (writing (part_flags_move s) o)
 earlier Start (flag false) _ _ (test m ms groups) = start ((m ∷ ms) ∷ groups)
 earlier Start (flag true) _ _ (last (end (start groups))) = start ([] ∷ groups)
 earlier Parted (flag false) _ _ (test m ms groups) = parted (m ∷ ms) groups
@@ -121,5 +123,5 @@ part_flags_laws = record {
 }
 
 -- the transducer that a node makes of it
-abbrev pub part_flags_node : NodeOf (Node PartFlags)
-part_flags_node = node_of part_flags_view part_flags_machine part_flags_laws
+abbrev pub part_flags_node : NodeOf (Node (OverFlags PartFlagsStage))
+part_flags_node = node_of stage_view part_flags_machine part_flags_laws

@@ -6,13 +6,15 @@ use Rattle.flow_base.specs.Columns.{Columns, rows_from}
 use Rattle.flow_base.specs.Machines.{MachineLaws, SoundAt, Runs}
 use Rattle.flow_base.specs.MachineRuns.{Then, reading, writing, run_is}
 use Rattle.flow_segment.specs.Rows.{same_flags_reads}
-use Rattle.flow_segment.specs.SameFlagsMachine.{same_flags_move, same_flags_machine, same_flags_view}
-use Rattle.flow_segment.specs.declared.same_flags.SameFlags.{SameFlags}
-use Rattle.flow_segment.specs.declared.same_flags.SameFlags.TheVariants.{Start, Second}
+use Rattle.flow_segment.specs.FlagTables.{stage_view}
+use Rattle.flow_segment.specs.SameFlagsMachine.{same_flags_move, same_flags_machine}
+use Rattle.flow_segment.specs.declared.over_flags.OverFlags.{OverFlags}
+use Rattle.flow_segment.specs.declared.same_flags.SameFlagsStage.{SameFlagsStage}
+use Rattle.flow_segment.specs.declared.same_flags.SameFlagsStage.TheVariants.{Start, Second}
 use Rattle.flow_base.specs.Members.{NodeOf, node_of}
 use Rattle.flow_base.specs.declared.node.Node.{Node}
 
-sound : (s : SameFlags) → SoundAt same_flags_machine tt s (same_flags_move s)
+sound : (s : SameFlagsStage) → SoundAt same_flags_machine tt s (same_flags_move s)
 sound Start = (refl, (omega arith, refl, λ _. (tt, tt), λ _ _. (tt, tt)))
 sound (Second true) = (omega arith, refl, λ _. (tt, tt), λ _ _. (tt, tt))
 sound (Second false) = (omega arith, refl, λ _. (tt, tt), λ _ _. (tt, tt))
@@ -23,11 +25,11 @@ runs (true ∷ bs) = let k = runs bs in (suc (suc k.0), k.1)
 runs (false ∷ bs) = let k = runs bs in (suc (suc k.0), k.1)
 
 -- what a run reads
-data Owes : SameFlags → Columns → Columns → Type 0 where
+data Owes : SameFlagsStage → Columns → Columns → Type 0 where
   start : (bs : List Bool) → Owes Start (same_flags_reads bs) []
   second : (b : Bool) (bs : List Bool) → Owes (Second b) (map flag bs ∷ (flag b ∷ map flag bs) ∷ []) []
 
-earlier : (s : SameFlags) (x : Cell) (i o : Columns) → Then (λ next. Owes next i o) (same_flags_move s) x → Owes s (reading (same_flags_move s) x i) (writing (same_flags_move s) o)
+earlier : (s : SameFlagsStage) (x : Cell) (i o : Columns) → Then (λ next. Owes next i o) (same_flags_move s) x → Owes s (reading (same_flags_move s) x i) (writing (same_flags_move s) o)
 earlier Start (flag true) _ _ (second true bs) = start (true ∷ bs)
 earlier Start (flag false) _ _ (second false bs) = start (false ∷ bs)
 earlier (Second true) (flag true) _ _ (start bs) = second true bs
@@ -48,5 +50,5 @@ same_flags_laws = record {
 }
 
 -- the transducer that a node makes of it
-abbrev pub same_flags_node : NodeOf (Node SameFlags)
-same_flags_node = node_of same_flags_view same_flags_machine same_flags_laws
+abbrev pub same_flags_node : NodeOf (Node (OverFlags SameFlagsStage))
+same_flags_node = node_of stage_view same_flags_machine same_flags_laws

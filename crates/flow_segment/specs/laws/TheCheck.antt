@@ -7,13 +7,15 @@ use Rattle.flow_base.specs.Columns.{Columns, rows_from}
 use Rattle.flow_base.specs.Machines.{MachineLaws, SoundAt, Runs}
 use Rattle.flow_base.specs.MachineRuns.{Then, reading, writing, run_is}
 use Rattle.flow_segment.specs.Rows.{the_check_reads}
-use Rattle.flow_segment.specs.TheCheckMachine.{the_check_move, the_check_machine, the_check_view}
-use Rattle.flow_segment.specs.declared.the_check.TheCheck.{TheCheck}
-use Rattle.flow_segment.specs.declared.the_check.TheCheck.TheVariants.{Start, Element}
+use Rattle.flow_segment.specs.FlagTables.{stage_view}
+use Rattle.flow_segment.specs.TheCheckMachine.{the_check_move, the_check_machine}
+use Rattle.flow_segment.specs.declared.over_flags.OverFlags.{OverFlags}
+use Rattle.flow_segment.specs.declared.the_check.TheCheckStage.{TheCheckStage}
+use Rattle.flow_segment.specs.declared.the_check.TheCheckStage.TheVariants.{Start, Element}
 use Rattle.flow_base.specs.Members.{NodeOf, node_of}
 use Rattle.flow_base.specs.declared.node.Node.{Node}
 
-sound : (s : TheCheck) → SoundAt the_check_machine tt s (the_check_move s)
+sound : (s : TheCheckStage) → SoundAt the_check_machine tt s (the_check_move s)
 sound Start = (refl, (omega arith, refl, λ _. (tt, tt), λ _ _. (tt, tt)))
 sound Element = (omega arith, refl, λ _. (tt, tt), λ _ _. (tt, tt))
 
@@ -22,11 +24,11 @@ runs zero = (zero, (refl, refl))
 runs (suc n) = let k = runs n in (suc (suc k.0), k.1)
 
 -- what a run reads
-data Owes : TheCheck → Columns → Columns → Type 0 where
+data Owes : TheCheckStage → Columns → Columns → Type 0 where
   start : (n : ℕ) → Owes Start (the_check_reads n) []
   element : (n : ℕ) → Owes Element ((T ∷ flags (replicate n 1)) ∷ []) []
 
-earlier : (s : TheCheck) (x : Cell) (i o : Columns) → Then (λ next. Owes next i o) (the_check_move s) x → Owes s (reading (the_check_move s) x i) (writing (the_check_move s) o)
+earlier : (s : TheCheckStage) (x : Cell) (i o : Columns) → Then (λ next. Owes next i o) (the_check_move s) x → Owes s (reading (the_check_move s) x i) (writing (the_check_move s) o)
 earlier Start (flag false) _ _ (element n) = start (suc n)
 earlier Element (flag true) _ _ (start n) = element n
 earlier Start _ _ _ h = absurd h
@@ -44,5 +46,5 @@ the_check_laws = record {
 }
 
 -- the transducer that a node makes of it
-abbrev pub the_check_node : NodeOf (Node TheCheck)
-the_check_node = node_of the_check_view the_check_machine the_check_laws
+abbrev pub the_check_node : NodeOf (Node (OverFlags TheCheckStage))
+the_check_node = node_of stage_view the_check_machine the_check_laws
