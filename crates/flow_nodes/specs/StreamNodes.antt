@@ -24,7 +24,7 @@ use Rattle.flow_segment.specs.laws.Pack.{pack_node}
 use Rattle.flow_segment.specs.laws.PackGroups.{pack_groups_node}
 use Rattle.flow_segment.specs.laws.Interleave.{interleave_node}
 use Rattle.flow_segment.specs.laws.InterleaveGroups.{interleave_groups_node}
-use Rattle.flow_typed.specs.TypedNodes.{print_node, tab_node, seq_node, index_node}
+use Rattle.flow_values.specs.ValueNodes.{print_node, tab_node, seq_node, index_node}
 use Rattle.flow_nodes.specs.declared.stream_node.StreamNode.{StreamNode}
 use Rattle.flow_nodes.specs.declared.stream_node.StreamNode.TheVariants as nodes
 

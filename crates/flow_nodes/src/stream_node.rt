@@ -12,7 +12,7 @@ use flow_segment::{
     AppendFlags, ConcatFlags, Dist, FlagOfBool, Interleave, InterleaveGroups, Pack, PackGroups,
     PartFlags, SameFlags, TheCheck,
 };
-use flow_typed::{Index, Print, Seq, Tab};
+use flow_values::{Index, Print, Seq, Tab};
 use kahn::Want;
 use std::alloc::AllocError;
 

@@ -12,7 +12,7 @@ use flow_edges::Kind;
 use flow_graph::Graph;
 use flow_nodes::StreamNode;
 use flow_scalar::{Const, Fork, Iota, Length, Reduce, Sink, Source, Stream};
-use flow_typed::Print;
+use flow_values::Print;
 use kahn::Want;
 use snesl_operators::{Reduction, Scalar};
 use snesl_values::{Fault, FaultKind, Ty};

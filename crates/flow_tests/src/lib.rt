@@ -20,4 +20,4 @@ mod seq_index;
 #[cfg(test)]
 mod tab_node;
 #[cfg(test)]
-mod typed_nodes;
+mod value_nodes;

@@ -3,7 +3,7 @@
 
 use flow_base::{Node, Transducer};
 use flow_edges::{Item, Msg};
-use flow_typed::{Index, Seq};
+use flow_values::{Index, Seq};
 use kahn::Want;
 use snesl_values::{Datum, Fault, FaultKind, Ty, text_of};
 use std::alloc::{AllocError, Global};

@@ -3,7 +3,7 @@
 use crate::feeding::{assert_carries, message};
 use flow_base::{Node, Transducer};
 use flow_edges::{Item, Msg};
-use flow_typed::Tab;
+use flow_values::Tab;
 use kahn::Want;
 use snesl_values::{Fault, FaultKind, Ty, text_of};
 use std::alloc::{AllocError, Global};

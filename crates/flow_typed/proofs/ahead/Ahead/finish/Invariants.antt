@@ -1,9 +1,0 @@
-use Rattle.std.proofs.Common.{◌≡◌, ◌++◌}
-use Rattle.flow_typed.specs.PrintMachine.{closes}
-use Rattle.flow_typed.proofs.ahead.Ahead.finish.Given as goal
-
-abbrev pub invariant-loop : goal.invariant-loop
-invariant-loop l = record {
-  text : l.self.text.items ≡ l.fn.self.text.items ++ (l.bytes ++ closes l.counter);
-  pending : l.self.pending.items ≡ l.fn.self.pending.items;
-}

@@ -1,5 +1,0 @@
-use Rattle.flow_typed.specs.laws.Print.{prints_text}
-use Rattle.flow_typed.proofs.print.prints_text.Goals as goal
-
-pub returns : goal.returns
-returns c = prints_text _ c.requires

@@ -1,0 +1,20 @@
+use Rattle.std.proofs.Common.{◌∙◌, sym, ap, subst, map}
+use Rattle.snesl_values.specs.Types.{Ty, ty_of}
+use Rattle.snesl_values.specs.Values.{value_of}
+use Rattle.flow_edges.specs.Cells.{cell_of}
+use Rattle.flow_base.specs.Workers.{Takes}
+use Rattle.flow_base.specs.Machines.{given_of, with_parameters}
+use Rattle.flow_values.specs.TabMachine.{Step, step_in, tab_move}
+use Rattle.flow_values.proofs.Building.{item_taken}
+use Rattle.flow_values.proofs.tab.TabWorker.take.Goals as goal
+
+pub returns-in-Item-clause-takes : goal.returns-in-Item-clause-takes
+returns-in-Item-clause-takes c =
+    let self = c.args.self.now in
+    let ty = ty_of self.element in
+    let es = map value_of self.elements.items in
+    let got = map cell_of self.items.items in
+    let x = cell_of c.args.item in
+    let new = c.take_item.new.self in
+    let after : Ty × Step = (ty_of new.element, step_in new.stage (map value_of new.elements.items) (map cell_of new.items.items)) in
+    subst (λ r. Takes r (ty, step_in self.stage es got) c.take_item.result after) (ap (with_parameters ty) (item_taken ty es got x) ∙ sym (ap (λ s. with_parameters ty (given_of (tab_move ty (step_in s es got)) x)) c.in-Item.is)) c.take_item.ensures

@@ -1,0 +1,13 @@
+pub mod Shapes
+pub mod Flats
+pub mod Places
+pub mod PrintMachine
+pub mod Aheads
+pub mod Dues
+pub mod SeqMachine
+pub mod IndexMachine
+pub mod Parts
+pub mod TabMachine
+pub mod laws
+pub mod ValueNodes
+pub mod Rows

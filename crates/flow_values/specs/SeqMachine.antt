@@ -1,0 +1,45 @@
+-- The elements of each vector as a sequence: the machine. Its parameter is the type of the elements, and its state the
+-- items that are due; with none of them a vector may come.
+use Rattle.std.specs.Prelude.{true, false, Bool, List, [], ◌∷◌, cond, length, Result, Ok, Err}
+use Rattle.snesl_values.specs.declared.fault.FaultKind.{FaultKind}
+use Rattle.snesl_values.specs.declared.fault.FaultKind.TheVariants.{Shape}
+use Rattle.snesl_values.specs.Types.{Ty, bool, seq}
+use Rattle.snesl_values.specs.Values.{a_vec}
+use Rattle.flow_edges.specs.Cells.{Cell, datum}
+use Rattle.flow_edges.specs.declared.message.Kind.TheVariants.{Vec as VecKind}
+use Rattle.flow_base.specs.Machines.{Move, begins, gives, on_kind, Machine}
+use Rattle.flow_values.specs.Shapes.{all_are, kinds_of, kind_at}
+use Rattle.flow_values.specs.Flats.{width}
+use Rattle.flow_values.specs.Dues.{DueCell, dues_of, output_of, DuesOfKind, DuesInRange}
+use Rattle.flow_values.specs.Rows.{SeqRow}
+
+-- a vector of such items is to be written, as a sequence
+abbrev pub seq_given : Ty → Cell → Result (List DueCell) FaultKind
+seq_given item (datum (a_vec vs)) = cond (all_are item vs) (Ok (dues_of (seq item) 0 (a_vec vs))) (Err Shape)
+seq_given item _ = Err Shape
+
+-- a vector begins an instance, and is written before the next one
+abbrev pub seq_move : Ty → List DueCell → Move (List DueCell)
+seq_move item [] = begins (on_kind VecKind (seq_given item))
+seq_move item (d ∷ ds) = gives (output_of (width (seq item)) d.port) d.cell ds
+
+-- the items of a vector are laid out in memory when it is taken
+abbrev pub seq_takes_memory : List DueCell → Bool
+seq_takes_memory [] = true
+seq_takes_memory (d ∷ ds) = false
+
+abbrev pub seq_machine : Machine Ty (List DueCell)
+seq_machine = record {
+  sample = bool;
+  move = seq_move;
+  start = [];
+  row = λ item i o. SeqRow item (i 0) o;
+  inputs = λ _. 1;
+  outputs = λ item. width (seq item);
+  kind_in = λ _ _. VecKind;
+  kind_out = λ item q. kind_at (kinds_of (seq item)) q;
+  debt = λ _ ds. length ds;
+  of_kind = λ item ds. DuesOfKind (kinds_of (seq item)) ds;
+  in_range = λ _ ds. DuesInRange ds;
+  takes_memory = seq_takes_memory;
+}

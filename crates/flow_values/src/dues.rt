@@ -1,0 +1,90 @@
+// Items that are due, in the order in which they are written.
+
+ghost use Rattle.std.specs.Prelude.{◌≡◌, ◌<◌, ◌^◌, ◌+◌, ◌∷◌, ◌++◌, [], true, map, OnOk};
+ghost use Rattle.snesl_values.specs.Types.{ty_of, seq};
+ghost use Rattle.snesl_values.specs.Values.{value_of, values_of};
+ghost use Rattle.flow_values.specs.Shapes.{is_a, all_are};
+ghost use Rattle.flow_values.specs.Flats.{width};
+ghost use Rattle.flow_values.specs.Dues.{due, due_cell, dues_of, segment_dues, output_of};
+ghost use Rattle.flow_edges.specs.Cells.{cell_of};
+
+use crate::shapes::edge_count;
+use flow_edges::Item;
+use snesl_values::{Datum, Ty, copy_datum};
+use std::alloc::{AllocError, Global};
+use std::collections::VecDeque;
+
+/// An item, and the output that it is to be written to.
+#[derive(Drop)]
+pub struct Due {
+    pub port: usize,
+    pub item: Item,
+}
+
+impl Due {
+    /// Its output, of so many, and the first where there are not so many.
+    pub fn output(&self, outputs: usize) -> usize
+        ensures { result ≡ output_of outputs self.now.port }
+    {
+        if self.port < outputs { self.port } else { 0 }
+    }
+}
+
+// Adds an item.
+fn add(dues: &mut VecDeque<Due>, port: usize, item: Item) -> Result<(), AllocError>
+    ensures { OnOk result (map due_cell dues.new.items ≡ map due_cell dues.old.items ++ due port (cell_of item) ∷ []) }
+{
+    dues.push_back(Due { port, item })?;
+    Ok(())
+}
+
+/// Adds what the value puts on the edges of its type, the first of which is this port. Its only error is that memory
+/// was refused.
+#[cycle(add_value)]
+pub fn add_value(
+    alloc: Global,
+    dues: &mut VecDeque<Due>,
+    ty: &Ty,
+    port: usize,
+    datum: &Datum,
+) -> Result<(), AllocError>
+    requires fits { port + width (ty_of ty.now) < 2 ^ 64 }
+    requires of_type { is_a (ty_of ty.now) (value_of datum.now) ≡ true }
+    ensures { OnOk result (map due_cell dues.new.items ≡ map due_cell dues.old.items ++ dues_of (ty_of ty.now) port (value_of datum.now)) }
+{
+    match (ty, datum) {
+        (Ty::Int, Datum::Int(number)) => add(dues, port, Item::Int(*number)),
+        (Ty::Bool, Datum::Bool(truth)) => add(dues, port, Item::Bool(*truth)),
+        (Ty::Vec(_), Datum::Vec(_)) => {
+            let copy = Item::of_datum(alloc, copy_datum(alloc, datum)?)?;
+            add(dues, port, copy)
+        }
+        (Ty::Pair(first, second), Datum::Pair(a, b)) => {
+            add_value(alloc, dues, first, port, a)?;
+            add_value(alloc, dues, second, port + edge_count(first), b)
+        }
+        (Ty::Seq(item), Datum::Seq(all)) => add_segment(alloc, dues, item, port, all),
+        _ => unreachable!(),
+    }
+}
+
+/// Adds what a sequence of these elements puts on its edges, the first of which is this port. Its only error is that
+/// memory was refused.
+#[cycle(add_value)]
+pub fn add_segment(
+    alloc: Global,
+    dues: &mut VecDeque<Due>,
+    item: &Ty,
+    port: usize,
+    all: &[Datum],
+) -> Result<(), AllocError>
+    requires fits { port + width (seq (ty_of item.now)) < 2 ^ 64 }
+    requires of_type { all_are (ty_of item.now) (values_of (map value_of all.now)) ≡ true }
+    ensures { OnOk result (map due_cell dues.new.items ≡ map due_cell dues.old.items ++ segment_dues (ty_of item.now) port (map value_of all.now)) }
+{
+    for datum in all {
+        add(dues, port, Item::Bool(false))?;
+        add_value(alloc, dues, item, port + 1, datum)?;
+    }
+    add(dues, port, Item::Bool(true))
+}

@@ -1,0 +1,148 @@
+// An element of each vector.
+
+ghost use Rattle.std.specs.Prelude.{◌≡◌, [], true, map, option_map, IfOk};
+ghost use Rattle.snesl_values.specs.Types.{Ty as ElementType, ty_of};
+ghost use Rattle.snesl_values.specs.Values.{value_of, values_of};
+ghost use Rattle.flow_values.specs.Shapes.{kinds_of};
+ghost use Rattle.flow_values.specs.Rows.{element_at};
+ghost use Rattle.flow_values.specs.IndexMachine.{writing, holds_such};
+
+use crate::dues::{Due, add_value};
+use crate::shapes::{kind_at, kinds};
+use crate::vectors::vector_in;
+use flow_base::{Ask, Stop, Worker};
+use flow_edges::{Item, Kind};
+use snesl_values::{Datum, FaultKind, Ty};
+use std::alloc::{AllocError, Global};
+use std::collections::VecDeque;
+
+/// How far an instance is.
+#[derive(Drop)]
+pub enum Stage {
+    /// A vector was read.
+    Held(Vec<Datum>),
+    /// These items are due. Where there are none, the next instance may begin.
+    Writing(VecDeque<Due>),
+}
+
+/// Writes of each vector the element at an index, counted from 0. A vector and its index are an instance.
+///
+/// Reads port 0, vectors of elements of one type, and port 1, of kind Int. Writes what the element puts on the edges of
+/// its type to the ports from 0 on. Faults: `Shape` where an item at port 0 is not a vector of such elements, or one at
+/// port 1 is not an integer; `Index` where the index is negative or not below the vector's length.
+///
+/// It lays out what it writes when it takes the index. Where memory for that is refused, nothing was taken.
+///
+/// Row: `IndexRow` (specs/Rows.antt).
+#[derive(Drop)]
+pub struct Index {
+    alloc: Global,
+    element: Ty,
+    // Of the outputs.
+    kinds: Vec<Kind>,
+    stage: Stage,
+    ghost kinds_are: { kinds.items ≡ kinds_of (ty_of element) },
+    ghost holds: { holds_such (ty_of element) stage ≡ true },
+}
+
+impl Index {
+    /// A worker for vectors of elements of this type, before its first vector. Its only error is that memory was
+    /// refused.
+    pub fn new(alloc: Global, element: Ty) -> Result<Index, AllocError>
+        ensures { IfOk result (λ worker. ⟦<Index as Worker>⟧.state worker ≡ (ty_of element, writing [])) }
+    {
+        let kinds = kinds(alloc, &element)?;
+        Ok(Index {
+            alloc,
+            element,
+            kinds,
+            stage: Stage::Writing(VecDeque::new(alloc)),
+        })
+    }
+}
+
+// The element at this index, counted from 0, where there is one.
+fn element_at(all: &[Datum], index: i64) -> Option<&Datum>
+    ensures { option_map (λ d. value_of d.now) result ≡ element_at (values_of (map value_of all.now)) index }
+{
+    match usize::try_from(index) {
+        Ok(place) => all.get(place),
+        Err(_) => None,
+    }
+}
+
+impl Worker for Index {
+    ghost use Rattle.flow_values.specs.IndexMachine.{Step, step_of, index_machine};
+    ghost use Rattle.flow_values.specs.laws.Index.{index_laws};
+
+    ghost Parameters = { ElementType };
+
+    ghost State = { Step };
+
+    ghost state = { λ n. (ty_of n.element, step_of n.stage) };
+
+    ghost machine = { index_machine };
+
+    ghost laws = { index_laws };
+
+    fn ask(&self) -> Ask {
+        match &self.stage {
+            Stage::Held(_) => Ask::Take(1),
+            Stage::Writing(dues) => match dues.front() {
+                None => Ask::Begin,
+                Some(due) => Ask::Give(due.output(self.kinds.len())),
+            },
+        }
+    }
+
+    fn inputs(&self) -> usize {
+        2
+    }
+
+    fn outputs(&self) -> usize {
+        self.kinds.len()
+    }
+
+    fn kind_in(&self, port: usize) -> Kind {
+        match port {
+            0 => Kind::Vec,
+            _ => Kind::Int,
+        }
+    }
+
+    fn kind_out(&self, port: usize) -> Kind {
+        kind_at(&self.kinds, port)
+    }
+
+    fn take(&mut self, item: Item) -> Result<(), Stop> {
+        match &self.stage {
+            Stage::Writing(_) => {
+                let all = vector_in(&self.element, item)?;
+                self.stage = Stage::Held(all);
+                Ok(())
+            }
+            Stage::Held(all) => {
+                let Item::Int(index) = item else {
+                    return Err(Stop::Faulted(FaultKind::Shape));
+                };
+                let Some(datum) = element_at(all, index) else {
+                    return Err(Stop::Faulted(FaultKind::Index));
+                };
+                let mut dues = VecDeque::new(self.alloc);
+                add_value(self.alloc, &mut dues, &self.element, 0, datum)?;
+                self.stage = Stage::Writing(dues);
+                Ok(())
+            }
+        }
+    }
+
+    fn give(&mut self) -> Result<Item, AllocError> {
+        match &mut self.stage {
+            Stage::Writing(dues) => match dues.pop_front() {
+                Some(due) => Ok(due.item),
+                None => unreachable!(),
+            },
+            Stage::Held(_) => unreachable!(),
+        }
+    }
+}

@@ -1,0 +1,110 @@
+// Values of a type, and the edges of a type.
+
+ghost use Rattle.std.specs.Prelude.{◌≡◌, ◌<◌, ◌^◌, ◌++◌, map, length, IfOk, OnOk};
+ghost use Rattle.snesl_values.specs.Types.{ty_of};
+ghost use Rattle.snesl_values.specs.Values.{value_of, values_of};
+ghost use Rattle.flow_edges.specs.Cells.{cell_of};
+ghost use Rattle.flow_values.specs.Shapes.{is_a, all_are, kinds_of, kind_at};
+ghost use Rattle.flow_values.specs.Flats.{width};
+ghost use Rattle.flow_values.specs.Parts.{part_fits};
+
+use flow_edges::{Item, Kind};
+use snesl_values::{Datum, Ty};
+use std::alloc::{AllocError, Global};
+
+/// Whether the value is one of the type.
+#[cycle(is_value)]
+pub fn is_value(ty: &Ty, datum: &Datum) -> bool
+    ensures { result ≡ is_a (ty_of ty.now) (value_of datum.now) }
+{
+    match (ty, datum) {
+        (Ty::Int, Datum::Int(_)) | (Ty::Bool, Datum::Bool(_)) => true,
+        (Ty::Pair(first, second), Datum::Pair(a, b)) => is_value(first, a) && is_value(second, b),
+        (Ty::Vec(item), Datum::Vec(all)) => are_values(item, all),
+        (Ty::Seq(item), Datum::Seq(all)) => are_values(item, all),
+        _ => false,
+    }
+}
+
+#[cycle(is_value)]
+pub fn are_values(item: &Ty, all: &[Datum]) -> bool
+    ensures { result ≡ all_are (ty_of item.now) (values_of (map value_of all.now)) }
+{
+    for datum in all {
+        if !is_value(item, datum) {
+            return false;
+        }
+    }
+    true
+}
+
+/// The kinds of the edges of the type, in order. Its only error is that memory was refused.
+pub fn kinds(alloc: Global, ty: &Ty) -> Result<Vec<Kind>, AllocError>
+    ensures { IfOk result (λ all. all.items ≡ kinds_of (ty_of ty.now)) }
+{
+    let mut all = Vec::new(alloc);
+    add_kinds(&mut all, ty)?;
+    Ok(all)
+}
+
+pub fn add_kinds(all: &mut Vec<Kind>, ty: &Ty) -> Result<(), AllocError>
+    ensures { OnOk result (all.new.items ≡ all.old.items ++ kinds_of (ty_of ty.now)) }
+{
+    match ty {
+        Ty::Int => all.push(Kind::Int)?,
+        Ty::Bool => all.push(Kind::Bool)?,
+        Ty::Vec(_) => all.push(Kind::Vec)?,
+        Ty::Pair(first, second) => {
+            add_kinds(all, first)?;
+            add_kinds(all, second)?;
+        }
+        Ty::Seq(item) => {
+            all.push(Kind::Bool)?;
+            add_kinds(all, item)?;
+        }
+    }
+    Ok(())
+}
+
+/// How many edges the type has, where the number fits.
+pub fn edge_count(ty: &Ty) -> usize
+    requires { width (ty_of ty.now) < 2 ^ 64 }
+    ensures { result ≡ width (ty_of ty.now) }
+{
+    match ty {
+        Ty::Int | Ty::Bool | Ty::Vec(_) => 1,
+        Ty::Pair(first, second) => edge_count(first) + edge_count(second),
+        Ty::Seq(item) => edge_count(item) + 1,
+    }
+}
+
+/// Whether the item may be the one at this place, counted from 0, of a value of the concrete type. False at each place of
+/// a sequence.
+pub fn part_fits(ty: &Ty, place: usize, item: &Item) -> bool
+    requires { width (ty_of ty.now) < 2 ^ 64 }
+    ensures { result ≡ part_fits (ty_of ty.now) place (cell_of item.now) }
+{
+    match (ty, item) {
+        (Ty::Int, Item::Int(_)) | (Ty::Bool, Item::Bool(_)) => place == 0,
+        (Ty::Vec(_), Item::Vec(datum)) => place == 0 && is_value(ty, datum),
+        (Ty::Pair(first, second), _) => {
+            let edges = edge_count(first);
+            if place < edges {
+                part_fits(first, place, item)
+            } else {
+                part_fits(second, place - edges, item)
+            }
+        }
+        _ => false,
+    }
+}
+
+/// The kind at this port, and `Unit` where there is none.
+pub fn kind_at(kinds: &[Kind], port: usize) -> Kind
+    ensures { result ≡ kind_at kinds.now port }
+{
+    match kinds.get(port) {
+        Some(kind) => *kind,
+        None => Kind::Unit,
+    }
+}

@@ -1,0 +1,266 @@
+// The elements of sequences, as vectors.
+
+ghost use Rattle.std.specs.Prelude.{◌≡◌, [], map, List, IfOk};
+ghost use Rattle.snesl_values.specs.Types.{Ty as ElementType, ty_of, seq};
+ghost use Rattle.snesl_values.specs.Values.{Value, value_of, a_pair};
+ghost use Rattle.flow_edges.specs.Cells.{cell_of};
+ghost use Rattle.flow_base.specs.Workers.{Takes};
+ghost use Rattle.flow_values.specs.Shapes.{kinds_of};
+ghost use Rattle.flow_values.specs.Parts.{built, PartsFit};
+ghost use Rattle.flow_base.specs.Machines.{taken, with_parameters};
+ghost use Rattle.flow_values.specs.TabMachine.{Step, start, step_in, staged, flag_taking, grown, item_given, item_port, Makes};
+
+use crate::shapes::{add_kinds, is_value, kind_at, part_fits};
+use flow_base::{Ask, Stop, Worker};
+use flow_edges::{Item, Kind};
+use snesl_values::{Datum, FaultKind, Ty};
+use std::alloc::{AllocError, Global};
+use std::collections::VecDeque;
+use std::mem;
+
+/// Writes the elements of each sequence as a vector. Each sequence is an instance.
+///
+/// Reads port 0, flags: `false` for each element and then `true`. Behind each `false` it reads what the element puts on
+/// the edges of its type, at the ports from 1 on, one item at each. Behind `true` it writes the vector to port 0. Fault:
+/// `Shape` where the type is not concrete, and where an item is not of its port's kind or type.
+///
+/// It keeps the items of an element and lays out its value, which takes memory. Where it is refused, nothing was taken.
+///
+/// Row: `TabRow` (specs/Rows.antt).
+#[derive(Drop)]
+pub struct Tab {
+    alloc: Global,
+    element: Ty,
+    // Of the inputs.
+    kinds: Vec<Kind>,
+    // The elements of the sequence so far, and the items of the next one.
+    elements: Vec<Datum>,
+    items: Vec<Item>,
+    stage: Stage,
+    ghost kinds_are: { kinds.items ≡ kinds_of (seq (ty_of element)) },
+    ghost items_fit: { PartsFit (ty_of element) (map cell_of items.items) },
+}
+
+// What comes next.
+#[derive(Clone, Copy, Debug, PartialEq, Eq)]
+enum Stage {
+    // The first flag of a sequence.
+    Start,
+    // A flag.
+    Flag,
+    // An item of an element.
+    Item,
+    // The vector is written.
+    End,
+}
+
+impl Tab {
+    /// A worker for elements of this type, before its first sequence. Its only error is that memory was refused.
+    pub fn new(alloc: Global, element: Ty) -> Result<Tab, AllocError>
+        ensures { IfOk result (λ worker. ⟦<Tab as Worker>⟧.state worker ≡ (ty_of element, start)) }
+    {
+        let mut kinds = Vec::new(alloc);
+        kinds.push(Kind::Bool)?;
+        add_kinds(&mut kinds, &element)?;
+        Ok(Tab {
+            alloc,
+            element,
+            kinds,
+            elements: Vec::new(alloc),
+            items: Vec::new(alloc),
+            stage: Stage::Start,
+        })
+    }
+
+    // The port of the next item of an element.
+    fn item_port(&self) -> usize
+        ensures { result ≡ item_port (ty_of self.now.element) (map cell_of self.now.items.items) }
+    {
+        if self.items.len() < self.kinds.len() - 1 {
+            self.items.len() + 1
+        } else {
+            0
+        }
+    }
+
+    // Where a flag leads.
+    fn at_flag(&self, item: &Item) -> Result<Stage, FaultKind>
+        ensures { (es : List Value) → staged es result ≡ taken (flag_taking (ty_of self.now.element) es) (cell_of item.now) }
+    {
+        let Item::Bool(end) = item else {
+            return Err(FaultKind::Shape);
+        };
+        if !self.element.concrete() {
+            return Err(FaultKind::Shape);
+        }
+        if *end {
+            Ok(Stage::End)
+        } else {
+            Ok(Stage::Item)
+        }
+    }
+
+    // Where all items of the next element are there, adds the element.
+    fn close(&mut self) -> Result<(), Stop>
+        requires { self.old.stage ≡ Stage.Item }
+        ensures state { Takes (with_parameters (ty_of self.old.element) (grown (ty_of self.old.element) (map value_of self.old.elements.items) (map cell_of self.old.items.items))) (⟦<Tab as Worker>⟧.state self.old) result (⟦<Tab as Worker>⟧.state self.new) }
+        ensures items { self.new.items.items ≡ self.old.items.items }
+    {
+        if self.items.len() < self.kinds.len() - 1 {
+            return Ok(());
+        }
+        let mut items = copies(self.alloc, &self.items)?;
+        let datum = build(self.alloc, &self.element, &mut items)?;
+        if !items.is_empty() {
+            return Err(Stop::Faulted(FaultKind::Shape));
+        }
+        if self.elements.push(datum).is_err() {
+            return Err(Stop::OutOfMemory);
+        }
+        self.stage = Stage::Flag;
+        Ok(())
+    }
+
+    // Takes the next item of an element.
+    fn take_item(&mut self, item: Item) -> Result<(), Stop>
+        requires { self.old.stage ≡ Stage.Item }
+        ensures { Takes (with_parameters (ty_of self.old.element) (item_given (ty_of self.old.element) (map value_of self.old.elements.items) (map cell_of self.old.items.items) (cell_of item))) (⟦<Tab as Worker>⟧.state self.old) result (⟦<Tab as Worker>⟧.state self.new) }
+    {
+        if self.item_port() == 0 || !part_fits(&self.element, self.items.len(), &item) {
+            return Err(Stop::Faulted(FaultKind::Shape));
+        }
+        if self.items.push(item).is_err() {
+            return Err(Stop::OutOfMemory);
+        }
+        match self.close() {
+            Ok(()) => Ok(()),
+            Err(stop) => {
+                self.items.pop();
+                Err(stop)
+            }
+        }
+    }
+}
+
+// Items that carry the same.
+fn copies(alloc: Global, items: &[Item]) -> Result<VecDeque<Item>, AllocError>
+    ensures { IfOk result (λ all. map cell_of all.items ≡ map cell_of items.now) }
+{
+    let mut all = VecDeque::new(alloc);
+    for item in items {
+        all.push_back(item.copy(alloc)?)?;
+    }
+    Ok(all)
+}
+
+fn paired(alloc: Global, a: Datum, b: Datum) -> Result<Datum, AllocError>
+    ensures { IfOk result (λ pair. value_of pair ≡ a_pair (value_of a) (value_of b)) }
+{
+    Ok(Datum::Pair(Box::new(alloc, a)?, Box::new(alloc, b)?))
+}
+
+// The value of the type whose items come first, which are taken away. `Shape` where they are not those of such a value.
+fn build(alloc: Global, ty: &Ty, items: &mut VecDeque<Item>) -> Result<Datum, Stop>
+    ensures { Makes (built (ty_of ty.now) (map cell_of items.old.items)) result items.new.items }
+{
+    match ty {
+        Ty::Int => match items.pop_front() {
+            Some(Item::Int(number)) => Ok(Datum::Int(number)),
+            _ => Err(Stop::Faulted(FaultKind::Shape)),
+        },
+        Ty::Bool => match items.pop_front() {
+            Some(Item::Bool(truth)) => Ok(Datum::Bool(truth)),
+            _ => Err(Stop::Faulted(FaultKind::Shape)),
+        },
+        Ty::Vec(_) => match items.pop_front() {
+            Some(Item::Vec(datum)) => {
+                if is_value(ty, &datum) {
+                    Ok(Box::into_inner(datum))
+                } else {
+                    Err(Stop::Faulted(FaultKind::Shape))
+                }
+            }
+            _ => Err(Stop::Faulted(FaultKind::Shape)),
+        },
+        Ty::Pair(first, second) => {
+            let a = build(alloc, first, items)?;
+            let b = build(alloc, second, items)?;
+            Ok(paired(alloc, a, b)?)
+        }
+        Ty::Seq(_) => Err(Stop::Faulted(FaultKind::Shape)),
+    }
+}
+
+impl Worker for Tab {
+    ghost use Rattle.flow_values.specs.TabMachine.{tab_machine};
+    ghost use Rattle.flow_values.specs.laws.Tab.{tab_laws};
+
+    ghost Parameters = { ElementType };
+
+    ghost State = { Step };
+
+    ghost state = { λ n. (ty_of n.element, step_in n.stage (map value_of n.elements.items) (map cell_of n.items.items)) };
+
+    ghost machine = { tab_machine };
+
+    ghost laws = { tab_laws };
+
+    fn ask(&self) -> Ask {
+        match self.stage {
+            Stage::Start => Ask::Begin,
+            Stage::Flag => Ask::Take(0),
+            Stage::Item => Ask::Take(self.item_port()),
+            Stage::End => Ask::Give(0),
+        }
+    }
+
+    fn inputs(&self) -> usize {
+        self.kinds.len()
+    }
+
+    fn outputs(&self) -> usize {
+        1
+    }
+
+    fn kind_in(&self, port: usize) -> Kind {
+        kind_at(&self.kinds, port)
+    }
+
+    fn kind_out(&self, _port: usize) -> Kind {
+        Kind::Vec
+    }
+
+    fn take(&mut self, item: Item) -> Result<(), Stop> {
+        match self.stage {
+            Stage::Start => {
+                let stage = self.at_flag(&item)?;
+                self.elements = Vec::new(self.alloc);
+                self.items = Vec::new(self.alloc);
+                self.stage = stage;
+                Ok(())
+            }
+            Stage::Flag => {
+                let stage = self.at_flag(&item)?;
+                self.items = Vec::new(self.alloc);
+                self.stage = stage;
+                Ok(())
+            }
+            Stage::Item => self.take_item(item),
+            Stage::End => unreachable!(),
+        }
+    }
+
+    fn give(&mut self) -> Result<Item, AllocError> {
+        match self.stage {
+            Stage::End => {
+                // The box is asked for first, so that nothing has changed where it is refused.
+                let mut vector = Box::new(self.alloc, Datum::Vec(Vec::new(self.alloc)))?;
+                let elements = mem::replace(&mut self.elements, Vec::new(self.alloc));
+                *vector = Datum::Vec(elements);
+                self.stage = Stage::Start;
+                Ok(Item::Vec(vector))
+            }
+            _ => unreachable!(),
+        }
+    }
+}
