@@ -5,7 +5,8 @@ ghost use Rattle.flow_graph.specs.Graphs.{states_of};
 ghost use Rattle.flow_graph.specs.Networks.{AreOpened};
 ghost use Rattle.flow_nodes.specs.StreamNodes.{node_behaviour};
 
-use crate::graphs::{add, built, empty, join, sum_of_five, sum_of_unlike};
+use crate::building::{add, empty};
+use crate::graphs::{built, join, sum_of_five, sum_of_unlike};
 use flow_base::{Node, Transducer};
 use flow_drive::{Config, Drive, DriveError, NoGate, Outcome, Rested, Sharing, drive};
 use flow_edges::Kind;

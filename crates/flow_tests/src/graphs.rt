@@ -1,10 +1,11 @@
 // Graphs built by hand, and their single steps.
 
-ghost use Rattle.std.specs.Prelude.{◌≡◌, IfOk};
+ghost use Rattle.std.specs.Prelude.{IfOk};
 ghost use Rattle.flow_graph.specs.Graphs.{states_of, states_so_far};
 ghost use Rattle.flow_graph.specs.Networks.{AreOpened};
-ghost use Rattle.flow_nodes.specs.StreamNodes.{node_behaviour, state_of};
+ghost use Rattle.flow_nodes.specs.StreamNodes.{node_behaviour};
 
+use crate::building::{add, empty};
 use flow_base::{Node, Transducer};
 use flow_edges::{Ends, Item, Kind, Msg, Table};
 use flow_graph::{Edge, Graph, GraphBuilder, Moved, step_once};
@@ -16,23 +17,6 @@ use snesl_values::{Fault, FaultKind};
 use std::alloc::Global;
 use std::process::Abort;
 use std::test::Fail;
-
-/// A builder with no nodes and no edges.
-pub fn empty(alloc: Global) -> GraphBuilder<StreamNode>
-    ensures { AreOpened node_behaviour (states_so_far result) }
-{
-    GraphBuilder::new(alloc)
-}
-
-/// Adds a node.
-pub fn add(builder: &mut GraphBuilder<StreamNode>, node: StreamNode) -> Result<(), Fail>
-    requires opened { AreOpened node_behaviour (states_so_far builder.old) }
-    requires node { node_behaviour.opening (state_of node) ≡ state_of node }
-    ensures { AreOpened node_behaviour (states_so_far builder.new) }
-{
-    builder.node(node)?;
-    Ok(())
-}
 
 /// Adds an edge that may join.
 pub fn join(

@@ -1,6 +1,7 @@
 // Tests of the network: edges, graphs, drives, and the nodes by hand.
 #![tactic(auto)]
 
+pub mod building;
 #[cfg(test)]
 mod driving;
 #[cfg(test)]

@@ -5,9 +5,10 @@ ghost use Rattle.flow_graph.specs.Graphs.{states_of};
 ghost use Rattle.flow_graph.specs.Networks.{AreOpened};
 ghost use Rattle.flow_nodes.specs.StreamNodes.{node_behaviour};
 
+use crate::building::{add, empty};
 use crate::driving::driven;
 use crate::feeding::assert_carries;
-use crate::graphs::{add, built, empty, join};
+use crate::graphs::{built, join};
 use flow_base::Node;
 use flow_drive::Outcome;
 use flow_edges::Kind;

@@ -18,10 +18,10 @@ use Rattle.snesl_grammar.specs.Limits.{greatest_depth}
 use Rattle.snesl_grammar.specs.Operators.{level}
 use Rattle.snesl_grammar.specs.Expressions.{bound_also, greatest_binder_count}
 use Rattle.snesl_expressions.specs.Readers.{within, free, beyond_depth}
-use Rattle.snesl_expressions.specs.Machine.{Frame, in_binary, in_braces, in_source, operand, binder_name, Folded, reduce, floor, alone, infix_move, colon_move, bar_move, semicolon_move}
-use Rattle.snesl_expressions.specs.Parsing.{frame_of, piled, frames_of, closes, closed_with}
+use Rattle.snesl_expressions.specs.Machine.{Frame, in_binary, in_braces, in_source, operand, binder_name, Folded, closes, closed_with, reduce, floor, alone, infix_move, colon_move, bar_move, semicolon_move}
+use Rattle.snesl_expressions.specs.Parsing.{frame_of, piled, frames_of}
 use Rattle.snesl_expressions.proofs.Rows.{binder_count-binders_of}
-use Rattle.snesl_expressions.proofs.Piles.{frames_of-push, length-frames_of, reduce_by}
+use Rattle.snesl_expressions.proofs.Piles.{frames_of-push, length-frames_of, reduce_closes, reduce_keeps}
 
 -- an item behind others is no body of a comprehension, and has no condition
 pub given_colon : (items : List Expr) (at : ℕ) (s : List Frame) (e : Tree) → 0 < length items → colon_move (in_braces at (trees_of items) ∷ s) e ≡ None
@@ -101,10 +101,10 @@ reduce_whole [] e = refl
 reduce_whole (f ∷ s) e =
     elim (cases_Bool (closes 0 f)) [
       | inl closing ↦
-          ap (λ r. is_some (alone r)) (reduce_by 0 f s e ∙ ap (λ b. cond b (reduce 0 s (closed_with f e)) (record { frames = f ∷ s; last = e })) closing)
+          ap (λ r. is_some (alone r)) (reduce_closes 0 f s e closing)
           ∙ reduce_whole s (closed_with f e) ∙ sym (ap (λ b. cond b (every s) false) closing)
       | inr staying ↦
-          ap (λ r. is_some (alone r)) (reduce_by 0 f s e ∙ ap (λ b. cond b (reduce 0 s (closed_with f e)) (record { frames = f ∷ s; last = e })) staying)
+          ap (λ r. is_some (alone r)) (reduce_keeps 0 f s e staying)
           ∙ ap (λ b. is_some (cond b (Some e) None)) (lt-leb (suc (length s)) 0 (omega arith)) ∙ sym (ap (λ b. cond b (every s) false) staying)
     ]
 

@@ -1,14 +1,14 @@
 -- The open forms in a vector, whose last is the innermost.
-use Rattle.std.proofs.Common.{◌≡◌, ℕ, zero, suc, ◌+◌, ◌-◌, ◌≤◌, ◌<◌, true, false, List, [], ◌∷◌, ◌++◌, length, cond, Some, Ok, Err, IsTrue, nat_le, nat_eq, refl, sym, ap, ◌∙◌, arith, le-leb, inl, inr}
+use Rattle.std.proofs.Common.{◌≡◌, ℕ, zero, suc, ◌+◌, ◌-◌, ◌≤◌, ◌<◌, true, false, List, [], ◌∷◌, ◌++◌, length, cond, Some, Ok, Err, IsTrue, refl, sym, ap, ◌∙◌, arith, le-leb, inl, inr}
 use Rattle.std.specs.List.{slice_get}
 use Rattle.std.proofs.lemmas.Option.{slice_get_within}
-use Rattle.std.proofs.lemmas.Bool.{lt-leb, cases_lt, ne_eqb}
+use Rattle.std.proofs.lemmas.Bool.{lt-leb, cases_lt}
 use Rattle.snesl_tree.specs.Tree.{Tree}
 use Rattle.snesl_expressions.specs.declared.forms.Form.{Form}
 use Rattle.snesl_grammar.specs.Limits.{greatest_depth}
 use Rattle.snesl_expressions.specs.Readers.{within, beyond_depth}
-use Rattle.snesl_expressions.specs.Machine.{Frame, in_binary, in_prefix, in_call, in_apply, in_group, in_second, in_value, in_let_body, in_condition, in_positive, in_negative, in_braces, in_filter, in_source, in_each_condition, State, reduce, open_move, floor}
-use Rattle.snesl_expressions.specs.Parsing.{frame_of, piled, frames_of, closes, closed_with}
+use Rattle.snesl_expressions.specs.Machine.{Frame, in_binary, in_prefix, in_call, in_apply, in_group, in_second, in_value, in_let_body, in_condition, in_positive, in_negative, in_braces, in_filter, in_source, in_each_condition, State, closes, closed_with, reduce, open_move, floor}
+use Rattle.snesl_expressions.specs.Parsing.{frame_of, piled, frames_of}
 
 piled-push : (fs : List Form) (f : Form) (below : List Frame) → piled (fs ++ f ∷ []) below ≡ frame_of f ∷ piled fs below
 piled-push [] f below = refl
@@ -39,42 +39,21 @@ pub has_no_room : (fs : List Form) (next : State) → greatest_depth ≤ suc (le
 has_no_room fs next h =
     ap (λ b. cond b (Ok next) (Err beyond_depth)) (lt-leb (suc (suc (length (frames_of fs)))) greatest_depth (omega (arith, length-frames_of fs)))
 
-zero_test : (n : ℕ) → nat_le n 0 ≡ nat_eq n 0
-zero_test zero = refl
-zero_test (suc n) = lt-leb (suc n) 0 (omega arith) ∙ sym (ne_eqb (suc n) 0 (λ h. omega arith))
+-- a frame that closes at this tightness, and one that stays open
+pub reduce_closes : (l : ℕ) (f : Frame) (s : List Frame) (e : Tree) → closes l f ≡ true → reduce l (f ∷ s) e ≡ reduce l s (closed_with f e)
+reduce_closes l f s e h = ap (λ b. cond b (reduce l s (closed_with f e)) (record { frames = f ∷ s; last = e })) h
 
--- what a frame does by itself, by the test whether it closes
-pub reduce_by : (l : ℕ) (f : Frame) (s : List Frame) (e : Tree)
-    → reduce l (f ∷ s) e ≡ cond (closes l f) (reduce l s (closed_with f e)) (record { frames = f ∷ s; last = e })
-reduce_by l (in_binary at operator left) s e = refl
-reduce_by l (in_prefix at operator) s e = refl
-reduce_by l (in_call at function given) s e = refl
-reduce_by l (in_apply function given) s e = refl
-reduce_by l (in_group at) s e = refl
-reduce_by l (in_second at first) s e = refl
-reduce_by l (in_value at place) s e = refl
-reduce_by l (in_let_body at place value) s e =
-    ap (λ b. cond b (reduce l s (closed_with (in_let_body at place value) e)) (record { frames = in_let_body at place value ∷ s; last = e })) (zero_test l)
-reduce_by l (in_condition at) s e = refl
-reduce_by l (in_positive at condition) s e = refl
-reduce_by l (in_negative at condition positive) s e =
-    ap (λ b. cond b (reduce l s (closed_with (in_negative at condition positive) e)) (record { frames = in_negative at condition positive ∷ s; last = e })) (zero_test l)
-reduce_by l (in_braces at given) s e = refl
-reduce_by l (in_filter at item) s e = refl
-reduce_by l (in_source at body binders place) s e = refl
-reduce_by l (in_each_condition at body binders) s e = refl
+pub reduce_keeps : (l : ℕ) (f : Frame) (s : List Frame) (e : Tree) → closes l f ≡ false → reduce l (f ∷ s) e ≡ record { frames = f ∷ s; last = e }
+reduce_keeps l f s e h = ap (λ b. cond b (reduce l s (closed_with f e)) (record { frames = f ∷ s; last = e })) h
 
 pub closes_last : (l : ℕ) (fs : List Form) (f : Form) (e : Tree) → closes l (frame_of f) ≡ true
     → reduce l (frames_of (fs ++ f ∷ [])) e ≡ reduce l (frames_of fs) (closed_with (frame_of f) e)
-closes_last l fs f e h =
-    ap (λ s. reduce l s e) (frames_of-push fs f) ∙ reduce_by l (frame_of f) (frames_of fs) e
-    ∙ ap (λ b. cond b (reduce l (frames_of fs) (closed_with (frame_of f) e)) (record { frames = frame_of f ∷ frames_of fs; last = e })) h
+closes_last l fs f e h = ap (λ s. reduce l s e) (frames_of-push fs f) ∙ reduce_closes l (frame_of f) (frames_of fs) e h
 
 pub keeps_last : (l : ℕ) (fs : List Form) (f : Form) (e : Tree) → closes l (frame_of f) ≡ false
     → reduce l (frames_of (fs ++ f ∷ [])) e ≡ record { frames = frames_of (fs ++ f ∷ []); last = e }
 keeps_last l fs f e h =
-    ap (λ s. reduce l s e) (frames_of-push fs f) ∙ reduce_by l (frame_of f) (frames_of fs) e
-    ∙ ap (λ b. cond b (reduce l (frames_of fs) (closed_with (frame_of f) e)) (record { frames = frame_of f ∷ frames_of fs; last = e })) h
+    ap (λ s. reduce l s e) (frames_of-push fs f) ∙ reduce_keeps l (frame_of f) (frames_of fs) e h
     ∙ ap (λ s. record { frames = s; last = e }) (sym (frames_of-push fs f))
 
 -- the innermost frame alone says how tightly a form has to bind

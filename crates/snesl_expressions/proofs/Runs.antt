@@ -1,6 +1,6 @@
 -- A whole expression is read, and closing the forms behind it gives its tree.
-use Rattle.std.proofs.Common.{◌≡◌, ℕ, suc, ◌+◌, ◌≤◌, ◌<◌, Bool, true, false, cond, List, [], ◌∷◌, ◌++◌, length, Option, Some, None, Ok, refl, sym, ◌∙◌, ap, max, arith, le-leb, lt-ltb}
-use Rattle.std.proofs.lemmas.Bool.{lt-leb}
+use Rattle.std.proofs.Common.{◌≡◌, ℕ, zero, suc, ◌+◌, ◌≤◌, ◌<◌, Bool, true, false, cond, List, [], ◌∷◌, ◌++◌, length, Option, Some, None, Ok, refl, sym, ◌∙◌, ap, max, arith, le-leb, lt-ltb}
+use Rattle.std.proofs.lemmas.Bool.{lt-leb, ne_eqb}
 use Rattle.snesl_lexer.specs.declared.token.Kind.TheVariants as kinds
 use Rattle.snesl_lexer.specs.declared.token.Token.{Token}
 use Rattle.snesl_tree.specs.declared.operator.Operator.{Operator}
@@ -16,6 +16,7 @@ use Rattle.snesl_grammar.specs.Expressions.{token, name_token, added, bound_also
 use Rattle.snesl_expressions.specs.Readers.{Move, free, go}
 use Rattle.snesl_expressions.specs.Machine.{Frame, in_binary, in_prefix, in_call, in_apply, in_group, in_second, in_value, in_let_body, in_condition, in_positive, in_negative, in_braces, in_filter, in_source, in_each_condition, State, operand, after, opening, let_name, binder_name, reduce, floor, open_move, at_level, infix_move, comma_move, paren_move, brace_move, colon_move, bar_move, semicolon_move, in_move, then_move, else_move, closing, joining, move_of, alone, expressions}
 use Rattle.snesl_expressions.proofs.Reading.{goes_on, steps_on, fits_step}
+use Rattle.snesl_expressions.proofs.Piles.{reduce_closes, reduce_keeps}
 use Rattle.snesl_expressions.proofs.Depths.{depth_pos, depth_added, arguments_pos, depth_bound_also, count_bound_also}
 
 -- reading the tokens leads from a state to another
@@ -60,13 +61,13 @@ Stays _ k = Unit {0}
 pub reduce_stays : (k : ℕ) (frames : List Frame) (last : Tree) → Stays frames k → reduce k frames last ≡ record { frames = frames; last = last }
 reduce_stays k [] last h = refl
 reduce_stays k (in_binary at operator left ∷ frames) last h =
-    ap (λ b. cond b (reduce k frames (binary at operator left last)) (record { frames = in_binary at operator left ∷ frames; last = last })) (lt-leb k (level operator) h)
+    reduce_keeps k (in_binary at operator left) frames last (lt-leb k (level operator) h)
 reduce_stays k (in_prefix at operator ∷ frames) last h =
-    ap (λ b. cond b (reduce k frames (prefix at operator last)) (record { frames = in_prefix at operator ∷ frames; last = last })) (lt-leb k prefix_level h)
+    reduce_keeps k (in_prefix at operator) frames last (lt-leb k prefix_level h)
 reduce_stays k (in_let_body at place value ∷ frames) last h =
-    ap (λ b. cond b (reduce k frames (binding at place value last)) (record { frames = in_let_body at place value ∷ frames; last = last })) (lt-leb k 0 h)
+    reduce_keeps k (in_let_body at place value) frames last (ne_eqb k 0 (λ e. omega arith))
 reduce_stays k (in_negative at condition positive ∷ frames) last h =
-    ap (λ b. cond b (reduce k frames (choice at condition positive last)) (record { frames = in_negative at condition positive ∷ frames; last = last })) (lt-leb k 0 h)
+    reduce_keeps k (in_negative at condition positive) frames last (ne_eqb k 0 (λ e. omega arith))
 reduce_stays k (frame ∷ frames) last h = refl
 
 pub left_levels : (o : Operator) → (level o ≤ left_level o) × (1 ≤ left_level o) × (prefix_level ≤ level o → prefix_level < left_level o)
@@ -97,22 +98,22 @@ stays_outside (frame ∷ frames) o h = tt
 pub reduce_binary : (k : ℕ) (frames : List Frame) (at : ℕ) (o : Operator) (left last : Tree) → k ≤ level o
     → reduce k (in_binary at o left ∷ frames) last ≡ reduce k frames (binary at o left last)
 reduce_binary k frames at o left last h =
-    ap (λ b. cond b (reduce k frames (binary at o left last)) (record { frames = in_binary at o left ∷ frames; last = last })) (le-leb k (level o) h)
+    reduce_closes k (in_binary at o left) frames last (le-leb k (level o) h)
 
 pub reduce_prefix : (k : ℕ) (frames : List Frame) (at : ℕ) (o : Prefix) (last : Tree) → k ≤ prefix_level
     → reduce k (in_prefix at o ∷ frames) last ≡ reduce k frames (prefix at o last)
 reduce_prefix k frames at o last h =
-    ap (λ b. cond b (reduce k frames (prefix at o last)) (record { frames = in_prefix at o ∷ frames; last = last })) (le-leb k prefix_level h)
+    reduce_closes k (in_prefix at o) frames last (le-leb k prefix_level h)
 
 pub reduce_let_body : (k : ℕ) (frames : List Frame) (at : ℕ) (place : Span) (value last : Tree) → k ≤ 0
     → reduce k (in_let_body at place value ∷ frames) last ≡ reduce k frames (binding at place value last)
-reduce_let_body k frames at place value last h =
-    ap (λ b. cond b (reduce k frames (binding at place value last)) (record { frames = in_let_body at place value ∷ frames; last = last })) (le-leb k 0 h)
+reduce_let_body zero frames at place value last h = refl
+reduce_let_body (suc k) frames at place value last h = absurd (omega arith)
 
 pub reduce_negative : (k : ℕ) (frames : List Frame) (at : ℕ) (condition positive last : Tree) → k ≤ 0
     → reduce k (in_negative at condition positive ∷ frames) last ≡ reduce k frames (choice at condition positive last)
-reduce_negative k frames at condition positive last h =
-    ap (λ b. cond b (reduce k frames (choice at condition positive last)) (record { frames = in_negative at condition positive ∷ frames; last = last })) (le-leb k 0 h)
+reduce_negative zero frames at condition positive last h = refl
+reduce_negative (suc k) frames at condition positive last h = absurd (omega arith)
 
 pub move_sign : (frames : List Frame) (last : Tree) (o : Operator) (at : ℕ) → move_of (after frames last) (sign o) at ≡ joining o at frames last
 move_sign frames last Or at = refl

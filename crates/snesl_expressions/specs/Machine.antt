@@ -1,5 +1,5 @@
 -- The parser on one token after the other: what is open, and what a token makes of it.
-use Rattle.std.specs.Prelude.{ℕ, suc, ◌+◌, true, false, List, [], ◌∷◌, length, Option, Some, None, nat_le, nat_lt, if◌then◌else◌}
+use Rattle.std.specs.Prelude.{ℕ, suc, ◌+◌, Bool, true, false, List, [], ◌∷◌, length, Option, Some, None, nat_eq, nat_le, nat_lt, if◌then◌else◌}
 use Rattle.snesl_lexer.specs.declared.token.Kind.{Kind}
 use Rattle.snesl_lexer.specs.declared.token.Kind.TheVariants as kinds
 use Rattle.snesl_tree.specs.declared.operator.Operator.{Operator}
@@ -61,22 +61,28 @@ pub record Folded : Type 0 where
   pub frames : List Frame
   pub last : Tree
 
+-- whether a form without a closing token binds at least so tightly
+abbrev pub closes : ℕ → Frame → Bool
+closes tightness (in_binary at operator left) = nat_le tightness (level operator)
+closes tightness (in_prefix at operator) = nat_le tightness prefix_level
+closes tightness (in_let_body at place value) = nat_eq tightness 0
+closes tightness (in_negative at condition positive) = nat_eq tightness 0
+closes tightness _ = false
+
+-- the tree of such a form with its last part
+abbrev pub closed_with : Frame → Tree → Tree
+closed_with (in_binary at operator left) last = binary at operator left last
+closed_with (in_prefix at operator) last = prefix at operator last
+closed_with (in_let_body at place value) last = binding at place value last
+closed_with (in_negative at condition positive) last = choice at condition positive last
+closed_with _ last = last
+
 -- closes the forms without a closing token that bind at least so tightly
 abbrev pub reduce : ℕ → List Frame → Tree → Folded
 reduce tightness [] last = record { frames = []; last = last }
-reduce tightness (in_binary at operator left ∷ frames) last =
-    if nat_le tightness (level operator) then reduce tightness frames (binary at operator left last)
-    else record { frames = in_binary at operator left ∷ frames; last = last }
-reduce tightness (in_prefix at operator ∷ frames) last =
-    if nat_le tightness prefix_level then reduce tightness frames (prefix at operator last)
-    else record { frames = in_prefix at operator ∷ frames; last = last }
-reduce tightness (in_let_body at place value ∷ frames) last =
-    if nat_le tightness 0 then reduce tightness frames (binding at place value last)
-    else record { frames = in_let_body at place value ∷ frames; last = last }
-reduce tightness (in_negative at condition positive ∷ frames) last =
-    if nat_le tightness 0 then reduce tightness frames (choice at condition positive last)
-    else record { frames = in_negative at condition positive ∷ frames; last = last }
-reduce tightness (frame ∷ frames) last = record { frames = frame ∷ frames; last = last }
+reduce tightness (frame ∷ frames) last =
+    if closes tightness frame then reduce tightness frames (closed_with frame last)
+    else record { frames = frame ∷ frames; last = last }
 
 -- how tightly a form has to bind to stand bare in the innermost frame
 abbrev pub floor : List Frame → ℕ

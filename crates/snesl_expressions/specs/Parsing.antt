@@ -1,8 +1,8 @@
 -- The machine's data that the parser's hold, and what the parser's functions return.
-use Rattle.std.specs.Prelude.{◌≡◌, ℕ, Bool, false, List, [], ◌∷◌, Vec, Option, Some, None, Result, Ok, Err, nat_le, nat_eq}
+use Rattle.std.specs.Prelude.{◌≡◌, List, [], ◌∷◌, Vec, Option, Some, None, Result, Ok, Err}
 use Rattle.std.specs.declared.alloc.Global.{Global}
 use Rattle.snesl_tree.specs.declared.expr.Expr.{Expr}
-use Rattle.snesl_tree.specs.Tree.{Tree, binary, prefix, binding, choice}
+use Rattle.snesl_tree.specs.Tree.{Tree}
 use Rattle.snesl_tree.specs.View.{tree_of, trees_of, binders_of}
 use Rattle.snesl_expressions.specs.declared.measured.Measured.{Measured}
 use Rattle.snesl_expressions.specs.declared.forms.Form.{Form}
@@ -15,7 +15,6 @@ use Rattle.snesl_expressions.specs.declared.machine.Point.TheVariants as points
 use Rattle.snesl_expressions.specs.declared.machine.Machine.{Machine}
 use Rattle.snesl_expressions.specs.declared.machine.StepError.{StepError}
 use Rattle.snesl_expressions.specs.declared.machine.StepError.TheVariants as errors
-use Rattle.snesl_grammar.specs.Operators.{level, prefix_level}
 use Rattle.snesl_expressions.specs.Readers.{Move, Stop, unexpected, beyond_depth}
 use Rattle.snesl_expressions.specs.Machine.{Frame, in_binary, in_prefix, in_call, in_apply, in_group, in_second, in_value, in_let_body, in_condition, in_positive, in_negative, in_braces, in_filter, in_source, in_each_condition, State, operand, after, opening, let_name, let_equals, binder_name, binder_in, Folded, comma_move, paren_move, brace_move, colon_move, bar_move, semicolon_move, in_move, then_move, else_move}
 
@@ -74,22 +73,6 @@ Gives (Err error) next = Fails error next
 -- the forms and the expression are these
 abbrev pub Folding : Vec Form Global → Measured → Folded → Type 0
 Folding all last folded = folded ≡ record { frames = frames_of all.items; last = tree_of last.expr }
-
--- whether a form without a closing token binds at least so tightly
-abbrev pub closes : ℕ → Frame → Bool
-closes tightness (in_binary at operator left) = nat_le tightness (level operator)
-closes tightness (in_prefix at operator) = nat_le tightness prefix_level
-closes tightness (in_let_body at place value) = nat_eq tightness 0
-closes tightness (in_negative at condition positive) = nat_eq tightness 0
-closes tightness _ = false
-
--- such a form with its last part
-abbrev pub closed_with : Frame → Tree → Tree
-closed_with (in_binary at operator left) last = binary at operator left last
-closed_with (in_prefix at operator) last = prefix at operator last
-closed_with (in_let_body at place value) last = binding at place value last
-closed_with (in_negative at condition positive) last = choice at condition positive last
-closed_with _ last = last
 
 -- the expression, the innermost form around it and the others, or Unexpected where there is no form around it
 abbrev pub Within : Result Innermost StepError → Folded → Type 0

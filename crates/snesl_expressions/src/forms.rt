@@ -4,8 +4,8 @@ ghost use Rattle.std.specs.Prelude.{◌≡◌, ◌≤◌, ◌<◌, ◌↔◌, su
 ghost use Rattle.snesl_tree.specs.View.{tree_of};
 ghost use Rattle.snesl_grammar.specs.Limits.{greatest_depth};
 ghost use Rattle.snesl_grammar.specs.Operators.{level, left_level, prefix_level};
-ghost use Rattle.snesl_expressions.specs.Machine.{reduce, floor};
-ghost use Rattle.snesl_expressions.specs.Parsing.{frame_of, frames_of, Folding, closes, closed_with, Within};
+ghost use Rattle.snesl_expressions.specs.Machine.{closes, closed_with, reduce, floor};
+ghost use Rattle.snesl_expressions.specs.Parsing.{frame_of, frames_of, Folding, Within};
 
 use crate::limits::GREATEST_DEPTH;
 use crate::machine::StepError;

@@ -5,8 +5,8 @@ ghost use Rattle.std.specs.Option.{is_some};
 ghost use Rattle.snesl_tree.specs.View.{tree_of};
 ghost use Rattle.snesl_grammar.specs.Limits.{greatest_depth};
 ghost use Rattle.snesl_expressions.specs.Readers.{step, within};
-ghost use Rattle.snesl_expressions.specs.Machine.{expressions, open_move, at_level, operand, after};
-ghost use Rattle.snesl_expressions.specs.Parsing.{frame_of, frames_of, state_at, state_of, Gives, IsThis, closes};
+ghost use Rattle.snesl_expressions.specs.Machine.{expressions, closes, open_move, at_level, operand, after};
+ghost use Rattle.snesl_expressions.specs.Parsing.{frame_of, frames_of, state_at, state_of, Gives, IsThis};
 
 use crate::closings::after;
 use crate::forms::{Form, floor_of, has_room, is_closed_at, let_go, reduced};

@@ -1,6 +1,7 @@
 use Rattle.std.proofs.Common.{◌≡◌, IfOk, subst, sym}
 use Rattle.snesl_tree.specs.View.{tree_of}
-use Rattle.snesl_expressions.specs.Parsing.{frame_of, closed_with}
+use Rattle.snesl_expressions.specs.Machine.{closed_with}
+use Rattle.snesl_expressions.specs.Parsing.{frame_of}
 use Rattle.snesl_expressions.proofs.forms.closed.Goals as goal
 
 pub returns-in-Binary : goal.returns-in-Binary

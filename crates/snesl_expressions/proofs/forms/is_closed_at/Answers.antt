@@ -1,5 +1,6 @@
 use Rattle.std.proofs.Common.{leb, ap, sym, ◌∙◌}
-use Rattle.snesl_expressions.specs.Parsing.{frame_of, closes}
+use Rattle.snesl_expressions.specs.Machine.{closes}
+use Rattle.snesl_expressions.specs.Parsing.{frame_of}
 use Rattle.snesl_expressions.proofs.forms.is_closed_at.Goals as goal
 
 pub returns-in-Binary : goal.returns-in-Binary
