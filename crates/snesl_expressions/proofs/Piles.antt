@@ -1,8 +1,8 @@
 -- The open forms in a vector, whose last is the innermost.
-use Rattle.std.proofs.Common.{◌≡◌, ℕ, zero, suc, ◌+◌, ◌-◌, ◌≤◌, ◌<◌, true, false, List, [], ◌∷◌, ◌++◌, length, cond, Some, Ok, Err, IsTrue, refl, sym, ap, ◌∙◌, arith, le-leb, inl, inr}
+use Rattle.std.proofs.Common.{◌≡◌, ℕ, zero, suc, ◌+◌, ◌-◌, ◌≤◌, ◌<◌, true, false, List, [], ◌∷◌, ◌++◌, length, cond, Some, Ok, Err, IsTrue, nat_le, nat_eq, refl, sym, ap, ◌∙◌, arith, le-leb, inl, inr}
 use Rattle.std.specs.List.{slice_get}
 use Rattle.std.proofs.lemmas.Option.{slice_get_within}
-use Rattle.std.proofs.lemmas.Bool.{lt-leb, cases_lt}
+use Rattle.std.proofs.lemmas.Bool.{lt-leb, cases_lt, ne_eqb}
 use Rattle.snesl_tree.specs.Tree.{Tree}
 use Rattle.snesl_expressions.specs.declared.forms.Form.{Form}
 use Rattle.snesl_grammar.specs.Limits.{greatest_depth}
@@ -38,6 +38,10 @@ has_room fs next h =
 pub has_no_room : (fs : List Form) (next : State) → greatest_depth ≤ suc (length fs) → within greatest_depth (open_move (frames_of fs) next) ≡ Err beyond_depth
 has_no_room fs next h =
     ap (λ b. cond b (Ok next) (Err beyond_depth)) (lt-leb (suc (suc (length (frames_of fs)))) greatest_depth (omega (arith, length-frames_of fs)))
+
+pub zero_test : (n : ℕ) → nat_eq n 0 ≡ nat_le n 0
+zero_test zero = refl
+zero_test (suc n) = ne_eqb (suc n) 0 (λ h. omega arith) ∙ sym (lt-leb (suc n) 0 (omega arith))
 
 -- a frame that closes at this tightness, and one that stays open
 pub reduce_closes : (l : ℕ) (f : Frame) (s : List Frame) (e : Tree) → closes l f ≡ true → reduce l (f ∷ s) e ≡ reduce l s (closed_with f e)

@@ -1,6 +1,6 @@
 -- A whole expression is read, and closing the forms behind it gives its tree.
 use Rattle.std.proofs.Common.{◌≡◌, ℕ, zero, suc, ◌+◌, ◌≤◌, ◌<◌, Bool, true, false, cond, List, [], ◌∷◌, ◌++◌, length, Option, Some, None, Ok, refl, sym, ◌∙◌, ap, max, arith, le-leb, lt-ltb}
-use Rattle.std.proofs.lemmas.Bool.{lt-leb, ne_eqb}
+use Rattle.std.proofs.lemmas.Bool.{lt-leb}
 use Rattle.snesl_lexer.specs.declared.token.Kind.TheVariants as kinds
 use Rattle.snesl_lexer.specs.declared.token.Token.{Token}
 use Rattle.snesl_tree.specs.declared.operator.Operator.{Operator}
@@ -65,9 +65,9 @@ reduce_stays k (in_binary at operator left ∷ frames) last h =
 reduce_stays k (in_prefix at operator ∷ frames) last h =
     reduce_keeps k (in_prefix at operator) frames last (lt-leb k prefix_level h)
 reduce_stays k (in_let_body at place value ∷ frames) last h =
-    reduce_keeps k (in_let_body at place value) frames last (ne_eqb k 0 (λ e. omega arith))
+    reduce_keeps k (in_let_body at place value) frames last (lt-leb k 0 h)
 reduce_stays k (in_negative at condition positive ∷ frames) last h =
-    reduce_keeps k (in_negative at condition positive) frames last (ne_eqb k 0 (λ e. omega arith))
+    reduce_keeps k (in_negative at condition positive) frames last (lt-leb k 0 h)
 reduce_stays k (frame ∷ frames) last h = refl
 
 pub left_levels : (o : Operator) → (level o ≤ left_level o) × (1 ≤ left_level o) × (prefix_level ≤ level o → prefix_level < left_level o)

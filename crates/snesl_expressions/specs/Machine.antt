@@ -1,5 +1,5 @@
 -- The parser on one token after the other: what is open, and what a token makes of it.
-use Rattle.std.specs.Prelude.{ℕ, suc, ◌+◌, Bool, true, false, List, [], ◌∷◌, length, Option, Some, None, nat_eq, nat_le, nat_lt, if◌then◌else◌}
+use Rattle.std.specs.Prelude.{ℕ, suc, ◌+◌, Bool, true, false, List, [], ◌∷◌, length, Option, Some, None, nat_le, nat_lt, if◌then◌else◌}
 use Rattle.snesl_lexer.specs.declared.token.Kind.{Kind}
 use Rattle.snesl_lexer.specs.declared.token.Kind.TheVariants as kinds
 use Rattle.snesl_tree.specs.declared.operator.Operator.{Operator}
@@ -65,8 +65,8 @@ pub record Folded : Type 0 where
 abbrev pub closes : ℕ → Frame → Bool
 closes tightness (in_binary at operator left) = nat_le tightness (level operator)
 closes tightness (in_prefix at operator) = nat_le tightness prefix_level
-closes tightness (in_let_body at place value) = nat_eq tightness 0
-closes tightness (in_negative at condition positive) = nat_eq tightness 0
+closes tightness (in_let_body at place value) = nat_le tightness 0
+closes tightness (in_negative at condition positive) = nat_le tightness 0
 closes tightness _ = false
 
 -- the tree of such a form with its last part
