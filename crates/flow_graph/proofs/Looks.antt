@@ -1,15 +1,15 @@
 -- One look at the ends after another, and a put after a look.
 use Rattle.std.proofs.Common.{◌≡◌, ℕ, ◌<◌, ◌↔◌, true, false, List, [], ◌∷◌, ◌++◌, Result, Ok, Err, OnOk, IfErr, IsOk, IsErrAnd, sym, ◌∙◌, ap, subst, arith}
 use mathlib.Core.List.{IsPrefix}
-use Rattle.kahn.specs.declared.want.Want.TheVariants.{Write}
+use Rattle.kahn.specs.declared.want.Want.TheVariants.{Read, Write}
 use Rattle.flow_base.specs.Transducers.{Behaviour}
 use Rattle.flow_edges.specs.Signals.{Signal, ended}
-use Rattle.flow_edges.specs.Ends.{View, SameEnds, LookedForRoom, Put}
+use Rattle.flow_edges.specs.Ends.{View, SameEnds, LookedForRoom, Put, Taken}
 use Rattle.flow_edges.specs.declared.ends.Refused.{Refused}
 use Rattle.flow_edges.specs.declared.ends.Why.TheVariants.{Closed}
 use Rattle.flow_edges.specs.declared.message.Msg.{Msg}
 use Rattle.flow_graph.specs.declared.edge.Edge.{Edge}
-use Rattle.flow_graph.specs.Edges.{out_edge}
+use Rattle.flow_graph.specs.Edges.{in_edge, out_edge}
 use Rattle.flow_graph.specs.Steps.{PutInRoom, Moves}
 
 pub same_ends_then : (a b c : View) → SameEnds a b → SameEnds b c → SameEnds a c
@@ -48,6 +48,12 @@ module _ (before seen after : View) (e : ℕ) (m : Signal) (message : Msg) (look
       (λ free. record { seen = seen; looked = looked; certain = certain; put = ok }, λ shut. absurd (closed.1 (ap ended (looked.traffic.sent e) ∙ shut)))
   put_or_lost (Err x) certain ok refused closed succeeds =
       (λ free. absurd (let no = succeeds (ap ended (looked.traffic.sent e) ∙ free) certain in cc), λ shut. looked_twice before e seen after looked refused.1)
+
+-- a node that read, where a message was taken
+pub moves_read : {S : Type 0} (b : Behaviour S) (edges : List Edge) (node : ℕ) (s s' : S) (before after : View) (p e : ℕ) (m : Signal) → b.process.want s ≡ Read p → e ≡ in_edge edges node p → Taken before e m after → s' ≡ b.process.read s m → Moves b edges node s s' before after (b.process.want s)
+moves_read b edges node s s' before after p e m wants edge taken is =
+    let parts : Moves b edges node s s' before after (Read p) = (m, subst (λ f. Taken before f m after) edge taken, is) in
+    subst (Moves b edges node s s' before after) (sym wants) parts
 
 -- a node that wrote, where its message was put or lost
 pub moves_write : {S : Type 0} (b : Behaviour S) (edges : List Edge) (node : ℕ) (s s' : S) (before after : View) (q e : ℕ) (m : Signal) → b.process.want s ≡ Write q → e ≡ out_edge edges node q → m ≡ b.process.written s → s' ≡ b.process.wrote s → (ended (before.sent e) ≡ false → PutInRoom before e m after) × (ended (before.sent e) ≡ true → LookedForRoom before e after) → Moves b edges node s s' before after (b.process.want s)

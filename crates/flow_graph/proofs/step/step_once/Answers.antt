@@ -1,9 +1,10 @@
 use Rattle.std.proofs.Common.{◌≡◌, ◌<◌, sym, ◌∙◌}
-use Rattle.kahn.specs.declared.want.Want.TheVariants.{Write}
+use Rattle.kahn.specs.declared.want.Want.TheVariants.{Read, Write}
 use Rattle.flow_edges.specs.Signals.{signal_of}
+use Rattle.flow_edges.specs.Ends.{Taken}
 use Rattle.flow_graph.specs.Networks.{state_at}
 use Rattle.flow_graph.specs.Graphs.{states_of, edges_of}
-use Rattle.flow_graph.proofs.Looks.{put_ends, put_or_lost, moves_write}
+use Rattle.flow_graph.proofs.Looks.{put_ends, put_or_lost, moves_read, moves_write}
 use Rattle.flow_graph.proofs.Reached.{same_but, state_written}
 use Rattle.flow_graph.proofs.Shapes.{shape_opened}
 use Rattle.flow_graph.proofs.step.step_once.Goals as goal
@@ -12,6 +13,27 @@ pub returns-in_ok-give-in-Read-clause-shape : goal.returns-in_ok-give-in-Read-cl
 returns-in_ok-give-in-Read-clause-shape g c =
     shape_opened g.E.Ends.same g.E.Ends.view g.met.T.Transducer.laws c.args.graph.now c.args.ends.now c.give.new.self c.take.new.self c.take.ensures.same c.in-Some.ensures.some.ends
     c.give.ensures.openings c.give.ensures.edges
+
+pub returns-in_ok-give-in-Read-clause-turn : goal.returns-in_ok-give-in-Read-clause-turn
+returns-in_ok-give-in-Read-clause-turn g c =
+    let b = g.T.Transducer.behaviour in
+    let laws = g.met.T.Transducer.laws in
+    let states = states_of c.args.graph.now in
+    let states' = states_of c.give.new.self in
+    let s = state_at b states c.args.node in
+    let s' = state_at b states' c.args.node in
+    let before = g.E.Ends.view c.args.ends.now in
+    let after = g.E.Ends.view c.take.new.self in
+    let message = signal_of c.in-Some.message in
+    let edge = c.wanted_input-edge.result in
+    let wants : b.process.want s ≡ Read c.in-Read.port = sym c.want.ensures ∙ c.in-Read.is in
+    let taken : Taken before edge message after = c.in-Some.ensures.some in
+    let given = c.in_ok-give-in-Read.ensures.ok in
+    let read : s' ≡ b.process.read s message = state_written b states states' c.args.node (b.process.read s message) c.requires.inside given in
+    record {
+      others = same_but b laws states states' c.give.ensures.openings c.args.node (b.process.read s message) given;
+      step = moves_read b (edges_of c.args.graph.now) c.args.node s s' before after c.in-Read.port edge message wants c.wanted_input-edge.ensures.edge taken read;
+    }
 
 pub returns-in_ok-message-in-Write-clause-shape : goal.returns-in_ok-message-in-Write-clause-shape
 returns-in_ok-message-in-Write-clause-shape g c =

@@ -11,3 +11,6 @@ returns-clause-network g c =
     let step = c.step_once.ensures in
     let whole' : IsWhole capacity (g.E.Ends.view ends') = subst (λ n. IsWhole n (g.E.Ends.view ends')) (g.met.E.WholeEnds.same_capacity ends ends' step.shape.same) (g.met.E.WholeEnds.whole ends') in
     turns_network g.met.T.Transducer.laws g.E.Ends.view c.args.node c.args.graph.now ends c.step_once.new.graph ends' c.requires.inside c.requires.ends capacity (g.met.E.WholeEnds.whole ends) whole' c.step_once.result step.turn
+
+pub returns-clause-turn : goal.returns-clause-turn
+returns-clause-turn g c = c.step_once.ensures.turn

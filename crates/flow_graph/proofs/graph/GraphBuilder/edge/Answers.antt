@@ -1,4 +1,4 @@
-use Rattle.std.proofs.Common.{List, inl, inr, length, map, sym, subst, arith, ◌<◌}
+use Rattle.std.proofs.Common.{List, inl, inr, length, map, refl, sym, subst, arith, ◌<◌}
 use Rattle.flow_graph.specs.Limits.{most_edges}
 use Rattle.flow_graph.specs.declared.edge.Edge.{Edge}
 use Rattle.flow_graph.specs.Kept.{IsKept}
@@ -21,3 +21,12 @@ invariant_of-self g c =
         | inr is ↦ subst (λ (l : List Edge). IsKept b states after l) (sym is) (kept_same b states ports edges builder.kept after same.inputs same.outputs)
       ];
     }
+
+pub returns-then-number-ge-MAX_EDGES-clause-full : goal.returns-then-number-ge-MAX_EDGES-clause-full
+returns-then-number-ge-MAX_EDGES-clause-full g c = (
+  λ _. omega (arith, c.args.self.now.kept.few_edges, c.if-number-ge-MAX_EDGES.true, c.len-number.ensures, c.args.self.now.wiring.edges.ok.0),
+  λ _. refl,
+)
+
+pub returns-clause-number : goal.returns-clause-number
+returns-clause-number g c = omega (arith, c.len-number.ensures, c.args.self.now.wiring.edges.ok.0)

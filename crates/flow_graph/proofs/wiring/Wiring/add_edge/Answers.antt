@@ -1,4 +1,4 @@
-use Rattle.std.proofs.Common.{◌≡◌, ℕ, Some, [], length, length-set, set, sym, ◌∙◌, ap, subst, arith}
+use Rattle.std.proofs.Common.{◌≡◌, ℕ, Some, [], length, length-set, set, refl, sym, ◌∙◌, ap, subst, arith}
 use Rattle.flow_graph.specs.declared.wiring.Ports.{Ports}
 use Rattle.flow_graph.specs.Tables.{IsWiring, count_at}
 use Rattle.flow_graph.proofs.Wirings.{wiring_with_edge, counts_ins, counts_outs, count_is, map_set_back}
@@ -57,3 +57,9 @@ returns-clause-outputs c =
     counts_outs wiring.ports.items wiring.edges.items c.args.edge w c.set_output.new.self v c.set_input.new.self r.forward r.reader
     c.index_mut.ensures.value (c.set_output.ensures.outputs ∙ ap (λ (n : ℕ). set w.outputs.items c.args.edge.writer_port (Some n)) count) c.set_output.ensures.inputs
     c.index_mut-2.ensures.value (c.set_input.ensures.inputs ∙ ap (λ (n : ℕ). set v.inputs.items c.args.edge.reader_port (Some n)) count) c.set_input.ensures.outputs
+
+pub returns-in_err-push-clause-inputs : goal.returns-in_err-push-clause-inputs
+returns-in_err-push-clause-inputs c = refl
+
+pub returns-in_err-push-clause-outputs : goal.returns-in_err-push-clause-outputs
+returns-in_err-push-clause-outputs c = refl
