@@ -65,7 +65,10 @@ pub fn after(
         Kind::In => closing(alloc, forms, last, Ending::In),
         Kind::Then => closing(alloc, forms, last, Ending::Then),
         Kind::Else => closing(alloc, forms, last, Ending::Else),
-        _ => Err(StepError::Unexpected),
+        _ => {
+            let_go(last);
+            Err(StepError::Unexpected)
+        }
     }
 }
 
@@ -81,9 +84,11 @@ fn infix(
 {
     let (outer, left) = reduced(alloc, forms, last, left_level_of(operator))?;
     if floor_of(&outer) > level_of(operator) {
+        let_go(left);
         return Err(StepError::Unexpected);
     }
     if left.deep.saturating_add(outer.len()) >= GREATEST_DEPTH {
+        let_go(left);
         return Err(StepError::TooDeep);
     }
     go_in(outer, Form::Binary { at, operator, left })
@@ -95,10 +100,14 @@ fn apply(alloc: Global, forms: Vec<Form>, last: Measured) -> Result<Machine, Ste
 {
     match last.expr {
         Expr::Name(function) => {
+            let_go(last);
             let given = Arguments::none(alloc);
             enter(forms, Form::Apply { function, given })
         }
-        _ => Err(StepError::Unexpected),
+        _ => {
+            let_go(last);
+            Err(StepError::Unexpected)
+        }
     }
 }
 
@@ -169,6 +178,7 @@ fn comma(outer: Vec<Form>, form: Form, whole: Measured) -> Result<Machine, StepE
         }
         _ => {
             let_go(form);
+            let_go(whole);
             Err(StepError::Unexpected)
         }
     }
@@ -196,6 +206,7 @@ fn right_paren(
         Form::Second { at, first } => behind(outer, Measured::pair(alloc, at, first, whole)?),
         _ => {
             let_go(form);
+            let_go(whole);
             Err(StepError::Unexpected)
         }
     }
@@ -227,6 +238,7 @@ fn right_brace(
         }
         _ => {
             let_go(form);
+            let_go(whole);
             Err(StepError::Unexpected)
         }
     }
@@ -240,6 +252,7 @@ fn colon(alloc: Global, outer: Vec<Form>, form: Form, whole: Measured) -> Result
         Form::Braces { at, given } => begin_binders(alloc, outer, at, given, whole),
         _ => {
             let_go(form);
+            let_go(whole);
             Err(StepError::Unexpected)
         }
     }
@@ -256,6 +269,7 @@ fn begin_binders(
     ensures { Gives result (within greatest_depth (colon_move (in_braces at (trees_of given.exprs.items) ∷ frames_of outer.items) (tree_of body.expr))) }
 {
     if !given.exprs.is_empty() {
+        let_go(body);
         return Err(StepError::Unexpected);
     }
     let bound = Bound::none(alloc);
@@ -282,6 +296,7 @@ fn bar(outer: Vec<Form>, form: Form, whole: Measured) -> Result<Machine, StepErr
         }
         _ => {
             let_go(form);
+            let_go(whole);
             Err(StepError::Unexpected)
         }
     }
@@ -297,6 +312,7 @@ fn begin_filter(
     ensures { Gives result (within greatest_depth (bar_move (in_braces at (trees_of given.exprs.items) ∷ frames_of outer.items) (tree_of item.expr))) }
 {
     if !given.exprs.is_empty() {
+        let_go(item);
         return Err(StepError::Unexpected);
     }
     go_in(outer, Form::Filter { at, item })
@@ -315,6 +331,7 @@ fn semicolon(outer: Vec<Form>, form: Form, whole: Measured) -> Result<Machine, S
         } => next_binder(outer, at, body, bound, name, whole),
         _ => {
             let_go(form);
+            let_go(whole);
             Err(StepError::Unexpected)
         }
     }
@@ -332,6 +349,8 @@ fn next_binder(
     ensures { Gives result (within greatest_depth (semicolon_move (in_source at (tree_of body.expr) (binders_of bound.binders.items) name ∷ frames_of outer.items) (tree_of source.expr))) }
 {
     if bound.binders.len() + 1 >= GREATEST_BINDER_COUNT {
+        let_go(body);
+        let_go(source);
         return Err(StepError::Unexpected);
     }
     let bound = bound.with(name, source)?;
@@ -356,6 +375,7 @@ fn let_in(outer: Vec<Form>, form: Form, whole: Measured) -> Result<Machine, Step
         ),
         _ => {
             let_go(form);
+            let_go(whole);
             Err(StepError::Unexpected)
         }
     }
@@ -375,6 +395,7 @@ fn then(outer: Vec<Form>, form: Form, whole: Measured) -> Result<Machine, StepEr
         ),
         _ => {
             let_go(form);
+            let_go(whole);
             Err(StepError::Unexpected)
         }
     }
@@ -395,6 +416,7 @@ fn or_else(outer: Vec<Form>, form: Form, whole: Measured) -> Result<Machine, Ste
         ),
         _ => {
             let_go(form);
+            let_go(whole);
             Err(StepError::Unexpected)
         }
     }

@@ -178,8 +178,8 @@ pub fn is_closed_at(form: &Form, tightness: u8) -> bool
     }
 }
 
-/// Lets a value go. The drop of a form, written out in a function that takes one apart, is most of what its proof
-/// goes through; here it is one call.
+/// Lets a value go. The drop of a form or an expression, written out in a function that returns early, is most of what
+/// its proof goes through; here it is one call.
 pub fn let_go<T: Drop>(_: T) {}
 
 // The form with its last part.
@@ -232,6 +232,9 @@ pub fn find_innermost(
     let (mut outer, whole) = reduced(alloc, forms, last, 0)?;
     match outer.pop() {
         Some(form) => Ok(Innermost { outer, form, whole }),
-        None => Err(StepError::Unexpected),
+        None => {
+            let_go(whole);
+            Err(StepError::Unexpected)
+        }
     }
 }

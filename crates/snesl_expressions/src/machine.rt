@@ -205,6 +205,7 @@ impl Machine {
                 if outer.is_empty() {
                     Ok(Some(whole.expr))
                 } else {
+                    let_go(whole);
                     Ok(None)
                 }
             }

@@ -9,7 +9,7 @@ ghost use Rattle.snesl_expressions.specs.Readers.{step, within};
 ghost use Rattle.snesl_expressions.specs.Machine.{expressions, operand, opening, let_name, let_equals, binder_name, binder_in, open_move, at_level, in_prefix, in_braces};
 ghost use Rattle.snesl_expressions.specs.Parsing.{frames_of, Gives};
 
-use crate::forms::{Form, PREFIX_LEVEL, floor_of};
+use crate::forms::{Form, PREFIX_LEVEL, floor_of, let_go};
 use crate::machine::{Machine, Point, StepError, behind, enter, enter_bare, go_in, open_at};
 use crate::measured::{Arguments, Bound, Measured};
 use snesl_lexer::{Kind, Token};
@@ -162,7 +162,10 @@ pub fn binder_name(
                 },
             })
         }
-        _ => Err(StepError::Unexpected),
+        _ => {
+            let_go(body);
+            Err(StepError::Unexpected)
+        }
     }
 }
 
@@ -187,6 +190,9 @@ pub fn binder_in(
                 name,
             },
         ),
-        _ => Err(StepError::Unexpected),
+        _ => {
+            let_go(body);
+            Err(StepError::Unexpected)
+        }
     }
 }
