@@ -1,6 +1,7 @@
 pub mod AppendFlags
 pub mod ConcatFlags
 pub mod Dist
+pub mod FlagLaws
 pub mod FlagOfBool
 pub mod Interleave
 pub mod InterleaveGroups

@@ -1,20 +1,17 @@
 -- What the worker of segments joined to segments keeps to.
-use Rattle.std.specs.Prelude.{◌≡◌, ℕ, zero, suc, ◌+◌, true, false, List, [], ◌∷◌, map, refl}
+use Rattle.std.specs.Prelude.{◌≡◌, ℕ, zero, suc, ◌+◌, true, false, List, [], ◌∷◌, map, Ok, refl}
 use Rattle.std.proofs.Common.{arith, sym, ◌∙◌, ap, subst}
 use Rattle.flow_edges.specs.Cells.{Cell, flag}
 use Rattle.flow_base.specs.Flags.{F, T, elements, flags}
 use Rattle.flow_base.specs.Segments.{elements-add}
 use Rattle.flow_base.specs.Columns.{Columns, push_column, rows_from}
-use Rattle.flow_base.specs.Machines.{MachineLaws, SoundAt, Runs}
+use Rattle.flow_base.specs.Machines.{on_flag, MachineLaws, SoundAt, Runs}
 use Rattle.flow_base.specs.MachineRuns.{Then, reading, writing, run_is}
 use Rattle.flow_segment.specs.Rows.{append_flags_reads, append_flags_writes}
-use Rattle.flow_segment.specs.FlagTables.{stage_view}
-use Rattle.flow_segment.specs.AppendFlagsMachine.{append_flags_move, append_flags_machine}
-use Rattle.flow_segment.specs.declared.over_flags.OverFlags.{OverFlags}
+use Rattle.flow_segment.specs.laws.FlagLaws.{from_start, flag_laws, FlagNode, flag_node}
+use Rattle.flow_segment.specs.AppendFlagsMachine.{append_flags_move, append_flags_table, append_flags_machine}
 use Rattle.flow_segment.specs.declared.append_flags.AppendFlagsStage.{AppendFlagsStage}
 use Rattle.flow_segment.specs.declared.append_flags.AppendFlagsStage.TheVariants.{Start, First, Second, FirstElement, SecondElement, End}
-use Rattle.flow_base.specs.Members.{NodeOf, node_of}
-use Rattle.flow_base.specs.declared.node.Node.{Node}
 
 sound : (s : AppendFlagsStage) → SoundAt append_flags_machine tt s (append_flags_move s)
 sound Start = (refl, (omega arith, refl, λ _. (tt, tt), λ _ _. (tt, tt)))
@@ -52,13 +49,9 @@ first_runs : (n m : ℕ) {f g h : List Cell} → Does Start f g h → Does First
 first_runs zero m r = let k = second_runs m r in (suc k.0, k.1)
 first_runs (suc n) m r = let k = first_runs n m r in (suc (suc k.0), (refl, k.1))
 
-first_start : {f g h : List Cell} → Does First f g h → Does Start f g h
-first_start (suc n, r) = (suc n, r)
-first_start (zero, r) = absurd r
-
 runs : (xs : List (ℕ × ℕ)) → Does Start (firsts xs) (seconds xs) (all_written xs)
 runs [] = (zero, (refl, refl))
-runs (x ∷ xs) = first_start (first_runs x.0 x.1 (runs xs))
+runs (x ∷ xs) = from_start append_flags_machine tt (on_flag (Ok FirstElement) (Ok Second)) (first_runs x.0 x.1 (runs xs))
 
 -- what a run reads and writes
 data Owes : AppendFlagsStage → Columns → Columns → Type 0 where
@@ -85,16 +78,11 @@ whole : {i o : Columns} → Owes Start i o → (xs : List (ℕ × ℕ)) × (i �
 whole (start xs) = (xs, refl, ap (λ h. h ∷ []) (sym (written_is xs)))
 
 pub append_flags_laws : MachineLaws append_flags_machine
-append_flags_laws = record {
-  sound = λ _. sound;
-  begins_at_start = λ _. refl;
-  starts_of_kind = λ _. tt;
-  rows = λ _ i o.
-      rows_from append_flags_reads append_flags_writes (Runs append_flags_machine tt Start)
-      (λ xs. subst (Does Start (firsts xs) (seconds xs)) (sym (written_is xs)) (runs xs))
-      (λ i o r. whole (run_is append_flags_machine tt Owes sound (start []) earlier Start i o r)) 2 1 i o;
-}
+append_flags_laws = flag_laws append_flags_table sound refl (
+    rows_from append_flags_reads append_flags_writes (Runs append_flags_machine tt Start)
+    (λ xs. subst (Does Start (firsts xs) (seconds xs)) (sym (written_is xs)) (runs xs))
+    (λ i o r. whole (run_is append_flags_machine tt Owes sound (start []) earlier Start i o r)) 2 1)
 
 -- the transducer that a node makes of it
-abbrev pub append_flags_node : NodeOf (Node (OverFlags AppendFlagsStage))
-append_flags_node = node_of stage_view append_flags_machine append_flags_laws
+abbrev pub append_flags_node : FlagNode AppendFlagsStage
+append_flags_node = flag_node append_flags_table append_flags_laws

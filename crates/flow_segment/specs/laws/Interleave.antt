@@ -9,7 +9,8 @@ use Rattle.flow_base.specs.Columns.{Columns, push_column, rows_from}
 use Rattle.flow_base.specs.Machines.{Run, Runs, SoundAt, MachineLaws}
 use Rattle.flow_base.specs.MachineRuns.{leads_on, led_on, reading, writing, Then, run_is}
 use Rattle.flow_segment.specs.Rows.{Sides, lefts, rights, alternated, AllOfSides, interleave_reads}
-use Rattle.flow_segment.specs.InterleaveMachine.{Step, at_start, at_flag, at_item, at_copy, interleave_move, interleave_machine, interleave_view}
+use Rattle.flow_segment.specs.laws.FlagLaws.{from_start}
+use Rattle.flow_segment.specs.InterleaveMachine.{Step, at_start, at_flag, at_item, at_copy, flag_of, interleave_move, interleave_machine, interleave_view}
 use Rattle.flow_segment.specs.declared.interleave.Side.{Side}
 use Rattle.flow_segment.specs.declared.interleave.Side.TheVariants.{Left, Right}
 use Rattle.flow_base.specs.Members.{NodeOf, node_of}
@@ -41,13 +42,9 @@ left_runs k (x ∷ u) {f = f} {g = g} {a = a} {b = b} {r = r} h d =
     let n = left_runs k u h.1 d in
     (suc (suc (suc n.0)), leads_on k (λ x. Ok (at_copy Left x)) x (λ s. Run interleave_machine k (suc n.0) s (elements (length u) (T ∷ f) ∷ g ∷ (u ++ a) ∷ b ∷ []) ((x ∷ (u ++ r)) ∷ [])) h.0 (refl, n.1))
 
-left_start : (k : Kind) {f g a b r : List Cell} → Does k (at_flag Left) f g a b r → Does k at_start f g a b r
-left_start k (suc n, r) = (suc n, r)
-left_start k (zero, r) = absurd r
-
 runs : (k : Kind) (xs : Sides Cell) → AllOfSides k xs → Runs interleave_machine k at_start (interleave_reads xs) (alternated xs ∷ [])
 runs k [] h = (zero, (refl, refl))
-runs k ((u, v) ∷ xs) h = left_start k (left_runs k u h.0 (right_runs k v h.1 (runs k xs h.2)))
+runs k ((u, v) ∷ xs) h = from_start interleave_machine k (flag_of Left) (left_runs k u h.0 (right_runs k v h.1 (runs k xs h.2)))
 
 -- what a run reads and writes
 data Owes (k : Kind) : Step → Columns → Columns → Type 0 where

@@ -1,19 +1,16 @@
 -- The laws of InterleaveGroups.
-use Rattle.std.specs.Prelude.{◌≡◌, ℕ, zero, suc, true, false, List, [], ◌∷◌, ◌++◌, length, refl}
+use Rattle.std.specs.Prelude.{◌≡◌, ℕ, zero, suc, true, false, List, [], ◌∷◌, ◌++◌, length, Ok, refl}
 use Rattle.std.proofs.Common.{arith}
 use Rattle.flow_edges.specs.Cells.{Cell, flag}
 use Rattle.flow_base.specs.Flags.{F, T, elements, flags, joined, lengths}
 use Rattle.flow_base.specs.Columns.{Columns, push_column, rows_from}
-use Rattle.flow_base.specs.Machines.{Runs, SoundAt, MachineLaws}
+use Rattle.flow_base.specs.Machines.{on_flag, Runs, SoundAt, MachineLaws}
 use Rattle.flow_base.specs.MachineRuns.{reading, writing, Then, run_is}
 use Rattle.flow_segment.specs.Rows.{Sides, lefts, rights, alternated, interleave_groups_reads}
-use Rattle.flow_segment.specs.FlagTables.{stage_view}
-use Rattle.flow_segment.specs.InterleaveGroupsMachine.{interleave_groups_move, interleave_groups_machine}
-use Rattle.flow_segment.specs.declared.over_flags.OverFlags.{OverFlags}
+use Rattle.flow_segment.specs.laws.FlagLaws.{from_start, flag_laws, FlagNode, flag_node}
+use Rattle.flow_segment.specs.InterleaveGroupsMachine.{interleave_groups_move, interleave_groups_table, interleave_groups_machine}
 use Rattle.flow_segment.specs.declared.interleave_groups.InterleaveGroupsStage.{InterleaveGroupsStage}
 use Rattle.flow_segment.specs.declared.interleave_groups.InterleaveGroupsStage.TheVariants.{Start, Left, LeftGroup, LeftElement, LeftEnd, Right, RightGroup, RightElement, RightEnd}
-use Rattle.flow_base.specs.Members.{NodeOf, node_of}
-use Rattle.flow_base.specs.declared.node.Node.{Node}
 
 sound : (s : InterleaveGroupsStage) → SoundAt interleave_groups_machine tt s (interleave_groups_move s)
 sound Start = (refl, (omega arith, refl, λ _. (tt, tt), λ _ _. (tt, tt)))
@@ -47,13 +44,9 @@ left_runs : (us ks ns : List ℕ) {f g q : List Cell} → Does Right f g (flags 
 left_runs [] ks ns r = (suc r.0, r.1)
 left_runs (m ∷ us) ks ns r = let n = left_group_runs m (left_runs us ks ns r) in (suc n.0, n.1)
 
-left_start : {f g p q r : List Cell} → Does Left f g p q r → Does Start f g p q r
-left_start (suc n, r) = (suc n, r)
-left_start (zero, r) = absurd r
-
 runs : (xs : Sides ℕ) → Runs interleave_groups_machine tt Start (interleave_groups_reads xs) (flags (alternated xs) ∷ [])
 runs [] = (zero, (refl, refl))
-runs ((us, vs) ∷ xs) = left_start (left_runs us (joined (lefts xs)) (vs ++ alternated xs) (right_runs vs (joined (rights xs)) (alternated xs) (runs xs)))
+runs ((us, vs) ∷ xs) = from_start interleave_groups_machine tt (on_flag (Ok LeftGroup) (Ok Right)) (left_runs us (joined (lefts xs)) (vs ++ alternated xs) (right_runs vs (joined (rights xs)) (alternated xs) (runs xs)))
 
 -- what a run reads and writes
 data Owes : InterleaveGroupsStage → Columns → Columns → Type 0 where
@@ -91,13 +84,9 @@ whole : {i o : Columns} → Owes Start i o → (xs : Sides ℕ) × (i ≡ interl
 whole (start xs) = (xs, refl, refl)
 
 pub interleave_groups_laws : MachineLaws interleave_groups_machine
-interleave_groups_laws = record {
-  sound = λ _. sound;
-  begins_at_start = λ _. refl;
-  starts_of_kind = λ _. tt;
-  rows = λ _ i o. rows_from interleave_groups_reads (λ xs. flags (alternated xs) ∷ []) (Runs interleave_groups_machine tt Start) runs (λ i o r. whole (run_is interleave_groups_machine tt Owes sound (start []) earlier Start i o r)) 4 1 i o;
-}
+interleave_groups_laws = flag_laws interleave_groups_table sound refl (
+    rows_from interleave_groups_reads (λ xs. flags (alternated xs) ∷ []) (Runs interleave_groups_machine tt Start) runs (λ i o r. whole (run_is interleave_groups_machine tt Owes sound (start []) earlier Start i o r)) 4 1)
 
 -- the transducer that a node makes of it
-abbrev pub interleave_groups_node : NodeOf (Node (OverFlags InterleaveGroupsStage))
-interleave_groups_node = node_of stage_view interleave_groups_machine interleave_groups_laws
+abbrev pub interleave_groups_node : FlagNode InterleaveGroupsStage
+interleave_groups_node = flag_node interleave_groups_table interleave_groups_laws

@@ -1,22 +1,17 @@
 -- The laws of PartFlags.
-use Rattle.std.specs.Prelude.{◌≡◌, ℕ, zero, suc, true, false, List, [], ◌∷◌, ◌++◌, map, sum_by, length, refl}
-use Rattle.std.proofs.Common.{arith, sym, ◌∙◌, ap, subst}
+use Rattle.std.specs.Prelude.{◌≡◌, ℕ, zero, suc, true, false, List, [], ◌∷◌, ◌++◌, length, Ok, refl}
+use Rattle.std.proofs.Common.{arith, sym, subst}
 use Rattle.std.proofs.Math.Path.{ap₂}
-use Rattle.std.proofs.lemmas.List.Sums.{sum_by-cons}
 use Rattle.flow_edges.specs.Cells.{Cell, flag}
 use Rattle.flow_base.specs.Flags.{F, T, elements, flags, joined, lengths}
-use Rattle.flow_base.specs.Segments.{elements-add}
 use Rattle.flow_base.specs.Columns.{Columns, push_column, rows_from}
-use Rattle.flow_base.specs.Machines.{Runs, SoundAt, MachineLaws}
+use Rattle.flow_base.specs.Machines.{on_flag, Runs, SoundAt, MachineLaws}
 use Rattle.flow_base.specs.MachineRuns.{reading, writing, Then, run_is}
 use Rattle.flow_segment.specs.Rows.{part_flags_reads, part_flags_writes}
-use Rattle.flow_segment.specs.FlagTables.{stage_view}
-use Rattle.flow_segment.specs.PartFlagsMachine.{part_flags_move, part_flags_machine}
-use Rattle.flow_segment.specs.declared.over_flags.OverFlags.{OverFlags}
+use Rattle.flow_segment.specs.laws.FlagLaws.{from_start, flag_laws, FlagNode, flag_node, all_elements, sum_flags, sums_are}
+use Rattle.flow_segment.specs.PartFlagsMachine.{part_flags_move, part_flags_table, part_flags_machine}
 use Rattle.flow_segment.specs.declared.part_flags.PartFlagsStage.{PartFlagsStage}
 use Rattle.flow_segment.specs.declared.part_flags.PartFlagsStage.TheVariants.{Start, Parted, Open, Test, Element, PartElement, Part, PartEnd, Last, End}
-use Rattle.flow_base.specs.Members.{NodeOf, node_of}
-use Rattle.flow_base.specs.declared.node.Node.{Node}
 
 sound : (s : PartFlagsStage) → SoundAt part_flags_machine tt s (part_flags_move s)
 sound Start = (refl, (omega arith, refl, λ _. (tt, tt), λ _ _. (tt, tt)))
@@ -29,24 +24,6 @@ sound Part = (omega arith, omega arith, λ _. (refl, tt), λ _ _. (tt, tt))
 sound PartEnd = (omega arith, omega arith, λ _. (refl, tt), λ _ _. (tt, tt))
 sound Last = (omega arith, refl, λ _. (tt, tt), λ _ _. (tt, tt))
 sound End = (omega arith, omega arith, λ _. (refl, tt), λ _ _. (tt, tt))
-
--- for each number as many elements as f says, then the list
-abbrev all_elements : (ℕ → ℕ) → List ℕ → List Cell → List Cell
-all_elements f [] r = r
-all_elements f (m ∷ ms) r = elements (f m) (all_elements f ms r)
-
--- flags of the sum over each group, one element at a time
-abbrev sum_flags : (ℕ → ℕ) → List (List ℕ) → List Cell
-sum_flags f [] = []
-sum_flags f (ms ∷ groups) = all_elements f ms (T ∷ sum_flags f groups)
-
-sums_are : (f : ℕ → ℕ) (groups : List (List ℕ)) → flags (map (sum_by f) groups) ≡ sum_flags f groups
-sums_are f [] = refl
-sums_are f (ms ∷ groups) = go ms (T ∷ flags (map (sum_by f) groups)) ∙ ap (λ r. all_elements f ms (T ∷ r)) (sums_are f groups)
-  where
-    go : (ms : List ℕ) (r : List Cell) → elements (sum_by f ms) r ≡ all_elements f ms r
-    go [] r = refl
-    go (m ∷ ms) r = ap (λ k. elements k r) (sum_by-cons f m ms) ∙ elements-add (f m) (sum_by f ms) r ∙ ap (elements (f m)) (go ms r)
 
 -- what segments read, one element at a time
 abbrev each_reads : List (List ℕ) → Columns
@@ -69,13 +46,9 @@ parted_runs : (ms ks : List ℕ) {g f h : List Cell} → Does Start g (flags ks)
 parted_runs [] ks r = (suc (suc (suc r.0)), (refl, r.1))
 parted_runs (m ∷ ms) ks r = let n = test_runs m (parted_runs ms ks r) in (suc n.0, n.1)
 
-parted_start : {g b f h k : List Cell} → Does Parted g b f h k → Does Start g b f h k
-parted_start (suc n, r) = (suc n, r)
-parted_start (zero, r) = absurd r
-
 runs : (groups : List (List ℕ)) → Runs part_flags_machine tt Start (each_reads groups) (part_flags_writes groups)
 runs [] = (zero, (refl, refl))
-runs (ms ∷ groups) = parted_start (parted_runs ms (joined groups) (runs groups))
+runs (ms ∷ groups) = from_start part_flags_machine tt (on_flag (Ok Test) (Ok Last)) (parted_runs ms (joined groups) (runs groups))
 
 -- what a run reads and writes
 data Owes : PartFlagsStage → Columns → Columns → Type 0 where
@@ -114,14 +87,10 @@ whole : {i o : Columns} → Owes Start i o → (groups : List (List ℕ)) × (i 
 whole (start groups) = (groups, sym (reads_are groups), refl)
 
 pub part_flags_laws : MachineLaws part_flags_machine
-part_flags_laws = record {
-  sound = λ _. sound;
-  begins_at_start = λ _. refl;
-  starts_of_kind = λ _. tt;
-  rows = λ _ i o. rows_from part_flags_reads part_flags_writes (Runs part_flags_machine tt Start) (λ groups. subst (λ c. Runs part_flags_machine tt Start c (part_flags_writes groups)) (sym (reads_are groups)) (runs groups)) (
-      λ i o r. whole (run_is part_flags_machine tt Owes sound (start []) earlier Start i o r)) 3 2 i o;
-}
+part_flags_laws = flag_laws part_flags_table sound refl (
+    rows_from part_flags_reads part_flags_writes (Runs part_flags_machine tt Start) (λ groups. subst (λ c. Runs part_flags_machine tt Start c (part_flags_writes groups)) (sym (reads_are groups)) (runs groups)) (
+    λ i o r. whole (run_is part_flags_machine tt Owes sound (start []) earlier Start i o r)) 3 2)
 
 -- the transducer that a node makes of it
-abbrev pub part_flags_node : NodeOf (Node (OverFlags PartFlagsStage))
-part_flags_node = node_of stage_view part_flags_machine part_flags_laws
+abbrev pub part_flags_node : FlagNode PartFlagsStage
+part_flags_node = flag_node part_flags_table part_flags_laws

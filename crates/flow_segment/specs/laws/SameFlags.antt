@@ -6,13 +6,10 @@ use Rattle.flow_base.specs.Columns.{Columns, rows_from}
 use Rattle.flow_base.specs.Machines.{MachineLaws, SoundAt, Runs}
 use Rattle.flow_base.specs.MachineRuns.{Then, reading, writing, run_is}
 use Rattle.flow_segment.specs.Rows.{same_flags_reads}
-use Rattle.flow_segment.specs.FlagTables.{stage_view}
-use Rattle.flow_segment.specs.SameFlagsMachine.{same_flags_move, same_flags_machine}
-use Rattle.flow_segment.specs.declared.over_flags.OverFlags.{OverFlags}
+use Rattle.flow_segment.specs.laws.FlagLaws.{flag_laws, FlagNode, flag_node}
+use Rattle.flow_segment.specs.SameFlagsMachine.{same_flags_move, same_flags_table, same_flags_machine}
 use Rattle.flow_segment.specs.declared.same_flags.SameFlagsStage.{SameFlagsStage}
 use Rattle.flow_segment.specs.declared.same_flags.SameFlagsStage.TheVariants.{Start, Second}
-use Rattle.flow_base.specs.Members.{NodeOf, node_of}
-use Rattle.flow_base.specs.declared.node.Node.{Node}
 
 sound : (s : SameFlagsStage) → SoundAt same_flags_machine tt s (same_flags_move s)
 sound Start = (refl, (omega arith, refl, λ _. (tt, tt), λ _ _. (tt, tt)))
@@ -42,13 +39,9 @@ whole : {i o : Columns} → Owes Start i o → (bs : List Bool) × (i ≡ same_f
 whole (start bs) = (bs, refl, refl)
 
 pub same_flags_laws : MachineLaws same_flags_machine
-same_flags_laws = record {
-  sound = λ _. sound;
-  begins_at_start = λ _. refl;
-  starts_of_kind = λ _. tt;
-  rows = λ _ i o. rows_from same_flags_reads (λ _. []) (Runs same_flags_machine tt Start) runs (λ i o r. whole (run_is same_flags_machine tt Owes sound (start []) earlier Start i o r)) 2 0 i o;
-}
+same_flags_laws = flag_laws same_flags_table sound refl (
+    rows_from same_flags_reads (λ _. []) (Runs same_flags_machine tt Start) runs (λ i o r. whole (run_is same_flags_machine tt Owes sound (start []) earlier Start i o r)) 2 0)
 
 -- the transducer that a node makes of it
-abbrev pub same_flags_node : NodeOf (Node (OverFlags SameFlagsStage))
-same_flags_node = node_of stage_view same_flags_machine same_flags_laws
+abbrev pub same_flags_node : FlagNode SameFlagsStage
+same_flags_node = flag_node same_flags_table same_flags_laws

@@ -7,13 +7,10 @@ use Rattle.flow_base.specs.Columns.{Columns, rows_from}
 use Rattle.flow_base.specs.Machines.{MachineLaws, SoundAt, Runs}
 use Rattle.flow_base.specs.MachineRuns.{Then, reading, writing, run_is}
 use Rattle.flow_segment.specs.Rows.{the_check_reads}
-use Rattle.flow_segment.specs.FlagTables.{stage_view}
-use Rattle.flow_segment.specs.TheCheckMachine.{the_check_move, the_check_machine}
-use Rattle.flow_segment.specs.declared.over_flags.OverFlags.{OverFlags}
+use Rattle.flow_segment.specs.laws.FlagLaws.{flag_laws, FlagNode, flag_node}
+use Rattle.flow_segment.specs.TheCheckMachine.{the_check_move, the_check_table, the_check_machine}
 use Rattle.flow_segment.specs.declared.the_check.TheCheckStage.{TheCheckStage}
 use Rattle.flow_segment.specs.declared.the_check.TheCheckStage.TheVariants.{Start, Element}
-use Rattle.flow_base.specs.Members.{NodeOf, node_of}
-use Rattle.flow_base.specs.declared.node.Node.{Node}
 
 sound : (s : TheCheckStage) → SoundAt the_check_machine tt s (the_check_move s)
 sound Start = (refl, (omega arith, refl, λ _. (tt, tt), λ _ _. (tt, tt)))
@@ -38,13 +35,9 @@ whole : {i o : Columns} → Owes Start i o → (n : ℕ) × (i ≡ the_check_rea
 whole (start n) = (n, refl, refl)
 
 pub the_check_laws : MachineLaws the_check_machine
-the_check_laws = record {
-  sound = λ _. sound;
-  begins_at_start = λ _. refl;
-  starts_of_kind = λ _. tt;
-  rows = λ _ i o. rows_from the_check_reads (λ _. []) (Runs the_check_machine tt Start) runs (λ i o r. whole (run_is the_check_machine tt Owes sound (start zero) earlier Start i o r)) 1 0 i o;
-}
+the_check_laws = flag_laws the_check_table sound refl (
+    rows_from the_check_reads (λ _. []) (Runs the_check_machine tt Start) runs (λ i o r. whole (run_is the_check_machine tt Owes sound (start zero) earlier Start i o r)) 1 0)
 
 -- the transducer that a node makes of it
-abbrev pub the_check_node : NodeOf (Node (OverFlags TheCheckStage))
-the_check_node = node_of stage_view the_check_machine the_check_laws
+abbrev pub the_check_node : FlagNode TheCheckStage
+the_check_node = flag_node the_check_table the_check_laws
