@@ -1,10 +1,39 @@
-// One job, answered over memory.
+// One job, answered over any reader and any writers.
 
 use snesl_run::answer;
 use snesl_values::Counted;
 use std::alloc::Global;
+use std::io::{Read, Write};
 use std::process::Abort;
-use std::test::Fail;
+
+/// What a job was answered: the exit status, and the reader and the writers as they were left.
+#[derive(Drop)]
+pub struct Answer<R, W, E> {
+    pub status: u8,
+    pub job: Counted<R>,
+    pub printed: Counted<W>,
+    pub complaint: Counted<E>,
+}
+
+/// Answers a job with these words of the command line.
+pub fn answered<R: Read, W: Write, E: Write>(
+    alloc: Global,
+    words: &[&str],
+    job: R,
+    printed: W,
+    complaint: E,
+) -> Answer<R, W, E> {
+    let mut job = Counted::new(job);
+    let mut printed = Counted::new(printed);
+    let mut complaint = Counted::new(complaint);
+    let status = answer(alloc, words, &mut job, &mut printed, &mut complaint);
+    Answer {
+        status,
+        job,
+        printed,
+        complaint,
+    }
+}
 
 /// What was printed, what was said on standard error, and the exit status.
 #[derive(Drop)]
@@ -14,32 +43,9 @@ pub struct Reply {
     pub status: u8,
 }
 
-/// Answers a job with no words.
-pub fn answered(alloc: Global, job: &[u8]) -> Reply {
-    let mut reader = Counted::new(job);
-    let mut printed = Counted::new(Vec::new(alloc));
-    let mut complaint = Counted::new(Vec::new(alloc));
-    let status = answer(alloc, &["snesl"], &mut reader, &mut printed, &mut complaint);
-    Reply {
-        printed: printed.into_inner(),
-        complaint: complaint.into_inner(),
-        status,
-    }
-}
-
-/// Asserts that a job prints this line, without its line feed, on standard output, and the status.
-pub fn assert_prints(
-    rt: &impl Abort,
-    alloc: Global,
-    job: &[u8],
-    line: &[u8],
-    status: u8,
-) -> Result<(), Fail> {
-    let answered = answered(alloc, job);
-    let mut wanted = line.to_vec(alloc)?;
-    wanted.push(b'\n')?;
-    assert_eq!(rt; answered.printed.as_slice(), wanted.as_slice());
-    assert_eq!(rt; answered.complaint.len(), 0);
-    assert_eq!(rt; answered.status, status);
-    Ok(())
+/// Asserts that this was printed, said, and answered as the status.
+pub fn assert_reply(rt: &impl Abort, reply: &Reply, printed: &[u8], complaint: &[u8], status: u8) {
+    assert_eq!(rt; reply.printed.as_slice(), printed);
+    assert_eq!(rt; reply.complaint.as_slice(), complaint);
+    assert_eq!(rt; reply.status, status);
 }

@@ -5,11 +5,12 @@ use snesl_run::{complain, run};
 use snesl_syntax::{Expr, Span, parse};
 use snesl_types::{check, plain};
 use snesl_values::{
-    Counted, Datum, Fault, FaultKind, InputError, Refusal, Ty, copy_datum, copy_ty, is_blank,
-    read_inputs, text_of,
+    Counted, Datum, Fault, FaultKind, InputError, Refusal, Ty, copy_datum, is_blank, read_inputs,
+    text_of,
 };
 use std::alloc::{AllocError, Global};
 use std::io::{Read, Write};
+use std::process::Abort;
 use std::test::Fail;
 
 // The pair of a truth value and a vector of sequences, `(true,[{1,-2},{}])`.
@@ -28,44 +29,16 @@ fn nested_datum(alloc: Global) -> Result<Datum, AllocError> {
 #[test]
 fn texts(rt: HostRuntime) -> Result<(), Fail> {
     let datum = nested_datum(rt.alloc())?;
+    let text = text_of(rt.alloc(), &datum)?;
+    assert_eq!(rt; text.as_slice(), b"(true,[{1,-2},{}])".as_slice());
     let copy = copy_datum(rt.alloc(), &datum)?;
-    for value in [&datum, &copy] {
-        let text = text_of(rt.alloc(), value)?;
-        assert_eq!(rt; text.as_slice(), b"(true,[{1,-2},{}])".as_slice());
-    }
-    let rows: [(i64, &[u8]); 3] = [
-        (i64::MIN, b"-9223372036854775808"),
-        (0, b"0"),
-        (i64::MAX, b"9223372036854775807"),
-    ];
-    for (number, wanted) in rows {
-        let text = text_of(rt.alloc(), &Datum::Int(number))?;
-        assert_eq!(rt; text.as_slice(), wanted);
-    }
-    let text = text_of(rt.alloc(), &Datum::Bool(false))?;
-    assert_eq!(rt; text.as_slice(), b"false".as_slice());
+    let text = text_of(rt.alloc(), &copy)?;
+    assert_eq!(rt; text.as_slice(), b"(true,[{1,-2},{}])".as_slice());
     Ok(())
 }
 
 #[test]
-fn types(rt: HostRuntime) -> Result<(), Fail> {
-    let int = Box::new(rt.alloc(), Ty::Int)?;
-    let vector = Box::new(rt.alloc(), Ty::Vec(int))?;
-    let pair = Ty::Pair(Box::new(rt.alloc(), Ty::Bool)?, vector);
-    assert!(rt; pair.concrete());
-    assert!(rt; copy_ty(rt.alloc(), &pair)?.concrete());
-    let sequence = Ty::Seq(Box::new(rt.alloc(), pair)?);
-    assert!(rt; !sequence.concrete());
-    let nested = Ty::Pair(
-        Box::new(rt.alloc(), Ty::Int)?,
-        Box::new(rt.alloc(), sequence)?,
-    );
-    assert!(rt; !copy_ty(rt.alloc(), &nested)?.concrete());
-    Ok(())
-}
-
-#[test]
-fn numbers(rt: HostRuntime) {
+fn fault_numbers(rt: HostRuntime) {
     let faults = [
         FaultKind::Divide,
         FaultKind::Overflow,
@@ -82,6 +55,10 @@ fn numbers(rt: HostRuntime) {
         number = number.saturating_add(1);
         assert_eq!(rt; fault.number(), number);
     }
+}
+
+#[test]
+fn refusal_numbers(rt: HostRuntime) {
     let refusals = [
         (Refusal::TooLong, None),
         (Refusal::Lex(7), Some(7)),
@@ -108,21 +85,24 @@ fn numbers(rt: HostRuntime) {
 }
 
 #[test]
-fn inputs(rt: HostRuntime) {
+fn input_errors(rt: HostRuntime) {
     assert!(rt; is_blank(b'\t') && !is_blank(b'x'));
-    assert!(rt; read_inputs(rt.alloc(), &[], b" \t\r\n").is_ok());
     let refused = read_inputs(rt.alloc(), &[], b" \n=").err();
     assert_eq!(rt; refused, Some(InputError::Bad(2)));
     assert_eq!(rt; Refusal::from(InputError::Bad(2)), Refusal::BadInput(2));
 }
 
 #[test]
-fn counted(rt: HostRuntime) -> Result<(), Fail> {
-    let bytes: &[u8] = b"ab";
-    let mut reader = Counted::new(bytes);
+fn counted_reader(rt: HostRuntime) -> Result<(), Fail> {
+    let mut reader = Counted::new(b"ab".as_slice());
     let mut piece = [0u8; 4];
     assert_eq!(rt; reader.read(&mut piece)?, 2);
     assert_eq!(rt; reader.failures(), 0);
+    Ok(())
+}
+
+#[test]
+fn counted_writer(rt: HostRuntime) -> Result<(), Fail> {
     let mut writer = Counted::new(Vec::new(rt.alloc()));
     assert_eq!(rt; writer.write(b"xyz")?, 3);
     assert_eq!(rt; writer.write(b"")?, 0);
@@ -161,25 +141,39 @@ fn tokens(rt: HostRuntime) -> Result<(), Fail> {
     Ok(())
 }
 
-#[test]
-fn reserved_words(rt: HostRuntime) -> Result<(), Fail> {
-    let text =
-        b"input function let in if then else true false not and or int bool dialect iota scan_add reduce_add reduce_max reduce_and reduce_or length concat part the tab seq fst snd";
-    let tokens = tokens_of(rt.alloc(), text)?;
-    assert_eq!(rt; tokens.len(), 29);
+// Asserts that a text has so many tokens, and none of them is a name.
+fn assert_reserved(
+    rt: &impl Abort,
+    alloc: Global,
+    text: &[u8],
+    count: usize,
+) -> Result<(), Refusal> {
+    let tokens = tokens_of(alloc, text)?;
+    assert_eq!(rt; tokens.len(), count);
     for token in &tokens {
         assert!(rt; !matches!(token.kind, Kind::Name(_)));
     }
-    let signs = tokens_of(
-        rt.alloc(),
-        b"( ) { } [ ] : ; , | = == < <= > >= + ++ - * / % !",
-    )?;
-    assert_eq!(rt; signs.len(), 23);
     Ok(())
 }
 
 #[test]
-fn from_text_to_value(rt: HostRuntime) -> Result<(), Fail> {
+fn reserved_words(rt: HostRuntime) -> Result<(), Fail> {
+    let rows: [(&[u8], usize); 6] = [
+        (b"input function let in if then else true false", 9),
+        (b"not and or int bool dialect iota", 7),
+        (b"scan_add reduce_add reduce_max reduce_and reduce_or", 5),
+        (b"length concat part the tab seq fst snd", 8),
+        (b"( ) { } [ ] : ; , | =", 11),
+        (b"== < <= > >= + ++ - * / % !", 12),
+    ];
+    for (text, count) in rows {
+        assert_reserved(&rt, rt.alloc(), text, count)?;
+    }
+    Ok(())
+}
+
+#[test]
+fn parsed(rt: HostRuntime) -> Result<(), Fail> {
     let program = parse(rt.alloc(), b" reduce_add({x * x : x in iota(4)})")?;
     assert_eq!(rt; program.expr.at(), 1);
     if let Expr::Call { arguments, .. } = &program.expr {
@@ -189,32 +183,64 @@ fn from_text_to_value(rt: HostRuntime) -> Result<(), Fail> {
     }
     let name = Span { at: 13, len: 1 };
     assert_eq!(rt; name.spelled(&program.text), b"x".as_slice());
-    let typed = check(rt.alloc(), &program)?;
-    assert!(rt; matches!(typed.ty(), Ty::Int));
-    assert_eq!(rt; typed.program().expr.at(), 1);
-    let inputs = read_inputs(rt.alloc(), typed.decls(), b"").map_err(Refusal::from)?;
-    let value = plain(rt.alloc(), &typed, &inputs)?;
-    assert!(rt; matches!(value, Ok(Datum::Int(14))));
     Ok(())
 }
 
 #[test]
-fn runs(rt: HostRuntime) -> Result<(), Fail> {
-    let mut out = Counted::new(Vec::new(rt.alloc()));
-    let report = run(rt.alloc(), b"iota(3)", b"", &mut out)?;
-    assert_eq!(rt; report.outcome(), None);
-    let report = run(rt.alloc(), b"iota(0 - 3)", b"", &mut out)?;
+fn checked(rt: HostRuntime) -> Result<(), Fail> {
+    let program = parse(rt.alloc(), b" input n : int; input v : [bool]; n")?;
+    assert_eq!(rt; program.declarations.len(), 2);
+    let typed = check(rt.alloc(), &program)?;
+    assert!(rt; matches!(typed.ty(), Ty::Int));
+    assert_eq!(rt; typed.program().expr.at(), 34);
+    assert_eq!(rt; typed.decls().len(), 2);
+    Ok(())
+}
+
+// What a program evaluates to for an input text.
+fn evaluated(alloc: Global, text: &[u8], input: &[u8]) -> Result<Result<Datum, Fault>, Refusal> {
+    let program = parse(alloc, text)?;
+    let typed = check(alloc, &program)?;
+    let inputs = read_inputs(alloc, typed.decls(), input)?;
+    Ok(plain(alloc, &typed, &inputs)?)
+}
+
+#[test]
+fn values(rt: HostRuntime) -> Result<(), Fail> {
+    let number = evaluated(rt.alloc(), b" reduce_add({x * x : x in iota(4)})", b"")?;
+    assert!(rt; matches!(number, Ok(Datum::Int(14))));
+    let declared = b"input n : int; input v : [bool]; (n, v)".as_slice();
+    let pair = evaluated(rt.alloc(), declared, b"n = 3; v = [true]")?;
+    assert!(rt; matches!(pair, Ok(Datum::Pair(..))));
+    Ok(())
+}
+
+// What a run wrote, and its outcome.
+fn ran(alloc: Global, program: &[u8], input: &[u8]) -> (Vec<u8>, Result<Option<Fault>, Refusal>) {
+    let mut out = Counted::new(Vec::new(alloc));
+    let outcome = match run(alloc, program, input, &mut out) {
+        Ok(report) => Ok(report.outcome()),
+        Err(error) => Err(error.refusal()),
+    };
+    (out.into_inner(), outcome)
+}
+
+#[test]
+fn runs(rt: HostRuntime) {
     let fault = Fault {
         kind: FaultKind::NegativeCount,
         at: 0,
     };
-    assert_eq!(rt; report.outcome(), Some(fault));
-    match run(rt.alloc(), b"1", b"1", &mut out) {
-        Ok(_) => assert!(rt; false, "an input that was not declared"),
-        Err(error) => assert_eq!(rt; error.refusal(), Refusal::BadInput(0)),
+    let rows: [(&[u8], &[u8], &[u8], Result<Option<Fault>, Refusal>); 3] = [
+        (b"iota(3)", b"", b"{0,1,2}\n", Ok(None)),
+        (b"iota(0 - 3)", b"", b"", Ok(Some(fault))),
+        (b"1", b"1", b"", Err(Refusal::BadInput(0))),
+    ];
+    for (program, input, wanted, ending) in rows {
+        let (written, outcome) = ran(rt.alloc(), program, input);
+        assert_eq!(rt; outcome, ending);
+        assert_eq!(rt; written.as_slice(), wanted);
     }
-    assert_eq!(rt; out.into_inner().as_slice(), b"{0,1,2}\n".as_slice());
-    Ok(())
 }
 
 #[test]
@@ -222,23 +248,4 @@ fn complaints(rt: HostRuntime) {
     let mut err = Counted::new(Vec::new(rt.alloc()));
     assert_eq!(rt; complain(Refusal::NoMemory, &mut err), 4);
     assert_eq!(rt; err.into_inner().as_slice(), b"refused 11\n".as_slice());
-}
-
-#[test]
-fn declared_inputs(rt: HostRuntime) -> Result<(), Fail> {
-    let program = parse(rt.alloc(), b"input n : int; input v : [bool]; (n, v)")?;
-    assert_eq!(rt; program.declarations.len(), 2);
-    let typed = check(rt.alloc(), &program)?;
-    assert_eq!(rt; typed.decls().len(), 2);
-    let inputs = read_inputs(rt.alloc(), typed.decls(), b"n = 3; v = [true]").map_err(
-        Refusal::from,
-    )?;
-    assert_eq!(rt; inputs.name(1), Some(b"v".as_slice()));
-    assert!(rt; typed.fits(&inputs));
-    let value = plain(rt.alloc(), &typed, &inputs)?;
-    assert!(rt; matches!(value, Ok(Datum::Pair(..))));
-    // One input too few.
-    let fewer = read_inputs(rt.alloc(), &[], b"").map_err(Refusal::from)?;
-    assert!(rt; !typed.fits(&fewer));
-    Ok(())
 }

@@ -1,10 +1,69 @@
-// Inputs, and the declarations for which they were read.
+// Inputs, and the declarations for which they were read. What texts spell stands in the tables of `snesl_jobs`.
 
 use snesl_syntax::parse;
 use snesl_types::check;
-use snesl_values::{Datum, Refusal, Ty, read_inputs};
+use snesl_values::{Datum, Inputs, Refusal, Ty, read_inputs};
 use std::alloc::{AllocError, Global};
 use std::test::Fail;
+
+// The inputs of a program, from their text.
+fn inputs_of(alloc: Global, program: &[u8], text: &[u8]) -> Result<Inputs, Refusal> {
+    let program = parse(alloc, program)?;
+    let typed = check(alloc, &program)?;
+    Ok(read_inputs(alloc, typed.decls(), text)?)
+}
+
+// Whether a program takes the inputs.
+fn takes(alloc: Global, program: &[u8], inputs: &Inputs) -> Result<bool, Refusal> {
+    let program = parse(alloc, program)?;
+    Ok(check(alloc, &program)?.fits(inputs))
+}
+
+#[test]
+fn inputs_fit_their_program_alone(rt: HostRuntime) -> Result<(), Fail> {
+    // A program and an input text for it, and a program of other declarations.
+    let rows: [(&[u8], &[u8], &[u8]); 5] = [
+        (b"input s : {int}; s", b"s = {}", b"input s : {bool}; s"),
+        (b"input s : {bool}; s", b"s = {}", b"input s : {int}; s"),
+        (
+            b"input a : int; input b : int; a",
+            b"a = 1; b = 2",
+            b"input b : int; input a : int; a",
+        ),
+        (b"input n : int; n", b"n = 3", b"1"),
+        (b"1", b" \t\r\n", b"input n : int; input v : [bool]; n"),
+    ];
+    for (program, text, other) in rows {
+        let inputs = inputs_of(rt.alloc(), program, text)?;
+        assert!(rt; takes(rt.alloc(), program, &inputs)?);
+        assert!(rt; !takes(rt.alloc(), other, &inputs)?);
+    }
+    Ok(())
+}
+
+// The input of a name, if it is a number.
+fn number_named(inputs: &Inputs, name: &[u8]) -> Option<i64> {
+    match inputs.named(name) {
+        Some(Datum::Int(number)) => Some(*number),
+        _ => None,
+    }
+}
+
+#[test]
+fn names(rt: HostRuntime) -> Result<(), Fail> {
+    let program = b"input nn : int; input n : int; n".as_slice();
+    let inputs = inputs_of(rt.alloc(), program, b"nn = 5; n = 3")?;
+    assert_eq!(rt; number_named(&inputs, b"n"), Some(3));
+    assert_eq!(rt; number_named(&inputs, b"nn"), Some(5));
+    assert!(rt; inputs.named(b"m").is_none());
+    assert_eq!(rt; inputs.name(1), Some(b"n".as_slice()));
+    assert!(rt; matches!(inputs.value(0), Some(Datum::Int(5))));
+    assert!(rt; inputs.value(2).is_none());
+    assert_eq!(rt; inputs.len(), 2);
+    assert_eq!(rt; inputs.decls().len(), 2);
+    assert!(rt; !inputs.is_empty());
+    Ok(())
+}
 
 // Two integers of one name.
 fn twice(alloc: Global) -> Result<Vec<(Vec<u8>, Ty)>, AllocError> {
@@ -15,54 +74,9 @@ fn twice(alloc: Global) -> Result<Vec<(Vec<u8>, Ty)>, AllocError> {
 }
 
 #[test]
-fn empty_sequences(rt: HostRuntime) -> Result<(), Fail> {
-    let of_integers = parse(rt.alloc(), b"input xs : {int}; xs")?;
-    let integers = check(rt.alloc(), &of_integers)?;
-    let of_truths = parse(rt.alloc(), b"input xs : {bool}; xs")?;
-    let truths = check(rt.alloc(), &of_truths)?;
-    let inputs = read_inputs(rt.alloc(), integers.decls(), b"xs = {}").map_err(Refusal::from)?;
-    assert_eq!(rt; inputs.decls().len(), 1);
-    assert!(rt; integers.fits(&inputs));
-    assert!(rt; !truths.fits(&inputs));
-    let inputs = read_inputs(rt.alloc(), truths.decls(), b"xs = {}").map_err(Refusal::from)?;
-    assert!(rt; !integers.fits(&inputs));
-    assert!(rt; truths.fits(&inputs));
-    Ok(())
-}
-
-#[test]
-fn orders(rt: HostRuntime) -> Result<(), Fail> {
-    let one = parse(rt.alloc(), b"input a : int; input b : int; a")?;
-    let first = check(rt.alloc(), &one)?;
-    let other = parse(rt.alloc(), b"input b : int; input a : int; a")?;
-    let second = check(rt.alloc(), &other)?;
-    let inputs = read_inputs(rt.alloc(), first.decls(), b"a = 1; b = 2").map_err(Refusal::from)?;
-    assert!(rt; first.fits(&inputs));
-    assert!(rt; !second.fits(&inputs));
-    Ok(())
-}
-
-#[test]
-fn names(rt: HostRuntime) -> Result<(), Fail> {
-    let program = parse(rt.alloc(), b"input nn : int; input n : int; n")?;
-    let typed = check(rt.alloc(), &program)?;
-    let inputs = read_inputs(rt.alloc(), typed.decls(), b"nn = 5; n = 3").map_err(Refusal::from)?;
-    assert!(rt; matches!(inputs.named(b"n"), Some(Datum::Int(3))));
-    assert!(rt; matches!(inputs.named(b"nn"), Some(Datum::Int(5))));
-    assert!(rt; matches!(inputs.named(b"m"), None));
-    // The first of a name is meant.
+fn the_first_of_a_name_is_meant(rt: HostRuntime) -> Result<(), Fail> {
     let decls = twice(rt.alloc())?;
     let inputs = read_inputs(rt.alloc(), &decls, b"n = 1; n = 2").map_err(Refusal::from)?;
-    assert!(rt; matches!(inputs.named(b"n"), Some(Datum::Int(1))));
-    Ok(())
-}
-
-#[test]
-fn same_types(rt: HostRuntime) -> Result<(), Fail> {
-    let vector = Ty::Vec(Box::new(rt.alloc(), Ty::Int)?);
-    let sequence = Ty::Seq(Box::new(rt.alloc(), Ty::Int)?);
-    assert!(rt; vector.is(&vector));
-    assert!(rt; !vector.is(&sequence));
-    assert!(rt; !sequence.is(&Ty::Int));
+    assert_eq!(rt; number_named(&inputs, b"n"), Some(1));
     Ok(())
 }

@@ -10,10 +10,8 @@ mod declared_inputs;
 pub mod faltering;
 #[cfg(test)]
 mod faltering_streams;
-#[cfg(test)]
-mod inputs;
-#[cfg(test)]
-mod jobs;
 pub mod stopping;
 #[cfg(test)]
 mod streams;
+#[cfg(test)]
+mod types;

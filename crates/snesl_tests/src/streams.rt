@@ -1,28 +1,54 @@
 // Readers and writers that move one byte a call, and stop.
 
+use crate::answering::{Reply, answered, assert_reply};
 use crate::stopping::{Stop, StoppingReader, StoppingWriter};
-use snesl_run::answer;
-use snesl_values::Counted;
 use std::alloc::Global;
+use std::process::Abort;
 use std::test::Fail;
 
-// Answers the job over a writer that stops behind so many bytes: the status, what was taken, and
-// whether the complaint is that of a writer that failed.
-fn over_stopping_writer(
+// A job is not read where there are words; what each word is answered stands in the tables of `snesl_jobs`.
+#[test]
+fn words(rt: HostRuntime) -> Result<(), Fail> {
+    for word in ["--help", "--capacity", "1", ""] {
+        let (printed, complaint) = (Vec::new(rt.alloc()), Vec::new(rt.alloc()));
+        let answer = answered(
+            rt.alloc(),
+            &["snesl", word],
+            b"1".as_slice(),
+            printed,
+            complaint,
+        );
+        assert_eq!(rt; answer.status, 1);
+        assert_eq!(rt; answer.job.into_inner().len(), 1);
+    }
+    Ok(())
+}
+
+// Answers the job over writers that stop behind so many bytes.
+fn over_stopping_writers(
     alloc: Global,
     job: &[u8],
-    writes: usize,
-    stop: Stop,
-) -> (u8, Vec<u8>, Vec<u8>) {
-    let mut reader = Counted::new(job);
-    let mut writer = Counted::new(StoppingWriter::new(Vec::new(alloc), writes, stop));
-    let mut complaint = Counted::new(Vec::new(alloc));
-    let status = answer(alloc, &["snesl"], &mut reader, &mut writer, &mut complaint);
-    (
-        status,
-        writer.into_inner().into_taken(),
-        complaint.into_inner(),
-    )
+    printed: (usize, Stop),
+    complaint: (usize, Stop),
+) -> Reply {
+    let printed = StoppingWriter::new(Vec::new(alloc), printed.0, printed.1);
+    let complaint = StoppingWriter::new(Vec::new(alloc), complaint.0, complaint.1);
+    let answer = answered(alloc, &["snesl"], job, printed, complaint);
+    Reply {
+        printed: answer.printed.into_inner().into_taken(),
+        complaint: answer.complaint.into_inner().into_taken(),
+        status: answer.status,
+    }
+}
+
+// Asserts that a writer is called no more once it has stopped, wherever in the line.
+fn assert_stops(rt: &impl Abort, alloc: Global, job: &[u8], line: &[u8]) {
+    for writes in 0..line.len() {
+        for stop in [Stop::Fails, Stop::TakesNothing] {
+            let reply = over_stopping_writers(alloc, job, (writes, stop), (100, Stop::Fails));
+            assert_reply(rt, &reply, &line[..writes], b"refused 12\n", 4);
+        }
+    }
 }
 
 #[test]
@@ -33,29 +59,23 @@ fn writers_that_stop(rt: HostRuntime) -> Result<(), Fail> {
         (b"1 # 2", b"refused 2 at 2\n", 1),
     ];
     for (job, line, status) in rows {
-        for writes in 0..line.len() {
-            for stop in [Stop::Fails, Stop::TakesNothing] {
-                let answered = over_stopping_writer(rt.alloc(), job, writes, stop);
-                assert_eq!(rt; answered.0, 4);
-                assert_eq!(rt; answered.1.as_slice(), &line[..writes]);
-                assert_eq!(rt; answered.2.as_slice(), b"refused 12\n".as_slice());
-            }
-        }
-        let answered = over_stopping_writer(rt.alloc(), job, line.len(), Stop::Fails);
-        assert_eq!(rt; answered.0, status);
-        assert_eq!(rt; answered.1.as_slice(), line);
-        assert_eq!(rt; answered.2.len(), 0);
+        assert_stops(&rt, rt.alloc(), job, line);
+        let just_enough = (line.len(), Stop::Fails);
+        let reply = over_stopping_writers(rt.alloc(), job, just_enough, (0, Stop::Fails));
+        assert_reply(&rt, &reply, line, b"", status);
     }
     Ok(())
 }
 
 // Answers the job over a reader that fails behind so many reads.
-fn over_stopping_reader(alloc: Global, job: &[u8], reads: usize) -> (u8, Vec<u8>, Vec<u8>) {
-    let mut reader = Counted::new(StoppingReader::new(job, reads));
-    let mut printed = Counted::new(Vec::new(alloc));
-    let mut complaint = Counted::new(Vec::new(alloc));
-    let status = answer(alloc, &["snesl"], &mut reader, &mut printed, &mut complaint);
-    (status, printed.into_inner(), complaint.into_inner())
+fn over_stopping_reader(alloc: Global, job: &[u8], reads: usize) -> Reply {
+    let reader = StoppingReader::new(job, reads);
+    let answer = answered(alloc, &["snesl"], reader, Vec::new(alloc), Vec::new(alloc));
+    Reply {
+        printed: answer.printed.into_inner(),
+        complaint: answer.complaint.into_inner(),
+        status: answer.status,
+    }
 }
 
 #[test]
@@ -63,36 +83,20 @@ fn readers_that_stop(rt: HostRuntime) -> Result<(), Fail> {
     let job = b"reduce_add(iota(5))\n---\n ".as_slice();
     // The last read is the one that finds the end.
     for reads in 0..=job.len() {
-        let answered = over_stopping_reader(rt.alloc(), job, reads);
-        assert_eq!(rt; answered.0, 4);
-        assert_eq!(rt; answered.1.len(), 0);
-        assert_eq!(rt; answered.2.as_slice(), b"refused 14\n".as_slice());
+        let reply = over_stopping_reader(rt.alloc(), job, reads);
+        assert_reply(&rt, &reply, b"", b"refused 14\n", 4);
     }
-    let answered = over_stopping_reader(rt.alloc(), job, job.len() + 1);
-    assert_eq!(rt; answered.0, 0);
-    assert_eq!(rt; answered.1.as_slice(), b"10\n".as_slice());
-    assert_eq!(rt; answered.2.len(), 0);
+    let reply = over_stopping_reader(rt.alloc(), job, job.len() + 1);
+    assert_reply(&rt, &reply, b"10\n", b"", 0);
     Ok(())
 }
 
 #[test]
 fn no_writer_works(rt: HostRuntime) -> Result<(), Fail> {
-    for writes in 0..12 {
-        let mut reader = Counted::new(b"1".as_slice());
-        let mut writer = Counted::new(StoppingWriter::new(Vec::new(rt.alloc()), 0, Stop::Fails));
-        let taken = Vec::new(rt.alloc());
-        let mut complaint = Counted::new(StoppingWriter::new(taken, writes, Stop::TakesNothing));
-        let status = answer(
-            rt.alloc(),
-            &["snesl"],
-            &mut reader,
-            &mut writer,
-            &mut complaint,
-        );
-        assert_eq!(rt; status, 4);
-        assert_eq!(rt; writer.into_inner().into_taken().len(), 0);
-        let said = complaint.into_inner().into_taken();
-        assert_eq!(rt; said.as_slice(), &b"refused 12\n"[..writes.min(11)]);
+    for writes in 0..12usize {
+        let complaint = (writes, Stop::TakesNothing);
+        let reply = over_stopping_writers(rt.alloc(), b"1", (0, Stop::Fails), complaint);
+        assert_reply(&rt, &reply, b"", &b"refused 12\n"[..writes.min(11)], 4);
     }
     Ok(())
 }
