@@ -1,4 +1,4 @@
-// Tests of the network: edges, graphs, drives, and the nodes by hand.
+// Tests of the network: edges, graphs, drives, and each node by the rows of tables.
 #![tactic(auto)]
 
 pub mod building;
@@ -11,14 +11,16 @@ mod graphs;
 #[cfg(test)]
 mod network;
 #[cfg(test)]
-mod scalar_nodes;
+mod node_words;
+#[cfg(test)]
+mod operators;
+#[cfg(test)]
+mod rows;
 #[cfg(test)]
 mod scan_order;
 #[cfg(test)]
-mod segment_nodes;
+mod single_nodes;
 #[cfg(test)]
-mod seq_index;
+mod tables;
 #[cfg(test)]
-mod tab_node;
-#[cfg(test)]
-mod value_nodes;
+mod words;

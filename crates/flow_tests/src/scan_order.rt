@@ -1,4 +1,5 @@
-// When a scan adds: with the element that the sum is written for, and not with its flag.
+// When a scan adds: with the element that the sum is written for, and not with its flag. So in a graph the fault of the
+// element is named.
 
 ghost use Rattle.std.specs.Prelude.{IfOk};
 ghost use Rattle.flow_graph.specs.Graphs.{states_of};
@@ -7,7 +8,6 @@ ghost use Rattle.flow_nodes.specs.StreamNodes.{node_behaviour};
 
 use crate::building::{add, empty};
 use crate::driving::driven;
-use crate::feeding::assert_carries;
 use crate::graphs::{built, join};
 use flow_base::Node;
 use flow_drive::Outcome;
@@ -15,28 +15,11 @@ use flow_edges::Kind;
 use flow_graph::Graph;
 use flow_nodes::StreamNode;
 use flow_scalar::{Binary, ScanAdd, Sink, Source, Stream};
-use kahn::Want;
 use snesl_operators::BinaryOperator;
 use snesl_values::{Fault, FaultKind};
 use std::alloc::Global;
 use std::process::Abort;
 use std::test::Fail;
-
-#[test]
-fn adds_with_the_element(rt: HostRuntime) -> Result<(), Fail> {
-    let alloc = rt.alloc();
-    let wanted = ["0 9223372036854775807"];
-    let mut scan = Node::new(ScanAdd::new(), 7);
-    let ins = ["F F F", "9223372036854775807 1"];
-    assert_carries(&rt, alloc, &mut scan, &ins, &wanted, Want::Read(1))?;
-    let mut scan = Node::new(ScanAdd::new(), 7);
-    let ins = ["F F F", "9223372036854775807 1 1"];
-    let overflow = Want::Faulted(Fault {
-        kind: FaultKind::Overflow,
-        at: 7,
-    });
-    assert_carries(&rt, alloc, &mut scan, &ins, &wanted, overflow)
-}
 
 // The sums at offset 0 of the quotients at offset 35, of which the third has no value, and its sum neither.
 fn scan_of_quotients(rt: &impl Abort, alloc: Global) -> Result<Graph<StreamNode>, Fail>
