@@ -1,5 +1,6 @@
 -- What the operators of the language give.
 use Rattle.std.specs.Prelude.{zero, ℤ, pos, negsuc, ◌+ℤ◌, ◌-ℤ◌, ◌*ℤ◌, neg_ℤ, int_lt, int_div, int_rem, Bool, true, false, not, ◌&&◌, ◌||◌, ◌==◌, if◌then◌else◌, Result, Ok, Err}
+use Rattle.snesl_values.specs.declared.dialect.Dialect.{Dialect}
 use Rattle.snesl_values.specs.declared.fault.FaultKind.{FaultKind}
 use Rattle.snesl_values.specs.declared.fault.FaultKind.TheVariants.{Divide, Overflow, Shape}
 use Rattle.snesl_values.specs.Integers.{is_integer, IsInteger}
@@ -17,18 +18,18 @@ type_of (Int n) = IntType
 type_of (Truth b) = BoolType
 
 -- an integer among the scalars lies in the range
-abbrev pub ScalarInRange : Scalar → Type 0
-ScalarInRange (Int n) = IsInteger n
-ScalarInRange (Truth b) = Unit {0}
+abbrev pub ScalarInRange : Dialect → Scalar → Type 0
+ScalarInRange dialect (Int n) = IsInteger dialect n
+ScalarInRange dialect (Truth b) = Unit {0}
 
 -- the integer, where it lies in the range
-abbrev pub ranged : ℤ → Result ℤ FaultKind
-ranged n = if is_integer n then Ok n else Err Overflow
+abbrev pub ranged : Dialect → ℤ → Result ℤ FaultKind
+ranged dialect n = if is_integer dialect n then Ok n else Err Overflow
 
 -- the quotient, rounded towards zero
-abbrev pub quotient : ℤ → ℤ → Result ℤ FaultKind
-quotient m (pos zero) = Err Divide
-quotient m n = ranged (int_div m n)
+abbrev pub quotient : Dialect → ℤ → ℤ → Result ℤ FaultKind
+quotient dialect m (pos zero) = Err Divide
+quotient dialect m n = ranged dialect (int_div m n)
 
 -- what the rounded quotient leaves, which has the sign of m
 abbrev pub remainder : ℤ → ℤ → Result ℤ FaultKind
@@ -49,27 +50,27 @@ an_integer (Ok n) = Ok (Int n)
 an_integer (Err kind) = Err kind
 
 -- the value of an operator at one operand
-abbrev pub unary_value : UnaryOperator → Scalar → Result Scalar FaultKind
-unary_value Negate (Int n) = an_integer (ranged (neg_ℤ n))
-unary_value Not (Truth b) = Ok (Truth (not b))
-unary_value _ _ = Err Shape
+abbrev pub unary_value : Dialect → UnaryOperator → Scalar → Result Scalar FaultKind
+unary_value dialect Negate (Int n) = an_integer (ranged dialect (neg_ℤ n))
+unary_value dialect Not (Truth b) = Ok (Truth (not b))
+unary_value dialect _ _ = Err Shape
 
 -- the value of an operator at two operands
-abbrev pub binary_value : BinaryOperator → Scalar → Scalar → Result Scalar FaultKind
-binary_value Add (Int m) (Int n) = an_integer (ranged (m +ℤ n))
-binary_value Subtract (Int m) (Int n) = an_integer (ranged (m -ℤ n))
-binary_value Multiply (Int m) (Int n) = an_integer (ranged (m *ℤ n))
-binary_value Over (Int m) (Int n) = an_integer (quotient m n)
-binary_value Remainder (Int m) (Int n) = an_integer (remainder m n)
-binary_value EqualIntegers (Int m) (Int n) = Ok (Truth (same_integer m n))
-binary_value EqualTruths (Truth a) (Truth b) = Ok (Truth (same_truth a b))
-binary_value Less (Int m) (Int n) = Ok (Truth (int_lt m n))
-binary_value AtMost (Int m) (Int n) = Ok (Truth (not (int_lt n m)))
-binary_value Greater (Int m) (Int n) = Ok (Truth (int_lt n m))
-binary_value AtLeast (Int m) (Int n) = Ok (Truth (not (int_lt m n)))
-binary_value And (Truth a) (Truth b) = Ok (Truth (a && b))
-binary_value Or (Truth a) (Truth b) = Ok (Truth (a || b))
-binary_value _ _ _ = Err Shape
+abbrev pub binary_value : Dialect → BinaryOperator → Scalar → Scalar → Result Scalar FaultKind
+binary_value dialect Add (Int m) (Int n) = an_integer (ranged dialect (m +ℤ n))
+binary_value dialect Subtract (Int m) (Int n) = an_integer (ranged dialect (m -ℤ n))
+binary_value dialect Multiply (Int m) (Int n) = an_integer (ranged dialect (m *ℤ n))
+binary_value dialect Over (Int m) (Int n) = an_integer (quotient dialect m n)
+binary_value dialect Remainder (Int m) (Int n) = an_integer (remainder m n)
+binary_value dialect EqualIntegers (Int m) (Int n) = Ok (Truth (same_integer m n))
+binary_value dialect EqualTruths (Truth a) (Truth b) = Ok (Truth (same_truth a b))
+binary_value dialect Less (Int m) (Int n) = Ok (Truth (int_lt m n))
+binary_value dialect AtMost (Int m) (Int n) = Ok (Truth (not (int_lt n m)))
+binary_value dialect Greater (Int m) (Int n) = Ok (Truth (int_lt n m))
+binary_value dialect AtLeast (Int m) (Int n) = Ok (Truth (not (int_lt m n)))
+binary_value dialect And (Truth a) (Truth b) = Ok (Truth (a && b))
+binary_value dialect Or (Truth a) (Truth b) = Ok (Truth (a || b))
+binary_value dialect _ _ _ = Err Shape
 
 -- the type of an operator's operands
 abbrev pub unary_operand : UnaryOperator → ScalarType

@@ -1,5 +1,6 @@
 -- What scans and reductions give, from the left to the right.
 use Rattle.std.specs.Prelude.{ℤ, pos, ◌+ℤ◌, int_lt, true, false, if◌then◌else◌, List, [], ◌∷◌, Option, Some, None, Result, Ok, Err}
+use Rattle.snesl_values.specs.declared.dialect.Dialect.{Dialect}
 use Rattle.snesl_values.specs.declared.fault.FaultKind.{FaultKind}
 use Rattle.snesl_values.specs.declared.fault.FaultKind.TheVariants.{EmptyMax, Shape}
 use Rattle.snesl_operators.specs.Operators.{ranged, binary_value}
@@ -30,13 +31,13 @@ some_of (Ok x) = Ok (Some x)
 some_of (Err kind) = Err kind
 
 -- what the elements so far and one more reduce to
-abbrev pub reduced_more : Reduction → Option Scalar → Scalar → Result (Option Scalar) FaultKind
-reduced_more Sum (Some so_far) x = some_of (binary_value Add so_far x)
-reduced_more Max None (Int n) = Ok (Some (Int n))
-reduced_more Max (Some (Int m)) (Int n) = Ok (Some (Int (if int_lt m n then n else m)))
-reduced_more All (Some so_far) x = some_of (binary_value And so_far x)
-reduced_more Any (Some so_far) x = some_of (binary_value Or so_far x)
-reduced_more _ _ _ = Err Shape
+abbrev pub reduced_more : Dialect → Reduction → Option Scalar → Scalar → Result (Option Scalar) FaultKind
+reduced_more dialect Sum (Some so_far) x = some_of (binary_value dialect Add so_far x)
+reduced_more dialect Max None (Int n) = Ok (Some (Int n))
+reduced_more dialect Max (Some (Int m)) (Int n) = Ok (Some (Int (if int_lt m n then n else m)))
+reduced_more dialect All (Some so_far) x = some_of (binary_value dialect And so_far x)
+reduced_more dialect Any (Some so_far) x = some_of (binary_value dialect Or so_far x)
+reduced_more dialect _ _ _ = Err Shape
 
 -- the value of a reduction, once all elements came
 abbrev pub reduced_all : Option Scalar → Result Scalar FaultKind
@@ -49,20 +50,20 @@ and_then (Ok x) next = next x
 and_then (Err kind) next = Err kind
 
 -- what the elements so far and others after them reduce to
-abbrev pub reduced_from : Reduction → Option Scalar → List Scalar → Result Scalar FaultKind
-reduced_from reduction so_far [] = reduced_all so_far
-reduced_from reduction so_far (x ∷ xs) = and_then (reduced_more reduction so_far x) (λ more. reduced_from reduction more xs)
+abbrev pub reduced_from : Dialect → Reduction → Option Scalar → List Scalar → Result Scalar FaultKind
+reduced_from dialect reduction so_far [] = reduced_all so_far
+reduced_from dialect reduction so_far (x ∷ xs) = and_then (reduced_more dialect reduction so_far x) (λ more. reduced_from dialect reduction more xs)
 
 -- what the elements reduce to
-abbrev pub reduced : Reduction → List Scalar → Result Scalar FaultKind
-reduced reduction xs = reduced_from reduction (reduced_nothing reduction) xs
+abbrev pub reduced : Dialect → Reduction → List Scalar → Result Scalar FaultKind
+reduced dialect reduction xs = reduced_from dialect reduction (reduced_nothing reduction) xs
 
 -- at each element the sum of those before it, after a sum so far; each sum that is given lies in the range
-abbrev pub scanned_from : ℤ → List ℤ → Result (List ℤ) FaultKind
-scanned_from so_far [] = Ok []
-scanned_from so_far (x ∷ []) = Ok (so_far ∷ [])
-scanned_from so_far (x ∷ y ∷ xs) = and_then (ranged (so_far +ℤ x)) (λ sum. and_then (scanned_from sum (y ∷ xs)) (λ sums. Ok (so_far ∷ sums)))
+abbrev pub scanned_from : Dialect → ℤ → List ℤ → Result (List ℤ) FaultKind
+scanned_from dialect so_far [] = Ok []
+scanned_from dialect so_far (x ∷ []) = Ok (so_far ∷ [])
+scanned_from dialect so_far (x ∷ y ∷ xs) = and_then (ranged dialect (so_far +ℤ x)) (λ sum. and_then (scanned_from dialect sum (y ∷ xs)) (λ sums. Ok (so_far ∷ sums)))
 
 -- at each element the sum of those before it
-abbrev pub scanned : List ℤ → Result (List ℤ) FaultKind
-scanned xs = scanned_from (pos 0) xs
+abbrev pub scanned : Dialect → List ℤ → Result (List ℤ) FaultKind
+scanned dialect xs = scanned_from dialect (pos 0) xs

@@ -1,51 +1,61 @@
-// Arithmetic of 64 bits that refuses what it cannot represent.
+// Arithmetic that refuses what does not lie in the range of a dialect.
 
-ghost use Rattle.std.specs.Prelude.{◌≡◌, ◌+ℤ◌, ◌-ℤ◌, ◌*ℤ◌, neg_ℤ};
+ghost use Rattle.std.specs.Prelude.{◌≡◌, MatchOption, Err, ◌+ℤ◌, ◌-ℤ◌, ◌*ℤ◌, neg_ℤ};
+ghost use Rattle.snesl_values.specs.declared.fault.FaultKind.TheVariants.{Overflow};
 ghost use Rattle.snesl_operators.specs.Operators.{ranged, quotient, remainder};
 
-use snesl_values::FaultKind;
+use snesl_values::{Dialect, FaultKind};
 
-/// The sum. `Overflow` where it does not fit 64 bits.
-pub fn sum(m: i64, n: i64) -> Result<i64, FaultKind>
-    ensures { result ≡ ranged (m +ℤ n) }
+// The number, where there is one and it lies in the range.
+fn in_range(dialect: Dialect, number: Option<i128>) -> Result<i128, FaultKind>
+    ensures { MatchOption number (result ≡ Err Overflow) (λ n. result ≡ ranged dialect n) }
 {
-    m.checked_add(n).ok_or(FaultKind::Overflow)
-}
-
-/// `m` less `n`. `Overflow` where it does not fit 64 bits.
-pub fn difference(m: i64, n: i64) -> Result<i64, FaultKind>
-    ensures { result ≡ ranged (m -ℤ n) }
-{
-    m.checked_sub(n).ok_or(FaultKind::Overflow)
-}
-
-/// The product. `Overflow` where it does not fit 64 bits.
-pub fn product(m: i64, n: i64) -> Result<i64, FaultKind>
-    ensures { result ≡ ranged (m *ℤ n) }
-{
-    m.checked_mul(n).ok_or(FaultKind::Overflow)
-}
-
-/// The negative. `Overflow` where it does not fit 64 bits.
-pub fn negative(n: i64) -> Result<i64, FaultKind>
-    ensures { result ≡ ranged (neg_ℤ n) }
-{
-    n.checked_neg().ok_or(FaultKind::Overflow)
-}
-
-/// `m` over `n`, rounded towards zero. `Divide` where `n` is 0, `Overflow` where it does not fit 64 bits.
-pub fn quotient(m: i64, n: i64) -> Result<i64, FaultKind>
-    ensures { result ≡ quotient m n }
-{
-    match m.checked_div(n) {
-        Some(quotient) => Ok(quotient),
-        None if n == 0 => Err(FaultKind::Divide),
-        None => Err(FaultKind::Overflow),
+    match number {
+        Some(number) if dialect.has(number) => Ok(number),
+        _ => Err(FaultKind::Overflow),
     }
 }
 
-/// What `m` over `n`, rounded towards zero, leaves. `Divide` where `n` is 0.
-pub fn remainder(m: i64, n: i64) -> Result<i64, FaultKind>
+/// The sum. `Overflow` where it does not lie in the range.
+pub fn sum(dialect: Dialect, m: i128, n: i128) -> Result<i128, FaultKind>
+    ensures { result ≡ ranged dialect (m +ℤ n) }
+{
+    in_range(dialect, m.checked_add(n))
+}
+
+/// `m` less `n`. `Overflow` where it does not lie in the range.
+pub fn difference(dialect: Dialect, m: i128, n: i128) -> Result<i128, FaultKind>
+    ensures { result ≡ ranged dialect (m -ℤ n) }
+{
+    in_range(dialect, m.checked_sub(n))
+}
+
+/// The product. `Overflow` where it does not lie in the range.
+pub fn product(dialect: Dialect, m: i128, n: i128) -> Result<i128, FaultKind>
+    ensures { result ≡ ranged dialect (m *ℤ n) }
+{
+    in_range(dialect, m.checked_mul(n))
+}
+
+/// The negative. `Overflow` where it does not lie in the range.
+pub fn negative(dialect: Dialect, n: i128) -> Result<i128, FaultKind>
+    ensures { result ≡ ranged dialect (neg_ℤ n) }
+{
+    in_range(dialect, n.checked_neg())
+}
+
+/// `m` over `n`, rounded towards zero. `Divide` where `n` is 0, `Overflow` where it does not lie in the range.
+pub fn quotient(dialect: Dialect, m: i128, n: i128) -> Result<i128, FaultKind>
+    ensures { result ≡ quotient dialect m n }
+{
+    match n {
+        0 => Err(FaultKind::Divide),
+        _ => in_range(dialect, m.checked_div(n)),
+    }
+}
+
+/// What `m` over `n`, rounded towards zero, leaves, which is no further from 0 than `m`. `Divide` where `n` is 0.
+pub fn remainder(m: i128, n: i128) -> Result<i128, FaultKind>
     ensures { result ≡ remainder m n }
 {
     if n == 0 {

@@ -7,7 +7,7 @@ ghost use Rattle.snesl_operators.specs.declared.scalar.Scalar.TheVariants.{Int, 
 
 use crate::arithmetic::{difference, negative, product, quotient, remainder, sum};
 use crate::scalar::{Scalar, ScalarType};
-use snesl_values::FaultKind;
+use snesl_values::{Dialect, FaultKind};
 
 /// An operator on one scalar.
 #[derive(Clone, Copy, Debug, PartialEq, Eq)]
@@ -29,12 +29,14 @@ impl UnaryOperator {
         }
     }
 
-    /// The value at this operand. `Overflow` where it does not fit 64 bits, `Shape` for an operand of another type.
-    pub fn apply(self, operand: Scalar) -> Result<Scalar, FaultKind>
-        ensures { result ≡ unary_value self operand }
+    /// The value at this operand. `Overflow` where it does not lie in the range, `Shape` for an operand of another type.
+    pub fn apply(self, dialect: Dialect, operand: Scalar) -> Result<Scalar, FaultKind>
+        ensures { result ≡ unary_value dialect self operand }
     {
         match (self, operand) {
-            (UnaryOperator::Negate, Scalar::Int(number)) => Ok(Scalar::Int(negative(number)?)),
+            (UnaryOperator::Negate, Scalar::Int(number)) => Ok(Scalar::Int(negative(
+                dialect, number,
+            )?)),
             (UnaryOperator::Not, Scalar::Bool(truth)) => Ok(Scalar::Bool(!truth)),
             _ => Err(FaultKind::Shape),
         }
@@ -91,26 +93,26 @@ impl BinaryOperator {
         }
     }
 
-    /// The value at these operands. `Divide` where the divisor is 0, `Overflow` where the value does not fit 64 bits,
+    /// The value at these operands. `Divide` where the divisor is 0, `Overflow` where the value does not lie in the range,
     /// `Shape` for operands of another type.
-    pub fn apply(self, left: Scalar, right: Scalar) -> Result<Scalar, FaultKind>
-        ensures { result ≡ binary_value self left right }
+    pub fn apply(self, dialect: Dialect, left: Scalar, right: Scalar) -> Result<Scalar, FaultKind>
+        ensures { result ≡ binary_value dialect self left right }
     {
         match (left, right) {
-            (Scalar::Int(m), Scalar::Int(n)) => self.of_integers(m, n),
-            (Scalar::Bool(a), Scalar::Bool(b)) => self.of_truths(a, b),
+            (Scalar::Int(m), Scalar::Int(n)) => self.of_integers(dialect, m, n),
+            (Scalar::Bool(a), Scalar::Bool(b)) => self.of_truths(dialect, a, b),
             _ => Err(FaultKind::Shape),
         }
     }
 
-    fn of_integers(self, m: i64, n: i64) -> Result<Scalar, FaultKind>
-        ensures { result ≡ binary_value self (Int m) (Int n) }
+    fn of_integers(self, dialect: Dialect, m: i128, n: i128) -> Result<Scalar, FaultKind>
+        ensures { result ≡ binary_value dialect self (Int m) (Int n) }
     {
         Ok(match self {
-            BinaryOperator::Add => Scalar::Int(sum(m, n)?),
-            BinaryOperator::Subtract => Scalar::Int(difference(m, n)?),
-            BinaryOperator::Multiply => Scalar::Int(product(m, n)?),
-            BinaryOperator::Divide => Scalar::Int(quotient(m, n)?),
+            BinaryOperator::Add => Scalar::Int(sum(dialect, m, n)?),
+            BinaryOperator::Subtract => Scalar::Int(difference(dialect, m, n)?),
+            BinaryOperator::Multiply => Scalar::Int(product(dialect, m, n)?),
+            BinaryOperator::Divide => Scalar::Int(quotient(dialect, m, n)?),
             BinaryOperator::Remainder => Scalar::Int(remainder(m, n)?),
             BinaryOperator::EqualIntegers => Scalar::Bool(m == n),
             BinaryOperator::Less => Scalar::Bool(m < n),
@@ -121,8 +123,8 @@ impl BinaryOperator {
         })
     }
 
-    fn of_truths(self, a: bool, b: bool) -> Result<Scalar, FaultKind>
-        ensures { result ≡ binary_value self (Bool a) (Bool b) }
+    fn of_truths(self, dialect: Dialect, a: bool, b: bool) -> Result<Scalar, FaultKind>
+        ensures { result ≡ binary_value dialect self (Bool a) (Bool b) }
     {
         match self {
             BinaryOperator::EqualTruths => Ok(Scalar::Bool(a == b)),
@@ -169,19 +171,30 @@ impl Reduction {
         }
     }
 
-    /// What the elements so far and one more reduce to. `Overflow` where a sum does not fit 64 bits, `Shape` where the
+    /// What the elements so far and one more reduce to. `Overflow` where a sum does not lie in the range, `Shape` where the
     /// element or what is so far is of another type.
-    pub fn more(self, so_far: Option<Scalar>, element: Scalar) -> Result<Option<Scalar>, FaultKind>
-        ensures { result ≡ reduced_more self so_far element }
+    pub fn more(
+        self,
+        dialect: Dialect,
+        so_far: Option<Scalar>,
+        element: Scalar,
+    ) -> Result<Option<Scalar>, FaultKind>
+        ensures { result ≡ reduced_more dialect self so_far element }
     {
         match (self, so_far, element) {
-            (Reduction::Sum, Some(sum), _) => Ok(Some(BinaryOperator::Add.apply(sum, element)?)),
+            (Reduction::Sum, Some(sum), _) => Ok(Some(BinaryOperator::Add.apply(
+                dialect, sum, element,
+            )?)),
             (Reduction::Max, None, Scalar::Int(_)) => Ok(Some(element)),
             (Reduction::Max, Some(Scalar::Int(greatest)), Scalar::Int(number)) => {
                 Ok(Some(Scalar::Int(greatest.max(number))))
             }
-            (Reduction::All, Some(all), _) => Ok(Some(BinaryOperator::And.apply(all, element)?)),
-            (Reduction::Any, Some(any), _) => Ok(Some(BinaryOperator::Or.apply(any, element)?)),
+            (Reduction::All, Some(all), _) => Ok(Some(BinaryOperator::And.apply(
+                dialect, all, element,
+            )?)),
+            (Reduction::Any, Some(any), _) => Ok(Some(BinaryOperator::Or.apply(
+                dialect, any, element,
+            )?)),
             _ => Err(FaultKind::Shape),
         }
     }

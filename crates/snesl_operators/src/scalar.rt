@@ -10,10 +10,10 @@ pub enum ScalarType {
     Bool,
 }
 
-/// An integer of 64 bits with a sign, or a truth value.
+/// An integer of a dialect, or a truth value.
 #[derive(Clone, Copy, Debug, PartialEq, Eq)]
 pub enum Scalar {
-    Int(i64),
+    Int(i128),
     Bool(bool),
 }
 

@@ -1,5 +1,6 @@
 -- Declared inputs in an input text.
 use Rattle.std.proofs.Common.{◌≡◌, ℕ, suc, ◌+◌, ◌-◌, ◌≤◌, ◌<◌, Vec, Global, take, take_all, get_or, drop-cons, length-drop, length-append, add-one, List, [], ◌∷◌, ◌++◌, length, drop, map, Option, Some, None, ◌⊎◌, inl, inr, refl, sym, ap, ◌∙◌, subst, append_assoc, append-nil, arith}
+use Rattle.snesl_values.specs.declared.dialect.Dialect.{Dialect}
 use Rattle.snesl_values.specs.Values.{Value, HasType}
 use Rattle.snesl_values.specs.InputTokens.{Token, word, next_at, next_token, Reads, none, Takes}
 use Rattle.snesl_values.specs.Inputs.{Declaration, Environment, Fits, equals, semicolon, value_tokens, entry_tokens, further_entries, environment_tokens, AreEntries, IsLawful, MayFollow, StopsAt, declared, declaration_of, entry_of}
@@ -12,43 +13,43 @@ use Rattle.snesl_values.proofs.InputReads.{reads-append, stops_behind, stops_her
 use Rattle.snesl_values.proofs.InputWants.{one_in, one_out, value_in, value_out, one_value, behind_head, after_one}
 
 -- an entry and what follows it
-entry_in : (d : Declaration) (wants : List Want) (v : Value) (us : List Token) → HasType v d.1 → Fills wants us
-    → Fills (entry_wants d wants) (word d.0 ∷ equals ∷ (value_tokens v ++ us))
-entry_in d wants v us h f =
-    one_in (word d.0) (one equals ∷ a_value d.1 ∷ wants) (equals ∷ (value_tokens v ++ us))
-    (one_in equals (a_value d.1 ∷ wants) (value_tokens v ++ us) (value_in d.1 v wants us h f))
+entry_in : (dialect : Dialect) → (d : Declaration) (wants : List Want) (v : Value) (us : List Token) → HasType dialect v d.1 → Fills dialect wants us
+    → Fills dialect (entry_wants d wants) (word d.0 ∷ equals ∷ (value_tokens v ++ us))
+entry_in dialect d wants v us h f =
+    one_in dialect (word d.0) (one equals ∷ a_value d.1 ∷ wants) (equals ∷ (value_tokens v ++ us))
+    (one_in dialect equals (a_value d.1 ∷ wants) (value_tokens v ++ us) (value_in dialect d.1 v wants us h f))
 
-entry_out : (d : Declaration) (wants : List Want) (us : List Token) → Fills (entry_wants d wants) us
-    → (v : Value) × (rest : List Token) × HasType v d.1 × (us ≡ word d.0 ∷ equals ∷ (value_tokens v ++ rest)) × Fills wants rest
-entry_out d wants us f =
-    let name = one_out (word d.0) (one equals ∷ a_value d.1 ∷ wants) us f in
-    let sign = one_out equals (a_value d.1 ∷ wants) name.0 name.2 in
-    let v = value_out d.1 wants sign.0 sign.2 in
+entry_out : (dialect : Dialect) → (d : Declaration) (wants : List Want) (us : List Token) → Fills dialect (entry_wants d wants) us
+    → (v : Value) × (rest : List Token) × HasType dialect v d.1 × (us ≡ word d.0 ∷ equals ∷ (value_tokens v ++ rest)) × Fills dialect wants rest
+entry_out dialect d wants us f =
+    let name = one_out dialect (word d.0) (one equals ∷ a_value d.1 ∷ wants) us f in
+    let sign = one_out dialect equals (a_value d.1 ∷ wants) name.0 name.2 in
+    let v = value_out dialect d.1 wants sign.0 sign.2 in
     (v.0, v.1, v.2, name.1 ∙ ap (λ l. word d.0 ∷ l) (sign.1 ∙ ap (λ l. equals ∷ l) v.3), v.4)
 
-pub after_entry : (text : List ℕ) (d : Declaration) (wants : List Want) (entry : List ℕ × Value) (from place n : ℕ) → IsEntry text from d entry place
-    → StopsAt (Fills wants) text place n → StopsAt (Fills (entry_wants d wants)) text from n
-after_entry text d wants entry from place n read s =
-    stops_behind (Fills (entry_wants d wants)) (Fills wants) text (word d.0 ∷ equals ∷ value_tokens entry.1) from place n
+pub after_entry : (dialect : Dialect) → (text : List ℕ) (d : Declaration) (wants : List Want) (entry : List ℕ × Value) (from place n : ℕ) → IsEntry dialect text from d entry place
+    → StopsAt (Fills dialect wants) text place n → StopsAt (Fills dialect (entry_wants d wants)) text from n
+after_entry dialect text d wants entry from place n read s =
+    stops_behind (Fills dialect (entry_wants d wants)) (Fills dialect wants) text (word d.0 ∷ equals ∷ value_tokens entry.1) from place n
     (subst (λ name. Reads text from (word name ∷ equals ∷ value_tokens entry.1) place) read.named read.reads)
-    (λ us f. entry_in d wants entry.1 us read.has_type f)
+    (λ us f. entry_in dialect d wants entry.1 us read.has_type f)
     (λ us f.
-    let out = entry_out d wants (word d.0 ∷ equals ∷ (value_tokens entry.1 ++ us)) f in
+    let out = entry_out dialect d wants (word d.0 ∷ equals ∷ (value_tokens entry.1 ++ us)) f in
     let same = behind_head equals equals _ _ (behind_head (word d.0) (word d.0) _ _ out.3) in
-    subst (Fills wants) (sym (one_value entry.1 out.0 us out.1 same).1) out.4)
+    subst (Fills dialect wants) (sym (one_value entry.1 out.0 us out.1 same).1) out.4)
     s
 
 -- what may stand behind the entries
 abbrev MayEnd : Environment → List Token → Type 0
 MayEnd es us = (us ≡ further_entries es) ⊎ (us ≡ further_entries es ++ (semicolon ∷ []))
 
-at_end : (us : List Token) → Fills (perhaps semicolon ∷ []) us → MayEnd [] us
-at_end us (these, rest, e, inl m, f) = inl (e ∙ ap (λ l. l ++ rest) m ∙ f)
-at_end us (these, rest, e, inr m, f) = inr (e ∙ ap (λ l. l ++ rest) m ∙ ap (λ l. semicolon ∷ l) f)
+at_end : (dialect : Dialect) → (us : List Token) → Fills dialect (perhaps semicolon ∷ []) us → MayEnd [] us
+at_end dialect us (these, rest, e, inl m, f) = inl (e ∙ ap (λ l. l ++ rest) m ∙ f)
+at_end dialect us (these, rest, e, inr m, f) = inr (e ∙ ap (λ l. l ++ rest) m ∙ ap (λ l. semicolon ∷ l) f)
 
-at_end_in : (us : List Token) → MayEnd [] us → Fills (perhaps semicolon ∷ []) us
-at_end_in us (inl e) = ([], us, refl, inl refl, e)
-at_end_in us (inr e) = (semicolon ∷ [], [], e, inr refl, refl)
+at_end_in : (dialect : Dialect) → (us : List Token) → MayEnd [] us → Fills dialect (perhaps semicolon ∷ []) us
+at_end_in dialect us (inl e) = ([], us, refl, inl refl, e)
+at_end_in dialect us (inr e) = (semicolon ∷ [], [], e, inr refl, refl)
 
 one_more_end : (entry : List ℕ × Value) (es : Environment) (us : List Token) → MayEnd es us → MayEnd (entry ∷ es) (semicolon ∷ (entry_tokens entry ++ us))
 one_more_end entry es us (inl e) = inl (ap (λ l. semicolon ∷ (entry_tokens entry ++ l)) e)
@@ -61,26 +62,26 @@ one_less_end entry es us (inl e) = (further_entries es, e, inl refl)
 one_less_end entry es us (inr e) =
     (further_entries es ++ (semicolon ∷ []), e ∙ ap (λ l. semicolon ∷ l) (append_assoc (entry_tokens entry) (further_entries es) (semicolon ∷ [])), inr refl)
 
-further_lawful : (ds : List Declaration) (us : List Token) → Fills (further_wants ds) us → (es : Environment) × Fits ds es × MayEnd es us
-further_lawful [] us f = ([], tt, at_end us f)
-further_lawful (d ∷ ds) us f =
-    let c = one_out semicolon (entry_wants d (further_wants ds)) us f in
-    let entry = entry_out d (further_wants ds) c.0 c.2 in
-    let rest = further_lawful ds entry.1 entry.4 in (
+further_lawful : (dialect : Dialect) → (ds : List Declaration) (us : List Token) → Fills dialect (further_wants ds) us → (es : Environment) × Fits dialect ds es × MayEnd es us
+further_lawful dialect [] us f = ([], tt, at_end dialect us f)
+further_lawful dialect (d ∷ ds) us f =
+    let c = one_out dialect semicolon (entry_wants d (further_wants ds)) us f in
+    let entry = entry_out dialect d (further_wants ds) c.0 c.2 in
+    let rest = further_lawful dialect ds entry.1 entry.4 in (
       (d.0, entry.0) ∷ rest.0,
       (refl, entry.2, rest.1),
       subst (MayEnd ((d.0, entry.0) ∷ rest.0)) (sym (c.1 ∙ ap (λ l. semicolon ∷ l) entry.3)) (one_more_end (d.0, entry.0) rest.0 entry.1 rest.2),
     )
 
-lawful_further : (ds : List Declaration) (es : Environment) (us : List Token) → Fits ds es → MayEnd es us → Fills (further_wants ds) us
-lawful_further [] [] us h m = at_end_in us m
-lawful_further [] (e ∷ es) us h m = absurd h
-lawful_further (d ∷ ds) [] us h m = absurd h
-lawful_further (d ∷ ds) (e ∷ es) us h m =
+lawful_further : (dialect : Dialect) → (ds : List Declaration) (es : Environment) (us : List Token) → Fits dialect ds es → MayEnd es us → Fills dialect (further_wants ds) us
+lawful_further dialect [] [] us h m = at_end_in dialect us m
+lawful_further dialect [] (e ∷ es) us h m = absurd h
+lawful_further dialect (d ∷ ds) [] us h m = absurd h
+lawful_further dialect (d ∷ ds) (e ∷ es) us h m =
     let less = one_less_end e es us m in
-    subst (Fills (further_wants (d ∷ ds))) (sym (less.1 ∙ ap (λ name. semicolon ∷ word name ∷ equals ∷ (value_tokens e.1 ++ less.0)) h.0))
-    (one_in semicolon (entry_wants d (further_wants ds)) (word d.0 ∷ equals ∷ (value_tokens e.1 ++ less.0))
-    (entry_in d (further_wants ds) e.1 less.0 h.1 (lawful_further ds es less.0 h.2 less.2)))
+    subst (Fills dialect (further_wants (d ∷ ds))) (sym (less.1 ∙ ap (λ name. semicolon ∷ word name ∷ equals ∷ (value_tokens e.1 ++ less.0)) h.0))
+    (one_in dialect semicolon (entry_wants d (further_wants ds)) (word d.0 ∷ equals ∷ (value_tokens e.1 ++ less.0))
+    (entry_in dialect d (further_wants ds) e.1 less.0 h.1 (lawful_further dialect ds es less.0 h.2 less.2)))
 
 -- the same without the first semicolon
 first_end : (entry : List ℕ × Value) (es : Environment) (us : List Token) → MayEnd es us → AreEntries (entry ∷ es) (entry_tokens entry ++ us)
@@ -94,11 +95,11 @@ first_rest entry es us (inl e) = (further_entries es, e, inl refl)
 first_rest entry es us (inr e) =
     (further_entries es ++ (semicolon ∷ []), e ∙ append_assoc (entry_tokens entry) (further_entries es) (semicolon ∷ []), inr refl)
 
-wants_lawful : (ds : List Declaration) (us : List Token) → Fills (wants_of ds) us → IsLawful ds us
-wants_lawful [] us f = ([], record { fits = tt; entries = f })
-wants_lawful (d ∷ ds) us f =
-    let entry = entry_out d (further_wants ds) us f in
-    let rest = further_lawful ds entry.1 entry.4 in (
+wants_lawful : (dialect : Dialect) → (ds : List Declaration) (us : List Token) → Fills dialect (wants_of ds) us → IsLawful dialect ds us
+wants_lawful dialect [] us f = ([], record { fits = tt; entries = f })
+wants_lawful dialect (d ∷ ds) us f =
+    let entry = entry_out dialect d (further_wants ds) us f in
+    let rest = further_lawful dialect ds entry.1 entry.4 in (
       (d.0, entry.0) ∷ rest.0,
       record {
         fits = (refl, entry.2, rest.1);
@@ -106,53 +107,53 @@ wants_lawful (d ∷ ds) us f =
       },
     )
 
-lawful_wants : (ds : List Declaration) (es : Environment) (us : List Token) → Fits ds es → AreEntries es us → Fills (wants_of ds) us
-lawful_wants [] [] us h m = m
-lawful_wants [] (e ∷ es) us h m = absurd h
-lawful_wants (d ∷ ds) [] us h m = absurd h
-lawful_wants (d ∷ ds) (e ∷ es) us h m =
+lawful_wants : (dialect : Dialect) → (ds : List Declaration) (es : Environment) (us : List Token) → Fits dialect ds es → AreEntries es us → Fills dialect (wants_of ds) us
+lawful_wants dialect [] [] us h m = m
+lawful_wants dialect [] (e ∷ es) us h m = absurd h
+lawful_wants dialect (d ∷ ds) [] us h m = absurd h
+lawful_wants dialect (d ∷ ds) (e ∷ es) us h m =
     let rest = first_rest e es us m in
-    subst (Fills (wants_of (d ∷ ds))) (sym (rest.1 ∙ ap (λ name. word name ∷ equals ∷ (value_tokens e.1 ++ rest.0)) h.0))
-    (entry_in d (further_wants ds) e.1 rest.0 h.1 (lawful_further ds es rest.0 h.2 rest.2))
+    subst (Fills dialect (wants_of (d ∷ ds))) (sym (rest.1 ∙ ap (λ name. word name ∷ equals ∷ (value_tokens e.1 ++ rest.0)) h.0))
+    (entry_in dialect d (further_wants ds) e.1 rest.0 h.1 (lawful_further dialect ds es rest.0 h.2 rest.2))
 
 -- what stops by its wants stops in a lawful text
-pub stops_lawful : (text : List ℕ) (ds : List Declaration) (n : ℕ) → StopsAt (Fills (wants_of ds)) text 0 n → StopsAt (IsLawful ds) text 0 n
-stops_lawful text ds n s =
-    stops_behind (IsLawful ds) (Fills (wants_of ds)) text [] 0 0 n none (wants_lawful ds) (λ us l. lawful_wants ds l.0 us l.1.fits l.1.entries) s
+pub stops_lawful : (dialect : Dialect) → (text : List ℕ) (ds : List Declaration) (n : ℕ) → StopsAt (Fills dialect (wants_of ds)) text 0 n → StopsAt (IsLawful dialect ds) text 0 n
+stops_lawful dialect text ds n s =
+    stops_behind (IsLawful dialect ds) (Fills dialect (wants_of ds)) text [] 0 0 n none (wants_lawful dialect ds) (λ us l. lawful_wants dialect ds l.0 us l.1.fits l.1.entries) s
 
 -- nothing is wanted any more
-pub nothing_wanted : (text : List ℕ) (from : ℕ) → (next_token text from ≡ None → ⊥) → StopsAt (Fills []) text from (next_at text from)
-nothing_wanted text from some = stops_here (Fills []) text from ([], refl) (by_next (next_token text from) refl)
+pub nothing_wanted : (dialect : Dialect) → (text : List ℕ) (from : ℕ) → (next_token text from ≡ None → ⊥) → StopsAt (Fills dialect []) text from (next_at text from)
+nothing_wanted dialect text from some = stops_here (Fills dialect []) text from ([], refl) (by_next (next_token text from) refl)
   where
-    by_next : (o : Option Token) → next_token text from ≡ o → MayFollow (Fills []) [] o → ⊥
+    by_next : (o : Option Token) → next_token text from ≡ o → MayFollow (Fills dialect []) [] o → ⊥
     by_next None e m = some e
     by_next (Some x) e m = let f = m.1 in cc
 
 -- behind the last entry
-pub last_semicolon : (text : List ℕ) (from place n : ℕ) → Reads text from (semicolon ∷ []) place → StopsAt (Fills []) text place n
-    → StopsAt (Fills (perhaps semicolon ∷ [])) text from n
-last_semicolon text from place n read s =
-    stops_behind (Fills (perhaps semicolon ∷ [])) (Fills []) text (semicolon ∷ []) from place n read
+pub last_semicolon : (dialect : Dialect) → (text : List ℕ) (from place n : ℕ) → Reads text from (semicolon ∷ []) place → StopsAt (Fills dialect []) text place n
+    → StopsAt (Fills dialect (perhaps semicolon ∷ [])) text from n
+last_semicolon dialect text from place n read s =
+    stops_behind (Fills dialect (perhaps semicolon ∷ [])) (Fills dialect []) text (semicolon ∷ []) from place n read
     (λ us f. (semicolon ∷ [], us, refl, inr refl, f))
-    (λ us f. by_end us (at_end (semicolon ∷ us) f))
+    (λ us f. by_end us (at_end dialect (semicolon ∷ us) f))
     s
   where
     by_end : (us : List Token) → MayEnd [] (semicolon ∷ us) → us ≡ []
     by_end us (inl e) = cc
     by_end us (inr e) = cc
 
-pub no_semicolon : (text : List ℕ) (from : ℕ) → (next_token text from ≡ Some semicolon → ⊥) → (next_token text from ≡ None → ⊥)
-    → StopsAt (Fills (perhaps semicolon ∷ [])) text from (next_at text from)
-no_semicolon text from another some =
-    stops_here (Fills (perhaps semicolon ∷ [])) text from ([], ([], [], refl, inl refl, refl)) (by_next (next_token text from) refl)
+pub no_semicolon : (dialect : Dialect) → (text : List ℕ) (from : ℕ) → (next_token text from ≡ Some semicolon → ⊥) → (next_token text from ≡ None → ⊥)
+    → StopsAt (Fills dialect (perhaps semicolon ∷ [])) text from (next_at text from)
+no_semicolon dialect text from another some =
+    stops_here (Fills dialect (perhaps semicolon ∷ [])) text from ([], ([], [], refl, inl refl, refl)) (by_next (next_token text from) refl)
   where
     by_end : (x : Token) (rest : List Token) → next_token text from ≡ Some x → MayEnd [] (x ∷ rest) → ⊥
     by_end x rest e (inl f) = cc
     by_end x rest e (inr f) = let same : x ≡ semicolon = cc in another (e ∙ ap (λ y. Some y) same)
 
-    by_next : (o : Option Token) → next_token text from ≡ o → MayFollow (Fills (perhaps semicolon ∷ [])) [] o → ⊥
+    by_next : (o : Option Token) → next_token text from ≡ o → MayFollow (Fills dialect (perhaps semicolon ∷ [])) [] o → ⊥
     by_next None e m = some e
-    by_next (Some x) e m = by_end x m.0 e (at_end (x ∷ m.0) m.1)
+    by_next (Some x) e m = by_end x m.0 e (at_end dialect (x ∷ m.0) m.1)
 
 -- one entry more
 further-push : (es : Environment) (entry : List ℕ × Value) → further_entries (es ++ entry ∷ []) ≡ further_entries es ++ (semicolon ∷ entry_tokens entry)
@@ -175,65 +176,65 @@ are_entries [] us some m = absurd (omega arith)
 are_entries (e ∷ es) us some m = m
 
 -- some inputs were read, up to this offset, and these are left
-pub record SoFar (text : List ℕ) (ds left : List Declaration) (es : Environment) (at : ℕ) : Type 0 where
+pub record SoFar (dialect : Dialect) (text : List ℕ) (ds left : List Declaration) (es : Environment) (at : ℕ) : Type 0 where
   pub within : at ≤ length text
   pub some : 0 < length es
-  pub fits : (later : Environment) → Fits left later → Fits ds (es ++ later)
+  pub fits : (later : Environment) → Fits dialect left later → Fits dialect ds (es ++ later)
   pub reads : Reads text 0 (environment_tokens es) at
-  pub stops : (n : ℕ) → StopsAt (Fills (further_wants left)) text at n → StopsAt (Fills (wants_of ds)) text 0 n
+  pub stops : (n : ℕ) → StopsAt (Fills dialect (further_wants left)) text at n → StopsAt (Fills dialect (wants_of ds)) text 0 n
 
-pub first_so_far : (text : List ℕ) (d : Declaration) (ds : List Declaration) (entry : List ℕ × Value) (end : ℕ) → IsEntry text 0 d entry end
-    → SoFar text (d ∷ ds) ds (entry ∷ []) end
-first_so_far text d ds entry end read = record {
+pub first_so_far : (dialect : Dialect) → (text : List ℕ) (d : Declaration) (ds : List Declaration) (entry : List ℕ × Value) (end : ℕ) → IsEntry dialect text 0 d entry end
+    → SoFar dialect text (d ∷ ds) ds (entry ∷ []) end
+first_so_far dialect text d ds entry end read = record {
   within = read.within;
   some = omega arith;
   fits = λ later h. (read.named, read.has_type, h);
   reads = subst (λ l. Reads text 0 l end) (sym (append-nil (entry_tokens entry))) read.reads;
-  stops = λ n s. after_entry text d (further_wants ds) entry 0 end n read s;
+  stops = λ n s. after_entry dialect text d (further_wants ds) entry 0 end n read s;
 }
 
-pub next_so_far : (text : List ℕ) (ds : List Declaration) (d : Declaration) (left : List Declaration) (es : Environment) (entry : List ℕ × Value) (at start end : ℕ)
-    → SoFar text ds (d ∷ left) es at → Takes text at semicolon start → IsEntry text start d entry end → SoFar text ds left (es ++ entry ∷ []) end
-next_so_far text ds d left es entry at start end s parting read = record {
+pub next_so_far : (dialect : Dialect) → (text : List ℕ) (ds : List Declaration) (d : Declaration) (left : List Declaration) (es : Environment) (entry : List ℕ × Value) (at start end : ℕ)
+    → SoFar dialect text ds (d ∷ left) es at → Takes text at semicolon start → IsEntry dialect text start d entry end → SoFar dialect text ds left (es ++ entry ∷ []) end
+next_so_far dialect text ds d left es entry at start end s parting read = record {
   within = read.within;
   some = omega (arith, length-append es (entry ∷ []));
-  fits = λ later h. subst (Fits ds) (sym (append_assoc es (entry ∷ []) later)) (s.fits (entry ∷ later) (read.named, read.has_type, h));
+  fits = λ later h. subst (Fits dialect ds) (sym (append_assoc es (entry ∷ []) later)) (s.fits (entry ∷ later) (read.named, read.has_type, h));
   reads = subst (λ l. Reads text 0 l end) (sym (environment-push es entry s.some)) (reads-append s.reads (reads-append parting.reads read.reads));
-  stops = λ n k. s.stops n (after_one text semicolon (entry_wants d (further_wants left)) at start n parting.reads
-      (after_entry text d (further_wants left) entry start end n read k));
+  stops = λ n k. s.stops n (after_one dialect text semicolon (entry_wants d (further_wants left)) at start n parting.reads
+      (after_entry dialect text d (further_wants left) entry start end n read k));
 }
 
-all_fit : (ds : List Declaration) (es : Environment) → Fits ds (es ++ []) → Fits ds es
-all_fit ds es h = subst (Fits ds) (append-nil es) h
+all_fit : (dialect : Dialect) → (ds : List Declaration) (es : Environment) → Fits dialect ds (es ++ []) → Fits dialect ds es
+all_fit dialect ds es h = subst (Fits dialect ds) (append-nil es) h
 
-pub all_read_closed : (text : List ℕ) (ds : List Declaration) (es : Environment) (at end : ℕ) → SoFar text ds [] es at → Takes text at semicolon end
-    → AllRead text ds es end
-all_read_closed text ds es at end s closing = record {
+pub all_read_closed : (dialect : Dialect) → (text : List ℕ) (ds : List Declaration) (es : Environment) (at end : ℕ) → SoFar dialect text ds [] es at → Takes text at semicolon end
+    → AllRead dialect text ds es end
+all_read_closed dialect text ds es at end s closing = record {
   tokens = environment_tokens es ++ (semicolon ∷ []);
   reads = reads-append s.reads closing.reads;
-  spells = record { fits = all_fit ds es (s.fits [] tt); entries = are_entries es (environment_tokens es ++ (semicolon ∷ [])) s.some (inr refl) };
+  spells = record { fits = all_fit dialect ds es (s.fits [] tt); entries = are_entries es (environment_tokens es ++ (semicolon ∷ [])) s.some (inr refl) };
   within = closing.within;
-  no_more = λ some. stops_lawful text ds (next_at text end)
-      (s.stops (next_at text end) (last_semicolon text at end (next_at text end) closing.reads (nothing_wanted text end some)));
+  no_more = λ some. stops_lawful dialect text ds (next_at text end)
+      (s.stops (next_at text end) (last_semicolon dialect text at end (next_at text end) closing.reads (nothing_wanted dialect text end some)));
 }
 
-pub all_read_open : (text : List ℕ) (ds : List Declaration) (es : Environment) (at : ℕ) → SoFar text ds [] es at → (next_token text at ≡ Some semicolon → ⊥)
-    → AllRead text ds es at
-all_read_open text ds es at s another = record {
+pub all_read_open : (dialect : Dialect) → (text : List ℕ) (ds : List Declaration) (es : Environment) (at : ℕ) → SoFar dialect text ds [] es at → (next_token text at ≡ Some semicolon → ⊥)
+    → AllRead dialect text ds es at
+all_read_open dialect text ds es at s another = record {
   tokens = environment_tokens es;
   reads = s.reads;
-  spells = record { fits = all_fit ds es (s.fits [] tt); entries = are_entries es (environment_tokens es) s.some (inl refl) };
+  spells = record { fits = all_fit dialect ds es (s.fits [] tt); entries = are_entries es (environment_tokens es) s.some (inl refl) };
   within = s.within;
-  no_more = λ some. stops_lawful text ds (next_at text at) (s.stops (next_at text at) (no_semicolon text at another some));
+  no_more = λ some. stops_lawful dialect text ds (next_at text at) (s.stops (next_at text at) (no_semicolon dialect text at another some));
 }
 
-pub none_read : (text : List ℕ) → AllRead text [] [] 0
-none_read text = record {
+pub none_read : (dialect : Dialect) → (text : List ℕ) → AllRead dialect text [] [] 0
+none_read dialect text = record {
   tokens = [];
   reads = none;
   spells = record { fits = tt; entries = refl };
   within = omega arith;
-  no_more = λ some. stops_lawful text [] (next_at text 0) (nothing_wanted text 0 some);
+  no_more = λ some. stops_lawful dialect text [] (next_at text 0) (nothing_wanted dialect text 0 some);
 }
 
 -- declarations as the code holds them
@@ -260,8 +261,8 @@ entries-push [] input = refl
 entries-push (x ∷ all) input = ap (λ l. entry_of x ∷ l) (entries-push all input)
 
 -- the error of a part, as that of a whole text
-pub stop_whole : (text : List ℕ) (part : List Want) (ds : List Declaration) (place : ℕ) (e : InputError)
-    → ((n : ℕ) → ((further : List Want) → StopsAt (Fills (part ++ further)) text place n) → StopsAt (Fills (wants_of ds)) text 0 n)
-    → IsStop part text place e → IsStopOf ds text e
-stop_whole text part ds place (Bad n) f h = stops_lawful text ds n (f n h)
-stop_whole text part ds place NoMemory f h = tt
+pub stop_whole : (dialect : Dialect) → (text : List ℕ) (part : List Want) (ds : List Declaration) (place : ℕ) (e : InputError)
+    → ((n : ℕ) → ((further : List Want) → StopsAt (Fills dialect (part ++ further)) text place n) → StopsAt (Fills dialect (wants_of ds)) text 0 n)
+    → IsStop dialect part text place e → IsStopOf dialect ds text e
+stop_whole dialect text part ds place (Bad n) f h = stops_lawful dialect text ds n (f n h)
+stop_whole dialect text part ds place NoMemory f h = tt

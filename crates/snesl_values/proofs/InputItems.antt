@@ -1,5 +1,6 @@
 -- Items that were read, and the size of types.
 use Rattle.std.proofs.Common.{◌≡◌, ℕ, suc, ◌+◌, List, [], ◌∷◌, ◌++◌, refl, sym, ap, ◌∙◌, append_assoc, append-nil, map, subst, arith, ◌≤◌}
+use Rattle.snesl_values.specs.declared.dialect.Dialect.{Dialect}
 use Rattle.snesl_values.specs.Types.{Ty, int, bool, pair, vec, seq}
 use Rattle.snesl_values.specs.Values.{Value, a_vec, a_seq, a_pair, value_of, Values, values_of, HasType, AllHaveType}
 use Rattle.snesl_values.specs.InputTokens.{Token, sign, Reads, Takes}
@@ -38,20 +39,20 @@ leading-push (x ∷ vs) v =
     ap (λ l. value_tokens x ++ (comma ∷ l)) (leading-push vs v)
     ∙ sym (append_assoc (value_tokens x) (comma ∷ leading_tokens vs) (value_tokens v ++ (comma ∷ [])))
 
-pub have_type-push : (vs : List Value) (v : Value) (t : Ty) → AllHaveType (values_of vs) t → HasType v t → AllHaveType (values_of (vs ++ v ∷ [])) t
-have_type-push [] v t h k = (k, tt)
-have_type-push (x ∷ vs) v t h k = (h.0, have_type-push vs v t h.1 k)
+pub have_type-push : (dialect : Dialect) → (vs : List Value) (v : Value) (t : Ty) → AllHaveType dialect (values_of vs) t → HasType dialect v t → AllHaveType dialect (values_of (vs ++ v ∷ [])) t
+have_type-push dialect [] v t h k = (k, tt)
+have_type-push dialect (x ∷ vs) v t h k = (h.0, have_type-push dialect vs v t h.1 k)
 
 pub mapped-push : (ds : List Datum) (d : Datum) → map value_of (ds ++ d ∷ []) ≡ map value_of ds ++ value_of d ∷ []
 mapped-push [] d = refl
 mapped-push (x ∷ ds) d = ap (λ l. value_of x ∷ l) (mapped-push ds d)
 
 -- the last item was read, and the sign that closes all
-pub items_read : (text : List ℕ) (from place behind end : ℕ) (t : Ty) (close : ℕ) (vs news : List Value) (v : Value) → news ≡ vs ++ v ∷ []
-    → from ≤ place → AllHaveType (values_of vs) t → Reads text from (leading_tokens vs) place → IsRead text place t v behind
-    → Takes text behind (sign close) end → AreRead text from t close (values_of news) end
-items_read text from place behind end t close vs news v e begun types leading item closing = record {
-  have_type = subst (λ l. AllHaveType (values_of l) t) (sym e) (have_type-push vs v t types item.has_type);
+pub items_read : (dialect : Dialect) → (text : List ℕ) (from place behind end : ℕ) (t : Ty) (close : ℕ) (vs news : List Value) (v : Value) → news ≡ vs ++ v ∷ []
+    → from ≤ place → AllHaveType dialect (values_of vs) t → Reads text from (leading_tokens vs) place → IsRead dialect text place t v behind
+    → Takes text behind (sign close) end → AreRead dialect text from t close (values_of news) end
+items_read dialect text from place behind end t close vs news v e begun types leading item closing = record {
+  have_type = subst (λ l. AllHaveType dialect (values_of l) t) (sym e) (have_type-push dialect vs v t types item.has_type);
   reads = subst (λ l. Reads text from l end)
       (sym (append_assoc (leading_tokens vs) (value_tokens v) (sign close ∷ []))
       ∙ ap (λ l. l ++ (sign close ∷ [])) (items-last vs v) ∙ ap (λ l. items_tokens (values_of l) ++ (sign close ∷ [])) (sym e))
@@ -61,34 +62,34 @@ items_read text from place behind end t close vs news v e begun types leading it
 }
 
 -- an item was read, and a comma behind it
-pub item_read : (text : List ℕ) (from place behind end : ℕ) (t : Ty) (vs news : List Value) (v : Value) → news ≡ vs ++ v ∷ []
-    → Reads text from (leading_tokens vs) place → IsRead text place t v behind → Takes text behind comma end → Reads text from (leading_tokens news) end
-item_read text from place behind end t vs news v e leading item parting =
+pub item_read : (dialect : Dialect) → (text : List ℕ) (from place behind end : ℕ) (t : Ty) (vs news : List Value) (v : Value) → news ≡ vs ++ v ∷ []
+    → Reads text from (leading_tokens vs) place → IsRead dialect text place t v behind → Takes text behind comma end → Reads text from (leading_tokens news) end
+item_read dialect text from place behind end t vs news v e leading item parting =
     subst (λ l. Reads text from l end) (sym (ap leading_tokens e ∙ leading-push vs v)) (reads-append leading (reads-append item.reads parting.reads))
 
 -- a vector, a sequence and a pair were read
-pub vec_read : (text : List ℕ) (from place end : ℕ) (a : Ty) (vs : Values) → Takes text from left_bracket place → AreRead text place a 93 vs end
-    → IsRead text from (vec a) (a_vec vs) end
-vec_read text from place end a vs opening all = record {
+pub vec_read : (dialect : Dialect) → (text : List ℕ) (from place end : ℕ) (a : Ty) (vs : Values) → Takes text from left_bracket place → AreRead dialect text place a 93 vs end
+    → IsRead dialect text from (vec a) (a_vec vs) end
+vec_read dialect text from place end a vs opening all = record {
   has_type = all.have_type;
   reads = reads-append opening.reads all.reads;
   moves = omega (arith, opening.moves, all.moves);
   within = all.within;
 }
 
-pub seq_read : (text : List ℕ) (from place end : ℕ) (a : Ty) (vs : Values) → Takes text from left_brace place → AreRead text place a 125 vs end
-    → IsRead text from (seq a) (a_seq vs) end
-seq_read text from place end a vs opening all = record {
+pub seq_read : (dialect : Dialect) → (text : List ℕ) (from place end : ℕ) (a : Ty) (vs : Values) → Takes text from left_brace place → AreRead dialect text place a 125 vs end
+    → IsRead dialect text from (seq a) (a_seq vs) end
+seq_read dialect text from place end a vs opening all = record {
   has_type = all.have_type;
   reads = reads-append opening.reads all.reads;
   moves = omega (arith, opening.moves, all.moves);
   within = all.within;
 }
 
-pub pair_read : (text : List ℕ) (from place behind further last end : ℕ) (a b : Ty) (v w : Value) → Takes text from left_paren place
-    → IsRead text place a v behind → Takes text behind comma further → IsRead text further b w last → Takes text last right_paren end
-    → IsRead text from (pair a b) (a_pair v w) end
-pair_read text from place behind further last end a b v w opening one parting two closing = record {
+pub pair_read : (dialect : Dialect) → (text : List ℕ) (from place behind further last end : ℕ) (a b : Ty) (v w : Value) → Takes text from left_paren place
+    → IsRead dialect text place a v behind → Takes text behind comma further → IsRead dialect text further b w last → Takes text last right_paren end
+    → IsRead dialect text from (pair a b) (a_pair v w) end
+pair_read dialect text from place behind further last end a b v w opening one parting two closing = record {
   has_type = (one.has_type, two.has_type);
   reads = reads-append opening.reads (reads-append one.reads (reads-append parting.reads (reads-append two.reads closing.reads)));
   moves = omega (arith, opening.moves, one.moves, parting.moves, two.moves, closing.moves);

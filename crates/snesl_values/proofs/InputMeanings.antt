@@ -1,5 +1,6 @@
 -- A text means one thing.
 use Rattle.std.proofs.Common.{◌≡◌, ℕ, ◌+◌, List, [], ◌∷◌, ◌++◌, Some, None, inl, inr, refl, sym, ap, ◌∙◌, subst, append_assoc, append-nil, arith}
+use Rattle.snesl_values.specs.declared.dialect.Dialect.{Dialect}
 use Rattle.snesl_values.specs.Values.{Value}
 use Rattle.snesl_values.specs.InputTokens.{Token, Lexeme, word, next_at, next_token, Reads, none, more}
 use Rattle.snesl_values.specs.Inputs.{Declaration, Environment, Fits, equals, semicolon, entry_tokens, further_entries, environment_tokens, AreEntries, Spells, IsLawful, MayFollow, StopsAt, InputAnswer, spells, refused_at, InputMeans, too_long, lawful, unlawful}
@@ -86,17 +87,17 @@ same_entry d e f h k v = let names : e.0 ≡ f.0 = h ∙ sym k in ap (λ name. (
 entry_parts : (e f : List ℕ × Value) (r s : List Token) → entry_tokens e ++ r ≡ entry_tokens f ++ s → (e.1 ≡ f.1) × (r ≡ s)
 entry_parts e f r s same = one_value e.1 f.1 r s (behind_head equals equals _ _ (behind_head (word e.0) (word f.0) _ _ same))
 
-one_further_environment : (ds : List Declaration) (es fs : Environment) (r s : List Token) → Fits ds es → Fits ds fs
+one_further_environment : (dialect : Dialect) → (ds : List Declaration) (es fs : Environment) (r s : List Token) → Fits dialect ds es → Fits dialect ds fs
     → further_entries es ++ r ≡ further_entries fs ++ s → es ≡ fs
-one_further_environment [] [] [] r s h k e = refl
-one_further_environment [] [] (f ∷ fs) r s h k e = absurd k
-one_further_environment [] (x ∷ es) fs r s h k e = absurd h
-one_further_environment (d ∷ ds) [] fs r s h k e = absurd h
-one_further_environment (d ∷ ds) (x ∷ es) [] r s h k e = absurd k
-one_further_environment (d ∷ ds) (x ∷ es) (y ∷ fs) r s h k e =
+one_further_environment dialect [] [] [] r s h k e = refl
+one_further_environment dialect [] [] (f ∷ fs) r s h k e = absurd k
+one_further_environment dialect [] (x ∷ es) fs r s h k e = absurd h
+one_further_environment dialect (d ∷ ds) [] fs r s h k e = absurd h
+one_further_environment dialect (d ∷ ds) (x ∷ es) [] r s h k e = absurd k
+one_further_environment dialect (d ∷ ds) (x ∷ es) (y ∷ fs) r s h k e =
     let parts = entry_parts x y (further_entries es ++ r) (further_entries fs ++ s)
     (sym (append_assoc (entry_tokens x) (further_entries es) r) ∙ behind_head semicolon semicolon _ _ e ∙ append_assoc (entry_tokens y) (further_entries fs) s) in
-    let rest = one_further_environment ds es fs r s h.2 k.2 parts.1 in
+    let rest = one_further_environment dialect ds es fs r s h.2 k.2 parts.1 in
     ap (λ z. z ∷ es) (same_entry d x y h.0 k.0 parts.0) ∙ ap (λ l. y ∷ l) rest
 
 entries_end : (es : Environment) (us : List Token) → AreEntries es us → (r : List Token) × (us ≡ environment_tokens es ++ r)
@@ -104,36 +105,36 @@ entries_end [] us e = ([], e)
 entries_end (x ∷ es) us (inl e) = ([], e ∙ sym (append-nil (environment_tokens (x ∷ es))))
 entries_end (x ∷ es) us (inr e) = (semicolon ∷ [], e)
 
-one_environment : (ds : List Declaration) (es fs : Environment) (r s : List Token) → Fits ds es → Fits ds fs
+one_environment : (dialect : Dialect) → (ds : List Declaration) (es fs : Environment) (r s : List Token) → Fits dialect ds es → Fits dialect ds fs
     → environment_tokens es ++ r ≡ environment_tokens fs ++ s → es ≡ fs
-one_environment [] [] [] r s h k e = refl
-one_environment [] [] (f ∷ fs) r s h k e = absurd k
-one_environment [] (x ∷ es) fs r s h k e = absurd h
-one_environment (d ∷ ds) [] fs r s h k e = absurd h
-one_environment (d ∷ ds) (x ∷ es) [] r s h k e = absurd k
-one_environment (d ∷ ds) (x ∷ es) (y ∷ fs) r s h k e =
+one_environment dialect [] [] [] r s h k e = refl
+one_environment dialect [] [] (f ∷ fs) r s h k e = absurd k
+one_environment dialect [] (x ∷ es) fs r s h k e = absurd h
+one_environment dialect (d ∷ ds) [] fs r s h k e = absurd h
+one_environment dialect (d ∷ ds) (x ∷ es) [] r s h k e = absurd k
+one_environment dialect (d ∷ ds) (x ∷ es) (y ∷ fs) r s h k e =
     let parts = entry_parts x y (further_entries es ++ r) (further_entries fs ++ s)
     (sym (append_assoc (entry_tokens x) (further_entries es) r) ∙ e ∙ append_assoc (entry_tokens y) (further_entries fs) s) in
-    let rest = one_further_environment ds es fs r s h.2 k.2 parts.1 in
+    let rest = one_further_environment dialect ds es fs r s h.2 k.2 parts.1 in
     ap (λ z. z ∷ es) (same_entry d x y h.0 k.0 parts.0) ∙ ap (λ l. y ∷ l) rest
 
-one_spelling : (ds : List Declaration) (es fs : Environment) (us : List Token) → Spells ds es us → Spells ds fs us → es ≡ fs
-one_spelling ds es fs us h k =
+one_spelling : (dialect : Dialect) → (ds : List Declaration) (es fs : Environment) (us : List Token) → Spells dialect ds es us → Spells dialect ds fs us → es ≡ fs
+one_spelling dialect ds es fs us h k =
     let a = entries_end es us h.entries in
     let b = entries_end fs us k.entries in
-    one_environment ds es fs a.0 b.0 h.fits k.fits (sym a.1 ∙ b.1)
+    one_environment dialect ds es fs a.0 b.0 h.fits k.fits (sym a.1 ∙ b.1)
 
-pub one_meaning : (ds : List Declaration) (text : List ℕ) (a b : InputAnswer) → InputMeans ds text a → InputMeans ds text b → a ≡ b
-one_meaning ds text a b (too_long h) (too_long k) = refl
-one_meaning ds text a b (too_long h) (lawful k r e s) = absurd (omega arith)
-one_meaning ds text a b (too_long h) (unlawful k s) = absurd (omega arith)
-one_meaning ds text a b (lawful h r e s) (too_long k) = absurd (omega arith)
-one_meaning ds text a b (lawful {environment = es} {tokens = ts} {end = m} h r e s) (lawful {environment = fs} {tokens = us} {end = n} k q f p) =
+pub one_meaning : (dialect : Dialect) → (ds : List Declaration) (text : List ℕ) (a b : InputAnswer) → InputMeans dialect ds text a → InputMeans dialect ds text b → a ≡ b
+one_meaning dialect ds text a b (too_long h) (too_long k) = refl
+one_meaning dialect ds text a b (too_long h) (lawful k r e s) = absurd (omega arith)
+one_meaning dialect ds text a b (too_long h) (unlawful k s) = absurd (omega arith)
+one_meaning dialect ds text a b (lawful h r e s) (too_long k) = absurd (omega arith)
+one_meaning dialect ds text a b (lawful {environment = es} {tokens = ts} {end = m} h r e s) (lawful {environment = fs} {tokens = us} {end = n} k q f p) =
     let same = one_tokens text m n ts us r q e f in
-    ap spells (one_spelling ds es fs us (subst (Spells ds es) same s) p)
-one_meaning ds text a b (lawful {environment = es} {tokens = ts} {end = m} h r e s) (unlawful {at = n} k p) =
-    absurd (no_stop (IsLawful ds) text n m ts p r e (es, s))
-one_meaning ds text a b (unlawful h s) (too_long k) = absurd (omega arith)
-one_meaning ds text a b (unlawful {at = n} h p) (lawful {environment = es} {tokens = ts} {end = m} k r e s) =
-    absurd (no_stop (IsLawful ds) text n m ts p r e (es, s))
-one_meaning ds text a b (unlawful {at = m} h s) (unlawful {at = n} k p) = ap refused_at (one_stop (IsLawful ds) text m n s p)
+    ap spells (one_spelling dialect ds es fs us (subst (Spells dialect ds es) same s) p)
+one_meaning dialect ds text a b (lawful {environment = es} {tokens = ts} {end = m} h r e s) (unlawful {at = n} k p) =
+    absurd (no_stop (IsLawful dialect ds) text n m ts p r e (es, s))
+one_meaning dialect ds text a b (unlawful h s) (too_long k) = absurd (omega arith)
+one_meaning dialect ds text a b (unlawful {at = n} h p) (lawful {environment = es} {tokens = ts} {end = m} k r e s) =
+    absurd (no_stop (IsLawful dialect ds) text n m ts p r e (es, s))
+one_meaning dialect ds text a b (unlawful {at = m} h s) (unlawful {at = n} k p) = ap refused_at (one_stop (IsLawful dialect ds) text m n s p)

@@ -7,9 +7,11 @@ use Rattle.std.proofs.lemmas.List.Folds.{length-prefix_len}
 use Rattle.std.specs.Char.{is_ascii_digit, is_ascii_alphabetic}
 use Rattle.std.proofs.lemmas.Bool.Decides.{nat_tests}
 use Rattle.snesl_values.specs.Blanks.{is_blank}
-use Rattle.snesl_values.specs.Integers.{is_integer, IsInteger, greatest_magnitude}
+use Rattle.snesl_values.specs.declared.dialect.Dialect.{Dialect}
+use Rattle.snesl_values.specs.declared.dialect.Dialect.TheVariants.{Two}
+use Rattle.snesl_values.specs.Integers.{greatest_integer, IsInteger}
 use Rattle.snesl_values.specs.Characters.{is_word, value_from}
-use Rattle.snesl_values.specs.InputTokens.{Token, Lexeme, word, integer, sign, bad, is_sign, integer_token, negated, minus_lexeme, first, next, next_at, next_token, Reads, none, more, Takes, digits_at, number_of, IsNumber}
+use Rattle.snesl_values.specs.InputTokens.{Token, Lexeme, word, integer, sign, bad, is_sign, negated, minus_lexeme, first, next, next_at, next_token, Reads, none, more, Takes, digits_at, number_of, IsNumber}
 
 abbrev pub rest_of : List ℕ → ℕ → List ℕ
 rest_of text at = take (length text - at) (drop at text)
@@ -29,7 +31,7 @@ next-is text at start e = ap (λ n. first (drop n text)) (sym e)
 data Stands (b : ℕ) (bs : List ℕ) : Option Lexeme → Type 0 where
   letters : is_ascii_alphabetic b ≡ true → Stands b bs (Some (word (take_while is_word (b ∷ bs)), length (take_while is_word (b ∷ bs))))
   digits : is_ascii_digit b ≡ true
-      → Stands b bs (Some (integer_token (pos (value_from 0 (take_while is_ascii_digit (b ∷ bs)))), length (take_while is_ascii_digit (b ∷ bs))))
+      → Stands b bs (Some (integer (pos (value_from 0 (take_while is_ascii_digit (b ∷ bs)))), length (take_while is_ascii_digit (b ∷ bs))))
   minus : b ≡ 45 → Stands b bs (Some (minus_lexeme (take_while is_ascii_digit bs)))
   a_sign : is_sign b ≡ true → Stands b bs (Some (sign b, 1))
   other : Stands b bs (Some (bad, 1))
@@ -40,7 +42,7 @@ stands b bs = by_class (is_ascii_alphabetic b) refl (is_ascii_digit b) refl (eqb
   where
     by_class : (t : Bool) → is_ascii_alphabetic b ≡ t → (u : Bool) → is_ascii_digit b ≡ u → (v : Bool) → eqb b 45 ≡ v → (w : Bool) → is_sign b ≡ w
         → Stands b bs (cond t (Some (word (take_while is_word (b ∷ bs)), length (take_while is_word (b ∷ bs))))
-        (cond u (Some (integer_token (pos (value_from 0 (take_while is_ascii_digit (b ∷ bs)))), length (take_while is_ascii_digit (b ∷ bs))))
+        (cond u (Some (integer (pos (value_from 0 (take_while is_ascii_digit (b ∷ bs)))), length (take_while is_ascii_digit (b ∷ bs))))
         (cond v (Some (minus_lexeme (take_while is_ascii_digit bs))) (cond w (Some (sign b, 1)) (Some (bad, 1))))))
     by_class true e u f v g w h = letters e
     by_class false e true f v g w h = digits f
@@ -57,7 +59,7 @@ digit_no_letter : (b : ℕ) → is_ascii_digit b ≡ true → is_ascii_alphabeti
 digit_no_letter b h = grind (arith, nat_tests)
 
 first-digits : (b : ℕ) (bs : List ℕ) → is_ascii_digit b ≡ true
-    → first (b ∷ bs) ≡ Some (integer_token (pos (value_from 0 (take_while is_ascii_digit (b ∷ bs)))), length (take_while is_ascii_digit (b ∷ bs)))
+    → first (b ∷ bs) ≡ Some (integer (pos (value_from 0 (take_while is_ascii_digit (b ∷ bs)))), length (take_while is_ascii_digit (b ∷ bs)))
 unfolding first
 first-digits b bs e = cond-false _ _ _ (digit_no_letter b e) ∙ cond-true _ _ _ e
 
@@ -113,23 +115,13 @@ sign_taken text at start byte e from h is lawful =
     (ap first (drop-cons text start 0 h) ∙ first-sign (get_or text start 0) (drop (suc start) text) (ap is_sign is ∙ lawful) ∙ ap (λ b. Some (sign b, 1)) is)
     (omega arith) (omega arith)
 
-in_range : (n : ℤ) (t : Bool) → is_integer n ≡ t → cond t (integer n) bad ≡ integer_token n
-in_range n t e = ap (λ b. cond b (integer n) bad) (sym e)
-
-no_sign : (n : ℤ) (c : ℕ) → integer_token n ≡ sign c → ⊥
-no_sign n c e = by_test (is_integer n) e
-  where
-    by_test : (t : Bool) → cond t (integer n) bad ≡ sign c → ⊥
-    by_test true f = cc
-    by_test false f = cc
-
 no_minus_sign : (digits : List ℕ) (c : ℕ) → (minus_lexeme digits).0 ≡ sign c → ⊥
 no_minus_sign [] c e = cc
-no_minus_sign (d ∷ ds) c e = no_sign (negated (value_from 0 (d ∷ ds))) c e
+no_minus_sign (d ∷ ds) c e = cc
 
 sign_only : (b : ℕ) (bs : List ℕ) (c : ℕ) (o : Option Lexeme) → Stands b bs o → option_map (λ (lexeme : Lexeme). lexeme.0) o ≡ Some (sign c) → b ≡ c
 sign_only b bs c o (letters h) e = cc
-sign_only b bs c o (digits h) e = absurd (no_sign (pos (value_from 0 (take_while is_ascii_digit (b ∷ bs)))) c (let f : integer_token (pos (value_from 0 (take_while is_ascii_digit (b ∷ bs)))) ≡ sign c = cc in f))
+sign_only b bs c o (digits h) e = cc
 sign_only b bs c o (minus h) e = absurd (no_minus_sign (take_while is_ascii_digit bs) c (let f : (minus_lexeme (take_while is_ascii_digit bs)).0 ≡ sign c = cc in f))
 sign_only b bs c o (a_sign h) e = cc
 sign_only b bs c o other e = cc
@@ -162,21 +154,14 @@ word_taken text at start len expected e from h letter count same =
     ∙ ap (λ n. Some (word (take_while is_word (drop start text)), n)) lens ∙ ap (λ w. Some (word w, len)) word_is)
     some (omega (arith, length-drop start text))
 
-no_word : (n : ℤ) (w : List ℕ) → integer_token n ≡ word w → ⊥
-no_word n w e = by_test (is_integer n) e
-  where
-    by_test : (t : Bool) → cond t (integer n) bad ≡ word w → ⊥
-    by_test true f = cc
-    by_test false f = cc
-
 no_minus_word : (digits : List ℕ) (w : List ℕ) → (minus_lexeme digits).0 ≡ word w → ⊥
 no_minus_word [] w e = cc
-no_minus_word (d ∷ ds) w e = no_word (negated (value_from 0 (d ∷ ds))) w e
+no_minus_word (d ∷ ds) w e = cc
 
 word_only : (b : ℕ) (bs w : List ℕ) (o : Option Lexeme) → Stands b bs o → option_map (λ (lexeme : Lexeme). lexeme.0) o ≡ Some (word w)
     → (is_ascii_alphabetic b ≡ true) × (take_while is_word (b ∷ bs) ≡ w)
 word_only b bs w o (letters h) e = (h, cc)
-word_only b bs w o (digits h) e = absurd (no_word (pos (value_from 0 (take_while is_ascii_digit (b ∷ bs)))) w (let f : integer_token (pos (value_from 0 (take_while is_ascii_digit (b ∷ bs)))) ≡ word w = cc in f))
+word_only b bs w o (digits h) e = cc
 word_only b bs w o (minus h) e = absurd (no_minus_word (take_while is_ascii_digit bs) w (let f : (minus_lexeme (take_while is_ascii_digit bs)).0 ≡ word w = cc in f))
 word_only b bs w o (a_sign h) e = cc
 word_only b bs w o other e = cc
@@ -196,11 +181,11 @@ value_from-grows : (n : ℕ) (cs : List ℕ) → n ≤ value_from n cs
 value_from-grows n [] = omega arith
 value_from-grows n (c ∷ cs) = let h : 10 * n + (c - 48) ≤ value_from (10 * n + (c - 48)) cs = value_from-grows (10 * n + (c - 48)) cs in omega arith
 
-too_large : (v : ℕ) → greatest_magnitude < v → None ≡ cond (leb v greatest_magnitude) (Some v) None
-too_large v h = sym (ap (λ b. cond b (Some v) None) (lt-leb v greatest_magnitude h))
+too_large : (v : ℕ) → (suc (greatest_integer Two)) < v → None ≡ cond (leb v (suc (greatest_integer Two))) (Some v) None
+too_large v h = sym (ap (λ b. cond b (Some v) None) (lt-leb v (suc (greatest_integer Two)) h))
 
 pub early : (cs : List ℕ) (i v : ℕ) → i < length cs → value_from v (drop i cs) ≡ value_from 0 cs
-    → (greatest_magnitude - (get_or cs i 0 - 48)) / 10 < v → None ≡ cond (leb (value_from 0 cs) greatest_magnitude) (Some (value_from 0 cs)) None
+    → ((suc (greatest_integer Two)) - (get_or cs i 0 - 48)) / 10 < v → None ≡ cond (leb (value_from 0 cs) (suc (greatest_integer Two))) (Some (value_from 0 cs)) None
 early cs i v h same over =
     let d : ℕ = get_or cs i 0 - 48 in
     let next : value_from v (drop i cs) ≡ value_from (10 * v + (get_or cs i 0 - 48)) (drop (suc i) cs) = ap (value_from v) (drop-cons cs i 0 h) in
@@ -235,34 +220,29 @@ starts_with_digit (b ∷ rest) h = by_test (is_ascii_digit b) refl h
     by_test true e k = (b, rest, refl, e)
     by_test false e k = absurd (omega arith)
 
-lawful_token : (n : ℤ) → IsInteger n → integer_token n ≡ integer n
-lawful_token n h = cond-true (is_integer n) (integer n) bad h
-
-pub positive_taken : (text : List ℕ) (at start : ℕ) (found : ℤ × ℕ) → start ≡ next_at text at → at ≤ start → start ≤ length text
-    → IsNumber text start false found → Takes text at (integer found.0) found.1
-positive_taken text at start found e from within number =
+pub positive_taken : (dialect : Dialect) (text : List ℕ) (at start : ℕ) (found : ℤ × ℕ) → start ≡ next_at text at → at ≤ start → start ≤ length text
+    → IsNumber dialect text start false found → Takes text at (integer found.0) found.1
+positive_taken dialect text at start found e from within number =
     let ds = digits_at text start in
     let w = starts_with_digit (drop start text) number.some in
-    let token : integer_token (pos (value_from 0 ds)) ≡ integer found.0 =
-    ap integer_token (sym number.value) ∙ lawful_token found.0 number.in_range in
+    let token : integer (pos (value_from 0 ds)) ≡ integer found.0 = ap integer (sym number.value) in
     let most : length ds ≤ length (drop start text) =
     subst (λ n. n ≤ length (drop start text)) (sym (length-prefix_len is_ascii_digit (drop start text))) (prefix_len-le-length is_ascii_digit (drop start text)) in
     subst (Takes text at (integer found.0)) (sym number.end)
     (taken text at start (length ds) (integer found.0) e from
-    (subst (λ bs. first bs ≡ Some (integer_token (pos (value_from 0 (take_while is_ascii_digit bs))), length (take_while is_ascii_digit bs))) (sym w.2)
+    (subst (λ bs. first bs ≡ Some (integer (pos (value_from 0 (take_while is_ascii_digit bs))), length (take_while is_ascii_digit bs))) (sym w.2)
     (first-digits w.0 w.1 w.3) ∙ ap (λ t. Some (t, length ds)) token)
     number.some (omega (arith, length-drop start text)))
 
-minus_digits : (digits : List ℕ) → 0 < length digits → minus_lexeme digits ≡ (integer_token (negated (value_from 0 digits)), suc (length digits))
+minus_digits : (digits : List ℕ) → 0 < length digits → minus_lexeme digits ≡ (integer (negated (value_from 0 digits)), suc (length digits))
 minus_digits [] h = absurd (omega arith)
 minus_digits (d ∷ ds) h = refl
 
-pub negative_taken : (text : List ℕ) (at start : ℕ) (found : ℤ × ℕ) → start ≡ next_at text at → at ≤ start → start < length text
-    → get_or text start 0 ≡ 45 → IsNumber text (start + 1) true found → Takes text at (integer found.0) found.1
-negative_taken text at start found e from below is number =
+pub negative_taken : (dialect : Dialect) (text : List ℕ) (at start : ℕ) (found : ℤ × ℕ) → start ≡ next_at text at → at ≤ start → start < length text
+    → get_or text start 0 ≡ 45 → IsNumber dialect text (start + 1) true found → Takes text at (integer found.0) found.1
+negative_taken dialect text at start found e from below is number =
     let ds = digits_at text (start + 1) in
-    let token : integer_token (negated (value_from 0 ds)) ≡ integer found.0 =
-    ap integer_token (sym number.value) ∙ lawful_token found.0 number.in_range in
+    let token : integer (negated (value_from 0 ds)) ≡ integer found.0 = ap integer (sym number.value) in
     let most : length ds ≤ length (drop (start + 1) text) =
     subst (λ n. n ≤ length (drop (start + 1) text)) (sym (length-prefix_len is_ascii_digit (drop (start + 1) text)))
     (prefix_len-le-length is_ascii_digit (drop (start + 1) text)) in
@@ -274,16 +254,12 @@ negative_taken text at start found e from below is number =
     (omega arith) (omega (arith, length-drop (start + 1) text)))
 
 -- where no integer is written
-integer_in_range : (m n : ℤ) → integer_token m ≡ integer n → IsInteger m
-integer_in_range m n e = by_test (is_integer m) refl e
-  where
-    by_test : (t : Bool) → is_integer m ≡ t → cond t (integer m) bad ≡ integer n → IsInteger m
-    by_test true e f = e
-    by_test false e f = cc
+the_same : {m n : ℤ} → integer m ≡ integer n → m ≡ n
+the_same e = cc
 
-minus_in_range : (digits : List ℕ) (n : ℤ) → (minus_lexeme digits).0 ≡ integer n → (0 < length digits) × IsInteger (negated (value_from 0 digits))
-minus_in_range [] n e = cc
-minus_in_range (d ∷ ds) n e = (omega arith, integer_in_range (negated (value_from 0 (d ∷ ds))) n e)
+minus_written : (digits : List ℕ) (n : ℤ) → (minus_lexeme digits).0 ≡ integer n → (0 < length digits) × (negated (value_from 0 digits) ≡ n)
+minus_written [] n e = cc
+minus_written (d ∷ ds) n e = (omega arith, the_same e)
 
 take_while_some : (p : ℕ → Bool) (b : ℕ) (bs : List ℕ) → p b ≡ true → 0 < length (take_while p (b ∷ bs))
 take_while_some p b bs e =
@@ -291,22 +267,26 @@ take_while_some p b bs e =
     omega arith
 
 integer_only : (b : ℕ) (bs : List ℕ) (n : ℤ) (o : Option Lexeme) → Stands b bs o → option_map (λ (lexeme : Lexeme). lexeme.0) o ≡ Some (integer n)
-    → ((0 < length (take_while is_ascii_digit (b ∷ bs))) × IsInteger (pos (value_from 0 (take_while is_ascii_digit (b ∷ bs)))))
-    ⊎ ((b ≡ 45) × (0 < length (take_while is_ascii_digit bs)) × IsInteger (negated (value_from 0 (take_while is_ascii_digit bs))))
+    → ((0 < length (take_while is_ascii_digit (b ∷ bs))) × (pos (value_from 0 (take_while is_ascii_digit (b ∷ bs))) ≡ n))
+    ⊎ ((b ≡ 45) × (0 < length (take_while is_ascii_digit bs)) × (negated (value_from 0 (take_while is_ascii_digit bs)) ≡ n))
 integer_only b bs n o (letters h) e = cc
 integer_only b bs n o (digits h) e =
-    inl (take_while_some is_ascii_digit b bs h, integer_in_range (pos (value_from 0 (take_while is_ascii_digit (b ∷ bs)))) n (let f : integer_token (pos (value_from 0 (take_while is_ascii_digit (b ∷ bs)))) ≡ integer n = cc in f))
+    inl (take_while_some is_ascii_digit b bs h, the_same (let f : integer (pos (value_from 0 (take_while is_ascii_digit (b ∷ bs)))) ≡ integer n = cc in f))
 integer_only b bs n o (minus h) e =
-    let r = minus_in_range (take_while is_ascii_digit bs) n (let f : (minus_lexeme (take_while is_ascii_digit bs)).0 ≡ integer n = cc in f) in inr (h, r.0, r.1)
+    let r = minus_written (take_while is_ascii_digit bs) n (let f : (minus_lexeme (take_while is_ascii_digit bs)).0 ≡ integer n = cc in f) in inr (h, r.0, r.1)
 integer_only b bs n o (a_sign h) e = cc
 integer_only b bs n o other e = cc
 
-pub another_integer : (text : List ℕ) (at start : ℕ) (n : ℤ) → start ≡ next_at text at
-    → ((0 < length (digits_at text start)) × IsInteger (number_of false (digits_at text start)) → ⊥)
+-- some digits write an integer of the dialect with this sign
+abbrev Written : Dialect → Bool → List ℕ → Type 0
+Written dialect is_negative ds = (0 < length ds) × IsInteger dialect (number_of is_negative ds)
+
+pub another_integer : (dialect : Dialect) (text : List ℕ) (at start : ℕ) (n : ℤ) → start ≡ next_at text at → IsInteger dialect n
+    → ((0 < length (digits_at text start)) × IsInteger dialect (number_of false (digits_at text start)) → ⊥)
     → (start < length text → get_or text start 0 ≡ 45
-    → (0 < length (digits_at text (start + 1))) × IsInteger (number_of true (digits_at text (start + 1))) → ⊥)
+    → (0 < length (digits_at text (start + 1))) × IsInteger dialect (number_of true (digits_at text (start + 1))) → ⊥)
     → next_token text at ≡ Some (integer n) → ⊥
-another_integer text at start n e plain minus_case found = ⊎_elim by_byte
+another_integer dialect text at start n e ranged plain minus_case found = ⊎_elim by_byte
     (λ h. let f = no_next text at start e h in absurd (let g : None ≡ Some (integer n) = sym f ∙ found in cc))
     (cases_lt start (length text))
   where
@@ -315,8 +295,8 @@ another_integer text at start n e plain minus_case found = ⊎_elim by_byte
         let bytes : get_or text start 0 ∷ drop (suc start) text ≡ drop start text = sym (drop-cons text start 0 h) in
         let later : drop (suc start) text ≡ drop (start + 1) text = ap (λ k. drop k text) (sym (add-one start)) in
         ⊎_elim
-        (λ w. plain (subst (λ bs. (0 < length (take_while is_ascii_digit bs)) × IsInteger (number_of false (take_while is_ascii_digit bs))) bytes w))
-        (λ w. minus_case h w.0 (subst (λ bs. (0 < length (take_while is_ascii_digit bs)) × IsInteger (number_of true (take_while is_ascii_digit bs))) later (w.1, w.2)))
+        (λ w. plain (subst (λ bs. Written dialect false (take_while is_ascii_digit bs)) bytes (w.0, subst (IsInteger dialect) (sym w.1) ranged)))
+        (λ w. minus_case h w.0 (subst (λ bs. Written dialect true (take_while is_ascii_digit bs)) later (w.1, subst (IsInteger dialect) (sym w.2) ranged)))
         (integer_only (get_or text start 0) (drop (suc start) text) n _ (stands (get_or text start 0) (drop (suc start) text)) (sym (next_token-is text at start e h) ∙ found))
 
 -- what holds of an answer that is there, and of one that is not
@@ -349,15 +329,10 @@ pub some_next : (text : List ℕ) (at start : ℕ) → start ≡ next_at text at
 some_next text at start e h nothing =
     something (get_or text start 0) (drop (suc start) text) _ (stands (get_or text start 0) (drop (suc start) text)) (sym (next_token-is text at start e h) ∙ nothing)
 
--- a token is an integer in the range, or no integer
-abbrev pub InRange : Token → Type 0
-InRange (integer n) = IsInteger n
-InRange _ = Unit {0}
-
 -- what comes next: nothing, or a token
 pub data Coming (text : List ℕ) (at : ℕ) : Type 0 where
   nothing_comes : next_token text at ≡ None → Coming text at
-  comes : (token : Token) (end : ℕ) → Takes text at token end → InRange token → Coming text at
+  comes : (token : Token) (end : ℕ) → Takes text at token end → Coming text at
 
 -- a lexeme that ends in these bytes
 record IsWithin (bytes : ℕ) (o : Option Lexeme) : Type 0 where
@@ -366,27 +341,18 @@ record IsWithin (bytes : ℕ) (o : Option Lexeme) : Type 0 where
   is : o ≡ Some (token, len)
   some : 0 < len
   most : len ≤ bytes
-  in_range : InRange token
-
-integer_token_range : (n : ℤ) → InRange (integer_token n)
-integer_token_range n = by_test (is_integer n) refl
-  where
-    by_test : (t : Bool) → is_integer n ≡ t → InRange (cond t (integer n) bad)
-    by_test true e = e
-    by_test false e = tt
 
 take_while_most : (p : ℕ → Bool) (bs : List ℕ) → length (take_while p bs) ≤ length bs
 take_while_most p bs = subst (λ n. n ≤ length bs) (sym (length-prefix_len p bs)) (prefix_len-le-length p bs)
 
 minus_within : (bs digits : List ℕ) → length digits ≤ length bs → IsWithin (suc (length bs)) (Some (minus_lexeme digits))
-minus_within bs [] h = record { token = bad; len = 1; is = refl; some = omega arith; most = omega arith; in_range = tt }
+minus_within bs [] h = record { token = bad; len = 1; is = refl; some = omega arith; most = omega arith }
 minus_within bs (d ∷ ds) h = record {
-  token = integer_token (negated (value_from 0 (d ∷ ds)));
+  token = integer (negated (value_from 0 (d ∷ ds)));
   len = suc (length (d ∷ ds));
   is = refl;
   some = omega arith;
   most = omega arith;
-  in_range = integer_token_range (negated (value_from 0 (d ∷ ds)));
 }
 
 found_within : (b : ℕ) (bs : List ℕ) (o : Option Lexeme) → Stands b bs o → IsWithin (suc (length bs)) o
@@ -396,19 +362,17 @@ found_within b bs o (letters h) = record {
   is = refl;
   some = take_while_some is_word b bs (letter_in_word b h);
   most = take_while_most is_word (b ∷ bs);
-  in_range = tt;
 }
 found_within b bs o (digits h) = record {
-  token = integer_token (pos (value_from 0 (take_while is_ascii_digit (b ∷ bs))));
+  token = integer (pos (value_from 0 (take_while is_ascii_digit (b ∷ bs))));
   len = length (take_while is_ascii_digit (b ∷ bs));
   is = refl;
   some = take_while_some is_ascii_digit b bs h;
   most = take_while_most is_ascii_digit (b ∷ bs);
-  in_range = integer_token_range (pos (value_from 0 (take_while is_ascii_digit (b ∷ bs))));
 }
 found_within b bs o (minus h) = minus_within bs (take_while is_ascii_digit bs) (take_while_most is_ascii_digit bs)
-found_within b bs o (a_sign h) = record { token = sign b; len = 1; is = refl; some = omega arith; most = omega arith; in_range = tt }
-found_within b bs o other = record { token = bad; len = 1; is = refl; some = omega arith; most = omega arith; in_range = tt }
+found_within b bs o (a_sign h) = record { token = sign b; len = 1; is = refl; some = omega arith; most = omega arith }
+found_within b bs o other = record { token = bad; len = 1; is = refl; some = omega arith; most = omega arith }
 
 pub coming : (text : List ℕ) (at : ℕ) → at ≤ length text → Coming text at
 coming text at within = by_length (cases_lt (next_at text at) (length text))
@@ -422,5 +386,4 @@ coming text at within = by_length (cases_lt (next_at text at) (length text))
         comes found.token (start + found.len)
         (taken text at start found.len found.token refl (omega (arith, next_at-is text at)) (ap first (drop-cons text start 0 below) ∙ found.is) found.some
         (omega (arith, found.most, length-drop (suc start) text)))
-        found.in_range
     by_length (inr over) = nothing_comes (no_next text at (next_at text at) refl over)

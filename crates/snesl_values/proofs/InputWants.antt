@@ -1,6 +1,9 @@
 -- How the wants of a reader are met.
 use Rattle.std.proofs.Common.{◌≡◌, ℕ, pos, true, false, List, [], ◌∷◌, ◌++◌, Some, codes, ◌⊎◌, inl, inr, refl, sym, ap, ◌∙◌, subst, append_assoc, arith, ℤ, ⊎_elim, Result, Ok, Err, IfErr}
 use Rattle.std.specs.Result.{IsErrAnd}
+use Rattle.snesl_values.specs.declared.dialect.Dialect.{Dialect}
+use Rattle.snesl_values.specs.declared.dialect.Dialect.TheVariants.{One, Two}
+use Rattle.snesl_values.specs.Integers.{IsInteger}
 use Rattle.snesl_values.specs.declared.inputs.InputError.{InputError}
 use Rattle.snesl_values.specs.declared.inputs.InputError.TheVariants.{Bad, NoMemory}
 use Rattle.snesl_values.specs.Types.{Ty, int, bool, pair, vec, seq}
@@ -105,261 +108,262 @@ mutual
       (ap (λ x. more_values x vs) f.0 ∙ ap (λ x. more_values w x) g.0, g.1)
 
 -- some value of each type
-some_value : (t : Ty) → (v : Value) × HasType v t
-some_value int = (an_int (pos 0), refl)
-some_value bool = (a_bool true, tt)
-some_value (pair a b) = (a_pair (some_value a).0 (some_value b).0, ((some_value a).1, (some_value b).1))
-some_value (vec a) = (a_vec no_values, tt)
-some_value (seq a) = (a_seq no_values, tt)
+some_value : (dialect : Dialect) → (t : Ty) → (v : Value) × HasType dialect v t
+some_value One int = (an_int (pos 0), refl)
+some_value Two int = (an_int (pos 0), refl)
+some_value dialect bool = (a_bool true, tt)
+some_value dialect (pair a b) = (a_pair (some_value dialect a).0 (some_value dialect b).0, ((some_value dialect a).1, (some_value dialect b).1))
+some_value dialect (vec a) = (a_vec no_values, tt)
+some_value dialect (seq a) = (a_seq no_values, tt)
 
 -- all wants can be met
-pub fillable : (wants : List Want) → (us : List Token) × Fills wants us
-fillable [] = ([], refl)
-fillable (one t ∷ wants) = let rest = fillable wants in (t ∷ rest.0, (t ∷ [], rest.0, refl, refl, rest.1))
-fillable (perhaps t ∷ wants) = let rest = fillable wants in (rest.0, ([], rest.0, refl, inl refl, rest.1))
-fillable (a_value t ∷ wants) =
-    let rest = fillable wants in
-    let v = some_value t in
+pub fillable : (dialect : Dialect) → (wants : List Want) → (us : List Token) × Fills dialect wants us
+fillable dialect [] = ([], refl)
+fillable dialect (one t ∷ wants) = let rest = fillable dialect wants in (t ∷ rest.0, (t ∷ [], rest.0, refl, refl, rest.1))
+fillable dialect (perhaps t ∷ wants) = let rest = fillable dialect wants in (rest.0, ([], rest.0, refl, inl refl, rest.1))
+fillable dialect (a_value t ∷ wants) =
+    let rest = fillable dialect wants in
+    let v = some_value dialect t in
     (value_tokens v.0 ++ rest.0, (value_tokens v.0, rest.0, refl, (v.0, v.1, refl), rest.1))
-fillable (items t close ∷ wants) = let rest = fillable wants in (sign close ∷ rest.0, (sign close ∷ [], rest.0, refl, (no_values, tt, refl), rest.1))
-fillable (further_items t close ∷ wants) = let rest = fillable wants in (sign close ∷ rest.0, (sign close ∷ [], rest.0, refl, (no_values, tt, refl), rest.1))
+fillable dialect (items t close ∷ wants) = let rest = fillable dialect wants in (sign close ∷ rest.0, (sign close ∷ [], rest.0, refl, (no_values, tt, refl), rest.1))
+fillable dialect (further_items t close ∷ wants) = let rest = fillable dialect wants in (sign close ∷ rest.0, (sign close ∷ [], rest.0, refl, (no_values, tt, refl), rest.1))
 
 -- how a want is met, with what is left
-pub one_in : (t : Token) (wants : List Want) (us : List Token) → Fills wants us → Fills (one t ∷ wants) (t ∷ us)
-one_in t wants us f = (t ∷ [], us, refl, refl, f)
+pub one_in : (dialect : Dialect) → (t : Token) (wants : List Want) (us : List Token) → Fills dialect wants us → Fills dialect (one t ∷ wants) (t ∷ us)
+one_in dialect t wants us f = (t ∷ [], us, refl, refl, f)
 
-pub one_out : (t : Token) (wants : List Want) (us : List Token) → Fills (one t ∷ wants) us → (rest : List Token) × (us ≡ t ∷ rest) × Fills wants rest
-one_out t wants us (these, rest, e, m, f) = (rest, e ∙ ap (λ l. l ++ rest) m, f)
+pub one_out : (dialect : Dialect) → (t : Token) (wants : List Want) (us : List Token) → Fills dialect (one t ∷ wants) us → (rest : List Token) × (us ≡ t ∷ rest) × Fills dialect wants rest
+one_out dialect t wants us (these, rest, e, m, f) = (rest, e ∙ ap (λ l. l ++ rest) m, f)
 
-pub value_in : (t : Ty) (v : Value) (wants : List Want) (us : List Token) → HasType v t → Fills wants us → Fills (a_value t ∷ wants) (value_tokens v ++ us)
-value_in t v wants us h f = (value_tokens v, us, refl, (v, h, refl), f)
+pub value_in : (dialect : Dialect) → (t : Ty) (v : Value) (wants : List Want) (us : List Token) → HasType dialect v t → Fills dialect wants us → Fills dialect (a_value t ∷ wants) (value_tokens v ++ us)
+value_in dialect t v wants us h f = (value_tokens v, us, refl, (v, h, refl), f)
 
-pub value_out : (t : Ty) (wants : List Want) (us : List Token) → Fills (a_value t ∷ wants) us
-    → (v : Value) × (rest : List Token) × HasType v t × (us ≡ value_tokens v ++ rest) × Fills wants rest
-value_out t wants us (these, rest, e, (v, h, m), f) = (v, rest, h, e ∙ ap (λ l. l ++ rest) m, f)
+pub value_out : (dialect : Dialect) → (t : Ty) (wants : List Want) (us : List Token) → Fills dialect (a_value t ∷ wants) us
+    → (v : Value) × (rest : List Token) × HasType dialect v t × (us ≡ value_tokens v ++ rest) × Fills dialect wants rest
+value_out dialect t wants us (these, rest, e, (v, h, m), f) = (v, rest, h, e ∙ ap (λ l. l ++ rest) m, f)
 
 -- behind a token that was wanted
-pub after_one : (text : List ℕ) (t : Token) (wants : List Want) (from place n : ℕ) → Reads text from (t ∷ []) place
-    → StopsAt (Fills wants) text place n → StopsAt (Fills (one t ∷ wants)) text from n
-after_one text t wants from place n read s =
-    stops_behind (Fills (one t ∷ wants)) (Fills wants) text (t ∷ []) from place n read
-    (one_in t wants)
-    (λ us f. let out = one_out t wants (t ∷ us) f in subst (Fills wants) (sym (behind_head t t us out.0 out.1)) out.2)
+pub after_one : (dialect : Dialect) → (text : List ℕ) (t : Token) (wants : List Want) (from place n : ℕ) → Reads text from (t ∷ []) place
+    → StopsAt (Fills dialect wants) text place n → StopsAt (Fills dialect (one t ∷ wants)) text from n
+after_one dialect text t wants from place n read s =
+    stops_behind (Fills dialect (one t ∷ wants)) (Fills dialect wants) text (t ∷ []) from place n read
+    (one_in dialect t wants)
+    (λ us f. let out = one_out dialect t wants (t ∷ us) f in subst (Fills dialect wants) (sym (behind_head t t us out.0 out.1)) out.2)
     s
 
 -- behind a value that was wanted
-pub after_value : (text : List ℕ) (t : Ty) (v : Value) (wants : List Want) (from place n : ℕ) → HasType v t → Reads text from (value_tokens v) place
-    → StopsAt (Fills wants) text place n → StopsAt (Fills (a_value t ∷ wants)) text from n
-after_value text t v wants from place n h read s =
-    stops_behind (Fills (a_value t ∷ wants)) (Fills wants) text (value_tokens v) from place n read
-    (λ us f. value_in t v wants us h f)
+pub after_value : (dialect : Dialect) → (text : List ℕ) (t : Ty) (v : Value) (wants : List Want) (from place n : ℕ) → HasType dialect v t → Reads text from (value_tokens v) place
+    → StopsAt (Fills dialect wants) text place n → StopsAt (Fills dialect (a_value t ∷ wants)) text from n
+after_value dialect text t v wants from place n h read s =
+    stops_behind (Fills dialect (a_value t ∷ wants)) (Fills dialect wants) text (value_tokens v) from place n read
+    (λ us f. value_in dialect t v wants us h f)
     (λ us f.
-    let out = value_out t wants (value_tokens v ++ us) f in
-    subst (Fills wants) (sym (one_value v out.0 us out.1 out.3).1) out.4)
+    let out = value_out dialect t wants (value_tokens v ++ us) f in
+    subst (Fills dialect wants) (sym (one_value v out.0 us out.1 out.3).1) out.4)
     s
 
 -- where a token was wanted and another or none comes
-pub another_one : (text : List ℕ) (t : Token) (wants : List Want) (from : ℕ) → (next_token text from ≡ Some t → ⊥)
-    → StopsAt (Fills (one t ∷ wants)) text from (next_at text from)
-another_one text t wants from another =
-    stops_first (Fills (one t ∷ wants)) (λ u. u ≡ t) text from (fillable (one t ∷ wants))
-    (λ us f. let out = one_out t wants us f in (t, out.0, out.1, refl))
+pub another_one : (dialect : Dialect) → (text : List ℕ) (t : Token) (wants : List Want) (from : ℕ) → (next_token text from ≡ Some t → ⊥)
+    → StopsAt (Fills dialect (one t ∷ wants)) text from (next_at text from)
+another_one dialect text t wants from another =
+    stops_first (Fills dialect (one t ∷ wants)) (λ u. u ≡ t) text from (fillable dialect (one t ∷ wants))
+    (λ us f. let out = one_out dialect t wants us f in (t, out.0, out.1, refl))
     (λ u e same. another (e ∙ ap (λ x. Some x) same))
 
 -- where an integer was wanted
-int_opens : (v : Value) (rest : List Token) → HasType v int → (t : Token) × (others : List Token) × (value_tokens v ++ rest ≡ t ∷ others) × ((n : ℤ) × (t ≡ integer n))
-int_opens (an_int n) rest h = (integer n, rest, refl, (n, refl))
-int_opens (a_bool b) rest h = absurd h
-int_opens (a_pair v w) rest h = absurd h
-int_opens (a_vec vs) rest h = absurd h
-int_opens (a_seq vs) rest h = absurd h
+int_opens : (dialect : Dialect) → (v : Value) (rest : List Token) → HasType dialect v int → (t : Token) × (others : List Token) × (value_tokens v ++ rest ≡ t ∷ others) × ((n : ℤ) × IsInteger dialect n × (t ≡ integer n))
+int_opens dialect (an_int n) rest h = (integer n, rest, refl, (n, h, refl))
+int_opens dialect (a_bool b) rest h = absurd h
+int_opens dialect (a_pair v w) rest h = absurd h
+int_opens dialect (a_vec vs) rest h = absurd h
+int_opens dialect (a_seq vs) rest h = absurd h
 
-pub no_integer : (text : List ℕ) (wants : List Want) (from : ℕ) → ((n : ℤ) → next_token text from ≡ Some (integer n) → ⊥)
-    → StopsAt (Fills (a_value int ∷ wants)) text from (next_at text from)
-no_integer text wants from another =
-    stops_first (Fills (a_value int ∷ wants)) (λ t. (n : ℤ) × (t ≡ integer n)) text from (fillable (a_value int ∷ wants))
-    (λ us f. let out = value_out int wants us f in let opened = int_opens out.0 out.1 out.2 in (opened.0, opened.1, out.3 ∙ opened.2, opened.3))
-    (λ t e same. another same.0 (e ∙ ap (λ x. Some x) same.1))
+pub no_integer : (dialect : Dialect) → (text : List ℕ) (wants : List Want) (from : ℕ) → ((n : ℤ) → IsInteger dialect n → next_token text from ≡ Some (integer n) → ⊥)
+    → StopsAt (Fills dialect (a_value int ∷ wants)) text from (next_at text from)
+no_integer dialect text wants from another =
+    stops_first (Fills dialect (a_value int ∷ wants)) (λ t. (n : ℤ) × IsInteger dialect n × (t ≡ integer n)) text from (fillable dialect (a_value int ∷ wants))
+    (λ us f. let out = value_out dialect int wants us f in let opened = int_opens dialect out.0 out.1 out.2 in (opened.0, opened.1, out.3 ∙ opened.2, opened.3))
+    (λ t e same. another same.0 same.1 (e ∙ ap (λ x. Some x) same.2))
 
 -- where a truth value was wanted
-bool_opens : (v : Value) (rest : List Token) → HasType v bool
+bool_opens : (dialect : Dialect) → (v : Value) (rest : List Token) → HasType dialect v bool
     → (t : Token) × (others : List Token) × (value_tokens v ++ rest ≡ t ∷ others) × ((t ≡ word (codes "true")) ⊎ (t ≡ word (codes "false")))
-bool_opens (an_int n) rest h = absurd h
-bool_opens (a_bool true) rest h = (word (codes "true"), rest, refl, inl refl)
-bool_opens (a_bool false) rest h = (word (codes "false"), rest, refl, inr refl)
-bool_opens (a_pair v w) rest h = absurd h
-bool_opens (a_vec vs) rest h = absurd h
-bool_opens (a_seq vs) rest h = absurd h
+bool_opens dialect (an_int n) rest h = absurd h
+bool_opens dialect (a_bool true) rest h = (word (codes "true"), rest, refl, inl refl)
+bool_opens dialect (a_bool false) rest h = (word (codes "false"), rest, refl, inr refl)
+bool_opens dialect (a_pair v w) rest h = absurd h
+bool_opens dialect (a_vec vs) rest h = absurd h
+bool_opens dialect (a_seq vs) rest h = absurd h
 
-pub no_truth : (text : List ℕ) (wants : List Want) (from : ℕ) → (next_token text from ≡ Some (word (codes "true")) → ⊥)
+pub no_truth : (dialect : Dialect) → (text : List ℕ) (wants : List Want) (from : ℕ) → (next_token text from ≡ Some (word (codes "true")) → ⊥)
     → (next_token text from ≡ Some (word (codes "false")) → ⊥)
-    → StopsAt (Fills (a_value bool ∷ wants)) text from (next_at text from)
-no_truth text wants from untrue unfalse =
-    stops_first (Fills (a_value bool ∷ wants)) (λ t. (t ≡ word (codes "true")) ⊎ (t ≡ word (codes "false"))) text from (fillable (a_value bool ∷ wants))
-    (λ us f. let out = value_out bool wants us f in let opened = bool_opens out.0 out.1 out.2 in (opened.0, opened.1, out.3 ∙ opened.2, opened.3))
+    → StopsAt (Fills dialect (a_value bool ∷ wants)) text from (next_at text from)
+no_truth dialect text wants from untrue unfalse =
+    stops_first (Fills dialect (a_value bool ∷ wants)) (λ t. (t ≡ word (codes "true")) ⊎ (t ≡ word (codes "false"))) text from (fillable dialect (a_value bool ∷ wants))
+    (λ us f. let out = value_out dialect bool wants us f in let opened = bool_opens dialect out.0 out.1 out.2 in (opened.0, opened.1, out.3 ∙ opened.2, opened.3))
     (λ t e same. ⊎_elim (λ s. untrue (e ∙ ap (λ x. Some x) s)) (λ s. unfalse (e ∙ ap (λ x. Some x) s)) same)
 
 -- a pair, part by part
-pair_in : (a b : Ty) (wants : List Want) (us : List Token)
-    → Fills (one left_paren ∷ a_value a ∷ one comma ∷ a_value b ∷ one right_paren ∷ wants) us → Fills (a_value (pair a b) ∷ wants) us
-pair_in a b wants us f =
-    let p = one_out left_paren (a_value a ∷ one comma ∷ a_value b ∷ one right_paren ∷ wants) us f in
-    let v = value_out a (one comma ∷ a_value b ∷ one right_paren ∷ wants) p.0 p.2 in
-    let q = one_out comma (a_value b ∷ one right_paren ∷ wants) v.1 v.4 in
-    let w = value_out b (one right_paren ∷ wants) q.0 q.2 in
-    let r = one_out right_paren wants w.1 w.4 in
+pair_in : (dialect : Dialect) → (a b : Ty) (wants : List Want) (us : List Token)
+    → Fills dialect (one left_paren ∷ a_value a ∷ one comma ∷ a_value b ∷ one right_paren ∷ wants) us → Fills dialect (a_value (pair a b) ∷ wants) us
+pair_in dialect a b wants us f =
+    let p = one_out dialect left_paren (a_value a ∷ one comma ∷ a_value b ∷ one right_paren ∷ wants) us f in
+    let v = value_out dialect a (one comma ∷ a_value b ∷ one right_paren ∷ wants) p.0 p.2 in
+    let q = one_out dialect comma (a_value b ∷ one right_paren ∷ wants) v.1 v.4 in
+    let w = value_out dialect b (one right_paren ∷ wants) q.0 q.2 in
+    let r = one_out dialect right_paren wants w.1 w.4 in
     let whole : us ≡ value_tokens (a_pair v.0 w.0) ++ r.0 =
     p.1 ∙ ap (λ l. left_paren ∷ l) (v.3 ∙ ap (λ l. value_tokens v.0 ++ l) (q.1 ∙ ap (λ l. comma ∷ l) (w.3 ∙ ap (λ l. value_tokens w.0 ++ l) r.1)))
     ∙ sym (pair_parts v.0 w.0 r.0) in
     (value_tokens (a_pair v.0 w.0), r.0, whole, (a_pair v.0 w.0, (v.2, w.2), refl), r.2)
 
-pair_of : (a b : Ty) (wants : List Want) (v : Value) (rest : List Token) → HasType v (pair a b) → Fills wants rest
-    → Fills (one left_paren ∷ a_value a ∷ one comma ∷ a_value b ∷ one right_paren ∷ wants) (value_tokens v ++ rest)
-pair_of a b wants (an_int n) rest h f = absurd h
-pair_of a b wants (a_bool x) rest h f = absurd h
-pair_of a b wants (a_pair v w) rest h f =
-    subst (Fills (one left_paren ∷ a_value a ∷ one comma ∷ a_value b ∷ one right_paren ∷ wants)) (sym (pair_parts v w rest))
-    (one_in left_paren (a_value a ∷ one comma ∷ a_value b ∷ one right_paren ∷ wants) (value_tokens v ++ (comma ∷ (value_tokens w ++ (right_paren ∷ rest))))
-    (value_in a v (one comma ∷ a_value b ∷ one right_paren ∷ wants) (comma ∷ (value_tokens w ++ (right_paren ∷ rest))) h.0
-    (one_in comma (a_value b ∷ one right_paren ∷ wants) (value_tokens w ++ (right_paren ∷ rest))
-    (value_in b w (one right_paren ∷ wants) (right_paren ∷ rest) h.1 (one_in right_paren wants rest f)))))
-pair_of a b wants (a_vec vs) rest h f = absurd h
-pair_of a b wants (a_seq vs) rest h f = absurd h
+pair_of : (dialect : Dialect) → (a b : Ty) (wants : List Want) (v : Value) (rest : List Token) → HasType dialect v (pair a b) → Fills dialect wants rest
+    → Fills dialect (one left_paren ∷ a_value a ∷ one comma ∷ a_value b ∷ one right_paren ∷ wants) (value_tokens v ++ rest)
+pair_of dialect a b wants (an_int n) rest h f = absurd h
+pair_of dialect a b wants (a_bool x) rest h f = absurd h
+pair_of dialect a b wants (a_pair v w) rest h f =
+    subst (Fills dialect (one left_paren ∷ a_value a ∷ one comma ∷ a_value b ∷ one right_paren ∷ wants)) (sym (pair_parts v w rest))
+    (one_in dialect left_paren (a_value a ∷ one comma ∷ a_value b ∷ one right_paren ∷ wants) (value_tokens v ++ (comma ∷ (value_tokens w ++ (right_paren ∷ rest))))
+    (value_in dialect a v (one comma ∷ a_value b ∷ one right_paren ∷ wants) (comma ∷ (value_tokens w ++ (right_paren ∷ rest))) h.0
+    (one_in dialect comma (a_value b ∷ one right_paren ∷ wants) (value_tokens w ++ (right_paren ∷ rest))
+    (value_in dialect b w (one right_paren ∷ wants) (right_paren ∷ rest) h.1 (one_in dialect right_paren wants rest f)))))
+pair_of dialect a b wants (a_vec vs) rest h f = absurd h
+pair_of dialect a b wants (a_seq vs) rest h f = absurd h
 
-pub pair_stops : (text : List ℕ) (a b : Ty) (wants : List Want) (from n : ℕ)
-    → StopsAt (Fills (one left_paren ∷ a_value a ∷ one comma ∷ a_value b ∷ one right_paren ∷ wants)) text from n
-    → StopsAt (Fills (a_value (pair a b) ∷ wants)) text from n
-pair_stops text a b wants from n s =
-    stops_behind (Fills (a_value (pair a b) ∷ wants)) (Fills (one left_paren ∷ a_value a ∷ one comma ∷ a_value b ∷ one right_paren ∷ wants)) text [] from from n none
-    (pair_in a b wants)
-    (λ us f. let out = value_out (pair a b) wants us f in
-    subst (Fills (one left_paren ∷ a_value a ∷ one comma ∷ a_value b ∷ one right_paren ∷ wants)) (sym out.3) (pair_of a b wants out.0 out.1 out.2 out.4))
+pub pair_stops : (dialect : Dialect) → (text : List ℕ) (a b : Ty) (wants : List Want) (from n : ℕ)
+    → StopsAt (Fills dialect (one left_paren ∷ a_value a ∷ one comma ∷ a_value b ∷ one right_paren ∷ wants)) text from n
+    → StopsAt (Fills dialect (a_value (pair a b) ∷ wants)) text from n
+pair_stops dialect text a b wants from n s =
+    stops_behind (Fills dialect (a_value (pair a b) ∷ wants)) (Fills dialect (one left_paren ∷ a_value a ∷ one comma ∷ a_value b ∷ one right_paren ∷ wants)) text [] from from n none
+    (pair_in dialect a b wants)
+    (λ us f. let out = value_out dialect (pair a b) wants us f in
+    subst (Fills dialect (one left_paren ∷ a_value a ∷ one comma ∷ a_value b ∷ one right_paren ∷ wants)) (sym out.3) (pair_of dialect a b wants out.0 out.1 out.2 out.4))
     s
 
 -- items and the sign that closes them
-items_in : (t : Ty) (close : ℕ) (vs : Values) (wants : List Want) (us : List Token) → AllHaveType vs t → Fills wants us
-    → Fills (items t close ∷ wants) (items_tokens vs ++ (sign close ∷ us))
-items_in t close vs wants us h f = (items_tokens vs ++ (sign close ∷ []), us, sym (append_assoc (items_tokens vs) (sign close ∷ []) us), (vs, h, refl), f)
+items_in : (dialect : Dialect) → (t : Ty) (close : ℕ) (vs : Values) (wants : List Want) (us : List Token) → AllHaveType dialect vs t → Fills dialect wants us
+    → Fills dialect (items t close ∷ wants) (items_tokens vs ++ (sign close ∷ us))
+items_in dialect t close vs wants us h f = (items_tokens vs ++ (sign close ∷ []), us, sym (append_assoc (items_tokens vs) (sign close ∷ []) us), (vs, h, refl), f)
 
-items_out : (t : Ty) (close : ℕ) (wants : List Want) (us : List Token) → Fills (items t close ∷ wants) us
-    → (vs : Values) × (rest : List Token) × AllHaveType vs t × (us ≡ items_tokens vs ++ (sign close ∷ rest)) × Fills wants rest
-items_out t close wants us (these, rest, e, (vs, h, m), f) =
+items_out : (dialect : Dialect) → (t : Ty) (close : ℕ) (wants : List Want) (us : List Token) → Fills dialect (items t close ∷ wants) us
+    → (vs : Values) × (rest : List Token) × AllHaveType dialect vs t × (us ≡ items_tokens vs ++ (sign close ∷ rest)) × Fills dialect wants rest
+items_out dialect t close wants us (these, rest, e, (vs, h, m), f) =
     (vs, rest, h, e ∙ ap (λ l. l ++ rest) m ∙ append_assoc (items_tokens vs) (sign close ∷ []) rest, f)
 
-further_in : (t : Ty) (close : ℕ) (vs : Values) (wants : List Want) (us : List Token) → AllHaveType vs t → Fills wants us
-    → Fills (further_items t close ∷ wants) (further_tokens vs ++ (sign close ∷ us))
-further_in t close vs wants us h f = (further_tokens vs ++ (sign close ∷ []), us, sym (append_assoc (further_tokens vs) (sign close ∷ []) us), (vs, h, refl), f)
+further_in : (dialect : Dialect) → (t : Ty) (close : ℕ) (vs : Values) (wants : List Want) (us : List Token) → AllHaveType dialect vs t → Fills dialect wants us
+    → Fills dialect (further_items t close ∷ wants) (further_tokens vs ++ (sign close ∷ us))
+further_in dialect t close vs wants us h f = (further_tokens vs ++ (sign close ∷ []), us, sym (append_assoc (further_tokens vs) (sign close ∷ []) us), (vs, h, refl), f)
 
-further_out : (t : Ty) (close : ℕ) (wants : List Want) (us : List Token) → Fills (further_items t close ∷ wants) us
-    → (vs : Values) × (rest : List Token) × AllHaveType vs t × (us ≡ further_tokens vs ++ (sign close ∷ rest)) × Fills wants rest
-further_out t close wants us (these, rest, e, (vs, h, m), f) =
+further_out : (dialect : Dialect) → (t : Ty) (close : ℕ) (wants : List Want) (us : List Token) → Fills dialect (further_items t close ∷ wants) us
+    → (vs : Values) × (rest : List Token) × AllHaveType dialect vs t × (us ≡ further_tokens vs ++ (sign close ∷ rest)) × Fills dialect wants rest
+further_out dialect t close wants us (these, rest, e, (vs, h, m), f) =
     (vs, rest, h, e ∙ ap (λ l. l ++ rest) m ∙ append_assoc (further_tokens vs) (sign close ∷ []) rest, f)
 
 -- a first item and further ones
-first_in : (t : Ty) (close : ℕ) (wants : List Want) (us : List Token) → Fills (a_value t ∷ further_items t close ∷ wants) us → Fills (items t close ∷ wants) us
-first_in t close wants us f =
-    let v = value_out t (further_items t close ∷ wants) us f in
-    let vs = further_out t close wants v.1 v.4 in
-    subst (Fills (items t close ∷ wants))
+first_in : (dialect : Dialect) → (t : Ty) (close : ℕ) (wants : List Want) (us : List Token) → Fills dialect (a_value t ∷ further_items t close ∷ wants) us → Fills dialect (items t close ∷ wants) us
+first_in dialect t close wants us f =
+    let v = value_out dialect t (further_items t close ∷ wants) us f in
+    let vs = further_out dialect t close wants v.1 v.4 in
+    subst (Fills dialect (items t close ∷ wants))
     (append_assoc (value_tokens v.0) (further_tokens vs.0) (sign close ∷ vs.1) ∙ ap (λ l. value_tokens v.0 ++ l) (sym vs.3) ∙ sym v.3)
-    (items_in t close (more_values v.0 vs.0) wants vs.1 (v.2, vs.2) vs.4)
+    (items_in dialect t close (more_values v.0 vs.0) wants vs.1 (v.2, vs.2) vs.4)
 
-first_of_items : (t : Ty) (close : ℕ) (wants : List Want) (us rest : List Token) (vs : Values) → AllHaveType vs t → Fills wants rest
+first_of_items : (dialect : Dialect) → (t : Ty) (close : ℕ) (wants : List Want) (us rest : List Token) (vs : Values) → AllHaveType dialect vs t → Fills dialect wants rest
     → us ≡ items_tokens vs ++ (sign close ∷ rest)
-    → Fills (a_value t ∷ further_items t close ∷ wants) us ⊎ ((others : List Token) × (us ≡ sign close ∷ others))
-first_of_items t close wants us rest no_values h f e = inr (rest, e)
-first_of_items t close wants us rest (more_values v vs) h f e =
-    inl (subst (Fills (a_value t ∷ further_items t close ∷ wants)) (sym (e ∙ append_assoc (value_tokens v) (further_tokens vs) (sign close ∷ rest)))
-    (value_in t v (further_items t close ∷ wants) (further_tokens vs ++ (sign close ∷ rest)) h.0 (further_in t close vs wants rest h.1 f)))
+    → Fills dialect (a_value t ∷ further_items t close ∷ wants) us ⊎ ((others : List Token) × (us ≡ sign close ∷ others))
+first_of_items dialect t close wants us rest no_values h f e = inr (rest, e)
+first_of_items dialect t close wants us rest (more_values v vs) h f e =
+    inl (subst (Fills dialect (a_value t ∷ further_items t close ∷ wants)) (sym (e ∙ append_assoc (value_tokens v) (further_tokens vs) (sign close ∷ rest)))
+    (value_in dialect t v (further_items t close ∷ wants) (further_tokens vs ++ (sign close ∷ rest)) h.0 (further_in dialect t close vs wants rest h.1 f)))
 
-pub first_item : (text : List ℕ) (t : Ty) (close : ℕ) (wants : List Want) (from n : ℕ) → (next_token text from ≡ Some (sign close) → ⊥)
-    → StopsAt (Fills (a_value t ∷ further_items t close ∷ wants)) text from n → StopsAt (Fills (items t close ∷ wants)) text from n
-first_item text t close wants from n another s =
-    stops_unless (Fills (items t close ∷ wants)) (Fills (a_value t ∷ further_items t close ∷ wants)) text (sign close) from n another
-    (first_in t close wants)
-    (λ us f. let out = items_out t close wants us f in first_of_items t close wants us out.1 out.0 out.2 out.4 out.3)
+pub first_item : (dialect : Dialect) → (text : List ℕ) (t : Ty) (close : ℕ) (wants : List Want) (from n : ℕ) → (next_token text from ≡ Some (sign close) → ⊥)
+    → StopsAt (Fills dialect (a_value t ∷ further_items t close ∷ wants)) text from n → StopsAt (Fills dialect (items t close ∷ wants)) text from n
+first_item dialect text t close wants from n another s =
+    stops_unless (Fills dialect (items t close ∷ wants)) (Fills dialect (a_value t ∷ further_items t close ∷ wants)) text (sign close) from n another
+    (first_in dialect t close wants)
+    (λ us f. let out = items_out dialect t close wants us f in first_of_items dialect t close wants us out.1 out.0 out.2 out.4 out.3)
     s
 
 -- a further item
-comma_in : (t : Ty) (close : ℕ) (wants : List Want) (us : List Token) → Fills (one comma ∷ a_value t ∷ further_items t close ∷ wants) us
-    → Fills (further_items t close ∷ wants) us
-comma_in t close wants us f =
-    let c = one_out comma (a_value t ∷ further_items t close ∷ wants) us f in
-    let v = value_out t (further_items t close ∷ wants) c.0 c.2 in
-    let vs = further_out t close wants v.1 v.4 in
-    subst (Fills (further_items t close ∷ wants))
+comma_in : (dialect : Dialect) → (t : Ty) (close : ℕ) (wants : List Want) (us : List Token) → Fills dialect (one comma ∷ a_value t ∷ further_items t close ∷ wants) us
+    → Fills dialect (further_items t close ∷ wants) us
+comma_in dialect t close wants us f =
+    let c = one_out dialect comma (a_value t ∷ further_items t close ∷ wants) us f in
+    let v = value_out dialect t (further_items t close ∷ wants) c.0 c.2 in
+    let vs = further_out dialect t close wants v.1 v.4 in
+    subst (Fills dialect (further_items t close ∷ wants))
     (ap (λ l. comma ∷ l) (append_assoc (value_tokens v.0) (further_tokens vs.0) (sign close ∷ vs.1) ∙ ap (λ l. value_tokens v.0 ++ l) (sym vs.3) ∙ sym v.3) ∙ sym c.1)
-    (further_in t close (more_values v.0 vs.0) wants vs.1 (v.2, vs.2) vs.4)
+    (further_in dialect t close (more_values v.0 vs.0) wants vs.1 (v.2, vs.2) vs.4)
 
-comma_of_items : (t : Ty) (close : ℕ) (wants : List Want) (us rest : List Token) (vs : Values) → AllHaveType vs t → Fills wants rest
+comma_of_items : (dialect : Dialect) → (t : Ty) (close : ℕ) (wants : List Want) (us rest : List Token) (vs : Values) → AllHaveType dialect vs t → Fills dialect wants rest
     → us ≡ further_tokens vs ++ (sign close ∷ rest)
-    → Fills (one comma ∷ a_value t ∷ further_items t close ∷ wants) us ⊎ ((others : List Token) × (us ≡ sign close ∷ others))
-comma_of_items t close wants us rest no_values h f e = inr (rest, e)
-comma_of_items t close wants us rest (more_values v vs) h f e =
-    inl (subst (Fills (one comma ∷ a_value t ∷ further_items t close ∷ wants))
+    → Fills dialect (one comma ∷ a_value t ∷ further_items t close ∷ wants) us ⊎ ((others : List Token) × (us ≡ sign close ∷ others))
+comma_of_items dialect t close wants us rest no_values h f e = inr (rest, e)
+comma_of_items dialect t close wants us rest (more_values v vs) h f e =
+    inl (subst (Fills dialect (one comma ∷ a_value t ∷ further_items t close ∷ wants))
     (sym (e ∙ ap (λ l. comma ∷ l) (append_assoc (value_tokens v) (further_tokens vs) (sign close ∷ rest))))
-    (one_in comma (a_value t ∷ further_items t close ∷ wants) (value_tokens v ++ (further_tokens vs ++ (sign close ∷ rest)))
-    (value_in t v (further_items t close ∷ wants) (further_tokens vs ++ (sign close ∷ rest)) h.0 (further_in t close vs wants rest h.1 f))))
+    (one_in dialect comma (a_value t ∷ further_items t close ∷ wants) (value_tokens v ++ (further_tokens vs ++ (sign close ∷ rest)))
+    (value_in dialect t v (further_items t close ∷ wants) (further_tokens vs ++ (sign close ∷ rest)) h.0 (further_in dialect t close vs wants rest h.1 f))))
 
-pub later_item : (text : List ℕ) (t : Ty) (close : ℕ) (wants : List Want) (from n : ℕ) → (next_token text from ≡ Some (sign close) → ⊥)
-    → StopsAt (Fills (one comma ∷ a_value t ∷ further_items t close ∷ wants)) text from n → StopsAt (Fills (further_items t close ∷ wants)) text from n
-later_item text t close wants from n another s =
-    stops_unless (Fills (further_items t close ∷ wants)) (Fills (one comma ∷ a_value t ∷ further_items t close ∷ wants)) text (sign close) from n another
-    (comma_in t close wants)
-    (λ us f. let out = further_out t close wants us f in comma_of_items t close wants us out.1 out.0 out.2 out.4 out.3)
+pub later_item : (dialect : Dialect) → (text : List ℕ) (t : Ty) (close : ℕ) (wants : List Want) (from n : ℕ) → (next_token text from ≡ Some (sign close) → ⊥)
+    → StopsAt (Fills dialect (one comma ∷ a_value t ∷ further_items t close ∷ wants)) text from n → StopsAt (Fills dialect (further_items t close ∷ wants)) text from n
+later_item dialect text t close wants from n another s =
+    stops_unless (Fills dialect (further_items t close ∷ wants)) (Fills dialect (one comma ∷ a_value t ∷ further_items t close ∷ wants)) text (sign close) from n another
+    (comma_in dialect t close wants)
+    (λ us f. let out = further_out dialect t close wants us f in comma_of_items dialect t close wants us out.1 out.0 out.2 out.4 out.3)
     s
 
 -- vectors and sequences
-bracket_in : (a : Ty) (wants : List Want) (us : List Token) → Fills (one left_bracket ∷ items a 93 ∷ wants) us → Fills (a_value (vec a) ∷ wants) us
-bracket_in a wants us f =
-    let p = one_out left_bracket (items a 93 ∷ wants) us f in
-    let vs = items_out a 93 wants p.0 p.2 in
-    subst (Fills (a_value (vec a) ∷ wants)) (vec_parts vs.0 vs.1 ∙ ap (λ l. left_bracket ∷ l) (sym vs.3) ∙ sym p.1)
-    (value_in (vec a) (a_vec vs.0) wants vs.1 vs.2 vs.4)
+bracket_in : (dialect : Dialect) → (a : Ty) (wants : List Want) (us : List Token) → Fills dialect (one left_bracket ∷ items a 93 ∷ wants) us → Fills dialect (a_value (vec a) ∷ wants) us
+bracket_in dialect a wants us f =
+    let p = one_out dialect left_bracket (items a 93 ∷ wants) us f in
+    let vs = items_out dialect a 93 wants p.0 p.2 in
+    subst (Fills dialect (a_value (vec a) ∷ wants)) (vec_parts vs.0 vs.1 ∙ ap (λ l. left_bracket ∷ l) (sym vs.3) ∙ sym p.1)
+    (value_in dialect (vec a) (a_vec vs.0) wants vs.1 vs.2 vs.4)
 
-bracket_of : (a : Ty) (wants : List Want) (v : Value) (rest : List Token) → HasType v (vec a) → Fills wants rest
-    → Fills (one left_bracket ∷ items a 93 ∷ wants) (value_tokens v ++ rest)
-bracket_of a wants (an_int n) rest h f = absurd h
-bracket_of a wants (a_bool x) rest h f = absurd h
-bracket_of a wants (a_pair v w) rest h f = absurd h
-bracket_of a wants (a_vec vs) rest h f =
-    subst (Fills (one left_bracket ∷ items a 93 ∷ wants)) (sym (vec_parts vs rest))
-    (one_in left_bracket (items a 93 ∷ wants) (items_tokens vs ++ (right_bracket ∷ rest)) (items_in a 93 vs wants rest h f))
-bracket_of a wants (a_seq vs) rest h f = absurd h
+bracket_of : (dialect : Dialect) → (a : Ty) (wants : List Want) (v : Value) (rest : List Token) → HasType dialect v (vec a) → Fills dialect wants rest
+    → Fills dialect (one left_bracket ∷ items a 93 ∷ wants) (value_tokens v ++ rest)
+bracket_of dialect a wants (an_int n) rest h f = absurd h
+bracket_of dialect a wants (a_bool x) rest h f = absurd h
+bracket_of dialect a wants (a_pair v w) rest h f = absurd h
+bracket_of dialect a wants (a_vec vs) rest h f =
+    subst (Fills dialect (one left_bracket ∷ items a 93 ∷ wants)) (sym (vec_parts vs rest))
+    (one_in dialect left_bracket (items a 93 ∷ wants) (items_tokens vs ++ (right_bracket ∷ rest)) (items_in dialect a 93 vs wants rest h f))
+bracket_of dialect a wants (a_seq vs) rest h f = absurd h
 
-pub vec_stops : (text : List ℕ) (a : Ty) (wants : List Want) (from n : ℕ) → StopsAt (Fills (one left_bracket ∷ items a 93 ∷ wants)) text from n
-    → StopsAt (Fills (a_value (vec a) ∷ wants)) text from n
-vec_stops text a wants from n s =
-    stops_behind (Fills (a_value (vec a) ∷ wants)) (Fills (one left_bracket ∷ items a 93 ∷ wants)) text [] from from n none
-    (bracket_in a wants)
-    (λ us f. let out = value_out (vec a) wants us f in
-    subst (Fills (one left_bracket ∷ items a 93 ∷ wants)) (sym out.3) (bracket_of a wants out.0 out.1 out.2 out.4))
+pub vec_stops : (dialect : Dialect) → (text : List ℕ) (a : Ty) (wants : List Want) (from n : ℕ) → StopsAt (Fills dialect (one left_bracket ∷ items a 93 ∷ wants)) text from n
+    → StopsAt (Fills dialect (a_value (vec a) ∷ wants)) text from n
+vec_stops dialect text a wants from n s =
+    stops_behind (Fills dialect (a_value (vec a) ∷ wants)) (Fills dialect (one left_bracket ∷ items a 93 ∷ wants)) text [] from from n none
+    (bracket_in dialect a wants)
+    (λ us f. let out = value_out dialect (vec a) wants us f in
+    subst (Fills dialect (one left_bracket ∷ items a 93 ∷ wants)) (sym out.3) (bracket_of dialect a wants out.0 out.1 out.2 out.4))
     s
 
-brace_in : (a : Ty) (wants : List Want) (us : List Token) → Fills (one left_brace ∷ items a 125 ∷ wants) us → Fills (a_value (seq a) ∷ wants) us
-brace_in a wants us f =
-    let p = one_out left_brace (items a 125 ∷ wants) us f in
-    let vs = items_out a 125 wants p.0 p.2 in
-    subst (Fills (a_value (seq a) ∷ wants)) (seq_parts vs.0 vs.1 ∙ ap (λ l. left_brace ∷ l) (sym vs.3) ∙ sym p.1)
-    (value_in (seq a) (a_seq vs.0) wants vs.1 vs.2 vs.4)
+brace_in : (dialect : Dialect) → (a : Ty) (wants : List Want) (us : List Token) → Fills dialect (one left_brace ∷ items a 125 ∷ wants) us → Fills dialect (a_value (seq a) ∷ wants) us
+brace_in dialect a wants us f =
+    let p = one_out dialect left_brace (items a 125 ∷ wants) us f in
+    let vs = items_out dialect a 125 wants p.0 p.2 in
+    subst (Fills dialect (a_value (seq a) ∷ wants)) (seq_parts vs.0 vs.1 ∙ ap (λ l. left_brace ∷ l) (sym vs.3) ∙ sym p.1)
+    (value_in dialect (seq a) (a_seq vs.0) wants vs.1 vs.2 vs.4)
 
-brace_of : (a : Ty) (wants : List Want) (v : Value) (rest : List Token) → HasType v (seq a) → Fills wants rest
-    → Fills (one left_brace ∷ items a 125 ∷ wants) (value_tokens v ++ rest)
-brace_of a wants (an_int n) rest h f = absurd h
-brace_of a wants (a_bool x) rest h f = absurd h
-brace_of a wants (a_pair v w) rest h f = absurd h
-brace_of a wants (a_vec vs) rest h f = absurd h
-brace_of a wants (a_seq vs) rest h f =
-    subst (Fills (one left_brace ∷ items a 125 ∷ wants)) (sym (seq_parts vs rest))
-    (one_in left_brace (items a 125 ∷ wants) (items_tokens vs ++ (right_brace ∷ rest)) (items_in a 125 vs wants rest h f))
+brace_of : (dialect : Dialect) → (a : Ty) (wants : List Want) (v : Value) (rest : List Token) → HasType dialect v (seq a) → Fills dialect wants rest
+    → Fills dialect (one left_brace ∷ items a 125 ∷ wants) (value_tokens v ++ rest)
+brace_of dialect a wants (an_int n) rest h f = absurd h
+brace_of dialect a wants (a_bool x) rest h f = absurd h
+brace_of dialect a wants (a_pair v w) rest h f = absurd h
+brace_of dialect a wants (a_vec vs) rest h f = absurd h
+brace_of dialect a wants (a_seq vs) rest h f =
+    subst (Fills dialect (one left_brace ∷ items a 125 ∷ wants)) (sym (seq_parts vs rest))
+    (one_in dialect left_brace (items a 125 ∷ wants) (items_tokens vs ++ (right_brace ∷ rest)) (items_in dialect a 125 vs wants rest h f))
 
-pub seq_stops : (text : List ℕ) (a : Ty) (wants : List Want) (from n : ℕ) → StopsAt (Fills (one left_brace ∷ items a 125 ∷ wants)) text from n
-    → StopsAt (Fills (a_value (seq a) ∷ wants)) text from n
-seq_stops text a wants from n s =
-    stops_behind (Fills (a_value (seq a) ∷ wants)) (Fills (one left_brace ∷ items a 125 ∷ wants)) text [] from from n none
-    (brace_in a wants)
-    (λ us f. let out = value_out (seq a) wants us f in
-    subst (Fills (one left_brace ∷ items a 125 ∷ wants)) (sym out.3) (brace_of a wants out.0 out.1 out.2 out.4))
+pub seq_stops : (dialect : Dialect) → (text : List ℕ) (a : Ty) (wants : List Want) (from n : ℕ) → StopsAt (Fills dialect (one left_brace ∷ items a 125 ∷ wants)) text from n
+    → StopsAt (Fills dialect (a_value (seq a) ∷ wants)) text from n
+seq_stops dialect text a wants from n s =
+    stops_behind (Fills dialect (a_value (seq a) ∷ wants)) (Fills dialect (one left_brace ∷ items a 125 ∷ wants)) text [] from from n none
+    (brace_in dialect a wants)
+    (λ us f. let out = value_out dialect (seq a) wants us f in
+    subst (Fills dialect (one left_brace ∷ items a 125 ∷ wants)) (sym out.3) (brace_of dialect a wants out.0 out.1 out.2 out.4))
     s
 
 -- the error behind a `?`
@@ -368,8 +372,8 @@ passed_on P (Ok x) e h p = tt
 passed_on P (Err x) e h p = subst P (sym h) p
 
 -- the error of a part, as that of the whole
-pub stop_of : (text : List ℕ) (part whole : List Want) (place from : ℕ) (e : InputError)
-    → ((n : ℕ) → ((further : List Want) → StopsAt (Fills (part ++ further)) text place n) → (further : List Want) → StopsAt (Fills (whole ++ further)) text from n)
-    → IsStop part text place e → IsStop whole text from e
-stop_of text part whole place from (Bad n) f h = f n h
-stop_of text part whole place from NoMemory f h = tt
+pub stop_of : (dialect : Dialect) → (text : List ℕ) (part whole : List Want) (place from : ℕ) (e : InputError)
+    → ((n : ℕ) → ((further : List Want) → StopsAt (Fills dialect (part ++ further)) text place n) → (further : List Want) → StopsAt (Fills dialect (whole ++ further)) text from n)
+    → IsStop dialect part text place e → IsStop dialect whole text from e
+stop_of dialect text part whole place from (Bad n) f h = f n h
+stop_of dialect text part whole place from NoMemory f h = tt

@@ -3,28 +3,30 @@ use Rattle.std.proofs.Common.{◌≡◌, ℕ, zero, suc, ℤ, ◌+◌, ◌≤◌
 use Rattle.std.proofs.lemmas.Bool.{eqb-true, eqb-false, cases_lt}
 use Rattle.std.proofs.lemmas.Slice.Eq.{bytes_eq-Decides}
 use Rattle.std.specs.Str.{bytes_eq}
+use Rattle.snesl_values.specs.declared.dialect.Dialect.{Dialect}
+use Rattle.snesl_values.specs.Integers.{is_integer, IsInteger}
 use Rattle.snesl_values.specs.Types.{Ty, int, bool, pair, vec, seq}
 use Rattle.snesl_values.specs.Values.{Value, an_int, a_bool, a_pair, a_vec, a_seq, Values, values_of, AllHaveType}
 use Rattle.snesl_values.specs.InputTokens.{Token, word, integer, sign, bad, next_at, next_token, Reads, none, Takes}
 use Rattle.snesl_values.specs.Inputs.{greatest_input_length, Declaration, Environment, equals, semicolon, comma, left_paren, right_paren, left_bracket, left_brace, StopsAt, IsLawful, InputAnswer, spells, refused_at, InputMeans, too_long, lawful, unlawful}
 use Rattle.snesl_values.specs.Wants.{Want, one, a_value, items, further_items, Fills, entry_wants, further_wants, IsRead, AreRead, IsEntry, AllRead}
-use Rattle.snesl_values.proofs.InputScan.{Coming, nothing_comes, comes, InRange, coming}
+use Rattle.snesl_values.proofs.InputScan.{Coming, nothing_comes, comes, coming}
 use Rattle.snesl_values.proofs.InputReads.{reads-append, first_next}
 use Rattle.snesl_values.proofs.InputWants.{Closes, after_one, after_value, another_one, no_integer, no_truth, pair_stops, vec_stops, seq_stops, first_item, later_item}
 use Rattle.snesl_values.proofs.InputItems.{leading_tokens, have_type-push, items_read, item_read, vec_read, seq_read, pair_read}
 use Rattle.snesl_values.proofs.InputEntries.{stops_lawful, SoFar, first_so_far, next_so_far, all_read_closed, all_read_open, none_read}
 
 -- what was wanted is read and ends at this offset, or the reader stops
-data Reading (text : List ℕ) (from : ℕ) (wants : List Want) (IsDone : ℕ → Type 0) : Type 0 where
-  done : (end : ℕ) → IsDone end → Reading text from wants IsDone
-  stopped : (n : ℕ) → ((further : List Want) → StopsAt (Fills (wants ++ further)) text from n) → Reading text from wants IsDone
+data Reading (dialect : Dialect) (text : List ℕ) (from : ℕ) (wants : List Want) (IsDone : ℕ → Type 0) : Type 0 where
+  done : (end : ℕ) → IsDone end → Reading dialect text from wants IsDone
+  stopped : (n : ℕ) → ((further : List Want) → StopsAt (Fills dialect (wants ++ further)) text from n) → Reading dialect text from wants IsDone
 
-abbrev ReadingOf : List ℕ → Ty → ℕ → Type 0
-ReadingOf text t from = Reading text from (a_value t ∷ []) (λ end. (v : Value) × IsRead text from t v end)
+abbrev ReadingOf : Dialect → List ℕ → Ty → ℕ → Type 0
+ReadingOf dialect text t from = Reading dialect text from (a_value t ∷ []) (λ end. (v : Value) × IsRead dialect text from t v end)
 
 -- what is read of a value of this type wherever it begins
-abbrev Readable : List ℕ → Ty → Type 0
-Readable text t = (from : ℕ) → from ≤ length text → ReadingOf text t from
+abbrev Readable : Dialect → List ℕ → Ty → Type 0
+Readable dialect text t = (from : ℕ) → from ≤ length text → ReadingOf dialect text t from
 
 -- the next token is this one, or another
 data Whether (text : List ℕ) (from : ℕ) (token : Token) : Type 0 where
@@ -40,7 +42,7 @@ whether text from token same within = by_next (coming text from within)
 
     by_next : Coming text from → Whether text from token
     by_next (nothing_comes e) = another (λ f. cc)
-    by_next (comes other end t range) = by_test other end t (same other)
+    by_next (comes other end t) = by_test other end t (same other)
 
 same_sign : (c : ℕ) (other : Token) → (other ≡ sign c) ⊎ (other ≡ sign c → ⊥)
 same_sign c (sign d) = by_test (eqb d c) refl
@@ -62,196 +64,201 @@ same_word w (sign d) = inr (λ e. cc)
 same_word w (integer n) = inr (λ e. cc)
 same_word w bad = inr (λ e. cc)
 
-one_token : (text : List ℕ) (from : ℕ) (token : Token) → Whether text from token → Reading text from (one token ∷ []) (Takes text from token)
-one_token text from token (taken end t) = done end t
-one_token text from token (another n) = stopped (next_at text from) (λ further. another_one text token further from n)
+one_token : (dialect : Dialect) → (text : List ℕ) (from : ℕ) (token : Token) → Whether text from token → Reading dialect text from (one token ∷ []) (Takes text from token)
+one_token dialect text from token (taken end t) = done end t
+one_token dialect text from token (another n) = stopped (next_at text from) (λ further. another_one dialect text token further from n)
 
-one_sign : (text : List ℕ) (from c : ℕ) → from ≤ length text → Reading text from (one (sign c) ∷ []) (Takes text from (sign c))
-one_sign text from c within = one_token text from (sign c) (whether text from (sign c) (same_sign c) within)
+one_sign : (dialect : Dialect) → (text : List ℕ) (from c : ℕ) → from ≤ length text → Reading dialect text from (one (sign c) ∷ []) (Takes text from (sign c))
+one_sign dialect text from c within = one_token dialect text from (sign c) (whether text from (sign c) (same_sign c) within)
 
-one_word : (text : List ℕ) (from : ℕ) (w : List ℕ) → from ≤ length text → Reading text from (one (word w) ∷ []) (Takes text from (word w))
-one_word text from w within = one_token text from (word w) (whether text from (word w) (same_word w) within)
+one_word : (dialect : Dialect) → (text : List ℕ) (from : ℕ) (w : List ℕ) → from ≤ length text → Reading dialect text from (one (word w) ∷ []) (Takes text from (word w))
+one_word dialect text from w within = one_token dialect text from (word w) (whether text from (word w) (same_word w) within)
 
 -- integers and truth values
-an_integer : (text : List ℕ) → Readable text int
-an_integer text from within = by_next (coming text from within)
+an_integer : (dialect : Dialect) → (text : List ℕ) → Readable dialect text int
+an_integer dialect text from within = by_next (coming text from within)
   where
-    no_other : (t : Token) (end : ℕ) → Takes text from t end → ((n : ℤ) → t ≡ integer n → ⊥) → ReadingOf text int from
+    no_other : (t : Token) (end : ℕ) → Takes text from t end → ((n : ℤ) → IsInteger dialect n → t ≡ integer n → ⊥) → ReadingOf dialect text int from
     no_other t end takes n =
         stopped (next_at text from)
-        (λ further. no_integer text further from (λ i e. let f : Some t ≡ Some (integer i) = sym (first_next takes.reads) ∙ e in n i (cc)))
+        (λ further. no_integer dialect text further from (λ i ranged e. let f : Some t ≡ Some (integer i) = sym (first_next takes.reads) ∙ e in n i ranged (cc)))
 
-    by_next : Coming text from → ReadingOf text int from
-    by_next (nothing_comes e) = stopped (next_at text from) (λ further. no_integer text further from (λ n f. cc))
-    by_next (comes (integer n) end t range) = done end (an_int n, record { has_type = range; reads = t.reads; moves = t.moves; within = t.within })
-    by_next (comes (word w) end t range) = no_other (word w) end t (λ n e. cc)
-    by_next (comes (sign c) end t range) = no_other (sign c) end t (λ n e. cc)
-    by_next (comes bad end t range) = no_other bad end t (λ n e. cc)
+    by_range : (n : ℤ) (b : Bool) → is_integer dialect n ≡ b → (end : ℕ) → Takes text from (integer n) end → ReadingOf dialect text int from
+    by_range n true range end t = done end (an_int n, record { has_type = range; reads = t.reads; moves = t.moves; within = t.within })
+    by_range n false range end t =
+        no_other (integer n) end t (λ m ranged e. let same : n ≡ m = cc in absurd (let f : false ≡ true = sym range ∙ ap (is_integer dialect) same ∙ ranged in cc))
 
-a_truth : (text : List ℕ) → Readable text bool
-a_truth text from within =
+    by_next : Coming text from → ReadingOf dialect text int from
+    by_next (nothing_comes e) = stopped (next_at text from) (λ further. no_integer dialect text further from (λ n ranged f. cc))
+    by_next (comes (integer n) end t) = by_range n (is_integer dialect n) refl end t
+    by_next (comes (word w) end t) = no_other (word w) end t (λ n ranged e. cc)
+    by_next (comes (sign c) end t) = no_other (sign c) end t (λ n ranged e. cc)
+    by_next (comes bad end t) = no_other bad end t (λ n ranged e. cc)
+
+a_truth : (dialect : Dialect) → (text : List ℕ) → Readable dialect text bool
+a_truth dialect text from within =
     by_true (whether text from (word (codes "true")) (same_word (codes "true")) within)
     (whether text from (word (codes "false")) (same_word (codes "false")) within)
   where
-    by_true : Whether text from (word (codes "true")) → Whether text from (word (codes "false")) → ReadingOf text bool from
+    by_true : Whether text from (word (codes "true")) → Whether text from (word (codes "false")) → ReadingOf dialect text bool from
     by_true (taken end t) other = done end (a_bool true, record { has_type = tt; reads = t.reads; moves = t.moves; within = t.within })
     by_true (another n) (taken end t) = done end (a_bool false, record { has_type = tt; reads = t.reads; moves = t.moves; within = t.within })
-    by_true (another n) (another m) = stopped (next_at text from) (λ further. no_truth text further from n m)
+    by_true (another n) (another m) = stopped (next_at text from) (λ further. no_truth dialect text further from n m)
 
 -- pairs
-a_pair_of : (text : List ℕ) (a b : Ty) → Readable text a → Readable text b → Readable text (pair a b)
-a_pair_of text a b first second from within = by_open (one_sign text from 40 within)
+a_pair_of : (dialect : Dialect) → (text : List ℕ) (a b : Ty) → Readable dialect text a → Readable dialect text b → Readable dialect text (pair a b)
+a_pair_of dialect text a b first second from within = by_open (one_sign dialect text from 40 within)
   where
-    by_close : (place behind start last : ℕ) (v w : Value) → Takes text from left_paren place → IsRead text place a v behind
-        → Takes text behind comma start → IsRead text start b w last
-        → Reading text last (one right_paren ∷ []) (Takes text last right_paren) → ReadingOf text (pair a b) from
+    by_close : (place behind start last : ℕ) (v w : Value) → Takes text from left_paren place → IsRead dialect text place a v behind
+        → Takes text behind comma start → IsRead dialect text start b w last
+        → Reading dialect text last (one right_paren ∷ []) (Takes text last right_paren) → ReadingOf dialect text (pair a b) from
     by_close place behind start last v w opening one_read parting other_read (done end closing) =
-        done end (a_pair v w, pair_read text from place behind start last end a b v w opening one_read parting other_read closing)
+        done end (a_pair v w, pair_read dialect text from place behind start last end a b v w opening one_read parting other_read closing)
     by_close place behind start last v w opening one_read parting other_read (stopped n s) = stopped n (λ further.
-        pair_stops text a b further from n
-        (after_one text left_paren (a_value a ∷ one comma ∷ a_value b ∷ one right_paren ∷ further) from place n opening.reads
-        (after_value text a v (one comma ∷ a_value b ∷ one right_paren ∷ further) place behind n one_read.has_type one_read.reads
-        (after_one text comma (a_value b ∷ one right_paren ∷ further) behind start n parting.reads
-        (after_value text b w (one right_paren ∷ further) start last n other_read.has_type other_read.reads (s further))))))
+        pair_stops dialect text a b further from n
+        (after_one dialect text left_paren (a_value a ∷ one comma ∷ a_value b ∷ one right_paren ∷ further) from place n opening.reads
+        (after_value dialect text a v (one comma ∷ a_value b ∷ one right_paren ∷ further) place behind n one_read.has_type one_read.reads
+        (after_one dialect text comma (a_value b ∷ one right_paren ∷ further) behind start n parting.reads
+        (after_value dialect text b w (one right_paren ∷ further) start last n other_read.has_type other_read.reads (s further))))))
 
-    by_second : (place behind start : ℕ) (v : Value) → Takes text from left_paren place → IsRead text place a v behind
-        → Takes text behind comma start → ReadingOf text b start → ReadingOf text (pair a b) from
+    by_second : (place behind start : ℕ) (v : Value) → Takes text from left_paren place → IsRead dialect text place a v behind
+        → Takes text behind comma start → ReadingOf dialect text b start → ReadingOf dialect text (pair a b) from
     by_second place behind start v opening one_read parting (done last (w, other_read)) =
-        by_close place behind start last v w opening one_read parting other_read (one_sign text last 41 other_read.within)
+        by_close place behind start last v w opening one_read parting other_read (one_sign dialect text last 41 other_read.within)
     by_second place behind start v opening one_read parting (stopped n s) = stopped n (λ further.
-        pair_stops text a b further from n
-        (after_one text left_paren (a_value a ∷ one comma ∷ a_value b ∷ one right_paren ∷ further) from place n opening.reads
-        (after_value text a v (one comma ∷ a_value b ∷ one right_paren ∷ further) place behind n one_read.has_type one_read.reads
-        (after_one text comma (a_value b ∷ one right_paren ∷ further) behind start n parting.reads (s (one right_paren ∷ further))))))
+        pair_stops dialect text a b further from n
+        (after_one dialect text left_paren (a_value a ∷ one comma ∷ a_value b ∷ one right_paren ∷ further) from place n opening.reads
+        (after_value dialect text a v (one comma ∷ a_value b ∷ one right_paren ∷ further) place behind n one_read.has_type one_read.reads
+        (after_one dialect text comma (a_value b ∷ one right_paren ∷ further) behind start n parting.reads (s (one right_paren ∷ further))))))
 
-    by_comma : (place behind : ℕ) (v : Value) → Takes text from left_paren place → IsRead text place a v behind
-        → Reading text behind (one comma ∷ []) (Takes text behind comma) → ReadingOf text (pair a b) from
+    by_comma : (place behind : ℕ) (v : Value) → Takes text from left_paren place → IsRead dialect text place a v behind
+        → Reading dialect text behind (one comma ∷ []) (Takes text behind comma) → ReadingOf dialect text (pair a b) from
     by_comma place behind v opening one_read (done start parting) = by_second place behind start v opening one_read parting (second start parting.within)
     by_comma place behind v opening one_read (stopped n s) = stopped n (λ further.
-        pair_stops text a b further from n
-        (after_one text left_paren (a_value a ∷ one comma ∷ a_value b ∷ one right_paren ∷ further) from place n opening.reads
-        (after_value text a v (one comma ∷ a_value b ∷ one right_paren ∷ further) place behind n one_read.has_type one_read.reads
+        pair_stops dialect text a b further from n
+        (after_one dialect text left_paren (a_value a ∷ one comma ∷ a_value b ∷ one right_paren ∷ further) from place n opening.reads
+        (after_value dialect text a v (one comma ∷ a_value b ∷ one right_paren ∷ further) place behind n one_read.has_type one_read.reads
         (s (a_value b ∷ one right_paren ∷ further)))))
 
-    by_first : (place : ℕ) → Takes text from left_paren place → ReadingOf text a place → ReadingOf text (pair a b) from
-    by_first place opening (done behind (v, one_read)) = by_comma place behind v opening one_read (one_sign text behind 44 one_read.within)
+    by_first : (place : ℕ) → Takes text from left_paren place → ReadingOf dialect text a place → ReadingOf dialect text (pair a b) from
+    by_first place opening (done behind (v, one_read)) = by_comma place behind v opening one_read (one_sign dialect text behind 44 one_read.within)
     by_first place opening (stopped n s) = stopped n (λ further.
-        pair_stops text a b further from n
-        (after_one text left_paren (a_value a ∷ one comma ∷ a_value b ∷ one right_paren ∷ further) from place n opening.reads
+        pair_stops dialect text a b further from n
+        (after_one dialect text left_paren (a_value a ∷ one comma ∷ a_value b ∷ one right_paren ∷ further) from place n opening.reads
         (s (one comma ∷ a_value b ∷ one right_paren ∷ further))))
 
-    by_open : Reading text from (one left_paren ∷ []) (Takes text from left_paren) → ReadingOf text (pair a b) from
+    by_open : Reading dialect text from (one left_paren ∷ []) (Takes text from left_paren) → ReadingOf dialect text (pair a b) from
     by_open (done place opening) = by_first place opening (first place opening.within)
-    by_open (stopped n s) = stopped n (λ further. pair_stops text a b further from n (s (a_value a ∷ one comma ∷ a_value b ∷ one right_paren ∷ further)))
+    by_open (stopped n s) = stopped n (λ further. pair_stops dialect text a b further from n (s (a_value a ∷ one comma ∷ a_value b ∷ one right_paren ∷ further)))
 
 -- some items were read from an offset on, each with a comma behind it
-record ItemsSoFar (text : List ℕ) (from place : ℕ) (t : Ty) (close : ℕ) (vs : List Value) : Type 0 where
+record ItemsSoFar (dialect : Dialect) (text : List ℕ) (from place : ℕ) (t : Ty) (close : ℕ) (vs : List Value) : Type 0 where
   within : place ≤ length text
   begun : from ≤ place
-  have_type : AllHaveType (values_of vs) t
+  have_type : AllHaveType dialect (values_of vs) t
   reads : Reads text from (leading_tokens vs) place
-  stops : (wants : List Want) (n : ℕ) → StopsAt (Fills (a_value t ∷ further_items t close ∷ wants)) text place n
-      → StopsAt (Fills (items t close ∷ wants)) text from n
+  stops : (wants : List Want) (n : ℕ) → StopsAt (Fills dialect (a_value t ∷ further_items t close ∷ wants)) text place n
+      → StopsAt (Fills dialect (items t close ∷ wants)) text from n
 
-abbrev ReadingOfItems : List ℕ → Ty → ℕ → ℕ → Type 0
-ReadingOfItems text t close from = Reading text from (items t close ∷ []) (λ end. (vs : Values) × AreRead text from t close vs end)
+abbrev ReadingOfItems : Dialect → List ℕ → Ty → ℕ → ℕ → Type 0
+ReadingOfItems dialect text t close from = Reading dialect text from (items t close ∷ []) (λ end. (vs : Values) × AreRead dialect text from t close vs end)
 
 -- one item more, where each further one can be read
-next_items : (text : List ℕ) (t : Ty) (close from : ℕ) → Readable text t → (place : ℕ) (vs : List Value) → ItemsSoFar text from place t close vs
-    → ((start : ℕ) (news : List Value) → ItemsSoFar text from start t close news → place < start → ReadingOfItems text t close from)
-    → ReadingOfItems text t close from
-next_items text t close from readable place vs sofar later = by_item (readable place sofar.within)
+next_items : (dialect : Dialect) → (text : List ℕ) (t : Ty) (close from : ℕ) → Readable dialect text t → (place : ℕ) (vs : List Value) → ItemsSoFar dialect text from place t close vs
+    → ((start : ℕ) (news : List Value) → ItemsSoFar dialect text from start t close news → place < start → ReadingOfItems dialect text t close from)
+    → ReadingOfItems dialect text t close from
+next_items dialect text t close from readable place vs sofar later = by_item (readable place sofar.within)
   where
-    grown : (behind start : ℕ) (v : Value) → IsRead text place t v behind → (next_token text behind ≡ Some (sign close) → ⊥)
-        → Takes text behind comma start → ItemsSoFar text from start t close (vs ++ v ∷ [])
+    grown : (behind start : ℕ) (v : Value) → IsRead dialect text place t v behind → (next_token text behind ≡ Some (sign close) → ⊥)
+        → Takes text behind comma start → ItemsSoFar dialect text from start t close (vs ++ v ∷ [])
     grown behind start v read unclosed parting = record {
       within = parting.within;
       begun = omega (arith, sofar.begun, read.moves, parting.moves);
-      have_type = have_type-push vs v t sofar.have_type read.has_type;
-      reads = item_read text from place behind start t vs (vs ++ v ∷ []) v refl sofar.reads read parting;
+      have_type = have_type-push dialect vs v t sofar.have_type read.has_type;
+      reads = item_read dialect text from place behind start t vs (vs ++ v ∷ []) v refl sofar.reads read parting;
       stops = λ wants n s. sofar.stops wants n
-          (after_value text t v (further_items t close ∷ wants) place behind n read.has_type read.reads
-          (later_item text t close wants behind n unclosed
-          (after_one text comma (a_value t ∷ further_items t close ∷ wants) behind start n parting.reads s)));
+          (after_value dialect text t v (further_items t close ∷ wants) place behind n read.has_type read.reads
+          (later_item dialect text t close wants behind n unclosed
+          (after_one dialect text comma (a_value t ∷ further_items t close ∷ wants) behind start n parting.reads s)));
     }
 
-    by_comma : (behind : ℕ) (v : Value) → IsRead text place t v behind → (next_token text behind ≡ Some (sign close) → ⊥)
-        → Reading text behind (one comma ∷ []) (Takes text behind comma) → ReadingOfItems text t close from
+    by_comma : (behind : ℕ) (v : Value) → IsRead dialect text place t v behind → (next_token text behind ≡ Some (sign close) → ⊥)
+        → Reading dialect text behind (one comma ∷ []) (Takes text behind comma) → ReadingOfItems dialect text t close from
     by_comma behind v read unclosed (done start parting) =
         later start (vs ++ v ∷ []) (grown behind start v read unclosed parting) (omega (arith, read.moves, parting.moves))
     by_comma behind v read unclosed (stopped n s) = stopped n (λ further.
         sofar.stops further n
-        (after_value text t v (further_items t close ∷ further) place behind n read.has_type read.reads
-        (later_item text t close further behind n unclosed (s (a_value t ∷ further_items t close ∷ further)))))
+        (after_value dialect text t v (further_items t close ∷ further) place behind n read.has_type read.reads
+        (later_item dialect text t close further behind n unclosed (s (a_value t ∷ further_items t close ∷ further)))))
 
-    by_close : (behind : ℕ) (v : Value) → IsRead text place t v behind → Whether text behind (sign close) → ReadingOfItems text t close from
+    by_close : (behind : ℕ) (v : Value) → IsRead dialect text place t v behind → Whether text behind (sign close) → ReadingOfItems dialect text t close from
     by_close behind v read (taken end closing) =
-        done end (values_of (vs ++ v ∷ []), items_read text from place behind end t close vs (vs ++ v ∷ []) v refl sofar.begun sofar.have_type sofar.reads read closing)
-    by_close behind v read (another unclosed) = by_comma behind v read unclosed (one_sign text behind 44 read.within)
+        done end (values_of (vs ++ v ∷ []), items_read dialect text from place behind end t close vs (vs ++ v ∷ []) v refl sofar.begun sofar.have_type sofar.reads read closing)
+    by_close behind v read (another unclosed) = by_comma behind v read unclosed (one_sign dialect text behind 44 read.within)
 
-    by_item : ReadingOf text t place → ReadingOfItems text t close from
+    by_item : ReadingOf dialect text t place → ReadingOfItems dialect text t close from
     by_item (done behind (v, read)) = by_close behind v read (whether text behind (sign close) (same_sign close) read.within)
     by_item (stopped n s) = stopped n (λ further. sofar.stops further n (s (further_items t close ∷ further)))
 
 -- further items; of the bytes that are left fewer than the bound
-more_items : (bound : ℕ) (text : List ℕ) (t : Ty) (close from : ℕ) → Readable text t → (place : ℕ) (vs : List Value) → ItemsSoFar text from place t close vs
-    → length text < place + bound → ReadingOfItems text t close from
-more_items zero text t close from readable place vs sofar few = absurd (let h = sofar.within in omega arith)
-more_items (suc bound) text t close from readable place vs sofar few =
-    next_items text t close from readable place vs sofar
-    (λ start news further moved. more_items bound text t close from readable start news further (omega arith))
+more_items : (dialect : Dialect) → (bound : ℕ) (text : List ℕ) (t : Ty) (close from : ℕ) → Readable dialect text t → (place : ℕ) (vs : List Value) → ItemsSoFar dialect text from place t close vs
+    → length text < place + bound → ReadingOfItems dialect text t close from
+more_items dialect zero text t close from readable place vs sofar few = absurd (let h = sofar.within in omega arith)
+more_items dialect (suc bound) text t close from readable place vs sofar few =
+    next_items dialect text t close from readable place vs sofar
+    (λ start news further moved. more_items dialect bound text t close from readable start news further (omega arith))
 
-all_items : (text : List ℕ) (t : Ty) (close : ℕ) → Readable text t → (from : ℕ) → from ≤ length text → ReadingOfItems text t close from
-all_items text t close readable from within = by_close (whether text from (sign close) (same_sign close) within)
+all_items : (dialect : Dialect) → (text : List ℕ) (t : Ty) (close : ℕ) → Readable dialect text t → (from : ℕ) → from ≤ length text → ReadingOfItems dialect text t close from
+all_items dialect text t close readable from within = by_close (whether text from (sign close) (same_sign close) within)
   where
-    by_close : Whether text from (sign close) → ReadingOfItems text t close from
+    by_close : Whether text from (sign close) → ReadingOfItems dialect text t close from
     by_close (taken end closing) =
         done end (values_of [], record { have_type = tt; reads = closing.reads; moves = closing.moves; within = closing.within })
     by_close (another unclosed) =
-        more_items (suc (length text)) text t close from readable from []
-        (record { within = within; begun = omega arith; have_type = tt; reads = none; stops = λ wants n. first_item text t close wants from n unclosed })
+        more_items dialect (suc (length text)) text t close from readable from []
+        (record { within = within; begun = omega arith; have_type = tt; reads = none; stops = λ wants n. first_item dialect text t close wants from n unclosed })
         (omega arith)
 
-a_vec_of : (text : List ℕ) (a : Ty) → Readable text a → Readable text (vec a)
-a_vec_of text a readable from within = by_open (one_sign text from 91 within)
+a_vec_of : (dialect : Dialect) → (text : List ℕ) (a : Ty) → Readable dialect text a → Readable dialect text (vec a)
+a_vec_of dialect text a readable from within = by_open (one_sign dialect text from 91 within)
   where
-    by_items : (place : ℕ) → Takes text from left_bracket place → ReadingOfItems text a 93 place → ReadingOf text (vec a) from
-    by_items place opening (done end (vs, all)) = done end (a_vec vs, vec_read text from place end a vs opening all)
+    by_items : (place : ℕ) → Takes text from left_bracket place → ReadingOfItems dialect text a 93 place → ReadingOf dialect text (vec a) from
+    by_items place opening (done end (vs, all)) = done end (a_vec vs, vec_read dialect text from place end a vs opening all)
     by_items place opening (stopped n s) = stopped n (λ further.
-        vec_stops text a further from n (after_one text left_bracket (items a 93 ∷ further) from place n opening.reads (s further)))
+        vec_stops dialect text a further from n (after_one dialect text left_bracket (items a 93 ∷ further) from place n opening.reads (s further)))
 
-    by_open : Reading text from (one left_bracket ∷ []) (Takes text from left_bracket) → ReadingOf text (vec a) from
-    by_open (done place opening) = by_items place opening (all_items text a 93 readable place opening.within)
-    by_open (stopped n s) = stopped n (λ further. vec_stops text a further from n (s (items a 93 ∷ further)))
+    by_open : Reading dialect text from (one left_bracket ∷ []) (Takes text from left_bracket) → ReadingOf dialect text (vec a) from
+    by_open (done place opening) = by_items place opening (all_items dialect text a 93 readable place opening.within)
+    by_open (stopped n s) = stopped n (λ further. vec_stops dialect text a further from n (s (items a 93 ∷ further)))
 
-a_seq_of : (text : List ℕ) (a : Ty) → Readable text a → Readable text (seq a)
-a_seq_of text a readable from within = by_open (one_sign text from 123 within)
+a_seq_of : (dialect : Dialect) → (text : List ℕ) (a : Ty) → Readable dialect text a → Readable dialect text (seq a)
+a_seq_of dialect text a readable from within = by_open (one_sign dialect text from 123 within)
   where
-    by_items : (place : ℕ) → Takes text from left_brace place → ReadingOfItems text a 125 place → ReadingOf text (seq a) from
-    by_items place opening (done end (vs, all)) = done end (a_seq vs, seq_read text from place end a vs opening all)
+    by_items : (place : ℕ) → Takes text from left_brace place → ReadingOfItems dialect text a 125 place → ReadingOf dialect text (seq a) from
+    by_items place opening (done end (vs, all)) = done end (a_seq vs, seq_read dialect text from place end a vs opening all)
     by_items place opening (stopped n s) = stopped n (λ further.
-        seq_stops text a further from n (after_one text left_brace (items a 125 ∷ further) from place n opening.reads (s further)))
+        seq_stops dialect text a further from n (after_one dialect text left_brace (items a 125 ∷ further) from place n opening.reads (s further)))
 
-    by_open : Reading text from (one left_brace ∷ []) (Takes text from left_brace) → ReadingOf text (seq a) from
-    by_open (done place opening) = by_items place opening (all_items text a 125 readable place opening.within)
-    by_open (stopped n s) = stopped n (λ further. seq_stops text a further from n (s (items a 125 ∷ further)))
+    by_open : Reading dialect text from (one left_brace ∷ []) (Takes text from left_brace) → ReadingOf dialect text (seq a) from
+    by_open (done place opening) = by_items place opening (all_items dialect text a 125 readable place opening.within)
+    by_open (stopped n s) = stopped n (λ further. seq_stops dialect text a further from n (s (items a 125 ∷ further)))
 
 -- values of each type can be read
-readable : (text : List ℕ) (t : Ty) → Readable text t
-readable text int = an_integer text
-readable text bool = a_truth text
-readable text (pair a b) = a_pair_of text a b (readable text a) (readable text b)
-readable text (vec a) = a_vec_of text a (readable text a)
-readable text (seq a) = a_seq_of text a (readable text a)
+readable : (dialect : Dialect) → (text : List ℕ) (t : Ty) → Readable dialect text t
+readable dialect text int = an_integer dialect text
+readable dialect text bool = a_truth dialect text
+readable dialect text (pair a b) = a_pair_of dialect text a b (readable dialect text a) (readable dialect text b)
+readable dialect text (vec a) = a_vec_of dialect text a (readable dialect text a)
+readable dialect text (seq a) = a_seq_of dialect text a (readable dialect text a)
 
 -- a declared input
-abbrev ReadingOfEntry : List ℕ → Declaration → ℕ → Type 0
-ReadingOfEntry text d from = Reading text from (entry_wants d []) (λ end. (entry : List ℕ × Value) × IsEntry text from d entry end)
+abbrev ReadingOfEntry : Dialect → List ℕ → Declaration → ℕ → Type 0
+ReadingOfEntry dialect text d from = Reading dialect text from (entry_wants d []) (λ end. (entry : List ℕ × Value) × IsEntry dialect text from d entry end)
 
-an_entry : (text : List ℕ) (d : Declaration) (from : ℕ) → from ≤ length text → ReadingOfEntry text d from
-an_entry text d from within = by_name (one_word text from d.0 within)
+an_entry : (dialect : Dialect) → (text : List ℕ) (d : Declaration) (from : ℕ) → from ≤ length text → ReadingOfEntry dialect text d from
+an_entry dialect text d from within = by_name (one_word dialect text from d.0 within)
   where
-    by_value : (behind start : ℕ) → Takes text from (word d.0) behind → Takes text behind equals start → ReadingOf text d.1 start → ReadingOfEntry text d from
+    by_value : (behind start : ℕ) → Takes text from (word d.0) behind → Takes text behind equals start → ReadingOf dialect text d.1 start → ReadingOfEntry dialect text d from
     by_value behind start name is (done end (v, read)) = done end (
       (d.0, v),
       record {
@@ -263,72 +270,72 @@ an_entry text d from within = by_name (one_word text from d.0 within)
       },
     )
     by_value behind start name is (stopped n s) = stopped n (λ further.
-        after_one text (word d.0) (one equals ∷ a_value d.1 ∷ further) from behind n name.reads
-        (after_one text equals (a_value d.1 ∷ further) behind start n is.reads (s further)))
+        after_one dialect text (word d.0) (one equals ∷ a_value d.1 ∷ further) from behind n name.reads
+        (after_one dialect text equals (a_value d.1 ∷ further) behind start n is.reads (s further)))
 
-    by_equals : (behind : ℕ) → Takes text from (word d.0) behind → Reading text behind (one equals ∷ []) (Takes text behind equals) → ReadingOfEntry text d from
-    by_equals behind name (done start is) = by_value behind start name is (readable text d.1 start is.within)
+    by_equals : (behind : ℕ) → Takes text from (word d.0) behind → Reading dialect text behind (one equals ∷ []) (Takes text behind equals) → ReadingOfEntry dialect text d from
+    by_equals behind name (done start is) = by_value behind start name is (readable dialect text d.1 start is.within)
     by_equals behind name (stopped n s) = stopped n (λ further.
-        after_one text (word d.0) (one equals ∷ a_value d.1 ∷ further) from behind n name.reads (s (a_value d.1 ∷ further)))
+        after_one dialect text (word d.0) (one equals ∷ a_value d.1 ∷ further) from behind n name.reads (s (a_value d.1 ∷ further)))
 
-    by_name : Reading text from (one (word d.0) ∷ []) (Takes text from (word d.0)) → ReadingOfEntry text d from
-    by_name (done behind name) = by_equals behind name (one_sign text behind 61 name.within)
+    by_name : Reading dialect text from (one (word d.0) ∷ []) (Takes text from (word d.0)) → ReadingOfEntry dialect text d from
+    by_name (done behind name) = by_equals behind name (one_sign dialect text behind 61 name.within)
     by_name (stopped n s) = stopped n (λ further. s (one equals ∷ a_value d.1 ∷ further))
 
 -- all declared inputs were read, or the reader stops
-data WholeReading (text : List ℕ) (ds : List Declaration) : Type 0 where
-  all_read : (es : Environment) (end : ℕ) → AllRead text ds es end → WholeReading text ds
-  stopped_at : (n : ℕ) → StopsAt (IsLawful ds) text 0 n → WholeReading text ds
+data WholeReading (dialect : Dialect) (text : List ℕ) (ds : List Declaration) : Type 0 where
+  all_read : (es : Environment) (end : ℕ) → AllRead dialect text ds es end → WholeReading dialect text ds
+  stopped_at : (n : ℕ) → StopsAt (IsLawful dialect ds) text 0 n → WholeReading dialect text ds
 
 -- no input is left
-no_entries : (text : List ℕ) (ds : List Declaration) (es : Environment) (at : ℕ) → SoFar text ds [] es at → WholeReading text ds
-no_entries text ds es at sofar = by_end (whether text at semicolon (same_sign 59) sofar.within)
+no_entries : (dialect : Dialect) → (text : List ℕ) (ds : List Declaration) (es : Environment) (at : ℕ) → SoFar dialect text ds [] es at → WholeReading dialect text ds
+no_entries dialect text ds es at sofar = by_end (whether text at semicolon (same_sign 59) sofar.within)
   where
-    by_end : Whether text at semicolon → WholeReading text ds
-    by_end (taken end closing) = all_read es end (all_read_closed text ds es at end sofar closing)
-    by_end (another n) = all_read es at (all_read_open text ds es at sofar n)
+    by_end : Whether text at semicolon → WholeReading dialect text ds
+    by_end (taken end closing) = all_read es end (all_read_closed dialect text ds es at end sofar closing)
+    by_end (another n) = all_read es at (all_read_open dialect text ds es at sofar n)
 
 -- one input more, where the further ones can be read
-next_entry : (text : List ℕ) (ds : List Declaration) (d : Declaration) (left : List Declaration) (es : Environment) (at : ℕ)
-    → SoFar text ds (d ∷ left) es at → ((news : Environment) (end : ℕ) → SoFar text ds left news end → WholeReading text ds) → WholeReading text ds
-next_entry text ds d left es at sofar later = by_semicolon (one_sign text at 59 sofar.within)
+next_entry : (dialect : Dialect) → (text : List ℕ) (ds : List Declaration) (d : Declaration) (left : List Declaration) (es : Environment) (at : ℕ)
+    → SoFar dialect text ds (d ∷ left) es at → ((news : Environment) (end : ℕ) → SoFar dialect text ds left news end → WholeReading dialect text ds) → WholeReading dialect text ds
+next_entry dialect text ds d left es at sofar later = by_semicolon (one_sign dialect text at 59 sofar.within)
   where
-    by_entry : (start : ℕ) → Takes text at semicolon start → ReadingOfEntry text d start → WholeReading text ds
+    by_entry : (start : ℕ) → Takes text at semicolon start → ReadingOfEntry dialect text d start → WholeReading dialect text ds
     by_entry start parting (done end (entry, read)) =
-        later (es ++ entry ∷ []) end (next_so_far text ds d left es entry at start end sofar parting read)
-    by_entry start parting (stopped n s) = stopped_at n (stops_lawful text ds n (sofar.stops n
-        (after_one text semicolon (entry_wants d (further_wants left)) at start n parting.reads (s (further_wants left)))))
+        later (es ++ entry ∷ []) end (next_so_far dialect text ds d left es entry at start end sofar parting read)
+    by_entry start parting (stopped n s) = stopped_at n (stops_lawful dialect text ds n (sofar.stops n
+        (after_one dialect text semicolon (entry_wants d (further_wants left)) at start n parting.reads (s (further_wants left)))))
 
-    by_semicolon : Reading text at (one semicolon ∷ []) (Takes text at semicolon) → WholeReading text ds
-    by_semicolon (done start parting) = by_entry start parting (an_entry text d start parting.within)
-    by_semicolon (stopped n s) = stopped_at n (stops_lawful text ds n (sofar.stops n (s (entry_wants d (further_wants left)))))
+    by_semicolon : Reading dialect text at (one semicolon ∷ []) (Takes text at semicolon) → WholeReading dialect text ds
+    by_semicolon (done start parting) = by_entry start parting (an_entry dialect text d start parting.within)
+    by_semicolon (stopped n s) = stopped_at n (stops_lawful dialect text ds n (sofar.stops n (s (entry_wants d (further_wants left)))))
 
 -- the inputs that are left
-more_entries : (left : List Declaration) (text : List ℕ) (ds : List Declaration) (es : Environment) (at : ℕ) → SoFar text ds left es at → WholeReading text ds
-more_entries [] text ds es at sofar = no_entries text ds es at sofar
-more_entries (d ∷ left) text ds es at sofar = next_entry text ds d left es at sofar (λ news end further. more_entries left text ds news end further)
+more_entries : (dialect : Dialect) → (left : List Declaration) (text : List ℕ) (ds : List Declaration) (es : Environment) (at : ℕ) → SoFar dialect text ds left es at → WholeReading dialect text ds
+more_entries dialect [] text ds es at sofar = no_entries dialect text ds es at sofar
+more_entries dialect (d ∷ left) text ds es at sofar = next_entry dialect text ds d left es at sofar (λ news end further. more_entries dialect left text ds news end further)
 
-whole : (text : List ℕ) (ds : List Declaration) → WholeReading text ds
-whole text [] = all_read [] 0 (none_read text)
-whole text (d ∷ ds) = by_entry (an_entry text d 0 (omega arith))
+whole : (dialect : Dialect) → (text : List ℕ) (ds : List Declaration) → WholeReading dialect text ds
+whole dialect text [] = all_read [] 0 (none_read dialect text)
+whole dialect text (d ∷ ds) = by_entry (an_entry dialect text d 0 (omega arith))
   where
-    by_entry : ReadingOfEntry text d 0 → WholeReading text (d ∷ ds)
-    by_entry (done end (entry, read)) = more_entries ds text (d ∷ ds) (entry ∷ []) end (first_so_far text d ds entry end read)
-    by_entry (stopped n s) = stopped_at n (stops_lawful text (d ∷ ds) n (s (further_wants ds)))
+    by_entry : ReadingOfEntry dialect text d 0 → WholeReading dialect text (d ∷ ds)
+    by_entry (done end (entry, read)) = more_entries dialect ds text (d ∷ ds) (entry ∷ []) end (first_so_far dialect text d ds entry end read)
+    by_entry (stopped n s) = stopped_at n (stops_lawful dialect text (d ∷ ds) n (s (further_wants ds)))
 
-pub some_meaning : (ds : List Declaration) (text : List ℕ) → (answer : InputAnswer) × InputMeans ds text answer
-some_meaning ds text = by_length (cases_lt greatest_input_length (length text))
+pub some_meaning : (dialect : Dialect) → (ds : List Declaration) (text : List ℕ) → (answer : InputAnswer) × InputMeans dialect ds text answer
+some_meaning dialect ds text = by_length (cases_lt greatest_input_length (length text))
   where
-    by_next : length text ≤ greatest_input_length → (es : Environment) (end : ℕ) → AllRead text ds es end → Coming text end
-        → (answer : InputAnswer) × InputMeans ds text answer
+    by_next : length text ≤ greatest_input_length → (es : Environment) (end : ℕ) → AllRead dialect text ds es end → Coming text end
+        → (answer : InputAnswer) × InputMeans dialect ds text answer
     by_next fits es end all (nothing_comes e) = (spells es, lawful fits all.reads e all.spells)
-    by_next fits es end all (comes t behind takes range) =
+    by_next fits es end all (comes t behind takes) =
         (refused_at (next_at text end), unlawful fits (all.no_more (λ e. let f : Some t ≡ None = sym (first_next takes.reads) ∙ e in cc)))
 
-    by_reading : length text ≤ greatest_input_length → WholeReading text ds → (answer : InputAnswer) × InputMeans ds text answer
+    by_reading : length text ≤ greatest_input_length → WholeReading dialect text ds → (answer : InputAnswer) × InputMeans dialect ds text answer
     by_reading fits (all_read es end all) = by_next fits es end all (coming text end all.within)
     by_reading fits (stopped_at n s) = (refused_at n, unlawful fits s)
 
-    by_length : (greatest_input_length < length text) ⊎ (length text ≤ greatest_input_length) → (answer : InputAnswer) × InputMeans ds text answer
+    by_length : (greatest_input_length < length text) ⊎ (length text ≤ greatest_input_length) → (answer : InputAnswer) × InputMeans dialect ds text answer
     by_length (inl over) = (refused_at greatest_input_length, too_long over)
-    by_length (inr fits) = by_reading fits (whole text ds)
+    by_length (inr fits) = by_reading fits (whole dialect text ds)

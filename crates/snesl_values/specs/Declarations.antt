@@ -1,6 +1,7 @@
 -- Declared inputs and their values.
 use Rattle.std.specs.Prelude.{◌≡◌, ℕ, List, [], ◌∷◌, map, Vec}
 use Rattle.std.specs.Global.{Global}
+use Rattle.snesl_values.specs.declared.dialect.Dialect.{Dialect}
 use Rattle.snesl_values.specs.declared.environment.Input.{Input}
 use Rattle.snesl_values.specs.declared.ty.Ty.{Ty as TyTree}
 use Rattle.snesl_values.specs.Types.{Ty, ty_of}
@@ -14,12 +15,12 @@ Declaration = List ℕ × Ty
 abbrev pub Environment : Type 0
 Environment = List (List ℕ × Value)
 
--- the names are the declared ones in order, and each value has its declared type
-abbrev pub Fits : List Declaration → Environment → Type 0
-Fits [] [] = Unit {0}
-Fits (declaration ∷ declarations) (entry ∷ environment) =
-    (entry.0 ≡ declaration.0) × HasType entry.1 declaration.1 × Fits declarations environment
-Fits _ _ = ⊥
+-- the names are the declared ones in order, and each value has its declared type in the dialect
+abbrev pub Fits : Dialect → List Declaration → Environment → Type 0
+Fits dialect [] [] = Unit {0}
+Fits dialect (declaration ∷ declarations) (entry ∷ environment) =
+    (entry.0 ≡ declaration.0) × HasType dialect entry.1 declaration.1 × Fits dialect declarations environment
+Fits dialect _ _ = ⊥
 
 -- the declaration that a name and a type are
 abbrev pub declaration_of : (Vec ℕ Global × TyTree) → Declaration

@@ -4,7 +4,8 @@ use Rattle.std.specs.List.{take_while, prefix_len, list_any}
 use Rattle.std.specs.Char.{is_ascii_digit, is_ascii_alphabetic}
 use Rattle.snesl_values.specs.Blanks.{is_blank}
 use Rattle.snesl_values.specs.Characters.{is_word, value_from}
-use Rattle.snesl_values.specs.Integers.{is_integer, IsInteger}
+use Rattle.snesl_values.specs.declared.dialect.Dialect.{Dialect}
+use Rattle.snesl_values.specs.Integers.{IsInteger}
 
 -- a word, an integer, a sign of one byte, or a token that no lawful text has
 pub data Token : Type 0 where
@@ -21,10 +22,6 @@ Lexeme = Token × ℕ
 abbrev pub is_sign : ℕ → Bool
 is_sign b = list_any (λ c. c == b) (codes "=;,()[]{}")
 
--- an integer, or a bad token where it is out of the range
-abbrev pub integer_token : ℤ → Token
-integer_token n = if is_integer n then integer n else bad
-
 -- the integer that a number writes behind a minus
 abbrev pub negated : ℕ → ℤ
 negated zero = pos 0
@@ -38,14 +35,14 @@ signed true n = negated n
 -- a minus with the digits behind it, at least one
 abbrev pub minus_lexeme : List ℕ → Lexeme
 minus_lexeme [] = (bad, 1)
-minus_lexeme digits = (integer_token (negated (value_from 0 digits)), suc (length digits))
+minus_lexeme digits = (integer (negated (value_from 0 digits)), suc (length digits))
 
 -- the longest token that stands first in bytes, where no blank does; in no bytes stands none
 unfoldable pub first : List ℕ → Option Lexeme
 first [] = None
 first (b ∷ bs) =
     if is_ascii_alphabetic b then (let letters = take_while is_word (b ∷ bs) in Some (word letters, length letters)) else
-    (if is_ascii_digit b then (let digits = take_while is_ascii_digit (b ∷ bs) in Some (integer_token (pos (value_from 0 digits)), length digits)) else
+    (if is_ascii_digit b then (let digits = take_while is_ascii_digit (b ∷ bs) in Some (integer (pos (value_from 0 digits)), length digits)) else
     (if b == 45 then Some (minus_lexeme (take_while is_ascii_digit bs)) else
     (if is_sign b then Some (sign b, 1) else Some (bad, 1))))
 
@@ -83,9 +80,9 @@ digits_at text from = take_while is_ascii_digit (drop from text)
 abbrev pub number_of : Bool → List ℕ → ℤ
 number_of is_negative digits = signed is_negative (value_from 0 digits)
 
--- some digits write this integer, in the range, and end before this offset
-pub record IsNumber (text : List ℕ) (from : ℕ) (is_negative : Bool) (found : ℤ × ℕ) : Type 0 where
+-- some digits write this integer, in the range of the dialect, and end before this offset
+pub record IsNumber (dialect : Dialect) (text : List ℕ) (from : ℕ) (is_negative : Bool) (found : ℤ × ℕ) : Type 0 where
   pub some : 0 < length (digits_at text from)
   pub value : found.0 ≡ number_of is_negative (digits_at text from)
-  pub in_range : IsInteger found.0
+  pub in_range : IsInteger dialect found.0
   pub end : found.1 ≡ from + length (digits_at text from)

@@ -1,6 +1,7 @@
 -- What an input text spells, and where it is refused.
 use Rattle.std.specs.Prelude.{◌≡◌, ℕ, ◌<◌, ◌≤◌, true, false, List, [], ◌∷◌, ◌++◌, ◌⊎◌, map, length, codes, Option, Some, None, if◌then◌else◌}
 use Rattle.std.specs.Str.{bytes_eq}
+use Rattle.snesl_values.specs.declared.dialect.Dialect.{Dialect}
 use Rattle.snesl_values.specs.declared.environment.Inputs.{Inputs}
 use Rattle.snesl_values.specs.declared.inputs.InputError.{InputError}
 use Rattle.snesl_values.specs.declared.inputs.InputError.TheVariants.{Bad, NoMemory}
@@ -82,14 +83,14 @@ AreEntries [] tokens = tokens ≡ []
 AreEntries environment tokens =
     (tokens ≡ environment_tokens environment) ⊎ (tokens ≡ environment_tokens environment ++ (semicolon ∷ []))
 
--- the tokens spell this environment for these declarations
-pub record Spells (declarations : List Declaration) (environment : Environment) (tokens : List Token) : Type 0 where
-  pub fits : Fits declarations environment
+-- the tokens spell this environment for these declarations, in the dialect
+pub record Spells (dialect : Dialect) (declarations : List Declaration) (environment : Environment) (tokens : List Token) : Type 0 where
+  pub fits : Fits dialect declarations environment
   pub entries : AreEntries environment tokens
 
 -- the tokens spell some environment
-abbrev pub IsLawful : List Declaration → List Token → Type 0
-IsLawful declarations tokens = (environment : Environment) × Spells declarations environment tokens
+abbrev pub IsLawful : Dialect → List Declaration → List Token → Type 0
+IsLawful dialect declarations tokens = (environment : Environment) × Spells dialect declarations environment tokens
 
 -- some list of tokens of this kind begins with these
 abbrev pub Begins : (List Token → Type 0) → List Token → Type 0
@@ -115,31 +116,35 @@ pub data InputAnswer : Type 0 where
   spells : Environment → InputAnswer
   refused_at : ℕ → InputAnswer
 
--- the answer that a text has for these declarations
-pub data InputMeans (declarations : List Declaration) (text : List ℕ) : InputAnswer → Type 0 where
+-- the answer that a text has for these declarations, in the dialect
+pub data InputMeans (dialect : Dialect) (declarations : List Declaration) (text : List ℕ) : InputAnswer → Type 0 where
   -- a text that is too long is refused at the limit, whatever it holds
-  too_long : greatest_input_length < length text → InputMeans declarations text (refused_at greatest_input_length)
+  too_long : greatest_input_length < length text → InputMeans dialect declarations text (refused_at greatest_input_length)
   -- a text spells the environment that its tokens do
   lawful : {environment : Environment} {tokens : List Token} {end : ℕ} → length text ≤ greatest_input_length
-      → Reads text 0 tokens end → next_token text end ≡ None → Spells declarations environment tokens
-      → InputMeans declarations text (spells environment)
+      → Reads text 0 tokens end → next_token text end ≡ None → Spells dialect declarations environment tokens
+      → InputMeans dialect declarations text (spells environment)
   -- any other text is refused at the first token that may not stand there, or at its length where it ends too early
-  unlawful : {at : ℕ} → length text ≤ greatest_input_length → StopsAt (IsLawful declarations) text 0 at
-      → InputMeans declarations text (refused_at at)
+  unlawful : {at : ℕ} → length text ≤ greatest_input_length → StopsAt (IsLawful dialect declarations) text 0 at
+      → InputMeans dialect declarations text (refused_at at)
 
 -- no text has two answers
 abbrev pub OneInputMeaning : Type 0
 OneInputMeaning =
-    (declarations : List Declaration) (text : List ℕ) (a b : InputAnswer)
-    → InputMeans declarations text a → InputMeans declarations text b → a ≡ b
+    (dialect : Dialect) (declarations : List Declaration) (text : List ℕ) (a b : InputAnswer)
+    → InputMeans dialect declarations text a → InputMeans dialect declarations text b → a ≡ b
 
 -- each text has an answer
 abbrev pub SomeInputMeaning : Type 0
-SomeInputMeaning = (declarations : List Declaration) (text : List ℕ) → (answer : InputAnswer) × InputMeans declarations text answer
+SomeInputMeaning = (dialect : Dialect) (declarations : List Declaration) (text : List ℕ) → (answer : InputAnswer) × InputMeans dialect declarations text answer
 
 -- the declarations for which inputs were read
 unfoldable pub declarations_of : Inputs → List Declaration
 declarations_of inputs = declared inputs.decls.items
+
+-- the dialect in which they were read
+unfoldable pub dialect_of : Inputs → Dialect
+dialect_of inputs = inputs.dialect
 
 -- the names and values that were read
 unfoldable pub environment_of : Inputs → Environment

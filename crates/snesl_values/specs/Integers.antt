@@ -1,18 +1,17 @@
--- The integers of the language: 64 bits with a sign.
-use Rattle.std.specs.Prelude.{ℕ, Bool, IsTrue, nat_le, ℤ, pos, negsuc}
+-- The integers of the language: 64 bits with a sign, and 128 in the second dialect.
+use Rattle.std.specs.Prelude.{ℕ, suc, Bool, IsTrue, nat_le, ℤ, pos, negsuc}
+use Rattle.snesl_values.specs.declared.dialect.Dialect.{Dialect}
+use Rattle.snesl_values.specs.declared.dialect.Dialect.TheVariants.{One, Two}
 
--- the greatest integer, which is also the greatest literal
-abbrev pub greatest_integer : ℕ
-greatest_integer = 9223372036854775807
+-- the greatest integer of a dialect, which is also its greatest literal
+abbrev pub greatest_integer : Dialect → ℕ
+greatest_integer One = 9223372036854775807
+greatest_integer Two = 170141183460469231731687303715884105727
 
--- the greatest number that may stand behind a minus
-abbrev pub greatest_magnitude : ℕ
-greatest_magnitude = 9223372036854775808
+-- whether a number lies in the range of a dialect, which reaches one further below 0 than above; negsuc n is -n - 1
+abbrev pub is_integer : Dialect → ℤ → Bool
+is_integer dialect (pos n) = nat_le n (greatest_integer dialect)
+is_integer dialect (negsuc n) = nat_le n (greatest_integer dialect)
 
--- whether a number lies from -9223372036854775808 to 9223372036854775807; negsuc n is -n - 1
-abbrev pub is_integer : ℤ → Bool
-is_integer (pos n) = nat_le n greatest_integer
-is_integer (negsuc n) = nat_le n greatest_integer
-
-abbrev pub IsInteger : ℤ → Type 0
-IsInteger n = IsTrue (is_integer n)
+abbrev pub IsInteger : Dialect → ℤ → Type 0
+IsInteger dialect n = IsTrue (is_integer dialect n)

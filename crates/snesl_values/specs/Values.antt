@@ -2,6 +2,7 @@
 use Rattle.std.specs.Prelude.{Bool, List, [], ◌∷◌, ℤ}
 use Rattle.snesl_values.specs.declared.datum.Datum.{Datum, Row_of-Datum, end_of-Datum, more_of-Datum}
 use Rattle.snesl_values.specs.declared.datum.Datum.TheVariants.{Int, Bool as BoolDatum, Pair', Vec', Seq'}
+use Rattle.snesl_values.specs.declared.dialect.Dialect.{Dialect}
 use Rattle.snesl_values.specs.Integers.{IsInteger}
 use Rattle.snesl_values.specs.Types.{Ty, int, bool, pair, vec, seq}
 
@@ -41,16 +42,27 @@ abbrev mutual
   row_values end_of-Datum = no_values
   row_values (more_of-Datum d rest) = more_values (value_of d) (row_values rest)
 
--- the value is one of this type: its integers lie in the range, and its items are of one type
+-- the value is one of this type, its integers are such as this says, and its items are of one type
 abbrev mutual
-  pub HasType : Value → Ty → Type 0
-  HasType (an_int n) int = IsInteger n
-  HasType (a_bool b) bool = Unit {0}
-  HasType (a_pair a b) (pair first second) = HasType a first × HasType b second
-  HasType (a_vec vs) (vec item) = AllHaveType vs item
-  HasType (a_seq vs) (seq item) = AllHaveType vs item
-  HasType _ _ = ⊥
+  pub IsOf : (ℤ → Type 0) → Value → Ty → Type 0
+  IsOf Number (an_int n) int = Number n
+  IsOf Number (a_bool b) bool = Unit {0}
+  IsOf Number (a_pair a b) (pair first second) = IsOf Number a first × IsOf Number b second
+  IsOf Number (a_vec vs) (vec item) = AreOf Number vs item
+  IsOf Number (a_seq vs) (seq item) = AreOf Number vs item
+  IsOf Number _ _ = ⊥
 
-  pub AllHaveType : Values → Ty → Type 0
-  AllHaveType no_values item = Unit {0}
-  AllHaveType (more_values v vs) item = HasType v item × AllHaveType vs item
+  pub AreOf : (ℤ → Type 0) → Values → Ty → Type 0
+  AreOf Number no_values item = Unit {0}
+  AreOf Number (more_values v vs) item = IsOf Number v item × AreOf Number vs item
+
+-- the value is of this type by its shape, whatever its integers are
+abbrev pub HasShape : Value → Ty → Type 0
+HasShape = IsOf (λ _. Unit {0})
+
+-- the value is of this type, and its integers lie in the range of the dialect
+abbrev pub HasType : Dialect → Value → Ty → Type 0
+HasType dialect = IsOf (IsInteger dialect)
+
+abbrev pub AllHaveType : Dialect → Values → Ty → Type 0
+AllHaveType dialect = AreOf (IsInteger dialect)

@@ -1,5 +1,6 @@
 -- What the reader of an input text still wants, and what its parts answer.
 use Rattle.std.specs.Prelude.{◌≡◌, ◌≢◌, ℕ, ◌<◌, ◌≤◌, List, [], ◌∷◌, ◌++◌, ◌⊎◌, length, None}
+use Rattle.snesl_values.specs.declared.dialect.Dialect.{Dialect}
 use Rattle.snesl_values.specs.declared.inputs.InputError.{InputError}
 use Rattle.snesl_values.specs.declared.inputs.InputError.TheVariants.{Bad, NoMemory}
 use Rattle.snesl_values.specs.Types.{Ty}
@@ -21,18 +22,18 @@ pub data Want : Type 0 where
   further_items : Ty → ℕ → Want
 
 -- the tokens are all that is wanted
-abbrev pub Meets : Want → List Token → Type 0
-Meets (one token) tokens = tokens ≡ token ∷ []
-Meets (perhaps token) tokens = (tokens ≡ []) ⊎ (tokens ≡ token ∷ [])
-Meets (a_value t) tokens = (v : Value) × HasType v t × (tokens ≡ value_tokens v)
-Meets (items t close) tokens = (vs : Values) × AllHaveType vs t × (tokens ≡ items_tokens vs ++ (sign close ∷ []))
-Meets (further_items t close) tokens = (vs : Values) × AllHaveType vs t × (tokens ≡ further_tokens vs ++ (sign close ∷ []))
+abbrev pub Meets : Dialect → Want → List Token → Type 0
+Meets dialect (one token) tokens = tokens ≡ token ∷ []
+Meets dialect (perhaps token) tokens = (tokens ≡ []) ⊎ (tokens ≡ token ∷ [])
+Meets dialect (a_value t) tokens = (v : Value) × HasType dialect v t × (tokens ≡ value_tokens v)
+Meets dialect (items t close) tokens = (vs : Values) × AllHaveType dialect vs t × (tokens ≡ items_tokens vs ++ (sign close ∷ []))
+Meets dialect (further_items t close) tokens = (vs : Values) × AllHaveType dialect vs t × (tokens ≡ further_tokens vs ++ (sign close ∷ []))
 
 -- the tokens meet the wants, one after the other
-abbrev pub Fills : List Want → List Token → Type 0
-Fills [] tokens = tokens ≡ []
-Fills (want ∷ wants) tokens =
-    (these rest : List Token) × (tokens ≡ these ++ rest) × Meets want these × Fills wants rest
+abbrev pub Fills : Dialect → List Want → List Token → Type 0
+Fills dialect [] tokens = tokens ≡ []
+Fills dialect (want ∷ wants) tokens =
+    (these rest : List Token) × (tokens ≡ these ++ rest) × Meets dialect want these × Fills dialect wants rest
 
 -- the wants of a declared input
 abbrev pub entry_wants : Declaration → List Want → List Want
@@ -50,41 +51,41 @@ wants_of (declaration ∷ declarations) = entry_wants declaration (further_wants
 
 -- the error of a reader of these wants, whatever is wanted behind them: the offset at which it stops, or that
 -- memory was refused
-abbrev pub IsStop : List Want → List ℕ → ℕ → InputError → Type 0
-IsStop wants text from (Bad at) = (further : List Want) → StopsAt (Fills (wants ++ further)) text from at
-IsStop wants text from NoMemory = Unit {0}
+abbrev pub IsStop : Dialect → List Want → List ℕ → ℕ → InputError → Type 0
+IsStop dialect wants text from (Bad at) = (further : List Want) → StopsAt (Fills dialect (wants ++ further)) text from at
+IsStop dialect wants text from NoMemory = Unit {0}
 
 -- a value of this type was read, which ends before this offset
-pub record IsRead (text : List ℕ) (from : ℕ) (t : Ty) (value : Value) (end : ℕ) : Type 0 where
-  pub has_type : HasType value t
+pub record IsRead (dialect : Dialect) (text : List ℕ) (from : ℕ) (t : Ty) (value : Value) (end : ℕ) : Type 0 where
+  pub has_type : HasType dialect value t
   pub reads : Reads text from (value_tokens value) end
   pub moves : from < end
   pub within : end ≤ length text
 
 -- items of this type were read, with the sign that closes them
-pub record AreRead (text : List ℕ) (from : ℕ) (t : Ty) (close : ℕ) (values : Values) (end : ℕ) : Type 0 where
-  pub have_type : AllHaveType values t
+pub record AreRead (dialect : Dialect) (text : List ℕ) (from : ℕ) (t : Ty) (close : ℕ) (values : Values) (end : ℕ) : Type 0 where
+  pub have_type : AllHaveType dialect values t
   pub reads : Reads text from (items_tokens values ++ (sign close ∷ [])) end
   pub moves : from < end
   pub within : end ≤ length text
 
 -- a declared input was read, which ends before this offset
-pub record IsEntry (text : List ℕ) (from : ℕ) (declaration : Declaration) (entry : List ℕ × Value) (end : ℕ) : Type 0 where
+pub record IsEntry (dialect : Dialect) (text : List ℕ) (from : ℕ) (declaration : Declaration) (entry : List ℕ × Value) (end : ℕ) : Type 0 where
   pub named : entry.0 ≡ declaration.0
-  pub has_type : HasType entry.1 declaration.1
+  pub has_type : HasType dialect entry.1 declaration.1
   pub reads : Reads text from (entry_tokens entry) end
   pub moves : from < end
   pub within : end ≤ length text
 
 -- all declared inputs were read, up to this offset, and nothing may stand behind them
-pub record AllRead (text : List ℕ) (declarations : List Declaration) (environment : Environment) (end : ℕ) : Type 0 where
+pub record AllRead (dialect : Dialect) (text : List ℕ) (declarations : List Declaration) (environment : Environment) (end : ℕ) : Type 0 where
   pub tokens : List Token
   pub reads : Reads text 0 tokens end
-  pub spells : Spells declarations environment tokens
+  pub spells : Spells dialect declarations environment tokens
   pub within : end ≤ length text
-  pub no_more : next_token text end ≢ None → StopsAt (IsLawful declarations) text 0 (next_at text end)
+  pub no_more : next_token text end ≢ None → StopsAt (IsLawful dialect declarations) text 0 (next_at text end)
 
 -- the error of the reader of a whole text
-abbrev pub IsStopOf : List Declaration → List ℕ → InputError → Type 0
-IsStopOf declarations text (Bad at) = StopsAt (IsLawful declarations) text 0 at
-IsStopOf declarations text NoMemory = Unit {0}
+abbrev pub IsStopOf : Dialect → List Declaration → List ℕ → InputError → Type 0
+IsStopOf dialect declarations text (Bad at) = StopsAt (IsLawful dialect declarations) text 0 at
+IsStopOf dialect declarations text NoMemory = Unit {0}

@@ -8,7 +8,7 @@ use std::alloc::{AllocError, Global};
 /// A value: an integer, a truth value, a pair, a vector or a sequence.
 #[derive(Debug, Drop)]
 pub enum Datum {
-    Int(i64),
+    Int(i128),
     Bool(bool),
     Pair(Box<Datum>, Box<Datum>),
     Vec(Vec<Datum>),

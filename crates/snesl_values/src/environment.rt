@@ -4,6 +4,7 @@ ghost use Rattle.std.specs.Prelude.{map};
 ghost use Rattle.snesl_values.specs.Declarations.{declared, entry_of, Fits};
 
 use crate::datum::Datum;
+use crate::dialect::Dialect;
 use crate::ty::Ty;
 
 // A declared name and its value.
@@ -13,20 +14,29 @@ pub(crate) struct Input {
     pub(crate) value: Datum,
 }
 
-/// The values of a program's declared inputs, in the order of declaration, with the declarations for
-/// which they were read. It keeps that the values are of these names and types.
+/// The values of a program's declared inputs, in the order of declaration, with the dialect and the
+/// declarations for which they were read. It keeps that the values are of these names and types.
 #[derive(Debug, Drop)]
 pub struct Inputs {
+    pub(crate) dialect: Dialect,
     pub(crate) decls: Vec<(Vec<u8>, Ty)>,
     pub(crate) all: Vec<Input>,
-    pub(crate) ghost fit: { ∥ Fits (declared decls.items) (map entry_of all.items) ∥₁ },
+    pub(crate) ghost fit: { ∥ Fits dialect (declared decls.items) (map entry_of all.items) ∥₁ },
 }
 
 impl Inputs {
     ghost use Rattle.std.specs.Prelude.{◌≡◌, ◌↔◌, [], length, IsTrue, option_map};
     ghost use Rattle.std.specs.List.{slice_get};
     ghost use Rattle.snesl_values.specs.Values.{value_of};
-    ghost use Rattle.snesl_values.specs.Inputs.{declarations_of, environment_of, value_in};
+    ghost use Rattle.snesl_values.specs.Inputs.{dialect_of, declarations_of, environment_of, value_in};
+
+    /// The dialect in which the inputs were read.
+    #[tactic(auto, unfolding(crate::specs::Inputs::dialect_of))]
+    pub fn dialect(&self) -> Dialect
+        ensures { result ≡ dialect_of self.now }
+    {
+        self.dialect
+    }
 
     /// The declarations for which the inputs were read, each a name and its type, in order.
     #[tactic(auto, unfolding(crate::specs::Inputs::declarations_of))]

@@ -2,10 +2,11 @@
 
 ghost use Rattle.std.specs.Prelude.{◌≡◌, ℕ, ◌≤◌, [], ◌⊎◌, length, map, IfOk, IfErr, IsOk, Err};
 ghost use Rattle.snesl_values.specs.Declarations.{Environment, declared, declaration_of, entry_of, Fits};
-ghost use Rattle.snesl_values.specs.Inputs.{declarations_of, environment_of, spells, refused_at, InputMeans, OneInputMeaning, SomeInputMeaning};
+ghost use Rattle.snesl_values.specs.Inputs.{dialect_of, declarations_of, environment_of, spells, refused_at, InputMeans, OneInputMeaning, SomeInputMeaning};
 ghost use Rattle.snesl_values.specs.Wants.{entry_wants, IsStop, IsStopOf, IsEntry, AllRead};
 ghost use Rattle.snesl_values.specs.declared.inputs.InputError.TheVariants.{Bad, NoMemory};
 
+use crate::dialect::Dialect;
 use crate::environment::{Input, Inputs};
 use crate::reader::{expect_sign, expect_word, read_value};
 use crate::refusal::Refusal;
@@ -62,7 +63,7 @@ impl From<InputError> for Refusal {
 /// two, and one more `;` may stand behind the last.
 ///
 /// A value is an integer, `true` or `false`, a pair `(a,b)`, a vector `[a,b]` or a sequence
-/// `{a,b}`, as its type says; an integer may have a minus directly before its digits. Spaces, tabs,
+/// `{a,b}`, as its type says; an integer lies in the range of the dialect, and may have a minus directly before its digits. Spaces, tabs,
 /// line feeds and carriage returns may stand before, between and after tokens, and the longest
 /// token is taken.
 ///
@@ -73,34 +74,40 @@ impl From<InputError> for Refusal {
 ///   text that is longer than that.
 /// - `NoMemory`: memory was refused.
 pub fn read_inputs(
+    dialect: Dialect,
     alloc: Global,
     decls: &[(Vec<u8>, Ty)],
     bytes: &[u8],
 ) -> Result<Inputs, InputError>
     // What is answered is what the text means.
-    ensures spelled { IfOk result (λ inputs. InputMeans (declared decls.now) bytes.now (spells (environment_of inputs))) }
-    ensures refused { IfErr result (λ error. (error ≡ NoMemory) ⊎ ((at : ℕ) × (error ≡ Bad at) × InputMeans (declared decls.now) bytes.now (refused_at at))) }
+    ensures spelled { IfOk result (λ inputs. InputMeans dialect (declared decls.now) bytes.now (spells (environment_of inputs))) }
+    ensures refused { IfErr result (λ error. (error ≡ NoMemory) ⊎ ((at : ℕ) × (error ≡ Bad at) × InputMeans dialect (declared decls.now) bytes.now (refused_at at))) }
 
     // And what the text means is answered, unless memory was refused.
-    ensures lawful { (environment : Environment) → InputMeans (declared decls.now) bytes.now (spells environment) → IsOk result ⊎ (result ≡ Err NoMemory) }
-    ensures unlawful { (at : ℕ) → InputMeans (declared decls.now) bytes.now (refused_at at) → (result ≡ Err (Bad at)) ⊎ (result ≡ Err NoMemory) }
+    ensures lawful { (environment : Environment) → InputMeans dialect (declared decls.now) bytes.now (spells environment) → IsOk result ⊎ (result ≡ Err NoMemory) }
+    ensures unlawful { (at : ℕ) → InputMeans dialect (declared decls.now) bytes.now (refused_at at) → (result ≡ Err (Bad at)) ⊎ (result ≡ Err NoMemory) }
 
-    // The inputs are of the declarations for which they were read.
+    // The inputs are of the dialect and the declarations for which they were read.
+    ensures in_dialect { IfOk result (λ inputs. dialect_of inputs ≡ dialect) }
     ensures declares { IfOk result (λ inputs. declarations_of inputs ≡ declared decls.now) }
 
     // The names are the declared ones, and the values have their types.
-    ensures fits { IfOk result (λ inputs. Fits (declared decls.now) (environment_of inputs)) }
+    ensures fits { IfOk result (λ inputs. Fits dialect (declared decls.now) (environment_of inputs)) }
 {
     if bytes.len() > GREATEST_INPUT_LENGTH {
         return Err(InputError::Bad(GREATEST_INPUT_LENGTH));
     }
-    let (all, behind) = read_all(alloc, decls, bytes)?;
+    let (all, behind) = read_all(dialect, alloc, decls, bytes)?;
     let end = skip_blanks(bytes, behind);
     if end < bytes.len() {
         return Err(InputError::Bad(end));
     }
     let decls = copy_decls(alloc, decls)?;
-    Ok(Inputs { decls, all })
+    Ok(Inputs {
+        dialect,
+        decls,
+        all,
+    })
 }
 
 // The same declarations in memory of their own.
@@ -118,22 +125,23 @@ fn copy_decls(alloc: Global, decls: &[(Vec<u8>, Ty)]) -> Result<Vec<(Vec<u8>, Ty
 
 // The values of the declarations, read from the start of a text, and the offset behind them.
 fn read_all(
+    dialect: Dialect,
     alloc: Global,
     decls: &[(Vec<u8>, Ty)],
     text: &[u8],
 ) -> Result<(Vec<Input>, usize), InputError>
-    ensures read { IfOk result (λ found. AllRead text.now (declared decls.now) (map entry_of found.0.items) found.1) }
-    ensures stops { IfErr result (IsStopOf (declared decls.now) text.now) }
+    ensures read { IfOk result (λ found. AllRead dialect text.now (declared decls.now) (map entry_of found.0.items) found.1) }
+    ensures stops { IfErr result (IsStopOf dialect (declared decls.now) text.now) }
 {
     let mut all = Vec::new(alloc);
     if decls.is_empty() {
         return Ok((all, 0));
     }
-    let (input, mut at) = read_entry(alloc, text, 0, &decls[0])?;
+    let (input, mut at) = read_entry(dialect, alloc, text, 0, &decls[0])?;
     all.push(input)?;
     for declaration in &decls[1..] {
-        let start = expect_sign(text, at, b';')?;
-        let (input, end) = read_entry(alloc, text, start, declaration)?;
+        let start = expect_sign(dialect, text, at, b';')?;
+        let (input, end) = read_entry(dialect, alloc, text, start, declaration)?;
         all.push(input)?;
         at = end;
     }
@@ -145,25 +153,26 @@ fn read_all(
 
 // The declared input that comes next, and the offset behind it.
 fn read_entry(
+    dialect: Dialect,
     alloc: Global,
     text: &[u8],
     at: usize,
     declaration: &(Vec<u8>, Ty),
 ) -> Result<(Input, usize), InputError>
     requires { at ≤ length text.now }
-    ensures read { IfOk result (λ found. IsEntry text.now at (declaration_of declaration.now) (entry_of found.0) found.1) }
-    ensures stops { IfErr result (IsStop (entry_wants (declaration_of declaration.now) []) text.now at) }
+    ensures read { IfOk result (λ found. IsEntry dialect text.now at (declaration_of declaration.now) (entry_of found.0) found.1) }
+    ensures stops { IfErr result (IsStop dialect (entry_wants (declaration_of declaration.now) []) text.now at) }
 {
-    let behind_name = expect_word(text, at, &declaration.0)?;
-    let start = expect_sign(text, behind_name, b'=')?;
-    let (value, end) = read_value(alloc, text, start, &declaration.1)?;
+    let behind_name = expect_word(dialect, text, at, &declaration.0)?;
+    let start = expect_sign(dialect, text, behind_name, b'=')?;
+    let (value, end) = read_value(dialect, alloc, text, start, &declaration.1)?;
     let name = Vec::from_slice(alloc, &declaration.0)?;
     Ok((Input { name, value }, end))
 }
 
 /// A law and no code to run: the values are of the declarations for which they were read.
 pub fn inputs_fit(inputs: &Inputs)
-    ensures { Fits (declarations_of inputs.now) (environment_of inputs.now) }
+    ensures { Fits (dialect_of inputs.now) (declarations_of inputs.now) (environment_of inputs.now) }
 {}
 
 /// A law and no code to run: a text means one thing for the declarations, and no more than one.

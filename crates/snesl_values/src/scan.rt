@@ -1,18 +1,20 @@
 // Single tokens of an input text.
 
-ghost use Rattle.std.specs.Prelude.{◌≡◌, ◌<◌, ◌≤◌, ℤ, pos, length, IsTrue, IfSome, IfNone, Some, None, if◌then◌else◌, nat_le, Bool, true, false};
+ghost use Rattle.std.specs.Prelude.{◌≡◌, ◌<◌, suc, ◌≤◌, ℤ, pos, length, IsTrue, IfSome, IfNone, Some, None, if◌then◌else◌, nat_le, Bool, true, false};
 ghost use Rattle.std.specs.List.{AllByRecursion, prefix_len};
 ghost use Rattle.std.specs.Char.{is_ascii_digit};
 ghost use Rattle.snesl_values.specs.Blanks.{is_blank};
 ghost use Rattle.snesl_values.specs.Characters.{value_from};
-ghost use Rattle.snesl_values.specs.Integers.{is_integer, IsInteger, greatest_magnitude};
+ghost use Rattle.snesl_values.specs.declared.dialect.Dialect.TheVariants.{Two};
+ghost use Rattle.snesl_values.specs.Integers.{is_integer, IsInteger, greatest_integer};
 ghost use Rattle.snesl_values.specs.InputTokens.{digits_at, number_of, IsNumber, word, integer, sign, is_sign, negated, next_at, next_token, signed, Takes};
 
 use crate::blank::is_blank;
 use crate::characters::{digits_len, word_len};
+use crate::dialect::Dialect;
 
-// The greatest number that may stand behind a minus.
-const GREATEST_MAGNITUDE: u64 = 1 << 63;
+// The greatest number that may stand behind a minus, in the wider dialect.
+const GREATEST_MAGNITUDE: u128 = 1 << 127;
 
 // How many bytes at the front are blanks.
 fn blanks_len(text: &[u8]) -> usize
@@ -65,56 +67,58 @@ pub fn behind_word(text: &[u8], at: usize, expected: &[u8]) -> Option<usize>
     }
 }
 
-// The next token, where that is an integer, and the offset behind it.
-pub fn integer_at(text: &[u8], at: usize) -> Option<(i64, usize)>
+// The next token, where that is an integer of the dialect, and the offset behind it.
+pub fn integer_at(dialect: Dialect, text: &[u8], at: usize) -> Option<(i128, usize)>
     requires { at ≤ length text.now }
-    ensures taken { IfSome result (λ found. Takes text.now at (integer found.0) found.1) }
-    ensures another { IfNone result ((n : ℤ) → ¬ (next_token text.now at ≡ Some (integer n))) }
+    ensures taken { IfSome result (λ found. Takes text.now at (integer found.0) found.1 × IsInteger dialect found.0) }
+    ensures another { IfNone result ((n : ℤ) → IsInteger dialect n → ¬ (next_token text.now at ≡ Some (integer n))) }
 {
     let start = skip_blanks(text, at);
     if start < text.len() && text[start] == b'-' {
-        number_at(text, start + 1, true)
+        number_at(dialect, text, start + 1, true)
     } else {
-        number_at(text, start, false)
+        number_at(dialect, text, start, false)
     }
 }
 
 // The integer of this sign that the digits from here on write, and the offset behind them.
-fn number_at(text: &[u8], from: usize, is_negative: bool) -> Option<(i64, usize)>
+fn number_at(dialect: Dialect, text: &[u8], from: usize, is_negative: bool) -> Option<(i128, usize)>
     requires { from ≤ length text.now }
-    ensures taken { IfSome result (IsNumber text.now from is_negative) }
-    ensures another { IfNone result (¬ ((0 < length (digits_at text.now from)) × IsInteger (number_of is_negative (digits_at text.now from)))) }
+    ensures taken { IfSome result (IsNumber dialect text.now from is_negative) }
+    ensures another { IfNone result (¬ ((0 < length (digits_at text.now from)) × IsInteger dialect (number_of is_negative (digits_at text.now from)))) }
 {
     let len = digits_len(&text[from..]);
     if len == 0 {
         return None;
     }
     let end = from + len;
-    match signed_number(is_negative, &text[from..end]) {
+    match signed_number(dialect, is_negative, &text[from..end]) {
         Some(n) => Some((n, end)),
         None => None,
     }
 }
 
 // The integer that digits write with this sign, where it is in the range.
-fn signed_number(is_negative: bool, digits: &[u8]) -> Option<i64>
+fn signed_number(dialect: Dialect, is_negative: bool, digits: &[u8]) -> Option<i128>
     requires { AllByRecursion (λ c. IsTrue (is_ascii_digit c)) digits.now }
-    ensures { result ≡ (let n = number_of is_negative digits.now in if is_integer n then Some n else None) }
+    ensures { result ≡ (let n = number_of is_negative digits.now in if is_integer dialect n then Some n else None) }
 {
-    match magnitude(digits) {
-        Some(number) => signed(is_negative, number),
-        None => None,
+    let number = signed(is_negative, magnitude(digits)?)?;
+    if dialect.has(number) {
+        Some(number)
+    } else {
+        None
     }
 }
 
 // The number that digits write, where it is not over the greatest magnitude.
-fn magnitude(digits: &[u8]) -> Option<u64>
+fn magnitude(digits: &[u8]) -> Option<u128>
     requires { AllByRecursion (λ c. IsTrue (is_ascii_digit c)) digits.now }
-    ensures { result ≡ (let number = value_from 0 digits.now in if nat_le number greatest_magnitude then Some number else None) }
+    ensures { result ≡ (let number = value_from 0 digits.now in if nat_le number (suc (greatest_integer Two)) then Some number else None) }
 {
-    let mut value = 0u64;
+    let mut value = 0u128;
     for c in digits {
-        let digit = u64::from(*c - b'0');
+        let digit = u128::from(*c - b'0');
         if value > (GREATEST_MAGNITUDE - digit) / 10 {
             return None;
         }
@@ -123,14 +127,14 @@ fn magnitude(digits: &[u8]) -> Option<u64>
     Some(value)
 }
 
-// The integer of this sign and magnitude, where it is in the range.
-fn signed(is_negative: bool, number: u64) -> Option<i64>
-    requires { number ≤ greatest_magnitude }
-    ensures { result ≡ (let n = signed is_negative number in if is_integer n then Some n else None) }
+// The integer of this sign and magnitude, where it is in the range of the wider dialect.
+fn signed(is_negative: bool, number: u128) -> Option<i128>
+    requires { number ≤ suc (greatest_integer Two) }
+    ensures { result ≡ (let n = signed is_negative number in if is_integer Two n then Some n else None) }
 {
     if !is_negative {
-        return if number <= i64::MAX as u64 {
-            Some(number as i64)
+        return if number <= i128::MAX as u128 {
+            Some(number as i128)
         } else {
             None
         };
@@ -138,5 +142,5 @@ fn signed(is_negative: bool, number: u64) -> Option<i64>
     if number == 0 {
         return Some(0);
     }
-    Some(-1 - (number - 1) as i64)
+    Some(-1 - (number - 1) as i128)
 }

@@ -61,7 +61,7 @@ fn append_items(out: &mut Vec<u8>, items: &[Datum]) -> Result<(), AllocError>
     Ok(())
 }
 
-fn append_integer(out: &mut Vec<u8>, n: i64) -> Result<(), AllocError>
+fn append_integer(out: &mut Vec<u8>, n: i128) -> Result<(), AllocError>
     ensures { OnOk result (out.new.items ≡ out.old.items ++ signed_decimal n) }
 {
     let mut buffer = Buffer::new();

@@ -8,8 +8,8 @@ use Rattle.snesl_values.proofs.inputs.read_all.Goals as goal
 
 pub returns-then-is_empty-clause-read : goal.returns-then-is_empty-clause-read
 returns-then-is_empty-clause-read c =
-    subst (λ l. AllRead c.args.text.now (declared c.args.decls.now) (map entry_of l) 0) (sym c.new-all.ensures.items)
-    (subst (λ ds. AllRead c.args.text.now ds [] 0) (sym (none_declared c.args.decls.now (eqb-true _ _ (sym c.if-is_empty.ensures)))) (none_read c.args.text.now))
+    subst (λ l. AllRead c.args.dialect c.args.text.now (declared c.args.decls.now) (map entry_of l) 0) (sym c.new-all.ensures.items)
+    (subst (λ ds. AllRead c.args.dialect c.args.text.now ds [] 0) (sym (none_declared c.args.decls.now (eqb-true _ _ (sym c.if-is_empty.ensures)))) (none_read c.args.dialect c.args.text.now))
 
 pub returns-in_err-input-clause-stops : goal.returns-in_err-input-clause-stops
 returns-in_err-input-clause-stops c =
@@ -18,9 +18,9 @@ returns-in_err-input-clause-stops c =
     let e = c.in_err-input.field-0.0 in
     let some : 0 < length decls = omega (arith, eqb-false (length decls) 0 (sym c.if-is_empty.ensures)) in
     let first = first_declared decls c.index-decls-0.result c.index-decls-0.is some in
-    passed_on (IsStopOf (declared decls) text) c.from_residual.result e c.from_residual.ensures.1
-    (stop_whole text (entry_wants (declaration_of c.index-decls-0.result) []) (declared decls) 0 e
-    (λ n h. subst (λ ds. StopsAt (Fills (wants_of ds)) text 0 n) (sym first) (h (further_wants (declared (take (length decls - 1) (drop 1 decls))))))
+    passed_on (IsStopOf c.args.dialect (declared decls) text) c.from_residual.result e c.from_residual.ensures.1
+    (stop_whole c.args.dialect text (entry_wants (declaration_of c.index-decls-0.result) []) (declared decls) 0 e
+    (λ n h. subst (λ ds. StopsAt (Fills c.args.dialect (wants_of ds)) text 0 n) (sym first) (h (further_wants (declared (take (length decls - 1) (drop 1 decls))))))
     c.in_err-input.ensures.stops)
 
 pub loop-declaration-init : goal.loop-declaration-init
@@ -31,9 +31,9 @@ loop-declaration-init c =
     let some : 0 < length decls = omega (arith, eqb-false (length decls) 0 (sym c.if-is_empty.ensures)) in
     let first = first_declared decls c.index-decls-0.result c.index-decls-0.is some in
     let pushed = c.in_ok-push.ensures.items ∙ ap (λ l. l ++ c.in_ok-input.input ∷ []) c.new-all.ensures.items in
-    subst (λ l. SoFar text (declared decls) left (map entry_of l) c.in_ok-input.at) (sym pushed)
-    (subst (λ ds. SoFar text ds left (entry_of c.in_ok-input.input ∷ []) c.in_ok-input.at) (sym first)
-    (first_so_far text (declaration_of c.index-decls-0.result) left (entry_of c.in_ok-input.input) c.in_ok-input.at c.in_ok-input.ensures.read))
+    subst (λ l. SoFar c.args.dialect text (declared decls) left (map entry_of l) c.in_ok-input.at) (sym pushed)
+    (subst (λ ds. SoFar c.args.dialect text ds left (entry_of c.in_ok-input.input ∷ []) c.in_ok-input.at) (sym first)
+    (first_so_far c.args.dialect text (declaration_of c.index-decls-0.result) left (entry_of c.in_ok-input.input) c.in_ok-input.at c.in_ok-input.ensures.read))
 
 pub expect_sign-requires-clause-within : goal.expect_sign-requires-clause-within
 expect_sign-requires-clause-within c = c.loop-declaration.invariant.within
@@ -50,10 +50,10 @@ returns-in_err-start-clause-stops c =
     let d = declaration_of c.declaration-item.result in
     let e = c.in_err-start.field-0.0 in
     let next = next_declared items k c.declaration-item.result c.loop-declaration-test.true c.declaration-item.is in
-    passed_on (IsStopOf (declared decls) text) c.from_residual-in_err-start.result e c.from_residual-in_err-start.ensures.1
-    (stop_whole text (one semicolon ∷ []) (declared decls) c.loop-declaration.at e
+    passed_on (IsStopOf c.args.dialect (declared decls) text) c.from_residual-in_err-start.result e c.from_residual-in_err-start.ensures.1
+    (stop_whole c.args.dialect text (one semicolon ∷ []) (declared decls) c.loop-declaration.at e
     (λ n h. c.loop-declaration.invariant.stops n
-    (subst (λ ds. StopsAt (Fills (further_wants ds)) text c.loop-declaration.at n) (sym next)
+    (subst (λ ds. StopsAt (Fills c.args.dialect (further_wants ds)) text c.loop-declaration.at n) (sym next)
     (h (entry_wants d (further_wants (declared (drop (k + 1) items)))))))
     c.in_err-start.ensures.stops)
 
@@ -67,11 +67,11 @@ returns-in_err-input-2-clause-stops c =
     let e = c.in_err-input-2.field-0.0 in
     let next = next_declared items k c.declaration-item.result c.loop-declaration-test.true c.declaration-item.is in
     let left = further_wants (declared (drop (k + 1) items)) in
-    passed_on (IsStopOf (declared decls) text) c.from_residual-in_err-input-2.result e c.from_residual-in_err-input-2.ensures.1
-    (stop_whole text (entry_wants d []) (declared decls) c.in_ok-start.start e
+    passed_on (IsStopOf c.args.dialect (declared decls) text) c.from_residual-in_err-input-2.result e c.from_residual-in_err-input-2.ensures.1
+    (stop_whole c.args.dialect text (entry_wants d []) (declared decls) c.in_ok-start.start e
     (λ n h. c.loop-declaration.invariant.stops n
-    (subst (λ ds. StopsAt (Fills (further_wants ds)) text c.loop-declaration.at n) (sym next)
-    (after_one text semicolon (entry_wants d left) c.loop-declaration.at c.in_ok-start.start n c.in_ok-start.ensures.taken.reads (h left))))
+    (subst (λ ds. StopsAt (Fills c.args.dialect (further_wants ds)) text c.loop-declaration.at n) (sym next)
+    (after_one c.args.dialect text semicolon (entry_wants d left) c.loop-declaration.at c.in_ok-start.start n c.in_ok-start.ensures.taken.reads (h left))))
     c.in_err-input-2.ensures.stops)
 
 pub loop-declaration-preserved : goal.loop-declaration-preserved
@@ -86,9 +86,9 @@ loop-declaration-preserved c =
     let left = declared (drop (k + 1) items) in
     let entry = entry_of c.in_ok-input-2.input in
     let pushed = ap (map entry_of) c.in_ok-push-2.ensures.items ∙ entries-push c.loop-declaration.all.items c.in_ok-input-2.input in
-    subst (λ l. SoFar text (declared decls) left l c.in_ok-input-2.end) (sym pushed)
-    (next_so_far text (declared decls) d left es entry c.loop-declaration.at c.in_ok-start.start c.in_ok-input-2.end
-    (subst (λ ds. SoFar text (declared decls) ds es c.loop-declaration.at) next c.loop-declaration.invariant)
+    subst (λ l. SoFar c.args.dialect text (declared decls) left l c.in_ok-input-2.end) (sym pushed)
+    (next_so_far c.args.dialect text (declared decls) d left es entry c.loop-declaration.at c.in_ok-start.start c.in_ok-input-2.end
+    (subst (λ ds. SoFar c.args.dialect text (declared decls) ds es c.loop-declaration.at) next c.loop-declaration.invariant)
     c.in_ok-start.ensures.taken c.in_ok-input-2.ensures.read)
 
 pub returns-in-Some-clause-read : goal.returns-in-Some-clause-read
@@ -98,8 +98,8 @@ returns-in-Some-clause-read c =
     let items = take (length decls - 1) (drop 1 decls) in
     let k = c.loop-declaration.declaration-index in
     let es = map entry_of c.loop-declaration.all.items in
-    all_read_closed text (declared decls) es c.loop-declaration.at c.in-Some.end
-    (subst (λ ds. SoFar text (declared decls) ds es c.loop-declaration.at) (none_left items k (omega arith)) c.loop-declaration.invariant)
+    all_read_closed c.args.dialect text (declared decls) es c.loop-declaration.at c.in-Some.end
+    (subst (λ ds. SoFar c.args.dialect text (declared decls) ds es c.loop-declaration.at) (none_left items k (omega arith)) c.loop-declaration.invariant)
     c.in-Some.ensures.taken
 
 pub returns-in-None-clause-read : goal.returns-in-None-clause-read
@@ -109,6 +109,6 @@ returns-in-None-clause-read c =
     let items = take (length decls - 1) (drop 1 decls) in
     let k = c.loop-declaration.declaration-index in
     let es = map entry_of c.loop-declaration.all.items in
-    all_read_open text (declared decls) es c.loop-declaration.at
-    (subst (λ ds. SoFar text (declared decls) ds es c.loop-declaration.at) (none_left items k (omega arith)) c.loop-declaration.invariant)
+    all_read_open c.args.dialect text (declared decls) es c.loop-declaration.at
+    (subst (λ ds. SoFar c.args.dialect text (declared decls) ds es c.loop-declaration.at) (none_left items k (omega arith)) c.loop-declaration.invariant)
     c.in-None.ensures.another

@@ -5,4 +5,4 @@ use Rattle.snesl_values.proofs.inputs.read_all.Given as goal
 
 abbrev pub invariant-loop-declaration : goal.invariant-loop-declaration
 invariant-loop-declaration l =
-    SoFar l.text (declared l.decls) (declared (drop l.declaration-index l.declaration-items)) (map entry_of l.all.items) l.at
+    SoFar l.dialect l.text (declared l.decls) (declared (drop l.declaration-index l.declaration-items)) (map entry_of l.all.items) l.at

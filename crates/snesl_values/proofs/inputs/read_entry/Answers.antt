@@ -6,15 +6,25 @@ use Rattle.snesl_values.proofs.InputReads.{reads-append}
 use Rattle.snesl_values.proofs.InputWants.{passed_on, stop_of, after_one}
 use Rattle.snesl_values.proofs.inputs.read_entry.Goals as goal
 
+pub returns-in_err-behind_name-clause-stops : goal.returns-in_err-behind_name-clause-stops
+returns-in_err-behind_name-clause-stops c =
+    let text = c.args.text.now in
+    let d = declaration_of c.args.declaration.now in
+    let e = c.in_err-behind_name.field-0.0 in
+    passed_on (IsStop c.args.dialect (entry_wants d []) text c.args.at) c.from_residual.result e c.from_residual.ensures.1
+    (stop_of c.args.dialect text (one (word d.0) ∷ []) (entry_wants d []) c.args.at c.args.at e
+    (λ n h further. h (one equals ∷ a_value d.1 ∷ further))
+    (subst (λ w. IsStop c.args.dialect (one (word w) ∷ []) text c.args.at e) c.deref.ensures.value c.in_err-behind_name.ensures.stops))
+
 pub returns-in_err-start-clause-stops : goal.returns-in_err-start-clause-stops
 returns-in_err-start-clause-stops c =
     let text = c.args.text.now in
     let d = declaration_of c.args.declaration.now in
     let name = subst (λ w. Takes text c.args.at (word w) c.in_ok-behind_name.behind_name) c.deref.ensures.value c.in_ok-behind_name.ensures.taken in
     let e = c.in_err-start.field-0.0 in
-    passed_on (IsStop (entry_wants d []) text c.args.at) c.from_residual-in_err-start.result e c.from_residual-in_err-start.ensures.1
-    (stop_of text (one equals ∷ []) (entry_wants d []) c.in_ok-behind_name.behind_name c.args.at e
-    (λ n h further. after_one text (word d.0) (one equals ∷ a_value d.1 ∷ further) c.args.at c.in_ok-behind_name.behind_name n name.reads (h (a_value d.1 ∷ further)))
+    passed_on (IsStop c.args.dialect (entry_wants d []) text c.args.at) c.from_residual-in_err-start.result e c.from_residual-in_err-start.ensures.1
+    (stop_of c.args.dialect text (one equals ∷ []) (entry_wants d []) c.in_ok-behind_name.behind_name c.args.at e
+    (λ n h further. after_one c.args.dialect text (word d.0) (one equals ∷ a_value d.1 ∷ further) c.args.at c.in_ok-behind_name.behind_name n name.reads (h (a_value d.1 ∷ further)))
     c.in_err-start.ensures.stops)
 
 pub returns-in_err-value-clause-stops : goal.returns-in_err-value-clause-stops
@@ -23,10 +33,10 @@ returns-in_err-value-clause-stops c =
     let d = declaration_of c.args.declaration.now in
     let name = subst (λ w. Takes text c.args.at (word w) c.in_ok-behind_name.behind_name) c.deref.ensures.value c.in_ok-behind_name.ensures.taken in
     let e = c.in_err-value.field-0.0 in
-    passed_on (IsStop (entry_wants d []) text c.args.at) c.from_residual-in_err-value.result e c.from_residual-in_err-value.ensures.1
-    (stop_of text (a_value d.1 ∷ []) (entry_wants d []) c.in_ok-start.start c.args.at e
-    (λ n h further. after_one text (word d.0) (one equals ∷ a_value d.1 ∷ further) c.args.at c.in_ok-behind_name.behind_name n name.reads
-    (after_one text equals (a_value d.1 ∷ further) c.in_ok-behind_name.behind_name c.in_ok-start.start n c.in_ok-start.ensures.taken.reads (h further)))
+    passed_on (IsStop c.args.dialect (entry_wants d []) text c.args.at) c.from_residual-in_err-value.result e c.from_residual-in_err-value.ensures.1
+    (stop_of c.args.dialect text (a_value d.1 ∷ []) (entry_wants d []) c.in_ok-start.start c.args.at e
+    (λ n h further. after_one c.args.dialect text (word d.0) (one equals ∷ a_value d.1 ∷ further) c.args.at c.in_ok-behind_name.behind_name n name.reads
+    (after_one c.args.dialect text equals (a_value d.1 ∷ further) c.in_ok-behind_name.behind_name c.in_ok-start.start n c.in_ok-start.ensures.taken.reads (h further)))
     c.in_err-value.ensures.stops)
 
 pub returns-clause-read : goal.returns-clause-read

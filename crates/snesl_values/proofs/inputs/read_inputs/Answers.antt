@@ -1,7 +1,7 @@
 use Rattle.std.proofs.Common.{inr, Err, map, refl, sym, subst, arith}
 use Rattle.snesl_values.specs.declared.inputs.InputError.TheVariants.{Bad}
 use Rattle.snesl_values.specs.Declarations.{declared, entry_of, Fits}
-use Rattle.snesl_values.specs.Inputs.{declarations_of, environment_of, StopsAt, IsLawful, InputMeans, spells, too_long, lawful, unlawful}
+use Rattle.snesl_values.specs.Inputs.{dialect_of, declarations_of, environment_of, StopsAt, IsLawful, InputMeans, spells, too_long, lawful, unlawful}
 use Rattle.snesl_values.proofs.InputScan.{some_next, no_next}
 use Rattle.snesl_values.proofs.InputWants.{passed_on}
 use Rattle.snesl_values.proofs.InputAnswers.{no_ok, IsRight, right_stop, lawful_answered, unlawful_answered, not_refused}
@@ -12,56 +12,56 @@ returns-then-bytes-gt-GREATEST_INPUT_LENGTH-clause-refused c = inr (_, refl, too
 
 pub returns-then-bytes-gt-GREATEST_INPUT_LENGTH-clause-lawful : goal.returns-then-bytes-gt-GREATEST_INPUT_LENGTH-clause-lawful
 returns-then-bytes-gt-GREATEST_INPUT_LENGTH-clause-lawful c =
-    lawful_answered (declared c.args.decls.now) c.args.bytes.now (Err (Bad 16777216)) (inr (_, refl, too_long (omega arith)))
+    lawful_answered c.args.dialect (declared c.args.decls.now) c.args.bytes.now (Err (Bad 16777216)) (inr (_, refl, too_long (omega arith)))
 
 pub returns-then-bytes-gt-GREATEST_INPUT_LENGTH-clause-unlawful : goal.returns-then-bytes-gt-GREATEST_INPUT_LENGTH-clause-unlawful
 returns-then-bytes-gt-GREATEST_INPUT_LENGTH-clause-unlawful c =
-    unlawful_answered (declared c.args.decls.now) c.args.bytes.now (Err (Bad 16777216)) tt (inr (_, refl, too_long (omega arith)))
+    unlawful_answered c.args.dialect (declared c.args.decls.now) c.args.bytes.now (Err (Bad 16777216)) tt (inr (_, refl, too_long (omega arith)))
 
 pub returns-in_err-all-clause-refused : goal.returns-in_err-all-clause-refused
 returns-in_err-all-clause-refused c =
-    passed_on (IsRight (declared c.args.decls.now) c.args.bytes.now) c.from_residual.result c.in_err-all.field-0.0 c.from_residual.ensures.1
-    (right_stop (declared c.args.decls.now) c.args.bytes.now c.in_err-all.field-0.0 (omega arith) c.in_err-all.ensures.stops)
+    passed_on (IsRight c.args.dialect (declared c.args.decls.now) c.args.bytes.now) c.from_residual.result c.in_err-all.field-0.0 c.from_residual.ensures.1
+    (right_stop c.args.dialect (declared c.args.decls.now) c.args.bytes.now c.in_err-all.field-0.0 (omega arith) c.in_err-all.ensures.stops)
 
 pub returns-in_err-all-clause-lawful : goal.returns-in_err-all-clause-lawful
 returns-in_err-all-clause-lawful c =
-    lawful_answered (declared c.args.decls.now) c.args.bytes.now c.from_residual.result
-    (passed_on (IsRight (declared c.args.decls.now) c.args.bytes.now) c.from_residual.result c.in_err-all.field-0.0 c.from_residual.ensures.1
-    (right_stop (declared c.args.decls.now) c.args.bytes.now c.in_err-all.field-0.0 (omega arith) c.in_err-all.ensures.stops))
+    lawful_answered c.args.dialect (declared c.args.decls.now) c.args.bytes.now c.from_residual.result
+    (passed_on (IsRight c.args.dialect (declared c.args.decls.now) c.args.bytes.now) c.from_residual.result c.in_err-all.field-0.0 c.from_residual.ensures.1
+    (right_stop c.args.dialect (declared c.args.decls.now) c.args.bytes.now c.in_err-all.field-0.0 (omega arith) c.in_err-all.ensures.stops))
 
 pub returns-in_err-all-clause-unlawful : goal.returns-in_err-all-clause-unlawful
 returns-in_err-all-clause-unlawful c =
-    unlawful_answered (declared c.args.decls.now) c.args.bytes.now c.from_residual.result
-    (no_ok (λ inputs. InputMeans (declared c.args.decls.now) c.args.bytes.now (spells (environment_of inputs))) c.from_residual.result c.in_err-all.field-0.0 c.from_residual.ensures.1)
-    (passed_on (IsRight (declared c.args.decls.now) c.args.bytes.now) c.from_residual.result c.in_err-all.field-0.0 c.from_residual.ensures.1
-    (right_stop (declared c.args.decls.now) c.args.bytes.now c.in_err-all.field-0.0 (omega arith) c.in_err-all.ensures.stops))
+    unlawful_answered c.args.dialect (declared c.args.decls.now) c.args.bytes.now c.from_residual.result
+    (no_ok (λ inputs. InputMeans c.args.dialect (declared c.args.decls.now) c.args.bytes.now (spells (environment_of inputs))) c.from_residual.result c.in_err-all.field-0.0 c.from_residual.ensures.1)
+    (passed_on (IsRight c.args.dialect (declared c.args.decls.now) c.args.bytes.now) c.from_residual.result c.in_err-all.field-0.0 c.from_residual.ensures.1
+    (right_stop c.args.dialect (declared c.args.decls.now) c.args.bytes.now c.in_err-all.field-0.0 (omega arith) c.in_err-all.ensures.stops))
 
 pub returns-then-end-bytes-clause-refused : goal.returns-then-end-bytes-clause-refused
 returns-then-end-bytes-clause-refused c =
     inr (
       _,
       refl,
-      unlawful (omega arith) (subst (StopsAt (IsLawful (declared c.args.decls.now)) c.args.bytes.now 0) (sym c.skip_blanks-end.ensures.offset)
+      unlawful (omega arith) (subst (StopsAt (IsLawful c.args.dialect (declared c.args.decls.now)) c.args.bytes.now 0) (sym c.skip_blanks-end.ensures.offset)
           (c.in_ok-all.ensures.read.no_more (some_next c.args.bytes.now c.in_ok-all.behind c.skip_blanks-end.result c.skip_blanks-end.ensures.offset (omega arith)))),
     )
 
 pub returns-then-end-bytes-clause-lawful : goal.returns-then-end-bytes-clause-lawful
 returns-then-end-bytes-clause-lawful c =
-    lawful_answered (declared c.args.decls.now) c.args.bytes.now (Err (Bad c.skip_blanks-end.result))
+    lawful_answered c.args.dialect (declared c.args.decls.now) c.args.bytes.now (Err (Bad c.skip_blanks-end.result))
     (inr (
       _,
       refl,
-      unlawful (omega arith) (subst (StopsAt (IsLawful (declared c.args.decls.now)) c.args.bytes.now 0) (sym c.skip_blanks-end.ensures.offset)
+      unlawful (omega arith) (subst (StopsAt (IsLawful c.args.dialect (declared c.args.decls.now)) c.args.bytes.now 0) (sym c.skip_blanks-end.ensures.offset)
           (c.in_ok-all.ensures.read.no_more (some_next c.args.bytes.now c.in_ok-all.behind c.skip_blanks-end.result c.skip_blanks-end.ensures.offset (omega arith)))),
     ))
 
 pub returns-then-end-bytes-clause-unlawful : goal.returns-then-end-bytes-clause-unlawful
 returns-then-end-bytes-clause-unlawful c =
-    unlawful_answered (declared c.args.decls.now) c.args.bytes.now (Err (Bad c.skip_blanks-end.result)) tt
+    unlawful_answered c.args.dialect (declared c.args.decls.now) c.args.bytes.now (Err (Bad c.skip_blanks-end.result)) tt
     (inr (
       _,
       refl,
-      unlawful (omega arith) (subst (StopsAt (IsLawful (declared c.args.decls.now)) c.args.bytes.now 0) (sym c.skip_blanks-end.ensures.offset)
+      unlawful (omega arith) (subst (StopsAt (IsLawful c.args.dialect (declared c.args.decls.now)) c.args.bytes.now 0) (sym c.skip_blanks-end.ensures.offset)
           (c.in_ok-all.ensures.read.no_more (some_next c.args.bytes.now c.in_ok-all.behind c.skip_blanks-end.result c.skip_blanks-end.ensures.offset (omega arith)))),
     ))
 
@@ -74,7 +74,7 @@ returns-clause-spelled c =
 
 pub returns-clause-unlawful : goal.returns-clause-unlawful
 returns-clause-unlawful c = λ at means.
-    absurd (not_refused (declared c.args.decls.now) c.args.bytes.now (map entry_of c.in_ok-all.all.items) at
+    absurd (not_refused c.args.dialect (declared c.args.decls.now) c.args.bytes.now (map entry_of c.in_ok-all.all.items) at
     (lawful (omega arith) c.in_ok-all.ensures.read.reads
     (no_next c.args.bytes.now c.in_ok-all.behind c.skip_blanks-end.result c.skip_blanks-end.ensures.offset (omega arith))
     c.in_ok-all.ensures.read.spells)
@@ -82,8 +82,12 @@ returns-clause-unlawful c = λ at means.
 
 pub invariant_of-result : goal.invariant_of-result
 invariant_of-result c = record {
-  fit = ∣ subst (λ ds. Fits ds (map entry_of c.in_ok-all.all.items)) (sym c.in_ok-decls.ensures) c.in_ok-all.ensures.read.spells.fits ∣₁;
+  fit = ∣ subst (λ ds. Fits c.args.dialect ds (map entry_of c.in_ok-all.all.items)) (sym c.in_ok-decls.ensures) c.in_ok-all.ensures.read.spells.fits ∣₁;
 }
+
+pub returns-clause-in_dialect : goal.returns-clause-in_dialect
+unfolding dialect_of
+returns-clause-in_dialect c = refl
 
 pub returns-clause-declares : goal.returns-clause-declares
 unfolding declarations_of

@@ -20,10 +20,10 @@ abbrev pub invariant-read_items-loop-all : goal.invariant-read_items-loop-all
 invariant-read_items-loop-all l = record {
   within : l.from ≤ length l.text;
   begun : l.at ≤ l.from;
-  have_type : AllHaveType (values_of (map value_of l.all.items)) (ty_of l.item);
+  have_type : AllHaveType l.dialect (values_of (map value_of l.all.items)) (ty_of l.item);
   reads : Reads l.text l.at (leading_tokens (map value_of l.all.items)) l.from;
-  stops : (wants : List Want) (n : ℕ) → StopsAt (Fills (a_value (ty_of l.item) ∷ further_items (ty_of l.item) l.close ∷ wants)) l.text l.from n
-      → StopsAt (Fills (items (ty_of l.item) l.close ∷ wants)) l.text l.at n;
+  stops : (wants : List Want) (n : ℕ) → StopsAt (Fills l.dialect (a_value (ty_of l.item) ∷ further_items (ty_of l.item) l.close ∷ wants)) l.text l.from n
+      → StopsAt (Fills l.dialect (items (ty_of l.item) l.close ∷ wants)) l.text l.at n;
 }
 
 abbrev pub decreases-read_items-loop-all : goal.decreases-read_items-loop-all

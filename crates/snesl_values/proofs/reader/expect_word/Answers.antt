@@ -7,5 +7,5 @@ use Rattle.snesl_values.proofs.reader.expect_word.Goals as goal
 
 pub returns-in-None-clause-stops : goal.returns-in-None-clause-stops
 returns-in-None-clause-stops c = λ further.
-    subst (StopsAt (Fills (one (word c.args.expected.now) ∷ further)) c.args.text.now c.args.at) (sym c.skip_blanks.ensures.offset)
-    (another_one c.args.text.now (word c.args.expected.now) further c.args.at c.in-None.ensures.another)
+    subst (StopsAt (Fills c.args.dialect (one (word c.args.expected.now) ∷ further)) c.args.text.now c.args.at) (sym c.skip_blanks.ensures.offset)
+    (another_one c.args.dialect c.args.text.now (word c.args.expected.now) further c.args.at c.in-None.ensures.another)

@@ -7,5 +7,5 @@ use Rattle.snesl_values.proofs.reader.read_truth.Goals as goal
 
 pub returns-in-None-clause-stops : goal.returns-in-None-clause-stops
 returns-in-None-clause-stops c = λ further.
-    subst (StopsAt (Fills (a_value bool ∷ further)) c.args.text.now c.args.at) (sym c.skip_blanks.ensures.offset)
-    (no_truth c.args.text.now further c.args.at c.in_default.ensures.another c.in-None.ensures.another)
+    subst (StopsAt (Fills c.args.dialect (a_value bool ∷ further)) c.args.text.now c.args.at) (sym c.skip_blanks.ensures.offset)
+    (no_truth c.args.dialect c.args.text.now further c.args.at c.in_default.ensures.another c.in-None.ensures.another)
