@@ -37,7 +37,7 @@ pub struct Bound {
 }
 
 impl Measured {
-    pub fn integer(at: usize, value: i64) -> Measured
+    pub fn integer(at: usize, value: i128) -> Measured
         ensures { tree_of result.expr ≡ integer at value }
     {
         Measured {

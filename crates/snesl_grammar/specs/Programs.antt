@@ -1,6 +1,8 @@
 -- Which tokens are a program, and which begin one.
-use Rattle.std.specs.Prelude.{ℕ, suc, max, ◌≤◌, List, [], ◌∷◌, ◌++◌}
-use Rattle.snesl_lexer.specs.declared.token.Kind.TheVariants.{Input, Function, LeftParen, RightParen, Colon, Semicolon, Comma, Equals}
+use Rattle.std.specs.Prelude.{ℕ, suc, pos, max, ◌≤◌, List, [], ◌∷◌, ◌++◌}
+use Rattle.snesl_values.specs.declared.dialect.Dialect.{Dialect}
+use Rattle.snesl_values.specs.declared.dialect.Dialect.TheVariants.{One, Two}
+use Rattle.snesl_lexer.specs.declared.token.Kind.TheVariants.{Integer, Dialect as DialectWord, Input, Function, LeftParen, RightParen, Colon, Semicolon, Comma, Equals}
 use Rattle.snesl_lexer.specs.declared.token.Token.{Token}
 use Rattle.snesl_tree.specs.declared.span.Span.{Span}
 use Rattle.snesl_tree.specs.Tree.{Tree, depth, TypeTree, type_depth, Typed, DeclarationTree, declares_input, declares_function, ProgramTree}
@@ -61,11 +63,17 @@ pub data WholeDeclarations : List Token → List DeclarationTree → Type 0 wher
   more_declarations : {ts us : List Token} {given : List DeclarationTree} {last : DeclarationTree}
       → WholeDeclarations ts given → WholeDeclaration us last → WholeDeclarations (ts ++ us) (given ++ last ∷ [])
 
--- the tokens are this program: its declarations, and then its expression
+-- the tokens name this dialect: none name the first, and `dialect 2;` names the second
+pub data WholeDialect : List Token → Dialect → Type 0 where
+  no_dialect : WholeDialect [] One
+  dialect_rule : (at number semicolon : ℕ)
+      → WholeDialect (token DialectWord at ∷ token (Integer (pos 2)) number ∷ token Semicolon semicolon ∷ []) Two
+
+-- the tokens are this program: its dialect, its declarations, and then its expression
 pub data WholeProgram : List Token → ProgramTree → Type 0 where
-  program_rule : {ts us : List Token} {declarations : List DeclarationTree} {expression : Tree}
-      → WholeDeclarations ts declarations → Whole 0 us expression
-      → WholeProgram (ts ++ us) (record { declarations = declarations; expression = expression })
+  program_rule : {named ts us : List Token} {dialect : Dialect} {declarations : List DeclarationTree} {expression : Tree}
+      → WholeDialect named dialect → WholeDeclarations ts declarations → Whole 0 us expression
+      → WholeProgram (named ++ (ts ++ us)) (record { dialect = dialect; declarations = declarations; expression = expression })
 
 -- a parameter whose type has at most this depth begins with the tokens
 pub data FrontParameter : ℕ → List Token → Type 0 where
@@ -114,9 +122,14 @@ pub data FrontDeclaration : ℕ → List Token → Type 0 where
 
 -- a program of at most this depth begins with the tokens
 pub data FrontProgram : ℕ → List Token → Type 0 where
+  -- the tokens end in the dialect, behind `dialect` or behind 2
+  dialect_word : {deep : ℕ} (at : ℕ) → FrontProgram (suc deep) (token DialectWord at ∷ [])
+  dialect_number : {deep : ℕ} (at number : ℕ) → FrontProgram (suc deep) (token DialectWord at ∷ token (Integer (pos 2)) number ∷ [])
   -- the tokens end in a declaration
-  in_declaration : {deep : ℕ} {ts us : List Token} {done : List DeclarationTree}
-      → WholeDeclarations ts done → declarations_depth done ≤ deep → FrontDeclaration deep us → FrontProgram deep (ts ++ us)
+  in_declaration : {deep : ℕ} {named ts us : List Token} {dialect : Dialect} {done : List DeclarationTree}
+      → WholeDialect named dialect → WholeDeclarations ts done → declarations_depth done ≤ deep → FrontDeclaration deep us
+      → FrontProgram deep (named ++ (ts ++ us))
   -- the tokens end in the expression
-  in_expression : {deep : ℕ} {ts us : List Token} {done : List DeclarationTree}
-      → WholeDeclarations ts done → declarations_depth done ≤ deep → Front 0 deep us → FrontProgram deep (ts ++ us)
+  in_expression : {deep : ℕ} {named ts us : List Token} {dialect : Dialect} {done : List DeclarationTree}
+      → WholeDialect named dialect → WholeDeclarations ts done → declarations_depth done ≤ deep → Front 0 deep us
+      → FrontProgram deep (named ++ (ts ++ us))

@@ -1,7 +1,8 @@
 -- Which programs a text spells.
 use Rattle.std.specs.Prelude.{ℕ, ◌≤◌, List, length, map}
+use Rattle.snesl_values.specs.declared.dialect.Dialect.{Dialect}
 use Rattle.snesl_lexer.specs.declared.token.Token.{Token}
-use Rattle.snesl_lexer.specs.Lexical.{Tokens}
+use Rattle.snesl_lexer.specs.Lexical.{dialect_of, Tokens}
 use Rattle.snesl_tree.specs.declared.declaration.Declaration.{Declaration}
 use Rattle.snesl_tree.specs.declared.expr.Expr.{Expr}
 use Rattle.snesl_tree.specs.Tree.{ProgramTree}
@@ -9,17 +10,17 @@ use Rattle.snesl_tree.specs.View.{tree_of, declaration_of}
 use Rattle.snesl_grammar.specs.Limits.{greatest_length, greatest_depth}
 use Rattle.snesl_grammar.specs.Programs.{WholeProgram, program_depth}
 
--- the program of these declarations and this expression
-abbrev pub program_with : List Declaration → Expr → ProgramTree
-program_with declarations expr = record { declarations = map declaration_of declarations; expression = tree_of expr }
+-- the program of this dialect, these declarations and this expression
+abbrev pub program_with : Dialect → List Declaration → Expr → ProgramTree
+program_with dialect declarations expr = record { dialect = dialect; declarations = map declaration_of declarations; expression = tree_of expr }
 
 -- the text spells this program, within the limits
 pub record IsSpelled (text : List ℕ) (program : ProgramTree) : Type 0 where
   -- the text is not too long
   pub is_short : length text ≤ greatest_length
-  -- its bytes are tokens
+  -- its bytes are tokens, in the dialect that it names
   pub tokens : List Token
-  pub are_tokens : Tokens 0 text tokens
+  pub are_tokens : Tokens (dialect_of text) 0 text tokens
   -- the tokens are this program, which is not too deep
   pub is_whole : WholeProgram tokens program
   pub is_shallow : program_depth program ≤ greatest_depth

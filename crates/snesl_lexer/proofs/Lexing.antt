@@ -3,6 +3,7 @@ use Rattle.std.proofs.Common.{◌≡◌, ℕ, suc, pos, ◌+◌, ◌-◌, ◌*�
 use Rattle.std.proofs.lemmas.Bool.{lt-leb, cases_lt, not-true, eqb-false}
 use Rattle.std.proofs.Common.{length-drop, inl, inr, take_all}
 use Rattle.std.specs.List.{AllByRecursion, prefix_len}
+use Rattle.snesl_values.specs.declared.dialect.Dialect.{Dialect}
 use Rattle.snesl_values.specs.Integers.{greatest_integer}
 use Rattle.snesl_lexer.specs.declared.token.Kind.{Kind}
 use Rattle.snesl_lexer.specs.declared.token.Kind.TheVariants.{Integer}
@@ -18,18 +19,18 @@ value_from-grows : (n : ℕ) (cs : List ℕ) → n ≤ value_from n cs
 value_from-grows n [] = omega arith
 value_from-grows n (c ∷ cs) = let h : 10 * n + (c - 48) ≤ value_from (10 * n + (c - 48)) cs = value_from-grows (10 * n + (c - 48)) cs in omega arith
 
-too_large : (cs : List ℕ) → greatest_integer < value_from 0 cs → Bad ≡ number cs
-too_large cs h = sym (ap (λ b. cond b (Found (Integer (pos (value_from 0 cs))) (length cs)) Bad) (lt-leb (value_from 0 cs) greatest_integer h))
+too_large : (dialect : Dialect) → (cs : List ℕ) → greatest_integer dialect < value_from 0 cs → Bad ≡ number dialect cs
+too_large dialect cs h = sym (ap (λ b. cond b (Found (Integer (pos (value_from 0 cs))) (length cs)) Bad) (lt-leb (value_from 0 cs) (greatest_integer dialect) h))
 
 -- a number that is over the limit before its last digit
-pub early : (cs : List ℕ) (i v : ℕ) → i < length cs → value_from v (drop i cs) ≡ value_from 0 cs
-    → (greatest_integer - (get_or cs i 0 - 48)) / 10 < v → Bad ≡ number cs
-early cs i v h same over =
+pub early : (dialect : Dialect) → (cs : List ℕ) (i v : ℕ) → i < length cs → value_from v (drop i cs) ≡ value_from 0 cs
+    → (greatest_integer dialect - (get_or cs i 0 - 48)) / 10 < v → Bad ≡ number dialect cs
+early dialect cs i v h same over =
     let d : ℕ = get_or cs i 0 - 48 in
     let next : value_from v (drop i cs) ≡ value_from (10 * v + (get_or cs i 0 - 48)) (drop (suc i) cs) = ap (value_from v) (drop-cons cs i 0 h) in
     let grows : 10 * v + (get_or cs i 0 - 48) ≤ value_from (10 * v + (get_or cs i 0 - 48)) (drop (suc i) cs) =
     value_from-grows (10 * v + (get_or cs i 0 - 48)) (drop (suc i) cs) in
-    too_large cs (omega arith)
+    too_large dialect cs (omega arith)
 
 pub prefix_passes : (p : ℕ → Bool) (xs : List ℕ) → AllByRecursion (λ x. IsTrue (p x)) (take (prefix_len p xs) xs)
 prefix_passes p [] = tt
@@ -62,32 +63,32 @@ rest_of text at = take (length text - at) (drop at text)
 pub rest_is : (text : List ℕ) (at : ℕ) → rest_of text at ≡ drop at text
 rest_is text at = take_all (length text - at) (drop at text) (omega (arith, length-drop at text))
 
-pub blank_on : (text : List ℕ) (at : ℕ) (ts : List Token) → Blank ≡ first (rest_of text at)
-    → Tokens (at + 1) (drop (at + 1) text) ts → Tokens at (drop at text) ts
-blank_on text at ts e h = skips (sym (e ∙ ap first (rest_is text at))) (subst (λ bs. Tokens (at + 1) bs ts) (sym (drop-drop 1 at text)) h)
+pub blank_on : (dialect : Dialect) → (text : List ℕ) (at : ℕ) (ts : List Token) → Blank ≡ first dialect (rest_of text at)
+    → Tokens dialect (at + 1) (drop (at + 1) text) ts → Tokens dialect at (drop at text) ts
+blank_on dialect text at ts e h = skips (sym (e ∙ ap (first dialect) (rest_is text at))) (subst (λ bs. Tokens dialect (at + 1) bs ts) (sym (drop-drop 1 at text)) h)
 
-pub found_on : (text : List ℕ) (at : ℕ) (k : Kind) (len : ℕ) (ts : List Token) → Found k len ≡ first (rest_of text at)
-    → Tokens (at + len) (drop (at + len) text) ts → Tokens at (drop at text) (record { kind = k; at = at } ∷ ts)
-found_on text at k len ts e h = takes k len (sym (e ∙ ap first (rest_is text at))) (subst (λ bs. Tokens (at + len) bs ts) (sym (drop-drop len at text)) h)
+pub found_on : (dialect : Dialect) → (text : List ℕ) (at : ℕ) (k : Kind) (len : ℕ) (ts : List Token) → Found k len ≡ first dialect (rest_of text at)
+    → Tokens dialect (at + len) (drop (at + len) text) ts → Tokens dialect at (drop at text) (record { kind = k; at = at } ∷ ts)
+found_on dialect text at k len ts e h = takes k len (sym (e ∙ ap (first dialect) (rest_is text at))) (subst (λ bs. Tokens dialect (at + len) bs ts) (sym (drop-drop len at text)) h)
 
-pub blank_bad : (text : List ℕ) (at n : ℕ) → Blank ≡ first (rest_of text at)
-    → BadAt (at + 1) (drop (at + 1) text) n → BadAt at (drop at text) n
-blank_bad text at n e h = bad_later (sym (e ∙ ap first (rest_is text at))) (subst (λ bs. BadAt (at + 1) bs n) (sym (drop-drop 1 at text)) h)
+pub blank_bad : (dialect : Dialect) → (text : List ℕ) (at n : ℕ) → Blank ≡ first dialect (rest_of text at)
+    → BadAt dialect (at + 1) (drop (at + 1) text) n → BadAt dialect at (drop at text) n
+blank_bad dialect text at n e h = bad_later (sym (e ∙ ap (first dialect) (rest_is text at))) (subst (λ bs. BadAt dialect (at + 1) bs n) (sym (drop-drop 1 at text)) h)
 
-pub found_bad : (text : List ℕ) (at : ℕ) (k : Kind) (len n : ℕ) → Found k len ≡ first (rest_of text at)
-    → BadAt (at + len) (drop (at + len) text) n → BadAt at (drop at text) n
-found_bad text at k len n e h = bad_behind k len (sym (e ∙ ap first (rest_is text at))) (subst (λ bs. BadAt (at + len) bs n) (sym (drop-drop len at text)) h)
+pub found_bad : (dialect : Dialect) → (text : List ℕ) (at : ℕ) (k : Kind) (len n : ℕ) → Found k len ≡ first dialect (rest_of text at)
+    → BadAt dialect (at + len) (drop (at + len) text) n → BadAt dialect at (drop at text) n
+found_bad dialect text at k len n e h = bad_behind k len (sym (e ∙ ap (first dialect) (rest_is text at))) (subst (λ bs. BadAt dialect (at + len) bs n) (sym (drop-drop len at text)) h)
 
-pub bad_now : (text : List ℕ) (at : ℕ) → at < length text → Bad ≡ first (rest_of text at) → BadAt at (drop at text) at
-bad_now text at h e = by_cases (drop at text) (omega (arith, length-drop at text)) (e ∙ ap first (rest_is text at))
+pub bad_now : (dialect : Dialect) → (text : List ℕ) (at : ℕ) → at < length text → Bad ≡ first dialect (rest_of text at) → BadAt dialect at (drop at text) at
+bad_now dialect text at h e = by_cases (drop at text) (omega (arith, length-drop at text)) (e ∙ ap (first dialect) (rest_is text at))
   where
-    by_cases : (bs : List ℕ) → 0 < length bs → Bad ≡ first bs → BadAt at bs at
+    by_cases : (bs : List ℕ) → 0 < length bs → Bad ≡ first dialect bs → BadAt dialect at bs at
     by_cases [] some f = absurd (omega arith)
     by_cases (b ∷ bs) some f = bad_here b bs (sym f)
 
-pub nothing_left : (text : List ℕ) (at : ℕ) → length text ≤ at → Tokens at (drop at text) []
-nothing_left text at h = by_cases (drop at text) (omega (arith, length-drop at text))
+pub nothing_left : (dialect : Dialect) → (text : List ℕ) (at : ℕ) → length text ≤ at → Tokens dialect at (drop at text) []
+nothing_left dialect text at h = by_cases (drop at text) (omega (arith, length-drop at text))
   where
-    by_cases : (bs : List ℕ) → length bs ≡ 0 → Tokens at bs []
+    by_cases : (bs : List ℕ) → length bs ≡ 0 → Tokens dialect at bs []
     by_cases [] e = none_left
     by_cases (b ∷ bs) e = absurd (omega arith)

@@ -2,3 +2,4 @@ pub mod Tables
 pub mod Lexing
 pub mod Longest
 pub mod OneReading
+pub mod Dialects

@@ -8,6 +8,7 @@ use Rattle.std.proofs.lemmas.List.Sums.{prefix_len-le-length}
 use Rattle.std.proofs.Math.Seq.{take-nil}
 use Rattle.std.proofs.lemmas.List.{length-take-le}
 use Rattle.std.proofs.lemmas.List.Folds.{length-prefix_len}
+use Rattle.snesl_values.specs.declared.dialect.Dialect.{Dialect}
 use Rattle.snesl_values.specs.Integers.{greatest_integer}
 use Rattle.snesl_lexer.specs.declared.token.Kind.{Kind}
 use Rattle.snesl_lexer.specs.declared.token.Kind.TheVariants.{Integer}
@@ -86,15 +87,15 @@ row_of_one text kind (one_mark mark) e = one_row mark e
 row_of_two : (text : List ℕ) (kind : Kind) → IsTwoMarks text → kind_in two_byte_signs text ≡ Some kind → Row text (token kind)
 row_of_two text kind (two_marks mark) e = two_row mark e
 
-row_of : (text : List ℕ) (m : Meaning) → Lexeme text m → Row text m
-row_of [] m (a_word h) = absurd h
-row_of [] m (an_integer h within) = absurd h
-row_of [] m (an_excess h over) = absurd h
-row_of (b ∷ bs) m (a_word h) = word_row h.0 h.1
-row_of (b ∷ bs) m (an_integer h within) = digits_row (and_parts _ _ h).0 (and_parts _ _ h).1
-row_of (b ∷ bs) m (an_excess h over) = digits_row (and_parts _ _ h).0 (and_parts _ _ h).1
-row_of text m (a_sign {kind = kind} e) = row_of_one text kind (one_byte text kind e) e
-row_of text m (a_long_sign {kind = kind} e) = row_of_two text kind (two_bytes text kind e) e
+row_of : (dialect : Dialect) → (text : List ℕ) (m : Meaning) → Lexeme dialect text m → Row text m
+row_of dialect [] m (a_word h) = absurd h
+row_of dialect [] m (an_integer h within) = absurd h
+row_of dialect [] m (an_excess h over) = absurd h
+row_of dialect (b ∷ bs) m (a_word h) = word_row h.0 h.1
+row_of dialect (b ∷ bs) m (an_integer h within) = digits_row (and_parts _ _ h).0 (and_parts _ _ h).1
+row_of dialect (b ∷ bs) m (an_excess h over) = digits_row (and_parts _ _ h).0 (and_parts _ _ h).1
+row_of dialect text m (a_sign {kind = kind} e) = row_of_one text kind (one_byte text kind e) e
+row_of dialect text m (a_long_sign {kind = kind} e) = row_of_two text kind (two_bytes text kind e) e
 
 -- the longest beginning whose bytes pass a test: they do, no longer one does, and it is not empty where the first byte passes
 run_passes : (p : ℕ → Bool) (xs : List ℕ) → list_all p (take (prefix_len p xs) xs) ≡ true
@@ -153,36 +154,36 @@ mark_row b bs m t (one_row {kind = kind} mark e) = inl (refl, kind, e)
 mark_row b bs m t (two_row {kind = kind} mark e) = inr (refl, kind, e)
 
 -- bytes begin with no lexeme, where no beginning stands in a row
-none_from : (b : ℕ) (bs : List ℕ) → ((n : ℕ) (m : Meaning) → n ≤ length bs → Row (b ∷ take n bs) m → ⊥) → BeginsWithNone (b ∷ bs)
-none_from b bs h zero m l = no_row m (row_of [] m l)
-none_from b bs h (suc n) m l = elim (cases_lt (length bs) n) [
-  | inl more ↦ h (length bs) m (omega arith) (subst (λ cs. Row (b ∷ cs) m) (take_all n bs (omega arith) ∙ sym (take_all (length bs) bs (omega arith))) (row_of (b ∷ take n bs) m l))
-  | inr less ↦ h n m less (row_of (b ∷ take n bs) m l)
+none_from : (dialect : Dialect) → (b : ℕ) (bs : List ℕ) → ((n : ℕ) (m : Meaning) → n ≤ length bs → Row (b ∷ take n bs) m → ⊥) → BeginsWithNone dialect (b ∷ bs)
+none_from dialect b bs h zero m l = no_row m (row_of dialect [] m l)
+none_from dialect b bs h (suc n) m l = elim (cases_lt (length bs) n) [
+  | inl more ↦ h (length bs) m (omega arith) (subst (λ cs. Row (b ∷ cs) m) (take_all n bs (omega arith) ∙ sym (take_all (length bs) bs (omega arith))) (row_of dialect (b ∷ take n bs) m l))
+  | inr less ↦ h n m less (row_of dialect (b ∷ take n bs) m l)
 ]
 
 -- no beginning is a longer lexeme, where those in a row are at most this long
-no_longer_from : (b : ℕ) (bs : List ℕ) (k : ℕ) → ((n : ℕ) (m : Meaning) → n ≤ length bs → Row (b ∷ take n bs) m → n ≤ k)
-    → (n : ℕ) (m : Meaning) → suc k < n → n ≤ suc (length bs) → ¬ Lexeme (take n (b ∷ bs)) m
-no_longer_from b bs k h zero m over below l = omega arith
-no_longer_from b bs k h (suc n) m over below l =
-    let most : n ≤ k = h n m (omega arith) (row_of (b ∷ take n bs) m l) in absurd (omega arith)
+no_longer_from : (dialect : Dialect) → (b : ℕ) (bs : List ℕ) (k : ℕ) → ((n : ℕ) (m : Meaning) → n ≤ length bs → Row (b ∷ take n bs) m → n ≤ k)
+    → (n : ℕ) (m : Meaning) → suc k < n → n ≤ suc (length bs) → ¬ Lexeme dialect (take n (b ∷ bs)) m
+no_longer_from dialect b bs k h zero m over below l = omega arith
+no_longer_from dialect b bs k h (suc n) m over below l =
+    let most : n ≤ k = h n m (omega arith) (row_of dialect (b ∷ take n bs) m l) in absurd (omega arith)
 
 -- what stands first, by the class of the first byte
-word_first : (b : ℕ) (bs : List ℕ) → is_ascii_alphabetic b ≡ true
-    → (word : List ℕ) → word ≡ b ∷ take (prefix_len is_word bs) bs → IsLongest (b ∷ bs) (length word) (token (word_kind word))
-word_first b bs h word e =
+word_first : (dialect : Dialect) → (b : ℕ) (bs : List ℕ) → is_ascii_alphabetic b ≡ true
+    → (word : List ℕ) → word ≡ b ∷ take (prefix_len is_word bs) bs → IsLongest dialect (b ∷ bs) (length word) (token (word_kind word))
+word_first dialect b bs h word e =
     let len : suc (prefix_len is_word bs) ≡ length word = sym (ap length e ∙ ap suc (length-prefix_len is_word bs)) in
-    let reads : Lexeme (b ∷ take (prefix_len is_word bs) bs) (token (word_kind (b ∷ take (prefix_len is_word bs) bs))) =
+    let reads : Lexeme dialect (b ∷ take (prefix_len is_word bs) bs) (token (word_kind (b ∷ take (prefix_len is_word bs) bs))) =
     a_word (h, run_passes is_word bs) in
-    subst (λ n. IsLongest (b ∷ bs) n (token (word_kind word))) len (record {
+    subst (λ n. IsLongest dialect (b ∷ bs) n (token (word_kind word))) len (record {
       within = omega (arith, prefix_len-le-length is_word bs);
-      reads = subst (λ text. Lexeme (b ∷ take (prefix_len is_word bs) bs) (token (word_kind text))) (sym e) reads;
-      no_longer = no_longer_from b bs (prefix_len is_word bs) (λ n m below r. run_within is_word bs n below (letter_row b (take n bs) m h r));
+      reads = subst (λ text. Lexeme dialect (b ∷ take (prefix_len is_word bs) bs) (token (word_kind text))) (sym e) reads;
+      no_longer = no_longer_from dialect b bs (prefix_len is_word bs) (λ n m below r. run_within is_word bs n below (letter_row b (take n bs) m h r));
     })
 
-digits_first : (b : ℕ) (bs : List ℕ) → is_ascii_digit b ≡ true
-    → (digits : List ℕ) → digits ≡ b ∷ take (prefix_len is_ascii_digit bs) bs → StandsFirst (b ∷ bs) (number digits)
-digits_first b bs h digits e = by_value (leb (value_from 0 digits) greatest_integer) refl
+digits_first : (dialect : Dialect) → (b : ℕ) (bs : List ℕ) → is_ascii_digit b ≡ true
+    → (digits : List ℕ) → digits ≡ b ∷ take (prefix_len is_ascii_digit bs) bs → StandsFirst dialect (b ∷ bs) (number dialect digits)
+digits_first dialect b bs h digits e = by_value (leb (value_from 0 digits) (greatest_integer dialect)) refl
   where
     k : ℕ
     k = prefix_len is_ascii_digit bs
@@ -193,19 +194,19 @@ digits_first b bs h digits e = by_value (leb (value_from 0 digits) greatest_inte
     all : IsDigits (b ∷ take (prefix_len is_ascii_digit bs) bs)
     all = and_from (is_ascii_digit b) (list_all is_ascii_digit (take (prefix_len is_ascii_digit bs) bs)) h (run_passes is_ascii_digit bs)
 
-    longest : (m : Meaning) → Lexeme (b ∷ take (prefix_len is_ascii_digit bs) bs) m → IsLongest (b ∷ bs) (suc (prefix_len is_ascii_digit bs)) m
+    longest : (m : Meaning) → Lexeme dialect (b ∷ take (prefix_len is_ascii_digit bs) bs) m → IsLongest dialect (b ∷ bs) (suc (prefix_len is_ascii_digit bs)) m
     longest m reads = record {
       within = omega (arith, prefix_len-le-length is_ascii_digit bs);
       reads = reads;
-      no_longer = no_longer_from b bs (prefix_len is_ascii_digit bs) (λ n other below r. run_within is_ascii_digit bs n below (digit_row b (take n bs) other h r));
+      no_longer = no_longer_from dialect b bs (prefix_len is_ascii_digit bs) (λ n other below r. run_within is_ascii_digit bs n below (digit_row b (take n bs) other h r));
     }
 
-    by_value : (t : Bool) → leb (value_from 0 digits) greatest_integer ≡ t
-        → StandsFirst (b ∷ bs) (cond t (Found (Integer (pos (value_from 0 digits))) (length digits)) Bad)
+    by_value : (t : Bool) → leb (value_from 0 digits) (greatest_integer dialect) ≡ t
+        → StandsFirst dialect (b ∷ bs) (cond t (Found (Integer (pos (value_from 0 digits))) (length digits)) Bad)
     by_value true f =
         let reads = an_integer (subst IsDigits (sym e) all) (leb-true _ _ f) in
-        rw len (longest (token (Integer (pos (value_from 0 digits)))) (subst (λ text. Lexeme text (token (Integer (pos (value_from 0 digits))))) e reads))
-    by_value false f = inr (suc (prefix_len is_ascii_digit bs), longest too_great (subst (λ text. Lexeme text too_great) e (an_excess (subst IsDigits (sym e) all) (leb-false _ _ f))))
+        rw len (longest (token (Integer (pos (value_from 0 digits)))) (subst (λ text. Lexeme dialect text (token (Integer (pos (value_from 0 digits))))) e reads))
+    by_value false f = inr (suc (prefix_len is_ascii_digit bs), longest too_great (subst (λ text. Lexeme dialect text too_great) e (an_excess (subst IsDigits (sym e) all) (leb-false _ _ f))))
 
 head_take : (n : ℕ) (bs : List ℕ) → 0 < length (take n bs) → head_or (take n bs) ≡ head_or bs
 head_take zero bs some = absurd (omega arith)
@@ -248,40 +249,40 @@ none_standing : {b n : ℕ} {bs : List ℕ} → kind_in two_byte_signs (b ∷ he
 none_standing none nor (alone e) = cc
 none_standing none nor (with_next e) = cc
 
-two_first : (b : ℕ) (bs : List ℕ) (kind : Kind) → IsMark b → kind_in two_byte_signs (b ∷ head_or bs ∷ []) ≡ Some kind
-    → IsLongest (b ∷ bs) 2 (token kind)
-two_first b [] kind mark e = absurd (no_zero b kind e)
-two_first b (c ∷ bs) kind mark e = record {
+two_first : (dialect : Dialect) → (b : ℕ) (bs : List ℕ) (kind : Kind) → IsMark b → kind_in two_byte_signs (b ∷ head_or bs ∷ []) ≡ Some kind
+    → IsLongest dialect (b ∷ bs) 2 (token kind)
+two_first dialect b [] kind mark e = absurd (no_zero b kind e)
+two_first dialect b (c ∷ bs) kind mark e = record {
   within = omega arith;
   reads = a_long_sign e;
-  no_longer = no_longer_from b (c ∷ bs) 1 (λ n m below r. standing_below (standing b (c ∷ bs) n m mark below r));
+  no_longer = no_longer_from dialect b (c ∷ bs) 1 (λ n m below r. standing_below (standing b (c ∷ bs) n m mark below r));
 }
 
-sign_first : (b : ℕ) (bs : List ℕ) → IsMark b → StandsFirst (b ∷ bs) (sign_token b (head_or bs))
-sign_first b bs mark = by_signs (kind_in two_byte_signs (b ∷ head_or bs ∷ [])) refl (kind_in one_byte_signs (b ∷ [])) refl
+sign_first : (dialect : Dialect) → (b : ℕ) (bs : List ℕ) → IsMark b → StandsFirst dialect (b ∷ bs) (sign_token b (head_or bs))
+sign_first dialect b bs mark = by_signs (kind_in two_byte_signs (b ∷ head_or bs ∷ [])) refl (kind_in one_byte_signs (b ∷ [])) refl
   where
     by_signs : (two : Option Kind) → kind_in two_byte_signs (b ∷ head_or bs ∷ []) ≡ two
-        → (one : Option Kind) → kind_in one_byte_signs (b ∷ []) ≡ one → StandsFirst (b ∷ bs) (longer_sign two one)
-    by_signs (Some kind) e one f = two_first b bs kind mark e
+        → (one : Option Kind) → kind_in one_byte_signs (b ∷ []) ≡ one → StandsFirst dialect (b ∷ bs) (longer_sign two one)
+    by_signs (Some kind) e one f = two_first dialect b bs kind mark e
     by_signs None e (Some kind) f = record {
       within = omega arith;
       reads = a_sign f;
-      no_longer = no_longer_from b bs 0 (λ n m below r. alone_below e (standing b bs n m mark below r));
+      no_longer = no_longer_from dialect b bs 0 (λ n m below r. alone_below e (standing b bs n m mark below r));
     }
     by_signs None e None f =
-        inl (λ t. both_ways _ mark.no_blank t, none_from b bs (λ n m below r. none_standing e f (standing b bs n m mark below r)))
+        inl (λ t. both_ways _ mark.no_blank t, none_from dialect b bs (λ n m below r. none_standing e f (standing b bs n m mark below r)))
 
-stands_first : (bytes : List ℕ) → StandsFirst bytes (first bytes)
-stands_first [] = inl (λ h. h, λ n m l. no_row m (row_of [] m (subst (λ text. Lexeme text m) (take-nil n) l)))
-stands_first (b ∷ bs) = by_class (is_blank b) refl (is_ascii_alphabetic b) refl (is_ascii_digit b) refl
+pub stands_first : (dialect : Dialect) → (bytes : List ℕ) → StandsFirst dialect bytes (first dialect bytes)
+stands_first dialect [] = inl (λ h. h, λ n m l. no_row m (row_of dialect [] m (subst (λ text. Lexeme dialect text m) (take-nil n) l)))
+stands_first dialect (b ∷ bs) = by_class (is_blank b) refl (is_ascii_alphabetic b) refl (is_ascii_digit b) refl
   where
     by_class : (t : Bool) → is_blank b ≡ t → (u : Bool) → is_ascii_alphabetic b ≡ u → (v : Bool) → is_ascii_digit b ≡ v
-        → StandsFirst (b ∷ bs) (cond t Blank (cond u (let word = take_while is_word (b ∷ bs) in Found (word_kind word) (length word))
-        (cond v (number (take_while is_ascii_digit (b ∷ bs))) (sign_token b (head_or bs)))))
-    by_class true e u f v g = (e, none_from b bs (λ n m below r. blank_row b (take n bs) m e r))
-    by_class false e true f v g = word_first b bs f _ (run_of is_word b bs (or_left _ (eqb b 95) (or_left _ (is_ascii_digit b) f)))
-    by_class false e false f true g = digits_first b bs g _ (run_of is_ascii_digit b bs g)
-    by_class false e false f false g = sign_first b bs (record { no_blank = e; no_letter = f; no_digit = g })
+        → StandsFirst dialect (b ∷ bs) (cond t Blank (cond u (let word = take_while is_word (b ∷ bs) in Found (word_kind word) (length word))
+        (cond v (number dialect (take_while is_ascii_digit (b ∷ bs))) (sign_token b (head_or bs)))))
+    by_class true e u f v g = (e, none_from dialect b bs (λ n m below r. blank_row b (take n bs) m e r))
+    by_class false e true f v g = word_first dialect b bs f _ (run_of is_word b bs (or_left _ (eqb b 95) (or_left _ (is_ascii_digit b) f)))
+    by_class false e false f true g = digits_first dialect b bs g _ (run_of is_ascii_digit b bs g)
+    by_class false e false f false g = sign_first dialect b bs (record { no_blank = e; no_letter = f; no_digit = g })
 
 -- what the lexer finds in a lexeme alone
 abbrev alone_is : ℕ → Meaning → First
@@ -295,48 +296,48 @@ whole_run p b bs h all =
     let most : length bs ≤ prefix_len p bs = run_within p bs (length bs) (omega arith) (ap (list_all p) whole ∙ all) in
     run_of p b bs h ∙ ap (λ cs. b ∷ cs) (take_all (prefix_len p bs) bs most)
 
-first_letter : (b : ℕ) (bs : List ℕ) → is_ascii_alphabetic b ≡ true
-    → first (b ∷ bs) ≡ (let word = take_while is_word (b ∷ bs) in Found (word_kind word) (length word))
-first_letter b bs h = cond-false _ _ _ (letter_no_blank b h) ∙ cond-true _ _ _ h
+first_letter : (dialect : Dialect) → (b : ℕ) (bs : List ℕ) → is_ascii_alphabetic b ≡ true
+    → first dialect (b ∷ bs) ≡ (let word = take_while is_word (b ∷ bs) in Found (word_kind word) (length word))
+first_letter dialect b bs h = cond-false _ _ _ (letter_no_blank b h) ∙ cond-true _ _ _ h
 
-first_digit : (b : ℕ) (bs : List ℕ) → is_ascii_digit b ≡ true → first (b ∷ bs) ≡ number (take_while is_ascii_digit (b ∷ bs))
-first_digit b bs h = cond-false _ _ _ (digit_no_blank b h) ∙ cond-false _ _ _ (digit_no_letter b h) ∙ cond-true _ _ _ h
+first_digit : (dialect : Dialect) → (b : ℕ) (bs : List ℕ) → is_ascii_digit b ≡ true → first dialect (b ∷ bs) ≡ number dialect (take_while is_ascii_digit (b ∷ bs))
+first_digit dialect b bs h = cond-false _ _ _ (digit_no_blank b h) ∙ cond-false _ _ _ (digit_no_letter b h) ∙ cond-true _ _ _ h
 
-first_mark : (b : ℕ) (bs : List ℕ) → IsMark b → first (b ∷ bs) ≡ sign_token b (head_or bs)
-first_mark b bs h = cond-false _ _ _ h.no_blank ∙ cond-false _ _ _ h.no_letter ∙ cond-false _ _ _ h.no_digit
+first_mark : (dialect : Dialect) → (b : ℕ) (bs : List ℕ) → IsMark b → first dialect (b ∷ bs) ≡ sign_token b (head_or bs)
+first_mark dialect b bs h = cond-false _ _ _ h.no_blank ∙ cond-false _ _ _ h.no_letter ∙ cond-false _ _ _ h.no_digit
 
-word_alone : (text : List ℕ) → IsWord text → first text ≡ Found (word_kind text) (length text)
-word_alone [] h = absurd h
-word_alone (b ∷ bs) h =
-    first_letter b bs h.0
+word_alone : (dialect : Dialect) → (text : List ℕ) → IsWord text → first dialect text ≡ Found (word_kind text) (length text)
+word_alone dialect [] h = absurd h
+word_alone dialect (b ∷ bs) h =
+    first_letter dialect b bs h.0
     ∙ ap (λ word. Found (word_kind word) (length word)) (whole_run is_word b bs (or_left _ (eqb b 95) (or_left _ (is_ascii_digit b) h.0)) h.1)
 
-digits_alone : (text : List ℕ) → IsDigits text → first text ≡ number text
-digits_alone [] h = absurd h
-digits_alone (b ∷ bs) h =
+digits_alone : (dialect : Dialect) → (text : List ℕ) → IsDigits text → first dialect text ≡ number dialect text
+digits_alone dialect [] h = absurd h
+digits_alone dialect (b ∷ bs) h =
     let parts = and_parts (is_ascii_digit b) (list_all is_ascii_digit bs) h in
-    first_digit b bs parts.0 ∙ ap number (whole_run is_ascii_digit b bs parts.0 parts.1)
+    first_digit dialect b bs parts.0 ∙ ap (number dialect) (whole_run is_ascii_digit b bs parts.0 parts.1)
 
 no_next : (b : ℕ) (two : Option Kind) → kind_in two_byte_signs (b ∷ 0 ∷ []) ≡ two → two ≡ None
 no_next b None e = refl
 no_next b (Some kind) e = absurd (no_zero b kind e)
 
-one_alone : (text : List ℕ) (kind : Kind) → IsOneMark text → kind_in one_byte_signs text ≡ Some kind → first text ≡ Found kind (length text)
-one_alone text kind (one_mark {b = b} mark) e =
-    first_mark b [] mark
+one_alone : (dialect : Dialect) → (text : List ℕ) (kind : Kind) → IsOneMark text → kind_in one_byte_signs text ≡ Some kind → first dialect text ≡ Found kind (length text)
+one_alone dialect text kind (one_mark {b = b} mark) e =
+    first_mark dialect b [] mark
     ∙ ap (λ two. longer_sign two (kind_in one_byte_signs (b ∷ []))) (no_next b (kind_in two_byte_signs (b ∷ 0 ∷ [])) refl)
     ∙ ap (longer_sign None) e
 
-two_alone : (text : List ℕ) (kind : Kind) → IsTwoMarks text → kind_in two_byte_signs text ≡ Some kind → first text ≡ Found kind (length text)
-two_alone text kind (two_marks {b = b} {c = c} mark) e =
-    first_mark b (c ∷ []) mark ∙ ap (λ two. longer_sign two (kind_in one_byte_signs (b ∷ []))) e
+two_alone : (dialect : Dialect) → (text : List ℕ) (kind : Kind) → IsTwoMarks text → kind_in two_byte_signs text ≡ Some kind → first dialect text ≡ Found kind (length text)
+two_alone dialect text kind (two_marks {b = b} {c = c} mark) e =
+    first_mark dialect b (c ∷ []) mark ∙ ap (λ two. longer_sign two (kind_in one_byte_signs (b ∷ []))) e
 
-lexeme_alone : (text : List ℕ) (m : Meaning) → Lexeme text m → first text ≡ alone_is (length text) m
-lexeme_alone text m (a_word h) = word_alone text h
-lexeme_alone text m (an_integer h most) = digits_alone text h ∙ cond-true _ _ _ (le-leb _ _ most)
-lexeme_alone text m (an_excess h over) = digits_alone text h ∙ cond-false _ _ _ (lt-leb _ _ over)
-lexeme_alone text m (a_sign {kind = kind} e) = one_alone text kind (one_byte text kind e) e
-lexeme_alone text m (a_long_sign {kind = kind} e) = two_alone text kind (two_bytes text kind e) e
+lexeme_alone : (dialect : Dialect) → (text : List ℕ) (m : Meaning) → Lexeme dialect text m → first dialect text ≡ alone_is (length text) m
+lexeme_alone dialect text m (a_word h) = word_alone dialect text h
+lexeme_alone dialect text m (an_integer h most) = digits_alone dialect text h ∙ cond-true _ _ _ (le-leb _ _ most)
+lexeme_alone dialect text m (an_excess h over) = digits_alone dialect text h ∙ cond-false _ _ _ (lt-leb _ _ over)
+lexeme_alone dialect text m (a_sign {kind = kind} e) = one_alone dialect text kind (one_byte text kind e) e
+lexeme_alone dialect text m (a_long_sign {kind = kind} e) = two_alone dialect text kind (two_bytes text kind e) e
 
 same_alone : (len : ℕ) (m n : Meaning) → alone_is len m ≡ alone_is len n → m ≡ n
 same_alone len (token k) (token l) e = cc
@@ -345,47 +346,47 @@ same_alone len too_great (token l) e = cc
 same_alone len too_great too_great e = refl
 
 -- a text is one lexeme at most
-one_meaning : (text : List ℕ) (m n : Meaning) → Lexeme text m → Lexeme text n → m ≡ n
-one_meaning text m n h k = same_alone (length text) m n (sym (lexeme_alone text m h) ∙ lexeme_alone text n k)
+one_meaning : (dialect : Dialect) → (text : List ℕ) (m n : Meaning) → Lexeme dialect text m → Lexeme dialect text n → m ≡ n
+one_meaning dialect text m n h k = same_alone (length text) m n (sym (lexeme_alone dialect text m h) ∙ lexeme_alone dialect text n k)
 
 -- there is one longest lexeme at most
-one_length : {bytes : List ℕ} {k l : ℕ} {m n : Meaning} → IsLongest bytes k m → IsLongest bytes l n → k ≡ l
-one_length {k = k} {l = l} {m = m} {n = n} h j = elim (cases_order k l) [
+one_length : (dialect : Dialect) → {bytes : List ℕ} {k l : ℕ} {m n : Meaning} → IsLongest dialect bytes k m → IsLongest dialect bytes l n → k ≡ l
+one_length dialect {k = k} {l = l} {m = m} {n = n} h j = elim (cases_order k l) [
   | inl same ↦ same
   | inr (inl less) ↦ absurd (h.no_longer l n less j.within j.reads)
   | inr (inr more) ↦ absurd (j.no_longer k m more h.within h.reads)
 ]
 
-one_longest : {bytes : List ℕ} {k l : ℕ} {m n : Meaning} → IsLongest bytes k m → IsLongest bytes l n → m ≡ n
-one_longest {bytes = bytes} {k = k} {l = l} {m = m} {n = n} h j =
-    one_meaning (take k bytes) m n h.reads (subst (λ i. Lexeme (take i bytes) n) (sym (one_length h j)) j.reads)
+one_longest : (dialect : Dialect) → {bytes : List ℕ} {k l : ℕ} {m n : Meaning} → IsLongest dialect bytes k m → IsLongest dialect bytes l n → m ≡ n
+one_longest dialect {bytes = bytes} {k = k} {l = l} {m = m} {n = n} h j =
+    one_meaning dialect (take k bytes) m n h.reads (subst (λ i. Lexeme dialect (take i bytes) n) (sym (one_length dialect h j)) j.reads)
 
 -- one thing stands first at most
-only_one : (bytes : List ℕ) (x y : First) → StandsFirst bytes x → StandsFirst bytes y → x ≡ y
-only_one bytes Blank Blank h j = refl
-only_one bytes Blank (Found k len) h j = absurd (h.1 len (token k) j.reads)
-only_one bytes Blank Bad h (inl j) = absurd (j.0 h.0)
-only_one bytes Blank Bad h (inr j) = absurd (h.1 j.0 too_great j.1.reads)
-only_one bytes (Found k len) Blank h j = absurd (j.1 len (token k) h.reads)
-only_one bytes (Found k len) (Found l other) h j =
-    let lens : len ≡ other = one_length h j in
-    let kinds : token k ≡ token l = one_longest h j in cc
-only_one bytes (Found k len) Bad h (inl j) = absurd (j.1 len (token k) h.reads)
-only_one bytes (Found k len) Bad h (inr j) = let same : token k ≡ too_great = one_longest h j.1 in cc
-only_one bytes Bad Blank (inl h) j = absurd (h.0 j.0)
-only_one bytes Bad Blank (inr h) j = absurd (j.1 h.0 too_great h.1.reads)
-only_one bytes Bad (Found k len) (inl h) j = absurd (h.1 len (token k) j.reads)
-only_one bytes Bad (Found k len) (inr h) j = let same : too_great ≡ token k = one_longest h.1 j in cc
-only_one bytes Bad Bad h j = refl
+only_one : (dialect : Dialect) → (bytes : List ℕ) (x y : First) → StandsFirst dialect bytes x → StandsFirst dialect bytes y → x ≡ y
+only_one dialect bytes Blank Blank h j = refl
+only_one dialect bytes Blank (Found k len) h j = absurd (h.1 len (token k) j.reads)
+only_one dialect bytes Blank Bad h (inl j) = absurd (j.0 h.0)
+only_one dialect bytes Blank Bad h (inr j) = absurd (h.1 j.0 too_great j.1.reads)
+only_one dialect bytes (Found k len) Blank h j = absurd (j.1 len (token k) h.reads)
+only_one dialect bytes (Found k len) (Found l other) h j =
+    let lens : len ≡ other = one_length dialect h j in
+    let kinds : token k ≡ token l = one_longest dialect h j in cc
+only_one dialect bytes (Found k len) Bad h (inl j) = absurd (j.1 len (token k) h.reads)
+only_one dialect bytes (Found k len) Bad h (inr j) = let same : token k ≡ too_great = one_longest dialect h j.1 in cc
+only_one dialect bytes Bad Blank (inl h) j = absurd (h.0 j.0)
+only_one dialect bytes Bad Blank (inr h) j = absurd (j.1 h.0 too_great h.1.reads)
+only_one dialect bytes Bad (Found k len) (inl h) j = absurd (h.1 len (token k) j.reads)
+only_one dialect bytes Bad (Found k len) (inr h) j = let same : too_great ≡ token k = one_longest dialect h.1 j in cc
+only_one dialect bytes Bad Bad h j = refl
 
 pub first_is_longest : FirstIsLongest
-first_is_longest bytes it =
-    (λ e. subst (StandsFirst bytes) e (stands_first bytes), λ h. only_one bytes (first bytes) it (stands_first bytes) h)
+first_is_longest dialect bytes it =
+    (λ e. subst (StandsFirst dialect bytes) e (stands_first dialect bytes), λ h. only_one dialect bytes (first dialect bytes) it (stands_first dialect bytes) h)
 
 -- a token has at least one byte
-pub found_some : (bytes : List ℕ) (kind : Kind) (len : ℕ) → first bytes ≡ Found kind len → 0 < len
-found_some bytes kind len e = by_len len (subst (StandsFirst bytes) e (stands_first bytes))
+pub found_some : (dialect : Dialect) → (bytes : List ℕ) (kind : Kind) (len : ℕ) → first dialect bytes ≡ Found kind len → 0 < len
+found_some dialect bytes kind len e = by_len len (subst (StandsFirst dialect bytes) e (stands_first dialect bytes))
   where
-    by_len : (n : ℕ) → IsLongest bytes n (token kind) → 0 < n
-    by_len zero h = absurd (no_row (token kind) (row_of [] (token kind) h.reads))
+    by_len : (n : ℕ) → IsLongest dialect bytes n (token kind) → 0 < n
+    by_len zero h = absurd (no_row (token kind) (row_of dialect [] (token kind) h.reads))
     by_len (suc n) h = omega arith

@@ -2,6 +2,7 @@
 use Rattle.std.specs.Prelude.{◌≡◌, ℕ, pos, ◌≤◌, ◌<◌, List, [], ◌∷◌, length, take, Some, IsTrue, ◌⊎◌, ◌↔◌}
 use Rattle.std.specs.List.{list_all}
 use Rattle.std.specs.Char.{is_ascii_digit, is_ascii_alphabetic}
+use Rattle.snesl_values.specs.declared.dialect.Dialect.{Dialect}
 use Rattle.snesl_values.specs.Integers.{greatest_integer}
 use Rattle.snesl_lexer.specs.declared.token.Kind.{Kind}
 use Rattle.snesl_lexer.specs.declared.token.Kind.TheVariants.{Integer}
@@ -24,34 +25,34 @@ abbrev pub IsDigits : List ℕ → Type 0
 IsDigits [] = ⊥
 IsDigits (b ∷ bs) = IsTrue (list_all is_ascii_digit (b ∷ bs))
 
--- what a lexeme stands for: a token, or an integer over the limit
+-- what a lexeme stands for: a token, or an integer over the limit of the dialect
 pub data Meaning : Type 0 where
   token : Kind → Meaning
   too_great : Meaning
 
 -- The table of lexemes: a text, and what it stands for.
-pub data Lexeme : List ℕ → Meaning → Type 0 where
+pub data Lexeme (dialect : Dialect) : List ℕ → Meaning → Type 0 where
   -- a word: the reserved word of that text, or else a name
-  a_word : {text : List ℕ} → IsWord text → Lexeme text (token (word_kind text))
+  a_word : {text : List ℕ} → IsWord text → Lexeme dialect text (token (word_kind text))
   -- digits: their integer
-  an_integer : {text : List ℕ} → IsDigits text → value_from 0 text ≤ greatest_integer
-      → Lexeme text (token (Integer (pos (value_from 0 text))))
+  an_integer : {text : List ℕ} → IsDigits text → value_from 0 text ≤ greatest_integer dialect
+      → Lexeme dialect text (token (Integer (pos (value_from 0 text))))
   -- digits of an integer over the limit
-  an_excess : {text : List ℕ} → IsDigits text → greatest_integer < value_from 0 text → Lexeme text too_great
+  an_excess : {text : List ℕ} → IsDigits text → greatest_integer dialect < value_from 0 text → Lexeme dialect text too_great
   -- a sign of one byte, by its table
-  a_sign : {text : List ℕ} {kind : Kind} → kind_in one_byte_signs text ≡ Some kind → Lexeme text (token kind)
+  a_sign : {text : List ℕ} {kind : Kind} → kind_in one_byte_signs text ≡ Some kind → Lexeme dialect text (token kind)
   -- a sign of two bytes, by its table
-  a_long_sign : {text : List ℕ} {kind : Kind} → kind_in two_byte_signs text ≡ Some kind → Lexeme text (token kind)
+  a_long_sign : {text : List ℕ} {kind : Kind} → kind_in two_byte_signs text ≡ Some kind → Lexeme dialect text (token kind)
 
 -- the longest lexeme that the bytes begin with has this length and this meaning
-pub record IsLongest (bytes : List ℕ) (len : ℕ) (meaning : Meaning) : Type 0 where
+pub record IsLongest (dialect : Dialect) (bytes : List ℕ) (len : ℕ) (meaning : Meaning) : Type 0 where
   pub within : len ≤ length bytes
-  pub reads : Lexeme (take len bytes) meaning
-  pub no_longer : (n : ℕ) (other : Meaning) → len < n → n ≤ length bytes → ¬ Lexeme (take n bytes) other
+  pub reads : Lexeme dialect (take len bytes) meaning
+  pub no_longer : (n : ℕ) (other : Meaning) → len < n → n ≤ length bytes → ¬ Lexeme dialect (take n bytes) other
 
 -- the bytes begin with no lexeme
-abbrev pub BeginsWithNone : List ℕ → Type 0
-BeginsWithNone bytes = (n : ℕ) (meaning : Meaning) → ¬ Lexeme (take n bytes) meaning
+abbrev pub BeginsWithNone : Dialect → List ℕ → Type 0
+BeginsWithNone dialect bytes = (n : ℕ) (meaning : Meaning) → ¬ Lexeme dialect (take n bytes) meaning
 
 -- the bytes begin with a blank
 abbrev pub BeginsWithBlank : List ℕ → Type 0
@@ -59,12 +60,12 @@ BeginsWithBlank [] = ⊥
 BeginsWithBlank (b ∷ bs) = IsTrue (is_blank b)
 
 -- what stands first in bytes, by the table: a blank, the longest lexeme, or nothing lawful
-abbrev pub StandsFirst : List ℕ → First → Type 0
-StandsFirst bytes Blank = BeginsWithBlank bytes × BeginsWithNone bytes
-StandsFirst bytes (Found kind len) = IsLongest bytes len (token kind)
-StandsFirst bytes Bad =
-    ((¬ BeginsWithBlank bytes) × BeginsWithNone bytes) ⊎ ((len : ℕ) × IsLongest bytes len too_great)
+abbrev pub StandsFirst : Dialect → List ℕ → First → Type 0
+StandsFirst dialect bytes Blank = BeginsWithBlank bytes × BeginsWithNone dialect bytes
+StandsFirst dialect bytes (Found kind len) = IsLongest dialect bytes len (token kind)
+StandsFirst dialect bytes Bad =
+    ((¬ BeginsWithBlank bytes) × BeginsWithNone dialect bytes) ⊎ ((len : ℕ) × IsLongest dialect bytes len too_great)
 
 -- what the lexer finds first is what stands first by the table, and nothing else does
 abbrev pub FirstIsLongest : Type 0
-FirstIsLongest = (bytes : List ℕ) (found : First) → (first bytes ≡ found) ↔ StandsFirst bytes found
+FirstIsLongest = (dialect : Dialect) (bytes : List ℕ) (found : First) → (first dialect bytes ≡ found) ↔ StandsFirst dialect bytes found

@@ -1,12 +1,14 @@
 -- Which tokens the bytes of a text are.
-use Rattle.std.specs.Prelude.{◌≡◌, ℕ, pos, ◌+◌, ◌-◌, ◌*◌, ◌<◌, ◌≤◌, List, [], ◌∷◌, length, drop, if◌then◌else◌, nat_le, ◌==◌, Bool, ◌||◌}
-use Rattle.std.specs.List.{take_while}
+use Rattle.std.specs.Prelude.{◌≡◌, ℕ, zero, suc, pos, ◌+◌, ◌<◌, ◌≤◌, List, [], ◌∷◌, length, drop, Option, Some, None, if◌then◌else◌, nat_le, ◌==◌}
+use Rattle.std.specs.List.{take_while, prefix_len}
 use Rattle.std.specs.Char.{is_ascii_digit, is_ascii_alphabetic}
 use Rattle.snesl_lexer.specs.declared.token.Kind.{Kind}
 use Rattle.snesl_lexer.specs.declared.token.Kind.TheVariants as kinds
 use Rattle.snesl_lexer.specs.declared.token.Token.{Token}
 use Rattle.snesl_lexer.specs.declared.lexer.First.{First}
 use Rattle.snesl_lexer.specs.declared.lexer.First.TheVariants.{Blank, Found, Bad}
+use Rattle.snesl_values.specs.declared.dialect.Dialect.{Dialect}
+use Rattle.snesl_values.specs.declared.dialect.Dialect.TheVariants.{One, Two}
 use Rattle.snesl_values.specs.declared.refusal.Refusal.{Refusal}
 use Rattle.snesl_values.specs.declared.refusal.Refusal.TheVariants as refusals
 use Rattle.snesl_values.specs.Integers.{greatest_integer}
@@ -15,10 +17,10 @@ use Rattle.snesl_values.specs.Characters.{is_word, value_from}
 use Rattle.snesl_lexer.specs.Words.{word_kind}
 use Rattle.snesl_lexer.specs.Signs.{sign_token}
 
--- the token of these digits: their integer, or bad where it is over the limit
-abbrev pub number : List ℕ → First
-number cs =
-    if nat_le (value_from 0 cs) greatest_integer then Found (kinds.Integer (pos (value_from 0 cs))) (length cs) else Bad
+-- the token of these digits: their integer, or bad where it is over the limit of the dialect
+abbrev pub number : Dialect → List ℕ → First
+number dialect cs =
+    if nat_le (value_from 0 cs) (greatest_integer dialect) then Found (kinds.Integer (pos (value_from 0 cs))) (length cs) else Bad
 
 -- the first byte, or 0 where there is none
 abbrev pub head_or : List ℕ → ℕ
@@ -26,33 +28,65 @@ head_or [] = 0
 head_or (b ∷ bs) = b
 
 -- what stands first: a blank, a word, an integer or a sign
-abbrev pub first : List ℕ → First
-first [] = Bad
-first (b ∷ bs) =
+abbrev pub first : Dialect → List ℕ → First
+first dialect [] = Bad
+first dialect (b ∷ bs) =
     if is_blank b then Blank else
     (if is_ascii_alphabetic b then (let word = take_while is_word (b ∷ bs) in Found (word_kind word) (length word)) else
-    (if is_ascii_digit b then number (take_while is_ascii_digit (b ∷ bs)) else
+    (if is_ascii_digit b then number dialect (take_while is_ascii_digit (b ∷ bs)) else
     sign_token b (head_or bs)))
 
+-- the bytes behind blanks
+abbrev pub behind_blanks : List ℕ → List ℕ
+behind_blanks bs = drop (prefix_len is_blank bs) bs
+
+-- the kind of this token where one was found, and the bytes behind it
+abbrev pub kind_found : List ℕ → First → Option (Kind × List ℕ)
+kind_found bs (Found kind len) = Some (kind, drop len bs)
+kind_found bs _ = None
+
+-- the kind of the token that comes next behind blanks, and the bytes behind it; the first dialect reads it
+abbrev pub next_kind : List ℕ → Option (Kind × List ℕ)
+next_kind bs = kind_found (behind_blanks bs) (first One (behind_blanks bs))
+
+-- this kind, and then those of the bytes behind it
+abbrev pub kinds_from : Option (Kind × List ℕ) → (List ℕ → List Kind) → List Kind
+kinds_from None more = []
+kinds_from (Some (kind, rest)) more = kind ∷ more rest
+
+-- the kinds of the first tokens of bytes, at most so many
+abbrev pub first_kinds : ℕ → List ℕ → List Kind
+first_kinds zero bs = []
+first_kinds (suc n) bs = kinds_from (next_kind bs) (first_kinds n)
+
+-- the dialect that these kinds name: `dialect`, 2 and `;` name the second
+abbrev pub dialect_named : List Kind → Dialect
+dialect_named (kinds.Dialect ∷ kinds.Integer (pos number) ∷ kinds.Semicolon ∷ []) = if number == 2 then Two else One
+dialect_named _ = One
+
+-- the dialect that a text names with its first three tokens
+abbrev pub dialect_of : List ℕ → Dialect
+dialect_of text = dialect_named (first_kinds 3 text)
+
 -- The tokens of bytes that begin at this offset.
-pub data Tokens : ℕ → List ℕ → List Token → Type 0 where
+pub data Tokens (dialect : Dialect) : ℕ → List ℕ → List Token → Type 0 where
   -- no bytes are no tokens
-  none_left : {at : ℕ} → Tokens at [] []
+  none_left : {at : ℕ} → Tokens dialect at [] []
   -- a blank is skipped
-  skips : {at : ℕ} {bs : List ℕ} {ts : List Token} → first bs ≡ Blank → Tokens (at + 1) (drop 1 bs) ts → Tokens at bs ts
+  skips : {at : ℕ} {bs : List ℕ} {ts : List Token} → first dialect bs ≡ Blank → Tokens dialect (at + 1) (drop 1 bs) ts → Tokens dialect at bs ts
   -- a token is taken, with the offset of its first byte
-  takes : {at : ℕ} {bs : List ℕ} {ts : List Token} (k : Kind) (len : ℕ) → first bs ≡ Found k len
-      → Tokens (at + len) (drop len bs) ts → Tokens at bs (record { kind = k; at = at } ∷ ts)
+  takes : {at : ℕ} {bs : List ℕ} {ts : List Token} (k : Kind) (len : ℕ) → first dialect bs ≡ Found k len
+      → Tokens dialect (at + len) (drop len bs) ts → Tokens dialect at bs (record { kind = k; at = at } ∷ ts)
 
 -- The offset of the first bad byte of bytes that begin at this offset.
-pub data BadAt : ℕ → List ℕ → ℕ → Type 0 where
+pub data BadAt (dialect : Dialect) : ℕ → List ℕ → ℕ → Type 0 where
   -- nothing lawful stands first
-  bad_here : {at : ℕ} (b : ℕ) (bs : List ℕ) → first (b ∷ bs) ≡ Bad → BadAt at (b ∷ bs) at
+  bad_here : {at : ℕ} (b : ℕ) (bs : List ℕ) → first dialect (b ∷ bs) ≡ Bad → BadAt dialect at (b ∷ bs) at
   -- it stands behind a blank
-  bad_later : {at n : ℕ} {bs : List ℕ} → first bs ≡ Blank → BadAt (at + 1) (drop 1 bs) n → BadAt at bs n
+  bad_later : {at n : ℕ} {bs : List ℕ} → first dialect bs ≡ Blank → BadAt dialect (at + 1) (drop 1 bs) n → BadAt dialect at bs n
   -- it stands behind a token
-  bad_behind : {at n : ℕ} {bs : List ℕ} (k : Kind) (len : ℕ) → first bs ≡ Found k len
-      → BadAt (at + len) (drop len bs) n → BadAt at bs n
+  bad_behind : {at n : ℕ} {bs : List ℕ} (k : Kind) (len : ℕ) → first dialect bs ≡ Found k len
+      → BadAt dialect (at + len) (drop len bs) n → BadAt dialect at bs n
 
 -- a token, if one was found, has at least one byte and at most this many
 abbrev pub IsWithin : ℕ → First → Type 0
@@ -60,7 +94,7 @@ IsWithin n (Found k len) = (0 < len) × (len ≤ n)
 IsWithin n _ = Unit {0}
 
 -- a lawful refusal of bytes that begin at this offset: memory ran out, or it names the first bad byte
-abbrev pub IsBadOf : ℕ → List ℕ → Refusal → Type 0
-IsBadOf at bs refusals.NoMemory = Unit {0}
-IsBadOf at bs (refusals.Lex n) = BadAt at bs n
-IsBadOf at bs _ = ⊥
+abbrev pub IsBadOf : Dialect → ℕ → List ℕ → Refusal → Type 0
+IsBadOf dialect at bs refusals.NoMemory = Unit {0}
+IsBadOf dialect at bs (refusals.Lex n) = BadAt dialect at bs n
+IsBadOf dialect at bs _ = ⊥

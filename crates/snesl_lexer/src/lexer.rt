@@ -1,17 +1,20 @@
 // The lexer: which tokens a text is, and where its first bad byte stands.
 
-ghost use Rattle.std.specs.Prelude.{◌≡◌, ◌<◌, [], ◌∷◌, length, IsTrue, IfOk, IfErr};
-ghost use Rattle.std.specs.List.{AllByRecursion};
+ghost use Rattle.std.specs.Prelude.{◌≡◌, ◌<◌, ◌≤◌, [], ◌∷◌, length, Some, None, IsTrue, IfOk, IfErr, MatchOption};
+ghost use Rattle.std.specs.List.{AllByRecursion, prefix_len};
 ghost use Rattle.std.specs.Char.{is_ascii_digit};
+ghost use Rattle.snesl_values.specs.declared.dialect.Dialect.TheVariants.{Two};
+ghost use Rattle.snesl_values.specs.Integers.{greatest_integer};
+ghost use Rattle.snesl_values.specs.Blanks.{is_blank};
 ghost use Rattle.snesl_lexer.specs.Tables.{kind_in};
 ghost use Rattle.snesl_lexer.specs.Words.{word_kind};
 ghost use Rattle.snesl_lexer.specs.Signs.{one_byte_signs, two_byte_signs, sign_token};
-ghost use Rattle.snesl_lexer.specs.Lexical.{number, first, Tokens, IsWithin, IsBadOf};
+ghost use Rattle.snesl_lexer.specs.Lexical.{number, first, behind_blanks, next_kind, dialect_of, Tokens, IsWithin, IsBadOf};
 ghost use Rattle.snesl_lexer.specs.Lexemes.{FirstIsLongest};
-ghost use Rattle.snesl_lexer.specs.Readings.{HaveOneReading};
+ghost use Rattle.snesl_lexer.specs.Readings.{HaveOneReading, TokensNameTheirDialect};
 
 use crate::token::{Kind, Token};
-use snesl_values::{Refusal, digits_len, is_blank, word_len};
+use snesl_values::{Dialect, Refusal, digits_len, is_blank, word_len};
 use std::alloc::Global;
 
 /// What stands first in bytes.
@@ -21,12 +24,9 @@ pub enum First {
     Blank,
     /// A token of this kind and of this many bytes.
     Found(Kind, usize),
-    /// No blank and no token, or an integer over the limit.
+    /// No blank and no token, or an integer over the limit of the dialect.
     Bad,
 }
-
-// The greatest integer that a literal may write.
-const GREATEST_INTEGER: u64 = i64::MAX as u64;
 
 // The kind of a word: a reserved word, or else a name.
 fn word_kind(word: &[u8]) -> Kind
@@ -120,26 +120,35 @@ fn sign_token(b: u8, next: u8) -> First
     }
 }
 
-// The token of digits: an integer, or bad where it is over the limit.
-fn number(digits: &[u8]) -> First
-    requires { AllByRecursion (λ c. IsTrue (is_ascii_digit c)) digits.now }
-    ensures { result ≡ number digits.now }
+// The greatest integer that a literal may write.
+fn greatest_literal(dialect: Dialect) -> u128
+    ensures exact { result ≡ greatest_integer dialect }
+    ensures fits { result ≤ greatest_integer Two }
 {
-    let mut value = 0u64;
+    dialect.greatest() as u128
+}
+
+// The token of digits: an integer, or bad where it is over the limit of the dialect.
+fn number(dialect: Dialect, digits: &[u8]) -> First
+    requires { AllByRecursion (λ c. IsTrue (is_ascii_digit c)) digits.now }
+    ensures { result ≡ number dialect digits.now }
+{
+    let greatest = greatest_literal(dialect);
+    let mut value = 0u128;
     for c in digits {
-        let digit = u64::from(*c - b'0');
-        if value > (GREATEST_INTEGER - digit) / 10 {
+        let digit = u128::from(*c - b'0');
+        if value > (greatest - digit) / 10 {
             return First::Bad;
         }
         value = 10 * value + digit;
     }
-    First::Found(Kind::Integer(value as i64), digits.len())
+    First::Found(Kind::Integer(value as i128), digits.len())
 }
 
-// What stands first in a text.
-fn first_token(text: &[u8]) -> First
+// What stands first in a text of this dialect.
+fn first_token(dialect: Dialect, text: &[u8]) -> First
     requires { 0 < length text.now }
-    ensures found { result ≡ first text.now }
+    ensures found { result ≡ first dialect text.now }
     ensures within { IsWithin (length text.now) result }
 {
     let b = text[0];
@@ -152,29 +161,69 @@ fn first_token(text: &[u8]) -> First
     }
     if b.is_ascii_digit() {
         let len = digits_len(text);
-        return number(&text[..len]);
+        return number(dialect, &text[..len]);
     }
     let next = if text.len() > 1 { text[1] } else { 0 };
     sign_token(b, next)
 }
 
-/// The tokens of a program text, in order, each with the offset of its first byte. Offsets count
-/// bytes from 0. Blanks may stand before, between and after tokens, and the longest token is taken.
-/// Each byte is looked at a bounded number of times.
-///
-/// # Errors
-///
-/// - `Refusal::Lex(at)`: at byte `at` no token begins, or an integer that is over 2^63 - 1. It is
-///   the first such byte.
-/// - `Refusal::NoMemory`: there is no room for the tokens.
-pub fn tokens_of(alloc: Global, text: &[u8]) -> Result<Vec<Token>, Refusal>
-    ensures found { IfOk result (λ tokens. Tokens 0 text.now tokens.items) }
-    ensures bad { IfErr result (IsBadOf 0 text.now) }
+// How many bytes at the front are blanks.
+fn blanks_len(text: &[u8]) -> usize
+    ensures count { result ≡ prefix_len is_blank text.now }
+    ensures within { result ≤ length text.now }
+{
+    text.iter().take_while(|b| is_blank(**b)).count()
+}
+
+// The bytes behind the blanks at the front.
+fn behind_blanks(text: &[u8]) -> &[u8]
+    ensures { result.now ≡ behind_blanks text.now }
+{
+    &text[blanks_len(text)..]
+}
+
+// The kind of the token that comes next behind blanks, and the bytes behind it. The first dialect
+// reads it.
+fn next_kind(text: &[u8]) -> Option<(Kind, &[u8])>
+    ensures { MatchOption result
+        (next_kind text.now ≡ None)
+        (λ found. next_kind text.now ≡ Some (found.0, found.1.now)) }
+{
+    let rest = behind_blanks(text);
+    if rest.is_empty() {
+        return None;
+    }
+    match first_token(Dialect::One, rest) {
+        First::Found(kind, len) => Some((kind, &rest[len..])),
+        First::Blank | First::Bad => None,
+    }
+}
+
+// The dialect that a text names with its first three tokens.
+fn dialect_of(text: &[u8]) -> Dialect
+    ensures { result ≡ dialect_of text.now }
+{
+    let Some((Kind::Dialect, text)) = next_kind(text) else {
+        return Dialect::One;
+    };
+    let Some((Kind::Integer(2), text)) = next_kind(text) else {
+        return Dialect::One;
+    };
+    let Some((Kind::Semicolon, _)) = next_kind(text) else {
+        return Dialect::One;
+    };
+    Dialect::Two
+}
+
+// The tokens of a text of this dialect, or the offset of its first bad byte.
+fn tokens_in(dialect: Dialect, alloc: Global, text: &[u8]) -> Result<Vec<Token>, Refusal>
+    ensures found { IfOk result (λ tokens. Tokens dialect 0 text.now tokens.items) }
+    ensures bad { IfErr result (IsBadOf dialect 0 text.now) }
 {
     let mut tokens = Vec::new(alloc);
     let mut at = 0usize;
     while at < text.len() {
-        match first_token(&text[at..]) {
+        match first_token(dialect, &text[at..]) {
             First::Blank => at += 1,
             First::Found(kind, len) => {
                 tokens.push(Token { kind, at })?;
@@ -184,6 +233,23 @@ pub fn tokens_of(alloc: Global, text: &[u8]) -> Result<Vec<Token>, Refusal>
         }
     }
     Ok(tokens)
+}
+
+/// The tokens of a program text, in order, each with the offset of its first byte. Offsets count
+/// bytes from 0. Blanks may stand before, between and after tokens, and the longest token is taken.
+/// Each byte is looked at a bounded number of times.
+///
+/// # Errors
+///
+/// - `Refusal::Lex(at)`: at byte `at` no token begins, or an integer that is over the limit of the
+///   text's dialect: 2^63 - 1, or 2^127 - 1 where its first three tokens are `dialect`, 2 and `;`.
+///   It is the first such byte.
+/// - `Refusal::NoMemory`: there is no room for the tokens.
+pub fn tokens_of(alloc: Global, text: &[u8]) -> Result<Vec<Token>, Refusal>
+    ensures found { IfOk result (λ tokens. Tokens (dialect_of text.now) 0 text.now tokens.items) }
+    ensures bad { IfErr result (IsBadOf (dialect_of text.now) 0 text.now) }
+{
+    tokens_in(dialect_of(text), alloc, text)
 }
 
 /// A law of the definitions that `tokens_of` promises: what stands first in a text is a blank or the
@@ -196,4 +262,10 @@ pub fn longest_lexeme()
 /// So a text with a bad byte is never answered with tokens.
 pub fn one_reading()
     ensures { HaveOneReading }
+{}
+
+/// A law of the same definitions: the dialect in which a text is read is the one that its first
+/// three tokens name.
+pub fn tokens_name_their_dialect()
+    ensures { TokensNameTheirDialect }
 {}

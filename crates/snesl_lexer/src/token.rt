@@ -3,8 +3,8 @@
 /// What a token is. A reserved word is named for its text.
 #[derive(Clone, Copy, Debug, PartialEq, Eq)]
 pub enum Kind {
-    /// An integer literal, by its value, from 0 to 2^63 - 1.
-    Integer(i64),
+    /// An integer literal, by its value, from 0 to the greatest integer of the text's dialect.
+    Integer(i128),
     /// A name, by its length in bytes.
     Name(usize),
     /// `input`

@@ -1,24 +1,24 @@
--- What the grammar lists as the beginning of a program can be completed to one.
+-- What the grammar lists as the beginning of a program behind its dialect can be completed to one.
 use Rattle.std.proofs.Common.{◌≡◌, ℕ, max, ◌≤◌, List, [], ◌∷◌, ◌++◌, refl, sym, ◌∙◌, ap, subst, arith, append_assoc}
 use Rattle.snesl_lexer.specs.declared.token.Kind.TheVariants.{Int, Function, LeftParen, RightParen, Colon, Semicolon, Comma, Equals}
 use Rattle.snesl_lexer.specs.declared.token.Token.{Token}
 use Rattle.snesl_tree.specs.declared.span.Span.{Span}
-use Rattle.snesl_tree.specs.Tree.{Tree, name, depth, TypeTree, int_type, type_depth, Typed, DeclarationTree, declares_input, declares_function, ProgramTree}
+use Rattle.snesl_tree.specs.Tree.{Tree, name, depth, TypeTree, int_type, type_depth, Typed, DeclarationTree, declares_input, declares_function}
 use Rattle.snesl_grammar.specs.Expressions.{token, name_token, name_rule}
 use Rattle.snesl_expressions.specs.Readers.{Reader}
 use Rattle.snesl_grammar.specs.Types.{WholeType, int_rule}
-use Rattle.snesl_grammar.specs.Programs.{typed, parameters_depth, declaration_depth, declarations_depth, program_depth, WholeParameters, one_parameter, more_parameters, WholeDeclaration, input_rule, function_rule, more_declarations, WholeProgram, program_rule, FrontParameter, no_parameter, parameter_name, parameter_type, FrontParameters, first_parameter, next_parameter, FrontDeclaration, input_word, input_name, input_type, function_word, function_name, function_parameters, function_closed, function_result, function_body, FrontProgram, in_declaration, in_expression}
-use Rattle.snesl_syntax.specs.Programs.{programs}
+use Rattle.snesl_grammar.specs.Programs.{typed, parameters_depth, declaration_depth, declarations_depth, WholeParameters, one_parameter, more_parameters, WholeDeclaration, input_rule, function_rule, more_declarations, FrontParameter, no_parameter, parameter_name, parameter_type, FrontParameters, first_parameter, next_parameter, FrontDeclaration, input_word, input_name, input_type, function_word, function_name, function_parameters, function_closed, function_result, function_body}
+use Rattle.snesl_syntax.specs.Programs.{Rest, programs}
 use Rattle.snesl_syntax.proofs.TypesRead.{type_depth_pos, types_are_read}
-use Rattle.snesl_syntax.proofs.Exact.{IsReaderOfPrograms}
-use Rattle.snesl_syntax.proofs.Runs.{depth-parameters, depth-declarations, ReadsExpressions, program_reads}
-use Rattle.snesl_syntax.proofs.Stands.{program_stands, program_whole}
+use Rattle.snesl_syntax.proofs.Rests.{rest_depth, WholeRest, rest_rule, FrontRest, rest_in_declaration, rest_in_expression, IsReaderOfRests}
+use Rattle.snesl_syntax.proofs.Runs.{depth-parameters, depth-declarations, ReadsExpressions, rest_reads}
+use Rattle.snesl_syntax.proofs.Stands.{rest_stands, rest_whole}
 
 -- a name, to complete forms with
-spot : Span
+pub spot : Span
 spot = record { at = 0; len = 1 }
 
-abbrev leaf : Token
+abbrev pub leaf : Token
 leaf = name_token spot
 
 -- the tokens, and others with which they are a parameter
@@ -205,31 +205,31 @@ module _ {State : Type 0} (expressions : Reader State Tree) (right : ReadsExpres
   declaration_pos (declares_input declared) = type_depth_pos declared.written
   declaration_pos (declares_function place parameters result body) = let h : 1 ≤ type_depth result = type_depth_pos result in omega arith
 
-  program_completes : (d : ℕ) (ts : List Token) → FrontProgram d ts
-      → (rest : List Token) × (program : ProgramTree) × WholeProgram (ts ++ rest) program × (program_depth program ≤ d)
-  program_completes d all (in_declaration {ts = ts} {us = us} {done = done} ws k f) =
+  rest_completes : (d : ℕ) (ts : List Token) → FrontRest d ts
+      → (rest : List Token) × (left : Rest) × WholeRest (ts ++ rest) left × (rest_depth left ≤ d)
+  rest_completes d all (rest_in_declaration {ts = ts} {us = us} {done = done} ws k f) =
       let c = completed_declaration f in
       let h : declaration_depth c.declaration ≤ d = c.shallow in
       let least : 1 ≤ declaration_depth c.declaration = declaration_pos c.declaration in
       let deep : declarations_depth (done ++ c.declaration ∷ []) ≡ max (declarations_depth done) (declaration_depth c.declaration) = depth-declarations done c.declaration in
-      let made : ProgramTree = record { declarations = done ++ c.declaration ∷ []; expression = name spot } in (
+      let made : Rest = record { declarations = done ++ c.declaration ∷ []; expression = name spot } in (
         c.rest ++ (leaf ∷ []),
         made,
-        subst (λ x. WholeProgram x made) (simp append_assoc) (program_rule (more_declarations ws c.whole) (name_rule spot)),
+        subst (λ x. WholeRest x made) (simp append_assoc) (rest_rule (more_declarations ws c.whole) (name_rule spot)),
         omega arith,
       )
-  program_completes d all (in_expression {ts = ts} {us = us} {done = done} ws k f) =
+  rest_completes d all (rest_in_expression {ts = ts} {us = us} {done = done} ws k f) =
       let c = right.is.completes d us f in
       let h : depth c.1 ≤ d = c.3 in
-      let made : ProgramTree = record { declarations = done; expression = c.1 } in
-      (c.0, made, subst (λ x. WholeProgram x made) (sym (append_assoc ts us c.0)) (program_rule ws c.2), omega arith)
+      let made : Rest = record { declarations = done; expression = c.1 } in
+      (c.0, made, subst (λ x. WholeRest x made) (sym (append_assoc ts us c.0)) (rest_rule ws c.2), omega arith)
 
-  -- The reader of programs reads what the grammar says, where that of expressions does.
-  pub programs_are_read : IsReaderOfPrograms (programs expressions)
-  programs_are_read = record {
-    reads = λ d ts program w h. program_reads expressions right d ts program w h;
-    stands = λ d ts s least e. program_stands expressions right d ts s least e;
-    whole = λ d ts s program least e f. program_whole expressions right d ts s program least e f;
-    completes = λ d ts f. program_completes d ts f;
-    ends = λ s program t f follows. absurd follows;
+  -- The reader of programs behind their dialect reads what the grammar says, where that of expressions does.
+  pub rests_are_read : IsReaderOfRests (programs expressions)
+  rests_are_read = record {
+    reads = λ d ts rest w h. rest_reads expressions right d ts rest w h;
+    stands = λ d ts s least e. rest_stands expressions right d ts s least e;
+    whole = λ d ts s rest least e f. rest_whole expressions right d ts s rest least e f;
+    completes = λ d ts f. rest_completes d ts f;
+    ends = λ s rest t f follows. absurd follows;
   }

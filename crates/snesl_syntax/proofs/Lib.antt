@@ -1,9 +1,11 @@
 pub mod Moves
 pub mod TypesRead
 pub mod Exact
+pub mod Rests
 pub mod Runs
 pub mod Stands
 pub mod Beginnings
+pub mod WholeRead
 pub mod Piles
 pub mod ProgramsRead
 pub mod Parts

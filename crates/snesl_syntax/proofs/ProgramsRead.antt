@@ -3,12 +3,14 @@ use Rattle.std.proofs.Common.{refl}
 use Rattle.snesl_expressions.specs.Machine.{expressions}
 use Rattle.snesl_expressions.proofs.Expressions.{expressions_read}
 use Rattle.snesl_syntax.specs.Programs.{programs}
+use Rattle.snesl_syntax.specs.DialectMachine.{reader}
 use Rattle.snesl_syntax.proofs.Exact.{IsReaderOfPrograms}
 use Rattle.snesl_syntax.proofs.Runs.{ReadsExpressions}
-use Rattle.snesl_syntax.proofs.Beginnings.{programs_are_read}
+use Rattle.snesl_syntax.proofs.Beginnings.{rests_are_read}
+use Rattle.snesl_syntax.proofs.WholeRead.{whole_programs_are_read}
 
 pub parts_are_read : ReadsExpressions expressions
-parts_are_read = record { is = expressions_read; no_input = λ at. refl; no_function = λ at. refl }
+parts_are_read = record { is = expressions_read; no_dialect = λ at. refl; no_input = λ at. refl; no_function = λ at. refl }
 
-pub are_read : IsReaderOfPrograms (programs expressions)
-are_read = programs_are_read expressions parts_are_read
+pub are_read : IsReaderOfPrograms reader
+are_read = whole_programs_are_read (programs expressions) (rests_are_read expressions parts_are_read) (λ at. refl)

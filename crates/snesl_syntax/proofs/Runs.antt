@@ -1,19 +1,20 @@
--- A whole program is read, where expressions are.
+-- A whole program is read behind its dialect, where expressions are.
 use Rattle.std.proofs.Common.{◌≡◌, ℕ, max, ◌≤◌, List, [], ◌∷◌, ◌++◌, Some, None, Ok, refl, ◌∙◌, ap, arith}
-use Rattle.snesl_lexer.specs.declared.token.Kind.TheVariants.{Input, Function, LeftParen, RightParen, Colon, Semicolon, Comma, Equals}
+use Rattle.snesl_lexer.specs.declared.token.Kind.TheVariants.{Dialect, Input, Function, LeftParen, RightParen, Colon, Semicolon, Comma, Equals}
 use Rattle.snesl_lexer.specs.declared.token.Token.{Token}
 use Rattle.snesl_tree.specs.declared.span.Span.{Span}
-use Rattle.snesl_tree.specs.Tree.{Tree, depth, TypeTree, type_depth, Typed, DeclarationTree, declares_input, declares_function, ProgramTree}
+use Rattle.snesl_tree.specs.Tree.{Tree, depth, TypeTree, type_depth, Typed, DeclarationTree, declares_input, declares_function}
 use Rattle.snesl_grammar.specs.Expressions.{token, name_token, Whole, Front}
 use Rattle.snesl_expressions.specs.Readers.{free, Reader, step, go}
 use Rattle.snesl_expressions.proofs.Reading.{bind_ok, within_ok, fits_step, goes_on, steps_on, ends_with}
 use Rattle.snesl_grammar.specs.Types.{WholeType}
 use Rattle.snesl_syntax.specs.Types.{TypeState, types}
-use Rattle.snesl_grammar.specs.Programs.{typed, parameters_depth, declaration_depth, declarations_depth, program_depth, WholeParameters, one_parameter, more_parameters, WholeDeclaration, input_rule, function_rule, WholeDeclarations, no_declarations, more_declarations, WholeProgram, program_rule}
-use Rattle.snesl_syntax.specs.Programs.{TypeOf, of_input, of_parameter, of_result, Header, ProgramState, between, awaits_input, awaits_input_colon, awaits_function, awaits_open, awaits_parameter, awaits_parameter_colon, awaits_result, in_type, in_body, in_final, carried, or_else, when_whole, body_end, type_end, fixed_move, with_expression, finished_program, programs}
+use Rattle.snesl_grammar.specs.Programs.{typed, parameters_depth, declaration_depth, declarations_depth, WholeParameters, one_parameter, more_parameters, WholeDeclaration, input_rule, function_rule, WholeDeclarations, no_declarations, more_declarations}
+use Rattle.snesl_syntax.specs.Programs.{Rest, TypeOf, of_input, of_parameter, of_result, Header, ProgramState, between, awaits_input, awaits_input_colon, awaits_function, awaits_open, awaits_parameter, awaits_parameter_colon, awaits_result, in_type, in_body, in_final, carried, or_else, when_whole, body_end, type_end, fixed_move, with_expression, finished_program, programs}
 use Rattle.snesl_expressions.specs.Readers.{IsReaderOf}
 use Rattle.snesl_syntax.proofs.Moves.{free_step, go_carried}
 use Rattle.snesl_syntax.proofs.TypesRead.{types_are_read}
+use Rattle.snesl_syntax.proofs.Rests.{rest_depth, WholeRest, rest_rule}
 
 pub depth-parameters : (given : List Typed) (last : Typed) → parameters_depth (given ++ last ∷ []) ≡ max (parameters_depth given) (type_depth last.written)
 depth-parameters [] last = omega arith
@@ -26,14 +27,15 @@ depth-declarations [] last = omega arith
 depth-declarations (x ∷ given) last =
     let h : declarations_depth (given ++ last ∷ []) ≡ max (declarations_depth given) (declaration_depth last) = depth-declarations given last in omega arith
 
--- the reader of expressions reads them, and takes no first token of a declaration for one
+-- the reader of expressions reads them, and takes no first token of a dialect or a declaration for one
 pub record ReadsExpressions {State : Type 0} (expressions : Reader State Tree) : Type 0 where
   pub is : IsReaderOf expressions (Whole 0) (Front 0) depth (λ kind. kind ≡ Semicolon)
+  pub no_dialect : (at : ℕ) → expressions.move expressions.start (token Dialect at) ≡ None
   pub no_input : (at : ℕ) → expressions.move expressions.start (token Input at) ≡ None
   pub no_function : (at : ℕ) → expressions.move expressions.start (token Function at) ≡ None
 
 module _ {State : Type 0} (expressions : Reader State Tree) (right : ReadsExpressions expressions) where
-  abbrev reader : Reader (ProgramState State) ProgramTree
+  abbrev reader : Reader (ProgramState State) Rest
   reader = programs expressions
 
   -- the token behind a whole type ends it
@@ -197,10 +199,10 @@ module _ {State : Type 0} (expressions : Reader State Tree) (right : ReadsExpres
         refl,
       )
 
-  -- a whole program is read
-  pub program_reads : (d : ℕ) (ts : List Token) (program : ProgramTree) → WholeProgram ts program → program_depth program ≤ d
-      → (s : ProgramState State) × (go reader d reader.start ts ≡ Ok s) × (reader.finished s ≡ Some program)
-  program_reads d ts program (program_rule {ts = front} {us = back} {declarations = declarations} {expression = expression} ws w) h =
+  -- a whole program is read behind its dialect
+  pub rest_reads : (d : ℕ) (ts : List Token) (rest : Rest) → WholeRest ts rest → rest_depth rest ≤ d
+      → (s : ProgramState State) × (go reader d reader.start ts ≡ Ok s) × (reader.finished s ≡ Some rest)
+  rest_reads d ts rest (rest_rule {ts = front} {us = back} {declarations = declarations} {expression = expression} ws w) h =
       let r = right.is.reads d back expression w (omega arith) in
       let f = reads_final d declarations back r.0 r.1 in (
         f.0,

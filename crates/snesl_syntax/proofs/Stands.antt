@@ -1,20 +1,21 @@
--- What was read of a program stands in the grammar.
+-- What was read of a program behind its dialect stands in the grammar.
 use Rattle.std.proofs.Common.{◌≡◌, ℕ, suc, max, ◌≤◌, List, [], ◌∷◌, ◌++◌, Option, Some, None, Ok, refl, sym, subst, arith, append_assoc}
 use Rattle.std.proofs.lemmas.List.{append-nil}
 use Rattle.snesl_lexer.specs.declared.token.Kind.{Kind}
 use Rattle.snesl_lexer.specs.declared.token.Kind.TheVariants.{Name, Input, Function, LeftParen, RightParen, Colon, Semicolon, Comma, Equals}
 use Rattle.snesl_lexer.specs.declared.token.Token.{Token}
 use Rattle.snesl_tree.specs.declared.span.Span.{Span}
-use Rattle.snesl_tree.specs.Tree.{Tree, depth, TypeTree, type_depth, Typed, DeclarationTree, declares_input, declares_function, ProgramTree}
+use Rattle.snesl_tree.specs.Tree.{Tree, depth, TypeTree, type_depth, Typed, DeclarationTree, declares_input, declares_function}
 use Rattle.snesl_grammar.specs.Expressions.{token, name_token, Whole, Front, nothing}
 use Rattle.snesl_expressions.specs.Readers.{Move, Reader, go}
 use Rattle.snesl_expressions.proofs.Reading.{ends_with, fits_step}
 use Rattle.snesl_grammar.specs.Types.{WholeType, FrontType}
 use Rattle.snesl_syntax.specs.Types.{TypeState, types}
-use Rattle.snesl_grammar.specs.Programs.{typed, parameters_depth, declaration_depth, declarations_depth, program_depth, WholeParameters, one_parameter, more_parameters, WholeDeclaration, input_rule, function_rule, WholeDeclarations, no_declarations, more_declarations, WholeProgram, program_rule, FrontParameter, no_parameter, parameter_name, parameter_type, FrontParameters, first_parameter, next_parameter, FrontDeclaration, input_word, input_name, input_type, function_word, function_name, function_parameters, function_closed, function_result, function_body, FrontProgram, in_declaration, in_expression}
-use Rattle.snesl_syntax.specs.Programs.{TypeOf, of_input, of_parameter, of_result, Header, ProgramState, between, awaits_input, awaits_input_colon, awaits_function, awaits_open, awaits_parameter, awaits_parameter_colon, awaits_result, in_type, in_body, in_final, carried, when_whole, span, body_end, type_end, fixed_move, with_expression, programs}
+use Rattle.snesl_grammar.specs.Programs.{typed, parameters_depth, declaration_depth, declarations_depth, WholeParameters, one_parameter, more_parameters, WholeDeclaration, input_rule, function_rule, WholeDeclarations, no_declarations, more_declarations, FrontParameter, no_parameter, parameter_name, parameter_type, FrontParameters, first_parameter, next_parameter, FrontDeclaration, input_word, input_name, input_type, function_word, function_name, function_parameters, function_closed, function_result, function_body}
+use Rattle.snesl_syntax.specs.Programs.{Rest, TypeOf, of_input, of_parameter, of_result, Header, ProgramState, between, awaits_input, awaits_input_colon, awaits_function, awaits_open, awaits_parameter, awaits_parameter_colon, awaits_result, in_type, in_body, in_final, carried, when_whole, span, body_end, type_end, fixed_move, with_expression, programs}
 use Rattle.snesl_syntax.proofs.Moves.{Good, good_or, good_carried, good_when, go_stands}
 use Rattle.snesl_syntax.proofs.TypesRead.{types_are_read}
+use Rattle.snesl_syntax.proofs.Rests.{rest_depth, WholeRest, rest_rule, FrontRest, rest_in_declaration, rest_in_expression}
 use Rattle.snesl_syntax.proofs.Runs.{depth-parameters, depth-declarations, ReadsExpressions}
 
 -- the tokens are these declarations, within the depth
@@ -75,7 +76,7 @@ declared_more {done = done} {last = last} h w k =
     record { are = more_declarations h.are w; shallow = omega arith }
 
 module _ {State : Type 0} (expressions : Reader State Tree) (right : ReadsExpressions expressions) where
-  abbrev reader : Reader (ProgramState State) ProgramTree
+  abbrev reader : Reader (ProgramState State) Rest
   reader = programs expressions
 
   -- the tokens that lead to a state
@@ -262,81 +263,81 @@ module _ {State : Type 0} (expressions : Reader State Tree) (right : ReadsExpres
       go_stands reader (Stands d) d (step_keeps d least) ts reader.start s []
       (stands_between (record { are = no_declarations; shallow = omega arith })) e
 
-  -- what leads to a type, and what begins one, begin a program
-  type_front : {d : ℕ} {owner : TypeOf} {ts us : List Token} → Opens d owner ts → FrontType d us → FrontProgram d (ts ++ us)
+  -- what leads to a type, and what begins one, begin the rest of a program
+  type_front : {d : ℕ} {owner : TypeOf} {ts us : List Token} → Opens d owner ts → FrontType d us → FrontRest d (ts ++ us)
   type_front {d = d} {us = us} (opens_input begun place colon {ts = ts} h) f =
-      subst (FrontProgram d) (simp append_assoc) (in_declaration h.are h.shallow (input_type begun place colon f))
+      subst (FrontRest d) (simp append_assoc) (rest_in_declaration h.are h.shallow (input_type begun place colon f))
   type_front {d = d} {us = us} (opens_parameter begun function opened place colon {ts = ts} {us = vs} h g) f =
-      subst (FrontProgram d) (simp append_assoc)
-      (in_declaration h.are h.shallow (function_parameters begun function opened (given_front g (name_token place ∷ token Colon colon ∷ us) (parameter_type place colon f))))
+      subst (FrontRest d) (simp append_assoc)
+      (rest_in_declaration h.are h.shallow (function_parameters begun function opened (given_front g (name_token place ∷ token Colon colon ∷ us) (parameter_type place colon f))))
   type_front {d = d} {us = us} (opens_result begun function opened closed colon {ts = ts} {us = vs} h w room) f =
-      subst (FrontProgram d) (simp append_assoc) (in_declaration h.are h.shallow (function_result begun function opened closed colon w room f))
+      subst (FrontRest d) (simp append_assoc) (rest_in_declaration h.are h.shallow (function_result begun function opened closed colon w room f))
 
-  body_front : {d : ℕ} {header : Header} {ts us : List Token} → OpensBody d header ts → Front 0 d us → FrontProgram d (ts ++ us)
+  body_front : {d : ℕ} {header : Header} {ts us : List Token} → OpensBody d header ts → Front 0 d us → FrontRest d (ts ++ us)
   body_front {d = d} {us = us} (opens_body begun function opened closed colon equals {ts = ts} {us = vs} {vs = ws} h wp roomy wr room) f =
-      subst (FrontProgram d) (simp append_assoc) (in_declaration h.are h.shallow (function_body begun function opened closed colon equals wp roomy wr room f))
+      subst (FrontRest d) (simp append_assoc) (rest_in_declaration h.are h.shallow (function_body begun function opened closed colon equals wp roomy wr room f))
 
   -- declarations, and what begins one more
-  declaration_front : {d : ℕ} {done : List DeclarationTree} {ts us : List Token} → Declared d done ts → FrontDeclaration d us → FrontProgram d (ts ++ us)
-  declaration_front h f = in_declaration h.are h.shallow f
+  declaration_front : {d : ℕ} {done : List DeclarationTree} {ts us : List Token} → Declared d done ts → FrontDeclaration d us → FrontRest d (ts ++ us)
+  declaration_front h f = rest_in_declaration h.are h.shallow f
 
-  stands_front : {d : ℕ} {s : ProgramState State} {ts : List Token} → Stands (suc d) s ts → FrontProgram (suc d) ts
+  stands_front : {d : ℕ} {s : ProgramState State} {ts : List Token} → Stands (suc d) s ts → FrontRest (suc d) ts
   stands_front {d = d} (stands_between {ts = ts} h) =
-      subst (FrontProgram (suc d)) (append-nil ts) (in_expression h.are h.shallow (nothing {here = 0} {deep = d}))
+      subst (FrontRest (suc d)) (append-nil ts) (rest_in_expression h.are h.shallow (nothing {here = 0} {deep = d}))
   stands_front (stands_input begun h) = declaration_front h (input_word begun)
   stands_front (stands_input_colon begun place h) = declaration_front h (input_name begun place)
   stands_front (stands_function begun h) = declaration_front h (function_word begun)
   stands_front (stands_open begun function h) = declaration_front h (function_name begun function)
   stands_front {d = d} (stands_parameter begun function opened {ts = ts} {us = us} h g) =
-      subst (λ x. FrontProgram (suc d) (ts ++ (token Function begun ∷ name_token function ∷ token LeftParen opened ∷ x))) (append-nil us)
+      subst (λ x. FrontRest (suc d) (ts ++ (token Function begun ∷ name_token function ∷ token LeftParen opened ∷ x))) (append-nil us)
       (declaration_front h (function_parameters begun function opened (given_front g [] no_parameter)))
   stands_front (stands_parameter_colon begun function opened place h g) =
       declaration_front h (function_parameters begun function opened (given_front g (name_token place ∷ []) (parameter_name place)))
   stands_front (stands_result begun function opened closed h w room) = declaration_front h (function_closed begun function opened closed w room)
   stands_front {d = d} (stands_type {s = state} us o e) = type_front o (types_are_read.stands (suc d) us state (omega arith) e)
   stands_front {d = d} (stands_body {s = state} us o e) = body_front o (right.is.stands (suc d) us state (omega arith) e)
-  stands_front {d = d} (stands_final {s = state} us h e) = in_expression h.are h.shallow (right.is.stands (suc d) us state (omega arith) e)
+  stands_front {d = d} (stands_final {s = state} us h e) = rest_in_expression h.are h.shallow (right.is.stands (suc d) us state (omega arith) e)
 
-  -- tokens that are read begin a program within the depth
-  pub program_stands : (d : ℕ) (ts : List Token) (s : ProgramState State) → 1 ≤ d → go reader d reader.start ts ≡ Ok s → FrontProgram d ts
-  program_stands Prim.Native.Nat.zero ts s least e = absurd (omega arith)
-  program_stands (suc d) ts s least e = stands_front (stands_programs (suc d) ts s least e)
+  -- tokens that are read begin the rest of a program within the depth
+  pub rest_stands : (d : ℕ) (ts : List Token) (s : ProgramState State) → 1 ≤ d → go reader d reader.start ts ≡ Ok s → FrontRest d ts
+  rest_stands Prim.Native.Nat.zero ts s least e = absurd (omega arith)
+  rest_stands (suc d) ts s least e = stands_front (stands_programs (suc d) ts s least e)
 
-  -- the program where the expression is whole
-  expression_whole : {d : ℕ} {done : List DeclarationTree} {ts : List Token} (us : List Token) (s : State) (program : ProgramTree) → 1 ≤ d → Declared d done ts
-      → go expressions d expressions.start us ≡ Ok s → with_expression expressions done (expressions.finished s) ≡ Some program
-      → WholeProgram (ts ++ us) program × (program_depth program ≤ d)
-  expression_whole {d = d} {done = done} {ts = ts} us s program least h e f = by_form (expressions.finished s) refl f
+  -- the rest of a program where the expression is whole
+  expression_whole : {d : ℕ} {done : List DeclarationTree} {ts : List Token} (us : List Token) (s : State) (rest : Rest) → 1 ≤ d → Declared d done ts
+      → go expressions d expressions.start us ≡ Ok s → with_expression expressions done (expressions.finished s) ≡ Some rest
+      → WholeRest (ts ++ us) rest × (rest_depth rest ≤ d)
+  expression_whole {d = d} {done = done} {ts = ts} us s rest least h e f = by_form (expressions.finished s) refl f
     where
-      by_form : (found : Option Tree) → expressions.finished s ≡ found → with_expression expressions done found ≡ Some program
-          → WholeProgram (ts ++ us) program × (program_depth program ≤ d)
+      by_form : (found : Option Tree) → expressions.finished s ≡ found → with_expression expressions done found ≡ Some rest
+          → WholeRest (ts ++ us) rest × (rest_depth rest ≤ d)
       by_form None g k = absurd (let never : ⊥ = cc in never)
       by_form (Some expression) g k =
           let w = right.is.whole d us s expression least e g in
           let deep : depth expression ≤ d = w.1 in
           let shallow : declarations_depth done ≤ d = h.shallow in
-          let made : ProgramTree = record { declarations = done; expression = expression } in
-          let is : made ≡ program = cc in (
-            subst (WholeProgram (ts ++ us)) is (program_rule h.are w.0),
-            subst (λ x. program_depth x ≤ d) is (let fits : program_depth made ≤ d = omega arith in fits),
+          let made : Rest = record { declarations = done; expression = expression } in
+          let is : made ≡ rest = cc in (
+            subst (WholeRest (ts ++ us)) is (rest_rule h.are w.0),
+            subst (λ x. rest_depth x ≤ d) is (let fits : rest_depth made ≤ d = omega arith in fits),
           )
 
-  stands_whole : {d : ℕ} {s : ProgramState State} {ts : List Token} → 1 ≤ d → Stands d s ts → (program : ProgramTree) → reader.finished s ≡ Some program
-      → WholeProgram ts program × (program_depth program ≤ d)
-  stands_whole {d = d} least (stands_between {ts = ts} h) program f =
-      subst (λ x. WholeProgram x program × (program_depth program ≤ d)) (append-nil ts) (expression_whole [] expressions.start program least h refl f)
-  stands_whole least (stands_final {s = state} us h e) program f = expression_whole us state program least h e f
-  stands_whole least (stands_input begun h) program f = absurd (let never : ⊥ = cc in never)
-  stands_whole least (stands_input_colon begun place h) program f = absurd (let never : ⊥ = cc in never)
-  stands_whole least (stands_function begun h) program f = absurd (let never : ⊥ = cc in never)
-  stands_whole least (stands_open begun function h) program f = absurd (let never : ⊥ = cc in never)
-  stands_whole least (stands_parameter begun function opened h g) program f = absurd (let never : ⊥ = cc in never)
-  stands_whole least (stands_parameter_colon begun function opened place h g) program f = absurd (let never : ⊥ = cc in never)
-  stands_whole least (stands_result begun function opened closed h w room) program f = absurd (let never : ⊥ = cc in never)
-  stands_whole least (stands_type us o e) program f = absurd (let never : ⊥ = cc in never)
-  stands_whole least (stands_body us o e) program f = absurd (let never : ⊥ = cc in never)
+  stands_whole : {d : ℕ} {s : ProgramState State} {ts : List Token} → 1 ≤ d → Stands d s ts → (rest : Rest) → reader.finished s ≡ Some rest
+      → WholeRest ts rest × (rest_depth rest ≤ d)
+  stands_whole {d = d} least (stands_between {ts = ts} h) rest f =
+      subst (λ x. WholeRest x rest × (rest_depth rest ≤ d)) (append-nil ts) (expression_whole [] expressions.start rest least h refl f)
+  stands_whole least (stands_final {s = state} us h e) rest f = expression_whole us state rest least h e f
+  stands_whole least (stands_input begun h) rest f = absurd (let never : ⊥ = cc in never)
+  stands_whole least (stands_input_colon begun place h) rest f = absurd (let never : ⊥ = cc in never)
+  stands_whole least (stands_function begun h) rest f = absurd (let never : ⊥ = cc in never)
+  stands_whole least (stands_open begun function h) rest f = absurd (let never : ⊥ = cc in never)
+  stands_whole least (stands_parameter begun function opened h g) rest f = absurd (let never : ⊥ = cc in never)
+  stands_whole least (stands_parameter_colon begun function opened place h g) rest f = absurd (let never : ⊥ = cc in never)
+  stands_whole least (stands_result begun function opened closed h w room) rest f = absurd (let never : ⊥ = cc in never)
+  stands_whole least (stands_type us o e) rest f = absurd (let never : ⊥ = cc in never)
+  stands_whole least (stands_body us o e) rest f = absurd (let never : ⊥ = cc in never)
 
-  -- where the reader has a program, the tokens are that program
-  pub program_whole : (d : ℕ) (ts : List Token) (s : ProgramState State) (program : ProgramTree) → 1 ≤ d → go reader d reader.start ts ≡ Ok s
-      → reader.finished s ≡ Some program → WholeProgram ts program × (program_depth program ≤ d)
-  program_whole d ts s program least e f = stands_whole least (stands_programs d ts s least e) program f
+  -- where the reader has the rest of a program, the tokens are that
+  pub rest_whole : (d : ℕ) (ts : List Token) (s : ProgramState State) (rest : Rest) → 1 ≤ d → go reader d reader.start ts ≡ Ok s
+      → reader.finished s ≡ Some rest → WholeRest ts rest × (rest_depth rest ≤ d)
+  rest_whole d ts s rest least e f = stands_whole least (stands_programs d ts s least e) rest f

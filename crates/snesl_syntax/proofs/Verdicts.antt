@@ -4,27 +4,25 @@ use Rattle.std.specs.Result.{IsErrAnd, IfOk, IfErr}
 use Rattle.snesl_values.specs.declared.refusal.Refusal.{Refusal}
 use Rattle.snesl_values.specs.declared.refusal.Refusal.TheVariants.{Lex, NoMemory}
 use Rattle.snesl_lexer.specs.declared.token.Token.{Token}
-use Rattle.snesl_lexer.specs.Lexical.{IsBadOf, Tokens}
+use Rattle.snesl_lexer.specs.Lexical.{dialect_of, IsBadOf, Tokens}
 use Rattle.snesl_lexer.proofs.OneReading.{one_tokens, no_both, one_bad}
 use Rattle.snesl_grammar.specs.declared.program.Program.{Program}
 use Rattle.snesl_tree.specs.Tree.{ProgramTree, depth}
 use Rattle.snesl_grammar.specs.View.{program_of}
-use Rattle.snesl_expressions.specs.Machine.{expressions}
-use Rattle.snesl_syntax.specs.declared.programs.Parsed.{Parsed}
+use Rattle.snesl_syntax.specs.declared.dialects.Whole.{Whole}
 use Rattle.snesl_grammar.specs.Limits.{greatest_length, greatest_depth}
 use Rattle.snesl_grammar.specs.Programs.{FrontProgram, program_depth}
 use Rattle.snesl_grammar.specs.Spelled.{IsSpelled}
-use Rattle.snesl_syntax.specs.Programs.{programs}
 use Rattle.snesl_syntax.specs.Answer.{answer}
 use Rattle.snesl_syntax.specs.Parse.{Answers, accepted, wrong, too_deep, ended, Parses, too_long, bad_byte, read, HaveOneAnswer, BeginsProgram, FrontsBeginPrograms, IsOfText, IsRight, Returns}
-use Rattle.snesl_syntax.specs.ProgramMachine.{Finds, FindsOneOf}
+use Rattle.snesl_syntax.specs.DialectMachine.{reader, Finds, FindsOneOf}
 use Rattle.snesl_expressions.proofs.Depths.{depth_pos}
 use Rattle.snesl_syntax.proofs.Exact.{so_far, answers, one_answer}
 use Rattle.snesl_syntax.proofs.ProgramsRead.{are_read}
 
 -- the answer of the reader for tokens is one that the grammar wants
-pub programs_answer : (d len : ℕ) (ts : List Token) → 1 ≤ d → Answers d len ts (answer (programs expressions) d len (programs expressions).start ts)
-programs_answer d len ts least = answers (programs expressions) are_read d len ts least
+pub programs_answer : (d len : ℕ) (ts : List Token) → 1 ≤ d → Answers d len ts (answer reader d len reader.start ts)
+programs_answer d len ts least = answers reader are_read d len ts least
 
 -- no text has two answers
 pub one_parse : HaveOneAnswer
@@ -32,14 +30,14 @@ one_parse bytes r s (too_long h) (too_long k) = refl
 one_parse bytes r s (too_long h) (bad_byte k b) = absurd (omega arith)
 one_parse bytes r s (too_long h) (read k t a) = absurd (omega arith)
 one_parse bytes r s (bad_byte h b) (too_long k) = absurd (omega arith)
-one_parse bytes r s (bad_byte h b) (bad_byte {at = at} k c) = ap (λ n. Err (Lex n)) (one_bad b at c)
-one_parse bytes r s (bad_byte {at = at} h b) (read k t a) = absurd (no_both t at b)
+one_parse bytes r s (bad_byte h b) (bad_byte {at = at} k c) = ap (λ n. Err (Lex n)) (one_bad (dialect_of bytes) b at c)
+one_parse bytes r s (bad_byte {at = at} h b) (read k t a) = absurd (no_both (dialect_of bytes) t at b)
 one_parse bytes r s (read h t a) (too_long k) = absurd (omega arith)
-one_parse bytes r s (read h t a) (bad_byte {at = at} k b) = absurd (no_both t at b)
+one_parse bytes r s (read h t a) (bad_byte {at = at} k b) = absurd (no_both (dialect_of bytes) t at b)
 one_parse bytes r s (read {tokens = ts} h t a) (read {tokens = us} k u b) =
-    one_answer (programs expressions) are_read a (omega arith)
-    ∙ ap (answer (programs expressions) greatest_depth (length bytes) (programs expressions).start) (one_tokens t us u)
-    ∙ sym (one_answer (programs expressions) are_read b (omega arith))
+    one_answer reader are_read a (omega arith)
+    ∙ ap (answer reader greatest_depth (length bytes) reader.start) (one_tokens (dialect_of bytes) t us u)
+    ∙ sym (one_answer reader are_read b (omega arith))
 
 -- what begins a program is listed
 begun : (d : ℕ) (ts : List Token) → BeginsProgram d ts → FrontProgram d ts
@@ -47,25 +45,25 @@ begun d ts b =
     let least : 1 ≤ depth b.1.expression = depth_pos b.1.expression in
     let shallow : program_depth b.1 ≤ d = b.3 in
     let r = are_read.reads d (ts ++ b.0) b.1 b.2 b.3 in
-    so_far (programs expressions) are_read d r.0 (ts ++ b.0) (omega arith) r.1 ts b.0 refl
+    so_far reader are_read d r.0 (ts ++ b.0) (omega arith) r.1 ts b.0 refl
 
 pub fronts_begin : FrontsBeginPrograms
 fronts_begin d ts = (λ f. are_read.completes d ts f, begun d ts)
 
 -- what is the reader's answer is one of the grammar's, where that is
-pub right_by : (P : Result ProgramTree Refusal → Type 0) (x : Result Parsed Refusal) (r : Result ProgramTree Refusal) → P r → Finds x r → FindsOneOf P x
+pub right_by : (P : Result ProgramTree Refusal → Type 0) (x : Result Whole Refusal) (r : Result ProgramTree Refusal) → P r → Finds x r → FindsOneOf P x
 right_by P (Ok e) r p h = subst P h p
 right_by P (Err NoMemory) r p h = tt
 right_by P (Err _) r p h = subst P h p
 
 -- the lexer's refusal is one for the bytes
-pub bad_right : (bytes : List ℕ) (refusal : Refusal) → length bytes ≤ greatest_length → IsBadOf 0 bytes refusal → IsRight (Parses bytes) (Err refusal)
+pub bad_right : (bytes : List ℕ) (refusal : Refusal) → length bytes ≤ greatest_length → IsBadOf (dialect_of bytes) 0 bytes refusal → IsRight (Parses bytes) (Err refusal)
 bad_right bytes NoMemory h b = tt
 bad_right bytes (Lex at) h b = bad_byte h b
 bad_right bytes _ h b = absurd b
 
 -- the refusal of the tokens is one for the bytes
-pub tokens_right : (bytes : List ℕ) (tokens : List Token) (refusal : Refusal) → length bytes ≤ greatest_length → Tokens 0 bytes tokens
+pub tokens_right : (bytes : List ℕ) (tokens : List Token) (refusal : Refusal) → length bytes ≤ greatest_length → Tokens (dialect_of bytes) 0 bytes tokens
     → FindsOneOf (Answers greatest_depth (length bytes) tokens) (Err refusal) → IsRight (Parses bytes) (Err refusal)
 tokens_right bytes tokens NoMemory h t a = tt
 tokens_right bytes tokens _ h t a = read h t a
@@ -100,14 +98,14 @@ right_of_text bytes (Err _) right = parsed_of_text right
 
 -- a program that is accepted is spelled by the text
 tokens_spell : {bytes : List ℕ} {tokens : List Token} {found : Result ProgramTree Refusal} → length bytes ≤ greatest_length
-    → Tokens 0 bytes tokens → Answers greatest_depth (length bytes) tokens found → IfOk found (IsSpelled bytes)
+    → Tokens (dialect_of bytes) 0 bytes tokens → Answers greatest_depth (length bytes) tokens found → IfOk found (IsSpelled bytes)
 tokens_spell {tokens = tokens} h t (accepted w d) = record { is_short = h; tokens = tokens; are_tokens = t; is_whole = w; is_shallow = d }
 tokens_spell h t (wrong front rest stop so none) = tt
 tokens_spell h t (too_deep front rest stop so never deeper some) = tt
 tokens_spell h t (ended so none) = tt
 
 -- and so it is by a copy of the text
-pub copy_spells : (bytes copy : List ℕ) (tokens : List Token) (program : ProgramTree) → length bytes ≤ greatest_length → Tokens 0 bytes tokens
+pub copy_spells : (bytes copy : List ℕ) (tokens : List Token) (program : ProgramTree) → length bytes ≤ greatest_length → Tokens (dialect_of bytes) 0 bytes tokens
     → Answers greatest_depth (length bytes) tokens (Ok program) → copy ≡ bytes → IsSpelled copy program
 copy_spells bytes copy tokens program h t a same =
     subst (λ l. IsSpelled l program) (sym same) (tokens_spell {found = Ok program} h t a)

@@ -3,7 +3,7 @@ use Rattle.std.specs.Prelude.{◌≡◌, ◌↔◌, ℕ, ◌≤◌, ◌<◌, Lis
 use Rattle.snesl_values.specs.declared.refusal.Refusal.{Refusal}
 use Rattle.snesl_values.specs.declared.refusal.Refusal.TheVariants.{TooLong, Lex, Syntax, Deep, NoMemory}
 use Rattle.snesl_lexer.specs.declared.token.Token.{Token}
-use Rattle.snesl_lexer.specs.Lexical.{Tokens, BadAt}
+use Rattle.snesl_lexer.specs.Lexical.{dialect_of, Tokens, BadAt}
 use Rattle.snesl_grammar.specs.declared.program.Program.{Program}
 use Rattle.snesl_tree.specs.Tree.{ProgramTree}
 use Rattle.snesl_grammar.specs.View.{program_of}
@@ -29,15 +29,15 @@ pub data Answers (deep len : ℕ) : List Token → Result ProgramTree Refusal �
   ended : {ts : List Token} → BeginsSoFar deep ts → ((program : ProgramTree) → WholeProgram ts program → program_depth program ≤ deep → ⊥)
       → Answers deep len ts (Err (Syntax len))
 
--- the answer for the bytes of a text
+-- the answer for the bytes of a text, whose tokens are those of the dialect that it names
 pub data Parses : List ℕ → Result ProgramTree Refusal → Type 0 where
   -- a text over the greatest length is refused
   too_long : {bytes : List ℕ} → greatest_length < length bytes → Parses bytes (Err TooLong)
   -- a text with a bad byte is refused at the first one
-  bad_byte : {bytes : List ℕ} {at : ℕ} → length bytes ≤ greatest_length → BadAt 0 bytes at → Parses bytes (Err (Lex at))
+  bad_byte : {bytes : List ℕ} {at : ℕ} → length bytes ≤ greatest_length → BadAt (dialect_of bytes) 0 bytes at → Parses bytes (Err (Lex at))
   -- a text of tokens is answered as these are
   read : {bytes : List ℕ} {tokens : List Token} {answer : Result ProgramTree Refusal} → length bytes ≤ greatest_length
-      → Tokens 0 bytes tokens → Answers greatest_depth (length bytes) tokens answer → Parses bytes answer
+      → Tokens (dialect_of bytes) 0 bytes tokens → Answers greatest_depth (length bytes) tokens answer → Parses bytes answer
 
 -- no text has two answers
 abbrev pub HaveOneAnswer : Type 0

@@ -1,8 +1,6 @@
--- The states that the reader of programs is in, and what its functions return.
-use Rattle.std.specs.Prelude.{◌≡◌, List, map, Option, Some, None, Result, Ok, Err}
-use Rattle.snesl_values.specs.declared.refusal.Refusal.{Refusal}
-use Rattle.snesl_values.specs.declared.refusal.Refusal.TheVariants as refusals
-use Rattle.snesl_tree.specs.Tree.{DeclarationTree, ProgramTree}
+-- The states that the reader of programs behind their dialect is in, and what it returns.
+use Rattle.std.specs.Prelude.{◌≡◌, List, map, Option, Some, None}
+use Rattle.snesl_tree.specs.Tree.{DeclarationTree}
 use Rattle.snesl_tree.specs.View.{tree_of, type_tree, typed_of, declaration_of}
 use Rattle.snesl_expressions.specs.Machine.{State}
 use Rattle.snesl_expressions.specs.Parsing.{state_of}
@@ -13,7 +11,7 @@ use Rattle.snesl_syntax.specs.declared.programs.ProgramPoint.{ProgramPoint}
 use Rattle.snesl_syntax.specs.declared.programs.ProgramPoint.TheVariants as points
 use Rattle.snesl_syntax.specs.declared.programs.ProgramMachine.{ProgramMachine}
 use Rattle.snesl_syntax.specs.declared.programs.Parsed.{Parsed}
-use Rattle.snesl_syntax.specs.Programs.{TypeOf, of_input, of_parameter, of_result, ProgramState, between, awaits_input, awaits_input_colon, awaits_function, awaits_open, awaits_parameter, awaits_parameter_colon, awaits_result, in_type, in_body, in_final}
+use Rattle.snesl_syntax.specs.Programs.{Rest, TypeOf, of_input, of_parameter, of_result, ProgramState, between, awaits_input, awaits_input_colon, awaits_function, awaits_open, awaits_parameter, awaits_parameter_colon, awaits_result, in_type, in_body, in_final}
 use Rattle.snesl_syntax.specs.Programs.{Header as OpenFunction}
 use Rattle.snesl_syntax.specs.TypeMachine.{type_state}
 
@@ -46,23 +44,11 @@ state_at done (points.Final machine) = in_final done (state_of machine)
 abbrev pub program_state : ProgramMachine → ProgramState State
 program_state machine = state_at (map declaration_of machine.done.items) machine.point
 
--- the program with these parts
-abbrev pub parsed_program : Parsed → ProgramTree
-parsed_program parsed = record { declarations = map declaration_of parsed.declarations.items; expression = tree_of parsed.expr }
+-- the rest of a program, with these parts
+abbrev pub parsed_rest : Parsed → Rest
+parsed_rest parsed = record { declarations = map declaration_of parsed.declarations.items; expression = tree_of parsed.expr }
 
--- what was found is this program
-abbrev pub IsThisProgram : Option Parsed → Option ProgramTree → Type 0
-IsThisProgram (Some parsed) program = program ≡ Some (parsed_program parsed)
-IsThisProgram None program = program ≡ None
-
--- the program or the refusal is this answer, unless memory ran out
-abbrev pub Finds : Result Parsed Refusal → Result ProgramTree Refusal → Type 0
-Finds (Ok parsed) answer = answer ≡ Ok (parsed_program parsed)
-Finds (Err refusals.NoMemory) answer = Unit {0}
-Finds (Err refusal) answer = answer ≡ Err refusal
-
--- the program or the refusal is one of the answers, unless memory ran out
-abbrev pub FindsOneOf : (Result ProgramTree Refusal → Type 0) → Result Parsed Refusal → Type 0
-FindsOneOf Answer (Ok parsed) = Answer (Ok (parsed_program parsed))
-FindsOneOf Answer (Err refusals.NoMemory) = Unit {0}
-FindsOneOf Answer (Err refusal) = Answer (Err refusal)
+-- what was found is this rest
+abbrev pub IsThisRest : Option Parsed → Option Rest → Type 0
+IsThisRest (Some parsed) rest = rest ≡ Some (parsed_rest parsed)
+IsThisRest None rest = rest ≡ None

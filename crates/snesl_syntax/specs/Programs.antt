@@ -1,13 +1,18 @@
--- How programs are read, given how expressions are.
+-- How programs are read behind their dialect, given how expressions are.
 use Rattle.std.specs.Prelude.{ℕ, List, [], ◌∷◌, ◌++◌, Option, Some, None}
 use Rattle.snesl_lexer.specs.declared.token.Kind.{Kind}
 use Rattle.snesl_lexer.specs.declared.token.Kind.TheVariants as kinds
 use Rattle.snesl_lexer.specs.declared.token.Token.{Token}
 use Rattle.snesl_tree.specs.declared.span.Span.{Span}
-use Rattle.snesl_tree.specs.Tree.{Tree, TypeTree, Typed, DeclarationTree, declares_input, declares_function, ProgramTree}
+use Rattle.snesl_tree.specs.Tree.{Tree, TypeTree, Typed, DeclarationTree, declares_input, declares_function}
 use Rattle.snesl_expressions.specs.Readers.{Move, free, Reader}
 use Rattle.snesl_syntax.specs.Types.{TypeState, types}
 use Rattle.snesl_grammar.specs.Programs.{typed}
+
+-- a program behind its dialect: its declarations in order, and its expression
+pub record Rest : Type 0 where
+  pub declarations : List DeclarationTree
+  pub expression : Tree
 
 -- what a type is of, behind the declarations that are whole
 pub data TypeOf : Type 0 where
@@ -25,7 +30,7 @@ pub record Header : Type 0 where
   pub parameters : List Typed
   pub result : TypeTree
 
--- What may come next, behind the declarations that are whole. Expressions are read in states of their own.
+-- What may come next behind a dialect, behind the declarations that are whole. Expressions are read in states of their own.
 pub data ProgramState (State : Type 0) : Type 0 where
   -- a declaration or the expression begins
   between : (done : List DeclarationTree) → ProgramState State
@@ -105,17 +110,17 @@ module _ {State : Type 0} (expressions : Reader State Tree) where
   program_move (in_final done state) token = carried (in_final done) (expressions.move state token)
   program_move state token = fixed_move state token.kind token.at
 
-  -- the program with this expression, where that is whole
-  abbrev pub with_expression : List DeclarationTree → Option Tree → Option ProgramTree
+  -- the rest of a program with this expression, where that is whole
+  abbrev pub with_expression : List DeclarationTree → Option Tree → Option Rest
   with_expression done None = None
   with_expression done (Some expression) = Some (record { declarations = done; expression = expression })
 
-  -- the program that the tokens so far are, where they are one
-  abbrev pub finished_program : ProgramState State → Option ProgramTree
+  -- the rest of a program that the tokens so far are, where they are one
+  abbrev pub finished_program : ProgramState State → Option Rest
   finished_program (between done) = with_expression done (expressions.finished expressions.start)
   finished_program (in_final done state) = with_expression done (expressions.finished state)
   finished_program _ = None
 
-  -- programs are read from before their first declaration
-  abbrev pub programs : Reader (ProgramState State) ProgramTree
+  -- behind their dialect, programs are read from before their first declaration
+  abbrev pub programs : Reader (ProgramState State) Rest
   programs = record { start = between []; move = program_move; finished = finished_program }

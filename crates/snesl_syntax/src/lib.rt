@@ -1,6 +1,7 @@
 // From the text of a program to its tree.
 #![tactic(auto)]
 
+mod dialects;
 mod limits;
 mod parser;
 mod programs;

@@ -3,15 +3,13 @@
 ghost use Rattle.std.specs.Prelude.{◌≡◌, Result, IfOk, IfErr};
 ghost use Rattle.snesl_values.specs.declared.refusal.Refusal.{Refusal};
 ghost use Rattle.snesl_tree.specs.Tree.{ProgramTree};
-ghost use Rattle.snesl_expressions.specs.Machine.{expressions};
 ghost use Rattle.snesl_grammar.specs.Limits.{greatest_depth};
-ghost use Rattle.snesl_syntax.specs.Programs.{programs};
 ghost use Rattle.snesl_syntax.specs.Answer.{answer};
-ghost use Rattle.snesl_syntax.specs.ProgramMachine.{Finds, FindsOneOf};
+ghost use Rattle.snesl_syntax.specs.DialectMachine.{reader, Finds, FindsOneOf};
 ghost use Rattle.snesl_syntax.specs.Parse.{Answers, Parses, HaveOneAnswer, HaveSomeAnswer, FrontsBeginPrograms, IsOfText, IsRight, Returns};
 
+use crate::dialects::{DialectMachine, Whole};
 use crate::limits::GREATEST_LENGTH;
-use crate::programs::{Parsed, ProgramMachine};
 use snesl_expressions::StepError;
 use snesl_grammar::Program;
 use snesl_lexer::{Token, tokens_of};
@@ -19,10 +17,10 @@ use snesl_values::Refusal;
 use std::alloc::Global;
 
 // The machine's answer for the tokens of a text of so many bytes.
-fn answered(alloc: Global, tokens: &[Token], len: usize) -> Result<Parsed, Refusal>
-    ensures { Finds result (answer (programs expressions) greatest_depth len (programs expressions).start tokens.now) }
+fn answered(alloc: Global, tokens: &[Token], len: usize) -> Result<Whole, Refusal>
+    ensures { Finds result (answer reader greatest_depth len reader.start tokens.now) }
 {
-    let mut machine = ProgramMachine::new(alloc);
+    let mut machine = DialectMachine::Beginning;
     for token in tokens {
         machine = match machine.step(alloc, *token) {
             Ok(machine) => machine,
@@ -32,13 +30,13 @@ fn answered(alloc: Global, tokens: &[Token], len: usize) -> Result<Parsed, Refus
         };
     }
     match machine.finish(alloc)? {
-        Some(parsed) => Ok(parsed),
+        Some(whole) => Ok(whole),
         None => Err(Refusal::Syntax(len)),
     }
 }
 
 // The program that the tokens of a text of so many bytes are, or the refusal.
-fn parse_tokens(alloc: Global, tokens: &[Token], len: usize) -> Result<Parsed, Refusal>
+fn parse_tokens(alloc: Global, tokens: &[Token], len: usize) -> Result<Whole, Refusal>
     ensures { FindsOneOf (Answers greatest_depth len tokens.now) result }
 {
     answered(alloc, tokens, len)
@@ -46,7 +44,8 @@ fn parse_tokens(alloc: Global, tokens: &[Token], len: usize) -> Result<Parsed, R
 
 /// The program that a text is, with a copy of the text.
 ///
-/// A program is declarations, none or more, and then an expression. A declaration is an input,
+/// A program is its dialect, declarations, none or more, and then an expression. The dialect is
+/// `dialect 2;`, for integers of 128 bits, or nothing, for those of 64. A declaration is an input,
 /// `input name : type;`, or a function, `function name(name : type, ..) : type = expression;`, with
 /// one parameter or more.
 ///
@@ -76,9 +75,11 @@ fn parse_tokens(alloc: Global, tokens: &[Token], len: usize) -> Result<Parsed, R
 ///
 /// - `TooLong`: the text has more than 65,536 bytes.
 /// - `Lex`: the offset of the first byte of the text at which no token begins, or an integer over
-///   2^63 - 1 does.
+///   the greatest one of the dialect does: 2^63 - 1, or 2^127 - 1 where `dialect`, 2 and `;` are
+///   the first three tokens.
 /// - `Syntax`: the offset of the first token with which no program within the depth of 64 goes on,
-///   where no deeper one goes on with it either.
+///   where no deeper one goes on with it either. So a first token `dialect` is followed by the
+///   integer 2, and that by `;`, and no other token may be `dialect`.
 /// - `Deep`: a deeper one goes on with that token.
 /// - `Syntax`: the length of the text, where all tokens begin a program within the depth, and are
 ///   none.
@@ -97,12 +98,13 @@ pub fn parse(alloc: Global, text: &[u8]) -> Result<Program, Refusal>
         return Err(Refusal::TooLong);
     }
     let tokens = tokens_of(alloc, text)?;
-    let parsed = parse_tokens(alloc, &tokens, text.len())?;
+    let whole = parse_tokens(alloc, &tokens, text.len())?;
     let copy = Vec::from_slice(alloc, text)?;
     Ok(Program {
         text: copy,
-        declarations: parsed.declarations,
-        expr: parsed.expr,
+        dialect: whole.dialect,
+        declarations: whole.parsed.declarations,
+        expr: whole.parsed.expr,
     })
 }
 

@@ -1,4 +1,4 @@
-// The reader of a program between two tokens, and what a token makes of it.
+// The reader of a program behind its dialect, between two tokens, and what a token makes of it.
 
 ghost use Rattle.std.specs.Prelude.{◌≡◌, Ok, map, IfOk};
 ghost use Rattle.snesl_lexer.specs.declared.token.Kind.TheVariants.{Semicolon};
@@ -9,7 +9,7 @@ ghost use Rattle.snesl_expressions.specs.Parsing.{state_of};
 ghost use Rattle.snesl_grammar.specs.Limits.{greatest_depth};
 ghost use Rattle.snesl_syntax.specs.Programs.{programs, between, awaits_input, awaits_input_colon, awaits_function, awaits_open, awaits_parameter, awaits_parameter_colon, awaits_result, in_type, in_body, in_final, of_input, of_parameter, of_result, carried, type_end, body_end};
 ghost use Rattle.snesl_syntax.specs.TypeMachine.{type_state, Steps};
-ghost use Rattle.snesl_syntax.specs.ProgramMachine.{owner_of, header_of, state_at, program_state, IsThisProgram};
+ghost use Rattle.snesl_syntax.specs.ProgramMachine.{owner_of, header_of, state_at, program_state, IsThisRest};
 
 use crate::types::TypeMachine;
 use snesl_expressions::{Machine, StepError};
@@ -89,14 +89,15 @@ pub enum ProgramPoint {
     Final(Machine),
 }
 
-/// The reader of a program between two tokens, with the declarations that are whole.
+/// The reader of a program behind its dialect, between two tokens, with the declarations that are
+/// whole.
 #[derive(Drop)]
 pub struct ProgramMachine {
     done: Vec<Declaration>,
     point: ProgramPoint,
 }
 
-/// The parts of a program.
+/// The parts of a program behind its dialect.
 #[derive(Drop)]
 pub struct Parsed {
     pub declarations: Vec<Declaration>,
@@ -486,9 +487,9 @@ impl ProgramMachine {
         }
     }
 
-    /// The program that the tokens so far are, where they are one.
+    /// The parts that the tokens so far are, where they are a program's.
     pub fn finish(self, alloc: Global) -> Result<Option<Parsed>, AllocError>
-        ensures { IfOk result (λ found. IsThisProgram found ((programs expressions).finished (program_state self))) }
+        ensures { IfOk result (λ found. IsThisRest found ((programs expressions).finished (program_state self))) }
     {
         let ProgramMachine { done, point } = self;
         match point {

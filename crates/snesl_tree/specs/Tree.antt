@@ -1,5 +1,6 @@
 -- Programs as trees.
 use Rattle.std.specs.Prelude.{ℕ, suc, max, ℤ, Bool, List}
+use Rattle.snesl_values.specs.declared.dialect.Dialect.{Dialect}
 use Rattle.snesl_tree.specs.declared.operator.Builtin.{Builtin}
 use Rattle.snesl_tree.specs.declared.operator.Operator.{Operator}
 use Rattle.snesl_tree.specs.declared.operator.Prefix.{Prefix}
@@ -113,7 +114,8 @@ pub data DeclarationTree : Type 0 where
   declares_input : (declared : Typed) → DeclarationTree
   declares_function : (place : Span) (parameters : List Typed) (result : TypeTree) (body : Tree) → DeclarationTree
 
--- a program: its declarations in order, and its expression
+-- a program: the dialect of its integers, its declarations in order, and its expression
 pub record ProgramTree : Type 0 where
+  pub dialect : Dialect
   pub declarations : List DeclarationTree
   pub expression : Tree

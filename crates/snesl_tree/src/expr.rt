@@ -16,7 +16,7 @@ use crate::span::Span;
 pub enum Expr {
     Integer {
         at: usize,
-        value: i64,
+        value: i128,
     },
     /// `true` or `false`.
     Truth {

@@ -1,13 +1,13 @@
 use Rattle.std.proofs.Common.{ℕ, ◌-◌, ◌≤◌, List, ◌++◌, drop, length}
 use Rattle.snesl_lexer.specs.declared.token.Token.{Token}
 use Rattle.snesl_lexer.specs.Lexical.{Tokens, BadAt}
-use Rattle.snesl_lexer.proofs.lexer.tokens_of.Given as goal
+use Rattle.snesl_lexer.proofs.lexer.tokens_in.Given as goal
 
 abbrev pub invariant-loop-at : goal.invariant-loop-at
 invariant-loop-at l = record {
   below : l.at ≤ length l.text;
-  found : (ts : List Token) → Tokens l.at (drop l.at l.text) ts → Tokens 0 l.text (l.tokens.items ++ ts);
-  bad : (n : ℕ) → BadAt l.at (drop l.at l.text) n → BadAt 0 l.text n;
+  found : (ts : List Token) → Tokens l.fn.dialect l.at (drop l.at l.text) ts → Tokens l.fn.dialect 0 l.text (l.tokens.items ++ ts);
+  bad : (n : ℕ) → BadAt l.fn.dialect l.at (drop l.at l.text) n → BadAt l.fn.dialect 0 l.text n;
 }
 
 abbrev pub decreases-loop-at : goal.decreases-loop-at

@@ -1,0 +1,45 @@
+-- The states that the reader of whole programs is in, and what its functions return.
+use Rattle.std.specs.Prelude.{◌≡◌, Option, Some, None, Result, Ok, Err}
+use Rattle.snesl_values.specs.declared.refusal.Refusal.{Refusal}
+use Rattle.snesl_values.specs.declared.refusal.Refusal.TheVariants as refusals
+use Rattle.snesl_tree.specs.Tree.{ProgramTree}
+use Rattle.snesl_expressions.specs.Readers.{Reader}
+use Rattle.snesl_expressions.specs.Machine.{State, expressions}
+use Rattle.snesl_syntax.specs.declared.dialects.DialectMachine.{DialectMachine}
+use Rattle.snesl_syntax.specs.declared.dialects.DialectMachine.TheVariants as points
+use Rattle.snesl_syntax.specs.declared.dialects.Whole.{Whole}
+use Rattle.snesl_syntax.specs.Programs.{ProgramState, programs}
+use Rattle.snesl_syntax.specs.ProgramMachine.{program_state, parsed_rest}
+use Rattle.snesl_syntax.specs.Dialects.{DialectState, beginning, awaits_number, awaits_semicolon, in_rest, program_in, whole_programs}
+
+-- how a text's tokens are read
+abbrev pub reader : Reader (DialectState (ProgramState State)) ProgramTree
+reader = whole_programs (programs expressions)
+
+-- the state that a machine is in
+abbrev pub dialect_state : DialectMachine → DialectState (ProgramState State)
+dialect_state points.Beginning = beginning
+dialect_state points.Number = awaits_number
+dialect_state points.Semicolon = awaits_semicolon
+dialect_state (points.Rest dialect machine) = in_rest dialect (program_state machine)
+
+-- the program with these parts
+abbrev pub whole_program : Whole → ProgramTree
+whole_program whole = program_in whole.dialect (parsed_rest whole.parsed)
+
+-- what was found is this program
+abbrev pub IsThisProgram : Option Whole → Option ProgramTree → Type 0
+IsThisProgram (Some whole) program = program ≡ Some (whole_program whole)
+IsThisProgram None program = program ≡ None
+
+-- the program or the refusal is this answer, unless memory ran out
+abbrev pub Finds : Result Whole Refusal → Result ProgramTree Refusal → Type 0
+Finds (Ok whole) answer = answer ≡ Ok (whole_program whole)
+Finds (Err refusals.NoMemory) answer = Unit {0}
+Finds (Err refusal) answer = answer ≡ Err refusal
+
+-- the program or the refusal is one of the answers, unless memory ran out
+abbrev pub FindsOneOf : (Result ProgramTree Refusal → Type 0) → Result Whole Refusal → Type 0
+FindsOneOf Answer (Ok whole) = Answer (Ok (whole_program whole))
+FindsOneOf Answer (Err refusals.NoMemory) = Unit {0}
+FindsOneOf Answer (Err refusal) = Answer (Err refusal)
