@@ -1,6 +1,7 @@
 -- Derived forms have the answers of what they mean.
-use Rattle.std.proofs.Common.{◌≡◌, ℕ, Bool, true, false, List, [], ◌∷◌, ◌++◌, Some, if◌then◌else◌, refl, sym, ap, ◌∙◌}
+use Rattle.std.proofs.Common.{◌≡◌, ℕ, true, false, List, [], ◌∷◌, ◌++◌, Some, if◌then◌else◌, refl, sym, ap, ◌∙◌}
 use Rattle.std.proofs.lemmas.Slice.Eq.{bytes_eq-Decides}
+use Rattle.snesl_values.specs.declared.dialect.Dialect.{Dialect}
 use Rattle.snesl_values.specs.declared.fault.FaultKind.TheVariants.{Shape}
 use Rattle.snesl_values.specs.Inputs.{Environment, value_in}
 use Rattle.snesl_values.specs.Values.{Value, an_int, a_bool, a_pair, a_vec, a_seq}
@@ -32,36 +33,36 @@ join_each at f g h (row ∷ rows) =
         ap (λ answer. go answer (λ zs. gives (ys ++ zs))) e
         ∙ sym (ap (λ answer. go answer (λ xs. go (go_join (items_at at) vs) (λ zs. gives (xs ++ zs)))) (seq_items at ys))
 
-concat_each : (at : ℕ) (answer : Answer (List Value)) → seq_answer (go answer (go_join (items_at at))) ≡ go (go (seq_answer answer) (λ v. gives (v ∷ []))) (applied at Concat)
-concat_each at (faults kind place) = refl
-concat_each at (gives vs) = sym (ap (λ answer. go answer (λ ws. seq_answer (go_join (items_at at) ws))) (seq_items at vs))
+concat_each : (dialect : Dialect) (at : ℕ) (answer : Answer (List Value)) → seq_answer (go answer (go_join (items_at at))) ≡ go (go (seq_answer answer) (λ v. gives (v ∷ []))) (applied dialect at Concat)
+concat_each dialect at (faults kind place) = refl
+concat_each dialect at (gives vs) = sym (ap (λ answer. go answer (λ ws. seq_answer (go_join (items_at at) ws))) (seq_items at vs))
 
 pub condition_meaning : ConditionMeaning
-condition_meaning at item condition binders text calls environment = by_columns (eval_binders binders text calls environment)
+condition_meaning at item condition binders dialect text calls environment = by_columns (eval_binders dialect binders text calls environment)
   where
     f : Environment → Answer (List Value)
-    f row = go (eval condition text calls (row ++ environment)) (λ v. go (truth_at at v) (λ b. kept b (eval item text calls (row ++ environment))))
+    f row = go (eval dialect condition text calls (row ++ environment)) (λ v. go (truth_at at v) (λ b. kept b (eval dialect item text calls (row ++ environment))))
 
     g : Environment → Answer Value
-    g row = go (eval condition text calls (row ++ environment)) (λ v. go (truth_at at v) (λ b. seq_answer (kept b (eval item text calls (row ++ environment)))))
+    g row = go (eval dialect condition text calls (row ++ environment)) (λ v. go (truth_at at v) (λ b. seq_answer (kept b (eval dialect item text calls (row ++ environment)))))
 
     same : (row : Environment) → g row ≡ seq_answer (f row)
-    same row = filter_seen (eval condition text calls (row ++ environment)) (truth_at at) (λ b. kept b (eval item text calls (row ++ environment)))
+    same row = filter_seen (eval dialect condition text calls (row ++ environment)) (truth_at at) (λ b. kept b (eval dialect item text calls (row ++ environment)))
 
-    by_rows : (rows : Answer (List Environment)) → go rows (λ rows. seq_answer (go_join f rows)) ≡ go (go (go rows (λ rows. seq_answer (go_all g rows))) (λ v. gives (v ∷ []))) (applied at Concat)
+    by_rows : (rows : Answer (List Environment)) → go rows (λ rows. seq_answer (go_join f rows)) ≡ go (go (go rows (λ rows. seq_answer (go_all g rows))) (λ v. gives (v ∷ []))) (applied dialect at Concat)
     by_rows (faults kind place) = refl
-    by_rows (gives rows) = ap seq_answer (join_each at f g same rows) ∙ concat_each at (go_all g rows)
+    by_rows (gives rows) = ap seq_answer (join_each at f g same rows) ∙ concat_each dialect at (go_all g rows)
 
     by_columns : (columns : Answer Columns) → go columns (λ columns. go (in_step at columns) (λ rows. seq_answer (go_join f rows)))
-        ≡ go (go (go columns (λ columns. go (in_step at columns) (λ rows. seq_answer (go_all g rows)))) (λ v. gives (v ∷ []))) (applied at Concat)
+        ≡ go (go (go columns (λ columns. go (in_step at columns) (λ rows. seq_answer (go_all g rows)))) (λ v. gives (v ∷ []))) (applied dialect at Concat)
     by_columns (faults kind place) = refl
     by_columns (gives columns) = by_rows (in_step at columns)
 
 pub one_item_meaning : OneItemMeaning
-one_item_meaning at item text calls environment = refl
+one_item_meaning at item dialect text calls environment = refl
 
 pub literal_meaning : LiteralMeaning
-literal_meaning at item others text calls environment = by_item (eval item text calls environment) (eval_all others text calls environment)
+literal_meaning at item others dialect text calls environment = by_item (eval dialect item text calls environment) (eval_all dialect others text calls environment)
   where
     by_item : (first : Answer Value) (rest : Answer (List Value)) → seq_answer (go first (λ v. go rest (λ vs. gives (v ∷ vs)))) ≡ go (seq_answer (kept true first)) (λ v. go (seq_answer rest) (λ w. append_answer at v w))
     by_item (faults kind place) rest = refl
@@ -69,32 +70,32 @@ literal_meaning at item others text calls environment = by_item (eval item text 
     by_item (gives v) (gives vs) = sym (ap (λ answer. go answer (λ ws. gives (sequence (v ∷ ws)))) (seq_items at vs))
 
 -- what the form that `if` stands for gives, by the answers of t, of e and of f
-abbrev through : ℕ → Answer Value → Answer Value → Answer Value → Answer Value
-through at t e f =
+abbrev through : Dialect → ℕ → Answer Value → Answer Value → Answer Value → Answer Value
+through dialect at t e f =
     go (go (go (go t (λ w. go (truth_at at w) (λ b. seq_answer (kept b e)))) (λ x.
-    go (go (go t (prefix_answer at Not)) (λ w. go (truth_at at w) (λ b. seq_answer (kept b f)))) (λ y. append_answer at x y))) (λ z. gives (z ∷ []))) (applied at The)
+    go (go (go t (prefix_answer dialect at Not)) (λ w. go (truth_at at w) (λ b. seq_answer (kept b f)))) (λ y. append_answer at x y))) (λ z. gives (z ∷ []))) (applied dialect at The)
 
-chosen : (at : ℕ) (v : Value) (e f : Answer Value) → go (truth_at at v) (λ b. if b then e else f) ≡ through at (gives v) e f
-chosen at (a_bool true) (gives w) f = refl
-chosen at (a_bool true) (faults kind place) f = refl
-chosen at (a_bool false) e (gives w) = refl
-chosen at (a_bool false) e (faults kind place) = refl
-chosen at (an_int n) e f = refl
-chosen at (a_pair v w) e f = refl
-chosen at (a_vec vs) e f = refl
-chosen at (a_seq vs) e f = refl
+chosen : (dialect : Dialect) (at : ℕ) (v : Value) (e f : Answer Value) → go (truth_at at v) (λ b. if b then e else f) ≡ through dialect at (gives v) e f
+chosen dialect at (a_bool true) (gives w) f = refl
+chosen dialect at (a_bool true) (faults kind place) f = refl
+chosen dialect at (a_bool false) e (gives w) = refl
+chosen dialect at (a_bool false) e (faults kind place) = refl
+chosen dialect at (an_int n) e f = refl
+chosen dialect at (a_pair v w) e f = refl
+chosen dialect at (a_vec vs) e f = refl
+chosen dialect at (a_seq vs) e f = refl
 
 named_here : (at : ℕ) (bytes : List ℕ) (v : Value) (environment : Environment) → named at bytes ((bytes, v) ∷ environment) ≡ gives v
 named_here at bytes v environment = ap (λ b. or_fault Shape at (if b then Some v else value_in bytes environment)) ((bytes_eq-Decides bytes bytes).1 refl)
 
 pub choice_meaning : ChoiceMeaning
-choice_meaning at t condition positive negative apart other text calls environment = by_value (eval condition text calls environment)
+choice_meaning at t condition positive negative apart other dialect text calls environment = by_value (eval dialect condition text calls environment)
   where
-    by_value : (answer : Answer Value) → go answer (λ v. go (truth_at at v) (λ b. if b then eval positive text calls environment else eval negative text calls environment))
-        ≡ go answer (λ v. through at (named t.at (spelling text t) ((spelling text t, v) ∷ environment)) (eval positive text calls ((spelling text t, v) ∷ environment)) (eval negative text calls ((spelling text t, v) ∷ environment)))
+    by_value : (answer : Answer Value) → go answer (λ v. go (truth_at at v) (λ b. if b then eval dialect positive text calls environment else eval dialect negative text calls environment))
+        ≡ go answer (λ v. through dialect at (named t.at (spelling text t) ((spelling text t, v) ∷ environment)) (eval dialect positive text calls ((spelling text t, v) ∷ environment)) (eval dialect negative text calls ((spelling text t, v) ∷ environment)))
     by_value (faults kind place) = refl
     by_value (gives v) =
-        chosen at v (eval positive text calls environment) (eval negative text calls environment)
-        ∙ ap (λ x. through at (gives v) x (eval negative text calls environment)) (sym (apart text calls environment v))
-        ∙ ap (λ x. through at (gives v) (eval positive text calls ((spelling text t, v) ∷ environment)) x) (sym (other text calls environment v))
-        ∙ ap (λ x. through at x (eval positive text calls ((spelling text t, v) ∷ environment)) (eval negative text calls ((spelling text t, v) ∷ environment))) (sym (named_here t.at (spelling text t) v environment))
+        chosen dialect at v (eval dialect positive text calls environment) (eval dialect negative text calls environment)
+        ∙ ap (λ x. through dialect at (gives v) x (eval dialect negative text calls environment)) (sym (apart dialect text calls environment v))
+        ∙ ap (λ x. through dialect at (gives v) (eval dialect positive text calls ((spelling text t, v) ∷ environment)) x) (sym (other dialect text calls environment v))
+        ∙ ap (λ x. through dialect at x (eval dialect positive text calls ((spelling text t, v) ∷ environment)) (eval dialect negative text calls ((spelling text t, v) ∷ environment))) (sym (named_here t.at (spelling text t) v environment))

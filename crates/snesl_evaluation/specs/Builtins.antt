@@ -1,6 +1,7 @@
 -- What operators and built-in functions give at values.
 use Rattle.std.specs.Prelude.{ℕ, List, [], ◌∷◌, ◌++◌, map, length, slice_get, ℤ, pos, negsuc, Bool, true, false, Result}
 use Rattle.std.specs.List.{range_with_len}
+use Rattle.snesl_values.specs.declared.dialect.Dialect.{Dialect}
 use Rattle.snesl_values.specs.declared.fault.FaultKind.{FaultKind}
 use Rattle.snesl_values.specs.declared.fault.FaultKind.TheVariants.{NegativeCount, Part as PartFault, The as TheFault, Index as IndexFault, Shape}
 use Rattle.snesl_values.specs.Values.{Value, an_int, a_bool, a_pair, a_vec, a_seq, list_of, values_of}
@@ -65,20 +66,6 @@ scalar_value (Truth b) = a_bool b
 abbrev pub scalar_answer : ℕ → Result Scalar FaultKind → Answer Value
 scalar_answer at r = go (answer_at at r) (λ x. gives (scalar_value x))
 
--- the operators on scalars
-
-abbrev pub unary_answer : ℕ → UnaryOperator → Value → Answer Value
-unary_answer at operator v = go (scalar_at at v) (λ x. scalar_answer at (unary_value operator x))
-
-abbrev pub scalars_answer : ℕ → BinaryOperator → Value → Value → Answer Value
-scalars_answer at operator v w = go (scalar_at at v) (λ x. go (scalar_at at w) (λ y. scalar_answer at (binary_value operator x y)))
-
--- `==` of two integers, or of two truth values
-abbrev pub equal_answer : ℕ → Value → Value → Answer Value
-equal_answer at (an_int n) w = scalars_answer at binary.EqualIntegers (an_int n) w
-equal_answer at (a_bool b) w = scalars_answer at binary.EqualTruths (a_bool b) w
-equal_answer at _ _ = faults Shape at
-
 -- one sequence followed by another
 abbrev pub append_answer : ℕ → Value → Value → Answer Value
 append_answer at v w = go (items_at at v) (λ vs. go (items_at at w) (λ ws. gives (sequence (vs ++ ws))))
@@ -88,27 +75,41 @@ abbrev pub item_answer : ℕ → List Value → ℤ → Answer Value
 item_answer at vs (pos i) = or_fault IndexFault at (slice_get vs i)
 item_answer at vs (negsuc i) = faults IndexFault at
 
--- an operator before its operand
-abbrev pub prefix_answer : ℕ → Prefix → Value → Answer Value
-prefix_answer at Negate v = unary_answer at unary.Negate v
-prefix_answer at Not v = unary_answer at unary.Not v
+-- the operators, in a dialect
+module _ (dialect : Dialect) where
+  abbrev pub unary_answer : ℕ → UnaryOperator → Value → Answer Value
+  unary_answer at operator v = go (scalar_at at v) (λ x. scalar_answer at (unary_value dialect operator x))
 
--- an operator between its operands
-abbrev pub binary_answer : ℕ → Operator → Value → Value → Answer Value
-binary_answer at Or v w = scalars_answer at binary.Or v w
-binary_answer at And v w = scalars_answer at binary.And v w
-binary_answer at Equal v w = equal_answer at v w
-binary_answer at Less v w = scalars_answer at binary.Less v w
-binary_answer at AtMost v w = scalars_answer at binary.AtMost v w
-binary_answer at Greater v w = scalars_answer at binary.Greater v w
-binary_answer at AtLeast v w = scalars_answer at binary.AtLeast v w
-binary_answer at Append v w = append_answer at v w
-binary_answer at Add v w = scalars_answer at binary.Add v w
-binary_answer at Subtract v w = scalars_answer at binary.Subtract v w
-binary_answer at Multiply v w = scalars_answer at binary.Multiply v w
-binary_answer at Divide v w = scalars_answer at binary.Divide v w
-binary_answer at Remainder v w = scalars_answer at binary.Remainder v w
-binary_answer at Index v w = go (elements_at at v) (λ vs. go (int_at at w) (item_answer at vs))
+  abbrev pub scalars_answer : ℕ → BinaryOperator → Value → Value → Answer Value
+  scalars_answer at operator v w = go (scalar_at at v) (λ x. go (scalar_at at w) (λ y. scalar_answer at (binary_value dialect operator x y)))
+
+  -- `==` of two integers, or of two truth values
+  abbrev pub equal_answer : ℕ → Value → Value → Answer Value
+  equal_answer at (an_int n) w = scalars_answer at binary.EqualIntegers (an_int n) w
+  equal_answer at (a_bool b) w = scalars_answer at binary.EqualTruths (a_bool b) w
+  equal_answer at _ _ = faults Shape at
+
+  -- an operator before its operand
+  abbrev pub prefix_answer : ℕ → Prefix → Value → Answer Value
+  prefix_answer at Negate v = unary_answer at unary.Negate v
+  prefix_answer at Not v = unary_answer at unary.Not v
+
+  -- an operator between its operands
+  abbrev pub binary_answer : ℕ → Operator → Value → Value → Answer Value
+  binary_answer at Or v w = scalars_answer at binary.Or v w
+  binary_answer at And v w = scalars_answer at binary.And v w
+  binary_answer at Equal v w = equal_answer at v w
+  binary_answer at Less v w = scalars_answer at binary.Less v w
+  binary_answer at AtMost v w = scalars_answer at binary.AtMost v w
+  binary_answer at Greater v w = scalars_answer at binary.Greater v w
+  binary_answer at AtLeast v w = scalars_answer at binary.AtLeast v w
+  binary_answer at Append v w = append_answer at v w
+  binary_answer at Add v w = scalars_answer at binary.Add v w
+  binary_answer at Subtract v w = scalars_answer at binary.Subtract v w
+  binary_answer at Multiply v w = scalars_answer at binary.Multiply v w
+  binary_answer at Divide v w = scalars_answer at binary.Divide v w
+  binary_answer at Remainder v w = scalars_answer at binary.Remainder v w
+  binary_answer at Index v w = go (elements_at at v) (λ vs. go (int_at at w) (item_answer at vs))
 
 -- the built-in functions
 
@@ -122,12 +123,12 @@ iota_answer at (pos n) = gives (sequence (numbers_below n))
 iota_answer at (negsuc n) = faults NegativeCount at
 
 -- what the items of a sequence reduce to
-abbrev pub reduce_answer : ℕ → Reduction → Value → Answer Value
-reduce_answer at reduction v = go (each_at scalar_at at v) (λ xs. scalar_answer at (reduced reduction xs))
+abbrev pub reduce_answer : Dialect → ℕ → Reduction → Value → Answer Value
+reduce_answer dialect at reduction v = go (each_at scalar_at at v) (λ xs. scalar_answer at (reduced dialect reduction xs))
 
 -- at each item of a sequence the sum of those before it
-abbrev pub scan_answer : ℕ → Value → Answer Value
-scan_answer at v = go (each_at int_at at v) (λ ns. go (answer_at at (scanned ns)) (λ sums. gives (sequence (map an_int sums))))
+abbrev pub scan_answer : Dialect → ℕ → Value → Answer Value
+scan_answer dialect at v = go (each_at int_at at v) (λ ns. go (answer_at at (scanned dialect ns)) (λ sums. gives (sequence (map an_int sums))))
 
 -- an item before those of the first part; there must be a part
 abbrev pub into_first : ℕ → Value → List (List Value) → Answer (List (List Value))
@@ -151,19 +152,19 @@ the_answer at (v ∷ []) = gives v
 the_answer at _ = faults TheFault at
 
 -- a built-in at its arguments
-abbrev pub applied : ℕ → Builtin → List Value → Answer Value
-applied at Iota (v ∷ []) = go (int_at at v) (iota_answer at)
-applied at ScanAdd (v ∷ []) = scan_answer at v
-applied at ReduceAdd (v ∷ []) = reduce_answer at Sum v
-applied at ReduceMax (v ∷ []) = reduce_answer at Max v
-applied at ReduceAnd (v ∷ []) = reduce_answer at All v
-applied at ReduceOr (v ∷ []) = reduce_answer at Any v
-applied at Length (v ∷ []) = go (items_at at v) (λ vs. go (answer_at at (ranged (pos (length vs)))) (λ n. gives (an_int n)))
-applied at Concat (v ∷ []) = go (items_at at v) (λ vs. seq_answer (go_join (items_at at) vs))
-applied at Part (v ∷ w ∷ []) = part_answer at v w
-applied at The (v ∷ []) = go (items_at at v) (the_answer at)
-applied at Tab (v ∷ []) = go (items_at at v) (λ vs. gives (a_vec (values_of vs)))
-applied at Seq (v ∷ []) = go (elements_at at v) (λ vs. gives (sequence vs))
-applied at Fst (a_pair v w ∷ []) = gives v
-applied at Snd (a_pair v w ∷ []) = gives w
-applied at _ _ = faults Shape at
+abbrev pub applied : Dialect → ℕ → Builtin → List Value → Answer Value
+applied dialect at Iota (v ∷ []) = go (int_at at v) (iota_answer at)
+applied dialect at ScanAdd (v ∷ []) = scan_answer dialect at v
+applied dialect at ReduceAdd (v ∷ []) = reduce_answer dialect at Sum v
+applied dialect at ReduceMax (v ∷ []) = reduce_answer dialect at Max v
+applied dialect at ReduceAnd (v ∷ []) = reduce_answer dialect at All v
+applied dialect at ReduceOr (v ∷ []) = reduce_answer dialect at Any v
+applied dialect at Length (v ∷ []) = go (items_at at v) (λ vs. go (answer_at at (ranged dialect (pos (length vs)))) (λ n. gives (an_int n)))
+applied dialect at Concat (v ∷ []) = go (items_at at v) (λ vs. seq_answer (go_join (items_at at) vs))
+applied dialect at Part (v ∷ w ∷ []) = part_answer at v w
+applied dialect at The (v ∷ []) = go (items_at at v) (the_answer at)
+applied dialect at Tab (v ∷ []) = go (items_at at v) (λ vs. gives (a_vec (values_of vs)))
+applied dialect at Seq (v ∷ []) = go (elements_at at v) (λ vs. gives (sequence vs))
+applied dialect at Fst (a_pair v w ∷ []) = gives v
+applied dialect at Snd (a_pair v w ∷ []) = gives w
+applied dialect at _ _ = faults Shape at

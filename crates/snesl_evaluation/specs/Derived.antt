@@ -1,5 +1,6 @@
 -- What derived forms mean.
 use Rattle.std.specs.Prelude.{◌≡◌, ℕ, List, ◌∷◌, true}
+use Rattle.snesl_values.specs.declared.dialect.Dialect.{Dialect}
 use Rattle.snesl_values.specs.Inputs.{Environment}
 use Rattle.snesl_values.specs.Values.{Value}
 use Rattle.snesl_tree.specs.declared.operator.Builtin.TheVariants.{Concat, The}
@@ -12,11 +13,11 @@ use Rattle.snesl_evaluation.specs.Eval.{Calls, eval}
 
 -- two expressions that have one answer wherever they stand
 abbrev pub MeanTheSame : Tree → Tree → Type 0
-MeanTheSame one other = (text : List ℕ) (calls : Calls) (environment : Environment) → eval one text calls environment ≡ eval other text calls environment
+MeanTheSame one other = (dialect : Dialect) (text : List ℕ) (calls : Calls) (environment : Environment) → eval dialect one text calls environment ≡ eval dialect other text calls environment
 
 -- an expression whose answer no value of this name changes
 abbrev pub IsUnused : Span → Tree → Type 0
-IsUnused place tree = (text : List ℕ) (calls : Calls) (environment : Environment) (v : Value) → eval tree text calls ((spelling text place, v) ∷ environment) ≡ eval tree text calls environment
+IsUnused place tree = (dialect : Dialect) (text : List ℕ) (calls : Calls) (environment : Environment) (v : Value) → eval dialect tree text calls ((spelling text place, v) ∷ environment) ≡ eval dialect tree text calls environment
 
 -- `{e : .. | b}` means `concat({ {e | b} : .. })`
 abbrev pub ConditionMeaning : Type 0

@@ -1,6 +1,7 @@
 -- What names and calls mean where the evaluator stands.
 use Rattle.std.specs.Prelude.{◌≡◌, ℕ, suc, ◌+◌, ◌==◌, Bool, List, [], ◌∷◌, ◌++◌, map, length, zip, filter_map, option_map, slice_get}
 use Rattle.std.specs.List.{list_all}
+use Rattle.snesl_values.specs.declared.dialect.Dialect.{Dialect}
 use Rattle.snesl_values.specs.declared.fault.FaultKind.TheVariants.{Shape}
 use Rattle.snesl_values.specs.Inputs.{Environment, environment_of}
 use Rattle.snesl_values.specs.Values.{Value, value_of}
@@ -41,24 +42,24 @@ environment_in text (Row' columns index p outer) = row_at index (map (column_of 
 
 -- the calls of the functions that may be called
 abbrev pub calls_in : Setting → Calls
-calls_in setting = calls_of setting.text.now (map declaration_of setting.functions.now)
+calls_in setting = calls_of setting.dialect setting.text.now (map declaration_of setting.functions.now)
 
 -- the answer of an expression there
 abbrev pub eval_in : Setting → Scope → Tree → Answer Value
-eval_in setting scope tree = eval tree setting.text.now (calls_in setting) (environment_in setting.text.now scope)
+eval_in setting scope tree = eval setting.dialect tree setting.text.now (calls_in setting) (environment_in setting.text.now scope)
 
 -- the answers of expressions there, of binders, and of an item under a condition
 abbrev pub all_in : Setting → Scope → Trees → Answer (List Value)
-all_in setting scope trees = eval_all trees setting.text.now (calls_in setting) (environment_in setting.text.now scope)
+all_in setting scope trees = eval_all setting.dialect trees setting.text.now (calls_in setting) (environment_in setting.text.now scope)
 
 abbrev pub binders_in : Setting → Scope → Binders → Answer Columns
-binders_in setting scope binders = eval_binders binders setting.text.now (calls_in setting) (environment_in setting.text.now scope)
+binders_in setting scope binders = eval_binders setting.dialect binders setting.text.now (calls_in setting) (environment_in setting.text.now scope)
 
 -- an item where its condition is true, with these entries before the names there
 abbrev pub kept_at : Setting → Environment → ℕ → Tree → Tree → Answer (List Value)
 kept_at setting environment at item condition =
-    go (eval condition setting.text.now (calls_in setting) environment) (λ v.
-    go (truth_at at v) (λ b. kept b (eval item setting.text.now (calls_in setting) environment)))
+    go (eval setting.dialect condition setting.text.now (calls_in setting) environment) (λ v.
+    go (truth_at at v) (λ b. kept b (eval setting.dialect item setting.text.now (calls_in setting) environment)))
 
 abbrev pub kept_in : Setting → Scope → ℕ → Tree → Tree → Answer (List Value)
 kept_in setting scope at item condition = kept_at setting (environment_in setting.text.now scope) at item condition
@@ -66,7 +67,7 @@ kept_in setting scope at item condition = kept_at setting (environment_in settin
 -- the values of a comprehension's body at rows before the names there
 abbrev pub each_in : Setting → Scope → Tree → List Environment → Answer (List Value)
 each_in setting scope body rows =
-    go_all (λ row. eval body setting.text.now (calls_in setting) (row ++ environment_in setting.text.now scope)) rows
+    go_all (λ row. eval setting.dialect body setting.text.now (calls_in setting) (row ++ environment_in setting.text.now scope)) rows
 
 -- and at those rows where the condition is true
 abbrev pub where_in : Setting → Scope → ℕ → Tree → Tree → List Environment → Answer (List Value)
@@ -83,19 +84,20 @@ abbrev pub are_level : ℕ → List Column → Bool
 are_level n columns = list_all (λ column. length column.items.items == n) columns
 
 -- the answer of a function behind these declarations
-abbrev pub entered : List ℕ → ℕ → Function → List Declaration → List Value → Answer Value
-entered text at function earlier values =
-    function_answer at text (calls_of text (map declaration_of earlier)) (map typed_of function.parameters.items) (tree_of function.body) values
+abbrev pub entered : Dialect → List ℕ → ℕ → Function → List Declaration → List Value → Answer Value
+entered dialect text at function earlier values =
+    function_answer dialect at text (calls_of dialect text (map declaration_of earlier)) (map typed_of function.parameters.items) (tree_of function.body) values
 
--- calls of this name are calls of this function, which stands behind these declarations
+-- calls of this name are, in each dialect, calls of this function, which stands behind these declarations
 abbrev pub IsCalled : List ℕ → List Declaration → List ℕ → Function → List Declaration → Type 0
 IsCalled text declarations name function earlier =
-    (at : ℕ) (values : List Value) → calls_of text (map declaration_of declarations) at name values ≡ entered text at function earlier values
+    (dialect : Dialect) (at : ℕ) (values : List Value)
+    → calls_of dialect text (map declaration_of declarations) at name values ≡ entered dialect text at function earlier values
 
 -- calls of this name have no function
 abbrev pub IsUnknown : List ℕ → List Declaration → List ℕ → Type 0
 IsUnknown text declarations name =
-    (at : ℕ) (values : List Value) → calls_of text (map declaration_of declarations) at name values ≡ faults Shape at
+    (dialect : Dialect) (at : ℕ) (values : List Value) → calls_of dialect text (map declaration_of declarations) at name values ≡ faults Shape at
 
 -- more than the depth of the function's body
 abbrev pub weight_of : Function → ℕ

@@ -1,9 +1,11 @@
 // Built-in functions at data.
 
 ghost use Rattle.std.specs.Prelude.{◌∷◌, [], map};
-ghost use Rattle.snesl_values.specs.Values.{value_of};
+ghost use Rattle.snesl_values.specs.declared.dialect.Dialect.{Dialect};
+ghost use Rattle.snesl_values.specs.Values.{a_vec, value_of, values_of};
 ghost use Rattle.snesl_tree.specs.declared.operator.Builtin.TheVariants as builtin;
-ghost use Rattle.snesl_evaluation.specs.Builtins.{applied, part_answer, reduce_answer, scan_answer};
+ghost use Rattle.snesl_evaluation.specs.Answer.{gives, go, go_join};
+ghost use Rattle.snesl_evaluation.specs.Builtins.{applied, elements_at, int_at, iota_answer, items_at, part_answer, reduce_answer, scan_answer, seq_answer, sequence, the_answer};
 ghost use Rattle.snesl_evaluation.specs.Results.{Answers};
 
 use crate::halt::{Halt, fault};
@@ -14,27 +16,28 @@ use crate::sequences::{
 };
 use snesl_operators::Reduction;
 use snesl_tree::Builtin;
-use snesl_values::{Datum, FaultKind, copy_datum};
+use snesl_values::{Datum, Dialect, FaultKind, copy_datum};
 use std::alloc::Global;
 
 // A built-in at its arguments.
 #[inline(never)]
 pub fn apply(
+    dialect: Dialect,
     alloc: Global,
     at: usize,
     function: Builtin,
     arguments: &[Datum],
 ) -> Result<Datum, Halt>
-    ensures { Answers value_of result (applied at function (map value_of arguments.now)) }
+    ensures { Answers value_of result (applied dialect at function (map value_of arguments.now)) }
 {
     match (function, arguments) {
         (Builtin::Iota, [count]) => iota(alloc, at, count),
-        (Builtin::ScanAdd, [sequence]) => scan(alloc, at, sequence),
-        (Builtin::ReduceAdd, [sequence]) => reduction(alloc, at, Reduction::Sum, sequence),
-        (Builtin::ReduceMax, [sequence]) => reduction(alloc, at, Reduction::Max, sequence),
-        (Builtin::ReduceAnd, [sequence]) => reduction(alloc, at, Reduction::All, sequence),
-        (Builtin::ReduceOr, [sequence]) => reduction(alloc, at, Reduction::Any, sequence),
-        (Builtin::Length, [sequence]) => length(at, sequence),
+        (Builtin::ScanAdd, [sequence]) => scan(dialect, alloc, at, sequence),
+        (Builtin::ReduceAdd, [sequence]) => reduction(dialect, alloc, at, Reduction::Sum, sequence),
+        (Builtin::ReduceMax, [sequence]) => reduction(dialect, alloc, at, Reduction::Max, sequence),
+        (Builtin::ReduceAnd, [sequence]) => reduction(dialect, alloc, at, Reduction::All, sequence),
+        (Builtin::ReduceOr, [sequence]) => reduction(dialect, alloc, at, Reduction::Any, sequence),
+        (Builtin::Length, [sequence]) => length(dialect, at, sequence),
         (Builtin::Concat, [sequence]) => concat(alloc, at, sequence),
         (Builtin::Part, [sequence, flags]) => part(alloc, at, sequence, flags),
         (Builtin::The, [sequence]) => the(alloc, at, sequence),
@@ -46,50 +49,57 @@ pub fn apply(
     }
 }
 
+// A count that no machine's memory has room for is refused at once.
 fn iota(alloc: Global, at: usize, count: &Datum) -> Result<Datum, Halt>
-    ensures { Answers value_of result (applied at builtin.Iota (value_of count.now ∷ [])) }
+    ensures { Answers value_of result (go (int_at at (value_of count.now)) (iota_answer at)) }
 {
     let n = integer(at, count)?;
     if n < 0 {
         return Err(fault(FaultKind::NegativeCount, at));
     }
-    Ok(sequence_of(count_up(alloc, n as u64)?))
+    match usize::try_from(n) {
+        Ok(n) => Ok(sequence_of(count_up(alloc, n)?)),
+        Err(_) => Err(Halt::NoMemory),
+    }
 }
 
-fn scan(alloc: Global, at: usize, sequence: &Datum) -> Result<Datum, Halt>
-    ensures { Answers value_of result (scan_answer at (value_of sequence.now)) }
+fn scan(dialect: Dialect, alloc: Global, at: usize, sequence: &Datum) -> Result<Datum, Halt>
+    ensures { Answers value_of result (scan_answer dialect at (value_of sequence.now)) }
 {
     let all = items(at, sequence)?;
     let numbers = integers(alloc, at, all)?;
-    let sums = scan_add(alloc, at, &numbers)?;
+    let sums = scan_add(dialect, alloc, at, &numbers)?;
     Ok(sequence_of(sums))
 }
 
 fn reduction(
+    dialect: Dialect,
     alloc: Global,
     at: usize,
     reduction: Reduction,
     sequence: &Datum,
 ) -> Result<Datum, Halt>
-    ensures { Answers value_of result (reduce_answer at reduction (value_of sequence.now)) }
+    ensures { Answers value_of result (reduce_answer dialect at reduction (value_of sequence.now)) }
 {
     let all = items(at, sequence)?;
     let read = scalars(alloc, at, all)?;
-    scalar_result(at, reduce(reduction, &read))
+    scalar_result(at, reduce(dialect, reduction, &read))
 }
 
-fn length(at: usize, sequence: &Datum) -> Result<Datum, Halt>
-    ensures { Answers value_of result (applied at builtin.Length (value_of sequence.now ∷ [])) }
+fn length(dialect: Dialect, at: usize, sequence: &Datum) -> Result<Datum, Halt>
+    ensures { Answers value_of result (applied dialect at builtin.Length (value_of sequence.now ∷ [])) }
 {
     let all = items(at, sequence)?;
-    match i64::try_from(all.len()) {
-        Ok(n) => Ok(Datum::Int(n)),
-        Err(_) => Err(fault(FaultKind::Overflow, at)),
+    let n = all.len() as i128;
+    if dialect.has(n) {
+        Ok(Datum::Int(n))
+    } else {
+        Err(fault(FaultKind::Overflow, at))
     }
 }
 
 fn concat(alloc: Global, at: usize, sequence: &Datum) -> Result<Datum, Halt>
-    ensures { Answers value_of result (applied at builtin.Concat (value_of sequence.now ∷ [])) }
+    ensures { Answers value_of result (go (items_at at (value_of sequence.now)) (λ vs. seq_answer (go_join (items_at at) vs))) }
 {
     let all = items(at, sequence)?;
     let values = joined(alloc, at, all)?;
@@ -108,7 +118,7 @@ fn part(alloc: Global, at: usize, sequence: &Datum, flags: &Datum) -> Result<Dat
 
 // The one item.
 fn the(alloc: Global, at: usize, sequence: &Datum) -> Result<Datum, Halt>
-    ensures { Answers value_of result (applied at builtin.The (value_of sequence.now ∷ [])) }
+    ensures { Answers value_of result (go (items_at at (value_of sequence.now)) (the_answer at)) }
 {
     let all = items(at, sequence)?;
     match all {
@@ -118,7 +128,7 @@ fn the(alloc: Global, at: usize, sequence: &Datum) -> Result<Datum, Halt>
 }
 
 fn tab(alloc: Global, at: usize, sequence: &Datum) -> Result<Datum, Halt>
-    ensures { Answers value_of result (applied at builtin.Tab (value_of sequence.now ∷ [])) }
+    ensures { Answers value_of result (go (items_at at (value_of sequence.now)) (λ vs. gives (a_vec (values_of vs)))) }
 {
     let all = items(at, sequence)?;
     let mut values = Vec::with_capacity(alloc, all.len())?;
@@ -127,7 +137,7 @@ fn tab(alloc: Global, at: usize, sequence: &Datum) -> Result<Datum, Halt>
 }
 
 fn seq(alloc: Global, at: usize, vector: &Datum) -> Result<Datum, Halt>
-    ensures { Answers value_of result (applied at builtin.Seq (value_of vector.now ∷ [])) }
+    ensures { Answers value_of result (go (elements_at at (value_of vector.now)) (λ vs. gives (sequence vs))) }
 {
     let all = elements(at, vector)?;
     let mut values = Vec::with_capacity(alloc, all.len())?;
@@ -136,7 +146,7 @@ fn seq(alloc: Global, at: usize, vector: &Datum) -> Result<Datum, Halt>
 }
 
 fn fst(alloc: Global, at: usize, pair: &Datum) -> Result<Datum, Halt>
-    ensures { Answers value_of result (applied at builtin.Fst (value_of pair.now ∷ [])) }
+    ensures { (dialect : Dialect) → Answers value_of result (applied dialect at builtin.Fst (value_of pair.now ∷ [])) }
 {
     match pair {
         Datum::Pair(first, _) => Ok(copy_datum(alloc, first)?),
@@ -145,7 +155,7 @@ fn fst(alloc: Global, at: usize, pair: &Datum) -> Result<Datum, Halt>
 }
 
 fn snd(alloc: Global, at: usize, pair: &Datum) -> Result<Datum, Halt>
-    ensures { Answers value_of result (applied at builtin.Snd (value_of pair.now ∷ [])) }
+    ensures { (dialect : Dialect) → Answers value_of result (applied dialect at builtin.Snd (value_of pair.now ∷ [])) }
 {
     match pair {
         Datum::Pair(_, second) => Ok(copy_datum(alloc, second)?),

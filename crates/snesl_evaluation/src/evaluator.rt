@@ -46,6 +46,7 @@ pub fn evaluate(
 {
     let setting = Setting {
         alloc,
+        dialect: program.dialect,
         text: &program.text,
         functions: &program.declarations,
     };
@@ -130,11 +131,11 @@ fn binary_value(
     right: &Expr,
     scope: &Scope,
 ) -> Result<Datum, Halt>
-    ensures { Answers value_of result (go (eval_in setting.now scope.now (tree_of left.now)) (λ v. go (eval_in setting.now scope.now (tree_of right.now)) (λ w. binary_answer at operator v w))) }
+    ensures { Answers value_of result (go (eval_in setting.now scope.now (tree_of left.now)) (λ v. go (eval_in setting.now scope.now (tree_of right.now)) (λ w. binary_answer setting.now.dialect at operator v w))) }
 {
     let x = value(setting, left, scope)?;
     let y = value(setting, right, scope)?;
-    binary(setting.alloc, at, operator, &x, &y)
+    binary(setting.dialect, setting.alloc, at, operator, &x, &y)
 }
 
 // An operator before its operand.
@@ -147,10 +148,10 @@ fn prefix_value(
     operand: &Expr,
     scope: &Scope,
 ) -> Result<Datum, Halt>
-    ensures { Answers value_of result (go (eval_in setting.now scope.now (tree_of operand.now)) (prefix_answer at operator)) }
+    ensures { Answers value_of result (go (eval_in setting.now scope.now (tree_of operand.now)) (prefix_answer setting.now.dialect at operator)) }
 {
     let x = value(setting, operand, scope)?;
-    prefix(at, operator, &x)
+    prefix(setting.dialect, at, operator, &x)
 }
 
 #[cycle(value)]
@@ -173,7 +174,7 @@ fn let_value(
     body: &Expr,
     scope: &Scope,
 ) -> Result<Datum, Halt>
-    ensures { Answers value_of result (go (eval_in setting.now scope.now (tree_of bound.now)) (λ v. eval (tree_of body.now) setting.now.text.now (calls_in setting.now) ((spelling setting.now.text.now name, v) ∷ environment_in setting.now.text.now scope.now))) }
+    ensures { Answers value_of result (go (eval_in setting.now scope.now (tree_of bound.now)) (λ v. eval setting.now.dialect (tree_of body.now) setting.now.text.now (calls_in setting.now) ((spelling setting.now.text.now name, v) ∷ environment_in setting.now.text.now scope.now))) }
 {
     let x = value(setting, bound, scope)?;
     bind(setting, name, &x, body, &*scope)
@@ -210,10 +211,10 @@ fn built_in(
     arguments: &[Expr],
     scope: &Scope,
 ) -> Result<Datum, Halt>
-    ensures { Answers value_of result (go (all_in setting.now scope.now (trees_of arguments.now)) (applied at function)) }
+    ensures { Answers value_of result (go (all_in setting.now scope.now (trees_of arguments.now)) (applied setting.now.dialect at function)) }
 {
     let values = all_values(setting, arguments, scope)?;
-    apply(setting.alloc, at, function, &values)
+    apply(setting.dialect, setting.alloc, at, function, &values)
 }
 
 // A declared function at arguments.
@@ -328,7 +329,7 @@ fn bind<'a>(
     body: &Expr,
     scope: &'a Scope<'a>,
 ) -> Result<Datum, Halt>
-    ensures { Answers value_of result (eval (tree_of body.now) setting.now.text.now (calls_in setting.now) ((spelling setting.now.text.now name, value_of bound.now) ∷ environment_in setting.now.text.now scope.now)) }
+    ensures { Answers value_of result (eval setting.now.dialect (tree_of body.now) setting.now.text.now (calls_in setting.now) ((spelling setting.now.text.now name, value_of bound.now) ∷ environment_in setting.now.text.now scope.now)) }
 {
     let inner = Scope::Bound {
         name,
@@ -437,13 +438,14 @@ fn enter(
     earlier: &[Declaration],
     values: &[Datum],
 ) -> Result<Datum, Halt>
-    ensures { Answers value_of result (entered setting.now.text.now at function.now earlier.now (map value_of values.now)) }
+    ensures { Answers value_of result (entered setting.now.dialect setting.now.text.now at function.now earlier.now (map value_of values.now)) }
 {
     if function.parameters.len() != values.len() {
         return Err(fault(FaultKind::Shape, at));
     }
     let inner = Setting {
         alloc: setting.alloc,
+        dialect: setting.dialect,
         text: &*setting.text,
         functions: &*earlier,
     };

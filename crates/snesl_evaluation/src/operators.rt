@@ -1,8 +1,9 @@
 // Operators at data.
 
-ghost use Rattle.std.specs.Prelude.{map};
+ghost use Rattle.std.specs.Prelude.{map, slice_get};
+ghost use Rattle.snesl_values.specs.declared.fault.FaultKind.TheVariants.{Index as IndexFault};
 ghost use Rattle.snesl_values.specs.Values.{value_of};
-ghost use Rattle.snesl_evaluation.specs.Answer.{go};
+ghost use Rattle.snesl_evaluation.specs.Answer.{go, or_fault};
 ghost use Rattle.snesl_evaluation.specs.Builtins.{append_answer, binary_answer, elements_at, equal_answer, int_at, item_answer, prefix_answer, scalar_answer, scalars_answer, unary_answer};
 ghost use Rattle.snesl_evaluation.specs.Results.{Answers};
 
@@ -11,7 +12,7 @@ use crate::parts::{datum_of, elements, integer, items, scalar, sequence_of};
 use crate::sequences::add_copies;
 use snesl_operators::{BinaryOperator, Scalar, UnaryOperator};
 use snesl_tree::{Operator, Prefix};
-use snesl_values::{Datum, FaultKind, copy_datum};
+use snesl_values::{Datum, Dialect, FaultKind, copy_datum};
 use std::alloc::Global;
 
 // The scalar, or its fault at this offset.
@@ -25,69 +26,76 @@ pub fn scalar_result(at: usize, given: Result<Scalar, FaultKind>) -> Result<Datu
 }
 
 #[inline(never)]
-pub fn prefix(at: usize, operator: Prefix, operand: &Datum) -> Result<Datum, Halt>
-    ensures { Answers value_of result (prefix_answer at operator (value_of operand.now)) }
+pub fn prefix(dialect: Dialect, at: usize, operator: Prefix, operand: &Datum) -> Result<Datum, Halt>
+    ensures { Answers value_of result (prefix_answer dialect at operator (value_of operand.now)) }
 {
     match operator {
-        Prefix::Negate => unary(at, UnaryOperator::Negate, operand),
-        Prefix::Not => unary(at, UnaryOperator::Not, operand),
+        Prefix::Negate => unary(dialect, at, UnaryOperator::Negate, operand),
+        Prefix::Not => unary(dialect, at, UnaryOperator::Not, operand),
     }
 }
 
-fn unary(at: usize, operator: UnaryOperator, operand: &Datum) -> Result<Datum, Halt>
-    ensures { Answers value_of result (unary_answer at operator (value_of operand.now)) }
+fn unary(
+    dialect: Dialect,
+    at: usize,
+    operator: UnaryOperator,
+    operand: &Datum,
+) -> Result<Datum, Halt>
+    ensures { Answers value_of result (unary_answer dialect at operator (value_of operand.now)) }
 {
     let x = scalar(at, operand)?;
-    scalar_result(at, operator.apply(x))
+    scalar_result(at, operator.apply(dialect, x))
 }
 
 #[inline(never)]
 pub fn binary(
+    dialect: Dialect,
     alloc: Global,
     at: usize,
     operator: Operator,
     left: &Datum,
     right: &Datum,
 ) -> Result<Datum, Halt>
-    ensures { Answers value_of result (binary_answer at operator (value_of left.now) (value_of right.now)) }
+    ensures { Answers value_of result (binary_answer dialect at operator (value_of left.now) (value_of right.now)) }
 {
     match operator {
-        Operator::Or => on_scalars(at, BinaryOperator::Or, left, right),
-        Operator::And => on_scalars(at, BinaryOperator::And, left, right),
-        Operator::Equal => equal(at, left, right),
-        Operator::Less => on_scalars(at, BinaryOperator::Less, left, right),
-        Operator::AtMost => on_scalars(at, BinaryOperator::AtMost, left, right),
-        Operator::Greater => on_scalars(at, BinaryOperator::Greater, left, right),
-        Operator::AtLeast => on_scalars(at, BinaryOperator::AtLeast, left, right),
+        Operator::Or => on_scalars(dialect, at, BinaryOperator::Or, left, right),
+        Operator::And => on_scalars(dialect, at, BinaryOperator::And, left, right),
+        Operator::Equal => equal(dialect, at, left, right),
+        Operator::Less => on_scalars(dialect, at, BinaryOperator::Less, left, right),
+        Operator::AtMost => on_scalars(dialect, at, BinaryOperator::AtMost, left, right),
+        Operator::Greater => on_scalars(dialect, at, BinaryOperator::Greater, left, right),
+        Operator::AtLeast => on_scalars(dialect, at, BinaryOperator::AtLeast, left, right),
         Operator::Append => append(alloc, at, left, right),
-        Operator::Add => on_scalars(at, BinaryOperator::Add, left, right),
-        Operator::Subtract => on_scalars(at, BinaryOperator::Subtract, left, right),
-        Operator::Multiply => on_scalars(at, BinaryOperator::Multiply, left, right),
-        Operator::Divide => on_scalars(at, BinaryOperator::Divide, left, right),
-        Operator::Remainder => on_scalars(at, BinaryOperator::Remainder, left, right),
+        Operator::Add => on_scalars(dialect, at, BinaryOperator::Add, left, right),
+        Operator::Subtract => on_scalars(dialect, at, BinaryOperator::Subtract, left, right),
+        Operator::Multiply => on_scalars(dialect, at, BinaryOperator::Multiply, left, right),
+        Operator::Divide => on_scalars(dialect, at, BinaryOperator::Divide, left, right),
+        Operator::Remainder => on_scalars(dialect, at, BinaryOperator::Remainder, left, right),
         Operator::Index => index(alloc, at, left, right),
     }
 }
 
 fn on_scalars(
+    dialect: Dialect,
     at: usize,
     operator: BinaryOperator,
     left: &Datum,
     right: &Datum,
 ) -> Result<Datum, Halt>
-    ensures { Answers value_of result (scalars_answer at operator (value_of left.now) (value_of right.now)) }
+    ensures { Answers value_of result (scalars_answer dialect at operator (value_of left.now) (value_of right.now)) }
 {
     let x = scalar(at, left)?;
     let y = scalar(at, right)?;
-    scalar_result(at, operator.apply(x, y))
+    scalar_result(at, operator.apply(dialect, x, y))
 }
 
-fn equal(at: usize, left: &Datum, right: &Datum) -> Result<Datum, Halt>
-    ensures { Answers value_of result (equal_answer at (value_of left.now) (value_of right.now)) }
+fn equal(dialect: Dialect, at: usize, left: &Datum, right: &Datum) -> Result<Datum, Halt>
+    ensures { Answers value_of result (equal_answer dialect at (value_of left.now) (value_of right.now)) }
 {
     match left {
-        Datum::Int(_) => on_scalars(at, BinaryOperator::EqualIntegers, left, right),
-        Datum::Bool(_) => on_scalars(at, BinaryOperator::EqualTruths, left, right),
+        Datum::Int(_) => on_scalars(dialect, at, BinaryOperator::EqualIntegers, left, right),
+        Datum::Bool(_) => on_scalars(dialect, at, BinaryOperator::EqualTruths, left, right),
         _ => Err(fault(FaultKind::Shape, at)),
     }
 }
@@ -113,13 +121,20 @@ fn index(alloc: Global, at: usize, vector: &Datum, index: &Datum) -> Result<Datu
     item(alloc, at, all, i)
 }
 
-fn item(alloc: Global, at: usize, all: &[Datum], i: i64) -> Result<Datum, Halt>
+// A number that is no machine's index is none of the vector's.
+fn item(alloc: Global, at: usize, all: &[Datum], i: i128) -> Result<Datum, Halt>
     ensures { Answers value_of result (item_answer at (map value_of all.now) i) }
 {
-    if i < 0 {
-        return Err(fault(FaultKind::Index, at));
+    match usize::try_from(i) {
+        Ok(place) => item_at(alloc, at, all, place),
+        Err(_) => Err(fault(FaultKind::Index, at)),
     }
-    match all.get(i as usize) {
+}
+
+fn item_at(alloc: Global, at: usize, all: &[Datum], place: usize) -> Result<Datum, Halt>
+    ensures { Answers value_of result (or_fault IndexFault at (slice_get (map value_of all.now) place)) }
+{
+    match all.get(place) {
         Some(datum) => Ok(copy_datum(alloc, datum)?),
         None => Err(fault(FaultKind::Index, at)),
     }

@@ -10,7 +10,7 @@ use snesl_operators::Scalar;
 use snesl_values::{Datum, FaultKind};
 use std::alloc::{AllocError, Global};
 
-pub fn integer(at: usize, datum: &Datum) -> Result<i64, Halt>
+pub fn integer(at: usize, datum: &Datum) -> Result<i128, Halt>
     ensures { Answers (λ n. n) result (int_at at (value_of datum.now)) }
 {
     match datum {

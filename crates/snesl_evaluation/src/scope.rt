@@ -11,14 +11,15 @@ ghost use Rattle.snesl_evaluation.specs.Scopes.{are_level, column_of, environmen
 
 use crate::halt::{Halt, fault};
 use snesl_tree::{Declaration, Span, Typing};
-use snesl_values::{Datum, FaultKind, Inputs, copy_datum};
+use snesl_values::{Datum, Dialect, FaultKind, Inputs, copy_datum};
 use std::alloc::{AllocError, Global};
 
-// What stays the same in one body: the text, in which names are spelled, and the declarations
-// whose functions may be called.
+// What stays the same in one body: the dialect of the program, the text, in which names are
+// spelled, and the declarations whose functions may be called.
 #[derive(Clone, Copy)]
 pub struct Setting<'a> {
     pub alloc: Global,
+    pub dialect: Dialect,
     pub text: &'a [u8],
     pub functions: &'a [Declaration],
 }

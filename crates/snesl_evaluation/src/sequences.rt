@@ -1,6 +1,6 @@
 // Sequences made of others.
 
-ghost use Rattle.std.specs.Prelude.{◌≡◌, ◌++◌, ◌∷◌, [], ◌+◌, ◌+ℤ◌, ◌<◌, ◌^◌, map, slice_get, IfOk, OnOk};
+ghost use Rattle.std.specs.Prelude.{◌≡◌, ◌++◌, ◌∷◌, [], ◌+◌, ◌+ℤ◌, map, slice_get, IfOk, OnOk};
 ghost use Rattle.snesl_values.specs.declared.fault.FaultKind.TheVariants.{Part as PartFault};
 ghost use Rattle.snesl_values.specs.Values.{an_int, value_of};
 ghost use Rattle.snesl_operators.specs.Operators.{ranged};
@@ -12,11 +12,11 @@ ghost use Rattle.snesl_evaluation.specs.Results.{Answers};
 use crate::halt::{Halt, fault};
 use crate::parts::{add, integer, items, scalar, sequence_of, truth};
 use snesl_operators::{Reduction, Scalar, sum};
-use snesl_values::{Datum, FaultKind, copy_datum};
+use snesl_values::{Datum, Dialect, FaultKind, copy_datum};
 use std::alloc::{AllocError, Global};
 use std::mem;
 
-pub fn integers(alloc: Global, at: usize, all: &[Datum]) -> Result<Vec<i64>, Halt>
+pub fn integers(alloc: Global, at: usize, all: &[Datum]) -> Result<Vec<i128>, Halt>
     ensures { Answers (λ read. read.items) result (go_all (int_at at) (map value_of all.now)) }
 {
     let mut read = Vec::with_capacity(alloc, all.len())?;
@@ -50,13 +50,12 @@ pub fn scalars(alloc: Global, at: usize, all: &[Datum]) -> Result<Vec<Scalar>, H
 }
 
 // The memory is asked for first, so that a count too great is refused at once.
-pub fn count_up(alloc: Global, n: u64) -> Result<Vec<Datum>, AllocError>
-    requires { n < 2 ^ 63 }
+pub fn count_up(alloc: Global, n: usize) -> Result<Vec<Datum>, AllocError>
     ensures { IfOk result (λ numbers. map value_of numbers.items ≡ numbers_below n) }
 {
-    let mut numbers = Vec::with_capacity(alloc, n as usize)?;
+    let mut numbers = Vec::with_capacity(alloc, n)?;
     for i in 0..n {
-        add(&mut numbers, Datum::Int(i as i64))?;
+        add(&mut numbers, Datum::Int(i as i128))?;
     }
     Ok(numbers)
 }
@@ -84,37 +83,42 @@ pub fn joined(alloc: Global, at: usize, all: &[Datum]) -> Result<Vec<Datum>, Hal
     Ok(values)
 }
 
-pub fn reduce(reduction: Reduction, all: &[Scalar]) -> Result<Scalar, FaultKind>
-    ensures { result ≡ reduced reduction all.now }
+pub fn reduce(dialect: Dialect, reduction: Reduction, all: &[Scalar]) -> Result<Scalar, FaultKind>
+    ensures { result ≡ reduced dialect reduction all.now }
 {
     let mut so_far = reduction.nothing();
     for x in all {
-        so_far = reduction.more(so_far, *x)?;
+        so_far = reduction.more(dialect, so_far, *x)?;
     }
     Reduction::value(so_far)
 }
 
 // At each number the sum of those before it. The last number is in no sum.
-pub fn scan_add(alloc: Global, at: usize, numbers: &[i64]) -> Result<Vec<Datum>, Halt>
-    ensures { Answers (λ values. map value_of values.items) result (go (answer_at at (scanned numbers.now)) (λ sums. gives (map an_int sums))) }
+pub fn scan_add(
+    dialect: Dialect,
+    alloc: Global,
+    at: usize,
+    numbers: &[i128],
+) -> Result<Vec<Datum>, Halt>
+    ensures { Answers (λ values. map value_of values.items) result (go (answer_at at (scanned dialect numbers.now)) (λ sums. gives (map an_int sums))) }
 {
     let mut sums = Vec::with_capacity(alloc, numbers.len())?;
     if numbers.is_empty() {
         return Ok(sums);
     }
-    let mut so_far: i64 = 0;
+    let mut so_far: i128 = 0;
     for i in 0..numbers.len() - 1 {
         add(&mut sums, Datum::Int(so_far))?;
-        so_far = total(at, so_far, numbers[i])?;
+        so_far = total(dialect, at, so_far, numbers[i])?;
     }
     add(&mut sums, Datum::Int(so_far))?;
     Ok(sums)
 }
 
-fn total(at: usize, m: i64, n: i64) -> Result<i64, Halt>
-    ensures { Answers (λ n. n) result (answer_at at (ranged (m +ℤ n))) }
+fn total(dialect: Dialect, at: usize, m: i128, n: i128) -> Result<i128, Halt>
+    ensures { Answers (λ n. n) result (answer_at at (ranged dialect (m +ℤ n))) }
 {
-    match sum(m, n) {
+    match sum(dialect, m, n) {
         Ok(total) => Ok(total),
         Err(kind) => Err(fault(kind, at)),
     }

@@ -1,6 +1,7 @@
 -- What the rules say of an expression is what checking answers.
 use Rattle.std.proofs.Common.{◌≡◌, ℕ, Bool, true, false, cond, not, List, [], ◌∷◌, ◌++◌, Option, Some, None, is_some, Ok, Err, refl, sym, ap, append_assoc, ◌∙◌}
 use Rattle.std.proofs.lemmas.List.{append-nil}
+use Rattle.snesl_values.specs.declared.dialect.Dialect.{Dialect}
 use Rattle.snesl_values.specs.declared.refusal.Refusal.{Refusal}
 use Rattle.snesl_values.specs.declared.refusal.Refusal.TheVariants.{Mismatch, Streamed, TooBig, NoMemory}
 use Rattle.snesl_values.specs.Inputs.{Declaration}
@@ -78,13 +79,13 @@ each_err : (at : ℕ) (binders : Binders) (t u : Ty) → ¬ (u ≡ bool) → of_
 each_err at none_bound t u n = refl
 each_err at (binder place source others) t u n = filter_err at t u n
 
-no_binder_err : (text : List ℕ) (functions : Signatures) (context : Context) (at : ℕ) (body : Tree) (condition : Condition) (items : List Declaration) (t u : Ty)
-    → binders_verdict text functions context [] none_bound ≡ Ok items
-    → condition_verdict text functions (opened items ++ inside context) condition ≡ Ok t → verdict text functions (opened items ++ inside context) body ≡ Ok u
-    → rule text functions context (each at body none_bound condition) ≡ Err (Mismatch at)
-no_binder_err text functions context at body condition items t u bound_by c b =
-    then_ok (λ all. and_then (both_of (condition_verdict text functions (opened all ++ inside context) condition)
-    (verdict text functions (opened all ++ inside context) body)) (λ ts. of_each at none_bound ts.1 ts.0)) bound_by
+no_binder_err : (dialect : Dialect) (text : List ℕ) (functions : Signatures) (context : Context) (at : ℕ) (body : Tree) (condition : Condition) (items : List Declaration) (t u : Ty)
+    → binders_verdict dialect text functions context [] none_bound ≡ Ok items
+    → condition_verdict dialect text functions (opened items ++ inside context) condition ≡ Ok t → verdict dialect text functions (opened items ++ inside context) body ≡ Ok u
+    → rule dialect text functions context (each at body none_bound condition) ≡ Err (Mismatch at)
+no_binder_err dialect text functions context at body condition items t u bound_by c b =
+    then_ok (λ all. and_then (both_of (condition_verdict dialect text functions (opened all ++ inside context) condition)
+    (verdict dialect text functions (opened all ++ inside context) body)) (λ ts. of_each at none_bound ts.1 ts.0)) bound_by
     (then_ok (λ ts. of_each at none_bound ts.1 ts.0) (both_ok c b) refl)
 
 binder_err : (place : Span) (t : Ty) → ((item : Ty) → ¬ (t ≡ seq item)) → of_binder place false t ≡ Err (Mismatch place.at)
@@ -95,13 +96,13 @@ binder_err place (vec item) n = refl
 binder_err place (seq item) n = absurd (n item refl)
 
 mutual
-  pub type_complete : {text : List ℕ} {functions : Signatures} {context : Context} {tree : Tree} {t : Ty}
-      → Types text functions context tree t → verdict text functions context tree ≡ Ok t
+  pub type_complete : {dialect : Dialect} {text : List ℕ} {functions : Signatures} {context : Context} {tree : Tree} {t : Ty}
+      → Types dialect text functions context tree t → verdict dialect text functions context tree ≡ Ok t
   type_complete {t = t} (has_type g small) = then_ok _ (gives_complete g) (small_ok t small)
 
-  gives_complete : {text : List ℕ} {functions : Signatures} {context : Context} {tree : Tree} {t : Ty}
-      → Gives text functions context tree t → rule text functions context tree ≡ Ok t
-  gives_complete (integer_type {value = value} h) = integer_ok (is_integer value) h
+  gives_complete : {dialect : Dialect} {text : List ℕ} {functions : Signatures} {context : Context} {tree : Tree} {t : Ty}
+      → Gives dialect text functions context tree t → rule dialect text functions context tree ≡ Ok t
+  gives_complete {dialect = dialect} (integer_type {value = value} h) = integer_ok (is_integer dialect value) h
   gives_complete truth_type = refl
   gives_complete (name_type {place = place} e) = ap (of_binding place) e
   gives_complete (binary_type {at = at} a b e) = then_ok _ (both_ok (type_complete a) (type_complete b)) (ap (or_refused (Mismatch at)) e)
@@ -119,26 +120,26 @@ mutual
   gives_complete (filter_type a b) = then_ok _ (both_ok (type_complete a) (type_complete b)) refl
   gives_complete (each_type bs c b) = then_ok _ (binders_complete bs) (then_ok _ (both_ok (condition_complete c) (type_complete b)) refl)
 
-  types_complete : {text : List ℕ} {functions : Signatures} {context : Context} {trees : Trees} {ts : List Ty} (earlier : List Ty)
-      → AllTypes text functions context trees ts → verdicts text functions context earlier trees ≡ Ok (earlier ++ ts)
+  types_complete : {dialect : Dialect} {text : List ℕ} {functions : Signatures} {context : Context} {trees : Trees} {ts : List Ty} (earlier : List Ty)
+      → AllTypes dialect text functions context trees ts → verdicts dialect text functions context earlier trees ≡ Ok (earlier ++ ts)
   types_complete earlier no_types = ap Ok (sym (append-nil earlier))
   types_complete earlier (more_types {t = t} {ts = ts} a all) =
       then_ok _ (type_complete a) (types_complete (earlier ++ (t ∷ [])) all ∙ ap Ok (append_assoc earlier (t ∷ []) ts))
 
-  binders_complete : {text : List ℕ} {functions : Signatures} {context : Context} {binders : Binders} {earlier items : List Declaration}
-      → BindersType text functions context earlier binders items → binders_verdict text functions context earlier binders ≡ Ok items
+  binders_complete : {dialect : Dialect} {text : List ℕ} {functions : Signatures} {context : Context} {binders : Binders} {earlier items : List Declaration}
+      → BindersType dialect text functions context earlier binders items → binders_verdict dialect text functions context earlier binders ≡ Ok items
   binders_complete no_binders = refl
   binders_complete (more_binders {place = place} {t = t} a e bs) =
       then_ok _ (type_complete a) (then_ok _ (ap (λ o. of_binder place (is_some o) (seq t)) e) (binders_complete bs))
 
-  condition_complete : {text : List ℕ} {functions : Signatures} {context : Context} {condition : Condition} {t : Ty}
-      → ConditionTypes text functions context condition t → condition_verdict text functions context condition ≡ Ok t
+  condition_complete : {dialect : Dialect} {text : List ℕ} {functions : Signatures} {context : Context} {condition : Condition} {t : Ty}
+      → ConditionTypes dialect text functions context condition t → condition_verdict dialect text functions context condition ≡ Ok t
   condition_complete no_condition = refl
   condition_complete (condition_type a) = type_complete a
 
 mutual
-  pub violates_complete : {text : List ℕ} {functions : Signatures} {context : Context} {tree : Tree} {refusal : Refusal}
-      → Violates text functions context tree refusal → verdict text functions context tree ≡ Err refusal
+  pub violates_complete : {dialect : Dialect} {text : List ℕ} {functions : Signatures} {context : Context} {tree : Tree} {refusal : Refusal}
+      → Violates dialect text functions context tree refusal → verdict dialect text functions context tree ≡ Err refusal
   violates_complete (big_type {t = t} g e) = then_ok _ (gives_complete g) (small_err t e)
   violates_complete (unbound {place = place} e) = ap sized (ap (of_binding place) e)
   violates_complete (streamed {place = place} e) = ap sized (ap (of_binding place) e)
@@ -176,16 +177,16 @@ mutual
   violates_complete (body_violates bs c v) = ap sized (then_ok _ (binders_complete bs) (then_err _ (right_err (condition_complete c) (violates_complete v))))
   violates_complete (condition_mismatch {at = at} {binders = binders} {t = t} {u = u} bs c b n) =
       ap sized (then_ok _ (binders_complete bs) (then_ok _ (both_ok (condition_complete c) (type_complete b)) (each_err at binders u t n)))
-  violates_complete {text = text} {functions = functions} (binder_missing {context = context} {at = at} {body = body} {condition = condition} {items = items} {t = t} {u = u} bs c b) =
-      ap sized (no_binder_err text functions context at body condition items t u (binders_complete bs) (condition_complete c) (type_complete b))
+  violates_complete {dialect = dialect} {text = text} {functions = functions} (binder_missing {context = context} {at = at} {body = body} {condition = condition} {items = items} {t = t} {u = u} bs c b) =
+      ap sized (no_binder_err dialect text functions context at body condition items t u (binders_complete bs) (condition_complete c) (type_complete b))
 
-  any_complete : {text : List ℕ} {functions : Signatures} {context : Context} {trees : Trees} {refusal : Refusal} (earlier : List Ty)
-      → AnyViolates text functions context trees refusal → verdicts text functions context earlier trees ≡ Err refusal
+  any_complete : {dialect : Dialect} {text : List ℕ} {functions : Signatures} {context : Context} {trees : Trees} {refusal : Refusal} (earlier : List Ty)
+      → AnyViolates dialect text functions context trees refusal → verdicts dialect text functions context earlier trees ≡ Err refusal
   any_complete earlier (first_violates v) = then_err _ (violates_complete v)
   any_complete earlier (later_violates {t = t} a v) = then_ok _ (type_complete a) (any_complete (earlier ++ (t ∷ [])) v)
 
-  binder_complete : {text : List ℕ} {functions : Signatures} {context : Context} {binders : Binders} {earlier : List Declaration} {refusal : Refusal}
-      → BindersViolate text functions context earlier binders refusal → binders_verdict text functions context earlier binders ≡ Err refusal
+  binder_complete : {dialect : Dialect} {text : List ℕ} {functions : Signatures} {context : Context} {binders : Binders} {earlier : List Declaration} {refusal : Refusal}
+      → BindersViolate dialect text functions context earlier binders refusal → binders_verdict dialect text functions context earlier binders ≡ Err refusal
   binder_complete (source_violates v) = then_err _ (violates_complete v)
   binder_complete (bound_twice {place = place} {t = t} a e) = then_ok _ (type_complete a) (then_err _ (ap (λ o. of_binder place (is_some o) t) e))
   binder_complete (binder_mismatch {place = place} {t = t} a e n) =

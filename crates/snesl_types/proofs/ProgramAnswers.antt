@@ -3,6 +3,7 @@ use Rattle.std.proofs.Common.{◌≡◌, ℕ, suc, ◌+◌, ◌<◌, ◌≤◌, 
 use Rattle.std.specs.Prelude.{bytes_eq}
 use Rattle.std.proofs.lemmas.List.{map-append}
 use Rattle.std.proofs.lemmas.Bool.{le-leb, lt-leb}
+use Rattle.snesl_values.specs.declared.dialect.Dialect.{Dialect}
 use Rattle.snesl_values.specs.declared.refusal.Refusal.{Refusal}
 use Rattle.snesl_values.specs.declared.refusal.Refusal.TheVariants.{Name, Mismatch, TooBig}
 use Rattle.snesl_values.specs.Inputs.{Declaration}
@@ -116,14 +117,14 @@ body_ok place signature t e = ap (λ b. cond b (Ok signature) (Err (Mismatch pla
 body_err : (place : Span) (signature : Signature) (t : Ty) → ¬ (t ≡ signature.result) → of_body place signature t ≡ Err (Mismatch place.at)
 body_err place signature t n = ap (λ b. cond b (Ok signature) (Err (Mismatch place.at))) (not_true (λ e. n (same_eq t signature.result e)))
 
-pub function_complete : {text : List ℕ} {functions : Signatures} {place : Span} {written : List Typed} {result : TypeTree} {body : Tree} {signature : Signature}
-    → FunctionTypes text functions place written result body signature → function_verdict text functions place written result body ≡ Ok signature
+pub function_complete : {dialect : Dialect} {text : List ℕ} {functions : Signatures} {place : Span} {written : List Typed} {result : TypeTree} {body : Tree} {signature : Signature}
+    → FunctionTypes dialect text functions place written result body signature → function_verdict dialect text functions place written result body ≡ Ok signature
 function_complete {text = text} {place = place} (function_type {parameters = parameters} {t = t} e n w d) =
     then_ok _ (ap (new_name text place) e) (then_ok _ (names_complete n) (then_ok _ w (then_ok _ (type_complete d)
     (body_ok place (signature_of text place parameters t) t refl))))
 
-function_violates_complete : {text : List ℕ} {functions : Signatures} {place : Span} {written : List Typed} {result : TypeTree} {body : Tree} {r : Refusal}
-    → FunctionViolates text functions place written result body r → function_verdict text functions place written result body ≡ Err r
+function_violates_complete : {dialect : Dialect} {text : List ℕ} {functions : Signatures} {place : Span} {written : List Typed} {result : TypeTree} {body : Tree} {r : Refusal}
+    → FunctionViolates dialect text functions place written result body r → function_verdict dialect text functions place written result body ≡ Err r
 function_violates_complete {text = text} {place = place} (function_twice e) = then_err _ (ap (new_name text place) e)
 function_violates_complete {text = text} {place = place} (parameter_violates e v) = then_ok _ (ap (new_name text place) e) (then_err _ (names_violate_complete v))
 function_violates_complete {text = text} {place = place} (result_refused e n w) = then_ok _ (ap (new_name text place) e) (then_ok _ (names_complete n) (then_err _ w))
@@ -133,17 +134,17 @@ function_violates_complete {text = text} {place = place} (function_mismatch {par
     then_ok _ (ap (new_name text place) e) (then_ok _ (names_complete n) (then_ok _ w (then_ok _ (type_complete d)
     (body_err place (signature_of text place parameters t) u differ))))
 
-declarations_complete : {text : List ℕ} {earlier all : Declared} {declarations : List DeclarationTree} → DeclarationsType text earlier declarations all
-    → declarations_verdict text (capped_all earlier) declarations ≡ Ok (capped_all all)
+declarations_complete : {dialect : Dialect} {text : List ℕ} {earlier all : Declared} {declarations : List DeclarationTree} → DeclarationsType dialect text earlier declarations all
+    → declarations_verdict dialect text (capped_all earlier) declarations ≡ Ok (capped_all all)
 declarations_complete no_declarations = refl
 declarations_complete {text = text} {earlier = earlier} (input_declared {declared = declared} (more_names e w no_names) rest) =
     then_ok _ (then_ok _ (name_ok text earlier.inputs declared e w) refl) (declarations_complete rest)
-declarations_complete {text = text} (function_declared {earlier = earlier} {body = body} {signature = signature} {others = others} f rest) =
+declarations_complete {dialect = dialect} {text = text} (function_declared {earlier = earlier} {body = body} {signature = signature} {others = others} f rest) =
     then_ok _ (then_ok _ (function_complete f) refl)
-    (ap (λ d. declarations_verdict text d others) (with_capped text earlier signature body) ∙ declarations_complete rest)
+    (ap (λ d. declarations_verdict dialect text d others) (with_capped text earlier signature body) ∙ declarations_complete rest)
 
-declarations_violate_complete : {text : List ℕ} {earlier : Declared} {declarations : List DeclarationTree} {r : Refusal} → DeclarationsViolate text earlier declarations r
-    → declarations_verdict text (capped_all earlier) declarations ≡ Err r
+declarations_violate_complete : {dialect : Dialect} {text : List ℕ} {earlier : Declared} {declarations : List DeclarationTree} {r : Refusal} → DeclarationsViolate dialect text earlier declarations r
+    → declarations_verdict dialect text (capped_all earlier) declarations ≡ Err r
 declarations_violate_complete {text = text} {earlier = earlier} (input_violates {declared = declared} (named_twice e)) = then_err _ (then_err _ (name_twice text earlier.inputs declared e))
 declarations_violate_complete {text = text} {earlier = earlier} (input_violates {declared = declared} (type_refused e w)) = then_err _ (then_err _ (name_refused text earlier.inputs declared e w))
 declarations_violate_complete (input_violates (later_names_violate e w v)) = absurd (none_left v)
@@ -153,9 +154,9 @@ declarations_violate_complete (input_violates (later_names_violate e w v)) = abs
 declarations_violate_complete (function_violates v) = then_err _ (then_err _ (function_violates_complete v))
 declarations_violate_complete {text = text} {earlier = earlier} (behind_input_violates {declared = declared} (more_names e w no_names) v) =
     then_ok _ (then_ok _ (name_ok text earlier.inputs declared e w) refl) (declarations_violate_complete v)
-declarations_violate_complete {text = text} (behind_function_violates {earlier = earlier} {body = body} {signature = signature} {others = others} f v) =
+declarations_violate_complete {dialect = dialect} {text = text} (behind_function_violates {earlier = earlier} {body = body} {signature = signature} {others = others} f v) =
     then_ok _ (then_ok _ (function_complete f) refl)
-    (ap (λ d. declarations_verdict text d others) (with_capped text earlier signature body) ∙ declarations_violate_complete v)
+    (ap (λ d. declarations_verdict dialect text d others) (with_capped text earlier signature body) ∙ declarations_violate_complete v)
 
 size_ok : (n m : ℕ) (declared : Declared) (t : Ty) → capped n ≡ capped m → m ≤ greatest_size → of_expression (capped n) declared t ≡ Ok (declared, t)
 size_ok n m declared t e h = ap (λ b. cond b (Ok (declared, t)) (Err TooBig)) (le-leb (capped n) 65536 (omega arith))
@@ -165,7 +166,7 @@ size_err n m declared t e h = ap (λ b. cond b (Ok (declared, t)) (Err TooBig)) 
 
 abbrev after_few : List ℕ → ProgramTree → Bool → Result (Declared × Ty) Refusal
 after_few text program b =
-    cond b (and_then (declarations_verdict text nothing_declared program.declarations) (λ declared. expression_verdict text declared program.expression)) (Err TooBig)
+    cond b (and_then (declarations_verdict program.dialect text nothing_declared program.declarations) (λ declared. expression_verdict program.dialect text declared program.expression)) (Err TooBig)
 
 pub program_complete : (text : List ℕ) (program : ProgramTree) (declared : Declared) (t : Ty) → ProgramTypes text program declared t
     → program_verdict text program ≡ Ok (capped_all declared, t)

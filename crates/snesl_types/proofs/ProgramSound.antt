@@ -2,6 +2,7 @@
 use Rattle.std.proofs.Common.{◌≡◌, ◌⊎◌, inl, inr, ℕ, ◌<◌, ◌≤◌, Bool, true, false, cond, List, [], ◌∷◌, ◌++◌, Option, Some, None, Result, Ok, Err, refl, sym, ap, subst, ◌∙◌, arith}
 use Rattle.std.specs.Prelude.{nat_le}
 use Rattle.std.proofs.lemmas.Bool.{leb-true, leb-false}
+use Rattle.snesl_values.specs.declared.dialect.Dialect.{Dialect}
 use Rattle.snesl_values.specs.declared.refusal.Refusal.{Refusal}
 use Rattle.snesl_values.specs.declared.refusal.Refusal.TheVariants.{Name, Mismatch, TooBig, NoMemory}
 use Rattle.snesl_values.specs.Inputs.{Declaration}
@@ -20,7 +21,7 @@ use Rattle.snesl_types.proofs.Outcomes.{Outcome, given, violated, out_of_range, 
 use Rattle.snesl_types.proofs.Sound.{tree_sound}
 use Rattle.snesl_types.proofs.ProgramAnswers.{capped_all, size_capped, with_capped, names_complete, function_complete, program_complete, violation_complete}
 
-module _ (text : List ℕ) where
+module _ (dialect : Dialect) (text : List ℕ) where
   abbrev OfNames : List Declaration → List Typed → Result (List Declaration) Refusal → Type 0
   OfNames earlier written r = Outcome (NamesType text earlier written) (NamesViolate text earlier written) (Unit {0}) r
 
@@ -60,39 +61,39 @@ module _ (text : List ℕ) where
 
   module _ (functions : Signatures) (place : Span) (written : List Typed) (result : TypeTree) (body : Tree) where
     abbrev OfFunction : Result Signature Refusal → Type 0
-    OfFunction r = Outcome (FunctionTypes text functions place written result body) (FunctionViolates text functions place written result body) (IsInRange body) r
+    OfFunction r = Outcome (FunctionTypes dialect text functions place written result body) (FunctionViolates dialect text functions place written result body) (IsInRange dialect body) r
 
     of_declared : (parameters : List Declaration) (t u : Ty) → function_named (spelling text place) functions ≡ None → NamesType text [] written parameters
-        → written_type result ≡ Ok t → Types text functions (opened parameters) body u
+        → written_type result ≡ Ok t → Types dialect text functions (opened parameters) body u
         → (b : Bool) → is_same u t ≡ b → OfFunction (cond b (Ok (signature_of text place parameters t)) (Err (Mismatch place.at)))
-    of_declared parameters t u e n w d true f = given (function_type e n w (subst (Types text functions (opened parameters) body) (same_eq u t f) d))
+    of_declared parameters t u e n w d true f = given (function_type e n w (subst (Types dialect text functions (opened parameters) body) (same_eq u t f) d))
     of_declared parameters t u e n w d false f = violated (function_mismatch e n w d (λ same. let g = same_of same in cc))
 
     of_result : (parameters : List Declaration) → function_named (spelling text place) functions ≡ None → NamesType text [] written parameters
         → (w : Result Ty Refusal) → written_type result ≡ w
-        → OfFunction (and_then w (λ t. and_then (verdict text functions (opened parameters) body) (of_body place (signature_of text place parameters t))))
+        → OfFunction (and_then w (λ t. and_then (verdict dialect text functions (opened parameters) body) (of_body place (signature_of text place parameters t))))
     of_result parameters e n (Err r) w = violated (result_refused e n w)
     of_result parameters e n (Ok t) w =
-        then_outcome _ (tree_sound text functions (opened parameters) body) (λ r v. function_body_violates e n w v) (λ h. h)
+        then_outcome _ (tree_sound dialect text functions (opened parameters) body) (λ r v. function_body_violates e n w v) (λ h. h)
         (λ u d. of_declared parameters t u e n w d (is_same u t) refl)
 
     of_new : (o : Option Signature) → function_named (spelling text place) functions ≡ o
         → OfFunction (and_then (new_name text place o) (λ bytes. and_then (names_verdict text [] written) (λ declarations. and_then (written_type result) (λ t.
-        and_then (verdict text functions (opened declarations) body) (of_body place (signature_of text place declarations t))))))
+        and_then (verdict dialect text functions (opened declarations) body) (of_body place (signature_of text place declarations t))))))
     of_new (Some signature) e = violated (function_twice e)
     of_new None e =
         then_outcome _ (names_sound [] written) (λ r v. parameter_violates e v) (λ h. tt)
         (λ parameters n. of_result parameters e n (written_type result) refl)
 
-    function_sound : OfFunction (function_verdict text functions place written result body)
+    function_sound : OfFunction (function_verdict dialect text functions place written result body)
     function_sound = of_new (function_named (spelling text place) functions) refl
 
   abbrev OfDeclarations : Declared → List DeclarationTree → Result Declared Refusal → Type 0
   OfDeclarations earlier declarations r =
-      Outcome (λ found. (all : Declared) × DeclarationsType text earlier declarations all × (found ≡ capped_all all))
-      (DeclarationsViolate text earlier declarations) (DeclarationsInRange declarations) r
+      Outcome (λ found. (all : Declared) × DeclarationsType dialect text earlier declarations all × (found ≡ capped_all all))
+      (DeclarationsViolate dialect text earlier declarations) (DeclarationsInRange dialect declarations) r
 
-  declarations_sound : (earlier : Declared) (declarations : List DeclarationTree) → OfDeclarations earlier declarations (declarations_verdict text (capped_all earlier) declarations)
+  declarations_sound : (earlier : Declared) (declarations : List DeclarationTree) → OfDeclarations earlier declarations (declarations_verdict dialect text (capped_all earlier) declarations)
   declarations_sound earlier [] = given (earlier, no_declarations, refl)
   declarations_sound earlier (declares_input first ∷ others) =
       of_input (λ t. declarations_sound (with_inputs earlier (earlier.inputs ++ (named text first t ∷ []))) others)
@@ -106,12 +107,12 @@ module _ (text : List ℕ) where
 
       Behind : Type 0
       Behind = (t : Ty) → OfDeclarations (with_inputs earlier (earlier.inputs ++ (named text first t ∷ []))) others
-          (declarations_verdict text (capped_all (with_inputs earlier (earlier.inputs ++ (named text first t ∷ [])))) others)
+          (declarations_verdict dialect text (capped_all (with_inputs earlier (earlier.inputs ++ (named text first t ∷ [])))) others)
 
       of_type : Behind → type_in (spelling text first.place) earlier.inputs ≡ None → (w : Result Ty Refusal) → written_type first.written ≡ w
           → OfDeclarations earlier (declares_input first ∷ others)
           (and_then (and_then (and_then w (λ t. Ok (spelling text first.place, t))) (λ input. Ok (with_inputs (capped_all earlier) (earlier.inputs ++ (input ∷ [])))))
-          (λ declared. declarations_verdict text declared others))
+          (λ declared. declarations_verdict dialect text declared others))
       of_type behind e (Ok t) f = go_on t e f (behind t)
       of_type behind e (Err r) f = violated (input_violates (type_refused e f))
 
@@ -119,56 +120,56 @@ module _ (text : List ℕ) where
           → OfDeclarations earlier (declares_input first ∷ others)
           (and_then (and_then (and_then (new_name text first.place o) (λ bytes. and_then (written_type first.written) (λ t. Ok (bytes, t))))
           (λ input. Ok (with_inputs (capped_all earlier) (earlier.inputs ++ (input ∷ [])))))
-          (λ declared. declarations_verdict text declared others))
+          (λ declared. declarations_verdict dialect text declared others))
       of_input behind (Some t) e = violated (input_violates (named_twice e))
       of_input behind None e = of_type behind e (written_type first.written) refl
   declarations_sound earlier (declares_function place written result body ∷ others) =
       of_function (λ signature. declarations_sound (with_function text earlier signature body) others) (function_sound earlier.functions place written result body)
     where
-      go_on : (signature : Signature) → FunctionTypes text earlier.functions place written result body signature → {r : Result Declared Refusal}
+      go_on : (signature : Signature) → FunctionTypes dialect text earlier.functions place written result body signature → {r : Result Declared Refusal}
           → OfDeclarations (with_function text earlier signature body) others r → OfDeclarations earlier (declares_function place written result body ∷ others) r
       go_on signature f (given found) = given (found.0, function_declared f found.1, found.2)
       go_on signature f (violated v) = violated (behind_function_violates f v)
       go_on signature f (out_of_range n) = out_of_range (λ h. n h.1)
 
       of_function : ((signature : Signature) → OfDeclarations (with_function text earlier signature body) others
-          (declarations_verdict text (capped_all (with_function text earlier signature body)) others)) → {r : Result Signature Refusal} → OfFunction earlier.functions place written result body r
+          (declarations_verdict dialect text (capped_all (with_function text earlier signature body)) others)) → {r : Result Signature Refusal} → OfFunction earlier.functions place written result body r
           → OfDeclarations earlier (declares_function place written result body ∷ others)
-          (and_then (and_then r (λ signature. Ok (with_capped_function text (capped_all earlier) signature body))) (λ declared. declarations_verdict text declared others))
+          (and_then (and_then r (λ signature. Ok (with_capped_function text (capped_all earlier) signature body))) (λ declared. declarations_verdict dialect text declared others))
       of_function behind (given {x = signature} f) =
-          subst (λ d. OfDeclarations earlier (declares_function place written result body ∷ others) (declarations_verdict text d others))
+          subst (λ d. OfDeclarations earlier (declares_function place written result body ∷ others) (declarations_verdict dialect text d others))
           (sym (with_capped text earlier signature body))
           (go_on signature f (behind signature))
       of_function behind (violated v) = violated (function_violates v)
       of_function behind (out_of_range n) = out_of_range (λ h. n h.0)
 
-  module _ (program : ProgramTree) where
-    abbrev OfProgram : Result (Declared × Ty) Refusal → Type 0
-    OfProgram r =
-        Outcome (λ found. (declared : Declared) × ProgramTypes text program declared found.1 × (found.0 ≡ capped_all declared))
-        (ProgramViolates text program) (ProgramInRange program) r
+module _ (text : List ℕ) (program : ProgramTree) where
+  abbrev OfProgram : Result (Declared × Ty) Refusal → Type 0
+  OfProgram r =
+      Outcome (λ found. (declared : Declared) × ProgramTypes text program declared found.1 × (found.0 ≡ capped_all declared))
+      (ProgramViolates text program) (ProgramInRange program) r
 
-    of_size : (declared : Declared) (t : Ty) → are_few program.declarations ≡ true → DeclarationsType text nothing_declared program.declarations declared
-        → Types text declared.functions (opened declared.inputs) program.expression t
-        → (n : ℕ) → capped n ≡ capped (size text declared.sizes program.expression) → (b : Bool) → nat_le (capped n) greatest_size ≡ b
-        → OfProgram (cond b (Ok (capped_all declared, t)) (Err TooBig))
-    of_size declared t few d e n same true le =
-        given (declared, record { few = few; declarations = d; expression = e; size = let below : capped n ≤ 65536 = leb-true (capped n) 65536 le in omega arith }, refl)
-    of_size declared t few d e n same false le =
-        violated (big_expression few d e (let above : 65536 < capped n = leb-false (capped n) 65536 le in omega arith))
+  of_size : (declared : Declared) (t : Ty) → are_few program.declarations ≡ true → DeclarationsType program.dialect text nothing_declared program.declarations declared
+      → Types program.dialect text declared.functions (opened declared.inputs) program.expression t
+      → (n : ℕ) → capped n ≡ capped (size text declared.sizes program.expression) → (b : Bool) → nat_le (capped n) greatest_size ≡ b
+      → OfProgram (cond b (Ok (capped_all declared, t)) (Err TooBig))
+  of_size declared t few d e n same true le =
+      given (declared, record { few = few; declarations = d; expression = e; size = let below : capped n ≤ 65536 = leb-true (capped n) 65536 le in omega arith }, refl)
+  of_size declared t few d e n same false le =
+      violated (big_expression few d e (let above : 65536 < capped n = leb-false (capped n) 65536 le in omega arith))
 
-    of_few : (b : Bool) → are_few program.declarations ≡ b
-        → OfProgram (cond b (and_then (declarations_verdict text nothing_declared program.declarations) (λ declared. expression_verdict text declared program.expression)) (Err TooBig))
-    of_few false few = violated (many_declarations few)
-    of_few true few =
-        then_outcome _ (declarations_sound nothing_declared program.declarations) (λ r v. declaration_violates few v) (λ h. h.declarations)
-        (λ found all. subst (λ d. OfProgram (expression_verdict text d program.expression)) (sym all.2)
-        (then_outcome _ (tree_sound text all.0.functions (opened all.0.inputs) program.expression) (λ r v. expression_violates few all.1 v) (λ h. h.expression)
-        (λ t e. of_size all.0 t few all.1 e (size text (capped_all all.0).sizes program.expression) (size_capped text all.0.sizes program.expression)
-        (nat_le (capped (size text (capped_all all.0).sizes program.expression)) greatest_size) refl)))
+  of_few : (b : Bool) → are_few program.declarations ≡ b
+      → OfProgram (cond b (and_then (declarations_verdict program.dialect text nothing_declared program.declarations) (λ declared. expression_verdict program.dialect text declared program.expression)) (Err TooBig))
+  of_few false few = violated (many_declarations few)
+  of_few true few =
+      then_outcome _ (declarations_sound program.dialect text nothing_declared program.declarations) (λ r v. declaration_violates few v) (λ h. h.declarations)
+      (λ found all. subst (λ d. OfProgram (expression_verdict program.dialect text d program.expression)) (sym all.2)
+      (then_outcome _ (tree_sound program.dialect text all.0.functions (opened all.0.inputs) program.expression) (λ r v. expression_violates few all.1 v) (λ h. h.expression)
+      (λ t e. of_size all.0 t few all.1 e (size text (capped_all all.0).sizes program.expression) (size_capped text all.0.sizes program.expression)
+      (nat_le (capped (size text (capped_all all.0).sizes program.expression)) greatest_size) refl)))
 
-    pub program_sound : OfProgram (program_verdict text program)
-    program_sound = of_few (are_few program.declarations) refl
+  pub program_sound : OfProgram (program_verdict text program)
+  program_sound = of_few (are_few program.declarations) refl
 
 -- one answer
 
@@ -178,13 +179,13 @@ one_ok e f = cc
 one_err : {A : Type 0} {r : Result A Refusal} {x y : Refusal} → r ≡ Err x → r ≡ Err y → x ≡ y
 one_err e f = cc
 
-declared_one : {text : List ℕ} {earlier a b : Declared} {declarations : List DeclarationTree}
-    → DeclarationsType text earlier declarations a → DeclarationsType text earlier declarations b → a ≡ b
+declared_one : {dialect : Dialect} {text : List ℕ} {earlier a b : Declared} {declarations : List DeclarationTree}
+    → DeclarationsType dialect text earlier declarations a → DeclarationsType dialect text earlier declarations b → a ≡ b
 declared_one no_declarations no_declarations = refl
-declared_one {text = text} (input_declared {earlier = earlier} {all = a} {others = others} n rest) (input_declared m rest') =
-    declared_one (subst (λ inputs. DeclarationsType text (with_inputs earlier inputs) others a) (one_ok (names_complete n) (names_complete m)) rest) rest'
-declared_one {text = text} (function_declared {earlier = earlier} {all = a} {body = body} {others = others} f rest) (function_declared g rest') =
-    declared_one (subst (λ signature. DeclarationsType text (with_function text earlier signature body) others a) (one_ok (function_complete f) (function_complete g)) rest) rest'
+declared_one {dialect = dialect} {text = text} (input_declared {earlier = earlier} {all = a} {others = others} n rest) (input_declared m rest') =
+    declared_one (subst (λ inputs. DeclarationsType dialect text (with_inputs earlier inputs) others a) (one_ok (names_complete n) (names_complete m)) rest) rest'
+declared_one {dialect = dialect} {text = text} (function_declared {earlier = earlier} {all = a} {body = body} {others = others} f rest) (function_declared g rest') =
+    declared_one (subst (λ signature. DeclarationsType dialect text (with_function text earlier signature body) others a) (one_ok (function_complete f) (function_complete g)) rest) rest'
 
 one_pair : {A B : Type 0} {x y : A × B} → x ≡ y → x.1 ≡ y.1
 one_pair e = ap (λ p. p.1) e

@@ -23,23 +23,25 @@ pub tree_of-Each : (at : ℕ) (body : Box Expr Global) (binders : Vec Binder Glo
 tree_of-Each at body binders None = ap (λ b. each at (tree_of body.value) b always) (binders_row binders)
 tree_of-Each at body binders (Some condition) = ap (λ b. each at (tree_of body.value) b (only_where (tree_of condition.value))) (binders_row binders)
 
--- the inner scope has the same text and functions, and its names are the context
+-- the inner scope has the same dialect, text and functions, and its names are the context
 pub record Within (inner scope : Scope) (context : Context) : Type 0 where
+  pub dialect : inner.dialect ≡ scope.dialect
   pub text : inner.text.now ≡ scope.text.now
   pub functions : inner.functions.now ≡ scope.functions.now
   pub names : context_of inner.text.now inner.names.now ≡ context
 
 abbrev verdict_at : Scope → Context → Tree → Result Ty Refusal
-verdict_at scope context tree = verdict scope.text.now (signatures_in scope.text.now scope.functions.now) context tree
+verdict_at scope context tree = verdict scope.dialect scope.text.now (signatures_in scope.text.now scope.functions.now) context tree
 
 abbrev condition_verdict_at : Scope → Context → Condition → Result Ty Refusal
-condition_verdict_at scope context condition = condition_verdict scope.text.now (signatures_in scope.text.now scope.functions.now) context condition
+condition_verdict_at scope context condition = condition_verdict scope.dialect scope.text.now (signatures_in scope.text.now scope.functions.now) context condition
 
 module _ (inner scope : Scope) (context : Context) (within : Within inner scope context) where
   typed_within : (tree : Tree) → typed_in inner tree ≡ verdict_at scope context tree
   typed_within tree =
-      ap (λ text. verdict text (signatures_in text inner.functions.now) (context_of inner.text.now inner.names.now) tree) within.text
-      ∙ ap (λ functions. verdict scope.text.now (signatures_in scope.text.now functions) (context_of inner.text.now inner.names.now) tree) within.functions
+      ap (λ dialect. verdict dialect inner.text.now (signatures_in inner.text.now inner.functions.now) (context_of inner.text.now inner.names.now) tree) within.dialect
+      ∙ ap (λ text. verdict scope.dialect text (signatures_in text inner.functions.now) (context_of inner.text.now inner.names.now) tree) within.text
+      ∙ ap (λ functions. verdict scope.dialect scope.text.now (signatures_in scope.text.now functions) (context_of inner.text.now inner.names.now) tree) within.functions
       ∙ ap (λ c. verdict_at scope c tree) within.names
 
   condition_typed_within : (condition : Condition) → condition_typed_in inner condition ≡ condition_verdict_at scope context condition

@@ -1,6 +1,7 @@
 -- Which refusals typing has.
 use Rattle.std.proofs.Common.{◌≡◌, ℕ, Bool, true, false, List, Result, Ok, Err}
 use Rattle.std.specs.Prelude.{if◌then◌else◌}
+use Rattle.snesl_values.specs.declared.dialect.Dialect.{Dialect}
 use Rattle.snesl_values.specs.declared.refusal.Refusal.{Refusal}
 use Rattle.snesl_values.specs.declared.refusal.Refusal.TheVariants.{Name, Mismatch, Streamed, TooBig}
 use Rattle.snesl_values.specs.Inputs.{Declaration}
@@ -56,7 +57,7 @@ written_of_typing written refusal e = let h = type_of_typing written in by_resul
     by_result (Err other) h e' = let same : other ≡ refusal = cc in rw same at h
 
 mutual
-  of_typing : {text : List ℕ} {functions : Signatures} {context : Context} {tree : Tree} {refusal : Refusal} → Violates text functions context tree refusal → IsOfTyping refusal
+  of_typing : {dialect : Dialect} {text : List ℕ} {functions : Signatures} {context : Context} {tree : Tree} {refusal : Refusal} → Violates dialect text functions context tree refusal → IsOfTyping refusal
   of_typing (big_type _ _) = tt
   of_typing (unbound _) = tt
   of_typing (streamed _) = tt
@@ -91,11 +92,11 @@ mutual
   of_typing (condition_mismatch _ _ _ _) = tt
   of_typing (binder_missing _ _ _) = tt
 
-  any_of_typing : {text : List ℕ} {functions : Signatures} {context : Context} {trees : Trees} {refusal : Refusal} → AnyViolates text functions context trees refusal → IsOfTyping refusal
+  any_of_typing : {dialect : Dialect} {text : List ℕ} {functions : Signatures} {context : Context} {trees : Trees} {refusal : Refusal} → AnyViolates dialect text functions context trees refusal → IsOfTyping refusal
   any_of_typing (first_violates v) = of_typing v
   any_of_typing (later_violates _ v) = any_of_typing v
 
-  binders_of_typing : {text : List ℕ} {functions : Signatures} {context : Context} {earlier : List Declaration} {binders : Binders} {refusal : Refusal} → BindersViolate text functions context earlier binders refusal → IsOfTyping refusal
+  binders_of_typing : {dialect : Dialect} {text : List ℕ} {functions : Signatures} {context : Context} {earlier : List Declaration} {binders : Binders} {refusal : Refusal} → BindersViolate dialect text functions context earlier binders refusal → IsOfTyping refusal
   binders_of_typing (source_violates v) = of_typing v
   binders_of_typing (bound_twice _ _) = tt
   binders_of_typing (binder_mismatch _ _ _) = tt
@@ -106,14 +107,14 @@ names_of_typing (named_twice _) = tt
 names_of_typing (type_refused {first = first} {refusal = refusal} _ e) = written_of_typing first.written refusal e
 names_of_typing (later_names_violate _ _ v) = names_of_typing v
 
-function_of_typing : {text : List ℕ} {functions : Signatures} {place : Span} {written : List Typed} {result : TypeTree} {body : Tree} {refusal : Refusal} → FunctionViolates text functions place written result body refusal → IsOfTyping refusal
+function_of_typing : {dialect : Dialect} {text : List ℕ} {functions : Signatures} {place : Span} {written : List Typed} {result : TypeTree} {body : Tree} {refusal : Refusal} → FunctionViolates dialect text functions place written result body refusal → IsOfTyping refusal
 function_of_typing (function_twice _) = tt
 function_of_typing (parameter_violates _ v) = names_of_typing v
 function_of_typing (result_refused {result = result} {refusal = refusal} _ _ e) = written_of_typing result refusal e
 function_of_typing (function_body_violates _ _ _ v) = of_typing v
 function_of_typing (function_mismatch _ _ _ _ _) = tt
 
-declarations_of_typing : {text : List ℕ} {earlier : Declared} {declarations : List DeclarationTree} {refusal : Refusal} → DeclarationsViolate text earlier declarations refusal → IsOfTyping refusal
+declarations_of_typing : {dialect : Dialect} {text : List ℕ} {earlier : Declared} {declarations : List DeclarationTree} {refusal : Refusal} → DeclarationsViolate dialect text earlier declarations refusal → IsOfTyping refusal
 declarations_of_typing (input_violates v) = names_of_typing v
 declarations_of_typing (function_violates v) = function_of_typing v
 declarations_of_typing (behind_input_violates _ v) = declarations_of_typing v

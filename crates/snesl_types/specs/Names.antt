@@ -52,22 +52,22 @@ sizes_in text functions = map (λ function. (spelling text function.name, functi
 
 -- what the rules say of an expression in a scope
 abbrev pub typed_in : Scope → Tree → Result Ty Refusal
-typed_in scope tree = verdict scope.text.now (signatures_in scope.text.now scope.functions.now) (context_of scope.text.now scope.names.now) tree
+typed_in scope tree = verdict scope.dialect scope.text.now (signatures_in scope.text.now scope.functions.now) (context_of scope.text.now scope.names.now) tree
 
 abbrev pub ruled_in : Scope → Tree → Result Ty Refusal
-ruled_in scope tree = rule scope.text.now (signatures_in scope.text.now scope.functions.now) (context_of scope.text.now scope.names.now) tree
+ruled_in scope tree = rule scope.dialect scope.text.now (signatures_in scope.text.now scope.functions.now) (context_of scope.text.now scope.names.now) tree
 
 -- of arguments, or items, behind earlier ones
 abbrev pub all_typed_in : Scope → List Ty → Trees → Result (List Ty) Refusal
-all_typed_in scope earlier trees = verdicts scope.text.now (signatures_in scope.text.now scope.functions.now) (context_of scope.text.now scope.names.now) earlier trees
+all_typed_in scope earlier trees = verdicts scope.dialect scope.text.now (signatures_in scope.text.now scope.functions.now) (context_of scope.text.now scope.names.now) earlier trees
 
 -- of binders behind earlier ones
 abbrev pub binders_typed_in : Scope → List Declaration → Binders → Result (List Declaration) Refusal
-binders_typed_in scope earlier binders = binders_verdict scope.text.now (signatures_in scope.text.now scope.functions.now) (context_of scope.text.now scope.names.now) earlier binders
+binders_typed_in scope earlier binders = binders_verdict scope.dialect scope.text.now (signatures_in scope.text.now scope.functions.now) (context_of scope.text.now scope.names.now) earlier binders
 
 -- of a condition
 abbrev pub condition_typed_in : Scope → Condition → Result Ty Refusal
-condition_typed_in scope condition = condition_verdict scope.text.now (signatures_in scope.text.now scope.functions.now) (context_of scope.text.now scope.names.now) condition
+condition_typed_in scope condition = condition_verdict scope.dialect scope.text.now (signatures_in scope.text.now scope.functions.now) (context_of scope.text.now scope.names.now) condition
 
 abbrev pub condition_in : Option (Box Expr Global) → Condition
 condition_in None = always

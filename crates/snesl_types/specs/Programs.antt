@@ -1,5 +1,6 @@
 -- Which programs have a type, and which rule a program violates first.
 use Rattle.std.specs.Prelude.{◌≡◌, ℕ, suc, ◌<◌, ◌≤◌, nat_le, Bool, true, false, ◌&&◌, if◌then◌else◌, List, [], ◌∷◌, ◌++◌, map, Some, None, Result, Ok, Err, ◌⊎◌}
+use Rattle.snesl_values.specs.declared.dialect.Dialect.{Dialect}
 use Rattle.snesl_values.specs.declared.refusal.Refusal.{Refusal}
 use Rattle.snesl_values.specs.declared.refusal.Refusal.TheVariants.{Name, Mismatch, Streamed, TooBig, NoMemory}
 use Rattle.snesl_values.specs.Inputs.{Declaration}
@@ -88,71 +89,71 @@ signature_of text place parameters result = record {
 }
 
 -- a function's parameters, result and body fit under the earlier functions; its body sees its parameters only
-pub data FunctionTypes (text : List ℕ) (functions : Signatures) : Span → List Typed → TypeTree → Tree → Signature → Type 0 where
+pub data FunctionTypes (dialect : Dialect) (text : List ℕ) (functions : Signatures) : Span → List Typed → TypeTree → Tree → Signature → Type 0 where
   function_type : {place : Span} {written : List Typed} {result : TypeTree} {body : Tree} {parameters : List Declaration} {t : Ty}
       → function_named (spelling text place) functions ≡ None
       → NamesType text [] written parameters
       → written_type result ≡ Ok t
-      → Types text functions (opened parameters) body t
-      → FunctionTypes text functions place written result body (signature_of text place parameters t)
+      → Types dialect text functions (opened parameters) body t
+      → FunctionTypes dialect text functions place written result body (signature_of text place parameters t)
 
 -- the first violation in a function: its name, its parameters, its result's type, its body, and that the body has this type
-pub data FunctionViolates (text : List ℕ) (functions : Signatures) : Span → List Typed → TypeTree → Tree → Refusal → Type 0 where
+pub data FunctionViolates (dialect : Dialect) (text : List ℕ) (functions : Signatures) : Span → List Typed → TypeTree → Tree → Refusal → Type 0 where
   function_twice : {place : Span} {written : List Typed} {result : TypeTree} {body : Tree} {signature : Signature}
       → function_named (spelling text place) functions ≡ Some signature
-      → FunctionViolates text functions place written result body (Name place.at)
+      → FunctionViolates dialect text functions place written result body (Name place.at)
   parameter_violates : {place : Span} {written : List Typed} {result : TypeTree} {body : Tree} {refusal : Refusal}
       → function_named (spelling text place) functions ≡ None
       → NamesViolate text [] written refusal
-      → FunctionViolates text functions place written result body refusal
+      → FunctionViolates dialect text functions place written result body refusal
   result_refused : {place : Span} {written : List Typed} {result : TypeTree} {body : Tree} {parameters : List Declaration} {refusal : Refusal}
       → function_named (spelling text place) functions ≡ None
       → NamesType text [] written parameters
       → written_type result ≡ Err refusal
-      → FunctionViolates text functions place written result body refusal
+      → FunctionViolates dialect text functions place written result body refusal
   function_body_violates : {place : Span} {written : List Typed} {result : TypeTree} {body : Tree} {parameters : List Declaration} {t : Ty} {refusal : Refusal}
       → function_named (spelling text place) functions ≡ None
       → NamesType text [] written parameters
       → written_type result ≡ Ok t
-      → Violates text functions (opened parameters) body refusal
-      → FunctionViolates text functions place written result body refusal
+      → Violates dialect text functions (opened parameters) body refusal
+      → FunctionViolates dialect text functions place written result body refusal
   -- a body of another type than the declared one
   function_mismatch : {place : Span} {written : List Typed} {result : TypeTree} {body : Tree} {parameters : List Declaration} {t u : Ty}
       → function_named (spelling text place) functions ≡ None
       → NamesType text [] written parameters
       → written_type result ≡ Ok t
-      → Types text functions (opened parameters) body u
+      → Types dialect text functions (opened parameters) body u
       → ¬ (u ≡ t)
-      → FunctionViolates text functions place written result body (Mismatch place.at)
+      → FunctionViolates dialect text functions place written result body (Mismatch place.at)
 
 -- after what was declared, these declarations in order give all of this
-pub data DeclarationsType (text : List ℕ) : Declared → List DeclarationTree → Declared → Type 0 where
-  no_declarations : {earlier : Declared} → DeclarationsType text earlier [] earlier
+pub data DeclarationsType (dialect : Dialect) (text : List ℕ) : Declared → List DeclarationTree → Declared → Type 0 where
+  no_declarations : {earlier : Declared} → DeclarationsType dialect text earlier [] earlier
   input_declared : {earlier all : Declared} {inputs : List Declaration} {declared : Typed} {others : List DeclarationTree}
       → NamesType text earlier.inputs (declared ∷ []) inputs
-      → DeclarationsType text (with_inputs earlier inputs) others all
-      → DeclarationsType text earlier (declares_input declared ∷ others) all
+      → DeclarationsType dialect text (with_inputs earlier inputs) others all
+      → DeclarationsType dialect text earlier (declares_input declared ∷ others) all
   function_declared : {earlier all : Declared} {place : Span} {written : List Typed} {result : TypeTree} {body : Tree} {signature : Signature} {others : List DeclarationTree}
-      → FunctionTypes text earlier.functions place written result body signature
-      → DeclarationsType text (with_function text earlier signature body) others all
-      → DeclarationsType text earlier (declares_function place written result body ∷ others) all
+      → FunctionTypes dialect text earlier.functions place written result body signature
+      → DeclarationsType dialect text (with_function text earlier signature body) others all
+      → DeclarationsType dialect text earlier (declares_function place written result body ∷ others) all
 
 -- the first violation in them
-pub data DeclarationsViolate (text : List ℕ) : Declared → List DeclarationTree → Refusal → Type 0 where
+pub data DeclarationsViolate (dialect : Dialect) (text : List ℕ) : Declared → List DeclarationTree → Refusal → Type 0 where
   input_violates : {earlier : Declared} {declared : Typed} {others : List DeclarationTree} {refusal : Refusal}
       → NamesViolate text earlier.inputs (declared ∷ []) refusal
-      → DeclarationsViolate text earlier (declares_input declared ∷ others) refusal
+      → DeclarationsViolate dialect text earlier (declares_input declared ∷ others) refusal
   function_violates : {earlier : Declared} {place : Span} {written : List Typed} {result : TypeTree} {body : Tree} {others : List DeclarationTree} {refusal : Refusal}
-      → FunctionViolates text earlier.functions place written result body refusal
-      → DeclarationsViolate text earlier (declares_function place written result body ∷ others) refusal
+      → FunctionViolates dialect text earlier.functions place written result body refusal
+      → DeclarationsViolate dialect text earlier (declares_function place written result body ∷ others) refusal
   behind_input_violates : {earlier : Declared} {inputs : List Declaration} {declared : Typed} {others : List DeclarationTree} {refusal : Refusal}
       → NamesType text earlier.inputs (declared ∷ []) inputs
-      → DeclarationsViolate text (with_inputs earlier inputs) others refusal
-      → DeclarationsViolate text earlier (declares_input declared ∷ others) refusal
+      → DeclarationsViolate dialect text (with_inputs earlier inputs) others refusal
+      → DeclarationsViolate dialect text earlier (declares_input declared ∷ others) refusal
   behind_function_violates : {earlier : Declared} {place : Span} {written : List Typed} {result : TypeTree} {body : Tree} {signature : Signature} {others : List DeclarationTree} {refusal : Refusal}
-      → FunctionTypes text earlier.functions place written result body signature
-      → DeclarationsViolate text (with_function text earlier signature body) others refusal
-      → DeclarationsViolate text earlier (declares_function place written result body ∷ others) refusal
+      → FunctionTypes dialect text earlier.functions place written result body signature
+      → DeclarationsViolate dialect text (with_function text earlier signature body) others refusal
+      → DeclarationsViolate dialect text earlier (declares_function place written result body ∷ others) refusal
 
 -- how many inputs, and functions, there are
 abbrev pub input_count : List DeclarationTree → ℕ
@@ -175,8 +176,8 @@ nothing_declared = record { inputs = []; functions = []; sizes = [] }
 -- the program declares this, and its expression, which sees the inputs and the functions, has this type
 pub record ProgramTypes (text : List ℕ) (program : ProgramTree) (declared : Declared) (t : Ty) : Type 0 where
   pub few : are_few program.declarations ≡ true
-  pub declarations : DeclarationsType text nothing_declared program.declarations declared
-  pub expression : Types text declared.functions (opened declared.inputs) program.expression t
+  pub declarations : DeclarationsType program.dialect text nothing_declared program.declarations declared
+  pub expression : Types program.dialect text declared.functions (opened declared.inputs) program.expression t
   pub size : size text declared.sizes program.expression ≤ greatest_size
 
 -- the program has these inputs and this type
@@ -187,15 +188,15 @@ HasTyping text program inputs t = (declared : Declared) × ProgramTypes text pro
 pub data ProgramViolates (text : List ℕ) (program : ProgramTree) : Refusal → Type 0 where
   many_declarations : are_few program.declarations ≡ false → ProgramViolates text program TooBig
   declaration_violates : {refusal : Refusal} → are_few program.declarations ≡ true
-      → DeclarationsViolate text nothing_declared program.declarations refusal
+      → DeclarationsViolate program.dialect text nothing_declared program.declarations refusal
       → ProgramViolates text program refusal
   expression_violates : {declared : Declared} {refusal : Refusal} → are_few program.declarations ≡ true
-      → DeclarationsType text nothing_declared program.declarations declared
-      → Violates text declared.functions (opened declared.inputs) program.expression refusal
+      → DeclarationsType program.dialect text nothing_declared program.declarations declared
+      → Violates program.dialect text declared.functions (opened declared.inputs) program.expression refusal
       → ProgramViolates text program refusal
   big_expression : {declared : Declared} {t : Ty} → are_few program.declarations ≡ true
-      → DeclarationsType text nothing_declared program.declarations declared
-      → Types text declared.functions (opened declared.inputs) program.expression t
+      → DeclarationsType program.dialect text nothing_declared program.declarations declared
+      → Types program.dialect text declared.functions (opened declared.inputs) program.expression t
       → greatest_size < size text declared.sizes program.expression
       → ProgramViolates text program TooBig
 
@@ -207,7 +208,7 @@ HaveOneTyping =
     × ((r s : Refusal) → ProgramViolates text program r → ProgramViolates text program s → r ≡ s)
     × ((d : Declared) (t : Ty) (r : Refusal) → ProgramTypes text program d t → ¬ ProgramViolates text program r)
 
--- a program has a type or a first violation, where its integers are integers of the language: the rules leave none out
+-- a program has a type or a first violation, where its integers are integers of its dialect: the rules leave none out
 abbrev pub HaveSomeTyping : Type 0
 HaveSomeTyping =
     (text : List ℕ) (program : ProgramTree) → ProgramInRange program

@@ -1,5 +1,6 @@
 -- A typed program gives a value of its type, or a fault that types cannot rule out.
 use Rattle.std.specs.Prelude.{◌≡◌, ◌≢◌, ℕ, List, [], ◌∷◌, Some, Result, Ok, Err}
+use Rattle.snesl_values.specs.declared.dialect.Dialect.{Dialect}
 use Rattle.snesl_values.specs.declared.datum.Datum.{Datum}
 use Rattle.snesl_values.specs.declared.fault.Fault.{Fault}
 use Rattle.snesl_values.specs.declared.fault.FaultKind.TheVariants.{Shape}
@@ -14,22 +15,22 @@ use Rattle.snesl_types.specs.Typing.{Types}
 use Rattle.snesl_types.specs.Programs.{Declared, ProgramTypes}
 
 -- the value is one of the binding's type; a shut name may have any value
-abbrev pub Fits : Value → Binding → Type 0
-Fits value (open_to t) = HasType value t
-Fits value shut = Unit {0}
+abbrev pub Fits : Dialect → Value → Binding → Type 0
+Fits dialect value (open_to t) = HasType dialect value t
+Fits dialect value shut = Unit {0}
 
 -- the names of the context have fitting values, in the same order; further names may follow
-abbrev pub Holds : Context → Environment → Type 0
-Holds [] environment = Unit {0}
-Holds (entry ∷ context) [] = ⊥
-Holds (entry ∷ context) ((bytes, value) ∷ environment) =
-    (entry.bytes ≡ bytes) × Fits value entry.binding × Holds context environment
+abbrev pub Holds : Dialect → Context → Environment → Type 0
+Holds dialect [] environment = Unit {0}
+Holds dialect (entry ∷ context) [] = ⊥
+Holds dialect (entry ∷ context) ((bytes, value) ∷ environment) =
+    (entry.bytes ≡ bytes) × Fits dialect value entry.binding × Holds dialect context environment
 
 -- the values are of these types, in order
-abbrev pub HaveTypes : List Value → List Ty → Type 0
-HaveTypes [] [] = Unit {0}
-HaveTypes (v ∷ vs) (t ∷ ts) = HasType v t × HaveTypes vs ts
-HaveTypes _ _ = ⊥
+abbrev pub HaveTypes : Dialect → List Value → List Ty → Type 0
+HaveTypes dialect [] [] = Unit {0}
+HaveTypes dialect (v ∷ vs) (t ∷ ts) = HasType dialect v t × HaveTypes dialect vs ts
+HaveTypes dialect _ _ = ⊥
 
 -- a result that meets the condition, or a fault other than Shape
 abbrev pub Safe : {A : Type 0} → (A → Type 0) → Answer A → Type 0
@@ -37,27 +38,27 @@ Safe Meets (gives x) = Meets x
 Safe Meets (faults kind at) = kind ≢ Shape
 
 -- calls of these functions at arguments of the parameters' types give values of the declared types
-abbrev pub CallsHold : Signatures → Calls → Type 0
-CallsHold functions calls =
+abbrev pub CallsHold : Dialect → Signatures → Calls → Type 0
+CallsHold dialect functions calls =
     (at : ℕ) (bytes : List ℕ) (signature : Signature) (vs : List Value)
-    → function_named bytes functions ≡ Some signature → HaveTypes vs signature.parameters
-    → Safe (λ value. HasType value signature.result) (calls at bytes vs)
+    → function_named bytes functions ≡ Some signature → HaveTypes dialect vs signature.parameters
+    → Safe (λ value. HasType dialect value signature.result) (calls at bytes vs)
 
 -- evaluation keeps the types of expressions
 abbrev pub TypedExpressionsAreSound : Type 0
 TypedExpressionsAreSound =
-    (text : List ℕ) (functions : Signatures) (calls : Calls) (context : Context) (environment : Environment) (tree : Tree) (t : Ty)
-    → Types text functions context tree t → CallsHold functions calls → Holds context environment
-    → Safe (λ value. HasType value t) (eval tree text calls environment)
+    (dialect : Dialect) (text : List ℕ) (functions : Signatures) (calls : Calls) (context : Context) (environment : Environment) (tree : Tree) (t : Ty)
+    → Types dialect text functions context tree t → CallsHold dialect functions calls → Holds dialect context environment
+    → Safe (λ value. HasType dialect value t) (eval dialect tree text calls environment)
 
 -- and those of programs, where the inputs have values of their declared types
 abbrev pub TypedProgramsAreSound : Type 0
 TypedProgramsAreSound =
     (text : List ℕ) (program : ProgramTree) (declared : Declared) (t : Ty) (environment : Environment)
-    → ProgramTypes text program declared t → FitsInputs declared.inputs environment
-    → Safe (λ value. HasType value t) (program_value text program environment)
+    → ProgramTypes text program declared t → FitsInputs program.dialect declared.inputs environment
+    → Safe (λ value. HasType program.dialect value t) (program_value text program environment)
 
 -- the datum is of the type, or the fault is one that types cannot rule out
-abbrev pub IsSound : Ty → Result Datum Fault → Type 0
-IsSound t (Ok datum) = HasType (value_of datum) t
-IsSound t (Err fault) = fault.kind ≢ Shape
+abbrev pub IsSound : Dialect → Ty → Result Datum Fault → Type 0
+IsSound dialect t (Ok datum) = HasType dialect (value_of datum) t
+IsSound dialect t (Err fault) = fault.kind ≢ Shape

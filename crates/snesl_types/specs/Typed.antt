@@ -1,5 +1,6 @@
 -- What callers see of a typed program.
 use Rattle.std.specs.Prelude.{ℕ, List}
+use Rattle.snesl_values.specs.declared.dialect.Dialect.{Dialect}
 use Rattle.snesl_values.specs.Types.{Ty, ty_of}
 use Rattle.snesl_values.specs.Inputs.{Declaration, declared}
 use Rattle.snesl_grammar.specs.declared.program.Program.{Program}
@@ -9,6 +10,10 @@ use Rattle.snesl_types.specs.declared.typed.Typed.{Typed}
 
 abbrev pub program_of : Typed → Program
 program_of typed = typed.program.now
+
+-- the dialect of its integers
+abbrev pub typed_dialect : Typed → Dialect
+typed_dialect typed = typed.program.now.dialect
 
 abbrev pub typed_text : Typed → List ℕ
 typed_text typed = typed.program.now.text.items

@@ -1,5 +1,6 @@
 -- Which expressions have a type.
 use Rattle.std.specs.Prelude.{◌≡◌, ℕ, ℤ, Bool, true, List, [], ◌∷◌, ◌++◌, Some, None}
+use Rattle.snesl_values.specs.declared.dialect.Dialect.{Dialect}
 use Rattle.snesl_values.specs.Integers.{IsInteger}
 use Rattle.snesl_values.specs.Inputs.{Declaration}
 use Rattle.snesl_values.specs.Types.{Ty, int, bool, pair, seq}
@@ -21,77 +22,77 @@ AllAre t (u ∷ us) = (u ≡ t) × AllAre t us
 mutual
   -- the expression has this type where variables stand for these bindings and these functions can be called;
   -- names are spelled as the text has them
-  pub data Types (text : List ℕ) (functions : Signatures) : Context → Tree → Ty → Type 0 where
+  pub data Types (dialect : Dialect) (text : List ℕ) (functions : Signatures) : Context → Tree → Ty → Type 0 where
     has_type : {context : Context} {tree : Tree} {t : Ty}
-        → Gives text functions context tree t → is_small t ≡ true
-        → Types text functions context tree t
+        → Gives dialect text functions context tree t → is_small t ≡ true
+        → Types dialect text functions context tree t
 
   -- by the rule of its form the expression has this type, whatever the type's size
-  pub data Gives (text : List ℕ) (functions : Signatures) : Context → Tree → Ty → Type 0 where
-    integer_type : {context : Context} {at : ℕ} {value : ℤ} → IsInteger value → Gives text functions context (integer at value) int
-    truth_type : {context : Context} {at : ℕ} {value : Bool} → Gives text functions context (truth at value) bool
+  pub data Gives (dialect : Dialect) (text : List ℕ) (functions : Signatures) : Context → Tree → Ty → Type 0 where
+    integer_type : {context : Context} {at : ℕ} {value : ℤ} → IsInteger dialect value → Gives dialect text functions context (integer at value) int
+    truth_type : {context : Context} {at : ℕ} {value : Bool} → Gives dialect text functions context (truth at value) bool
     name_type : {context : Context} {place : Span} {t : Ty}
         → found (spelling text place) context ≡ Some (open_to t)
-        → Gives text functions context (name place) t
+        → Gives dialect text functions context (name place) t
     binary_type : {context : Context} {at : ℕ} {operator : Operator} {left right : Tree} {t u v : Ty}
-        → Types text functions context left t → Types text functions context right u → operator_result operator t u ≡ Some v
-        → Gives text functions context (binary at operator left right) v
+        → Types dialect text functions context left t → Types dialect text functions context right u → operator_result operator t u ≡ Some v
+        → Gives dialect text functions context (binary at operator left right) v
     prefix_type : {context : Context} {at : ℕ} {operator : Prefix} {operand : Tree} {t u : Ty}
-        → Types text functions context operand t → prefix_result operator t ≡ Some u
-        → Gives text functions context (prefix at operator operand) u
+        → Types dialect text functions context operand t → prefix_result operator t ≡ Some u
+        → Gives dialect text functions context (prefix at operator operand) u
     call_type : {context : Context} {at : ℕ} {function : Builtin} {arguments : Trees} {ts : List Ty} {t : Ty}
-        → AllTypes text functions context arguments ts → result_of function ts ≡ Some t
-        → Gives text functions context (call at function arguments) t
+        → AllTypes dialect text functions context arguments ts → result_of function ts ≡ Some t
+        → Gives dialect text functions context (call at function arguments) t
     apply_type : {context : Context} {place : Span} {arguments : Trees} {signature : Signature}
-        → AllTypes text functions context arguments signature.parameters
+        → AllTypes dialect text functions context arguments signature.parameters
         → function_named (spelling text place) functions ≡ Some signature
-        → Gives text functions context (apply place arguments) signature.result
+        → Gives dialect text functions context (apply place arguments) signature.result
     group_type : {context : Context} {at : ℕ} {inner : Tree} {t : Ty}
-        → Types text functions context inner t → Gives text functions context (group at inner) t
+        → Types dialect text functions context inner t → Gives dialect text functions context (group at inner) t
     pair_type : {context : Context} {at : ℕ} {first second : Tree} {t u : Ty}
-        → Types text functions context first t → Types text functions context second u
-        → Gives text functions context (pair_tree at first second) (pair t u)
+        → Types dialect text functions context first t → Types dialect text functions context second u
+        → Gives dialect text functions context (pair_tree at first second) (pair t u)
     binding_type : {context : Context} {at : ℕ} {place : Span} {value body : Tree} {t u : Ty}
-        → Types text functions context value t
-        → Types text functions (bound (spelling text place) t ∷ context) body u
-        → Gives text functions context (binding at place value body) u
+        → Types dialect text functions context value t
+        → Types dialect text functions (bound (spelling text place) t ∷ context) body u
+        → Gives dialect text functions context (binding at place value body) u
     choice_type : {context : Context} {at : ℕ} {condition positive negative : Tree} {t : Ty}
-        → Types text functions context condition bool
-        → Types text functions context positive t → Types text functions context negative t
-        → Gives text functions context (choice at condition positive negative) t
+        → Types dialect text functions context condition bool
+        → Types dialect text functions context positive t → Types dialect text functions context negative t
+        → Gives dialect text functions context (choice at condition positive negative) t
     literal_type : {context : Context} {at : ℕ} {items : Trees} {t : Ty} {ts : List Ty}
-        → AllTypes text functions context items (t ∷ ts) → AllAre t ts
-        → Gives text functions context (literal at items) (seq t)
+        → AllTypes dialect text functions context items (t ∷ ts) → AllAre t ts
+        → Gives dialect text functions context (literal at items) (seq t)
     filter_type : {context : Context} {at : ℕ} {item condition : Tree} {t : Ty}
-        → Types text functions context item t → Types text functions context condition bool
-        → Gives text functions context (filter at item condition) (seq t)
+        → Types dialect text functions context item t → Types dialect text functions context condition bool
+        → Gives dialect text functions context (filter at item condition) (seq t)
     -- there is a binder; the condition and the body see the outer names as from inside, and the binders' names
     each_type : {context : Context} {at : ℕ} {body : Tree} {place : Span} {source : Tree} {others : Binders} {condition : Condition}
         {items : List Declaration} {t : Ty}
-        → BindersType text functions context [] (binder place source others) items
-        → ConditionTypes text functions (opened items ++ inside context) condition bool
-        → Types text functions (opened items ++ inside context) body t
-        → Gives text functions context (each at body (binder place source others) condition) (seq t)
+        → BindersType dialect text functions context [] (binder place source others) items
+        → ConditionTypes dialect text functions (opened items ++ inside context) condition bool
+        → Types dialect text functions (opened items ++ inside context) body t
+        → Gives dialect text functions context (each at body (binder place source others) condition) (seq t)
 
   -- these arguments, or items, have these types
-  pub data AllTypes (text : List ℕ) (functions : Signatures) : Context → Trees → List Ty → Type 0 where
-    no_types : {context : Context} → AllTypes text functions context none []
+  pub data AllTypes (dialect : Dialect) (text : List ℕ) (functions : Signatures) : Context → Trees → List Ty → Type 0 where
+    no_types : {context : Context} → AllTypes dialect text functions context none []
     more_types : {context : Context} {first : Tree} {others : Trees} {t : Ty} {ts : List Ty}
-        → Types text functions context first t → AllTypes text functions context others ts
-        → AllTypes text functions context (both first others) (t ∷ ts)
+        → Types dialect text functions context first t → AllTypes dialect text functions context others ts
+        → AllTypes dialect text functions context (both first others) (t ∷ ts)
 
   -- after the earlier binders of their comprehension, the binders have these names with the types of their elements,
   -- the earlier ones first; a sequence sees none of these names
-  pub data BindersType (text : List ℕ) (functions : Signatures) : Context → List Declaration → Binders → List Declaration → Type 0 where
-    no_binders : {context : Context} {earlier : List Declaration} → BindersType text functions context earlier none_bound earlier
+  pub data BindersType (dialect : Dialect) (text : List ℕ) (functions : Signatures) : Context → List Declaration → Binders → List Declaration → Type 0 where
+    no_binders : {context : Context} {earlier : List Declaration} → BindersType dialect text functions context earlier none_bound earlier
     more_binders : {context : Context} {earlier all : List Declaration} {place : Span} {source : Tree} {others : Binders} {t : Ty}
-        → Types text functions context source (seq t)
+        → Types dialect text functions context source (seq t)
         → type_in (spelling text place) earlier ≡ None
-        → BindersType text functions context (earlier ++ ((spelling text place, t) ∷ [])) others all
-        → BindersType text functions context earlier (binder place source others) all
+        → BindersType dialect text functions context (earlier ++ ((spelling text place, t) ∷ [])) others all
+        → BindersType dialect text functions context earlier (binder place source others) all
 
   -- the condition has this type; where there is none, that of a truth value
-  pub data ConditionTypes (text : List ℕ) (functions : Signatures) : Context → Condition → Ty → Type 0 where
-    no_condition : {context : Context} → ConditionTypes text functions context always bool
+  pub data ConditionTypes (dialect : Dialect) (text : List ℕ) (functions : Signatures) : Context → Condition → Ty → Type 0 where
+    no_condition : {context : Context} → ConditionTypes dialect text functions context always bool
     condition_type : {context : Context} {condition : Tree} {t : Ty}
-        → Types text functions context condition t → ConditionTypes text functions context (only_where condition) t
+        → Types dialect text functions context condition t → ConditionTypes dialect text functions context (only_where condition) t

@@ -1,6 +1,7 @@
 -- The rules as functions: the type of an expression, or what it is refused for. That these answers and the
 -- rules agree is proved.
 use Rattle.std.specs.Prelude.{◌≡◌, ℕ, ◌⊎◌, min, nat_le, Bool, true, false, ◌&&◌, if◌then◌else◌, List, [], ◌∷◌, ◌++◌, Option, Some, None, is_some, Result, Ok, Err}
+use Rattle.snesl_values.specs.declared.dialect.Dialect.{Dialect}
 use Rattle.snesl_values.specs.declared.refusal.Refusal.{Refusal}
 use Rattle.snesl_values.specs.declared.refusal.Refusal.TheVariants.{Name, Mismatch, Streamed, TooBig, NoMemory}
 use Rattle.snesl_values.specs.Inputs.{Declaration}
@@ -81,56 +82,56 @@ sized r = and_then r small_type
 
 abbrev mutual
   -- the type of an expression by the rule of its form, whatever the type's size; no answer at an integer out of range, which no program has
-  pub rule : (text : List ℕ) (functions : Signatures) → Context → Tree → Result Ty Refusal
-  rule text functions context (integer at value) = if is_integer value then Ok int else Err NoMemory
-  rule text functions context (truth at value) = Ok bool
-  rule text functions context (name place) = of_binding place (found (spelling text place) context)
-  rule text functions context (binary at operator left right) =
-      and_then (both_of (sized (rule text functions context left)) (sized (rule text functions context right)))
+  pub rule : (dialect : Dialect) (text : List ℕ) (functions : Signatures) → Context → Tree → Result Ty Refusal
+  rule dialect text functions context (integer at value) = if is_integer dialect value then Ok int else Err NoMemory
+  rule dialect text functions context (truth at value) = Ok bool
+  rule dialect text functions context (name place) = of_binding place (found (spelling text place) context)
+  rule dialect text functions context (binary at operator left right) =
+      and_then (both_of (sized (rule dialect text functions context left)) (sized (rule dialect text functions context right)))
       (λ ts. or_refused (Mismatch at) (operator_result operator ts.0 ts.1))
-  rule text functions context (prefix at operator operand) =
-      and_then (sized (rule text functions context operand)) (λ t. or_refused (Mismatch at) (prefix_result operator t))
-  rule text functions context (call at function arguments) =
-      and_then (verdicts text functions context [] arguments) (of_builtin at function)
-  rule text functions context (apply place arguments) =
-      and_then (verdicts text functions context [] arguments) (λ ts. of_function place ts (function_named (spelling text place) functions))
-  rule text functions context (group at inner) = sized (rule text functions context inner)
-  rule text functions context (pair_tree at first second) =
-      and_then (both_of (sized (rule text functions context first)) (sized (rule text functions context second))) (λ ts. Ok (pair ts.0 ts.1))
-  rule text functions context (binding at place value body) =
-      and_then (sized (rule text functions context value)) (λ t. sized (rule text functions (bound (spelling text place) t ∷ context) body))
-  rule text functions context (choice at condition positive negative) =
-      and_then (sized (rule text functions context condition)) (λ t.
-      and_then (both_of (sized (rule text functions context positive)) (sized (rule text functions context negative))) (λ ts. of_choice at t ts.0 ts.1))
-  rule text functions context (literal at items) = and_then (verdicts text functions context [] items) (of_items at)
-  rule text functions context (filter at item condition) =
-      and_then (both_of (sized (rule text functions context item)) (sized (rule text functions context condition))) (λ ts. of_filter at ts.0 ts.1)
-  rule text functions context (each at body binders condition) =
-      and_then (binders_verdict text functions context [] binders) (λ items.
-      and_then (both_of (condition_verdict text functions (opened items ++ inside context) condition)
-      (sized (rule text functions (opened items ++ inside context) body))) (λ ts. of_each at binders ts.1 ts.0))
+  rule dialect text functions context (prefix at operator operand) =
+      and_then (sized (rule dialect text functions context operand)) (λ t. or_refused (Mismatch at) (prefix_result operator t))
+  rule dialect text functions context (call at function arguments) =
+      and_then (verdicts dialect text functions context [] arguments) (of_builtin at function)
+  rule dialect text functions context (apply place arguments) =
+      and_then (verdicts dialect text functions context [] arguments) (λ ts. of_function place ts (function_named (spelling text place) functions))
+  rule dialect text functions context (group at inner) = sized (rule dialect text functions context inner)
+  rule dialect text functions context (pair_tree at first second) =
+      and_then (both_of (sized (rule dialect text functions context first)) (sized (rule dialect text functions context second))) (λ ts. Ok (pair ts.0 ts.1))
+  rule dialect text functions context (binding at place value body) =
+      and_then (sized (rule dialect text functions context value)) (λ t. sized (rule dialect text functions (bound (spelling text place) t ∷ context) body))
+  rule dialect text functions context (choice at condition positive negative) =
+      and_then (sized (rule dialect text functions context condition)) (λ t.
+      and_then (both_of (sized (rule dialect text functions context positive)) (sized (rule dialect text functions context negative))) (λ ts. of_choice at t ts.0 ts.1))
+  rule dialect text functions context (literal at items) = and_then (verdicts dialect text functions context [] items) (of_items at)
+  rule dialect text functions context (filter at item condition) =
+      and_then (both_of (sized (rule dialect text functions context item)) (sized (rule dialect text functions context condition))) (λ ts. of_filter at ts.0 ts.1)
+  rule dialect text functions context (each at body binders condition) =
+      and_then (binders_verdict dialect text functions context [] binders) (λ items.
+      and_then (both_of (condition_verdict dialect text functions (opened items ++ inside context) condition)
+      (sized (rule dialect text functions (opened items ++ inside context) body))) (λ ts. of_each at binders ts.1 ts.0))
 
   -- the types of arguments or items behind earlier ones
-  pub verdicts : (text : List ℕ) (functions : Signatures) → Context → List Ty → Trees → Result (List Ty) Refusal
-  verdicts text functions context earlier none = Ok earlier
-  verdicts text functions context earlier (both first others) =
-      and_then (sized (rule text functions context first)) (λ t. verdicts text functions context (earlier ++ (t ∷ [])) others)
+  pub verdicts : (dialect : Dialect) (text : List ℕ) (functions : Signatures) → Context → List Ty → Trees → Result (List Ty) Refusal
+  verdicts dialect text functions context earlier none = Ok earlier
+  verdicts dialect text functions context earlier (both first others) =
+      and_then (sized (rule dialect text functions context first)) (λ t. verdicts dialect text functions context (earlier ++ (t ∷ [])) others)
 
   -- the names of binders behind earlier ones, with the types of their elements
-  pub binders_verdict : (text : List ℕ) (functions : Signatures) → Context → List Declaration → Binders → Result (List Declaration) Refusal
-  binders_verdict text functions context earlier none_bound = Ok earlier
-  binders_verdict text functions context earlier (binder place source others) =
-      and_then (sized (rule text functions context source)) (λ t.
+  pub binders_verdict : (dialect : Dialect) (text : List ℕ) (functions : Signatures) → Context → List Declaration → Binders → Result (List Declaration) Refusal
+  binders_verdict dialect text functions context earlier none_bound = Ok earlier
+  binders_verdict dialect text functions context earlier (binder place source others) =
+      and_then (sized (rule dialect text functions context source)) (λ t.
       and_then (of_binder place (is_some (type_in (spelling text place) earlier)) t) (λ item.
-      binders_verdict text functions context (earlier ++ ((spelling text place, item) ∷ [])) others))
+      binders_verdict dialect text functions context (earlier ++ ((spelling text place, item) ∷ [])) others))
 
-  pub condition_verdict : (text : List ℕ) (functions : Signatures) → Context → Condition → Result Ty Refusal
-  condition_verdict text functions context always = Ok bool
-  condition_verdict text functions context (only_where condition) = sized (rule text functions context condition)
+  pub condition_verdict : (dialect : Dialect) (text : List ℕ) (functions : Signatures) → Context → Condition → Result Ty Refusal
+  condition_verdict dialect text functions context always = Ok bool
+  condition_verdict dialect text functions context (only_where condition) = sized (rule dialect text functions context condition)
 
 -- the type of an expression
-abbrev pub verdict : (text : List ℕ) (functions : Signatures) → Context → Tree → Result Ty Refusal
-verdict text functions context tree = sized (rule text functions context tree)
+abbrev pub verdict : (dialect : Dialect) (text : List ℕ) (functions : Signatures) → Context → Tree → Result Ty Refusal
+verdict dialect text functions context tree = sized (rule dialect text functions context tree)
 
 -- a name that must not stand for a type yet
 abbrev pub new_name : {A : Type 0} → List ℕ → Span → Option A → Result (List ℕ) Refusal
@@ -154,12 +155,12 @@ abbrev pub of_body : Span → Signature → Ty → Result Signature Refusal
 of_body place signature t = if is_same t signature.result then Ok signature else Err (Mismatch place.at)
 
 -- what a call sees of a function
-abbrev pub function_verdict : (text : List ℕ) (functions : Signatures) → Span → List Typed → TypeTree → Tree → Result Signature Refusal
-function_verdict text functions place parameters result body =
+abbrev pub function_verdict : (dialect : Dialect) (text : List ℕ) (functions : Signatures) → Span → List Typed → TypeTree → Tree → Result Signature Refusal
+function_verdict dialect text functions place parameters result body =
     and_then (new_name text place (function_named (spelling text place) functions)) (λ bytes.
     and_then (names_verdict text [] parameters) (λ declarations.
     and_then (written_type result) (λ t.
-    and_then (verdict text functions (opened declarations) body) (of_body place (signature_of text place declarations t)))))
+    and_then (verdict dialect text functions (opened declarations) body) (of_body place (signature_of text place declarations t)))))
 
 -- a size up to one more than the greatest, which stands for all greater ones
 abbrev pub capped : ℕ → ℕ
@@ -174,29 +175,29 @@ with_capped_function text declared signature body = record {
 }
 
 -- one more declaration; sizes are capped
-abbrev pub declaration_verdict : List ℕ → Declared → DeclarationTree → Result Declared Refusal
-declaration_verdict text earlier (declares_input declared) =
+abbrev pub declaration_verdict : Dialect → List ℕ → Declared → DeclarationTree → Result Declared Refusal
+declaration_verdict dialect text earlier (declares_input declared) =
     and_then (name_verdict text earlier.inputs declared) (λ input. Ok (with_inputs earlier (earlier.inputs ++ (input ∷ []))))
-declaration_verdict text earlier (declares_function place parameters result body) =
-    and_then (function_verdict text earlier.functions place parameters result body) (λ signature. Ok (with_capped_function text earlier signature body))
+declaration_verdict dialect text earlier (declares_function place parameters result body) =
+    and_then (function_verdict dialect text earlier.functions place parameters result body) (λ signature. Ok (with_capped_function text earlier signature body))
 
-abbrev pub declarations_verdict : List ℕ → Declared → List DeclarationTree → Result Declared Refusal
-declarations_verdict text earlier [] = Ok earlier
-declarations_verdict text earlier (first ∷ others) =
-    and_then (declaration_verdict text earlier first) (λ declared. declarations_verdict text declared others)
+abbrev pub declarations_verdict : Dialect → List ℕ → Declared → List DeclarationTree → Result Declared Refusal
+declarations_verdict dialect text earlier [] = Ok earlier
+declarations_verdict dialect text earlier (first ∷ others) =
+    and_then (declaration_verdict dialect text earlier first) (λ declared. declarations_verdict dialect text declared others)
 
 -- what was declared, and the type of the final expression, of this size
 abbrev pub of_expression : ℕ → Declared → Ty → Result (Declared × Ty) Refusal
 of_expression n declared t = if nat_le n greatest_size then Ok (declared, t) else Err TooBig
 
-abbrev pub expression_verdict : List ℕ → Declared → Tree → Result (Declared × Ty) Refusal
-expression_verdict text declared tree =
-    and_then (verdict text declared.functions (opened declared.inputs) tree) (of_expression (capped (size text declared.sizes tree)) declared)
+abbrev pub expression_verdict : Dialect → List ℕ → Declared → Tree → Result (Declared × Ty) Refusal
+expression_verdict dialect text declared tree =
+    and_then (verdict dialect text declared.functions (opened declared.inputs) tree) (of_expression (capped (size text declared.sizes tree)) declared)
 
 abbrev pub program_verdict : List ℕ → ProgramTree → Result (Declared × Ty) Refusal
 program_verdict text program =
     if are_few program.declarations
-    then and_then (declarations_verdict text nothing_declared program.declarations) (λ declared. expression_verdict text declared program.expression)
+    then and_then (declarations_verdict program.dialect text nothing_declared program.declarations) (λ declared. expression_verdict program.dialect text declared program.expression)
     else Err TooBig
 
 -- what the code answers is the verdict, unless memory ran out

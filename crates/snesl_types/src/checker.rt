@@ -16,7 +16,7 @@ use crate::sizes::size_of;
 use crate::typed::Typed;
 use snesl_grammar::Program;
 use snesl_tree::Expr;
-use snesl_values::{Refusal, Ty};
+use snesl_values::{Dialect, Refusal, Ty};
 use std::alloc::Global;
 
 /// The greatest size of the final expression with its calls written out.
@@ -51,22 +51,35 @@ fn typing_of(alloc: Global, program: &Program) -> Result<(Declarations, Ty), Ref
     if !few(&program.declarations) {
         return Err(Refusal::TooBig);
     }
-    let declarations = declarations_of(alloc, &program.text, &program.declarations)?;
-    let ty = final_type(alloc, &program.text, &declarations, &program.expr)?;
+    let declarations = declarations_of(
+        program.dialect,
+        alloc,
+        &program.text,
+        &program.declarations,
+    )?;
+    let ty = final_type(
+        program.dialect,
+        alloc,
+        &program.text,
+        &declarations,
+        &program.expr,
+    )?;
     Ok((declarations, ty))
 }
 
 // The type of the final expression, which sees the inputs.
 fn final_type(
+    dialect: Dialect,
     alloc: Global,
     text: &[u8],
     declarations: &Declarations,
     expr: &Expr,
 ) -> Result<Ty, Refusal>
-    ensures { IsAnswer (λ ty. (declared_in text.now declarations.now, ty_of ty)) (expression_verdict text.now (declared_in text.now declarations.now) (tree_of expr.now)) result }
+    ensures { IsAnswer (λ ty. (declared_in text.now declarations.now, ty_of ty)) (expression_verdict dialect text.now (declared_in text.now declarations.now) (tree_of expr.now)) result }
 {
     let names = Names::Declared(&declarations.inputs);
     let scope = Scope {
+        dialect,
         text,
         functions: &declarations.functions,
         names: &names,
@@ -79,7 +92,7 @@ fn final_type(
 }
 
 /// A program declares one thing and has one type, or has one first violation, and not both; one
-/// whose integers lie in the range has the one or the other.
+/// whose integers lie in the range of its dialect has the one or the other.
 pub fn one_typing()
     ensures one { HaveOneTyping }
     ensures some { HaveSomeTyping }

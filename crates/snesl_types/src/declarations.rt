@@ -17,7 +17,7 @@ use crate::forms::{pair_of, sequence_of, small};
 use crate::names::{Function, Names, Scope, function_named, type_in};
 use crate::sizes::size_of;
 use snesl_tree::{Declaration, Function as WrittenFunction, Typing, WrittenType};
-use snesl_values::{Refusal, Ty};
+use snesl_values::{Dialect, Refusal, Ty};
 use std::alloc::Global;
 
 /// The greatest number of functions, and of inputs.
@@ -57,11 +57,12 @@ pub(crate) fn few(declarations: &[Declaration]) -> bool
 
 // What the declarations declare, or the first rule that they violate.
 pub(crate) fn declarations_of(
+    dialect: Dialect,
     alloc: Global,
     text: &[u8],
     declarations: &[Declaration],
 ) -> Result<Declarations, Refusal>
-    ensures { IsAnswer (declared_in text.now) (declarations_verdict text.now nothing_declared (map declaration_tree declarations.now)) result }
+    ensures { IsAnswer (declared_in text.now) (declarations_verdict dialect text.now nothing_declared (map declaration_tree declarations.now)) result }
 {
     let mut inputs = Vec::new(alloc);
     let mut functions = Vec::new(alloc);
@@ -72,7 +73,7 @@ pub(crate) fn declarations_of(
                 inputs.push(input)?;
             }
             Declaration::Function(written) => {
-                let function = function_of(alloc, text, &functions, written)?;
+                let function = function_of(dialect, alloc, text, &functions, written)?;
                 functions.push(function)?;
             }
         }
@@ -82,12 +83,13 @@ pub(crate) fn declarations_of(
 
 // What a call sees of a function behind these.
 fn function_of(
+    dialect: Dialect,
     alloc: Global,
     text: &[u8],
     functions: &[Function],
     written: &WrittenFunction,
 ) -> Result<Function, Refusal>
-    ensures signature { IsAnswer (signature_in text.now) (function_verdict text.now (signatures_in text.now functions.now) written.now.name (map typed_of written.now.parameters.items) (type_tree written.now.result) (tree_of written.now.body)) result }
+    ensures signature { IsAnswer (signature_in text.now) (function_verdict dialect text.now (signatures_in text.now functions.now) written.now.name (map typed_of written.now.parameters.items) (type_tree written.now.result) (tree_of written.now.body)) result }
     ensures size { IfOk result (λ function. function.size ≡ capped (size text.now (sizes_in text.now functions.now) (tree_of written.now.body))) }
 {
     let name = written.name;
@@ -98,6 +100,7 @@ fn function_of(
     let result = type_written(alloc, &written.result)?;
     let names = Names::Declared(&parameters);
     let scope = Scope {
+        dialect,
         text,
         functions,
         names: &names,

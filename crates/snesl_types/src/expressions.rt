@@ -35,9 +35,12 @@ fn type_by_rule(alloc: Global, scope: &Scope<'_>, expr: &Expr) -> Result<Ty, Ref
 {
     match expr {
         Expr::Integer { value, .. } => {
-            // A number that is read is known to be in range.
-            let _value = *value;
-            Ok(Ty::Int)
+            // The text of a program spells no other integer, so that this refuses no program.
+            if scope.dialect.has(*value) {
+                Ok(Ty::Int)
+            } else {
+                Err(Refusal::NoMemory)
+            }
         }
         Expr::Truth { .. } => Ok(Ty::Bool),
         Expr::Name(name) => variable_type(alloc, scope, *name),

@@ -8,7 +8,7 @@ ghost use Rattle.snesl_types.specs.Contexts.{open_to, found, type_in as type_amo
 ghost use Rattle.snesl_types.specs.Names.{context_of, meaning_of, seen, signature_in, signatures_in};
 
 use snesl_tree::Span;
-use snesl_values::Ty;
+use snesl_values::{Dialect, Ty};
 
 // What a call sees of a declared function: its name, its parameters with their types, and the type of its result.
 #[derive(Debug, Drop)]
@@ -47,9 +47,11 @@ pub(crate) enum Meaning<'a> {
     Open(&'a Ty),
 }
 
-// What an expression sees: the text that spells its names, the functions that it can call, and its variables.
+// What an expression sees: the dialect of its integers, the text that spells its names, the functions that it can call,
+// and its variables.
 #[derive(Clone, Copy)]
 pub(crate) struct Scope<'a> {
+    pub(crate) dialect: Dialect,
     pub(crate) text: &'a [u8],
     pub(crate) functions: &'a [Function],
     pub(crate) names: &'a Names<'a>,
@@ -58,11 +60,13 @@ pub(crate) struct Scope<'a> {
 impl<'a> Scope<'a> {
     // With these variables in place of its own.
     pub(crate) fn with_names<'b>(&'b self, names: &'b Names<'b>) -> Scope<'b>
+        ensures dialect { result.dialect ≡ self.now.dialect }
         ensures text { result.text.now ≡ self.now.text.now }
         ensures functions { result.functions.now ≡ self.now.functions.now }
         ensures names { result.names.now ≡ names.now }
     {
         Scope {
+            dialect: self.dialect,
             text: self.text,
             functions: self.functions,
             names,

@@ -1,11 +1,11 @@
 // Plain evaluation of typed programs.
 
 ghost use Rattle.std.specs.Prelude.{◌≡◌, IfOk};
-ghost use Rattle.snesl_values.specs.Inputs.{declarations_of, environment_of};
+ghost use Rattle.snesl_values.specs.Inputs.{declarations_of, dialect_of, environment_of};
 ghost use Rattle.snesl_evaluation.specs.Eval.{program_value};
 ghost use Rattle.snesl_evaluation.specs.Results.{IsAnswer};
 ghost use Rattle.snesl_types.specs.Soundness.{IsSound, TypedExpressionsAreSound, TypedProgramsAreSound};
-ghost use Rattle.snesl_types.specs.Typed.{typed_inputs, typed_text, typed_tree, typed_ty};
+ghost use Rattle.snesl_types.specs.Typed.{typed_dialect, typed_inputs, typed_text, typed_tree, typed_ty};
 
 use crate::typed::Typed;
 use snesl_evaluation::evaluate;
@@ -13,7 +13,8 @@ use snesl_values::{Datum, Fault, Inputs, inputs_fit};
 use std::alloc::{AllocError, Global};
 
 /// Evaluates a typed program by its definition, with all of each sequence in memory. It is slow, and
-/// there to say what a program means. `inputs` were read for the declared inputs.
+/// there to say what a program means. `inputs` were read in the program's dialect and for the
+/// declared inputs.
 ///
 /// Returns the program's value, which is of the program's type, or its first fault with the offset
 /// that the form at fault keeps, in bytes of the text from 0. The fault is never `Shape`.
@@ -28,16 +29,17 @@ pub fn plain(
     typed: &Typed,
     inputs: &Inputs,
 ) -> Result<Result<Datum, Fault>, AllocError>
+    requires in_dialect { dialect_of inputs.now ≡ typed_dialect typed.now }
     requires fits { declarations_of inputs.now ≡ typed_inputs typed.now }
     ensures exact { IfOk result (λ answer. IsAnswer answer (program_value (typed_text typed.now) (typed_tree typed.now) (environment_of inputs.now))) }
-    ensures sound { IfOk result (IsSound (typed_ty typed.now)) }
+    ensures sound { IfOk result (IsSound (typed_dialect typed.now) (typed_ty typed.now)) }
 {
     inputs_fit(inputs);
     evaluate(alloc, typed.program(), inputs)
 }
 
 /// The law that evaluation keeps types: a typed program whose inputs have values of their types
-/// evaluates to a value of its type, with all its integers in the range, or to a fault other than
+/// evaluates to a value of its type, with all its integers in the range of its dialect, or to a fault other than
 /// `Shape`; and so does each typed expression where names and calls have fitting values.
 pub fn soundness()
     ensures expressions { TypedExpressionsAreSound }

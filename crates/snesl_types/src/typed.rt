@@ -2,13 +2,13 @@
 
 ghost use Rattle.std.specs.Prelude.{◌≡◌, ◌↔◌, IsTrue};
 ghost use Rattle.snesl_values.specs.Types.{ty_of};
-ghost use Rattle.snesl_values.specs.Inputs.{declarations_of, declared};
+ghost use Rattle.snesl_values.specs.Inputs.{declarations_of, declared, dialect_of};
 ghost use Rattle.snesl_grammar.specs.View.{program_of as tree_of_program};
 ghost use Rattle.snesl_types.specs.Programs.{HasTyping};
 
 use crate::fits::same_decls;
 use snesl_grammar::Program;
-use snesl_values::{Inputs, Ty};
+use snesl_values::{Dialect, Inputs, Ty};
 
 /// A program with its inputs and its type. It keeps that the program has this type.
 #[derive(Debug, Drop)]
@@ -20,13 +20,20 @@ pub struct Typed<'a> {
 }
 
 impl<'a> Typed<'a> {
-    ghost use Rattle.snesl_types.specs.Typed.{program_of, typed_inputs, typed_ty};
+    ghost use Rattle.snesl_types.specs.Typed.{program_of, typed_dialect, typed_inputs, typed_ty};
 
     /// The program.
     pub fn program(&self) -> &'a Program
         ensures { result.now ≡ program_of self.now }
     {
         self.program
+    }
+
+    /// The dialect of the program.
+    pub fn dialect(&self) -> Dialect
+        ensures { result ≡ typed_dialect self.now }
+    {
+        self.program.dialect
     }
 
     /// The declared inputs in order, each a name and its type, as `read_inputs` takes them.
@@ -36,11 +43,12 @@ impl<'a> Typed<'a> {
         &self.inputs
     }
 
-    /// Whether the inputs were read for the declared inputs: for these names and types, in this order.
+    /// Whether the inputs were read for the program: in its dialect, and for the names and types of the
+    /// declared inputs, in this order.
     pub fn fits(&self, inputs: &Inputs) -> bool
-        ensures { IsTrue result ↔ (declarations_of inputs.now ≡ typed_inputs self.now) }
+        ensures { IsTrue result ↔ ((dialect_of inputs.now ≡ typed_dialect self.now) × (declarations_of inputs.now ≡ typed_inputs self.now)) }
     {
-        same_decls(inputs.decls(), &self.inputs)
+        inputs.dialect() == self.program.dialect && same_decls(inputs.decls(), &self.inputs)
     }
 
     /// The program's type.

@@ -1,13 +1,13 @@
-use Rattle.std.proofs.Common.{◌≡◌, ℕ, ◌+◌, ◌∷◌, ◌++◌, if◌then◌else◌, List, map, drop, zip, length, Option, option_map, option_to_list, Err, Vec, Global, sym, ap, ◌∙◌, subst, arith}
+use Rattle.std.proofs.Common.{◌≡◌, ◌+◌, ◌∷◌, ◌++◌, if◌then◌else◌, map, drop, zip, Option, option_map, option_to_list, Err, Vec, Global, sym, ap, ◌∙◌, subst, arith}
 use Rattle.snesl_values.specs.declared.datum.Datum.{Datum}
 use Rattle.snesl_values.specs.Inputs.{Environment}
-use Rattle.snesl_values.specs.Values.{Value, a_pair, value_of}
+use Rattle.snesl_values.specs.Values.{a_pair, value_of}
 use Rattle.snesl_tree.specs.Spelling.{spelling}
 use Rattle.snesl_tree.specs.View.{tree_of, trees_of, binders_of, declaration_of}
 use Rattle.snesl_tree.specs.declared.expr.Expr.{Expr, Each}
 use Rattle.snesl_tree.specs.Tree.{Binders}
 use Rattle.snesl_tree.proofs.Arguments.{tree_of-Call, tree_of-Apply, tree_of-Literal, binders_row}
-use Rattle.snesl_evaluation.specs.Answer.{Answer, go, go_all, go_join, gives}
+use Rattle.snesl_evaluation.specs.Answer.{go, go_all, go_join, gives}
 use Rattle.snesl_evaluation.specs.Builtins.{applied, binary_answer, seq_answer, truth_at}
 use Rattle.snesl_evaluation.specs.Eval.{calls_of, eval, in_step, kept, rows_of}
 use Rattle.snesl_evaluation.specs.Results.{Answers}
@@ -20,22 +20,24 @@ use Rattle.snesl_evaluation.proofs.evaluator.+value.Goals as goal
 pub enter-returns-then-len-values : goal.enter-returns-then-len-values
 enter-returns-then-len-values t c =
     let text = c.args.setting.now.text.now in
+    let dialect = c.args.setting.now.dialect in
     let parameters = c.args.function.now.parameters in
-    let calls = calls_of text (map declaration_of c.args.earlier.now) in
+    let calls = calls_of dialect text (map declaration_of c.args.earlier.now) in
     let same = parameters.ok.0 in
-    subst (λ halt. Answers value_of (Err halt) (entered text c.args.at c.args.function.now c.args.earlier.now (map value_of c.args.values.now))) (sym c.fault.ensures)
-    (ap (λ answer. go answer (λ environment. eval (tree_of c.args.function.now.body) text calls environment))
+    subst (λ halt. Answers value_of (Err halt) (entered dialect text c.args.at c.args.function.now c.args.earlier.now (map value_of c.args.values.now))) (sym c.fault.ensures)
+    (ap (λ answer. go answer (λ environment. eval dialect (tree_of c.args.function.now.body) text calls environment))
     (parameters_differ c.args.at text parameters.items c.args.values.now (λ e. c.if-len-values.true (omega (arith, e, same, c.len.ensures)))))
 
 pub enter-returns-in_err-result : goal.enter-returns-in_err-result
 enter-returns-in_err-result t c =
     let text = c.args.setting.now.text.now in
+    let dialect = c.args.setting.now.dialect in
     let parameters = c.args.function.now.parameters in
-    let calls = calls_of text (map declaration_of c.args.earlier.now) in
+    let calls = calls_of dialect text (map declaration_of c.args.earlier.now) in
     let same = parameters.ok.0 in
-    let body = λ (environment : Environment). eval (tree_of c.args.function.now.body) text calls environment in
+    let body = λ (environment : Environment). eval dialect (tree_of c.args.function.now.body) text calls environment in
     halt_passes value_of value_of c.from_residual.result c.in_err-result.field-0.0 (body (zip (names_of text c.deref.result.now) (map value_of c.args.values.now)))
-    (entered text c.args.at c.args.function.now c.args.earlier.now (map value_of c.args.values.now)) c.from_residual.ensures.1 c.in_err-result.ensures
+    (entered dialect text c.args.at c.args.function.now c.args.earlier.now (map value_of c.args.values.now)) c.from_residual.ensures.1 c.in_err-result.ensures
     (λ kind at e.
     ap (λ answer. go answer body) (parameters_seen c.args.at text parameters.items c.args.values.now (omega (arith, same, c.len.ensures, c.if-len-values.false)))
     ∙ ap (λ l. body (zip (names_of text l) (map value_of c.args.values.now))) (sym c.deref.ensures.value)
@@ -44,10 +46,11 @@ enter-returns-in_err-result t c =
 pub enter-returns : goal.enter-returns
 enter-returns t c =
     let text = c.args.setting.now.text.now in
+    let dialect = c.args.setting.now.dialect in
     let parameters = c.args.function.now.parameters in
-    let calls = calls_of text (map declaration_of c.args.earlier.now) in
+    let calls = calls_of dialect text (map declaration_of c.args.earlier.now) in
     let same = parameters.ok.0 in
-    let body = λ (environment : Environment). eval (tree_of c.args.function.now.body) text calls environment in
+    let body = λ (environment : Environment). eval dialect (tree_of c.args.function.now.body) text calls environment in
     ap (λ answer. go answer body) (parameters_seen c.args.at text parameters.items c.args.values.now (omega (arith, same, c.len.ensures, c.if-len-values.false)))
     ∙ ap (λ l. body (zip (names_of text l) (map value_of c.args.values.now))) (sym c.deref.ensures.value)
     ∙ c.in_ok-result.ensures
@@ -55,8 +58,9 @@ enter-returns t c =
 pub rows-returns-in_err-value : goal.rows-returns-in_err-value
 rows-returns-in_err-value t c =
     let text = c.args.setting.now.text.now in
+    let dialect = c.args.setting.now.dialect in
     let columns = map (column_of text) c.args.columns.now in
-    let f = λ (row : Environment). eval (tree_of c.args.body.now) text (calls_in c.args.setting.now) (row ++ environment_in text c.args.scope.now) in
+    let f = λ (row : Environment). eval dialect (tree_of c.args.body.now) text (calls_in c.args.setting.now) (row ++ environment_in text c.args.scope.now) in
     let i = c.loop-index.index in
     let level = level_seen text c.args.number c.args.columns.now ∙ c.requires in
     halt_passes value_of (λ (values : Vec Datum Global). map value_of values.items) c.from_residual.result c.in_err-value.field-0.0 (f (row_at i columns)) (go_all f (rows_of c.args.number columns)) c.from_residual.ensures.1 c.in_err-value.ensures
@@ -65,8 +69,9 @@ rows-returns-in_err-value t c =
 pub rows-loop-index-preserved : goal.rows-loop-index-preserved
 rows-loop-index-preserved t c =
     let text = c.args.setting.now.text.now in
+    let dialect = c.args.setting.now.dialect in
     let columns = map (column_of text) c.args.columns.now in
-    let f = λ (row : Environment). eval (tree_of c.args.body.now) text (calls_in c.args.setting.now) (row ++ environment_in text c.args.scope.now) in
+    let f = λ (row : Environment). eval dialect (tree_of c.args.body.now) text (calls_in c.args.setting.now) (row ++ environment_in text c.args.scope.now) in
     let i = c.loop-index.index in
     let level = level_seen text c.args.number c.args.columns.now ∙ c.requires in
     c.loop-index.invariant
@@ -76,8 +81,9 @@ rows-loop-index-preserved t c =
 pub rows-returns : goal.rows-returns
 rows-returns t c =
     let text = c.args.setting.now.text.now in
+    let dialect = c.args.setting.now.dialect in
     let columns = map (column_of text) c.args.columns.now in
-    let f = λ (row : Environment). eval (tree_of c.args.body.now) text (calls_in c.args.setting.now) (row ++ environment_in text c.args.scope.now) in
+    let f = λ (row : Environment). eval dialect (tree_of c.args.body.now) text (calls_in c.args.setting.now) (row ++ environment_in text c.args.scope.now) in
     let done = map value_of c.loop-index.values.items in
     let ended : c.loop-index.index ≡ c.args.number = omega arith in
     c.loop-index.invariant
@@ -122,7 +128,7 @@ value-returns-in-Binary t c =
     let scope = c.args.scope.now in
     let at = c.in-Binary.at in
     let operator = c.in-Binary.operator in
-    let answer = λ (left right : Expr). go (eval_in setting scope (tree_of left)) (λ v. go (eval_in setting scope (tree_of right)) (λ w. binary_answer at operator v w)) in
+    let answer = λ (left right : Expr). go (eval_in setting scope (tree_of left)) (λ v. go (eval_in setting scope (tree_of right)) (λ w. binary_answer setting.dialect at operator v w)) in
     let e =
     ap (λ expr. eval_in setting scope (tree_of expr)) c.in-Binary.is
     ∙ ap (λ left. answer left c.in-Binary.right.value) (sym c.deref.ensures)
@@ -145,7 +151,7 @@ value-returns-in-Let t c =
     let setting = c.args.setting.now in
     let scope = c.args.scope.now in
     let text = setting.text.now in
-    let answer = λ (bound body : Expr). go (eval_in setting scope (tree_of bound)) (λ v. eval (tree_of body) text (calls_in setting) ((spelling text c.in-Let.name, v) ∷ environment_in text scope)) in
+    let answer = λ (bound body : Expr). go (eval_in setting scope (tree_of bound)) (λ v. eval setting.dialect (tree_of body) text (calls_in setting) ((spelling text c.in-Let.name, v) ∷ environment_in text scope)) in
     let e =
     ap (λ expr. eval_in setting scope (tree_of expr)) c.in-Let.is
     ∙ ap (λ bound. answer bound c.in-Let.body.value) (sym c.deref-in-Let.ensures)
@@ -174,7 +180,7 @@ value-returns-in-Call t c =
     let e =
     ap (λ expr. eval_in setting scope (tree_of expr)) c.in-Call.is
     ∙ ap (eval_in setting scope) (tree_of-Call at function c.in-Call.arguments)
-    ∙ ap (λ exprs. go (all_in setting scope (trees_of exprs)) (applied at function)) (sym c.deref-in-Call.ensures.value) in
+    ∙ ap (λ exprs. go (all_in setting scope (trees_of exprs)) (applied setting.dialect at function)) (sym c.deref-in-Call.ensures.value) in
     subst (Answers value_of c.built_in.result) (sym e) c.built_in.ensures
 
 pub value-returns-in-Apply : goal.value-returns-in-Apply

@@ -1,7 +1,7 @@
 use Rattle.std.proofs.Common.{rules, ◌≡◌, ◌≢◌, ◌+◌, ◌+ℤ◌, suc, length, drop, map, get_or, pos, sym, ap, ◌∙◌, arith}
 use Rattle.std.proofs.lemmas.Bool.{eqb-false}
 use mir.Val.{to_z, of_z}
-use mir.Syntax.{w64}
+use mir.Syntax.{w128}
 use Rattle.snesl_values.specs.Values.{value_of}
 use Rattle.snesl_operators.specs.Operators.{ranged}
 use Rattle.snesl_operators.specs.Reductions.{scanned_from}
@@ -12,26 +12,27 @@ use Rattle.snesl_evaluation.proofs.sequences.scan_add.Goals as goal
 pub loop-i-preserved : goal.loop-i-preserved
 loop-i-preserved c =
     let at = c.args.at in
+    let dialect = c.args.dialect in
     let i = c.loop-i.i in
     let numbers = c.args.numbers.now in
     let given = map value_of c.loop-i.sums.items in
     let x = get_or numbers i (pos 0) in
     let y = c.in_ok-so_far.so_far in
-    let z : to_z w64 (of_z w64 x) ≡ x = search rules in
-    let w : to_z w64 (of_z w64 y) ≡ y = search rules in
-    let so_far = to_z w64 c.loop-i.so_far-bits in
+    let z : to_z w128 (of_z w128 x) ≡ x = search rules in
+    let w : to_z w128 (of_z w128 y) ≡ y = search rules in
+    let so_far = to_z w128 c.loop-i.so_far-bits in
     let n : suc i ≡ i + 1 = omega arith in
     c.loop-i.invariant
-    ∙ scan_step at given so_far y (pos 0) numbers i (omega arith) (ap (λ m. answer_at at (ranged (so_far +ℤ m))) (sym z) ∙ c.in_ok-so_far.ensures)
-    ∙ ap (λ l. sums_behind at l (scanned_from y (drop (suc i) numbers))) (sym c.in_ok-add.ensures)
-    ∙ ap (λ j. sums_behind at (map value_of c.add.new.values.items) (scanned_from y (drop j numbers))) n
-    ∙ ap (λ q. sums_behind at (map value_of c.add.new.values.items) (scanned_from q (drop (i + 1) numbers))) (sym w)
+    ∙ scan_step dialect at given so_far y (pos 0) numbers i (omega arith) (ap (λ m. answer_at at (ranged dialect (so_far +ℤ m))) (sym z) ∙ c.in_ok-so_far.ensures)
+    ∙ ap (λ l. sums_behind at l (scanned_from dialect y (drop (suc i) numbers))) (sym c.in_ok-add.ensures)
+    ∙ ap (λ j. sums_behind at (map value_of c.add.new.values.items) (scanned_from dialect y (drop j numbers))) n
+    ∙ ap (λ q. sums_behind at (map value_of c.add.new.values.items) (scanned_from dialect q (drop (i + 1) numbers))) (sym w)
 
 pub returns : goal.returns
 returns c =
     let numbers = c.args.numbers.now in
-    let so_far = to_z w64 c.loop-i.so_far-bits in
+    let so_far = to_z w128 c.loop-i.so_far-bits in
     let some : length numbers ≢ 0 = eqb-false _ _ (sym c.is_empty.ensures ∙ c.if-is_empty.false) in
     c.loop-i.invariant
-    ∙ scan_last c.args.at (map value_of c.loop-i.sums.items) so_far numbers c.loop-i.i (omega (arith, some))
+    ∙ scan_last c.args.dialect c.args.at (map value_of c.loop-i.sums.items) so_far numbers c.loop-i.i (omega (arith, some))
     ∙ ap gives (sym c.in_ok-add-2.ensures)

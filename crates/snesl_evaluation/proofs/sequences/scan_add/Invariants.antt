@@ -6,5 +6,5 @@ use Rattle.snesl_evaluation.proofs.sequences.scan_add.Given as goal
 
 abbrev pub invariant-loop-i : goal.invariant-loop-i
 invariant-loop-i l =
-    go (answer_at l.at (scanned l.numbers)) (λ sums. gives (map an_int sums))
-    ≡ go (answer_at l.at (scanned_from l.so_far (drop l.i l.numbers))) (λ later. gives (map value_of l.sums.items ++ map an_int later))
+    go (answer_at l.at (scanned l.dialect l.numbers)) (λ sums. gives (map an_int sums))
+    ≡ go (answer_at l.at (scanned_from l.dialect l.so_far (drop l.i l.numbers))) (λ later. gives (map value_of l.sums.items ++ map an_int later))

@@ -8,7 +8,7 @@ use Rattle.snesl_types.proofs.declarations.declarations_of.Given as goal
 
 abbrev pub invariant-loop-declaration : goal.invariant-loop-declaration
 invariant-loop-declaration l =
-    declarations_verdict l.text nothing_declared (map declaration_of l.declarations)
-    ≡ declarations_verdict l.text
+    declarations_verdict l.dialect l.text nothing_declared (map declaration_of l.declarations)
+    ≡ declarations_verdict l.dialect l.text
     (record { inputs = declared l.inputs.items; functions = signatures_in l.text l.functions.items; sizes = sizes_in l.text l.functions.items })
     (map declaration_of (drop l.declaration-index l.declarations))

@@ -79,6 +79,7 @@ type_by_rule-returns-in_err-condition-in-Each t c =
     ap (λ l. binders_typed_in scope [] (binders_of l)) (sym c.deref-in-Each.ensures.value)
     ∙ c.in_ok-items-in-Each.ensures ∙ ap (λ l. Ok (declared l)) (sym c.deref-in-Each-2.ensures.value) in
     let within : Within inner scope (opened items ++ inside (context_of scope.text.now scope.names.now)) = record {
+      dialect = c.with_names-inner.ensures.dialect;
       text = c.with_names-inner.ensures.text;
       functions = c.with_names-inner.ensures.functions;
       names = ap (context_of inner.text.now) c.with_names-inner.ensures.names
@@ -97,6 +98,7 @@ type_by_rule-returns-in_err-body-in-Each t c =
     ap (λ l. binders_typed_in scope [] (binders_of l)) (sym c.deref-in-Each.ensures.value)
     ∙ c.in_ok-items-in-Each.ensures ∙ ap (λ l. Ok (declared l)) (sym c.deref-in-Each-2.ensures.value) in
     let within : Within inner scope (opened items ++ inside (context_of scope.text.now scope.names.now)) = record {
+      dialect = c.with_names-inner.ensures.dialect;
       text = c.with_names-inner.ensures.text;
       functions = c.with_names-inner.ensures.functions;
       names = ap (context_of inner.text.now) c.with_names-inner.ensures.names
@@ -117,6 +119,7 @@ type_by_rule-returns-in_ok-body-in-Each t c =
     ap (λ l. binders_typed_in scope [] (binders_of l)) (sym c.deref-in-Each.ensures.value)
     ∙ c.in_ok-items-in-Each.ensures ∙ ap (λ l. Ok (declared l)) (sym c.deref-in-Each-2.ensures.value) in
     let within : Within inner scope (opened items ++ inside (context_of scope.text.now scope.names.now)) = record {
+      dialect = c.with_names-inner.ensures.dialect;
       text = c.with_names-inner.ensures.text;
       functions = c.with_names-inner.ensures.functions;
       names = ap (context_of inner.text.now) c.with_names-inner.ensures.names
