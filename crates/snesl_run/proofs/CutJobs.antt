@@ -96,12 +96,12 @@ inputs_too_long : OneInputMeaning → (program input input' : List ℕ) (m : Mea
     → greatest_input_length < length input' → Means program input m → Means program input' m
 inputs_too_long inputs program input input' m h k (no_program p) = no_program p
 inputs_too_long inputs program input input' m h k (ill_typed p v) = ill_typed p v
-inputs_too_long inputs program input input' m h k (bad_input {declared = all} {at = at} p d i) =
-    let e = inputs all.inputs input (refused_at at) (refused_at greatest_input_length) i (input_too_long h) in
+inputs_too_long inputs program input input' m h k (bad_input {program = t} {declared = all} {at = at} p d i) =
+    let e = inputs t.dialect all.inputs input (refused_at at) (refused_at greatest_input_length) i (input_too_long h) in
     let same : greatest_input_length ≡ at = cc in
-    bad_input p d (subst (λ n. InputMeans all.inputs input' (refused_at n)) same (input_too_long k))
-inputs_too_long inputs program input input' m h k (evaluated {declared = all} {environment = f} p d i) =
-    absurd (let e = inputs all.inputs input (spells f) (refused_at greatest_input_length) i (input_too_long h) in cc)
+    bad_input p d (subst (λ n. InputMeans t.dialect all.inputs input' (refused_at n)) same (input_too_long k))
+inputs_too_long inputs program input input' m h k (evaluated {program = t} {declared = all} {environment = f} p d i) =
+    absurd (let e = inputs t.dialect all.inputs input (spells f) (refused_at greatest_input_length) i (input_too_long h) in cc)
 
 -- the separator of the beginning is that of the whole
 same_split : (cut behind program' input' back' : List ℕ) → length cut ≡ longest_job → length program' ≤ greatest_length

@@ -3,7 +3,7 @@ use Rattle.std.proofs.Common.{◌≡◌, ℕ, List, Ok, Err, sym, ap, ◌∙◌,
 use Rattle.snesl_values.specs.declared.refusal.Refusal.{Refusal}
 use Rattle.snesl_values.specs.declared.refusal.Refusal.TheVariants.{BadInput}
 use Rattle.snesl_values.specs.Types.{Ty}
-use Rattle.snesl_values.specs.Inputs.{Environment, InputMeans, OneInputMeaning, spells, refused_at}
+use Rattle.snesl_values.specs.Inputs.{Environment, InputAnswer, InputMeans, OneInputMeaning, spells, refused_at}
 use Rattle.snesl_tree.specs.Tree.{ProgramTree}
 use Rattle.snesl_syntax.specs.Parse.{Parses, HaveOneAnswer}
 use Rattle.snesl_evaluation.specs.Eval.{program_value}
@@ -28,10 +28,16 @@ same_declared : HaveOneAnswer → HaveOneTyping → (text : List ℕ) (p q : Pro
 same_declared answers typing text p q d e t u one other h k =
     ((typing text p).0 d e t u h (subst (λ x. ProgramTypes text x e u) (sym (same_program answers text p q one other)) k)).0
 
-no_input : {A : Type 0} → OneInputMeaning → (input : List ℕ) (d e : Declared) (at : ℕ) (environment : Environment) → d ≡ e
-    → InputMeans d.inputs input (refused_at at) → InputMeans e.inputs input (spells environment) → A
-no_input inputs input d e at environment same i j =
-    absurd (let is = inputs d.inputs input (refused_at at) (spells environment) i (subst (λ x. InputMeans x.inputs input (spells environment)) (sym same) j) in cc)
+-- what the input text means for a program and its declarations
+for_same : (input : List ℕ) (p q : ProgramTree) (d e : Declared) (answer : InputAnswer) → p ≡ q → d ≡ e
+    → InputMeans q.dialect e.inputs input answer → InputMeans p.dialect d.inputs input answer
+for_same input p q d e answer tree same means =
+    subst (λ x. InputMeans x.dialect d.inputs input answer) (sym tree) (subst (λ x. InputMeans q.dialect x.inputs input answer) (sym same) means)
+
+no_input : {A : Type 0} → OneInputMeaning → (input : List ℕ) (p q : ProgramTree) (d e : Declared) (at : ℕ) (environment : Environment) → p ≡ q → d ≡ e
+    → InputMeans p.dialect d.inputs input (refused_at at) → InputMeans q.dialect e.inputs input (spells environment) → A
+no_input inputs input p q d e at environment tree same i j =
+    absurd (let is = inputs p.dialect d.inputs input (refused_at at) (spells environment) i (for_same input p q d e (spells environment) tree same j) in cc)
 
 pub one_meaning : HaveOneAnswer → HaveOneTyping → OneInputMeaning → HaveOneMeaning
 one_meaning answers typing inputs text input m n (no_program {refusal = r} p) (no_program {refusal = s} q) =
@@ -51,17 +57,17 @@ one_meaning answers typing inputs text input m n (bad_input {program = t} {decla
     no_violation answers typing text t u d a s p q h w
 one_meaning answers typing inputs text input m n (bad_input {program = t} {declared = d} {t = a} {at = x} p h i) (bad_input {program = u} {declared = e} {t = b} {at = y} q k j) =
     let same = same_declared answers typing text t u d e a b p q h k in
-    let is = inputs d.inputs input (refused_at x) (refused_at y) i (subst (λ x. InputMeans x.inputs input (refused_at y)) (sym same) j) in cc
+    let is = inputs t.dialect d.inputs input (refused_at x) (refused_at y) i (for_same input t u d e (refused_at y) (same_program answers text t u p q) same j) in cc
 one_meaning answers typing inputs text input m n (bad_input {program = t} {declared = d} {t = a} {at = x} p h i) (evaluated {program = u} {declared = e} {t = b} {environment = f} q k j) =
-    no_input inputs input d e x f (same_declared answers typing text t u d e a b p q h k) i j
+    no_input inputs input t u d e x f (same_program answers text t u p q) (same_declared answers typing text t u d e a b p q h k) i j
 one_meaning answers typing inputs text input m n (evaluated {program = t} p h i) (no_program {refusal = s} q) = no_tree answers text t s p q
 one_meaning answers typing inputs text input m n (evaluated {program = t} {declared = d} {t = a} p h i) (ill_typed {program = u} {refusal = s} q w) =
     no_violation answers typing text t u d a s p q h w
 one_meaning answers typing inputs text input m n (evaluated {program = t} {declared = d} {t = a} {environment = f} p h i) (bad_input {program = u} {declared = e} {t = b} {at = y} q k j) =
-    no_input inputs input e d y f (same_declared answers typing text u t e d b a q p k h) j i
+    no_input inputs input u t e d y f (same_program answers text u t q p) (same_declared answers typing text u t e d b a q p k h) j i
 one_meaning answers typing inputs text input m n (evaluated {program = t} {declared = d} {t = a} {environment = f} p h i) (evaluated {program = u} {declared = e} {t = b} {environment = g} q k j) =
     let tree = same_program answers text t u p q in
     let same = same_declared answers typing text t u d e a b p q h k in
-    let is = inputs d.inputs input (spells f) (spells g) i (subst (λ x. InputMeans x.inputs input (spells g)) (sym same) j) in
+    let is = inputs t.dialect d.inputs input (spells f) (spells g) i (for_same input t u d e (spells g) tree same j) in
     let values : f ≡ g = cc in
     ap (λ x. meaning_of (program_value text x f)) tree ∙ ap (λ x. meaning_of (program_value text u x)) values

@@ -1,6 +1,7 @@
 -- What a run answers.
 use Rattle.std.proofs.Common.{◌≡◌, ℕ, List, [], ◌++◌, ◌∷◌, Result, Ok, Err, ◌⊎◌, inl, inr, sym, ap, ◌∙◌, subst}
 use Rattle.std.specs.Result.{IsErrAnd}
+use Rattle.snesl_values.specs.declared.dialect.Dialect.{Dialect}
 use Rattle.snesl_values.specs.declared.refusal.Refusal.{Refusal}
 use Rattle.snesl_values.specs.declared.refusal.Refusal.TheVariants.{NoMemory, Output}
 use Rattle.snesl_values.specs.Types.{Ty}
@@ -34,28 +35,29 @@ check_refused text input program refusal parsed first = ill_typed parsed first
 of_text : {text items : List ℕ} {program : ProgramTree} {typed : List Declaration} {t : Ty} → items ≡ text → HasTyping items program typed t → HasTyping text program typed t
 of_text {program = program} {typed = typed} {t = t} kept typing = subst (λ bytes. HasTyping bytes program typed t) kept typing
 
-module _ (text items input : List ℕ) (program : ProgramTree) (typed inputs : List Declaration) (t : Ty)
-    (parsed : Parses text (Ok program)) (kept : items ≡ text) (typing : HasTyping items program typed t) (same : inputs ≡ typed) where
+module _ (text items input : List ℕ) (program : ProgramTree) (dialect : Dialect) (typed inputs : List Declaration) (t : Ty)
+    (parsed : Parses text (Ok program)) (kept : items ≡ text) (typing : HasTyping items program typed t) (in_dialect : dialect ≡ program.dialect) (same : inputs ≡ typed) where
   -- what the input text means for the declared inputs
-  for_declared : (answer : InputAnswer) → InputMeans inputs input answer → InputMeans (of_text kept typing).0.inputs input answer
-  for_declared answer means = subst (λ d. InputMeans d input answer) (same ∙ sym (of_text kept typing).2) means
+  for_declared : (answer : InputAnswer) → InputMeans dialect inputs input answer → InputMeans program.dialect (of_text kept typing).0.inputs input answer
+  for_declared answer means =
+      subst (λ d. InputMeans program.dialect d input answer) (same ∙ sym (of_text kept typing).2) (subst (λ d. InputMeans d inputs input answer) in_dialect means)
 
   -- an input text that is not lawful
-  pub inputs_refused : (error : InputError) → (error ≡ NoInputMemory) ⊎ ((at : ℕ) × (error ≡ Bad at) × InputMeans inputs input (refused_at at))
+  pub inputs_refused : (error : InputError) → (error ≡ NoInputMemory) ⊎ ((at : ℕ) × (error ≡ Bad at) × InputMeans dialect inputs input (refused_at at))
       → HasEvaluated text input (Err (refusal_of error))
   inputs_refused error (inl is) = subst (λ e. HasEvaluated text input (Err (refusal_of e))) (sym is) tt
   inputs_refused error (inr (at, is, means)) =
       subst (λ e. HasEvaluated text input (Err (refusal_of e))) (sym is) (bad_input parsed (of_text kept typing).1 (for_declared (refused_at at) means))
 
   -- what evaluation answered is the program's answer
-  pub answer_is : (environment : Environment) (answer : Answer Value) → InputMeans inputs input (spells environment)
+  pub answer_is : (environment : Environment) (answer : Answer Value) → InputMeans dialect inputs input (spells environment)
       → program_value items program environment ≡ answer → Means text input (meaning_of answer)
   answer_is environment answer spelled e =
       subst (λ a. Means text input (meaning_of a)) (ap (λ bytes. program_value bytes program environment) (sym kept) ∙ e)
       (evaluated parsed (of_text kept typing).1 (for_declared (spells environment) spelled))
 
   -- the line of a value
-  pub evaluated_to : (environment : Environment) (v : Value) (line bytes : List ℕ) → InputMeans inputs input (spells environment)
+  pub evaluated_to : (environment : Environment) (v : Value) (line bytes : List ℕ) → InputMeans dialect inputs input (spells environment)
       → program_value items program environment ≡ gives v → line ≡ value_text v → bytes ≡ line ++ 10 ∷ []
       → (x : Value) × Means text input (has_value x) × (bytes ≡ value_line x)
   evaluated_to environment v line bytes spelled answer e f = (v, answer_is environment (gives v) spelled answer, f ∙ ap (λ l. l ++ 10 ∷ []) e)

@@ -14,7 +14,7 @@ use Rattle.snesl_run.proofs.InRange.{program_in_range}
 module _ (answers : HaveSomeAnswer) (typing : HaveSomeTyping) (inputs : SomeInputMeaning) (text input : List ℕ) where
   -- a program that has a type is evaluated, unless its input text is refused
   of_input : {program : ProgramTree} {declared : Declared} {t : Ty} → Parses text (Ok program) → ProgramTypes text program declared t
-      → (answer : InputAnswer) → InputMeans declared.inputs input answer → (m : Meaning) × Means text input m
+      → (answer : InputAnswer) → InputMeans program.dialect declared.inputs input answer → (m : Meaning) × Means text input m
   of_input {program = program} p h (spells environment) i = (meaning_of (program_value text program environment), evaluated p h i)
   of_input p h (refused_at at) i = (is_refused (BadInput at), bad_input p h i)
 
@@ -22,7 +22,7 @@ module _ (answers : HaveSomeAnswer) (typing : HaveSomeTyping) (inputs : SomeInpu
   of_typing : {program : ProgramTree} → Parses text (Ok program)
       → ((d : Declared) × (t : Ty) × ProgramTypes text program d t) ⊎ ((refusal : Refusal) × ProgramViolates text program refusal)
       → (m : Meaning) × Means text input m
-  of_typing p (inl (declared, t, h)) = let means = inputs declared.inputs input in of_input p h means.0 means.1
+  of_typing {program = program} p (inl (declared, t, h)) = let means = inputs program.dialect declared.inputs input in of_input p h means.0 means.1
   of_typing p (inr (refusal, violates)) = (is_refused refusal, ill_typed p violates)
 
   of_answer : (answer : Result ProgramTree Refusal) → Parses text answer → (m : Meaning) × Means text input m

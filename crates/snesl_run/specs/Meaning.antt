@@ -30,11 +30,11 @@ pub data Means (text input : List ℕ) : Meaning → Type 0 where
       → Means text input (is_refused refusal)
   -- the input text is not lawful for the declared inputs
   bad_input : {program : ProgramTree} {declared : Declared} {t : Ty} {at : ℕ} → Parses text (Ok program) → ProgramTypes text program declared t
-      → InputMeans declared.inputs input (refused_at at)
+      → InputMeans program.dialect declared.inputs input (refused_at at)
       → Means text input (is_refused (BadInput at))
   -- the program is evaluated with the values that the input text spells
   evaluated : {program : ProgramTree} {declared : Declared} {t : Ty} {environment : Environment} → Parses text (Ok program) → ProgramTypes text program declared t
-      → InputMeans declared.inputs input (spells environment)
+      → InputMeans program.dialect declared.inputs input (spells environment)
       → Means text input (meaning_of (program_value text program environment))
 
 -- no program and input text have two meanings

@@ -52,7 +52,7 @@ fn evaluated(alloc: Global, program: &[u8], input: &[u8]) -> Result<Result<Vec<u
 {
     let program = parse(alloc, program)?;
     let typed = check(alloc, &program)?;
-    let inputs = read_inputs(alloc, typed.decls(), input)?;
+    let inputs = read_inputs(typed.dialect(), alloc, typed.decls(), input)?;
     match plain(alloc, &typed, &inputs)? {
         Err(fault) => Ok(Err(fault)),
         Ok(datum) => {

@@ -5,8 +5,8 @@ use snesl_run::{complain, run};
 use snesl_syntax::{Expr, Span, parse};
 use snesl_types::{check, plain};
 use snesl_values::{
-    Counted, Datum, Fault, FaultKind, InputError, Refusal, Ty, copy_datum, is_blank, read_inputs,
-    text_of,
+    Counted, Datum, Dialect, Fault, FaultKind, InputError, Refusal, Ty, copy_datum, is_blank,
+    read_inputs, text_of,
 };
 use std::alloc::{AllocError, Global};
 use std::io::{Read, Write};
@@ -85,9 +85,15 @@ fn refusal_numbers(rt: HostRuntime) {
 }
 
 #[test]
+fn dialects(rt: HostRuntime) {
+    assert_eq!(rt; Dialect::One.greatest(), 9_223_372_036_854_775_807);
+    assert!(rt; !Dialect::One.has(-9_223_372_036_854_775_809) && Dialect::Two.has(i128::MIN));
+}
+
+#[test]
 fn input_errors(rt: HostRuntime) {
     assert!(rt; is_blank(b'\t') && !is_blank(b'x'));
-    let refused = read_inputs(rt.alloc(), &[], b" \n=").err();
+    let refused = read_inputs(Dialect::One, rt.alloc(), &[], b" \n=").err();
     assert_eq!(rt; refused, Some(InputError::Bad(2)));
     assert_eq!(rt; Refusal::from(InputError::Bad(2)), Refusal::BadInput(2));
 }
@@ -175,6 +181,7 @@ fn reserved_words(rt: HostRuntime) -> Result<(), Fail> {
 #[test]
 fn parsed(rt: HostRuntime) -> Result<(), Fail> {
     let program = parse(rt.alloc(), b" reduce_add({x * x : x in iota(4)})")?;
+    assert_eq!(rt; program.dialect(), Dialect::One);
     assert_eq!(rt; program.expr.at(), 1);
     if let Expr::Call { arguments, .. } = &program.expr {
         assert_eq!(rt; arguments.len(), 1);
@@ -194,6 +201,7 @@ fn checked(rt: HostRuntime) -> Result<(), Fail> {
     assert!(rt; matches!(typed.ty(), Ty::Int));
     assert_eq!(rt; typed.program().expr.at(), 34);
     assert_eq!(rt; typed.decls().len(), 2);
+    assert_eq!(rt; typed.dialect(), Dialect::One);
     Ok(())
 }
 
@@ -201,7 +209,7 @@ fn checked(rt: HostRuntime) -> Result<(), Fail> {
 fn evaluated(alloc: Global, text: &[u8], input: &[u8]) -> Result<Result<Datum, Fault>, Refusal> {
     let program = parse(alloc, text)?;
     let typed = check(alloc, &program)?;
-    let inputs = read_inputs(alloc, typed.decls(), input)?;
+    let inputs = read_inputs(typed.dialect(), alloc, typed.decls(), input)?;
     Ok(plain(alloc, &typed, &inputs)?)
 }
 
@@ -209,6 +217,8 @@ fn evaluated(alloc: Global, text: &[u8], input: &[u8]) -> Result<Result<Datum, F
 fn values(rt: HostRuntime) -> Result<(), Fail> {
     let number = evaluated(rt.alloc(), b" reduce_add({x * x : x in iota(4)})", b"")?;
     assert!(rt; matches!(number, Ok(Datum::Int(14))));
+    let wide = evaluated(rt.alloc(), b"dialect 2; 9223372036854775807 + 1", b"")?;
+    assert!(rt; matches!(wide, Ok(Datum::Int(9_223_372_036_854_775_808))));
     let declared = b"input n : int; input v : [bool]; (n, v)".as_slice();
     let pair = evaluated(rt.alloc(), declared, b"n = 3; v = [true]")?;
     assert!(rt; matches!(pair, Ok(Datum::Pair(..))));

@@ -2,7 +2,7 @@
 
 use snesl_syntax::parse;
 use snesl_types::check;
-use snesl_values::{Datum, Inputs, Refusal, Ty, read_inputs};
+use snesl_values::{Datum, Dialect, Inputs, Refusal, Ty, read_inputs};
 use std::alloc::{AllocError, Global};
 use std::test::Fail;
 
@@ -10,7 +10,7 @@ use std::test::Fail;
 fn inputs_of(alloc: Global, program: &[u8], text: &[u8]) -> Result<Inputs, Refusal> {
     let program = parse(alloc, program)?;
     let typed = check(alloc, &program)?;
-    Ok(read_inputs(alloc, typed.decls(), text)?)
+    Ok(read_inputs(typed.dialect(), alloc, typed.decls(), text)?)
 }
 
 // Whether a program takes the inputs.
@@ -21,8 +21,8 @@ fn takes(alloc: Global, program: &[u8], inputs: &Inputs) -> Result<bool, Refusal
 
 #[test]
 fn inputs_fit_their_program_alone(rt: HostRuntime) -> Result<(), Fail> {
-    // A program and an input text for it, and a program of other declarations.
-    let rows: [(&[u8], &[u8], &[u8]); 5] = [
+    // A program and an input text for it, and a program of other declarations or of the other dialect.
+    let rows: [(&[u8], &[u8], &[u8]); 7] = [
         (b"input s : {int}; s", b"s = {}", b"input s : {bool}; s"),
         (b"input s : {bool}; s", b"s = {}", b"input s : {int}; s"),
         (
@@ -32,6 +32,12 @@ fn inputs_fit_their_program_alone(rt: HostRuntime) -> Result<(), Fail> {
         ),
         (b"input n : int; n", b"n = 3", b"1"),
         (b"1", b" \t\r\n", b"input n : int; input v : [bool]; n"),
+        (
+            b"input n : int; n",
+            b"n = 3",
+            b"dialect 2; input n : int; n",
+        ),
+        (b"dialect 2; 1", b"", b"1"),
     ];
     for (program, text, other) in rows {
         let inputs = inputs_of(rt.alloc(), program, text)?;
@@ -42,7 +48,7 @@ fn inputs_fit_their_program_alone(rt: HostRuntime) -> Result<(), Fail> {
 }
 
 // The input of a name, if it is a number.
-fn number_named(inputs: &Inputs, name: &[u8]) -> Option<i64> {
+fn number_named(inputs: &Inputs, name: &[u8]) -> Option<i128> {
     match inputs.named(name) {
         Some(Datum::Int(number)) => Some(*number),
         _ => None,
@@ -76,7 +82,9 @@ fn twice(alloc: Global) -> Result<Vec<(Vec<u8>, Ty)>, AllocError> {
 #[test]
 fn the_first_of_a_name_is_meant(rt: HostRuntime) -> Result<(), Fail> {
     let decls = twice(rt.alloc())?;
-    let inputs = read_inputs(rt.alloc(), &decls, b"n = 1; n = 2").map_err(Refusal::from)?;
+    let inputs = read_inputs(Dialect::Two, rt.alloc(), &decls, b"n = 1; n = 2").map_err(
+        Refusal::from,
+    )?;
     assert_eq!(rt; number_named(&inputs, b"n"), Some(1));
     Ok(())
 }

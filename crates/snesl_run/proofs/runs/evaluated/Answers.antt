@@ -26,26 +26,26 @@ returns-in_err-typed c =
 pub returns-in_err-inputs : goal.returns-in_err-inputs
 returns-in_err-inputs c =
     passed_on (HasEvaluated c.args.program.now c.args.input.now) c.from_residual-in_err-inputs.result (refusal_of c.in_err-inputs.field-0.0) c.from_residual-in_err-inputs.ensures.1
-    (inputs_refused c.args.program.now c.in_ok-program.program.text.items c.args.input.now (tree_of_program c.in_ok-program.program)
+    (inputs_refused c.args.program.now c.in_ok-program.program.text.items c.args.input.now (tree_of_program c.in_ok-program.program) c.dialect.result
     (typed_inputs c.in_ok-typed.typed) (declared c.decls.result.now) (typed_ty c.in_ok-typed.typed)
-    c.in_ok-program.ensures.right c.in_ok-program.ensures.keeps_text c.in_ok-typed.ensures.typed c.decls.ensures
+    c.in_ok-program.ensures.right c.in_ok-program.ensures.keeps_text c.in_ok-typed.ensures.typed (c.dialect.ensures ∙ ap (λ p. p.dialect) c.in_ok-typed.ensures.program) c.decls.ensures
     c.in_err-inputs.field-0.0 c.in_err-inputs.ensures.refused)
 
 pub returns-in-Err : goal.returns-in-Err
 returns-in-Err c =
     let environment = environment_of c.in_ok-inputs.inputs in
-    answer_is c.args.program.now c.in_ok-program.program.text.items c.args.input.now (tree_of_program c.in_ok-program.program)
+    answer_is c.args.program.now c.in_ok-program.program.text.items c.args.input.now (tree_of_program c.in_ok-program.program) c.dialect.result
     (typed_inputs c.in_ok-typed.typed) (declared c.decls.result.now) (typed_ty c.in_ok-typed.typed)
-    c.in_ok-program.ensures.right c.in_ok-program.ensures.keeps_text c.in_ok-typed.ensures.typed c.decls.ensures
+    c.in_ok-program.ensures.right c.in_ok-program.ensures.keeps_text c.in_ok-typed.ensures.typed (c.dialect.ensures ∙ ap (λ p. p.dialect) c.in_ok-typed.ensures.program) c.decls.ensures
     environment (faults c.in-Err.fault.kind c.in-Err.fault.at) c.in_ok-inputs.ensures.spelled
     (ap (λ p. program_value p.text.items (tree_of_program p) environment) (sym c.in_ok-typed.ensures.program) ∙ rw c.in-Err.is at c.in_ok-fault.ensures.exact)
 
 pub returns : goal.returns
 returns c =
     let environment = environment_of c.in_ok-inputs.inputs in
-    evaluated_to c.args.program.now c.in_ok-program.program.text.items c.args.input.now (tree_of_program c.in_ok-program.program)
+    evaluated_to c.args.program.now c.in_ok-program.program.text.items c.args.input.now (tree_of_program c.in_ok-program.program) c.dialect.result
     (typed_inputs c.in_ok-typed.typed) (declared c.decls.result.now) (typed_ty c.in_ok-typed.typed)
-    c.in_ok-program.ensures.right c.in_ok-program.ensures.keeps_text c.in_ok-typed.ensures.typed c.decls.ensures
+    c.in_ok-program.ensures.right c.in_ok-program.ensures.keeps_text c.in_ok-typed.ensures.typed (c.dialect.ensures ∙ ap (λ p. p.dialect) c.in_ok-typed.ensures.program) c.decls.ensures
     environment (value_of c.in-Ok.datum) c.in_ok-line-in-Ok.line.items c.push.new.self.items c.in_ok-inputs.ensures.spelled
     (ap (λ p. program_value p.text.items (tree_of_program p) environment) (sym c.in_ok-typed.ensures.program) ∙ rw c.in-Ok.is at c.in_ok-fault.ensures.exact)
     c.in_ok-line-in-Ok.ensures c.in_ok-push-in-Ok.ensures.items
