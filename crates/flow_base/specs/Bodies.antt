@@ -1,6 +1,7 @@
 -- What is left to a machine, as a run: what a first item, and an item more, make of it.
 use Rattle.std.specs.Prelude.{◌≡◌, ℕ, zero, suc, ◌<◌, [], ◌∷◌, Bool, true, false, cond, Result, Ok, Err, refl, ◌↔◌}
 use Rattle.std.proofs.Common.{sym, ap, subst}
+use Rattle.snesl_values.specs.declared.dialect.Dialect.{Dialect}
 use Rattle.snesl_values.specs.declared.fault.FaultKind.{FaultKind}
 use Rattle.snesl_values.specs.declared.fault.FaultKind.TheVariants.{Shape}
 use Rattle.flow_edges.specs.Cells.{Cell, flag, int, is_of}
@@ -32,8 +33,9 @@ module _ {S : Type 0} (P : S → Type 0) where
       go true e = h x e
       go false e = tt
 
-  -- where an item leads whose integers lie in the range, what holds wherever one of the kind does
-  pub in_range_there : (t : Taking S) (x : Cell) → OfRange P t → CellInRange x → OfNext (taken t x) P
+module _ {S : Type 0} (dialect : Dialect) (P : S → Type 0) where
+  -- where an item leads whose integers lie in the range of the dialect, what holds wherever one of the kind does
+  pub in_range_there : (t : Taking S) (x : Cell) → OfRange dialect P t → CellInRange dialect x → OfNext (taken t x) P
   in_range_there (on_flag at_f at_t) (flag false) h range = h.0
   in_range_there (on_flag at_f at_t) (flag true) h range = h.1
   in_range_there (on_flag at_f at_t) _ h range = tt

@@ -2,6 +2,7 @@
 use Rattle.std.specs.Prelude.{◌≡◌, ℕ, zero, suc, ◌<◌, ℤ, Bool, true, false, cond, Result, Ok, Err, ◌↔◌}
 use Rattle.snesl_values.specs.declared.fault.FaultKind.{FaultKind}
 use Rattle.snesl_values.specs.declared.fault.FaultKind.TheVariants.{Shape}
+use Rattle.snesl_values.specs.declared.dialect.Dialect.{Dialect}
 use Rattle.snesl_values.specs.Integers.{IsInteger}
 use Rattle.flow_edges.specs.Cells.{Cell, unit, flag, int, is_of}
 use Rattle.flow_edges.specs.declared.message.Kind.{Kind}
@@ -55,8 +56,8 @@ pub record Machine (P S : Type 0) : Type 1 where
   pub debt : P → S → ℕ
   -- what the state and its parameters hold is of the kinds that they name
   pub of_kind : P → S → Type 0
-  -- their integers lie in the range
-  pub in_range : P → S → Type 0
+  -- their integers lie in the range of the dialect, and what the worker computes with is of it
+  pub in_range : Dialect → P → S → Type 0
   -- whether the next step from this state may take memory
   pub takes_memory : S → Bool
 
@@ -108,11 +109,11 @@ OfKind P (on_flag at_f at_t) = OfNext at_f P × OfNext at_t P
 OfKind P (on_int next) = (n : ℤ) → OfNext (next n) P
 OfKind P (on_kind kind next) = (x : Cell) → is_of kind x ≡ true → OfNext (next x) P
 
--- wherever an item of the taken kind leads whose integers lie in the range, P holds
-abbrev pub OfRange : {S : Type 0} → (S → Type 0) → Taking S → Type 0
-OfRange P (on_flag at_f at_t) = OfNext at_f P × OfNext at_t P
-OfRange P (on_int next) = (n : ℤ) → IsInteger n → OfNext (next n) P
-OfRange P (on_kind kind next) = (x : Cell) → is_of kind x ≡ true → CellInRange x → OfNext (next x) P
+-- wherever an item of the taken kind leads whose integers lie in the range of the dialect, P holds
+abbrev pub OfRange : {S : Type 0} → Dialect → (S → Type 0) → Taking S → Type 0
+OfRange dialect P (on_flag at_f at_t) = OfNext at_f P × OfNext at_t P
+OfRange dialect P (on_int next) = (n : ℤ) → IsInteger dialect n → OfNext (next n) P
+OfRange dialect P (on_kind kind next) = (x : Cell) → is_of kind x ≡ true → CellInRange dialect x → OfNext (next x) P
 
 module _ {P S : Type 0} (m : Machine P S) (p : P) where
   -- a run of n steps, at whose end the next instance may begin, reads and writes these columns
@@ -130,16 +131,16 @@ module _ {P S : Type 0} (m : Machine P S) (p : P) where
   Runs s i o = (n : ℕ) × Run n s i o
 
   -- Where an item is read from port q: the port is there, its kind is that which is taken, and where the item leads,
-  -- what is held is of its kind, and in the range where what was held and read is.
+  -- what is held is of its kind, and in the range of each dialect where what was held and read is.
   abbrev pub SoundRead : S → ℕ → Taking S → Type 0
-  SoundRead s q t = (q < m.inputs p) × (m.kind_in p q ≡ kind_taken t) × (m.of_kind p s → OfKind (m.of_kind p) t) × (m.of_kind p s → m.in_range p s → OfRange (m.in_range p) t)
+  SoundRead s q t = (q < m.inputs p) × (m.kind_in p q ≡ kind_taken t) × (m.of_kind p s → OfKind (m.of_kind p) t) × ((dialect : Dialect) → m.of_kind p s → m.in_range dialect p s → OfRange dialect (m.in_range dialect p) t)
 
   -- What the table keeps to at a state.
   abbrev pub SoundAt : S → Move S → Type 0
   SoundAt s (begins t) = (s ≡ m.start) × SoundRead s 0 t
   SoundAt s (takes q t) = SoundRead s q t
   SoundAt s (gives q c next) =
-      (q < m.outputs p) × (m.debt p next < m.debt p s) × (m.of_kind p s → (is_of (m.kind_out p q) c ≡ true) × m.of_kind p next) × (m.of_kind p s → m.in_range p s → CellInRange c × m.in_range p next)
+      (q < m.outputs p) × (m.debt p next < m.debt p s) × (m.of_kind p s → (is_of (m.kind_out p q) c ≡ true) × m.of_kind p next) × ((dialect : Dialect) → m.of_kind p s → m.in_range dialect p s → CellInRange dialect c × m.in_range dialect p next)
 
 -- What a machine keeps to.
 pub record MachineLaws {P S : Type 0} (m : Machine P S) : Type 0 where

@@ -32,7 +32,7 @@ module _ {P S : Type 0} (m : Machine P S) where
     still_out = λ message k h. absurd (cc);
     kinds = λ x other. refl;
     of_kind = λ x held. subst (λ w. m.of_kind w.0 w.1) (same x) held;
-    in_range = λ x held own range. subst (λ w. m.in_range w.0 w.1) (same x) own;
+    in_range = λ dialect x held own range. subst (λ w. m.in_range dialect w.0 w.1) (same x) own;
   }
     where
       lt : p < m.inputs s.0
@@ -87,7 +87,7 @@ module _ {P S : Type 0} (m : Machine P S) where
     still_in = λ k h. refl;
     still_out = λ k h. grind (arith, nat_tests);
     of_kind = λ held. (tt, held);
-    in_range = λ held own. (tt, own);
+    in_range = λ dialect held own. (tt, own);
   }
     where
       lt : q < m.outputs s.0

@@ -1,6 +1,7 @@
 -- A worker as a transducer keeps its promises where the worker reads.
 use Rattle.std.specs.Prelude.{◌≡◌, ℕ, ◌<◌, [], ◌∷◌, Bool, true, false, cond, nat_lt, Result, Ok, Err, refl, ◌↔◌}
 use Rattle.std.proofs.Common.{sym, ◌∙◌, ap, subst}
+use Rattle.snesl_values.specs.declared.dialect.Dialect.{Dialect}
 use Rattle.snesl_values.specs.declared.fault.FaultKind.{FaultKind}
 use Rattle.snesl_values.specs.declared.fault.FaultKind.TheVariants.{Shape}
 use Rattle.flow_edges.specs.Cells.{Cell, is_of}
@@ -40,9 +41,9 @@ module _ {P S : Type 0} (m : Machine P S) (p : P) (s : S) (at : ℕ) where
   moved_of_kind (Ok next) held after = after
   moved_of_kind (Err kind) held after = held
 
-  moved_in_range : (r : Result S FaultKind) → m.in_range p s → OfNext r (m.in_range p) → (behaviour_of m).in_range (moved m here r)
-  moved_in_range (Ok next) own after = after
-  moved_in_range (Err kind) own after = own
+  moved_in_range : (dialect : Dialect) (r : Result S FaultKind) → m.in_range dialect p s → OfNext r (m.in_range dialect p) → (behaviour_of m).in_range dialect (moved m here r)
+  moved_in_range dialect (Ok next) own after = after
+  moved_in_range dialect (Err kind) own after = own
 
   -- What is known of a move that reads port q.
   record ReadsBy (v : Move S) (q : ℕ) : Type 0 where
@@ -50,7 +51,7 @@ module _ {P S : Type 0} (m : Machine P S) (p : P) (s : S) (at : ℕ) where
     steps : (x : Cell) (i o : Lists Cell) → Body m p v (push q x i) o ↔ BodyAfter m p (given_of v x) i o
     kinds : (x : Cell) → is_of (m.kind_in p q) x ≡ false → given_of v x ≡ Err Shape
     of_kind : (x : Cell) → m.of_kind p s → OfNext (given_of v x) (m.of_kind p)
-    in_range : (x : Cell) → m.of_kind p s → m.in_range p s → CellInRange x → OfNext (given_of v x) (m.in_range p)
+    in_range : (dialect : Dialect) (x : Cell) → m.of_kind p s → m.in_range dialect p s → CellInRange dialect x → OfNext (given_of v x) (m.in_range dialect p)
 
   module _ (v : Move S) (q : ℕ) (law : ReadsBy v q) where
     item_forth : (x : Cell) (i o : Lists Signal) → Remains m p v (push q (carry x) i) o → Owes (moved m here (given_of v x)) i o
@@ -111,9 +112,9 @@ module _ {P S : Type 0} (m : Machine P S) (p : P) (s : S) (at : ℕ) where
         of_kind (carry x) held = moved_of_kind (given_of (m.move p s) x) held (subst (λ w. OfNext (given_of w x) (m.of_kind p)) (sym e) (law.of_kind x held))
         of_kind stop held = subst (λ w. m.of_kind w.0 w.1) (sym worker_at_end) held
 
-        in_range : (x : Signal) → m.of_kind p s → m.in_range p s → SignalInRange x → (behaviour_of m).in_range (given_in m Working here x)
-        in_range (carry x) held own range = moved_in_range (given_of (m.move p s) x) own (subst (λ w. OfNext (given_of w x) (m.in_range p)) (sym e) (law.in_range x held own range))
-        in_range stop held own range = subst (λ w. m.in_range w.0 w.1) (sym worker_at_end) own
+        in_range : (dialect : Dialect) (x : Signal) → m.of_kind p s → m.in_range dialect p s → SignalInRange dialect x → (behaviour_of m).in_range dialect (given_in m Working here x)
+        in_range dialect (carry x) held own range = moved_in_range dialect (given_of (m.move p s) x) own (subst (λ w. OfNext (given_of w x) (m.in_range dialect p)) (sym e) (law.in_range dialect x held own range))
+        in_range dialect stop held own range = subst (λ w. m.in_range dialect w.0 w.1) (sym worker_at_end) own
 
   -- a read within an instance
   pub take_keeps : (q : ℕ) (t : Taking S) → m.move p s ≡ takes q t → SoundRead m p s q t → KeepsRead (behaviour_of m) (promise_of m) (node_state (p, s) Working at) q
@@ -125,7 +126,7 @@ module _ {P S : Type 0} (m : Machine P S) (p : P) (s : S) (at : ℕ) where
         steps = λ x i o. take_read m p q t x i o law.0;
         kinds = λ x e. other_kind t x (ap (λ k. is_of k x) (sym law.1) ∙ e);
         of_kind = λ x held. of_kind_there (m.of_kind p) t x (law.2 held);
-        in_range = λ x held own range. in_range_there (m.in_range p) t x (law.3 held own) range;
+        in_range = λ dialect x held own range. in_range_there dialect (m.in_range dialect p) t x (law.3 dialect held own) range;
       }
 
       never : (i o : Lists Signal) → Remains m p (takes q t) (push q stop i) o → ⊥
@@ -143,7 +144,7 @@ module _ {P S : Type 0} (m : Machine P S) (p : P) (s : S) (at : ℕ) where
         steps = λ x i o. begin_read m p t x i o law.0;
         kinds = λ x e. other_kind t x (ap (λ k. is_of k x) (sym law.1) ∙ e);
         of_kind = λ x held. of_kind_there (m.of_kind p) t x (law.2 held);
-        in_range = λ x held own range. in_range_there (m.in_range p) t x (law.3 held own) range;
+        in_range = λ dialect x held own range. in_range_there dialect (m.in_range dialect p) t x (law.3 dialect held own) range;
       }
 
       passed : (b : Bool) → over_in (cond b (Closing 1) (Ending 0)) 0 ≡ true

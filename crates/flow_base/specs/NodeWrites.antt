@@ -36,7 +36,7 @@ module _ {P S : Type 0} (m : Machine P S) (p : P) (s : S) where
     still_in = λ k h. absurd (cc);
     still_out = λ k h. absurd (cc);
     of_kind = λ held. subst (λ v. (is_of (m.kind_out p q) (told_of v) ≡ true) × m.of_kind p (after_of s v)) (sym e) (law.2 held);
-    in_range = λ held own. subst (λ v. CellInRange (told_of v) × m.in_range p (after_of s v)) (sym e) (law.3 held own);
+    in_range = λ dialect held own. subst (λ v. CellInRange dialect (told_of v) × m.in_range dialect p (after_of s v)) (sym e) (law.3 dialect held own);
   }
     where
       forth : (i o : Lists Signal) → Remains m p (gives q c next) i o → First (o q) (After (gives q c next) q i o)

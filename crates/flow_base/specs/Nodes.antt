@@ -97,6 +97,6 @@ module _ {P S : Type 0} (m : Machine P S) where
     at = λ n. n.at;
     row = λ n. m.row n.worker.0;
     of_kind = λ n. m.of_kind n.worker.0 n.worker.1;
-    in_range = λ n. m.in_range n.worker.0 n.worker.1;
+    in_range = λ dialect n. m.in_range dialect n.worker.0 n.worker.1;
     takes_memory = λ n. memory_in n.phase n;
   }

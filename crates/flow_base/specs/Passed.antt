@@ -1,6 +1,7 @@
 -- A transducer that keeps its promises: which ends have passed, and of which kind and in which range its items are.
 use Rattle.std.specs.Prelude.{◌≡◌, ℕ, ◌<◌, List, [], ◌∷◌, true, refl}
 use Rattle.std.proofs.Common.{inl, inr, sym, ◌∙◌, ap, subst}
+use Rattle.snesl_values.specs.declared.dialect.Dialect.{Dialect}
 use Rattle.kahn.specs.declared.want.Want.TheVariants.{Read, Write}
 use Rattle.kahn.specs.Processes.{Event, Reads, Writes, Does, reads, writes, HasEnd}
 use Rattle.kahn.proofs.Prefix.{reads_first, reads_later, writes_first, writes_later}
@@ -71,25 +72,25 @@ module _ {S : Type 0} (b : Behaviour S) (promise : Promise S) (laws : PromiseLaw
         | inr other ↦ subst (λ l. SignalsOfKind (b.kind_out start q) l) (sym (writes_later q p m h other)) there
       ]
 
-  -- where the integers that are held and those that came in lie in the range, so do those that go out
-  pub in_range_out : (start : S) (h : List (Event Signal)) (s t : S) → b.opening s ≡ b.opening start → Does b.process s h t → b.of_kind s → b.in_range s →
-      ((p : ℕ) → p < b.inputs start → SignalsInRange (reads p h)) → (q : ℕ) → SignalsInRange (writes q h)
-  in_range_out start [] s t same does held own range q = tt
-  in_range_out start (Reads p m ∷ h) s t same (wants, does) held own range q =
+  -- where the integers that are held and those that came in lie in the range of the dialect, so do those that go out
+  pub in_range_out : (dialect : Dialect) (start : S) (h : List (Event Signal)) (s t : S) → b.opening s ≡ b.opening start → Does b.process s h t → b.of_kind s → b.in_range dialect s →
+      ((p : ℕ) → p < b.inputs start → SignalsInRange dialect (reads p h)) → (q : ℕ) → SignalsInRange dialect (writes q h)
+  in_range_out dialect start [] s t same does held own range q = tt
+  in_range_out dialect start (Reads p m ∷ h) s t same (wants, does) held own range q =
       let law = keeps b promise laws s (Read p) wants in
       let port : p < b.inputs start = subst (λ n. p < n) (inputs_stay b promise laws start s same) law.port in
-      let here : SignalInRange m × SignalsInRange (reads p h) = subst (λ l. SignalsInRange l) (reads_first p p m h refl) (range p port) in
-      let others : (k : ℕ) → k < b.inputs start → SignalsInRange (reads k h) =
+      let here : SignalInRange dialect m × SignalsInRange dialect (reads p h) = subst (λ l. SignalsInRange dialect l) (reads_first p p m h refl) (range p port) in
+      let others : (k : ℕ) → k < b.inputs start → SignalsInRange dialect (reads k h) =
       λ k lt. elim (ports k p) [
-        | inl is ↦ subst (λ j. SignalsInRange (reads j h)) (sym is) here.1
-        | inr other ↦ subst (λ l. SignalsInRange l) (reads_later k p m h other) (range k lt)
+        | inl is ↦ subst (λ j. SignalsInRange dialect (reads j h)) (sym is) here.1
+        | inr other ↦ subst (λ l. SignalsInRange dialect l) (reads_later k p m h other) (range k lt)
       ] in
-      in_range_out start h (b.process.read s m) t (law.stays m ∙ same) does (law.of_kind m held) (law.in_range m held own here.0) others q
-  in_range_out start (Writes p m ∷ h) s t same (wants, is, does) held own range q =
+      in_range_out dialect start h (b.process.read s m) t (law.stays m ∙ same) does (law.of_kind m held) (law.in_range dialect m held own here.0) others q
+  in_range_out dialect start (Writes p m ∷ h) s t same (wants, is, does) held own range q =
       let law = keeps b promise laws s (Write p) wants in
-      let kept = law.in_range held own in
-      let there : SignalsInRange (writes q h) = in_range_out start h (b.process.wrote s) t (law.stays ∙ same) does (law.of_kind held).1 kept.1 range q in
+      let kept = law.in_range dialect held own in
+      let there : SignalsInRange dialect (writes q h) = in_range_out dialect start h (b.process.wrote s) t (law.stays ∙ same) does (law.of_kind held).1 kept.1 range q in
       elim (ports q p) [
-        | inl same_port ↦ subst (λ l. SignalsInRange l) (sym (writes_first q p m h same_port)) (subst (λ x. SignalInRange x) is kept.0, there)
-        | inr other ↦ subst (λ l. SignalsInRange l) (sym (writes_later q p m h other)) there
+        | inl same_port ↦ subst (λ l. SignalsInRange dialect l) (sym (writes_first q p m h same_port)) (subst (λ x. SignalInRange dialect x) is kept.0, there)
+        | inr other ↦ subst (λ l. SignalsInRange dialect l) (sym (writes_later q p m h other)) there
       ]

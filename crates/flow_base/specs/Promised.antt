@@ -78,7 +78,7 @@ module _ {S : Type 0} (b : Behaviour S) (promise : Promise S) (laws : PromiseLaw
       complete = complete;
       one = one;
       of_kind = λ h s does q lt. of_kind_out b promise laws start h start s refl does (laws.starts_of_kind start opens) q;
-      in_range = λ own h s does range q lt. in_range_out b promise laws start h start s refl does (laws.starts_of_kind start opens) own range q;
+      in_range = λ dialect own h s does range q lt. in_range_out b promise laws dialect start h start s refl does (laws.starts_of_kind start opens) own range q;
     }
 
   pub promised_laws : BehaviourLaws b

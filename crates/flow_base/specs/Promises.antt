@@ -1,5 +1,6 @@
 -- Promises: what a transducer has still to read and write in each state, and what such promises keep to.
 use Rattle.std.specs.Prelude.{◌≡◌, ℕ, ◌<◌, Bool, true, false, [], ◌↔◌}
+use Rattle.snesl_values.specs.declared.dialect.Dialect.{Dialect}
 use Rattle.snesl_values.specs.declared.fault.Fault.{Fault}
 use Rattle.snesl_values.specs.declared.fault.FaultKind.TheVariants.{Shape}
 use Rattle.kahn.specs.declared.want.Want.{Want}
@@ -32,9 +33,9 @@ module _ {S : Type 0} (b : Behaviour S) (promise : Promise S) where
     pub still_in : (m : Signal) (k : ℕ) → promise.over_in s k ≡ true → promise.over_in (b.process.read s m) k ≡ true
     pub still_out : (m : Signal) (k : ℕ) → promise.over_out s k ≡ true → promise.over_out (b.process.read s m) k ≡ true
     pub kinds : (x : Cell) → is_of (b.kind_in s p) x ≡ false → b.process.want (b.process.read s (carry x)) ≡ Faulted (record { kind = Shape; at = b.at s })
-    -- whatever is read, what is held stays of its kind; and in the range, where what is read is
+    -- whatever is read, what is held stays of its kind; and in the range of each dialect, where what is read is
     pub of_kind : (m : Signal) → b.of_kind s → b.of_kind (b.process.read s m)
-    pub in_range : (m : Signal) → b.of_kind s → b.in_range s → SignalInRange m → b.in_range (b.process.read s m)
+    pub in_range : (dialect : Dialect) (m : Signal) → b.of_kind s → b.in_range dialect s → SignalInRange dialect m → b.in_range dialect (b.process.read s m)
 
   -- What is kept to where the next is a write to port q.
   pub record KeepsWrite (s : S) (q : ℕ) : Type 0 where
@@ -47,9 +48,9 @@ module _ {S : Type 0} (b : Behaviour S) (promise : Promise S) where
     pub ends : b.process.written s ≡ stop → promise.over_out (b.process.wrote s) q ≡ true
     pub still_in : (k : ℕ) → promise.over_in s k ≡ true → promise.over_in (b.process.wrote s) k ≡ true
     pub still_out : (k : ℕ) → promise.over_out s k ≡ true → promise.over_out (b.process.wrote s) k ≡ true
-    -- what is written is of the kind, and in the range, where what is held is
+    -- what is written is of the kind; and in the range of each dialect, where what is held is
     pub of_kind : b.of_kind s → SignalOfKind (b.kind_out s q) (b.process.written s) × b.of_kind (b.process.wrote s)
-    pub in_range : b.of_kind s → b.in_range s → SignalInRange (b.process.written s) × b.in_range (b.process.wrote s)
+    pub in_range : (dialect : Dialect) → b.of_kind s → b.in_range dialect s → SignalInRange dialect (b.process.written s) × b.in_range dialect (b.process.wrote s)
 
   -- What is kept to where the process has ended: nothing is owed.
   pub record KeepsEnded (s : S) : Type 0 where

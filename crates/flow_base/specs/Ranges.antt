@@ -1,39 +1,40 @@
--- Integers that lie in the language's range, and items of a kind, wherever they stand.
+-- Integers that lie in the range of a dialect, and items of a kind, wherever they stand.
 use Rattle.std.specs.Prelude.{◌≡◌, true, List, [], ◌∷◌}
+use Rattle.snesl_values.specs.declared.dialect.Dialect.{Dialect}
 use Rattle.snesl_values.specs.Integers.{IsInteger}
 use Rattle.snesl_values.specs.Values.{Value, Values, an_int, a_bool, a_pair, a_vec, a_seq, no_values, more_values}
 use Rattle.flow_edges.specs.Cells.{Cell, unit, flag, int, datum, is_of}
 use Rattle.flow_edges.specs.Signals.{Signal, carry, stop}
 use Rattle.flow_edges.specs.declared.message.Kind.{Kind}
 
--- the integers in the value lie in the range
+-- the integers in the value lie in the range of the dialect
 abbrev mutual
-  pub InRange : Value → Type 0
-  InRange (an_int n) = IsInteger n
-  InRange (a_bool b) = Unit {0}
-  InRange (a_pair first second) = InRange first × InRange second
-  InRange (a_vec vs) = AllInRange vs
-  InRange (a_seq vs) = AllInRange vs
+  pub InRange : Dialect → Value → Type 0
+  InRange dialect (an_int n) = IsInteger dialect n
+  InRange dialect (a_bool b) = Unit {0}
+  InRange dialect (a_pair first second) = InRange dialect first × InRange dialect second
+  InRange dialect (a_vec vs) = AllInRange dialect vs
+  InRange dialect (a_seq vs) = AllInRange dialect vs
 
-  pub AllInRange : Values → Type 0
-  AllInRange no_values = Unit {0}
-  AllInRange (more_values v vs) = InRange v × AllInRange vs
+  pub AllInRange : Dialect → Values → Type 0
+  AllInRange dialect no_values = Unit {0}
+  AllInRange dialect (more_values v vs) = InRange dialect v × AllInRange dialect vs
 
--- the integers that the cell carries lie in the range
-abbrev pub CellInRange : Cell → Type 0
-CellInRange unit = Unit {0}
-CellInRange (flag b) = Unit {0}
-CellInRange (int n) = IsInteger n
-CellInRange (datum v) = InRange v
+-- the integers that the cell carries lie in the range of the dialect
+abbrev pub CellInRange : Dialect → Cell → Type 0
+CellInRange dialect unit = Unit {0}
+CellInRange dialect (flag b) = Unit {0}
+CellInRange dialect (int n) = IsInteger dialect n
+CellInRange dialect (datum v) = InRange dialect v
 
--- the integers that the signal carries lie in the range
-abbrev pub SignalInRange : Signal → Type 0
-SignalInRange (carry x) = CellInRange x
-SignalInRange stop = Unit {0}
+-- the integers that the signal carries lie in the range of the dialect
+abbrev pub SignalInRange : Dialect → Signal → Type 0
+SignalInRange dialect (carry x) = CellInRange dialect x
+SignalInRange dialect stop = Unit {0}
 
-abbrev pub SignalsInRange : List Signal → Type 0
-SignalsInRange [] = Unit {0}
-SignalsInRange (m ∷ ms) = SignalInRange m × SignalsInRange ms
+abbrev pub SignalsInRange : Dialect → List Signal → Type 0
+SignalsInRange dialect [] = Unit {0}
+SignalsInRange dialect (m ∷ ms) = SignalInRange dialect m × SignalsInRange dialect ms
 
 -- each cell is of the kind
 abbrev pub AllOf : Kind → List Cell → Type 0

@@ -37,7 +37,7 @@ module _ {Tag : Type 0} {StateOf : Tag → Type 0} (some : Tag) (each : (t : Tag
     at = λ u. (each u.0).at u.1;
     row = λ u. (each u.0).row u.1;
     of_kind = λ u. (each u.0).of_kind u.1;
-    in_range = λ u. (each u.0).in_range u.1;
+    in_range = λ dialect u. (each u.0).in_range dialect u.1;
     takes_memory = λ u. (each u.0).takes_memory u.1;
   }
 
@@ -108,7 +108,7 @@ module _ {Tag : Type 0} {StateOf : Tag → Type 0} (some : Tag) (each : (t : Tag
         complete = complete;
         one = kept.one;
         of_kind = λ h u does. let d = sum_does t h start u does in kept.of_kind h d.0 d.2;
-        in_range = λ own h u does range. let d = sum_does t h start u does in kept.in_range own h d.0 d.2 range;
+        in_range = λ dialect own h u does range. let d = sum_does t h start u does in kept.in_range dialect own h d.0 d.2 range;
       }
 
     -- each state's opening state keeps the laws, and a state that is its own opening state is that one

@@ -1,6 +1,7 @@
 -- Transducers: sequential processes over signals (Kahn 1974), their ports, and the law that ties what goes
 -- out to what came in.
 use Rattle.std.specs.Prelude.{◌≡◌, ℕ, ◌<◌, Bool, false, List, [], ◌∷◌, cond, nat_lt}
+use Rattle.snesl_values.specs.declared.dialect.Dialect.{Dialect}
 use Rattle.snesl_values.specs.declared.fault.Fault.{Fault}
 use Rattle.snesl_values.specs.declared.fault.FaultKind.TheVariants.{Shape}
 use Rattle.kahn.specs.declared.want.Want.{Want}
@@ -46,8 +47,8 @@ pub record Behaviour (S : Type 0) : Type 1 where
   pub row : S → Lists Cell → Lists Cell → Type 0
   -- what the state holds is of the kinds that it names
   pub of_kind : S → Type 0
-  -- the integers that it holds lie in the range
-  pub in_range : S → Type 0
+  -- the integers that it holds lie in the range of the dialect, and what it computes with is of it
+  pub in_range : Dialect → S → Type 0
   -- whether the next step from this state may take memory
   pub takes_memory : S → Bool
 
@@ -77,9 +78,9 @@ module _ {S : Type 0} (b : Behaviour S) where
         (q : ℕ) → q < b.outputs start → outs q ≡ others q
     -- whatever came in, each item that goes out is of the kind of its port
     pub of_kind : (h : List (Event Signal)) (s : S) → Does b.process start h s → (q : ℕ) → q < b.outputs start → SignalsOfKind (b.kind_out start q) (writes q h)
-    -- where its own integers and those that came in lie in the range, so do those that go out
-    pub in_range : b.in_range start → (h : List (Event Signal)) (s : S) → Does b.process start h s →
-        ((p : ℕ) → p < b.inputs start → SignalsInRange (reads p h)) → (q : ℕ) → q < b.outputs start → SignalsInRange (writes q h)
+    -- for each dialect: where its own integers and those that came in lie in the range, so do those that go out
+    pub in_range : (dialect : Dialect) → b.in_range dialect start → (h : List (Event Signal)) (s : S) → Does b.process start h s →
+        ((p : ℕ) → p < b.inputs start → SignalsInRange dialect (reads p h)) → (q : ℕ) → q < b.outputs start → SignalsInRange dialect (writes q h)
 
   -- What a transducer keeps to in each state.
   pub record BehaviourLaws : Type 0 where

@@ -66,7 +66,8 @@ pub trait Transducer {
 /// A law and no code to run: what each transducer keeps to, from its opening state on, whatever it reads and
 /// writes. It is a lawful process; on beginnings of lawful traffic it has not faulted and wrote beginnings of what
 /// goes out; where it has ended its traffic was lawful; and lawful traffic it carries to its end. Each item that it
-/// writes is of the kind of its port, and carries integers in the range where those that came in are.
+/// writes is of the kind of its port; and for each dialect it carries integers in its range where those that came
+/// in, and its own, are.
 pub fn keeps_laws<T: Transducer>(opened: &T)
     requires { T.behaviour.opening (T.state opened.now) ≡ T.state opened.now }
     ensures { TransducerLaws T.behaviour (T.state opened.now) }

@@ -10,6 +10,7 @@ use flow_graph::{Edge, Graph, GraphBuilder};
 use flow_nodes::StreamNode;
 use flow_scalar::{Binary, Const, Fork, Iota, Reduce, Sink, Source, Stream, UnitsOf};
 use snesl_operators::{BinaryOperator, Reduction, Scalar};
+use snesl_values::Dialect;
 use std::alloc::Global;
 use std::io::{self, Error, ErrorKind};
 
@@ -40,7 +41,7 @@ pub fn squares(alloc: Global, count: i64) -> io::Result<Graph<StreamNode>>
     )?;
     add(
         &mut builder,
-        StreamNode::Const(Node::new(Const::new(Scalar::Int(count)), 1)),
+        StreamNode::Const(Node::new(Const::new(Scalar::Int(i128::from(count))), 1)),
     )?;
     add(&mut builder, StreamNode::Iota(Node::new(Iota::new(), 2)))?;
     add(
@@ -61,11 +62,11 @@ pub fn squares(alloc: Global, count: i64) -> io::Result<Graph<StreamNode>>
     )?;
     add(
         &mut builder,
-        StreamNode::Binary(Node::new(Binary::new(BinaryOperator::Multiply), 7)),
+        StreamNode::Binary(Node::new(Binary::new(Dialect::One, BinaryOperator::Multiply), 7)),
     )?;
     add(
         &mut builder,
-        StreamNode::Reduce(Node::new(Reduce::new(Reduction::Sum), 8)),
+        StreamNode::Reduce(Node::new(Reduce::new(Dialect::One, Reduction::Sum), 8)),
     )?;
     add(
         &mut builder,

@@ -40,7 +40,7 @@ impl Kind {
 pub enum Item {
     Unit,
     Bool(bool),
-    Int(i64),
+    Int(i128),
     Vec(Box<Datum>),
 }
 

@@ -1,5 +1,7 @@
 -- An operator on two scalars, as a machine.
 use Rattle.std.specs.Prelude.{◌≡◌, false, Result, Ok}
+use Rattle.snesl_values.specs.declared.dialect.Dialect.{Dialect}
+use Rattle.snesl_values.specs.declared.dialect.Dialect.TheVariants.{One}
 use Rattle.snesl_values.specs.declared.fault.FaultKind.{FaultKind}
 use Rattle.snesl_operators.specs.Operators.{type_of, ScalarInRange, binary_operand, binary_result, binary_value}
 use Rattle.snesl_operators.specs.Reductions.{and_then}
@@ -9,20 +11,21 @@ use Rattle.snesl_operators.specs.declared.operator.BinaryOperator.TheVariants.{A
 use Rattle.flow_base.specs.Machines.{Move, begins, takes, gives, Machine, one_write}
 use Rattle.flow_scalar.specs.Rows.{BinaryRow}
 use Rattle.flow_scalar.specs.Operands.{on_operand}
+use Rattle.flow_scalar.specs.OwnDialect.{InOwn}
 use Rattle.flow_scalar.specs.Scalars.{kind_of_type, cell_of_scalar}
 use Rattle.flow_scalar.specs.declared.binary.Progress.{Progress}
 use Rattle.flow_scalar.specs.declared.binary.Progress.TheVariants.{Start, Left, Value}
 use Rattle.flow_scalar.specs.declared.binary.Binary.{Binary}
 
 -- after the left operand, the right one leads to their value
-abbrev pub binary_next : BinaryOperator → Scalar → Scalar → Result Progress FaultKind
-binary_next op a b = and_then (binary_value op a b) (λ v. Ok (Value v))
+abbrev pub binary_next : Dialect → BinaryOperator → Scalar → Scalar → Result Progress FaultKind
+binary_next dialect op a b = and_then (binary_value dialect op a b) (λ v. Ok (Value v))
 
 -- the left operand begins an instance, the right one goes on, and then the value is written
-abbrev pub binary_move : BinaryOperator → Progress → Move Progress
-binary_move op Start = begins (on_operand (binary_operand op) (λ a. Ok (Left a)))
-binary_move op (Left a) = takes 1 (on_operand (binary_operand op) (binary_next op a))
-binary_move op (Value v) = gives 0 (cell_of_scalar v) Start
+abbrev pub binary_move : Dialect → BinaryOperator → Progress → Move Progress
+binary_move dialect op Start = begins (on_operand (binary_operand op) (λ a. Ok (Left a)))
+binary_move dialect op (Left a) = takes 1 (on_operand (binary_operand op) (binary_next dialect op a))
+binary_move dialect op (Value v) = gives 0 (cell_of_scalar v) Start
 
 -- what is held is of the operator's type
 abbrev pub binary_of_kind : BinaryOperator → Progress → Type 0
@@ -30,29 +33,29 @@ binary_of_kind op Start = Unit {0}
 binary_of_kind op (Left a) = type_of a ≡ binary_operand op
 binary_of_kind op (Value v) = type_of v ≡ binary_result op
 
--- what is held lies in the range
-abbrev pub binary_in_range : Progress → Type 0
-binary_in_range Start = Unit {0}
-binary_in_range (Left a) = ScalarInRange a
-binary_in_range (Value v) = ScalarInRange v
+-- what is held lies in the range of the dialect
+abbrev pub binary_in_range : Dialect → Progress → Type 0
+binary_in_range dialect Start = Unit {0}
+binary_in_range dialect (Left a) = ScalarInRange dialect a
+binary_in_range dialect (Value v) = ScalarInRange dialect v
 
--- the worker of an operator on two scalars
-abbrev pub binary_machine : Machine BinaryOperator Progress
+-- the worker of an operator on two scalars, with the dialect that it computes in
+abbrev pub binary_machine : Machine (Dialect × BinaryOperator) Progress
 binary_machine = record {
-  sample = Add;
-  move = binary_move;
+  sample = (One, Add);
+  move = λ p. binary_move p.0 p.1;
   start = Start;
-  row = BinaryRow;
+  row = λ p. BinaryRow p.0 p.1;
   inputs = λ _. 2;
   outputs = λ _. 1;
-  kind_in = λ op _. kind_of_type (binary_operand op);
-  kind_out = λ op _. kind_of_type (binary_result op);
-  debt = λ op s. one_write (binary_move op s);
-  of_kind = binary_of_kind;
-  in_range = λ _. binary_in_range;
+  kind_in = λ p _. kind_of_type (binary_operand p.1);
+  kind_out = λ p _. kind_of_type (binary_result p.1);
+  debt = λ p s. one_write (binary_move p.0 p.1 s);
+  of_kind = λ p. binary_of_kind p.1;
+  in_range = λ dialect p. InOwn binary_in_range p.0 dialect;
   takes_memory = λ _. false;
 }
 
 -- what the machine sees of a worker
-abbrev pub binary_view : Binary → BinaryOperator × Progress
-binary_view n = (n.operator, n.progress)
+abbrev pub binary_view : Binary → (Dialect × BinaryOperator) × Progress
+binary_view n = ((n.dialect, n.operator), n.progress)

@@ -27,7 +27,7 @@ const_machine = record {
   kind_out = λ k _. kind_of_type (type_of k);
   debt = λ k due. one_write (const_move k due);
   of_kind = λ _ _. Unit {0};
-  in_range = λ k _. ScalarInRange k;
+  in_range = λ dialect k _. ScalarInRange dialect k;
   takes_memory = λ _. false;
 }
 

@@ -1,5 +1,6 @@
 -- The machine of Fork: an item that comes goes to each output, one after another.
 use Rattle.std.specs.Prelude.{◌≡◌, ℕ, zero, suc, ◌+◌, ◌-◌, Bool, true, false, Option, Some, None, Ok}
+use Rattle.snesl_values.specs.declared.dialect.Dialect.{Dialect}
 use Rattle.flow_edges.specs.Cells.{Cell, cell_of, is_of}
 use Rattle.flow_edges.specs.declared.message.Item.{Item}
 use Rattle.flow_edges.specs.declared.message.Kind.{Kind}
@@ -43,10 +44,10 @@ abbrev pub fork_of_kind : ForkPorts → Step → Type 0
 fork_of_kind p idle = Unit {0}
 fork_of_kind p (holding x left) = is_of p.kind x ≡ true
 
--- and its integers lie in the range
-abbrev pub fork_in_range : Step → Type 0
-fork_in_range idle = Unit {0}
-fork_in_range (holding x left) = CellInRange x
+-- and its integers lie in the range of the dialect
+abbrev pub fork_in_range : Dialect → Step → Type 0
+fork_in_range dialect idle = Unit {0}
+fork_in_range dialect (holding x left) = CellInRange dialect x
 
 -- the copy of a vector may take memory; the last output gets the item itself
 abbrev pub fork_takes_memory : Step → Bool
@@ -66,6 +67,6 @@ fork_machine = record {
   kind_out = λ p _. p.kind;
   debt = λ _. fork_debt;
   of_kind = fork_of_kind;
-  in_range = λ _. fork_in_range;
+  in_range = λ dialect _. fork_in_range dialect;
   takes_memory = fork_takes_memory;
 }

@@ -1,5 +1,6 @@
 -- The machine of Iota: a flag and a number for each number below the one that is read.
 use Rattle.std.specs.Prelude.{◌==◌, if◌then◌else◌, ℕ, ◌+◌, ◌*◌, ℤ, pos, negsuc, ◌+ℤ◌, ◌-ℤ◌, int_lt, Bool, false, cond, not, Result, Ok, Err}
+use Rattle.snesl_values.specs.declared.dialect.Dialect.{Dialect}
 use Rattle.snesl_values.specs.declared.fault.FaultKind.{FaultKind}
 use Rattle.snesl_values.specs.declared.fault.FaultKind.TheVariants.{NegativeCount}
 use Rattle.snesl_values.specs.Integers.{IsInteger}
@@ -44,11 +45,11 @@ iota_debt Between = 0
 iota_debt (Flag next end) = 1 + 2 * count_left next end
 iota_debt (Number next end) = 2 + 2 * count_left (number_after next end) end
 
--- the integers in the state lie in the range
-abbrev pub iota_in_range : Iota → Type 0
-iota_in_range Between = Unit {0}
-iota_in_range (Flag next end) = IsInteger next × IsInteger end
-iota_in_range (Number next end) = IsInteger next × IsInteger end
+-- the integers in the state lie in the range of the dialect
+abbrev pub iota_in_range : Dialect → Iota → Type 0
+iota_in_range dialect Between = Unit {0}
+iota_in_range dialect (Flag next end) = IsInteger dialect next × IsInteger dialect end
+iota_in_range dialect (Number next end) = IsInteger dialect next × IsInteger dialect end
 
 -- flags at the first output, numbers at the second
 abbrev pub iota_kind_out : ℕ → Kind
@@ -66,7 +67,7 @@ iota_machine = record {
   kind_out = λ _. iota_kind_out;
   debt = λ _. iota_debt;
   of_kind = λ _ _. Unit {0};
-  in_range = λ _. iota_in_range;
+  in_range = λ dialect _. iota_in_range dialect;
   takes_memory = λ _. false;
 }
 

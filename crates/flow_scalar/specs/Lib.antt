@@ -6,6 +6,7 @@ pub mod IotaMachine
 pub mod LengthMachine
 pub mod OperandLaws
 pub mod Operands
+pub mod OwnDialect
 pub mod ReduceMachine
 pub mod Rows
 pub mod ScalarCells

@@ -1,6 +1,7 @@
 -- Where items lead that carry operands, and where values lead.
 use Rattle.std.specs.Prelude.{◌≡◌, Result, Ok, Err, IfOk, refl}
 use Rattle.std.proofs.Common.{sym, subst}
+use Rattle.snesl_values.specs.declared.dialect.Dialect.{Dialect}
 use Rattle.snesl_values.specs.declared.fault.FaultKind.{FaultKind}
 use Rattle.snesl_operators.specs.Operators.{type_of, ScalarInRange}
 use Rattle.snesl_operators.specs.Reductions.{and_then}
@@ -35,11 +36,11 @@ operand_of_kind IntType next P h _ e = tt
 operand_of_kind BoolType next P h _ e = tt
 
 -- so too with the range
-pub operand_of_range : {S : Type 0} (type : ScalarType) (next : Scalar → Result S FaultKind) (P : S → Type 0) → ((k : Scalar) → ScalarInRange k → OfNext (next k) P) → OfRange P (on_operand type next)
-operand_of_range IntType next P h (int n) e range = h (Int n) range
-operand_of_range BoolType next P h (flag b) e range = h (Truth b) tt
-operand_of_range IntType next P h _ e range = tt
-operand_of_range BoolType next P h _ e range = tt
+pub operand_of_range : (dialect : Dialect) {S : Type 0} (type : ScalarType) (next : Scalar → Result S FaultKind) (P : S → Type 0) → ((k : Scalar) → ScalarInRange dialect k → OfNext (next k) P) → OfRange dialect P (on_operand type next)
+operand_of_range dialect IntType next P h (int n) e range = h (Int n) range
+operand_of_range dialect BoolType next P h (flag b) e range = h (Truth b) tt
+operand_of_range dialect IntType next P h _ e range = tt
+operand_of_range dialect BoolType next P h _ e range = tt
 
 -- a value leads on
 pub value_leads : {S : Type 0} (r : Result Scalar FaultKind) (state : Scalar → S) (v : Scalar) (P : S → Type 0) → r ≡ Ok v → P (state v) → OnNext (and_then r (λ v. Ok (state v))) P

@@ -1,6 +1,7 @@
 -- The rows: what each transducer reads and writes, in whole instances.
 use Rattle.std.specs.Prelude.{◌≡◌, ℕ, pos, Bool, true, false, List, [], ◌∷◌, map, replicate, Ok, ◌<◌, zero, suc, ℤ, ◌+ℤ◌, length}
 use Rattle.std.specs.List.{All}
+use Rattle.snesl_values.specs.declared.dialect.Dialect.{Dialect}
 use Rattle.snesl_values.specs.Integers.{IsInteger}
 use Rattle.snesl_operators.specs.Operators.{unary_value, binary_value}
 use Rattle.snesl_operators.specs.declared.scalar.Scalar.{Scalar}
@@ -38,39 +39,39 @@ ConstRow k i o = RowOf const_reads (const_writes k) 1 1 i o
 
 -- Unary
 
--- an operand, with the operator's value there
-abbrev pub UnaryCase : UnaryOperator → Type 0
-UnaryCase op = (k : Scalar) × (v : Scalar) × (unary_value op k ≡ Ok v)
+-- an operand, with the operator's value there in the dialect
+abbrev pub UnaryCase : Dialect → UnaryOperator → Type 0
+UnaryCase dialect op = (k : Scalar) × (v : Scalar) × (unary_value dialect op k ≡ Ok v)
 
 -- instances read their operands
-abbrev pub unary_reads : (op : UnaryOperator) → List (UnaryCase op) → Columns
-unary_reads op xs = map (λ x. cell_of_scalar x.0) xs ∷ []
+abbrev pub unary_reads : (dialect : Dialect) (op : UnaryOperator) → List (UnaryCase dialect op) → Columns
+unary_reads dialect op xs = map (λ x. cell_of_scalar x.0) xs ∷ []
 
 -- and write their values
-abbrev pub unary_writes : (op : UnaryOperator) → List (UnaryCase op) → Columns
-unary_writes op xs = map (λ x. cell_of_scalar x.1) xs ∷ []
+abbrev pub unary_writes : (dialect : Dialect) (op : UnaryOperator) → List (UnaryCase dialect op) → Columns
+unary_writes dialect op xs = map (λ x. cell_of_scalar x.1) xs ∷ []
 
 -- operands, and the operator's value at each
-abbrev pub UnaryRow : UnaryOperator → Lists Cell → Lists Cell → Type 0
-UnaryRow op i o = RowOf (unary_reads op) (unary_writes op) 1 1 i o
+abbrev pub UnaryRow : Dialect → UnaryOperator → Lists Cell → Lists Cell → Type 0
+UnaryRow dialect op i o = RowOf (unary_reads dialect op) (unary_writes dialect op) 1 1 i o
 
 -- Binary
 
--- a left and a right operand, with the operator's value there
-abbrev pub BinaryCase : BinaryOperator → Type 0
-BinaryCase op = (a : Scalar) × (b : Scalar) × (v : Scalar) × (binary_value op a b ≡ Ok v)
+-- a left and a right operand, with the operator's value there in the dialect
+abbrev pub BinaryCase : Dialect → BinaryOperator → Type 0
+BinaryCase dialect op = (a : Scalar) × (b : Scalar) × (v : Scalar) × (binary_value dialect op a b ≡ Ok v)
 
 -- instances read their left operands, and their right ones
-abbrev pub binary_reads : (op : BinaryOperator) → List (BinaryCase op) → Columns
-binary_reads op xs = map (λ x. cell_of_scalar x.0) xs ∷ map (λ x. cell_of_scalar x.1) xs ∷ []
+abbrev pub binary_reads : (dialect : Dialect) (op : BinaryOperator) → List (BinaryCase dialect op) → Columns
+binary_reads dialect op xs = map (λ x. cell_of_scalar x.0) xs ∷ map (λ x. cell_of_scalar x.1) xs ∷ []
 
 -- and write their values
-abbrev pub binary_writes : (op : BinaryOperator) → List (BinaryCase op) → Columns
-binary_writes op xs = map (λ x. cell_of_scalar x.2) xs ∷ []
+abbrev pub binary_writes : (dialect : Dialect) (op : BinaryOperator) → List (BinaryCase dialect op) → Columns
+binary_writes dialect op xs = map (λ x. cell_of_scalar x.2) xs ∷ []
 
 -- as many left operands as right ones, and the operator's value at each two
-abbrev pub BinaryRow : BinaryOperator → Lists Cell → Lists Cell → Type 0
-BinaryRow op i o = RowOf (binary_reads op) (binary_writes op) 2 1 i o
+abbrev pub BinaryRow : Dialect → BinaryOperator → Lists Cell → Lists Cell → Type 0
+BinaryRow dialect op i o = RowOf (binary_reads dialect op) (binary_writes dialect op) 2 1 i o
 
 -- Fork
 
@@ -129,45 +130,45 @@ UnitsOfRow i o = RowOf units_of_reads units_of_writes 1 1 i o
 
 -- ScanAdd
 
--- a group of integers with its running sums, none of which is a fault
-abbrev pub Scanned : Type 0
-Scanned = (xs : List ℤ) × (sums : List ℤ) × (scanned xs ≡ Ok sums)
+-- a group of integers with its running sums in the dialect, none of which is a fault
+abbrev pub Scanned : Dialect → Type 0
+Scanned dialect = (xs : List ℤ) × (sums : List ℤ) × (scanned dialect xs ≡ Ok sums)
 
 -- what instances read: the flags of their groups, and the integers of these, joined
-abbrev pub scan_add_reads : List Scanned → Columns
-scan_add_reads groups = flags (map (λ g. length g.0) groups) ∷ joined (map (λ g. map int g.0) groups) ∷ []
+abbrev pub scan_add_reads : (dialect : Dialect) → List (Scanned dialect) → Columns
+scan_add_reads dialect groups = flags (map (λ g. length g.0) groups) ∷ joined (map (λ g. map int g.0) groups) ∷ []
 
 -- what they write: the sums of each group, joined
-abbrev pub scan_add_writes : List Scanned → Columns
-scan_add_writes groups = joined (map (λ g. map int g.1) groups) ∷ []
+abbrev pub scan_add_writes : (dialect : Dialect) → List (Scanned dialect) → Columns
+scan_add_writes dialect groups = joined (map (λ g. map int g.1) groups) ∷ []
 
 -- the row: a list of groups, as it is read and written
-abbrev pub ScanAddRow : Lists Cell → Lists Cell → Type 0
-ScanAddRow = RowOf scan_add_reads scan_add_writes 2 1
+abbrev pub ScanAddRow : Dialect → Lists Cell → Lists Cell → Type 0
+ScanAddRow dialect = RowOf (scan_add_reads dialect) (scan_add_writes dialect) 2 1
 
 -- Reduce
 
--- a group of scalars with the value that they reduce to, which is no fault
-abbrev pub Reduced : Reduction → Type 0
-Reduced reduction = (xs : List Scalar) × (value : Scalar) × (reduced reduction xs ≡ Ok value)
+-- a group of scalars with the value that they reduce to in the dialect, which is no fault
+abbrev pub Reduced : Dialect → Reduction → Type 0
+Reduced dialect reduction = (xs : List Scalar) × (value : Scalar) × (reduced dialect reduction xs ≡ Ok value)
 
 -- what instances read: the flags of their groups, and the scalars of these, joined
-abbrev pub reduce_reads : (reduction : Reduction) → List (Reduced reduction) → Columns
-reduce_reads reduction groups = flags (map (λ g. length g.0) groups) ∷ joined (map (λ g. map cell_of_scalar g.0) groups) ∷ []
+abbrev pub reduce_reads : (dialect : Dialect) (reduction : Reduction) → List (Reduced dialect reduction) → Columns
+reduce_reads dialect reduction groups = flags (map (λ g. length g.0) groups) ∷ joined (map (λ g. map cell_of_scalar g.0) groups) ∷ []
 
 -- what they write: the value of each group
-abbrev pub reduce_writes : (reduction : Reduction) → List (Reduced reduction) → Columns
-reduce_writes reduction groups = map (λ g. cell_of_scalar g.1) groups ∷ []
+abbrev pub reduce_writes : (dialect : Dialect) (reduction : Reduction) → List (Reduced dialect reduction) → Columns
+reduce_writes dialect reduction groups = map (λ g. cell_of_scalar g.1) groups ∷ []
 
 -- the row: a list of groups, as it is read and written
-abbrev pub ReduceRow : Reduction → Lists Cell → Lists Cell → Type 0
-ReduceRow reduction = RowOf (reduce_reads reduction) (reduce_writes reduction) 2 1
+abbrev pub ReduceRow : Dialect → Reduction → Lists Cell → Lists Cell → Type 0
+ReduceRow dialect reduction = RowOf (reduce_reads dialect reduction) (reduce_writes dialect reduction) 2 1
 
 -- Length
 
--- f is the flags of numbers that lie in the range, and r is these numbers
-pub record LengthRow (f r : List Cell) : Type 0 where
+-- f is the flags of numbers that lie in the range of the dialect, and r is these numbers
+pub record LengthRow (dialect : Dialect) (f r : List Cell) : Type 0 where
   pub ns : List ℕ
   pub f_is : f ≡ flags ns
-  pub in_range : All (λ n. IsInteger (pos n)) ns
+  pub in_range : All (λ n. IsInteger dialect (pos n)) ns
   pub r_is : r ≡ map (λ n. int (pos n)) ns

@@ -1,6 +1,7 @@
 -- Scalars and the cells of the items that carry them.
 use Rattle.std.specs.Prelude.{◌≡◌, true, Some, IfSome, refl}
 use Rattle.std.proofs.Common.{ap, subst}
+use Rattle.snesl_values.specs.declared.dialect.Dialect.{Dialect}
 use Rattle.snesl_operators.specs.Operators.{type_of, ScalarInRange}
 use Rattle.snesl_operators.specs.declared.scalar.Scalar.{Scalar}
 use Rattle.snesl_operators.specs.declared.scalar.Scalar.TheVariants.{Int, Bool as Truth}
@@ -26,11 +27,11 @@ pub is_of-cell : (x : Scalar) (t : ScalarType) → type_of x ≡ t → is_of (ki
 is_of-cell (Int n) t e = subst (λ t. is_of (kind_of_type t) (int n) ≡ true) e refl
 is_of-cell (Truth b) t e = subst (λ t. is_of (kind_of_type t) (flag b) ≡ true) e refl
 
-pub cell_in_range : (x : Scalar) → ScalarInRange x → CellInRange (cell_of_scalar x)
-cell_in_range (Int n) h = h
-cell_in_range (Truth b) h = h
+pub cell_in_range : (dialect : Dialect) (x : Scalar) → ScalarInRange dialect x → CellInRange dialect (cell_of_scalar x)
+cell_in_range dialect (Int n) h = h
+cell_in_range dialect (Truth b) h = h
 
-pub scalar_in_range : (c : Cell) → CellInRange c → IfSome (scalar_in c) ScalarInRange
-scalar_in_range (int n) h = h
-scalar_in_range (flag b) h = h
-scalar_in_range _ h = tt
+pub scalar_in_range : (dialect : Dialect) (c : Cell) → CellInRange dialect c → IfSome (scalar_in c) (ScalarInRange dialect)
+scalar_in_range dialect (int n) h = h
+scalar_in_range dialect (flag b) h = h
+scalar_in_range dialect _ h = tt

@@ -23,7 +23,7 @@ sink_machine = record {
   kind_out = λ kind _. kind;
   debt = λ _ _. 0;
   of_kind = λ _ _. Unit {0};
-  in_range = λ _ _. Unit {0};
+  in_range = λ _ _ _. Unit {0};
   takes_memory = λ _. false;
 }
 

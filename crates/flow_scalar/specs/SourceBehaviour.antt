@@ -89,6 +89,6 @@ source_behaviour = record {
   at = λ _. 0;
   row = λ s. SourceRow (source_items s).cells;
   of_kind = λ _. Unit {0};
-  in_range = λ s. SignalsInRange (closed (source_items s).cells);
+  in_range = λ dialect s. SignalsInRange dialect (closed (source_items s).cells);
   takes_memory = source_takes_memory;
 }

@@ -24,7 +24,7 @@ units_of_machine = record {
   kind_out = λ _ _. UnitKind;
   debt = λ _ due. one_write (units_of_move due);
   of_kind = λ _ _. Unit {0};
-  in_range = λ _ _. Unit {0};
+  in_range = λ _ _ _. Unit {0};
   takes_memory = λ _. false;
 }
 

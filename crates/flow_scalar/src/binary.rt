@@ -7,6 +7,7 @@ use crate::scalars::{item_of, kind_of};
 use flow_base::{Ask, Stop, Worker};
 use flow_edges::{Item, Kind};
 use snesl_operators::{BinaryOperator, Scalar};
+use snesl_values::Dialect;
 use std::alloc::AllocError;
 
 /// How far an instance is.
@@ -24,19 +25,22 @@ pub enum Progress {
 ///
 /// Reads port 0 and then port 1, both of the type of the operator's operands; writes port 0, of the type of its value.
 /// An item of another kind is a fault of kind `Shape` at once, and where the operator has no value, its fault is that
-/// of the worker. Row: `BinaryRow` (specs/Rows.antt).
+/// of the worker: `Overflow` where the value does not lie in the range of the worker's dialect. Row: `BinaryRow`
+/// (specs/Rows.antt).
 #[derive(Clone, Copy, Debug, PartialEq, Eq)]
 pub struct Binary {
+    dialect: Dialect,
     operator: BinaryOperator,
     progress: Progress,
 }
 
 impl Binary {
-    /// A worker over this operator, before its first instance.
-    pub fn new(operator: BinaryOperator) -> Binary
-        ensures { result ≡ record { operator = operator; progress = Progress.Start } }
+    /// A worker over this operator in this dialect, before its first instance.
+    pub fn new(dialect: Dialect, operator: BinaryOperator) -> Binary
+        ensures { result ≡ record { dialect = dialect; operator = operator; progress = Progress.Start } }
     {
         Binary {
+            dialect,
             operator,
             progress: Progress::Start,
         }
@@ -44,12 +48,13 @@ impl Binary {
 }
 
 impl Worker for Binary {
+    ghost use Rattle.snesl_values.specs.declared.dialect.Dialect.{Dialect};
     ghost use Rattle.snesl_operators.specs.declared.operator.BinaryOperator.{BinaryOperator};
     ghost use Rattle.flow_scalar.specs.declared.binary.Progress.{Progress};
     ghost use Rattle.flow_scalar.specs.BinaryMachine.{binary_machine, binary_view};
     ghost use Rattle.flow_scalar.specs.laws.Binary.{binary_laws};
 
-    ghost Parameters = { BinaryOperator };
+    ghost Parameters = { Dialect × BinaryOperator };
 
     ghost State = { Progress };
 
@@ -87,7 +92,9 @@ impl Worker for Binary {
         let operand = operand_of(self.operator.operand(), &item)?;
         self.progress = match self.progress {
             Progress::Start => Progress::Left(operand),
-            Progress::Left(left) => Progress::Value(self.operator.apply(left, operand)?),
+            Progress::Left(left) => {
+                Progress::Value(self.operator.apply(self.dialect, left, operand)?)
+            }
             Progress::Value(_) => unreachable!(),
         };
         Ok(())

@@ -20,9 +20,9 @@ pub enum Iota {
     /// An integer comes.
     Between,
     /// A flag is due, and then the number `next` if it is below `end`.
-    Flag { next: i64, end: i64 },
+    Flag { next: i128, end: i128 },
     /// The number `next` is due, and then a flag.
-    Number { next: i64, end: i64 },
+    Number { next: i128, end: i128 },
 }
 
 impl Iota {
@@ -34,7 +34,7 @@ impl Iota {
     }
 
     // The number after `number`, or `end` where `number` is not below it.
-    fn number_after(number: i64, end: i64) -> i64
+    fn number_after(number: i128, end: i128) -> i128
         ensures { result ≡ number_after number end }
     {
         if number < end { number + 1 } else { end }

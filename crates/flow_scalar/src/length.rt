@@ -5,57 +5,71 @@ ghost use Rattle.flow_scalar.specs.LengthMachine.{one_more, length_ended};
 
 use flow_base::{Ask, Stop, Worker};
 use flow_edges::{Item, Kind};
-use snesl_values::FaultKind;
+use snesl_values::{Dialect, FaultKind};
 use std::alloc::AllocError;
 
 /// Reads a segment of flags, and writes how many elements they stand for. Each segment is an instance.
 ///
 /// Reads port 0, of kind Bool, and writes port 0, of kind Int. An item of another kind is a fault of kind `Shape`. A
-/// segment with more elements than the greatest integer is a fault of kind `Overflow`, at its end.
+/// segment with more elements than the greatest integer of the worker's dialect is a fault of kind `Overflow`, at its
+/// end.
 /// Row: `LengthRow` (specs/Rows.antt).
 #[derive(Clone, Copy, Debug, PartialEq, Eq)]
-pub enum Length {
-    /// So many elements of the segment came; or, where this is over the range of integers, at least so many.
-    Counting(u64),
-    /// The segment has ended, and this number of its elements is to be written.
-    Due(i64),
+pub struct Length {
+    dialect: Dialect,
+    count: Count,
 }
 
-impl Length {
-    /// A worker before its first instance.
-    pub fn new() -> Length
-        ensures { result ≡ Length.Counting 0 }
-    {
-        Length::Counting(0)
-    }
+// How far it is in a segment.
+#[derive(Clone, Copy, Debug, PartialEq, Eq)]
+enum Count {
+    // So many elements of the segment came; or, where this is over the range of the dialect, at least so many.
+    Counting(u128),
+    // The segment has ended, and this number of its elements is to be written.
+    Due(i128),
+}
 
-    // Where one element more leads after so many. A count over the range of integers stays over it.
-    fn after_element(count: u64) -> Length
-        ensures { result ≡ Length.Counting (one_more count) }
+impl Count {
+    // Where one element more leads after so many. A count over the range of the dialect stays over it.
+    fn after_element(dialect: Dialect, count: u128) -> Count
+        ensures { result ≡ Count.Counting (one_more dialect count) }
     {
-        Length::Counting(count.min(i64::MAX as u64) + 1)
+        Count::Counting(count.min(dialect.greatest() as u128) + 1)
     }
 
     // Where the end of a segment leads after so many elements.
-    fn after_end(count: u64) -> Result<Length, FaultKind>
-        ensures { result ≡ length_ended count }
+    fn after_end(dialect: Dialect, count: u128) -> Result<Count, FaultKind>
+        ensures { result ≡ length_ended dialect count }
     {
-        if count <= i64::MAX as u64 {
-            Ok(Length::Due(count as i64))
+        if count <= dialect.greatest() as u128 {
+            Ok(Count::Due(count as i128))
         } else {
             Err(FaultKind::Overflow)
         }
     }
 }
 
+impl Length {
+    /// A worker in this dialect, before its first instance.
+    pub fn new(dialect: Dialect) -> Length
+        ensures { result ≡ record { dialect = dialect; count = Count.Counting 0 } }
+    {
+        Length {
+            dialect,
+            count: Count::Counting(0),
+        }
+    }
+}
+
 impl Worker for Length {
-    ghost use Rattle.flow_scalar.specs.declared.length.Length.{Length};
+    ghost use Rattle.snesl_values.specs.declared.dialect.Dialect.{Dialect};
+    ghost use Rattle.flow_scalar.specs.declared.length.Count.{Count};
     ghost use Rattle.flow_scalar.specs.LengthMachine.{length_machine, length_view};
     ghost use Rattle.flow_scalar.specs.laws.Length.{length_laws};
 
-    ghost Parameters = { Unit {0} };
+    ghost Parameters = { Dialect };
 
-    ghost State = { Length };
+    ghost State = { Count };
 
     ghost state = { length_view };
 
@@ -64,10 +78,10 @@ impl Worker for Length {
     ghost laws = { length_laws };
 
     fn ask(&self) -> Ask {
-        match self {
-            Length::Counting(0) => Ask::Begin,
-            Length::Counting(_) => Ask::Take(0),
-            Length::Due(_) => Ask::Give(0),
+        match self.count {
+            Count::Counting(0) => Ask::Begin,
+            Count::Counting(_) => Ask::Take(0),
+            Count::Due(_) => Ask::Give(0),
         }
     }
 
@@ -88,20 +102,23 @@ impl Worker for Length {
     }
 
     fn take(&mut self, item: Item) -> Result<(), Stop> {
-        *self = match (*self, item) {
-            (Length::Counting(count), Item::Bool(false)) => Length::after_element(count),
-            (Length::Counting(count), Item::Bool(true)) => Length::after_end(count)?,
+        self.count = match (self.count, item) {
+            (Count::Counting(count), Item::Bool(false)) => Count::after_element(
+                self.dialect,
+                count,
+            ),
+            (Count::Counting(count), Item::Bool(true)) => Count::after_end(self.dialect, count)?,
             _ => return Err(Stop::Faulted(FaultKind::Shape)),
         };
         Ok(())
     }
 
     fn give(&mut self) -> Result<Item, AllocError> {
-        let number = match *self {
-            Length::Due(number) => number,
-            Length::Counting(_) => unreachable!(),
+        let number = match self.count {
+            Count::Due(number) => number,
+            Count::Counting(_) => unreachable!(),
         };
-        *self = Length::Counting(0);
+        self.count = Count::Counting(0);
         Ok(Item::Int(number))
     }
 }

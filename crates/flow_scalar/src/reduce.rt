@@ -6,20 +6,21 @@ use crate::scalars::{item_of, kind_of, scalar_of};
 use flow_base::{Ask, Stop, Worker};
 use flow_edges::{Item, Kind};
 use snesl_operators::{Reduction, Scalar};
-use snesl_values::FaultKind;
+use snesl_values::{Dialect, FaultKind};
 use std::alloc::AllocError;
 
 /// Writes for each segment what its elements reduce to. Each segment is an instance.
 ///
 /// Reads port 0, the flags, of kind Bool, and port 1, the elements, of the kind of the reduction's type: for each flag
 /// that stands for an element it reads that element. After the flag that ends the segment it writes the value to port
-/// 0, of the same kind as the elements. An item of another kind is a fault of kind `Shape`. A sum over the range of 64
-/// bits is a fault of kind `Overflow`, at the element that takes it there. The greatest of a segment without elements
-/// is a fault of kind `EmptyMax`, at the segment's end.
+/// 0, of the same kind as the elements. An item of another kind is a fault of kind `Shape`. A sum that does not lie in
+/// the range of the worker's dialect is a fault of kind `Overflow`, at the element that takes it there. The greatest
+/// of a segment without elements is a fault of kind `EmptyMax`, at the segment's end.
 ///
 /// Row: `ReduceRow` (specs/Rows.antt).
 #[derive(Clone, Copy, Debug, PartialEq, Eq)]
 pub struct Reduce {
+    dialect: Dialect,
     reduction: Reduction,
     stage: Stage,
 }
@@ -55,15 +56,15 @@ impl Stage {
 
     // Where the item leads.
     #[tactic(auto, using(crate::specs::laws::Reduce::element_is))]
-    fn next(self, reduction: Reduction, item: &Item) -> Result<Stage, FaultKind>
-        ensures { result ≡ given_of (reduce_move reduction self) (cell_of item.now) }
+    fn next(self, dialect: Dialect, reduction: Reduction, item: &Item) -> Result<Stage, FaultKind>
+        ensures { result ≡ given_of (reduce_move dialect reduction self) (cell_of item.now) }
     {
         match self {
             Stage::Start => Stage::at_flag(reduction.nothing(), item),
             Stage::Flag(so_far) => Stage::at_flag(so_far, item),
             Stage::Element(so_far) => {
                 let element = scalar_of(item).ok_or(FaultKind::Shape)?;
-                Ok(Stage::Flag(reduction.more(so_far, element)?))
+                Ok(Stage::Flag(reduction.more(dialect, so_far, element)?))
             }
             Stage::Value(_) => Err(FaultKind::Shape),
         }
@@ -71,11 +72,12 @@ impl Stage {
 }
 
 impl Reduce {
-    /// A worker before its first instance.
-    pub fn new(reduction: Reduction) -> Reduce
-        ensures { result ≡ record { reduction = reduction; stage = Stage.Start } }
+    /// A worker over this reduction in this dialect, before its first instance.
+    pub fn new(dialect: Dialect, reduction: Reduction) -> Reduce
+        ensures { result ≡ record { dialect = dialect; reduction = reduction; stage = Stage.Start } }
     {
         Reduce {
+            dialect,
             reduction,
             stage: Stage::Start,
         }
@@ -83,12 +85,13 @@ impl Reduce {
 }
 
 impl Worker for Reduce {
+    ghost use Rattle.snesl_values.specs.declared.dialect.Dialect.{Dialect};
     ghost use Rattle.snesl_operators.specs.declared.operator.Reduction.{Reduction};
     ghost use Rattle.flow_scalar.specs.ReduceMachine.{reduce_machine, reduce_view};
     ghost use Rattle.flow_scalar.specs.laws.Reduce.{reduce_laws};
     ghost use Rattle.flow_scalar.specs.declared.reduce.Stage.{Stage};
 
-    ghost Parameters = { Reduction };
+    ghost Parameters = { Dialect × Reduction };
 
     ghost State = { Stage };
 
@@ -128,7 +131,7 @@ impl Worker for Reduce {
     }
 
     fn take(&mut self, item: Item) -> Result<(), Stop> {
-        self.stage = self.stage.next(self.reduction, &item)?;
+        self.stage = self.stage.next(self.dialect, self.reduction, &item)?;
         Ok(())
     }
 

@@ -2,6 +2,7 @@
 
 ghost use Rattle.std.specs.Prelude.{◌≡◌, ◌<◌, false, IfOk, OnOk, OnErr, IsOk, IsSome, option_map};
 ghost use Rattle.std.specs.List.{slice_get};
+ghost use Rattle.snesl_values.specs.declared.dialect.Dialect.{Dialect};
 ghost use Rattle.flow_edges.specs.Cells.{cell_of, is_of};
 ghost use Rattle.flow_edges.specs.Signals.{signal_of};
 ghost use Rattle.flow_base.specs.Ranges.{AllOf, SignalsInRange};
@@ -21,7 +22,7 @@ pub enum Stream {
     /// So many units.
     Units(usize),
     Bools(Vec<bool>),
-    Ints(Vec<i64>),
+    Ints(Vec<i128>),
     /// Values of a concrete type.
     Vectors(Vec<Datum>),
 }
@@ -85,13 +86,13 @@ pub struct Source {
 }
 
 impl Source {
-    /// A source that has written nothing. All that it writes is of the stream's kind, and lies in the range where the
-    /// integers of its stream do.
+    /// A source that has written nothing. All that it writes is of the stream's kind, and lies in the range of each
+    /// dialect where the integers of its stream do.
     #[tactic(auto, using(crate::specs::Streams::stream_all_of))]
     pub fn new(alloc: Global, stream: Stream) -> Source
         ensures state { ⟦<Source as Transducer>⟧.state result ≡ source_opened (items_of stream) }
         ensures of_kind { AllOf (stream_kind stream) (stream_cells stream) }
-        ensures in_range { SignalsInRange (closed (stream_cells stream)) → source_behaviour.in_range (source_opened (items_of stream)) }
+        ensures in_range { (dialect : Dialect) → SignalsInRange dialect (closed (stream_cells stream)) → source_behaviour.in_range dialect (source_opened (items_of stream)) }
     {
         Source {
             alloc,

@@ -7,25 +7,29 @@ use crate::scalars::{item_of, kind_of};
 use flow_base::{Ask, Stop, Worker};
 use flow_edges::{Item, Kind};
 use snesl_operators::{Scalar, UnaryOperator};
+use snesl_values::Dialect;
 use std::alloc::AllocError;
 
 /// Writes the operator's value at each item. Each item is an instance.
 ///
 /// Reads port 0 and writes port 0, both of the operator's type. An item of another kind is a fault of kind `Shape`,
-/// and where the operator has no value, its fault is that of the worker. Row: `UnaryRow` (specs/Rows.antt).
+/// and where the operator has no value, its fault is that of the worker: `Overflow` where the value does not lie in
+/// the range of the worker's dialect. Row: `UnaryRow` (specs/Rows.antt).
 #[derive(Clone, Copy, Debug, PartialEq, Eq)]
 pub struct Unary {
+    dialect: Dialect,
     operator: UnaryOperator,
     // The value that is to be written.
     value: Option<Scalar>,
 }
 
 impl Unary {
-    /// A worker over this operator, before its first instance.
-    pub fn new(operator: UnaryOperator) -> Unary
-        ensures { result ≡ record { operator = operator; value = None } }
+    /// A worker over this operator in this dialect, before its first instance.
+    pub fn new(dialect: Dialect, operator: UnaryOperator) -> Unary
+        ensures { result ≡ record { dialect = dialect; operator = operator; value = None } }
     {
         Unary {
+            dialect,
             operator,
             value: None,
         }
@@ -34,12 +38,13 @@ impl Unary {
 
 impl Worker for Unary {
     ghost use Rattle.std.specs.Prelude.{Option};
+    ghost use Rattle.snesl_values.specs.declared.dialect.Dialect.{Dialect};
     ghost use Rattle.snesl_operators.specs.declared.scalar.Scalar.{Scalar};
     ghost use Rattle.snesl_operators.specs.declared.operator.UnaryOperator.{UnaryOperator};
     ghost use Rattle.flow_scalar.specs.UnaryMachine.{unary_machine, unary_view};
     ghost use Rattle.flow_scalar.specs.laws.Unary.{unary_laws};
 
-    ghost Parameters = { UnaryOperator };
+    ghost Parameters = { Dialect × UnaryOperator };
 
     ghost State = { Option Scalar };
 
@@ -74,7 +79,7 @@ impl Worker for Unary {
 
     fn take(&mut self, item: Item) -> Result<(), Stop> {
         let operand = operand_of(self.operator.operand(), &item)?;
-        self.value = Some(self.operator.apply(operand)?);
+        self.value = Some(self.operator.apply(self.dialect, operand)?);
         Ok(())
     }
 

@@ -1,5 +1,6 @@
 -- An item for each element of a segment: the machine.
 use Rattle.std.specs.Prelude.{◌≡◌, ℕ, zero, true, false, Bool, Option, Some, None, Ok}
+use Rattle.snesl_values.specs.declared.dialect.Dialect.{Dialect}
 use Rattle.flow_edges.specs.Cells.{Cell, cell_of, is_of}
 use Rattle.flow_edges.specs.declared.message.Item.{Item}
 use Rattle.flow_edges.specs.declared.message.Kind.{Kind}
@@ -38,11 +39,11 @@ dist_of_kind kind at_start = Unit {0}
 dist_of_kind kind (at_flag x) = is_of kind x ≡ true
 dist_of_kind kind (at_copy x) = is_of kind x ≡ true
 
--- what is held is in range
-abbrev pub dist_in_range : Step → Type 0
-dist_in_range at_start = Unit {0}
-dist_in_range (at_flag x) = CellInRange x
-dist_in_range (at_copy x) = CellInRange x
+-- what is held is in the range of the dialect
+abbrev pub dist_in_range : Dialect → Step → Type 0
+dist_in_range dialect at_start = Unit {0}
+dist_in_range dialect (at_flag x) = CellInRange dialect x
+dist_in_range dialect (at_copy x) = CellInRange dialect x
 
 -- a copy of a vector may take memory
 abbrev pub dist_takes_memory : Step → Bool
@@ -62,7 +63,7 @@ dist_machine = record {
   kind_out = λ kind _. kind;
   debt = λ kind s. one_write (dist_move kind s);
   of_kind = dist_of_kind;
-  in_range = λ _. dist_in_range;
+  in_range = λ dialect _. dist_in_range dialect;
   takes_memory = dist_takes_memory;
 }
 

@@ -32,7 +32,7 @@ over_flags t = record {
   kind_out = λ _ _. BoolKind;
   debt = λ _. t.debt;
   of_kind = λ _ _. Unit {0};
-  in_range = λ _ _. Unit {0};
+  in_range = λ _ _ _. Unit {0};
   takes_memory = λ _. false;
 }
 

@@ -1,5 +1,6 @@
 -- Two sequences of segments, joined place by place: the machine.
 use Rattle.std.specs.Prelude.{◌≡◌, ℕ, zero, suc, true, false, Bool, Ok}
+use Rattle.snesl_values.specs.declared.dialect.Dialect.{Dialect}
 use Rattle.flow_edges.specs.Cells.{Cell, cell_of, is_of}
 use Rattle.flow_edges.specs.declared.message.Kind.{Kind}
 use Rattle.flow_edges.specs.declared.message.Kind.TheVariants.{Bool as BoolKind, Unit as UnitKind}
@@ -56,10 +57,10 @@ abbrev pub interleave_of_kind : Kind → Step → Type 0
 interleave_of_kind kind (at_copy side x) = is_of kind x ≡ true
 interleave_of_kind kind _ = Unit {0}
 
--- what is to be written is in range
-abbrev pub interleave_in_range : Kind → Step → Type 0
-interleave_in_range kind (at_copy side x) = CellInRange x
-interleave_in_range kind _ = Unit {0}
+-- what is to be written is in the range of the dialect
+abbrev pub interleave_in_range : Dialect → Kind → Step → Type 0
+interleave_in_range dialect kind (at_copy side x) = CellInRange dialect x
+interleave_in_range dialect kind _ = Unit {0}
 
 -- what the worker does
 abbrev pub interleave_machine : Machine Kind Step

@@ -1,5 +1,6 @@
 -- The items that are to be kept: the machine.
 use Rattle.std.specs.Prelude.{◌≡◌, ℕ, zero, true, false, Bool, Ok}
+use Rattle.snesl_values.specs.declared.dialect.Dialect.{Dialect}
 use Rattle.flow_edges.specs.Cells.{Cell, cell_of, is_of}
 use Rattle.flow_edges.specs.declared.message.Kind.{Kind}
 use Rattle.flow_edges.specs.declared.message.Kind.TheVariants.{Bool as BoolKind, Unit as UnitKind}
@@ -39,10 +40,10 @@ abbrev pub pack_of_kind : Kind → Step → Type 0
 pack_of_kind kind (at_copy x) = is_of kind x ≡ true
 pack_of_kind kind _ = Unit {0}
 
--- what is to be written is in range
-abbrev pub pack_in_range : Kind → Step → Type 0
-pack_in_range kind (at_copy x) = CellInRange x
-pack_in_range kind _ = Unit {0}
+-- what is to be written is in the range of the dialect
+abbrev pub pack_in_range : Dialect → Kind → Step → Type 0
+pack_in_range dialect kind (at_copy x) = CellInRange dialect x
+pack_in_range dialect kind _ = Unit {0}
 
 -- what the worker does
 abbrev pub pack_machine : Machine Kind Step

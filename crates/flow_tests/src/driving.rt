@@ -16,7 +16,7 @@ use flow_scalar::{Const, Fork, Iota, Length, Reduce, Sink, Source, Stream};
 use flow_values::Print;
 use kahn::Want;
 use snesl_operators::{Reduction, Scalar};
-use snesl_values::{Fault, FaultKind, Ty};
+use snesl_values::{Dialect, Fault, FaultKind, Ty};
 use std::alloc::{AllocError, Global};
 use std::process::Abort;
 use std::sync::Arc;
@@ -116,12 +116,12 @@ fn waits_for_its_length(rt: &impl Abort, alloc: Global) -> Result<Graph<StreamNo
     )?;
     add(
         &mut builder,
-        StreamNode::Length(Node::new(Length::new(), 2)),
+        StreamNode::Length(Node::new(Length::new(Dialect::One), 2)),
     )?;
     add(&mut builder, StreamNode::Iota(Node::new(Iota::new(), 3)))?;
     add(
         &mut builder,
-        StreamNode::Reduce(Node::new(Reduce::new(Reduction::Sum), 4)),
+        StreamNode::Reduce(Node::new(Reduce::new(Dialect::One, Reduction::Sum), 4)),
     )?;
     add(
         &mut builder,

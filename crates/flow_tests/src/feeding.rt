@@ -31,18 +31,19 @@ fn append(alloc: Global, text: &mut Vec<u8>, message: &Msg) -> Result<(), AllocE
     }
 }
 
-// Feeds a node with these streams, one for each input, until it wants a message that is not there, or has ended or
-// faulted. Gives what it wrote, for each of its outputs.
-fn fed(
+/// Feeds a node with these streams, one for each input, until it wants a message that is not there, or has ended or
+/// faulted, or has read and written this often. Gives what it wrote, for each of its outputs.
+pub fn fed(
     alloc: Global,
     node: &mut StreamNode,
     ins: &mut [std::vec::IntoIter<Msg>],
+    steps: usize,
 ) -> Result<Vec<Vec<u8>>, AllocError> {
     let mut written = Vec::new(alloc);
     for _ in 0..node.outputs() {
         written.push(Vec::<u8>::new(alloc))?;
     }
-    for _ in 0..1_000 {
+    for _ in 0..steps {
         match node.want() {
             Want::Read(port) => {
                 let Some(stream) = ins.get_mut(port) else {
@@ -78,7 +79,7 @@ pub fn assert_carries(rt: &impl Abort, alloc: Global, row: Row<'_>) -> Result<()
     } = row;
     assert_eq!(rt; node.inputs(), ins.len(), "inputs, line {line}");
     assert_eq!(rt; node.outputs(), outs.len(), "outputs, line {line}");
-    let written = fed(alloc, &mut node, &mut ins)?;
+    let written = fed(alloc, &mut node, &mut ins, 1_000)?;
     assert_eq!(rt; Some(node.want()), end, "line {line}");
     let printed = prints.map(|text| text.as_bytes());
     assert_eq!(rt; node.printed(), printed, "prints, line {line}");

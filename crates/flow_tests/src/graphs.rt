@@ -13,7 +13,7 @@ use flow_nodes::StreamNode;
 use flow_scalar::{Binary, Const, Iota, Reduce, Sink, Source, Stream};
 use kahn::Want;
 use snesl_operators::{BinaryOperator, Reduction, Scalar};
-use snesl_values::{Fault, FaultKind};
+use snesl_values::{Dialect, Fault, FaultKind};
 use std::alloc::Global;
 use std::process::Abort;
 use std::test::Fail;
@@ -64,7 +64,7 @@ pub fn sum_of_five(rt: &impl Abort, alloc: Global) -> Result<Graph<StreamNode>, 
     add(&mut builder, StreamNode::Iota(Node::new(Iota::new(), 2)))?;
     add(
         &mut builder,
-        StreamNode::Reduce(Node::new(Reduce::new(Reduction::Sum), 3)),
+        StreamNode::Reduce(Node::new(Reduce::new(Dialect::One, Reduction::Sum), 3)),
     )?;
     add(
         &mut builder,
@@ -162,7 +162,7 @@ pub fn sum_of_unlike(rt: &impl Abort, alloc: Global) -> Result<Graph<StreamNode>
     add(&mut builder, StreamNode::Source(Source::new(alloc, right)))?;
     add(
         &mut builder,
-        StreamNode::Binary(Node::new(Binary::new(BinaryOperator::Add), 7)),
+        StreamNode::Binary(Node::new(Binary::new(Dialect::One, BinaryOperator::Add), 7)),
     )?;
     add(
         &mut builder,

@@ -1,7 +1,8 @@
 // Nodes made of words: a kind, and behind it what that kind has for parameters. Each stands at offset 7.
 
 use crate::words::{
-    WordError, binary_named, kind_named, message, reduction_named, type_of, unary_named,
+    WordError, binary_named, dialect_named, kind_named, message, reduction_named, type_of,
+    unary_named,
 };
 use flow_base::Node;
 use flow_edges::{Item, Msg};
@@ -28,6 +29,9 @@ pub fn node_of(alloc: Global, words: &str) -> Result<StreamNode, WordError> {
     } else {
         match kind {
             "print" | "tab" | "seq" | "index" => value_node(alloc, kind, parameters),
+            "unary" | "binary" | "reduce" | "scan_add" | "length" => {
+                computing_node(kind, parameters)
+            }
             _ => scalar_node(alloc, kind, parameters),
         }
     }
@@ -38,8 +42,6 @@ fn plain_node(kind: &str) -> Result<StreamNode, WordError> {
     Ok(match kind {
         "iota" => StreamNode::Iota(Node::new(Iota::new(), AT)),
         "units_of" => StreamNode::UnitsOf(Node::new(UnitsOf::new(), AT)),
-        "scan_add" => StreamNode::ScanAdd(Node::new(ScanAdd::new(), AT)),
-        "length" => StreamNode::Length(Node::new(Length::new(), AT)),
         "flag_of_bool" => StreamNode::FlagOfBool(Node::new(FlagOfBool::new(), AT)),
         "the_check" => StreamNode::TheCheck(Node::new(TheCheck::new(), AT)),
         "same_flags" => StreamNode::SameFlags(Node::new(SameFlags::new(), AT)),
@@ -52,14 +54,25 @@ fn plain_node(kind: &str) -> Result<StreamNode, WordError> {
     })
 }
 
-// A node whose parameter is a stream, a scalar, an operator or a kind.
+// A node that computes: its dialect, and behind it its operator, if it has one.
+fn computing_node(kind: &str, words: &str) -> Result<StreamNode, WordError> {
+    let (dialect, word) = words.split_once(' ').unwrap_or((words, ""));
+    let dialect = dialect_named(dialect)?;
+    Ok(match kind {
+        "unary" => StreamNode::Unary(Node::new(Unary::new(dialect, unary_named(word)?), AT)),
+        "binary" => StreamNode::Binary(Node::new(Binary::new(dialect, binary_named(word)?), AT)),
+        "reduce" => StreamNode::Reduce(Node::new(Reduce::new(dialect, reduction_named(word)?), AT)),
+        "scan_add" if word.is_empty() => StreamNode::ScanAdd(Node::new(ScanAdd::new(dialect), AT)),
+        "length" if word.is_empty() => StreamNode::Length(Node::new(Length::new(dialect), AT)),
+        _ => return Err(WordError::Unread),
+    })
+}
+
+// A node whose parameter is a stream, a scalar or a kind.
 fn scalar_node(alloc: Global, kind: &str, word: &str) -> Result<StreamNode, WordError> {
     Ok(match kind {
         "source" => StreamNode::Source(Source::new(alloc, stream_of(alloc, word)?)),
         "const" => StreamNode::Const(Node::new(Const::new(scalar_of(alloc, word)?), AT)),
-        "unary" => StreamNode::Unary(Node::new(Unary::new(unary_named(word)?), AT)),
-        "binary" => StreamNode::Binary(Node::new(Binary::new(binary_named(word)?), AT)),
-        "reduce" => StreamNode::Reduce(Node::new(Reduce::new(reduction_named(word)?), AT)),
         "fork" => fork_of(alloc, word)?,
         "sink" => StreamNode::Sink(Node::new(Sink::new(kind_named(word)?), AT)),
         "dist" => StreamNode::Dist(Node::new(Dist::new(alloc, kind_named(word)?), AT)),

@@ -1,28 +1,25 @@
 // Operators on scalars, called directly.
 
 use snesl_operators::{BinaryOperator, Scalar, UnaryOperator};
-use snesl_values::FaultKind;
+use snesl_values::{Dialect, FaultKind};
+use std::process::Abort;
 
-#[test]
-fn values_of_operators(rt: HostRuntime) {
-    let least = i64::MIN;
+// Asserts values of operators in a dialect whose integers reach from `least` to `greatest`.
+fn assert_integers(rt: &impl Abort, dialect: Dialect, least: i128, greatest: i128) {
+    let overflow = Err(FaultKind::Overflow);
     let rows = [
         (BinaryOperator::Divide, -7, 2, Ok(Scalar::Int(-3))),
         (BinaryOperator::Divide, 7, -2, Ok(Scalar::Int(-3))),
         (BinaryOperator::Remainder, -7, 2, Ok(Scalar::Int(-1))),
         (BinaryOperator::Remainder, 7, -2, Ok(Scalar::Int(1))),
         (BinaryOperator::Remainder, least, -1, Ok(Scalar::Int(0))),
-        (BinaryOperator::Divide, least, -1, Err(FaultKind::Overflow)),
+        (BinaryOperator::Divide, least, -1, overflow),
         (BinaryOperator::Divide, least, 0, Err(FaultKind::Divide)),
         (BinaryOperator::Remainder, 1, 0, Err(FaultKind::Divide)),
-        (BinaryOperator::Add, i64::MAX, 1, Err(FaultKind::Overflow)),
-        (BinaryOperator::Subtract, least, 1, Err(FaultKind::Overflow)),
-        (
-            BinaryOperator::Multiply,
-            least,
-            -1,
-            Err(FaultKind::Overflow),
-        ),
+        (BinaryOperator::Add, greatest, 1, overflow),
+        (BinaryOperator::Add, greatest, least, Ok(Scalar::Int(-1))),
+        (BinaryOperator::Subtract, least, 1, overflow),
+        (BinaryOperator::Multiply, least, -1, overflow),
         (BinaryOperator::Multiply, least, 1, Ok(Scalar::Int(least))),
         (
             BinaryOperator::EqualIntegers,
@@ -35,21 +32,30 @@ fn values_of_operators(rt: HostRuntime) {
         (
             BinaryOperator::AtLeast,
             least,
-            i64::MAX,
+            greatest,
             Ok(Scalar::Bool(false)),
         ),
         (BinaryOperator::And, 1, 1, Err(FaultKind::Shape)),
     ];
     for (operator, m, n, wanted) in rows {
-        assert_eq!(rt; operator.apply(Scalar::Int(m), Scalar::Int(n)), wanted);
+        let value = operator.apply(dialect, Scalar::Int(m), Scalar::Int(n));
+        assert_eq!(rt; value, wanted);
     }
-    let (yes, no) = (Scalar::Bool(true), Scalar::Bool(false));
-    assert_eq!(rt; BinaryOperator::EqualTruths.apply(no, no), Ok(yes));
-    assert_eq!(rt; BinaryOperator::Or.apply(no, yes), Ok(yes));
-    assert_eq!(rt; BinaryOperator::And.apply(yes, no), Ok(no));
-    assert_eq!(rt;
-        UnaryOperator::Negate.apply(Scalar::Int(least)),
-        Err(FaultKind::Overflow)
-    );
-    assert_eq!(rt; UnaryOperator::Not.apply(yes), Ok(no));
+    let negative = UnaryOperator::Negate.apply(dialect, Scalar::Int(least));
+    assert_eq!(rt; negative, overflow);
+}
+
+#[test]
+fn values_of_operators(rt: HostRuntime) {
+    let least = -9_223_372_036_854_775_808;
+    let greatest = 9_223_372_036_854_775_807;
+    assert_integers(&rt, Dialect::One, least, greatest);
+    assert_integers(&rt, Dialect::Two, i128::MIN, i128::MAX);
+    for dialect in [Dialect::One, Dialect::Two] {
+        let (yes, no) = (Scalar::Bool(true), Scalar::Bool(false));
+        assert_eq!(rt; BinaryOperator::EqualTruths.apply(dialect, no, no), Ok(yes));
+        assert_eq!(rt; BinaryOperator::Or.apply(dialect, no, yes), Ok(yes));
+        assert_eq!(rt; BinaryOperator::And.apply(dialect, yes, no), Ok(no));
+        assert_eq!(rt; UnaryOperator::Not.apply(dialect, yes), Ok(no));
+    }
 }

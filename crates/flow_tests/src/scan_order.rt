@@ -16,7 +16,7 @@ use flow_graph::Graph;
 use flow_nodes::StreamNode;
 use flow_scalar::{Binary, ScanAdd, Sink, Source, Stream};
 use snesl_operators::BinaryOperator;
-use snesl_values::{Fault, FaultKind};
+use snesl_values::{Dialect, Fault, FaultKind};
 use std::alloc::Global;
 use std::process::Abort;
 use std::test::Fail;
@@ -26,7 +26,7 @@ fn scan_of_quotients(rt: &impl Abort, alloc: Global) -> Result<Graph<StreamNode>
     ensures { IfOk result (λ graph. AreOpened node_behaviour (states_of graph)) }
 {
     let flags = Stream::Bools([false, false, false, true].to_vec(alloc)?);
-    let over = Stream::Ints([i64::MAX, 1, 1].to_vec(alloc)?);
+    let over = Stream::Ints([9_223_372_036_854_775_807, 1, 1].to_vec(alloc)?);
     let under = Stream::Ints([1, 1, 0].to_vec(alloc)?);
     let mut builder = empty(alloc);
     add(&mut builder, StreamNode::Source(Source::new(alloc, flags)))?;
@@ -34,11 +34,11 @@ fn scan_of_quotients(rt: &impl Abort, alloc: Global) -> Result<Graph<StreamNode>
     add(&mut builder, StreamNode::Source(Source::new(alloc, under)))?;
     add(
         &mut builder,
-        StreamNode::Binary(Node::new(Binary::new(BinaryOperator::Divide), 35)),
+        StreamNode::Binary(Node::new(Binary::new(Dialect::One, BinaryOperator::Divide), 35)),
     )?;
     add(
         &mut builder,
-        StreamNode::ScanAdd(Node::new(ScanAdd::new(), 0)),
+        StreamNode::ScanAdd(Node::new(ScanAdd::new(Dialect::One), 0)),
     )?;
     add(
         &mut builder,

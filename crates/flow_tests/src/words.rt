@@ -2,7 +2,7 @@
 
 use flow_edges::{Item, Kind, Msg};
 use snesl_operators::{BinaryOperator, Reduction, UnaryOperator};
-use snesl_values::{Datum, FaultKind, Ty};
+use snesl_values::{Datum, Dialect, FaultKind, Ty};
 use std::alloc::{AllocError, Global};
 
 /// Why words stand for nothing.
@@ -28,7 +28,7 @@ pub fn message(alloc: Global, word: &str) -> Result<Msg, WordError> {
         "u" => Item::Unit,
         "F" => Item::Bool(false),
         "T" => Item::Bool(true),
-        _ => match word.parse::<i64>() {
+        _ => match word.parse::<i128>() {
             Ok(number) => Item::Int(number),
             Err(_) => Item::of_datum(alloc, vector(alloc, word)?)?,
         },
@@ -41,6 +41,9 @@ fn vector(alloc: Global, word: &str) -> Result<Datum, WordError> {
     match word {
         "[]" => {}
         "[1]" => all.push(Datum::Int(1)).map_err(AllocError::from)?,
+        "[170141183460469231731687303715884105727]" => {
+            all.push(Datum::Int(i128::MAX)).map_err(AllocError::from)?
+        }
         "[8,-9]" => add(&mut all, Datum::Int(8), Datum::Int(-9))?,
         "[1,true]" => add(&mut all, Datum::Int(1), Datum::Bool(true))?,
         "[(1,[4,5]),(2,[])]" => {
@@ -62,7 +65,7 @@ fn add(all: &mut Vec<Datum>, first: Datum, second: Datum) -> Result<(), AllocErr
 }
 
 // A pair of an integer and a vector.
-fn pair(alloc: Global, first: i64, second: Vec<Datum>) -> Result<Datum, AllocError> {
+fn pair(alloc: Global, first: i128, second: Vec<Datum>) -> Result<Datum, AllocError> {
     let first = Box::new(alloc, Datum::Int(first))?;
     Ok(Datum::Pair(first, Box::new(alloc, Datum::Vec(second))?))
 }
@@ -125,6 +128,15 @@ pub fn fault_named(word: &str) -> Result<FaultKind, WordError> {
     })
 }
 
+/// The dialect of this name.
+pub fn dialect_named(word: &str) -> Result<Dialect, WordError> {
+    match word {
+        "one" => Ok(Dialect::One),
+        "two" => Ok(Dialect::Two),
+        _ => Err(WordError::Unread),
+    }
+}
+
 /// The operator on one scalar of this name.
 pub fn unary_named(word: &str) -> Result<UnaryOperator, WordError> {
     match word {
@@ -138,6 +150,8 @@ pub fn unary_named(word: &str) -> Result<UnaryOperator, WordError> {
 pub fn binary_named(word: &str) -> Result<BinaryOperator, WordError> {
     match word {
         "add" => Ok(BinaryOperator::Add),
+        "subtract" => Ok(BinaryOperator::Subtract),
+        "multiply" => Ok(BinaryOperator::Multiply),
         "divide" => Ok(BinaryOperator::Divide),
         "less" => Ok(BinaryOperator::Less),
         "and" => Ok(BinaryOperator::And),

@@ -2,4 +2,5 @@ pub mod Building
 pub mod Members
 pub mod Printing
 pub mod Segments
+pub mod ShapeTests
 pub mod VectorSteps

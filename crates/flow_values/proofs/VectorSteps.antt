@@ -1,9 +1,10 @@
 -- What an item leads to, whether it is a vector of such elements or not.
-use Rattle.std.proofs.Common.{◌≡◌, ℕ, zero, suc, ◌<◌, ◌≤◌, ℤ, pos, negsuc, List, [], ◌∷◌, Ok, Err, Option, Some, None, true, false, refl, sym, ap, ◌∙◌, cond, map, length, get_or, option_map, nat_lt, arith}
+use Rattle.std.proofs.Common.{◌≡◌, ℕ, zero, suc, ◌<◌, ◌≤◌, ◌≤ℤ◌, ◌^◌, ℤ, pos, negsuc, List, [], ◌∷◌, Ok, Err, Option, Some, None, true, false, Bool, refl, sym, ap, ◌∙◌, cond, map, length, get_or, option_map, nat_lt, w64, arith}
 use Rattle.std.specs.List.{slice_get}
 use Rattle.std.specs.Option.{IfSome, is_some}
-use Rattle.std.specs.Int.{FitsUnsignedBits}
+use Rattle.std.specs.Int.{FitsUnsigned}
 use Rattle.std.proofs.Math.IntN.{nat_abs}
+use Rattle.std.proofs.lemmas.Int.{ints}
 use Rattle.std.proofs.lemmas.Bool.Decides.{nat_tests}
 use Rattle.snesl_values.specs.declared.datum.Datum.{Datum}
 use Rattle.snesl_values.specs.declared.fault.FaultKind.TheVariants.{Shape}
@@ -62,10 +63,10 @@ same_vector item us vs e not = let same : us ≡ vs = cc in ap (all_are item) (s
 pub held_element : (item : Ty) (ds all : List Datum) (z : ℤ) (e : Value) → Some e ≡ element_at (values_of (map value_of ds)) z → ds ≡ all → all_are item (values_of (map value_of all)) ≡ true → is_a item e ≡ true
 held_element item ds all z e found same are = element_is item (values_of (map value_of ds)) z e (sym found) (ap (λ l. all_are item (values_of (map value_of l))) same ∙ are)
 
--- an integer that a machine's number holds is that number
-pub natural_index : (z : ℤ) (n : ℕ) → FitsUnsignedBits 64 z × (n ≡ nat_abs z) → z ≡ pos n
-natural_index (pos m) n h = ap pos (sym h.1)
-natural_index (negsuc m) n h = absurd h.0
+-- an integer from 0 on is the number of its size
+pub natural_index : (z : ℤ) (n : ℕ) → pos 0 ≤ℤ z → n ≡ nat_abs z → z ≡ pos n
+natural_index (pos m) n from is = ap pos (sym is)
+natural_index (negsuc m) n from is = absurd (omega (arith, ints))
 
 past : (ds : List Datum) (i : ℕ) → length ds ≤ i → slice_get (list_of (values_of (map value_of ds))) i ≡ None
 past [] i le = refl
@@ -82,3 +83,12 @@ pub found_at : {B : Type 0} (now : B → Datum) (ds : List Datum) (i : ℕ) (z :
     option_map (λ x. value_of (now x)) r ≡ element_at (values_of (map value_of ds)) z
 found_at now ds i z None at some is = let le : length ds ≤ i = grind (arith, nat_tests) in sym (ap (element_at (values_of (map value_of ds))) at ∙ past ds i le)
 found_at now ds i z (Some x) at some is = let lt : i < length ds = grind (arith, nat_tests) in sym (ap (element_at (values_of (map value_of ds))) at ∙ there ds i (now x) lt is)
+
+-- nothing is found at what is no machine's number
+pub not_found : (ds : List Datum) (z : ℤ) → length ds < 2 ^ 64 → (FitsUnsigned w64 z → ⊥) → None ≡ element_at (values_of (map value_of ds)) z
+not_found ds (pos n) few beyond = go (nat_lt n (length ds)) refl
+  where
+    go : (b : Bool) → nat_lt n (length ds) ≡ b → None ≡ slice_get (list_of (values_of (map value_of ds))) n
+    go true e = let lt : n < length ds = grind (arith, nat_tests, e) in absurd (beyond (omega (arith, ints), omega (arith, ints)))
+    go false e = let le : length ds ≤ n = grind (arith, nat_tests, e) in sym (past ds n le)
+not_found ds (negsuc n) few beyond = refl

@@ -1,5 +1,6 @@
 -- Items that are due, each with the output that it goes to.
 use Rattle.std.specs.Prelude.{◌≡◌, ℕ, ◌+◌, true, List, [], ◌∷◌, ◌++◌, length, cond, nat_lt}
+use Rattle.snesl_values.specs.declared.dialect.Dialect.{Dialect}
 use Rattle.snesl_values.specs.Types.{Ty, pair, seq}
 use Rattle.snesl_values.specs.Values.{Value}
 use Rattle.flow_edges.specs.Cells.{Cell, cell_of, is_of}
@@ -52,7 +53,7 @@ abbrev pub DuesOfKind : List Kind → List DueCell → Type 0
 DuesOfKind kinds [] = Unit {0}
 DuesOfKind kinds (d ∷ ds) = (is_of (kind_at kinds (output_of (length kinds) d.port)) d.cell ≡ true) × DuesOfKind kinds ds
 
--- the integers of the due items lie in the range
-abbrev pub DuesInRange : List DueCell → Type 0
-DuesInRange [] = Unit {0}
-DuesInRange (d ∷ ds) = CellInRange d.cell × DuesInRange ds
+-- the integers of the due items lie in the range of the dialect
+abbrev pub DuesInRange : Dialect → List DueCell → Type 0
+DuesInRange dialect [] = Unit {0}
+DuesInRange dialect (d ∷ ds) = CellInRange dialect d.cell × DuesInRange dialect ds

@@ -1,5 +1,6 @@
 -- An element of each vector: the machine. Its parameter is the type of the elements.
 use Rattle.std.specs.Prelude.{◌≡◌, ℕ, zero, true, false, Bool, List, [], ◌∷◌, Option, Some, None, cond, length, map, Result, Ok, Err}
+use Rattle.snesl_values.specs.declared.dialect.Dialect.{Dialect}
 use Rattle.snesl_values.specs.declared.fault.FaultKind.{FaultKind}
 use Rattle.snesl_values.specs.declared.fault.FaultKind.TheVariants.{Shape, Index}
 use Rattle.snesl_values.specs.Types.{Ty, bool}
@@ -62,10 +63,10 @@ abbrev pub index_of_kind : Ty → Step → Type 0
 index_of_kind item (held vs) = all_are item vs ≡ true
 index_of_kind item (writing ds) = DuesOfKind (kinds_of item) ds
 
--- the integers of what is held or due lie in the range
-abbrev pub index_in_range : Step → Type 0
-index_in_range (held vs) = AllInRange vs
-index_in_range (writing ds) = DuesInRange ds
+-- the integers of what is held or due lie in the range of the dialect
+abbrev pub index_in_range : Dialect → Step → Type 0
+index_in_range dialect (held vs) = AllInRange dialect vs
+index_in_range dialect (writing ds) = DuesInRange dialect ds
 
 -- the items of an element are laid out in memory when its index is taken
 abbrev pub index_takes_memory : Step → Bool
@@ -84,6 +85,6 @@ index_machine = record {
   kind_out = λ item q. kind_at (kinds_of item) q;
   debt = λ _. index_debt;
   of_kind = index_of_kind;
-  in_range = λ _. index_in_range;
+  in_range = λ dialect _. index_in_range dialect;
   takes_memory = index_takes_memory;
 }

@@ -137,6 +137,6 @@ print_behaviour = record {
   at = λ s. s.at;
   row = λ s ins outs. PrintRow s.ty ins;
   of_kind = λ _. Unit {0};
-  in_range = λ _. Unit {0};
+  in_range = λ _ _. Unit {0};
   takes_memory = λ s. memory_at s.step;
 }

@@ -40,6 +40,6 @@ seq_machine = record {
   kind_out = λ item q. kind_at (kinds_of (seq item)) q;
   debt = λ _ ds. length ds;
   of_kind = λ item ds. DuesOfKind (kinds_of (seq item)) ds;
-  in_range = λ _ ds. DuesInRange ds;
+  in_range = λ dialect _ ds. DuesInRange dialect ds;
   takes_memory = seq_takes_memory;
 }

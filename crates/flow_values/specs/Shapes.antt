@@ -1,8 +1,8 @@
 -- Values of a type, whatever their integers, and the kinds of the edges of a type.
-use Rattle.std.specs.Prelude.{ℕ, ◌&&◌, Bool, true, false, List, [], ◌∷◌, ◌++◌, Some, None}
+use Rattle.std.specs.Prelude.{ℕ, IsTrue, ◌↔◌, ◌&&◌, Bool, true, false, List, [], ◌∷◌, ◌++◌, Some, None}
 use Rattle.std.specs.List.{slice_get}
 use Rattle.snesl_values.specs.Types.{Ty, int, bool, pair, vec, seq}
-use Rattle.snesl_values.specs.Values.{Value, Values, an_int, a_bool, a_pair, a_vec, a_seq, no_values, more_values, list_of}
+use Rattle.snesl_values.specs.Values.{Value, Values, an_int, a_bool, a_pair, a_vec, a_seq, no_values, more_values, list_of, HasShape}
 use Rattle.flow_edges.specs.Cells.{Cell, flag, int as int_cell, datum}
 use Rattle.flow_edges.specs.declared.message.Kind.{Kind}
 use Rattle.flow_edges.specs.declared.message.Kind.TheVariants.{Unit as UnitKind, Bool as BoolKind, Int as IntKind, Vec as VecKind}
@@ -20,6 +20,10 @@ abbrev mutual
   pub all_are : Ty → Values → Bool
   all_are item no_values = true
   all_are item (more_values v vs) = is_a item v && all_are item vs
+
+-- the test says yes of just the values that are of the type by their shape
+abbrev pub ShapesAreTested : Type 0
+ShapesAreTested = (t : Ty) (v : Value) → IsTrue (is_a t v) ↔ HasShape v t
 
 -- the kinds of the edges of the type: one for a scalar or a vector, those of both parts for a pair, and for a sequence
 -- flags and then those of its elements

@@ -1,5 +1,6 @@
 -- The elements of each sequence as a vector: the machine. Its parameter is the type of the elements.
 use Rattle.std.specs.Prelude.{◌≡◌, ℕ, suc, Bool, true, false, List, [], ◌∷◌, ◌++◌, Some, None, cond, nat_lt, length, map, Result, Ok, Err}
+use Rattle.snesl_values.specs.declared.dialect.Dialect.{Dialect}
 use Rattle.snesl_values.specs.declared.fault.FaultKind.{FaultKind}
 use Rattle.snesl_values.specs.declared.fault.FaultKind.TheVariants.{Shape}
 use Rattle.snesl_values.specs.Types.{Ty, bool, seq, is_concrete}
@@ -79,17 +80,17 @@ tab_move ty (at_flag es) = takes 0 (flag_taking ty es)
 tab_move ty (at_item es got) = takes (item_port ty got) (on_kind (kind_at (kinds_of (seq ty)) (item_port ty got)) (item_given ty es got))
 tab_move ty (at_end es) = gives 0 (vector_cell es) start
 
--- the integers of each of these items lie in the range
-abbrev pub CellsInRange : List Cell → Type 0
-CellsInRange [] = Unit {0}
-CellsInRange (x ∷ xs) = CellInRange x × CellsInRange xs
+-- the integers of each of these items lie in the range of the dialect
+abbrev pub CellsInRange : Dialect → List Cell → Type 0
+CellsInRange dialect [] = Unit {0}
+CellsInRange dialect (x ∷ xs) = CellInRange dialect x × CellsInRange dialect xs
 
--- the integers of the elements and of the items lie in the range
-abbrev pub tab_in_range : Step → Type 0
-tab_in_range start = Unit {0}
-tab_in_range (at_flag es) = AllInRange (values_of es)
-tab_in_range (at_item es got) = AllInRange (values_of es) × CellsInRange got
-tab_in_range (at_end es) = AllInRange (values_of es)
+-- the integers of the elements and of the items lie in the range of the dialect
+abbrev pub tab_in_range : Dialect → Step → Type 0
+tab_in_range dialect start = Unit {0}
+tab_in_range dialect (at_flag es) = AllInRange dialect (values_of es)
+tab_in_range dialect (at_item es got) = AllInRange dialect (values_of es) × CellsInRange dialect got
+tab_in_range dialect (at_end es) = AllInRange dialect (values_of es)
 
 -- the items of an element are kept in memory, and its value; the vector lies in a box
 abbrev pub tab_takes_memory : Step → Bool
@@ -109,6 +110,6 @@ tab_machine = record {
   kind_out = λ _ _. VecKind;
   debt = λ ty s. one_write (tab_move ty s);
   of_kind = λ _ _. Unit {0};
-  in_range = λ _. tab_in_range;
+  in_range = λ dialect _. tab_in_range dialect;
   takes_memory = tab_takes_memory;
 }

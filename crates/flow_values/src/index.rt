@@ -62,7 +62,7 @@ impl Index {
 }
 
 // The element at this index, counted from 0, where there is one.
-fn element_at(all: &[Datum], index: i64) -> Option<&Datum>
+fn element_at(all: &[Datum], index: i128) -> Option<&Datum>
     ensures { option_map (λ d. value_of d.now) result ≡ element_at (values_of (map value_of all.now)) index }
 {
     match usize::try_from(index) {

@@ -4,7 +4,7 @@ ghost use Rattle.std.specs.Prelude.{◌≡◌, ◌<◌, ◌^◌, ◌++◌, map, 
 ghost use Rattle.snesl_values.specs.Types.{ty_of};
 ghost use Rattle.snesl_values.specs.Values.{value_of, values_of};
 ghost use Rattle.flow_edges.specs.Cells.{cell_of};
-ghost use Rattle.flow_values.specs.Shapes.{is_a, all_are, kinds_of, kind_at};
+ghost use Rattle.flow_values.specs.Shapes.{is_a, all_are, ShapesAreTested, kinds_of, kind_at};
 ghost use Rattle.flow_values.specs.Flats.{width};
 ghost use Rattle.flow_values.specs.Parts.{part_fits};
 
@@ -37,6 +37,11 @@ pub fn are_values(item: &Ty, all: &[Datum]) -> bool
     }
     true
 }
+
+/// A law and no code to run: what `is_value` tests is the type by its shape, any integer being of type int.
+pub fn shapes_are_tested()
+    ensures { ShapesAreTested }
+{}
 
 /// The kinds of the edges of the type, in order. Its only error is that memory was refused.
 pub fn kinds(alloc: Global, ty: &Ty) -> Result<Vec<Kind>, AllocError>

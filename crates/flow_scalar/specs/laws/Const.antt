@@ -16,8 +16,8 @@ use Rattle.flow_base.specs.declared.node.Node.{Node}
 use Rattle.flow_scalar.specs.declared.constant.Const.{Const}
 
 sound : (k : Scalar) (due : Bool) → SoundAt const_machine k due (const_move k due)
-sound k false = (refl, (omega arith, refl, λ _ _ _. tt, λ _ h _ _ _. h))
-sound k true = (omega arith, omega arith, λ _. (is_of-cell k (type_of k) refl, tt), λ _ h. (cell_in_range k h, h))
+sound k false = (refl, (omega arith, refl, λ _ _ _. tt, λ _ _ h _ _ _. h))
+sound k true = (omega arith, omega arith, λ _. (is_of-cell k (type_of k) refl, tt), λ dialect _ h. (cell_in_range dialect k h, h))
 
 runs : (k : Scalar) (n : ℕ) → Runs const_machine k false (const_reads n) (const_writes k n)
 runs k zero = (zero, (refl, refl))

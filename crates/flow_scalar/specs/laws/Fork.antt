@@ -12,9 +12,9 @@ use Rattle.flow_scalar.specs.ForkMachine.{ForkPorts, Step, idle, holding, fork_m
 
 -- the table keeps to its laws
 sound : (p : ForkPorts) (s : Step) → SoundAt fork_machine p s (fork_move p s)
-sound p idle = (refl, (omega arith, refl, λ _ x e. e, λ _ _ x e h. h))
-sound p (holding x zero) = (omega arith, omega arith, λ h. (h, tt), λ _ h. (h, tt))
-sound p (holding x (suc left)) = (omega arith, omega arith, λ h. (h, h), λ _ h. (h, h))
+sound p idle = (refl, (omega arith, refl, λ _ x e. e, λ _ _ _ x e h. h))
+sound p (holding x zero) = (omega arith, omega arith, λ h. (h, tt), λ _ _ h. (h, tt))
+sound p (holding x (suc left)) = (omega arith, omega arith, λ h. (h, h), λ _ _ h. (h, h))
 
 -- so many outputs have the item, and the next and so many after it are to get it
 abbrev fan : Cell → List Cell → ℕ → ℕ → Columns

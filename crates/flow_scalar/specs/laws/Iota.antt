@@ -3,6 +3,8 @@ use Rattle.std.specs.Prelude.{◌≡◌, ◌≤◌, ℕ, zero, suc, ℤ, pos, ne
 use Rattle.std.proofs.Common.{arith, sym, ◌∙◌, ap, subst}
 use Rattle.std.proofs.lemmas.Bool.Decides.{nat_tests}
 use Rattle.std.proofs.lemmas.Int.{ints}
+use Rattle.snesl_values.specs.declared.dialect.Dialect.{Dialect}
+use Rattle.snesl_values.specs.declared.dialect.Dialect.TheVariants.{One, Two}
 use Rattle.snesl_values.specs.Integers.{greatest_integer, IsInteger}
 use Rattle.flow_edges.specs.Cells.{Cell, flag, int}
 use Rattle.flow_base.specs.Flags.{F, T, elements, flags, joined}
@@ -44,46 +46,47 @@ left_at_end number end h =
     let above : end ≤ℤ number = grind (arith, ints) in
     natural_of_negative (end -ℤ number) (omega (arith, ints))
 
--- an integer of the language lies between these bounds
-bounds : (z : ℤ) → IsInteger z → (negsuc greatest_integer ≤ℤ z) × (z ≤ℤ pos greatest_integer)
-bounds (pos n) h = let le : n ≤ greatest_integer = grind (arith, nat_tests) in (omega (arith, ints), omega (arith, ints))
-bounds (negsuc n) h = let le : n ≤ greatest_integer = grind (arith, nat_tests) in (omega (arith, ints), omega (arith, ints))
+-- an integer of the dialect lies between these bounds
+bounds : (dialect : Dialect) (z : ℤ) → IsInteger dialect z → (negsuc (greatest_integer dialect) ≤ℤ z) × (z ≤ℤ pos (greatest_integer dialect))
+bounds dialect (pos n) h = let le : n ≤ greatest_integer dialect = grind (arith, nat_tests) in (omega (arith, ints), omega (arith, ints))
+bounds dialect (negsuc n) h = let le : n ≤ greatest_integer dialect = grind (arith, nat_tests) in (omega (arith, ints), omega (arith, ints))
 
 -- and what lies between them is one
-between_bounds : (z : ℤ) → negsuc greatest_integer ≤ℤ z → z ≤ℤ pos greatest_integer → IsInteger z
-between_bounds (pos n) low high = let le : n ≤ greatest_integer = omega (arith, ints) in grind (arith, nat_tests)
-between_bounds (negsuc n) low high = let le : n ≤ greatest_integer = omega (arith, ints) in grind (arith, nat_tests)
+between_bounds : (dialect : Dialect) (z : ℤ) → negsuc (greatest_integer dialect) ≤ℤ z → z ≤ℤ pos (greatest_integer dialect) → IsInteger dialect z
+between_bounds dialect (pos n) low high = let le : n ≤ greatest_integer dialect = omega (arith, ints) in grind (arith, nat_tests)
+between_bounds dialect (negsuc n) low high = let le : n ≤ greatest_integer dialect = omega (arith, ints) in grind (arith, nat_tests)
 
 -- the next number lies in the range where the number and the end do
-in_range_after : (number end : ℤ) → IsInteger number → IsInteger end → IsInteger (number_after number end)
-in_range_after number end h g = go (int_lt number end) refl
+in_range_after : (dialect : Dialect) (number end : ℤ) → IsInteger dialect number → IsInteger dialect end → IsInteger dialect (number_after number end)
+in_range_after dialect number end h g = go (int_lt number end) refl
   where
-    go : (b : Bool) → int_lt number end ≡ b → IsInteger (cond b (number +ℤ pos 1) end)
+    go : (b : Bool) → int_lt number end ≡ b → IsInteger dialect (cond b (number +ℤ pos 1) end)
     go false e = g
     go true e =
         let below : number <ℤ end = grind (arith, ints) in
-        let low = bounds number h in
-        let high = bounds end g in
-        between_bounds (number +ℤ pos 1) (omega (arith, ints)) (omega (arith, ints))
+        let low = bounds dialect number h in
+        let high = bounds dialect end g in
+        between_bounds dialect (number +ℤ pos 1) (omega (arith, ints)) (omega (arith, ints))
 
 -- the table keeps to its laws at a flag, by the test
 flag_sound : (next end : ℤ) (b : Bool) → int_lt next end ≡ b → SoundAt iota_machine tt (Flag next end) (flag_move next end b)
-flag_sound next end true e = let more = left_below next end e in (omega arith, omega arith, λ _. (refl, tt), λ _ h. (tt, h))
-flag_sound next end false e = (omega arith, omega arith, λ _. (refl, tt), λ _ _. (tt, tt))
+flag_sound next end true e = let more = left_below next end e in (omega arith, omega arith, λ _. (refl, tt), λ _ _ h. (tt, h))
+flag_sound next end false e = (omega arith, omega arith, λ _. (refl, tt), λ _ _ _. (tt, tt))
 
 -- the table keeps to its laws
 sound : (s : Iota) → SoundAt iota_machine tt s (iota_move s)
-sound Between = (refl, (omega arith, refl, λ _. kinds, λ _ _. ranges))
+sound Between = (refl, (omega arith, refl, λ _. kinds, λ dialect _ _. ranges dialect))
   where
     kinds : OfKind (λ _. Unit {0}) (on_int first_flag)
     kinds (pos n) = tt
     kinds (negsuc n) = tt
 
-    ranges : OfRange iota_in_range (on_int first_flag)
-    ranges (pos n) h = (refl, h)
-    ranges (negsuc n) h = tt
+    ranges : (dialect : Dialect) → OfRange dialect (iota_in_range dialect) (on_int first_flag)
+    ranges One (pos n) h = (refl, h)
+    ranges Two (pos n) h = (refl, h)
+    ranges dialect (negsuc n) h = tt
 sound (Flag next end) = flag_sound next end (int_lt next end) refl
-sound (Number next end) = (omega arith, omega arith, λ _. (refl, tt), λ _ h. (h.0, (in_range_after next end h.0 h.1, h.1)))
+sound (Number next end) = (omega arith, omega arith, λ _. (refl, tt), λ dialect _ h. (h.0, (in_range_after dialect next end h.0 h.1, h.1)))
 
 -- a run from this state reads a and writes f and r
 abbrev Does : Iota → List Cell → List Cell → List Cell → Type 0

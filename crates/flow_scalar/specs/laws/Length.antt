@@ -5,6 +5,7 @@ use Rattle.std.proofs.Common.{arith, sym, ap, subst}
 use Rattle.std.proofs.Math.Path.{subst₂}
 use Rattle.std.proofs.lemmas.Bool.Decides.{nat_tests}
 use Rattle.std.proofs.lemmas.List.Elements.{All-nil, All-cons, All-head, All-tail}
+use Rattle.snesl_values.specs.declared.dialect.Dialect.{Dialect}
 use Rattle.snesl_values.specs.declared.fault.FaultKind.TheVariants.{Overflow}
 use Rattle.snesl_values.specs.Integers.{greatest_integer, is_integer, IsInteger}
 use Rattle.flow_edges.specs.Cells.{Cell, flag, int}
@@ -12,46 +13,48 @@ use Rattle.flow_base.specs.Flags.{F, T, elements, flags}
 use Rattle.flow_base.specs.Columns.{Columns, columns, push_column, At}
 use Rattle.flow_base.specs.Machines.{MachineLaws, SoundAt, Run, Runs, taken, OnNext, OfNext}
 use Rattle.flow_base.specs.MachineRuns.{Then, reading, writing, run_is}
+use Rattle.flow_scalar.specs.OwnDialect.{own_read, own_write}
 use Rattle.flow_scalar.specs.Rows.{LengthRow}
+use Rattle.flow_scalar.specs.declared.length.Count.{Count}
+use Rattle.flow_scalar.specs.declared.length.Count.TheVariants.{Counting, Due}
 use Rattle.flow_scalar.specs.declared.length.Length.{Length}
-use Rattle.flow_scalar.specs.declared.length.Length.TheVariants.{Counting, Due}
 use Rattle.flow_scalar.specs.LengthMachine.{one_more, length_ended, length_counts, length_move, length_in_range, length_machine, length_view}
 use Rattle.flow_base.specs.Members.{NodeOf, node_of}
 use Rattle.flow_base.specs.declared.node.Node.{Node}
 
 -- the number of a segment that ended is due in the range
-ended_fits : (n : ℕ) → OfNext (length_ended n) length_in_range
-ended_fits n = go (is_integer (pos n)) refl
+ended_fits : (dialect : Dialect) (n : ℕ) → OfNext (length_ended dialect n) (length_in_range dialect)
+ended_fits dialect n = go (is_integer dialect (pos n)) refl
   where
-    go : (b : Bool) → is_integer (pos n) ≡ b → OfNext (cond b (Ok (Due (pos n))) (Err Overflow)) length_in_range
+    go : (b : Bool) → is_integer dialect (pos n) ≡ b → OfNext (cond b (Ok (Due (pos n))) (Err Overflow)) (length_in_range dialect)
     go true e = e
     go false e = tt
 
-ended_any : (n : ℕ) → OfNext (length_ended n) (λ _. Unit {0})
-ended_any n = go (is_integer (pos n))
+ended_any : (dialect : Dialect) (n : ℕ) → OfNext (length_ended dialect n) (λ _. Unit {0})
+ended_any dialect n = go (is_integer dialect (pos n))
   where
     go : (b : Bool) → OfNext (cond b (Ok (Due (pos n))) (Err Overflow)) (λ _. Unit {0})
     go true = tt
     go false = tt
 
-sound : (s : Length) → SoundAt length_machine tt s (length_move s)
-sound (Counting zero) = (refl, (omega arith, refl, λ _. (tt, ended_any zero), λ _ _. (tt, ended_fits zero)))
-sound (Counting (suc n)) = (omega arith, refl, λ _. (tt, ended_any (suc n)), λ _ _. (tt, ended_fits (suc n)))
-sound (Due number) = (omega arith, omega arith, λ _. (refl, tt), λ _ h. (h, tt))
+sound : (dialect : Dialect) (s : Count) → SoundAt length_machine dialect s (length_move dialect s)
+sound dialect (Counting zero) = (refl, (omega arith, refl, λ _. (tt, ended_any dialect zero), own_read length_in_range dialect (Counting zero) (length_counts dialect zero) (λ _. (tt, ended_fits dialect zero))))
+sound dialect (Counting (suc n)) = (omega arith, refl, λ _. (tt, ended_any dialect (suc n)), own_read length_in_range dialect (Counting (suc n)) (length_counts dialect (suc n)) (λ _. (tt, ended_fits dialect (suc n))))
+sound dialect (Due number) = (omega arith, omega arith, λ _. (refl, tt), own_write length_in_range dialect (Due number) (Counting zero) (int number) (λ h. (h, tt)))
 
 -- a segment ends where its number lies in the range, and nowhere else
-ended_on : (n : ℕ) (P : Length → Type 0) → IsInteger (pos n) → P (Due (pos n)) → OnNext (length_ended n) P
-ended_on n P fits h = subst (λ b. OnNext (cond b (Ok (Due (pos n))) (Err Overflow)) P) (sym fits) h
+ended_on : (dialect : Dialect) (n : ℕ) (P : Count → Type 0) → IsInteger dialect (pos n) → P (Due (pos n)) → OnNext (length_ended dialect n) P
+ended_on dialect n P fits h = subst (λ b. OnNext (cond b (Ok (Due (pos n))) (Err Overflow)) P) (sym fits) h
 
-ended_from : (n : ℕ) (P : Length → Type 0) → OnNext (length_ended n) P → IsInteger (pos n) × P (Due (pos n))
-ended_from n P h = go (is_integer (pos n)) refl h
+ended_from : (dialect : Dialect) (n : ℕ) (P : Count → Type 0) → OnNext (length_ended dialect n) P → IsInteger dialect (pos n) × P (Due (pos n))
+ended_from dialect n P h = go (is_integer dialect (pos n)) refl h
   where
-    go : (b : Bool) → is_integer (pos n) ≡ b → OnNext (cond b (Ok (Due (pos n))) (Err Overflow)) P → IsInteger (pos n) × P (Due (pos n))
+    go : (b : Bool) → is_integer dialect (pos n) ≡ b → OnNext (cond b (Ok (Due (pos n))) (Err Overflow)) P → IsInteger dialect (pos n) × P (Due (pos n))
     go true e h = (e, h)
     go false e h = absurd h
 
-at_most : (n : ℕ) → IsInteger (pos n) → n ≤ greatest_integer
-at_most n h = grind (arith, nat_tests)
+at_most : (dialect : Dialect) (n : ℕ) → IsInteger dialect (pos n) → n ≤ greatest_integer dialect
+at_most dialect n h = grind (arith, nat_tests)
 
 -- where all elements are at most the top, one of them may be counted before or after
 counted_on : (n more total top : ℕ) → n + suc more ≡ total → total ≤ top → suc (min n top) + more ≡ total
@@ -61,72 +64,72 @@ counted_back : (n more total top : ℕ) → suc (min n top) + more ≡ total →
 counted_back n more total top e most = omega arith
 
 -- a flag is read after n elements, in an instance or where one begins
-flag_read : (n k : ℕ) (i o : Columns) → At 0 i (λ x r. OnNext (taken (length_counts n) x) (λ s. Run length_machine tt k s r o)) → Run length_machine tt (suc k) (Counting n) i o
-flag_read zero k i o h = h
-flag_read (suc n) k i o h = h
+flag_read : (dialect : Dialect) (n k : ℕ) (i o : Columns) → At 0 i (λ x r. OnNext (taken (length_counts dialect n) x) (λ s. Run length_machine dialect k s r o)) → Run length_machine dialect (suc k) (Counting n) i o
+flag_read dialect zero k i o h = h
+flag_read dialect (suc n) k i o h = h
 
-abbrev Does : Length → List Cell → List Cell → Type 0
-Does s f r = Runs length_machine tt s (f ∷ []) (r ∷ [])
+abbrev Does : Dialect → Count → List Cell → List Cell → Type 0
+Does dialect s f r = Runs length_machine dialect s (f ∷ []) (r ∷ [])
 
 -- the elements that are left of a segment, and then a run, are a run
-counts : (n more total : ℕ) → n + more ≡ total → IsInteger (pos total) → {f r : List Cell} → Does (Counting zero) f r → Does (Counting n) (elements more (T ∷ f)) (int (pos total) ∷ r)
-counts n zero total e fits {f = f} {r = r} run =
+counts : (dialect : Dialect) (n more total : ℕ) → n + more ≡ total → IsInteger dialect (pos total) → {f r : List Cell} → Does dialect (Counting zero) f r → Does dialect (Counting n) (elements more (T ∷ f)) (int (pos total) ∷ r)
+counts dialect n zero total e fits {f = f} {r = r} run =
     let same : total ≡ n = omega arith in
-    (suc (suc run.0), flag_read n (suc run.0) ((T ∷ f) ∷ []) ((int (pos total) ∷ r) ∷ []) (ended_on n (λ s. Run length_machine tt (suc run.0) s (f ∷ []) ((int (pos total) ∷ r) ∷ [])) (subst (λ k. IsInteger (pos k)) same fits) (ap (λ k. int (pos k)) same, run.1)))
-counts n (suc more) total e fits {f = f} {r = r} run =
-    let g = counts (one_more n) more total (counted_on n more total greatest_integer e (at_most total fits)) fits run in
-    (suc g.0, flag_read n g.0 (elements (suc more) (T ∷ f) ∷ []) ((int (pos total) ∷ r) ∷ []) g.1)
+    (suc (suc run.0), flag_read dialect n (suc run.0) ((T ∷ f) ∷ []) ((int (pos total) ∷ r) ∷ []) (ended_on dialect n (λ s. Run length_machine dialect (suc run.0) s (f ∷ []) ((int (pos total) ∷ r) ∷ [])) (subst (λ k. IsInteger dialect (pos k)) same fits) (ap (λ k. int (pos k)) same, run.1)))
+counts dialect n (suc more) total e fits {f = f} {r = r} run =
+    let g = counts dialect (one_more dialect n) more total (counted_on n more total (greatest_integer dialect) e (at_most dialect total fits)) fits run in
+    (suc g.0, flag_read dialect n g.0 (elements (suc more) (T ∷ f) ∷ []) ((int (pos total) ∷ r) ∷ []) g.1)
 
-abbrev Fit : List ℕ → Type 0
-Fit ns = All (λ n. IsInteger (pos n)) ns
+abbrev Fit : Dialect → List ℕ → Type 0
+Fit dialect ns = All (λ n. IsInteger dialect (pos n)) ns
 
 abbrev numbers : List ℕ → List Cell
 numbers ns = map (λ n. int (pos n)) ns
 
-runs : (ns : List ℕ) → Fit ns → Does (Counting zero) (flags ns) (numbers ns)
-runs [] h = (zero, (refl, refl))
-runs (n ∷ ns) h = counts zero n n (omega arith) (All-head (λ n. IsInteger (pos n)) n ns h) (runs ns (All-tail (λ n. IsInteger (pos n)) n ns h))
+runs : (dialect : Dialect) (ns : List ℕ) → Fit dialect ns → Does dialect (Counting zero) (flags ns) (numbers ns)
+runs dialect [] h = (zero, (refl, refl))
+runs dialect (n ∷ ns) h = counts dialect zero n n (omega arith) (All-head (λ n. IsInteger dialect (pos n)) n ns h) (runs dialect ns (All-tail (λ n. IsInteger dialect (pos n)) n ns h))
 
 -- what a run reads and writes
-data Owes : Length → Columns → Columns → Type 0 where
-  start : (ns : List ℕ) → Fit ns → Owes (Counting zero) (flags ns ∷ []) (numbers ns ∷ [])
-  counted : (n more total : ℕ) → suc n + more ≡ total → (ns : List ℕ) → Fit (total ∷ ns) → Owes (Counting (suc n)) (elements more (T ∷ flags ns) ∷ []) (numbers (total ∷ ns) ∷ [])
-  due : (number : ℤ) {i o : Columns} → Owes (Counting zero) i o → Owes (Due number) i (push_column 0 (int number) o)
+data Owes (dialect : Dialect) : Count → Columns → Columns → Type 0 where
+  start : (ns : List ℕ) → Fit dialect ns → Owes dialect (Counting zero) (flags ns ∷ []) (numbers ns ∷ [])
+  counted : (n more total : ℕ) → suc n + more ≡ total → (ns : List ℕ) → Fit dialect (total ∷ ns) → Owes dialect (Counting (suc n)) (elements more (T ∷ flags ns) ∷ []) (numbers (total ∷ ns) ∷ [])
+  due : (number : ℤ) {i o : Columns} → Owes dialect (Counting zero) i o → Owes dialect (Due number) i (push_column 0 (int number) o)
 
-before_element : (n : ℕ) (i o : Columns) → Owes (Counting (one_more n)) i o → Owes (Counting n) (push_column 0 F i) o
-before_element zero _ _ (counted _ more total e ns h) =
+before_element : (dialect : Dialect) (n : ℕ) (i o : Columns) → Owes dialect (Counting (one_more dialect n)) i o → Owes dialect (Counting n) (push_column 0 F i) o
+before_element dialect zero _ _ (counted _ more total e ns h) =
     let same : total ≡ suc more = omega arith in
-    subst (λ k. Owes (Counting zero) (elements k (T ∷ flags ns) ∷ []) (numbers (total ∷ ns) ∷ [])) same (start (total ∷ ns) h)
-before_element (suc n) _ _ (counted _ more total e ns h) =
-    counted n (suc more) total (counted_back (suc n) more total greatest_integer e (at_most total (All-head (λ n. IsInteger (pos n)) total ns h))) ns h
+    subst (λ k. Owes dialect (Counting zero) (elements k (T ∷ flags ns) ∷ []) (numbers (total ∷ ns) ∷ [])) same (start (total ∷ ns) h)
+before_element dialect (suc n) _ _ (counted _ more total e ns h) =
+    counted n (suc more) total (counted_back (suc n) more total (greatest_integer dialect) e (at_most dialect total (All-head (λ n. IsInteger dialect (pos n)) total ns h))) ns h
 
-before_end : (n : ℕ) (i o : Columns) → IsInteger (pos n) → Owes (Due (pos n)) i o → Owes (Counting n) (push_column 0 T i) o
-before_end zero _ _ fits (due _ (start ns h)) = start (zero ∷ ns) (All-cons (λ n. IsInteger (pos n)) zero ns fits h)
-before_end (suc n) _ _ fits (due _ (start ns h)) = counted n zero (suc n) (omega arith) ns (All-cons (λ n. IsInteger (pos n)) (suc n) ns fits h)
+before_end : (dialect : Dialect) (n : ℕ) (i o : Columns) → IsInteger dialect (pos n) → Owes dialect (Due (pos n)) i o → Owes dialect (Counting n) (push_column 0 T i) o
+before_end dialect zero _ _ fits (due _ (start ns h)) = start (zero ∷ ns) (All-cons (λ n. IsInteger dialect (pos n)) zero ns fits h)
+before_end dialect (suc n) _ _ fits (due _ (start ns h)) = counted n zero (suc n) (omega arith) ns (All-cons (λ n. IsInteger dialect (pos n)) (suc n) ns fits h)
 
-ended : (n : ℕ) (i o : Columns) → OnNext (length_ended n) (λ next. Owes next i o) → Owes (Counting n) (push_column 0 T i) o
-ended n i o h = let g = ended_from n (λ next. Owes next i o) h in before_end n i o g.0 g.1
+ended : (dialect : Dialect) (n : ℕ) (i o : Columns) → OnNext (length_ended dialect n) (λ next. Owes dialect next i o) → Owes dialect (Counting n) (push_column 0 T i) o
+ended dialect n i o h = let g = ended_from dialect n (λ next. Owes dialect next i o) h in before_end dialect n i o g.0 g.1
 
-earlier : (s : Length) (x : Cell) (i o : Columns) → Then (λ next. Owes next i o) (length_move s) x → Owes s (reading (length_move s) x i) (writing (length_move s) o)
-earlier (Counting zero) (flag false) i o h = before_element zero i o h
-earlier (Counting zero) (flag true) i o h = ended zero i o h
-earlier (Counting (suc n)) (flag false) i o h = before_element (suc n) i o h
-earlier (Counting (suc n)) (flag true) i o h = ended (suc n) i o h
-earlier (Due number) _ _ _ o = due number o
-earlier (Counting zero) _ _ _ h = absurd h
-earlier (Counting (suc n)) _ _ _ h = absurd h
+earlier : (dialect : Dialect) (s : Count) (x : Cell) (i o : Columns) → Then (λ next. Owes dialect next i o) (length_move dialect s) x → Owes dialect s (reading (length_move dialect s) x i) (writing (length_move dialect s) o)
+earlier dialect (Counting zero) (flag false) i o h = before_element dialect zero i o h
+earlier dialect (Counting zero) (flag true) i o h = ended dialect zero i o h
+earlier dialect (Counting (suc n)) (flag false) i o h = before_element dialect (suc n) i o h
+earlier dialect (Counting (suc n)) (flag true) i o h = ended dialect (suc n) i o h
+earlier dialect (Due number) _ _ _ o = due number o
+earlier dialect (Counting zero) _ _ _ h = absurd h
+earlier dialect (Counting (suc n)) _ _ _ h = absurd h
 
-row_of : {f r : List Cell} → Owes (Counting zero) (f ∷ []) (r ∷ []) → LengthRow f r
+row_of : {dialect : Dialect} {f r : List Cell} → Owes dialect (Counting zero) (f ∷ []) (r ∷ []) → LengthRow dialect f r
 row_of (start ns h) = record { ns = ns; f_is = refl; in_range = h; r_is = refl }
 
 pub length_laws : MachineLaws length_machine
 length_laws = record {
-  sound = λ _. sound;
+  sound = sound;
   begins_at_start = λ _. refl;
   starts_of_kind = λ _. tt;
-  rows = λ _ i o. (
-    λ row. subst₂ (Does (Counting zero)) (sym row.f_is) (sym row.r_is) (runs row.ns row.in_range),
-    λ r. row_of (run_is length_machine tt Owes sound (start [] (All-nil (λ n. IsInteger (pos n)))) earlier (Counting zero) (columns 1 i) (columns 1 o) r),
+  rows = λ dialect i o. (
+    λ row. subst₂ (Does dialect (Counting zero)) (sym row.f_is) (sym row.r_is) (runs dialect row.ns row.in_range),
+    λ r. row_of (run_is length_machine dialect (Owes dialect) (sound dialect) (start [] (All-nil (λ n. IsInteger dialect (pos n)))) (earlier dialect) (Counting zero) (columns 1 i) (columns 1 o) r),
   );
 }
 

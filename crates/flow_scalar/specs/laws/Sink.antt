@@ -13,7 +13,7 @@ use Rattle.flow_base.specs.declared.node.Node.{Node}
 use Rattle.flow_scalar.specs.declared.sink.Sink.{Sink}
 
 sound : (kind : Kind) (s : Unit {0}) → SoundAt sink_machine kind s (sink_move kind s)
-sound kind s = (refl, (omega arith, refl, λ _ _ _. tt, λ _ _ _ _ _. tt))
+sound kind s = (refl, (omega arith, refl, λ _ _ _. tt, λ _ _ _ _ _ _. tt))
 
 runs : (kind : Kind) (a : List Cell) → AllOf kind a → Runs sink_machine kind tt (a ∷ []) []
 runs kind [] h = (zero, (refl, refl))

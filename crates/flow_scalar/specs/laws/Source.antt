@@ -4,6 +4,7 @@ use Rattle.std.specs.List.{slice_get}
 use Rattle.std.proofs.Common.{arith, sym, ◌∙◌, ap}
 use Rattle.std.proofs.Math.Path.{ap₂}
 use Rattle.std.proofs.lemmas.Option.{slice_get_within}
+use Rattle.snesl_values.specs.declared.dialect.Dialect.{Dialect}
 use Rattle.flow_edges.specs.Cells.{Cell, is_of}
 use Rattle.flow_edges.specs.Signals.{Signal, carry, stop}
 use Rattle.flow_edges.specs.declared.message.Kind.{Kind}
@@ -62,10 +63,10 @@ of_kind_at kind (y ∷ xs) zero x h e = let same : y ≡ x = cc in ap (is_of kin
 of_kind_at kind (y ∷ xs) (suc n) x h e = of_kind_at kind xs n x h.1 e
 
 -- an item lies in the range where all do
-in_range_at : (xs : List Cell) (n : ℕ) (x : Cell) → SignalsInRange (closed xs) → slice_get xs n ≡ Some x → CellInRange x
-in_range_at [] n x h e = absurd (cc)
-in_range_at (y ∷ xs) zero x h e = let same : y ≡ x = cc in rw (sym same) h.0
-in_range_at (y ∷ xs) (suc n) x h e = in_range_at xs n x h.1 e
+in_range_at : (dialect : Dialect) (xs : List Cell) (n : ℕ) (x : Cell) → SignalsInRange dialect (closed xs) → slice_get xs n ≡ Some x → CellInRange dialect x
+in_range_at dialect [] n x h e = absurd (cc)
+in_range_at dialect (y ∷ xs) zero x h e = let same : y ≡ x = cc in rw (sym same) h.0
+in_range_at dialect (y ∷ xs) (suc n) x h e = in_range_at dialect xs n x h.1 e
 
 -- the next write: of the item at this place, or of the end
 writes : (items : Items) (n : ℕ) (next : Option Cell) → slice_get items.cells n ≡ next → KeepsWrite source_behaviour promise (sending items n) 0
@@ -79,7 +80,7 @@ writes items n None e = record {
   still_in = λ k h. h;
   still_out = λ k h. rw e refl;
   of_kind = λ h. rw e (tt, tt);
-  in_range = λ h range. rw e (tt, range);
+  in_range = λ dialect h range. rw e (tt, range);
 }
 writes items n (Some x) e = record {
   port = omega arith;
@@ -91,7 +92,7 @@ writes items n (Some x) e = record {
   still_in = λ k h. h;
   still_out = λ k h. absurd (cc);
   of_kind = λ h. rw e (of_kind_at items.kind items.cells n x items.all_of e, tt);
-  in_range = λ h range. rw e (in_range_at items.cells n x range e, range);
+  in_range = λ dialect h range. rw e (in_range_at dialect items.cells n x range e, range);
 }
 
 each : (s : SourceState) → Keeps source_behaviour promise s (source_want s)

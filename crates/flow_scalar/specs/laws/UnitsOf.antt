@@ -12,8 +12,8 @@ use Rattle.flow_base.specs.declared.node.Node.{Node}
 use Rattle.flow_scalar.specs.declared.units_of.UnitsOf.{UnitsOf}
 
 sound : (s : Bool) → SoundAt units_of_machine tt s (units_of_move s)
-sound false = (refl, (omega arith, refl, λ _. (tt, tt), λ _ _. (tt, tt)))
-sound true = (omega arith, omega arith, λ _. (refl, tt), λ _ _. (tt, tt))
+sound false = (refl, (omega arith, refl, λ _. (tt, tt), λ _ _ _. (tt, tt)))
+sound true = (omega arith, omega arith, λ _. (refl, tt), λ _ _ _. (tt, tt))
 
 runs : (bs : List Bool) → Runs units_of_machine tt false (units_of_reads bs) (units_of_writes bs)
 runs [] = (zero, (refl, refl))

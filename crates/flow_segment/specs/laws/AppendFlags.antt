@@ -14,12 +14,12 @@ use Rattle.flow_segment.specs.declared.append_flags.AppendFlagsStage.{AppendFlag
 use Rattle.flow_segment.specs.declared.append_flags.AppendFlagsStage.TheVariants.{Start, First, Second, FirstElement, SecondElement, End}
 
 sound : (s : AppendFlagsStage) → SoundAt append_flags_machine tt s (append_flags_move s)
-sound Start = (refl, (omega arith, refl, λ _. (tt, tt), λ _ _. (tt, tt)))
-sound First = (omega arith, refl, λ _. (tt, tt), λ _ _. (tt, tt))
-sound Second = (omega arith, refl, λ _. (tt, tt), λ _ _. (tt, tt))
-sound FirstElement = (omega arith, omega arith, λ _. (refl, tt), λ _ _. (tt, tt))
-sound SecondElement = (omega arith, omega arith, λ _. (refl, tt), λ _ _. (tt, tt))
-sound End = (omega arith, omega arith, λ _. (refl, tt), λ _ _. (tt, tt))
+sound Start = (refl, (omega arith, refl, λ _. (tt, tt), λ _ _ _. (tt, tt)))
+sound First = (omega arith, refl, λ _. (tt, tt), λ _ _ _. (tt, tt))
+sound Second = (omega arith, refl, λ _. (tt, tt), λ _ _ _. (tt, tt))
+sound FirstElement = (omega arith, omega arith, λ _. (refl, tt), λ _ _ _. (tt, tt))
+sound SecondElement = (omega arith, omega arith, λ _. (refl, tt), λ _ _ _. (tt, tt))
+sound End = (omega arith, omega arith, λ _. (refl, tt), λ _ _ _. (tt, tt))
 
 -- the flags of the first segments, and of the second ones
 abbrev firsts : List (ℕ × ℕ) → List Cell

@@ -13,11 +13,11 @@ use Rattle.flow_segment.specs.declared.concat_flags.ConcatFlagsStage.{ConcatFlag
 use Rattle.flow_segment.specs.declared.concat_flags.ConcatFlagsStage.TheVariants.{Start, Outer, Inner, Element, End}
 
 sound : (s : ConcatFlagsStage) → SoundAt concat_flags_machine tt s (concat_flags_move s)
-sound Start = (refl, (omega arith, refl, λ _. (tt, tt), λ _ _. (tt, tt)))
-sound Outer = (omega arith, refl, λ _. (tt, tt), λ _ _. (tt, tt))
-sound Inner = (omega arith, refl, λ _. (tt, tt), λ _ _. (tt, tt))
-sound Element = (omega arith, omega arith, λ _. (refl, tt), λ _ _. (tt, tt))
-sound End = (omega arith, omega arith, λ _. (refl, tt), λ _ _. (tt, tt))
+sound Start = (refl, (omega arith, refl, λ _. (tt, tt), λ _ _ _. (tt, tt)))
+sound Outer = (omega arith, refl, λ _. (tt, tt), λ _ _ _. (tt, tt))
+sound Inner = (omega arith, refl, λ _. (tt, tt), λ _ _ _. (tt, tt))
+sound Element = (omega arith, omega arith, λ _. (refl, tt), λ _ _ _. (tt, tt))
+sound End = (omega arith, omega arith, λ _. (refl, tt), λ _ _ _. (tt, tt))
 
 abbrev Does : ConcatFlagsStage → List Cell → List Cell → List Cell → Type 0
 Does s f g h = Runs concat_flags_machine tt s (f ∷ g ∷ []) (h ∷ [])

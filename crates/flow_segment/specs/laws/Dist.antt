@@ -15,9 +15,9 @@ use Rattle.flow_base.specs.declared.node.Node.{Node}
 use Rattle.flow_segment.specs.declared.dist.Dist.{Dist}
 
 sound : (k : Kind) (s : Step) → SoundAt dist_machine k s (dist_move k s)
-sound k at_start = (refl, (omega arith, refl, λ _ x e. e, λ _ _ x e h. h))
-sound k (at_flag x) = (omega arith, refl, λ h. (h, tt), λ _ h. (h, tt))
-sound k (at_copy x) = (omega arith, omega arith, λ h. (h, h), λ _ h. (h, h))
+sound k at_start = (refl, (omega arith, refl, λ _ x e. e, λ _ _ _ x e h. h))
+sound k (at_flag x) = (omega arith, refl, λ h. (h, tt), λ _ _ h. (h, tt))
+sound k (at_copy x) = (omega arith, omega arith, λ h. (h, h), λ _ _ h. (h, h))
 
 abbrev Does : Kind → Step → List Cell → List Cell → List Cell → Type 0
 Does k s a f r = Runs dist_machine k s (a ∷ f ∷ []) (r ∷ [])

@@ -13,9 +13,9 @@ use Rattle.flow_segment.specs.declared.flag_of_bool.FlagOfBoolStage.{FlagOfBoolS
 use Rattle.flow_segment.specs.declared.flag_of_bool.FlagOfBoolStage.TheVariants.{Start, Element, End}
 
 sound : (s : FlagOfBoolStage) → SoundAt flag_of_bool_machine tt s (flag_of_bool_move s)
-sound Start = (refl, (omega arith, refl, λ _. (tt, tt), λ _ _. (tt, tt)))
-sound Element = (omega arith, omega arith, λ _. (refl, tt), λ _ _. (tt, tt))
-sound End = (omega arith, omega arith, λ _. (refl, tt), λ _ _. (tt, tt))
+sound Start = (refl, (omega arith, refl, λ _. (tt, tt), λ _ _ _. (tt, tt)))
+sound Element = (omega arith, omega arith, λ _. (refl, tt), λ _ _ _. (tt, tt))
+sound End = (omega arith, omega arith, λ _. (refl, tt), λ _ _ _. (tt, tt))
 
 runs : (truths : List Bool) → Runs flag_of_bool_machine tt Start (flag_of_bool_reads truths) (flag_of_bool_writes truths)
 runs [] = (zero, (refl, refl))

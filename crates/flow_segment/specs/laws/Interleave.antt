@@ -18,13 +18,13 @@ use Rattle.flow_base.specs.declared.node.Node.{Node}
 use Rattle.flow_segment.specs.declared.interleave.Interleave.{Interleave}
 
 sound : (k : Kind) (s : Step) → SoundAt interleave_machine k s (interleave_move k s)
-sound k at_start = (refl, (omega arith, refl, λ _. (tt, tt), λ _ _. (tt, tt)))
-sound k (at_flag Left) = (omega arith, refl, λ _. (tt, tt), λ _ _. (tt, tt))
-sound k (at_flag Right) = (omega arith, refl, λ _. (tt, tt), λ _ _. (tt, tt))
-sound k (at_item Left) = (omega arith, refl, λ _ x e. e, λ _ _ x e range. range)
-sound k (at_item Right) = (omega arith, refl, λ _ x e. e, λ _ _ x e range. range)
-sound k (at_copy Left x) = (omega arith, omega arith, λ h. (h, tt), λ _ h. (h, tt))
-sound k (at_copy Right x) = (omega arith, omega arith, λ h. (h, tt), λ _ h. (h, tt))
+sound k at_start = (refl, (omega arith, refl, λ _. (tt, tt), λ _ _ _. (tt, tt)))
+sound k (at_flag Left) = (omega arith, refl, λ _. (tt, tt), λ _ _ _. (tt, tt))
+sound k (at_flag Right) = (omega arith, refl, λ _. (tt, tt), λ _ _ _. (tt, tt))
+sound k (at_item Left) = (omega arith, refl, λ _ x e. e, λ _ _ _ x e range. range)
+sound k (at_item Right) = (omega arith, refl, λ _ x e. e, λ _ _ _ x e range. range)
+sound k (at_copy Left x) = (omega arith, omega arith, λ h. (h, tt), λ _ _ h. (h, tt))
+sound k (at_copy Right x) = (omega arith, omega arith, λ h. (h, tt), λ _ _ h. (h, tt))
 
 abbrev Does : Kind → Step → List Cell → List Cell → List Cell → List Cell → List Cell → Type 0
 Does k s f g a b r = Runs interleave_machine k s (f ∷ g ∷ a ∷ b ∷ []) (r ∷ [])

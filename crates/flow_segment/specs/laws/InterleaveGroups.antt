@@ -13,15 +13,15 @@ use Rattle.flow_segment.specs.declared.interleave_groups.InterleaveGroupsStage.{
 use Rattle.flow_segment.specs.declared.interleave_groups.InterleaveGroupsStage.TheVariants.{Start, Left, LeftGroup, LeftElement, LeftEnd, Right, RightGroup, RightElement, RightEnd}
 
 sound : (s : InterleaveGroupsStage) → SoundAt interleave_groups_machine tt s (interleave_groups_move s)
-sound Start = (refl, (omega arith, refl, λ _. (tt, tt), λ _ _. (tt, tt)))
-sound Left = (omega arith, refl, λ _. (tt, tt), λ _ _. (tt, tt))
-sound LeftGroup = (omega arith, refl, λ _. (tt, tt), λ _ _. (tt, tt))
-sound LeftElement = (omega arith, omega arith, λ _. (refl, tt), λ _ _. (tt, tt))
-sound LeftEnd = (omega arith, omega arith, λ _. (refl, tt), λ _ _. (tt, tt))
-sound Right = (omega arith, refl, λ _. (tt, tt), λ _ _. (tt, tt))
-sound RightGroup = (omega arith, refl, λ _. (tt, tt), λ _ _. (tt, tt))
-sound RightElement = (omega arith, omega arith, λ _. (refl, tt), λ _ _. (tt, tt))
-sound RightEnd = (omega arith, omega arith, λ _. (refl, tt), λ _ _. (tt, tt))
+sound Start = (refl, (omega arith, refl, λ _. (tt, tt), λ _ _ _. (tt, tt)))
+sound Left = (omega arith, refl, λ _. (tt, tt), λ _ _ _. (tt, tt))
+sound LeftGroup = (omega arith, refl, λ _. (tt, tt), λ _ _ _. (tt, tt))
+sound LeftElement = (omega arith, omega arith, λ _. (refl, tt), λ _ _ _. (tt, tt))
+sound LeftEnd = (omega arith, omega arith, λ _. (refl, tt), λ _ _ _. (tt, tt))
+sound Right = (omega arith, refl, λ _. (tt, tt), λ _ _ _. (tt, tt))
+sound RightGroup = (omega arith, refl, λ _. (tt, tt), λ _ _ _. (tt, tt))
+sound RightElement = (omega arith, omega arith, λ _. (refl, tt), λ _ _ _. (tt, tt))
+sound RightEnd = (omega arith, omega arith, λ _. (refl, tt), λ _ _ _. (tt, tt))
 
 abbrev Does : InterleaveGroupsStage → List Cell → List Cell → List Cell → List Cell → List Cell → Type 0
 Does s f g p q r = Runs interleave_groups_machine tt s (f ∷ g ∷ p ∷ q ∷ []) (r ∷ [])

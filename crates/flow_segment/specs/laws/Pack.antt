@@ -14,10 +14,10 @@ use Rattle.flow_base.specs.declared.node.Node.{Node}
 use Rattle.flow_segment.specs.declared.pack.Pack.{Pack}
 
 sound : (k : Kind) (s : Step) → SoundAt pack_machine k s (pack_move k s)
-sound k at_start = (refl, (omega arith, refl, λ _. (tt, tt), λ _ _. (tt, tt)))
-sound k (at_item true) = (omega arith, refl, λ _ x e. e, λ _ _ x e range. range)
-sound k (at_item false) = (omega arith, refl, λ _ x e. tt, λ _ _ x e range. tt)
-sound k (at_copy x) = (omega arith, omega arith, λ h. (h, tt), λ _ h. (h, tt))
+sound k at_start = (refl, (omega arith, refl, λ _. (tt, tt), λ _ _ _. (tt, tt)))
+sound k (at_item true) = (omega arith, refl, λ _ x e. e, λ _ _ _ x e range. range)
+sound k (at_item false) = (omega arith, refl, λ _ x e. tt, λ _ _ _ x e range. tt)
+sound k (at_copy x) = (omega arith, omega arith, λ h. (h, tt), λ _ _ h. (h, tt))
 
 runs : (k : Kind) (xs : Pairs) → AllOf k (pair_items xs) → Runs pack_machine k at_start (pack_reads xs) (items_kept xs ∷ [])
 runs k [] h = (zero, (refl, refl))

@@ -13,11 +13,11 @@ use Rattle.flow_segment.specs.declared.pack_groups.PackGroupsStage.{PackGroupsSt
 use Rattle.flow_segment.specs.declared.pack_groups.PackGroupsStage.TheVariants.{Start, Flag, Element, End}
 
 sound : (s : PackGroupsStage) → SoundAt pack_groups_machine tt s (pack_groups_move s)
-sound Start = (refl, (omega arith, refl, λ _. (tt, tt), λ _ _. (tt, tt)))
-sound (Flag true) = (omega arith, refl, λ _. (tt, tt), λ _ _. (tt, tt))
-sound (Flag false) = (omega arith, refl, λ _. (tt, tt), λ _ _. (tt, tt))
-sound Element = (omega arith, omega arith, λ _. (refl, tt), λ _ _. (tt, tt))
-sound End = (omega arith, omega arith, λ _. (refl, tt), λ _ _. (tt, tt))
+sound Start = (refl, (omega arith, refl, λ _. (tt, tt), λ _ _ _. (tt, tt)))
+sound (Flag true) = (omega arith, refl, λ _. (tt, tt), λ _ _ _. (tt, tt))
+sound (Flag false) = (omega arith, refl, λ _. (tt, tt), λ _ _ _. (tt, tt))
+sound Element = (omega arith, omega arith, λ _. (refl, tt), λ _ _ _. (tt, tt))
+sound End = (omega arith, omega arith, λ _. (refl, tt), λ _ _ _. (tt, tt))
 
 abbrev Does : PackGroupsStage → List Cell → List Cell → List Cell → Type 0
 Does s b f g = Runs pack_groups_machine tt s (b ∷ f ∷ []) (g ∷ [])

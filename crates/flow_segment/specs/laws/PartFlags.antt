@@ -14,16 +14,16 @@ use Rattle.flow_segment.specs.declared.part_flags.PartFlagsStage.{PartFlagsStage
 use Rattle.flow_segment.specs.declared.part_flags.PartFlagsStage.TheVariants.{Start, Parted, Open, Test, Element, PartElement, Part, PartEnd, Last, End}
 
 sound : (s : PartFlagsStage) → SoundAt part_flags_machine tt s (part_flags_move s)
-sound Start = (refl, (omega arith, refl, λ _. (tt, tt), λ _ _. (tt, tt)))
-sound Parted = (omega arith, refl, λ _. (tt, tt), λ _ _. (tt, tt))
-sound Open = (omega arith, refl, λ _. (tt, tt), λ _ _. (tt, tt))
-sound Test = (omega arith, refl, λ _. (tt, tt), λ _ _. (tt, tt))
-sound Element = (omega arith, refl, λ _. (tt, tt), λ _ _. (tt, tt))
-sound PartElement = (omega arith, omega arith, λ _. (refl, tt), λ _ _. (tt, tt))
-sound Part = (omega arith, omega arith, λ _. (refl, tt), λ _ _. (tt, tt))
-sound PartEnd = (omega arith, omega arith, λ _. (refl, tt), λ _ _. (tt, tt))
-sound Last = (omega arith, refl, λ _. (tt, tt), λ _ _. (tt, tt))
-sound End = (omega arith, omega arith, λ _. (refl, tt), λ _ _. (tt, tt))
+sound Start = (refl, (omega arith, refl, λ _. (tt, tt), λ _ _ _. (tt, tt)))
+sound Parted = (omega arith, refl, λ _. (tt, tt), λ _ _ _. (tt, tt))
+sound Open = (omega arith, refl, λ _. (tt, tt), λ _ _ _. (tt, tt))
+sound Test = (omega arith, refl, λ _. (tt, tt), λ _ _ _. (tt, tt))
+sound Element = (omega arith, refl, λ _. (tt, tt), λ _ _ _. (tt, tt))
+sound PartElement = (omega arith, omega arith, λ _. (refl, tt), λ _ _ _. (tt, tt))
+sound Part = (omega arith, omega arith, λ _. (refl, tt), λ _ _ _. (tt, tt))
+sound PartEnd = (omega arith, omega arith, λ _. (refl, tt), λ _ _ _. (tt, tt))
+sound Last = (omega arith, refl, λ _. (tt, tt), λ _ _ _. (tt, tt))
+sound End = (omega arith, omega arith, λ _. (refl, tt), λ _ _ _. (tt, tt))
 
 -- what segments read, one element at a time
 abbrev each_reads : List (List ℕ) → Columns

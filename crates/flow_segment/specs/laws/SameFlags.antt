@@ -12,9 +12,9 @@ use Rattle.flow_segment.specs.declared.same_flags.SameFlagsStage.{SameFlagsStage
 use Rattle.flow_segment.specs.declared.same_flags.SameFlagsStage.TheVariants.{Start, Second}
 
 sound : (s : SameFlagsStage) → SoundAt same_flags_machine tt s (same_flags_move s)
-sound Start = (refl, (omega arith, refl, λ _. (tt, tt), λ _ _. (tt, tt)))
-sound (Second true) = (omega arith, refl, λ _. (tt, tt), λ _ _. (tt, tt))
-sound (Second false) = (omega arith, refl, λ _. (tt, tt), λ _ _. (tt, tt))
+sound Start = (refl, (omega arith, refl, λ _. (tt, tt), λ _ _ _. (tt, tt)))
+sound (Second true) = (omega arith, refl, λ _. (tt, tt), λ _ _ _. (tt, tt))
+sound (Second false) = (omega arith, refl, λ _. (tt, tt), λ _ _ _. (tt, tt))
 
 runs : (bs : List Bool) → Runs same_flags_machine tt Start (same_flags_reads bs) []
 runs [] = (zero, (refl, refl))

@@ -13,8 +13,8 @@ use Rattle.flow_segment.specs.declared.the_check.TheCheckStage.{TheCheckStage}
 use Rattle.flow_segment.specs.declared.the_check.TheCheckStage.TheVariants.{Start, Element}
 
 sound : (s : TheCheckStage) → SoundAt the_check_machine tt s (the_check_move s)
-sound Start = (refl, (omega arith, refl, λ _. (tt, tt), λ _ _. (tt, tt)))
-sound Element = (omega arith, refl, λ _. (tt, tt), λ _ _. (tt, tt))
+sound Start = (refl, (omega arith, refl, λ _. (tt, tt), λ _ _ _. (tt, tt)))
+sound Element = (omega arith, refl, λ _. (tt, tt), λ _ _ _. (tt, tt))
 
 runs : (n : ℕ) → Runs the_check_machine tt Start (the_check_reads n) []
 runs zero = (zero, (refl, refl))

@@ -25,34 +25,34 @@ faults shape 7
 
 # Operators.
 
-node unary negate
+node unary one negate
 in 3 -2 0 .
 out -3 2 0 .
 ends
 
-node unary negate
+node unary one negate
 in 1 -9223372036854775808 .
 out -1
 faults overflow 7
 
-node unary not
+node unary one not
 in T F .
 out F T .
 ends
 
-node binary less
+node binary one less
 in 1 2 3 .
 in 2 2 2 .
 out T F F .
 ends
 
-node binary divide
+node binary one divide
 in -7 1 1 .
 in 2 0 1 .
 out -3
 faults divide 7
 
-node binary add
+node binary one add
 in 1 2 .
 in 1 .
 out 2
@@ -100,20 +100,20 @@ in F F T T F T .
 out u u u .
 ends
 
-node length
+node length one
 in F F T T F T .
 out 2 0 1 .
 ends
 
 # Scans. The last element of a segment is not added.
 
-node scan_add
+node scan_add one
 in F F F T T F T .
 in 2 1 3 9 .
 out 0 2 3 0 .
 ends
 
-node scan_add
+node scan_add one
 in F F T F F F T .
 in 9223372036854775807 1 9223372036854775807 1 1 .
 out 0 9223372036854775807 0 9223372036854775807
@@ -121,13 +121,13 @@ faults overflow 7
 
 # A scan adds with the element that the sum is written for, and not with its flag.
 
-node scan_add
+node scan_add one
 in F F F
 in 9223372036854775807 1
 out 0 9223372036854775807
 reads 1
 
-node scan_add
+node scan_add one
 in F F F
 in 9223372036854775807 1 1
 out 0 9223372036854775807
@@ -135,25 +135,25 @@ faults overflow 7
 
 # Reductions.
 
-node reduce sum
+node reduce one sum
 in F F T T F T .
 in 2 1 9 .
 out 3 0 9 .
 ends
 
-node reduce max
+node reduce one max
 in F F T T F T .
 in -2 -1 9 .
 out -1
 faults empty_max 7
 
-node reduce all
+node reduce one all
 in F F T T F T .
 in T F T .
 out F T T .
 ends
 
-node reduce any
+node reduce one any
 in F F T T F T .
 in T F F .
 out T F F .
@@ -161,13 +161,13 @@ ends
 
 # Ends within an instance, and items where an end is due.
 
-node reduce sum
+node reduce one sum
 in F .
 in 1 .
 out
 faults shape 7
 
-node reduce sum
+node reduce one sum
 in F T .
 in 1 1 .
 out 1
@@ -175,25 +175,25 @@ faults shape 7
 
 # Items of another kind at the first and at the second port.
 
-node reduce sum
+node reduce one sum
 in 3 .
 in 1 .
 out
 faults shape 7
 
-node reduce sum
+node reduce one sum
 in F T .
 in T .
 out
 faults shape 7
 
-node binary and
+node binary one and
 in T .
 in 1 .
 out
 faults shape 7
 
-node length
+node length one
 in F .
 out
 faults shape 7
@@ -205,23 +205,23 @@ in T
 out
 faults shape 7
 
-node unary negate
+node unary one negate
 in T
 out
 faults shape 7
 
-node unary not
+node unary one not
 in 1
 out
 faults shape 7
 
-node binary add
+node binary one add
 in F
 in 1
 out
 faults shape 7
 
-node binary add
+node binary one add
 in 1
 in [1]
 out
@@ -244,25 +244,206 @@ in F 1
 out u
 faults shape 7
 
-node scan_add
+node scan_add one
 in u
 in 1
 out
 faults shape 7
 
-node scan_add
+node scan_add one
 in F
 in F
 out
 faults shape 7
 
-node reduce all
+node reduce one all
 in F
 in 1
 out
 faults shape 7
 
-node length
+node length one
+in F 1
+out
+faults shape 7
+
+# Integers over 64 bits. Where nothing is computed they pass, and so they do where the value of the first dialect lies in
+# its range.
+
+node source ints -170141183460469231731687303715884105728 9223372036854775808 170141183460469231731687303715884105727
+out -170141183460469231731687303715884105728 9223372036854775808 170141183460469231731687303715884105727 .
+ends
+
+node const 170141183460469231731687303715884105727
+in u .
+out 170141183460469231731687303715884105727 .
+ends
+
+node fork int 2
+in 9223372036854775808 -170141183460469231731687303715884105728 .
+out 9223372036854775808 -170141183460469231731687303715884105728 .
+out 9223372036854775808 -170141183460469231731687303715884105728 .
+ends
+
+node sink int
+in 170141183460469231731687303715884105727 .
+ends
+
+node iota
+in -9223372036854775809
+out
+out
+faults negative_count 7
+
+node binary one less
+in 9223372036854775808 -170141183460469231731687303715884105728 .
+in 9223372036854775807 170141183460469231731687303715884105727 .
+out F T .
+ends
+
+node binary one subtract
+in 9223372036854775808 -9223372036854775809 .
+in 1 -1 .
+out 9223372036854775807 -9223372036854775808 .
+ends
+
+node reduce one max
+in F F T .
+in 9223372036854775808 170141183460469231731687303715884105727 .
+out 170141183460469231731687303715884105727 .
+ends
+
+# The least and the greatest integers of both dialects, and those beyond them.
+
+node unary one negate
+in 9223372036854775807 9223372036854775808 -9223372036854775808
+out -9223372036854775807 -9223372036854775808
+faults overflow 7
+
+node unary one negate
+in 9223372036854775809
+out
+faults overflow 7
+
+node unary two negate
+in -9223372036854775808 9223372036854775809 170141183460469231731687303715884105727 -170141183460469231731687303715884105728
+out 9223372036854775808 -9223372036854775809 -170141183460469231731687303715884105727
+faults overflow 7
+
+node binary one add
+in 9223372036854775807 -9223372036854775808 9223372036854775806 9223372036854775807
+in 0 0 1 1
+out 9223372036854775807 -9223372036854775808 9223372036854775807
+faults overflow 7
+
+node binary one add
+in -9223372036854775807 -9223372036854775808
+in -1 -1
+out -9223372036854775808
+faults overflow 7
+
+node binary two add
+in 9223372036854775807 -9223372036854775808 170141183460469231731687303715884105726 170141183460469231731687303715884105727
+in 1 -1 1 1
+out 9223372036854775808 -9223372036854775809 170141183460469231731687303715884105727
+faults overflow 7
+
+node binary two add
+in -170141183460469231731687303715884105727 -170141183460469231731687303715884105728
+in -1 -1
+out -170141183460469231731687303715884105728
+faults overflow 7
+
+node binary one multiply
+in 4611686018427387904 4611686018427387904
+in -2 2
+out -9223372036854775808
+faults overflow 7
+
+node binary two multiply
+in 4611686018427387904 9223372036854775808 9223372036854775808
+in 2 -18446744073709551616 18446744073709551616
+out 9223372036854775808 -170141183460469231731687303715884105728
+faults overflow 7
+
+node binary one divide
+in -9223372036854775808 -9223372036854775808
+in 1 -1
+out -9223372036854775808
+faults overflow 7
+
+node binary two divide
+in -9223372036854775808 -170141183460469231731687303715884105728 -170141183460469231731687303715884105728
+in -1 1 -1
+out 9223372036854775808 -170141183460469231731687303715884105728
+faults overflow 7
+
+node scan_add one
+in F F F F
+in -9223372036854775808 9223372036854775807 9223372036854775807 0
+out 0 -9223372036854775808 -1 9223372036854775806
+reads 0
+
+node scan_add one
+in F F F
+in -9223372036854775808 -1 0
+out 0 -9223372036854775808
+faults overflow 7
+
+node scan_add one
+in F F
+in 9223372036854775808 0
+out 0
+faults overflow 7
+
+node scan_add two
+in F F F F F
+in 9223372036854775807 1 170141183460469231722463931679029329919 1 0
+out 0 9223372036854775807 9223372036854775808 170141183460469231731687303715884105727
+faults overflow 7
+
+node scan_add two
+in F F F F
+in -9223372036854775808 -170141183460469231722463931679029329920 -1 0
+out 0 -9223372036854775808 -170141183460469231731687303715884105728
+faults overflow 7
+
+node reduce one sum
+in F F T F F T F F
+in 9223372036854775806 1 -9223372036854775807 -1 9223372036854775807 1
+out 9223372036854775807 -9223372036854775808
+faults overflow 7
+
+node reduce one sum
+in F
+in -9223372036854775809
+out
+faults overflow 7
+
+node reduce two sum
+in F F T F F T F F T F F
+in 9223372036854775807 1 170141183460469231731687303715884105726 1 -170141183460469231731687303715884105727 -1 170141183460469231731687303715884105727 1
+out 9223372036854775808 170141183460469231731687303715884105727 -170141183460469231731687303715884105728
+faults overflow 7
+
+node reduce two sum
+in F F
+in -170141183460469231731687303715884105728 -1
+out
+faults overflow 7
+
+node reduce two max
+in F F F T .
+in -170141183460469231731687303715884105728 170141183460469231731687303715884105727 9223372036854775807 .
+out 170141183460469231731687303715884105727 .
+ends
+
+node length two
+in F F T T F T .
+out 2 0 1 .
+ends
+
+node length two
 in F 1
 out
 faults shape 7

@@ -1,6 +1,7 @@
--- The due items of a value are of the kinds of its edges, and in the range where the value is.
+-- The due items of a value are of the kinds of its edges, and in the range of a dialect where the value is.
 use Rattle.std.specs.Prelude.{◌≡◌, ℕ, suc, ◌+◌, true, List, [], ◌∷◌, ◌++◌, length, refl}
 use Rattle.std.proofs.Common.{sym, ◌∙◌, ap, subst, arith, append_assoc, append-nil, length-append}
+use Rattle.snesl_values.specs.declared.dialect.Dialect.{Dialect}
 use Rattle.snesl_values.specs.Types.{Ty, int, bool, pair, vec, seq}
 use Rattle.snesl_values.specs.Values.{Value, Values, an_int, a_bool, a_pair, a_vec, a_seq, no_values, more_values, list_of}
 use Rattle.flow_edges.specs.Cells.{Cell, is_of}
@@ -93,44 +94,45 @@ vector_of_kind item vs are = value_of_kind (seq item) (a_seq vs) are
 
 -- Ranges.
 
-both_in_range : (ds es : List DueCell) → DuesInRange ds → DuesInRange es → DuesInRange (ds ++ es)
-both_in_range [] es h g = g
-both_in_range (d ∷ ds) es h g = (h.0, both_in_range ds es h.1 g)
+module _ (dialect : Dialect) where
+  both_in_range : (ds es : List DueCell) → DuesInRange dialect ds → DuesInRange dialect es → DuesInRange dialect (ds ++ es)
+  both_in_range [] es h g = g
+  both_in_range (d ∷ ds) es h g = (h.0, both_in_range ds es h.1 g)
 
-cell_in_range : (v : Value) → InRange v → CellInRange (cell_for v)
-cell_in_range (an_int n) h = h
-cell_in_range (a_bool b) h = tt
-cell_in_range (a_pair a b) h = h
-cell_in_range (a_vec vs) h = h
-cell_in_range (a_seq vs) h = h
+  cell_in_range : (v : Value) → InRange dialect v → CellInRange dialect (cell_for v)
+  cell_in_range (an_int n) h = h
+  cell_in_range (a_bool b) h = tt
+  cell_in_range (a_pair a b) h = h
+  cell_in_range (a_vec vs) h = h
+  cell_in_range (a_seq vs) h = h
 
-first_in_range : (v : Value) → InRange v → InRange (first_of v)
-first_in_range (a_pair a b) h = h.0
-first_in_range (an_int n) h = h
-first_in_range (a_bool b) h = h
-first_in_range (a_vec vs) h = h
-first_in_range (a_seq vs) h = h
+  first_in_range : (v : Value) → InRange dialect v → InRange dialect (first_of v)
+  first_in_range (a_pair a b) h = h.0
+  first_in_range (an_int n) h = h
+  first_in_range (a_bool b) h = h
+  first_in_range (a_vec vs) h = h
+  first_in_range (a_seq vs) h = h
 
-second_in_range : (v : Value) → InRange v → InRange (second_of v)
-second_in_range (a_pair a b) h = h.1
-second_in_range (an_int n) h = h
-second_in_range (a_bool b) h = h
-second_in_range (a_vec vs) h = h
-second_in_range (a_seq vs) h = h
+  second_in_range : (v : Value) → InRange dialect v → InRange dialect (second_of v)
+  second_in_range (a_pair a b) h = h.1
+  second_in_range (an_int n) h = h
+  second_in_range (a_bool b) h = h
+  second_in_range (a_vec vs) h = h
+  second_in_range (a_seq vs) h = h
 
-segment_in_range : (p : ℕ) (dues : Value → List DueCell) → ((v : Value) → InRange v → DuesInRange (dues v)) → (vs : Values) → AllInRange vs → DuesInRange (joined_by (element_dues p dues) (list_of vs) ++ (due p T ∷ []))
-segment_in_range p dues each no_values h = (tt, tt)
-segment_in_range p dues each (more_values v vs) h =
-    let others = joined_by (element_dues p dues) (list_of vs) in
-    (tt, subst DuesInRange (sym (append_assoc (dues v) others (due p T ∷ []))) (both_in_range (dues v) (others ++ (due p T ∷ [])) (each v h.0) (segment_in_range p dues each vs h.1)))
+  segment_in_range : (p : ℕ) (dues : Value → List DueCell) → ((v : Value) → InRange dialect v → DuesInRange dialect (dues v)) → (vs : Values) → AllInRange dialect vs → DuesInRange dialect (joined_by (element_dues p dues) (list_of vs) ++ (due p T ∷ []))
+  segment_in_range p dues each no_values h = (tt, tt)
+  segment_in_range p dues each (more_values v vs) h =
+      let others = joined_by (element_dues p dues) (list_of vs) in
+      (tt, subst (DuesInRange dialect) (sym (append_assoc (dues v) others (due p T ∷ []))) (both_in_range (dues v) (others ++ (due p T ∷ [])) (each v h.0) (segment_in_range p dues each vs h.1)))
 
--- the items of a value in the range
-pub value_in_range : (ty : Ty) (p : ℕ) (v : Value) → InRange v → DuesInRange (dues_of ty p v)
-value_in_range int p v h = (cell_in_range v h, tt)
-value_in_range bool p v h = (cell_in_range v h, tt)
-value_in_range (vec item) p v h = (cell_in_range v h, tt)
-value_in_range (pair first second) p v h =
-    both_in_range (dues_of first p (first_of v)) (dues_of second (p + width first) (second_of v)) (value_in_range first p (first_of v) (first_in_range v h)) (value_in_range second (p + width first) (second_of v) (second_in_range v h))
-value_in_range (seq item) p (a_vec vs) h = segment_in_range p (λ e. dues_of item (p + 1) e) (value_in_range item (p + 1)) vs h
-value_in_range (seq item) p (a_seq vs) h = segment_in_range p (λ e. dues_of item (p + 1) e) (value_in_range item (p + 1)) vs h
-value_in_range (seq item) p _ h = (tt, tt)
+  -- the items of a value in the range
+  pub value_in_range : (ty : Ty) (p : ℕ) (v : Value) → InRange dialect v → DuesInRange dialect (dues_of ty p v)
+  value_in_range int p v h = (cell_in_range v h, tt)
+  value_in_range bool p v h = (cell_in_range v h, tt)
+  value_in_range (vec item) p v h = (cell_in_range v h, tt)
+  value_in_range (pair first second) p v h =
+      both_in_range (dues_of first p (first_of v)) (dues_of second (p + width first) (second_of v)) (value_in_range first p (first_of v) (first_in_range v h)) (value_in_range second (p + width first) (second_of v) (second_in_range v h))
+  value_in_range (seq item) p (a_vec vs) h = segment_in_range p (λ e. dues_of item (p + 1) e) (value_in_range item (p + 1)) vs h
+  value_in_range (seq item) p (a_seq vs) h = segment_in_range p (λ e. dues_of item (p + 1) e) (value_in_range item (p + 1)) vs h
+  value_in_range (seq item) p _ h = (tt, tt)

@@ -2,6 +2,7 @@
 use Rattle.std.specs.Prelude.{◌≡◌, ℕ, zero, suc, ◌<◌, ℤ, pos, negsuc, Bool, true, false, cond, List, [], ◌∷◌, Option, Some, None, map, Ok, Err, refl}
 use Rattle.std.specs.List.{slice_get}
 use Rattle.std.proofs.Common.{arith, sym, ◌∙◌, ap, subst}
+use Rattle.snesl_values.specs.declared.dialect.Dialect.{Dialect}
 use Rattle.snesl_values.specs.declared.fault.FaultKind.TheVariants.{Shape}
 use Rattle.snesl_values.specs.Types.{Ty}
 use Rattle.snesl_values.specs.Values.{Value, Values, a_vec, no_values, more_values, list_of}
@@ -38,15 +39,6 @@ pub element_is : (item : Ty) (vs : Values) (n : ℤ) (e : Value) → element_at 
 element_is item vs (pos n) e found are = place_is item vs n e found are
 element_is item vs (negsuc n) e found are = absurd (cc)
 
-place_in_range : (vs : Values) (n : ℕ) (e : Value) → slice_get (list_of vs) n ≡ Some e → AllInRange vs → InRange e
-place_in_range no_values n e found fits = absurd (cc)
-place_in_range (more_values v vs) zero e found fits = let same : v ≡ e = cc in subst InRange same fits.0
-place_in_range (more_values v vs) (suc n) e found fits = place_in_range vs n e found fits.1
-
-element_in_range : (vs : Values) (n : ℤ) (e : Value) → element_at vs n ≡ Some e → AllInRange vs → InRange e
-element_in_range vs (pos n) e found fits = place_in_range vs n e found fits
-element_in_range vs (negsuc n) e found fits = absurd (cc)
-
 kept : (item : Ty) (x : Cell) → is_of VecKind x ≡ true → OfNext (vector_given item x) (index_of_kind item)
 kept item (datum (a_vec vs)) e = go (all_are item vs) refl
   where
@@ -55,26 +47,36 @@ kept item (datum (a_vec vs)) e = go (all_are item vs) refl
     go false are = tt
 kept item _ e = tt
 
-ranged : (item : Ty) (x : Cell) → is_of VecKind x ≡ true → CellInRange x → OfNext (vector_given item x) index_in_range
-ranged item (datum (a_vec vs)) e h = go (all_are item vs)
-  where
-    go : (b : Bool) → OfNext (cond b (Ok (held vs)) (Err Shape)) index_in_range
-    go true = h
-    go false = tt
-ranged item _ e h = tt
-
 kept_element : (item : Ty) (vs : Values) (n : ℤ) (found : Option Value) → element_at vs n ≡ found → all_are item vs ≡ true → OfNext (element_given item found) (index_of_kind item)
 kept_element item vs n (Some e) found are = value_of_kind item e (element_is item vs n e found are)
 kept_element item vs n None found are = tt
 
-ranged_element : (item : Ty) (vs : Values) (n : ℤ) (found : Option Value) → element_at vs n ≡ found → AllInRange vs → OfNext (element_given item found) index_in_range
-ranged_element item vs n (Some e) found fits = value_in_range item 0 e (element_in_range vs n e found fits)
-ranged_element item vs n None found fits = tt
+module _ (dialect : Dialect) where
+  place_in_range : (vs : Values) (n : ℕ) (e : Value) → slice_get (list_of vs) n ≡ Some e → AllInRange dialect vs → InRange dialect e
+  place_in_range no_values n e found fits = absurd (cc)
+  place_in_range (more_values v vs) zero e found fits = let same : v ≡ e = cc in subst (InRange dialect) same fits.0
+  place_in_range (more_values v vs) (suc n) e found fits = place_in_range vs n e found fits.1
+
+  element_in_range : (vs : Values) (n : ℤ) (e : Value) → element_at vs n ≡ Some e → AllInRange dialect vs → InRange dialect e
+  element_in_range vs (pos n) e found fits = place_in_range vs n e found fits
+  element_in_range vs (negsuc n) e found fits = absurd (cc)
+
+  ranged : (item : Ty) (x : Cell) → is_of VecKind x ≡ true → CellInRange dialect x → OfNext (vector_given item x) (index_in_range dialect)
+  ranged item (datum (a_vec vs)) e h = go (all_are item vs)
+    where
+      go : (b : Bool) → OfNext (cond b (Ok (held vs)) (Err Shape)) (index_in_range dialect)
+      go true = h
+      go false = tt
+  ranged item _ e h = tt
+
+  ranged_element : (item : Ty) (vs : Values) (n : ℤ) (found : Option Value) → element_at vs n ≡ found → AllInRange dialect vs → OfNext (element_given item found) (index_in_range dialect)
+  ranged_element item vs n (Some e) found fits = value_in_range dialect item 0 e (element_in_range vs n e found fits)
+  ranged_element item vs n None found fits = tt
 
 sound : (item : Ty) (s : Step) → SoundAt index_machine item s (index_move item s)
-sound item (writing []) = (refl, (omega arith, refl, λ _. kept item, λ _ _. ranged item))
-sound item (held vs) = (omega arith, refl, λ are n. kept_element item vs n (element_at vs n) refl are, λ are fits n _. ranged_element item vs n (element_at vs n) refl fits)
-sound item (writing (d ∷ ds)) = (in_type item d.port, omega arith, λ h. h, λ _ h. h)
+sound item (writing []) = (refl, (omega arith, refl, λ _. kept item, λ dialect _ _. ranged dialect item))
+sound item (held vs) = (omega arith, refl, λ are n. kept_element item vs n (element_at vs n) refl are, λ dialect are fits n _. ranged_element dialect item vs n (element_at vs n) refl fits)
+sound item (writing (d ∷ ds)) = (in_type item d.port, omega arith, λ h. h, λ _ _ h. h)
 
 module _ (item : Ty) where
   abbrev vectors : List (Picked item) → List Cell

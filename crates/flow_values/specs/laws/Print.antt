@@ -193,7 +193,7 @@ module _ (ty : Ty) (text : List ℕ) (at : ℕ) where
         still_out = λ m k h. h;
         kinds = λ x e. ap (λ b. want_at (moved s (checked b (next first x others text))).step (moved s (checked b (next first x others text)))) e;
         of_kind = λ m h. tt;
-        in_range = λ m h g r. tt;
+        in_range = λ dialect m h g r. tt;
       }
 
   reads_closing : (p : ℕ) → p < width ty → KeepsRead print_behaviour promise (state (closing p)) p
@@ -210,7 +210,7 @@ module _ (ty : Ty) (text : List ℕ) (at : ℕ) where
         still_out = λ m k h. h;
         kinds = λ x e. refl;
         of_kind = λ m h. tt;
-        in_range = λ m h g r. tt;
+        in_range = λ dialect m h g r. tt;
       }
 
   lt_of : (p n : ℕ) → nat_lt p n ≡ true → p < n

@@ -1,6 +1,7 @@
 -- What Seq keeps to: its table, and its row as the runs of the table.
 use Rattle.std.specs.Prelude.{◌≡◌, suc, Bool, true, false, cond, List, [], ◌∷◌, map, Ok, Err, refl}
 use Rattle.std.proofs.Common.{arith, sym, ap, subst}
+use Rattle.snesl_values.specs.declared.dialect.Dialect.{Dialect}
 use Rattle.snesl_values.specs.declared.fault.FaultKind.TheVariants.{Shape}
 use Rattle.snesl_values.specs.Types.{Ty, vec, seq}
 use Rattle.snesl_values.specs.Values.{Value, Values, a_vec, values_of}
@@ -29,17 +30,18 @@ kept item (datum (a_vec vs)) e = go (all_are item vs) refl
     go false are = tt
 kept item _ e = tt
 
-ranged : (item : Ty) (x : Cell) → is_of VecKind x ≡ true → CellInRange x → OfNext (seq_given item x) DuesInRange
-ranged item (datum (a_vec vs)) e h = go (all_are item vs)
-  where
-    go : (b : Bool) → OfNext (cond b (Ok (dues_of (seq item) 0 (a_vec vs))) (Err Shape)) DuesInRange
-    go true = value_in_range (seq item) 0 (a_vec vs) h
-    go false = tt
-ranged item _ e h = tt
+module _ (dialect : Dialect) where
+  ranged : (item : Ty) (x : Cell) → is_of VecKind x ≡ true → CellInRange dialect x → OfNext (seq_given item x) (DuesInRange dialect)
+  ranged item (datum (a_vec vs)) e h = go (all_are item vs)
+    where
+      go : (b : Bool) → OfNext (cond b (Ok (dues_of (seq item) 0 (a_vec vs))) (Err Shape)) (DuesInRange dialect)
+      go true = value_in_range dialect (seq item) 0 (a_vec vs) h
+      go false = tt
+  ranged item _ e h = tt
 
 sound : (item : Ty) (ds : List DueCell) → SoundAt seq_machine item ds (seq_move item ds)
-sound item [] = (refl, (omega arith, refl, λ _. kept item, λ _ _. ranged item))
-sound item (d ∷ ds) = (is_output (width item) d.port, omega arith, λ h. h, λ _ h. h)
+sound item [] = (refl, (omega arith, refl, λ _. kept item, λ dialect _ _. ranged dialect item))
+sound item (d ∷ ds) = (is_output (width item) d.port, omega arith, λ h. h, λ _ _ h. h)
 
 module _ (item : Ty) where
   -- what is written: the items that are due, and then the elements of these vectors

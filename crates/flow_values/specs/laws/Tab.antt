@@ -2,6 +2,7 @@
 use Rattle.std.specs.Prelude.{◌≡◌, ℕ, zero, suc, ◌+◌, ◌<◌, Bool, true, false, List, [], ◌∷◌, ◌++◌, Some, None, cond, nat_lt, length, map, Result, Ok, Err, refl}
 use Rattle.std.proofs.Common.{arith, sym, ◌∙◌, ap, subst, append_assoc, append-nil, length-append}
 use Rattle.std.proofs.lemmas.Bool.Decides.{nat_tests}
+use Rattle.snesl_values.specs.declared.dialect.Dialect.{Dialect}
 use Rattle.snesl_values.specs.declared.fault.FaultKind.{FaultKind}
 use Rattle.snesl_values.specs.declared.fault.FaultKind.TheVariants.{Shape}
 use Rattle.snesl_values.specs.Types.{Ty, int, bool, pair, vec, seq, is_concrete}
@@ -27,59 +28,60 @@ use Rattle.flow_values.specs.laws.Edges.{at_pushed, push_columns, none_at, on_ed
 
 -- Ranges.
 
-all_in_range : (es : List Value) (e : Value) → AllInRange (values_of es) → InRange e → AllInRange (values_of (es ++ e ∷ []))
-all_in_range [] e h g = (g, tt)
-all_in_range (x ∷ es) e h g = (h.0, all_in_range es e h.1 g)
+module _ (dialect : Dialect) where
+  all_in_range : (es : List Value) (e : Value) → AllInRange dialect (values_of es) → InRange dialect e → AllInRange dialect (values_of (es ++ e ∷ []))
+  all_in_range [] e h g = (g, tt)
+  all_in_range (x ∷ es) e h g = (h.0, all_in_range es e h.1 g)
 
-cells_in_range : (xs : List Cell) (x : Cell) → CellsInRange xs → CellInRange x → CellsInRange (xs ++ x ∷ [])
-cells_in_range [] x h g = (g, tt)
-cells_in_range (y ∷ xs) x h g = (h.0, cells_in_range xs x h.1 g)
+  cells_in_range : (xs : List Cell) (x : Cell) → CellsInRange dialect xs → CellInRange dialect x → CellsInRange dialect (xs ++ x ∷ [])
+  cells_in_range [] x h g = (g, tt)
+  cells_in_range (y ∷ xs) x h g = (h.0, cells_in_range xs x h.1 g)
 
-both_in_range : (xs ys : List Cell) → CellsInRange (xs ++ ys) → CellsInRange xs × CellsInRange ys
-both_in_range [] ys h = (tt, h)
-both_in_range (x ∷ xs) ys h = let both = both_in_range xs ys h.1 in ((h.0, both.0), both.1)
+  both_in_range : (xs ys : List Cell) → CellsInRange dialect (xs ++ ys) → CellsInRange dialect xs × CellsInRange dialect ys
+  both_in_range [] ys h = (tt, h)
+  both_in_range (x ∷ xs) ys h = let both = both_in_range xs ys h.1 in ((h.0, both.0), both.1)
 
--- a value whose items lie in the range does
-parts_in_range : (ty : Ty) (v : Value) → is_a ty v ≡ true → CellsInRange (parts ty v) → InRange v
-parts_in_range int (an_int n) is h = h.0
-parts_in_range int _ is h = absurd (cc)
-parts_in_range bool (a_bool b) is h = tt
-parts_in_range bool _ is h = absurd (cc)
-parts_in_range (vec item) (a_vec vs) is h = h.0
-parts_in_range (vec item) _ is h = absurd (cc)
-parts_in_range (seq item) (a_seq vs) is h = h.0
-parts_in_range (seq item) _ is h = absurd (cc)
-parts_in_range (pair first second) (a_pair a b) is h =
-    let are = both_true (is_a first a) (is_a second b) is in
-    let both = both_in_range (parts first a) (parts second b) h in
-    (parts_in_range first a are.0 both.0, parts_in_range second b are.1 both.1)
-parts_in_range (pair first second) _ is h = absurd (cc)
+  -- a value whose items lie in the range does
+  parts_in_range : (ty : Ty) (v : Value) → is_a ty v ≡ true → CellsInRange dialect (parts ty v) → InRange dialect v
+  parts_in_range int (an_int n) is h = h.0
+  parts_in_range int _ is h = absurd (cc)
+  parts_in_range bool (a_bool b) is h = tt
+  parts_in_range bool _ is h = absurd (cc)
+  parts_in_range (vec item) (a_vec vs) is h = h.0
+  parts_in_range (vec item) _ is h = absurd (cc)
+  parts_in_range (seq item) (a_seq vs) is h = h.0
+  parts_in_range (seq item) _ is h = absurd (cc)
+  parts_in_range (pair first second) (a_pair a b) is h =
+      let are = both_true (is_a first a) (is_a second b) is in
+      let both = both_in_range (parts first a) (parts second b) h in
+      (parts_in_range first a are.0 both.0, parts_in_range second b are.1 both.1)
+  parts_in_range (pair first second) _ is h = absurd (cc)
 
-ranged_flag : (ty : Ty) (es : List Value) → AllInRange (values_of es) → OfRange tab_in_range (flag_taking ty es)
-ranged_flag ty es h = go (is_concrete ty)
-  where
-    go : (c : Bool) → OfNext (cond c (Ok (at_item es [])) (Err Shape)) tab_in_range × OfNext (cond c (Ok (at_end es)) (Err Shape)) tab_in_range
-    go true = ((h, tt), h)
-    go false = (tt, tt)
+  ranged_flag : (ty : Ty) (es : List Value) → AllInRange dialect (values_of es) → OfRange dialect (tab_in_range dialect) (flag_taking ty es)
+  ranged_flag ty es h = go (is_concrete ty)
+    where
+      go : (c : Bool) → OfNext (cond c (Ok (at_item es [])) (Err Shape)) (tab_in_range dialect) × OfNext (cond c (Ok (at_end es)) (Err Shape)) (tab_in_range dialect)
+      go true = ((h, tt), h)
+      go false = (tt, tt)
 
-ranged_closed : (ty : Ty) (es : List Value) (got : List Cell) (made : Built) → built ty got ≡ made → AllInRange (values_of es) → CellsInRange got → OfNext (closed es made) tab_in_range
-ranged_closed ty es got (Some (e, [])) made h g =
-    let are = built-is ty got e [] made in
-    all_in_range es e h (parts_in_range ty e are.0 (subst CellsInRange (are.1 ∙ append-nil (parts ty e)) g))
-ranged_closed ty es got (Some (e, y ∷ ys)) made h g = tt
-ranged_closed ty es got None made h g = tt
+  ranged_closed : (ty : Ty) (es : List Value) (got : List Cell) (made : Built) → built ty got ≡ made → AllInRange dialect (values_of es) → CellsInRange dialect got → OfNext (closed es made) (tab_in_range dialect)
+  ranged_closed ty es got (Some (e, [])) made h g =
+      let are = built-is ty got e [] made in
+      all_in_range es e h (parts_in_range ty e are.0 (subst (CellsInRange dialect) (are.1 ∙ append-nil (parts ty e)) g))
+  ranged_closed ty es got (Some (e, y ∷ ys)) made h g = tt
+  ranged_closed ty es got None made h g = tt
 
-ranged_item : (ty : Ty) (es : List Value) (got : List Cell) (x : Cell) → AllInRange (values_of es) → CellsInRange got → CellInRange x → OfNext (item_given ty es got x) tab_in_range
-ranged_item ty es got x h g r = go (nat_lt (length got) (width ty)) (part_fits ty (length got) x) (nat_lt (length all) (width ty))
-  where
-    all : List Cell
-    all = got ++ x ∷ []
+  ranged_item : (ty : Ty) (es : List Value) (got : List Cell) (x : Cell) → AllInRange dialect (values_of es) → CellsInRange dialect got → CellInRange dialect x → OfNext (item_given ty es got x) (tab_in_range dialect)
+  ranged_item ty es got x h g r = go (nat_lt (length got) (width ty)) (part_fits ty (length got) x) (nat_lt (length all) (width ty))
+    where
+      all : List Cell
+      all = got ++ x ∷ []
 
-    go : (inside fits more : Bool) → OfNext (cond inside (cond fits (cond more (Ok (at_item es all)) (closed es (built ty all))) (Err Shape)) (Err Shape)) tab_in_range
-    go true true true = (h, cells_in_range got x g r)
-    go true true false = ranged_closed ty es all (built ty all) refl h (cells_in_range got x g r)
-    go true false more = tt
-    go false fits more = tt
+      go : (inside fits more : Bool) → OfNext (cond inside (cond fits (cond more (Ok (at_item es all)) (closed es (built ty all))) (Err Shape)) (Err Shape)) (tab_in_range dialect)
+      go true true true = (h, cells_in_range got x g r)
+      go true true false = ranged_closed ty es all (built ty all) refl h (cells_in_range got x g r)
+      go true false more = tt
+      go false fits more = tt
 
 -- The table.
 
@@ -92,10 +94,10 @@ item_below ty got true e = let below : length got < width ty = grind (arith, nat
 item_below ty got false e = omega arith
 
 sound : (ty : Ty) (s : Step) → SoundAt tab_machine ty s (tab_move ty s)
-sound ty start = (refl, (omega arith, refl, λ _. (always _, always _), λ _ _. ranged_flag ty [] tt))
-sound ty (at_flag es) = (omega arith, refl, λ _. (always _, always _), λ _ h. ranged_flag ty es h)
-sound ty (at_item es got) = (item_below ty got (nat_lt (length got) (width ty)) refl, refl, λ _ x _. always _, λ _ h x _ r. ranged_item ty es got x h.0 h.1 r)
-sound ty (at_end es) = (omega arith, omega arith, λ _. (refl, tt), λ _ h. (h, tt))
+sound ty start = (refl, (omega arith, refl, λ _. (always _, always _), λ dialect _ _. ranged_flag dialect ty [] tt))
+sound ty (at_flag es) = (omega arith, refl, λ _. (always _, always _), λ dialect _ h. ranged_flag dialect ty es h)
+sound ty (at_item es got) = (item_below ty got (nat_lt (length got) (width ty)) refl, refl, λ _ x _. always _, λ dialect _ h x _ r. ranged_item dialect ty es got x h.0 h.1 r)
+sound ty (at_end es) = (omega arith, omega arith, λ _. (refl, tt), λ _ _ h. (h, tt))
 
 values_listed : (vs : Values) → values_of (list_of vs) ≡ vs
 values_listed no_values = refl
