@@ -24,3 +24,4 @@ pub mod MachineRuns
 pub mod Bodies
 pub mod Computed
 pub mod Members
+pub mod RowPorts

@@ -8,3 +8,5 @@ pub mod Looks
 pub mod Turns
 pub mod NodeEnds
 pub mod Shapes
+pub mod Flows
+pub mod Replacements

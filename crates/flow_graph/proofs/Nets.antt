@@ -17,6 +17,7 @@ use Rattle.flow_graph.specs.Tables.{ins, outs, entry_at, IsWiring}
 use Rattle.flow_graph.specs.Networks.{state_at, inputs_at, outputs_at, IsJoined, network_of, configuration_of}
 use Rattle.flow_graph.specs.Kept.{IsKept}
 use Rattle.flow_graph.specs.Graphs.{states_of, edges_of}
+use Rattle.flow_graph.specs.Laws.{IsNetwork}
 use Rattle.flow_graph.proofs.Tables.{row_inside}
 use Rattle.flow_graph.proofs.Wirings.{row_length, input_side, output_side, table_some}
 use Rattle.flow_graph.proofs.Kept.{count_inputs, count_outputs, reader_there}
@@ -59,6 +60,9 @@ module _ {X : Type 0} {t : Ghosts X} (graph : Graph X t) where
 
   pub graph_lawful : BehaviourLaws t.behaviour → AllLawful t.behaviour.process (network_of t.behaviour (states_of graph) (edges_of graph))
   graph_lawful laws = lawful_net t.behaviour (states_of graph) graph.wiring.ports.items (edges_of graph) graph.wiring.wired graph.kept graph.joined laws
+
+  pub graph_network : BehaviourLaws t.behaviour → IsNetwork t.behaviour (states_of graph) (edges_of graph)
+  graph_network laws = record { wired = graph_wired; lawful = graph_lawful laws; settles = laws.settles; end = laws.end }
 
 -- f leaves each element as it is
 map_fixed : {X : Type 0} (f : X → X) (xs : List X) → All (λ x. f x ≡ x) xs → map f xs ≡ xs

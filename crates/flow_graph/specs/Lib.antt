@@ -8,3 +8,6 @@ pub mod Steps
 pub mod Shapes
 pub mod Turns
 pub mod Laws
+pub mod Flows
+pub mod FlowTheorems
+pub mod Replacements

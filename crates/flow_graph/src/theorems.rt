@@ -2,6 +2,7 @@
 ghost use Rattle.flow_edges.specs.Ends.{View};
 ghost use Rattle.flow_graph.specs.Graphs.{states_of, edges_of};
 ghost use Rattle.flow_graph.specs.Laws.{IsNetwork, IsWithinLimits, Opens, WritesOpen};
+ghost use Rattle.flow_graph.specs.FlowTheorems.{RowsMakeAFlow, FlowHasRows, FlowIsCarried, FlowIsBegun, EndedHasFlow, FlowNeverStalls, FlowRunsToEnd, EndedIsLawful, EndedRunIsLawful, OneFlow};
 
 use crate::graph::Graph;
 use flow_base::Transducer;
@@ -20,4 +21,38 @@ pub fn graph_opens<T: Transducer>(graph: &Graph<T>)
 /// In a sound configuration no node wants to write to an edge to which End was sent.
 pub fn no_write_after_end<T: Transducer>(graph: &Graph<T>)
     ensures { (view : View) → WritesOpen T.behaviour (states_of graph.now) (edges_of graph.now) view }
+{}
+
+/// Where the nodes are in their opening states, bodies over which each node's row holds are a lawful flow. Where rows
+/// speak of the bodies at ports alone (`RowsOnPorts`), each node's row holds over the bodies of a lawful flow.
+pub fn rows_make_a_flow<T: Transducer>(graph: &Graph<T>)
+    ensures flow { RowsMakeAFlow T.behaviour (states_of graph.now) (edges_of graph.now) }
+    ensures rows { FlowHasRows T.behaviour (states_of graph.now) (edges_of graph.now) }
+{}
+
+/// A graph carries a lawful flow, on each edge the closed list of its body: these are the histories of its edges (Kahn
+/// 1974). Each sound configuration has beginnings of them and no fault, and where all nodes ended the edges carried
+/// just them.
+pub fn flow_is_carried<T: Transducer>(graph: &Graph<T>)
+    ensures carries { FlowIsCarried T.behaviour (states_of graph.now) (edges_of graph.now) }
+    ensures begins { FlowIsBegun T.behaviour (states_of graph.now) (edges_of graph.now) }
+    ensures ends { EndedHasFlow T.behaviour (states_of graph.now) (edges_of graph.now) }
+{}
+
+/// Where each edge may hold as many messages as its closed list of a lawful flow has, its end among them, a graph never
+/// stalls: it rests only where all nodes have ended, and each maximal run from the start ends so.
+pub fn flow_runs_to_end<T: Transducer>(graph: &Graph<T>)
+    ensures rest { FlowNeverStalls T.behaviour (states_of graph.now) (edges_of graph.now) }
+    ensures runs { FlowRunsToEnd T.behaviour (states_of graph.now) (edges_of graph.now) }
+{}
+
+/// Where all nodes of a graph have ended, its edges carried a lawful flow, whatever they may hold.
+pub fn ended_is_lawful<T: Transducer>(graph: &Graph<T>)
+    ensures complete { EndedIsLawful T.behaviour (states_of graph.now) (edges_of graph.now) }
+    ensures runs { EndedRunIsLawful T.behaviour (states_of graph.now) (edges_of graph.now) }
+{}
+
+/// A graph has at most one lawful flow, as a network of sequential processes has one history (Kahn 1974).
+pub fn one_flow<T: Transducer>(graph: &Graph<T>)
+    ensures { OneFlow T.behaviour (states_of graph.now) (edges_of graph.now) }
 {}
