@@ -1,0 +1,135 @@
+-- What each transducer's function makes of what is encoded: the equations that proofs on networks cite.
+use Rattle.std.specs.Prelude.{◌≡◌, ℕ, zero, suc, ◌+◌, ℤ, pos, Bool, true, false, List, [], ◌∷◌, ◌++◌, map, sum, sum_by, replicate, Some, option_map, refl}
+use Rattle.std.specs.Result.{result_ok}
+use Rattle.std.proofs.Common.{arith, sym, ◌∙◌, ap}
+use Rattle.std.proofs.lemmas.List.Sums.{sum_by-cons}
+use Rattle.snesl_values.specs.declared.dialect.Dialect.{Dialect}
+use Rattle.snesl_values.specs.Types.{Ty, vec, seq}
+use Rattle.snesl_values.specs.Values.{Value}
+use Rattle.snesl_operators.specs.Operators.{ranged, unary_value, binary_value}
+use Rattle.snesl_operators.specs.Reductions.{reduced, scanned}
+use Rattle.snesl_operators.specs.declared.scalar.Scalar.{Scalar}
+use Rattle.snesl_operators.specs.declared.operator.UnaryOperator.{UnaryOperator}
+use Rattle.snesl_operators.specs.declared.operator.BinaryOperator.{BinaryOperator}
+use Rattle.snesl_operators.specs.declared.operator.Reduction.{Reduction}
+use Rattle.flow_edges.specs.Cells.{Cell, unit, flag, datum}
+use Rattle.flow_edges.specs.declared.message.Kind.{Kind}
+use Rattle.flow_base.specs.Flags.{F, T, elements, flags, joined, lengths}
+use Rattle.flow_base.specs.Ranges.{AllOf}
+use Rattle.flow_scalar.specs.Scalars.{cell_of_scalar}
+use Rattle.flow_scalar.specs.Rows.{numbers_below, units_for}
+use Rattle.flow_segment.specs.Rows.{one_if}
+use Rattle.flow_values.specs.Shapes.{is_a}
+use Rattle.flow_rows.specs.Lists.{bind, each, paired, cut, dist, pack, interleave, concat_flags, append_flags}
+use Rattle.flow_rows.specs.Decoded.{a_seq_of}
+use Rattle.flow_rows.specs.Made.{one, scalar_cells, integer_cells, laid, source_made, const_made, unary_made, binary_made, fork_made, sink_made, iota_made, units_of_made, scan_add_made, reduce_made, length_made, dist_made, pack_made, pack_groups_made, flag_of_bool_made, same_flags_made, concat_flags_made, part_flags_made, the_check_made, append_flags_made, interleave_made, interleave_groups_made, of_one, print_made, tab_of, tab_made, seq_made, picked, index_made}
+use Rattle.flow_rows.proofs.Decoding.{numbers_forth, truths_forth, integers_forth, scalars_forth, units_forth, items_forth}
+use Rattle.flow_rows.proofs.FlagRows.{same_flags_forth, part_flags_forth, the_check_forth}
+use Rattle.flow_rows.proofs.ScalarRows.{each_natural}
+use Rattle.flow_rows.proofs.Edges.{laid_seq}
+use Rattle.flow_rows.proofs.ValueDecoding.{AllAre, elements_made, all_cons, grouped_forth, data_vectors_forth, values_forth}
+
+-- Scalars
+
+pub source_makes : (cells : List Cell) → source_made cells [] ≡ Some (cells ∷ [])
+source_makes cells = refl
+
+pub const_makes : (k : Scalar) (n : ℕ) → const_made k (replicate n unit ∷ []) ≡ Some (replicate n (cell_of_scalar k) ∷ [])
+const_makes k n = rw (units_forth n) refl
+
+pub unary_makes : (dialect : Dialect) (op : UnaryOperator) (ks : List Scalar) → unary_made dialect op (scalar_cells ks ∷ []) ≡ one scalar_cells (each (λ k. result_ok (unary_value dialect op k)) ks)
+unary_makes dialect op ks = rw (scalars_forth ks) refl
+
+pub binary_makes : (dialect : Dialect) (op : BinaryOperator) (xs ys : List Scalar) →
+    binary_made dialect op (scalar_cells xs ∷ scalar_cells ys ∷ []) ≡ one scalar_cells (bind (paired xs ys) (each (λ p. result_ok (binary_value dialect op p.0 p.1))))
+binary_makes dialect op xs ys = rw (scalars_forth xs, scalars_forth ys) refl
+
+pub fork_makes : (kind : Kind) (outputs : ℕ) (a : List Cell) → AllOf kind a → fork_made kind outputs (a ∷ []) ≡ Some (replicate outputs a)
+fork_makes kind outputs a h = rw (items_forth kind a h) refl
+
+pub sink_makes : (kind : Kind) (a : List Cell) → AllOf kind a → sink_made kind (a ∷ []) ≡ Some []
+sink_makes kind a h = rw (items_forth kind a h) refl
+
+pub iota_makes : (ns : List ℕ) → iota_made (integer_cells (map pos ns) ∷ []) ≡ Some (flags ns ∷ joined (map numbers_below ns) ∷ [])
+iota_makes ns = rw (integers_forth (map pos ns), each_natural ns) refl
+
+copies_more : (n k : ℕ) → replicate n unit ++ replicate k unit ≡ replicate (n + k) unit
+copies_more zero k = let e : k ≡ zero + k = omega arith in ap (λ k. replicate k unit) e
+copies_more (suc n) k = let e : suc (n + k) ≡ suc n + k = omega arith in ap (λ l. unit ∷ l) (copies_more n k) ∙ ap (λ k. replicate k unit) e
+
+segment_truths : (n : ℕ) (l : List Cell) (bs : List Bool) → l ≡ map flag bs → (cs : List Bool) × (elements n (T ∷ l) ≡ map flag cs) × (units_for cs ≡ replicate n unit ++ units_for bs)
+segment_truths zero l bs e = (true ∷ bs, ap (λ l. T ∷ l) e, refl)
+segment_truths (suc n) l bs e = let g = segment_truths n l bs e in (false ∷ g.0, ap (λ l. F ∷ l) g.1, ap (λ l. unit ∷ l) g.2)
+
+-- flags are truth values, and there is a Unit for each element
+pub flags_are_truths : (ns : List ℕ) → (bs : List Bool) × (flags ns ≡ map flag bs) × (units_for bs ≡ replicate (sum ns) unit)
+flags_are_truths [] = ([], refl, refl)
+flags_are_truths (n ∷ ns) =
+    let g = flags_are_truths ns in
+    let s = segment_truths n (flags ns) g.0 g.1 in
+    (s.0, s.1, s.2 ∙ ap (λ l. replicate n unit ++ l) g.2 ∙ copies_more n (sum ns) ∙ ap (λ k. replicate k unit) (sym (sum_by-cons (λ x. x) n ns)))
+
+pub units_of_makes : (ns : List ℕ) → units_of_made (flags ns ∷ []) ≡ Some (replicate (sum ns) unit ∷ [])
+units_of_makes ns = let g = flags_are_truths ns in ap (λ f. units_of_made (f ∷ [])) g.1 ∙ rw (truths_forth g.0) (ap (λ l. Some (l ∷ [])) g.2)
+
+pub scan_add_makes : (dialect : Dialect) (ns : List ℕ) (xs : List ℤ) →
+    scan_add_made dialect (flags ns ∷ integer_cells xs ∷ []) ≡ one (λ sums. joined (map integer_cells sums)) (bind (cut ns xs) (each (λ group. result_ok (scanned dialect group))))
+scan_add_makes dialect ns xs = rw (numbers_forth ns, integers_forth xs) refl
+
+pub reduce_makes : (dialect : Dialect) (reduction : Reduction) (ns : List ℕ) (xs : List Scalar) →
+    reduce_made dialect reduction (flags ns ∷ scalar_cells xs ∷ []) ≡ one scalar_cells (bind (cut ns xs) (each (λ group. result_ok (reduced dialect reduction group))))
+reduce_makes dialect reduction ns xs = rw (numbers_forth ns, scalars_forth xs) refl
+
+pub length_makes : (dialect : Dialect) (ns : List ℕ) → length_made dialect (flags ns ∷ []) ≡ one integer_cells (each (λ n. result_ok (ranged dialect (pos n))) ns)
+length_makes dialect ns = rw (numbers_forth ns) refl
+
+-- Segments
+
+pub dist_makes : (kind : Kind) (a : List Cell) (ns : List ℕ) → AllOf kind a → dist_made kind (a ∷ flags ns ∷ []) ≡ one (λ r. r) (dist ns a)
+dist_makes kind a ns h = rw (items_forth kind a h, numbers_forth ns) refl
+
+pub pack_makes : (kind : Kind) (bs : List Bool) (a : List Cell) → AllOf kind a → pack_made kind (map flag bs ∷ a ∷ []) ≡ one (λ r. r) (pack bs a)
+pack_makes kind bs a h = rw (truths_forth bs, items_forth kind a h) refl
+
+pub pack_groups_makes : (bs : List Bool) (ns : List ℕ) → pack_groups_made (map flag bs ∷ flags ns ∷ []) ≡ one flags (pack bs ns)
+pack_groups_makes bs ns = rw (truths_forth bs, numbers_forth ns) refl
+
+pub flag_of_bool_makes : (bs : List Bool) → flag_of_bool_made (map flag bs ∷ []) ≡ Some (flags (map one_if bs) ∷ [])
+flag_of_bool_makes bs = rw (truths_forth bs) refl
+
+pub same_flags_makes : (ns : List ℕ) → same_flags_made (flags ns ∷ flags ns ∷ []) ≡ Some []
+same_flags_makes ns = let g = flags_are_truths ns in ap (λ f. same_flags_made (f ∷ f ∷ [])) g.1 ∙ same_flags_forth g.0
+
+pub concat_flags_makes : (ns ms : List ℕ) → concat_flags_made (flags ns ∷ flags ms ∷ []) ≡ one flags (concat_flags ns ms)
+concat_flags_makes ns ms = rw (numbers_forth ns, numbers_forth ms) refl
+
+pub part_flags_makes : (groups : List (List ℕ)) → part_flags_made (flags (map (sum_by suc) groups) ∷ flags (joined groups) ∷ flags (map sum groups) ∷ []) ≡ Some (flags (lengths groups) ∷ flags (joined groups) ∷ [])
+part_flags_makes groups = part_flags_forth groups
+
+pub the_check_makes : (n : ℕ) → the_check_made (flags (replicate n 1) ∷ []) ≡ Some []
+the_check_makes n = the_check_forth n
+
+pub append_flags_makes : (ns ms : List ℕ) → append_flags_made (flags ns ∷ flags ms ∷ []) ≡ one flags (append_flags ns ms)
+append_flags_makes ns ms = rw (numbers_forth ns, numbers_forth ms) refl
+
+pub interleave_makes : (kind : Kind) (ns ms : List ℕ) (a b : List Cell) → AllOf kind a → AllOf kind b → interleave_made kind (flags ns ∷ flags ms ∷ a ∷ b ∷ []) ≡ one (λ r. r) (interleave ns ms a b)
+interleave_makes kind ns ms a b h g = rw (numbers_forth ns, numbers_forth ms, items_forth kind a h, items_forth kind b g) refl
+
+pub interleave_groups_makes : (ns ms ks ls : List ℕ) → interleave_groups_made (flags ns ∷ flags ms ∷ flags ks ∷ flags ls ∷ []) ≡ one flags (interleave ns ms ks ls)
+interleave_groups_makes ns ms ks ls = rw (numbers_forth ns, numbers_forth ms, numbers_forth ks, numbers_forth ls) refl
+
+-- Values of a type
+
+pub print_makes : (ty : Ty) (v : Value) → is_a ty v ≡ true → print_made ty (laid ty (v ∷ [])) ≡ Some []
+print_makes ty v is = ap (λ o. bind o of_one) (values_forth ty (v ∷ []) (all_cons ty v [] is refl))
+
+pub tab_makes : (ty : Ty) (gs : List (List Value)) → AllAre ty (joined gs) → tab_made ty (laid (seq ty) (map a_seq_of gs)) ≡ one (map datum) (each (tab_of ty) gs)
+tab_makes ty gs are =
+    ap (tab_made ty) (laid_seq ty (map a_seq_of gs) ∙ ap (λ gs. flags (lengths gs) ∷ laid ty (joined gs)) (elements_made gs))
+    ∙ rw (grouped_forth ty gs (values_forth ty (joined gs) are)) refl
+
+pub seq_makes : (item : Ty) (vs : List Value) → AllAre (vec item) vs → seq_made item (map datum vs ∷ []) ≡ Some (laid (seq item) vs)
+seq_makes item vs are = ap (option_map (laid (seq item))) (data_vectors_forth item vs are)
+
+pub index_makes : (item : Ty) (vs : List Value) (ns : List ℤ) → AllAre (vec item) vs → index_made item (map datum vs ∷ integer_cells ns ∷ []) ≡ option_map (laid item) (bind (paired vs ns) (each picked))
+index_makes item vs ns are = rw (data_vectors_forth item vs are, integers_forth ns) refl
