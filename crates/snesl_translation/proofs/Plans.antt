@@ -1,0 +1,162 @@
+-- The plan of a program means its value.
+use Rattle.std.specs.Prelude.{◌≡◌, ℕ, zero, Bool, true, ◌&&◌, List, [], ◌∷◌, ◌++◌, length, Option, Some, None, refl}
+use Rattle.std.proofs.Common.{arith, sym, ap, ◌∙◌, subst, length-append, append_assoc, append-nil}
+use Rattle.snesl_values.specs.declared.dialect.Dialect.{Dialect}
+use Rattle.snesl_values.specs.declared.fault.FaultKind.{FaultKind}
+use Rattle.snesl_values.specs.Types.{Ty, int, bool, pair, vec, seq}
+use Rattle.snesl_values.specs.Values.{Value, Values, an_int, a_bool, a_pair, a_vec, a_seq, no_values, more_values, HasType, AllHaveType}
+use Rattle.snesl_values.specs.Inputs.{Declaration, Environment, Fits}
+use Rattle.snesl_evaluation.specs.Answer.{gives, faults}
+use Rattle.snesl_evaluation.specs.Eval.{eval, no_calls, calls_of, program_value}
+use Rattle.snesl_types.specs.Contexts.{opened}
+use Rattle.snesl_types.specs.Programs.{nothing_declared}
+use Rattle.flow_edges.specs.Cells.{unit}
+use Rattle.flow_edges.specs.declared.message.Kind.{Kind}
+use Rattle.flow_base.specs.Columns.{Columns}
+use Rattle.flow_values.specs.Shapes.{is_a, all_are, kinds_of}
+use Rattle.flow_rows.specs.Lists.{bind, each}
+use Rattle.flow_rows.specs.Made.{laid, print_made}
+use Rattle.flow_rows.proofs.Edges.{laid_length}
+use Rattle.flow_rows.proofs.Encoded.{print_makes}
+use Rattle.flow_rows.proofs.ValueDecoding.{all_split, all_cons}
+use Rattle.snesl_translation.specs.Plans.{print, streams_at, run}
+use Rattle.snesl_translation.specs.Wires.{Wires, type_of_wires, numbers_of, wires_from, Bound}
+use Rattle.snesl_translation.specs.Makings.{Making, done, and_then, tested}
+use Rattle.snesl_translation.specs.FreeNames.{Names, without, free}
+use Rattle.snesl_translation.specs.Translation.{tr}
+use Rattle.snesl_translation.specs.Functions.{no_bodies, bodies_of}
+use Rattle.snesl_translation.specs.Carrying.{Carries, Controls, given_by, Makes, GoesTo}
+use Rattle.snesl_translation.specs.Meaning.{Bears}
+use Rattle.snesl_translation.specs.Theorems.{CallsMean, TypedExpressionsMean}
+use Rattle.snesl_translation.specs.Programs.{first_offset, source_steps, sourced, inputs_sourced, control_sourced, program_plan, PlansMean}
+use Rattle.snesl_translation.proofs.Carrying.{fresh, wires_type, wires_whole, tested_runs, carried_on, first_stops, rest_stops}
+use Rattle.snesl_translation.proofs.Doing.{Does, done_does, then_does}
+use Rattle.snesl_translation.proofs.Forms.{controls_on}
+use Rattle.snesl_translation.proofs.Bindings.{borne_with}
+use Rattle.snesl_translation.proofs.Calls.{functions_mean}
+
+-- a value of a type is so by its shape
+both_true : (a b : Bool) → a ≡ true → b ≡ true → a && b ≡ true
+both_true a b h k = ap (λ x. x && b) h ∙ k
+
+mutual
+  typed_is : (dialect : Dialect) (t : Ty) (v : Value) → HasType dialect v t → is_a t v ≡ true
+  typed_is dialect int (an_int n) h = refl
+  typed_is dialect bool (a_bool b) h = refl
+  typed_is dialect (pair first second) (a_pair a b) h = both_true (is_a first a) (is_a second b) (typed_is dialect first a h.0) (typed_is dialect second b h.1)
+  typed_is dialect (vec item) (a_vec vs) h = typed_are dialect item vs h
+  typed_is dialect (seq item) (a_seq vs) h = typed_are dialect item vs h
+  typed_is dialect _ _ h = absurd h
+
+  typed_are : (dialect : Dialect) (item : Ty) (vs : Values) → AllHaveType dialect vs item → all_are item vs ≡ true
+  typed_are dialect item no_values h = refl
+  typed_are dialect item (more_values v vs) h = both_true (is_a item v) (all_are item vs) (typed_is dialect item v h.0) (typed_are dialect item vs h.1)
+
+-- sources
+
+sources_run : (at : ℕ) (kinds : List Kind) (columns streams : Columns) → length columns ≡ length kinds → run (source_steps at kinds columns) streams ≡ Some (streams ++ columns)
+sources_run at [] [] streams e = ap Some (sym (append-nil streams))
+sources_run at [] (c ∷ columns) streams e = absurd (omega (arith))
+sources_run at (kind ∷ kinds) [] streams e = absurd (omega (arith))
+sources_run at (kind ∷ kinds) (c ∷ columns) streams e = sources_run at kinds columns (streams ++ (c ∷ [])) (omega (arith)) ∙ ap Some (append_assoc streams (c ∷ []) columns)
+
+sourced_does : (at : ℕ) (t : Ty) (v : Value) (streams : Columns) → is_a t v ≡ true → Does streams (sourced at t v (length streams)) (λ l w. Carries l w t (v ∷ []))
+sourced_does at t v streams is = (
+  laid t (v ∷ []),
+  sources_run at (kinds_of t) (laid t (v ∷ [])) streams (laid_length t (v ∷ [])),
+  omega (arith, length-append streams (laid t (v ∷ [])), laid_length t (v ∷ [])),
+  record { of_type = wires_type t (length streams); whole = wires_whole t (length streams); are = all_cons t v [] is refl; there = fresh t streams (laid t (v ∷ [])) (laid_length t (v ∷ [])) },
+)
+
+inputs_does : (at : ℕ) (dialect : Dialect) (declarations : List Declaration) (environment : Environment) (streams : Columns) → Fits dialect declarations environment
+    → Does streams (inputs_sourced at declarations environment (length streams)) (λ l bound. (names : Names) → Bears l bound names (opened declarations) (environment ∷ []))
+inputs_does at dialect [] environment streams fits = done_does [] streams (λ l bound. (names : Names) → Bears l bound names [] (environment ∷ [])) (λ names bytes t among is. absurd (cc))
+inputs_does at dialect (declaration ∷ declarations) [] streams fits = absurd fits
+inputs_does at dialect (declaration ∷ declarations) (entry ∷ environment) streams fits =
+    let t = declaration.1 in
+    let first = sourced_does at t entry.1 streams (typed_is dialect t entry.1 fits.1) in
+    let there = streams ++ first.0 in
+    let others = inputs_does at dialect declarations environment there fits.2 in
+    let last = there ++ others.0 in
+    let u = wires_from t (length streams) in
+    let bound = (inputs_sourced at declarations environment (length there)).given in
+    let named : ((declaration.0, entry.1) ∷ environment) ∷ [] ≡ (entry ∷ environment) ∷ [] = ap (λ n. ((n, entry.1) ∷ environment) ∷ []) (sym fits.0) in
+    let borne : (names : Names) → Bears last ((declaration.0, u) ∷ bound) names (opened (declaration ∷ declarations)) ((entry ∷ environment) ∷ []) = λ names.
+    subst (Bears last ((declaration.0, u) ∷ bound) names (opened (declaration ∷ declarations))) named
+    (borne_with last bound declaration.0 u t names (opened declarations) (environment ∷ []) (entry.1 ∷ []) refl (carried_on there others.0 u t (entry.1 ∷ []) first.3) (others.3 (without declaration.0 names))) in
+    then_does (sourced at t entry.1 (length streams)) (λ u k. and_then (inputs_sourced at declarations environment k) (λ bound k. done ((declaration.0, u) ∷ bound) k)) streams
+    (λ l w. Carries l w t (entry.1 ∷ [])) (λ l bound. (names : Names) → Bears l bound names (opened (declaration ∷ declarations)) ((entry ∷ environment) ∷ [])) first
+    (then_does (inputs_sourced at declarations environment (length there)) (λ bound k. done ((declaration.0, u) ∷ bound) k) there
+    (λ l bound. (names : Names) → Bears l bound names (opened declarations) (environment ∷ [])) (λ l bound. (names : Names) → Bears l bound names (opened (declaration ∷ declarations)) ((entry ∷ environment) ∷ [])) others
+    (done_does ((declaration.0, u) ∷ bound) last (λ l bound. (names : Names) → Bears l bound names (opened (declaration ∷ declarations)) ((entry ∷ environment) ∷ [])) borne))
+
+no_calls_mean : CallsMean [] no_calls no_bodies
+no_calls_mean streams at bytes signature us control rows is carry controls = absurd (cc)
+
+-- Print of what carries one value
+prints : (streams : Columns) (w : Wires) (t : Ty) (v : Value) → Carries streams w t (v ∷ []) → print_made (type_of_wires w) (laid t (v ∷ [])) ≡ Some []
+prints streams w t v c = ap (λ s. print_made s (laid t (v ∷ []))) c.of_type ∙ print_makes t v (all_split t v [] c.are).0
+
+pub plans_mean : TypedExpressionsMean → PlansMean
+plans_mean expressions text program declared t environment typed fits = (where_value, where_fault)
+  where
+    at : ℕ
+    at = first_offset program.expression
+
+    dialect : Dialect
+    dialect = program.dialect
+
+    value : Environment → Option Value
+    value environment = given_by (eval dialect program.expression text (calls_of dialect text program.declarations) environment)
+
+    translated : Bound → ℕ → ℕ → Making Wires
+    translated = tr dialect text (bodies_of dialect text program.declarations) program.expression
+
+    printed : Wires → ℕ → Making Wires
+    printed w k = tested at (print (type_of_wires w)) (numbers_of w) w k
+
+    behind : ℕ → ℕ → Making Wires
+    behind control k = and_then (inputs_sourced at declared.inputs environment k) (λ bound k. and_then (translated bound control k) printed)
+
+    first : Columns
+    first = (unit ∷ []) ∷ []
+
+    inputs : Does first (inputs_sourced at declared.inputs environment (length first)) (λ l bound. (names : Names) → Bears l bound names (opened declared.inputs) (environment ∷ []))
+    inputs = inputs_does at dialect declared.inputs environment first fits
+
+    there : Columns
+    there = first ++ inputs.0
+
+    bound : Bound
+    bound = (inputs_sourced at declared.inputs environment (length first)).given
+
+    goes : GoesTo there t (translated bound zero (length there)) (each value (environment ∷ []))
+    goes = expressions dialect text declared.functions (calls_of dialect text program.declarations) (bodies_of dialect text program.declarations) (opened declared.inputs) program.expression t
+        (functions_mean expressions dialect text nothing_declared declared no_calls no_bodies program.declarations no_calls_mean typed.declarations) typed.expression
+        there bound zero (environment ∷ []) (inputs.3 (free text program.expression)) (controls_on first inputs.0 zero 1 refl)
+
+    where_value : (v : Value) → program_value text program environment ≡ gives v → (streams : Columns)
+        × (run (program_plan text program declared.inputs environment).steps [] ≡ Some streams) × (streams_at (numbers_of (program_plan text program declared.inputs environment).given) streams ≡ Some (laid t (v ∷ [])))
+    where_value v is =
+        let makes : Makes there t (translated bound zero (length there)) (v ∷ []) = subst (λ a. GoesTo there t (translated bound zero (length there)) (bind (given_by a) (λ y. Some (y ∷ [])))) is goes in
+        let last = there ++ makes.0 in
+        let w = (translated bound zero (length there)).given in
+        let c = makes.3 in
+        let Holds : Columns → Wires → Type 0 = λ l w. streams_at (numbers_of w) l ≡ Some (laid t (v ∷ [])) in
+        let end : Does last (printed w (length last)) Holds = (
+          [],
+          tested_runs last at (print (type_of_wires w)) (numbers_of w) w (length last) (laid t (v ∷ [])) c.there (prints last w t v c),
+          ap length (sym (append-nil last)),
+          subst (λ l. Holds l w) (sym (append-nil last)) c.there,
+        ) in
+        let whole = then_does (control_sourced at zero) behind [] (λ l c. Controls l c 1) Holds (first, refl, refl, refl)
+        (then_does (inputs_sourced at declared.inputs environment (length first)) (λ bound k. and_then (translated bound zero k) printed) first (λ l bound. (names : Names) → Bears l bound names (opened declared.inputs) (environment ∷ [])) Holds inputs
+        (then_does (translated bound zero (length there)) printed there (λ l w. Carries l w t (v ∷ [])) Holds makes end)) in
+        (whole.0, whole.1, whole.3)
+
+    where_fault : (kind : FaultKind) (place : ℕ) → program_value text program environment ≡ faults kind place → run (program_plan text program declared.inputs environment).steps [] ≡ None
+    where_fault kind place is =
+        let stops : run (translated bound zero (length there)).steps there ≡ None = subst (λ a. GoesTo there t (translated bound zero (length there)) (bind (given_by a) (λ y. Some (y ∷ [])))) is goes in
+        rest_stops (control_sourced at zero) [] first refl refl behind
+        (rest_stops (inputs_sourced at declared.inputs environment (length first)) first inputs.0 inputs.1 inputs.2 (λ bound k. and_then (translated bound zero k) printed)
+        (first_stops (translated bound zero (length there)) printed there stops))

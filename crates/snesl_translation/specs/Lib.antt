@@ -1,0 +1,12 @@
+pub mod Plans
+pub mod Wires
+pub mod Makings
+pub mod FreeNames
+pub mod Moving
+pub mod Translation
+pub mod Carrying
+pub mod Meaning
+pub mod Sources
+pub mod Functions
+pub mod Theorems
+pub mod Programs
