@@ -18,7 +18,7 @@ use Rattle.flow_rows.proofs.Encoded.{append_flags_makes}
 use Rattle.flow_rows.proofs.ValueDecoding.{AllAre, elements_made, groups_made, list_values}
 use Rattle.snesl_evaluation.specs.Answer.{Answer, gives, go_all}
 use Rattle.snesl_evaluation.specs.Builtins.{sequence, binary_answer}
-use Rattle.snesl_translation.specs.Plans.{append_flags, streams_at}
+use Rattle.flow_plans.specs.Plans.{append_flags, streams_at}
 use Rattle.snesl_translation.specs.Wires.{Wires, segments, stream_of, item_wires}
 use Rattle.snesl_translation.specs.Makings.{done, and_then}
 use Rattle.snesl_translation.specs.Moving.{flags_stepped, mixed}

@@ -20,7 +20,7 @@ use Rattle.flow_rows.proofs.Decoding.{truths_back, flags_injective}
 use Rattle.flow_rows.proofs.FlagRows.{same_numbers, same_numbers_back}
 use Rattle.flow_rows.proofs.Encoded.{same_flags_makes}
 use Rattle.flow_rows.proofs.ValueDecoding.{list_values, elements_made}
-use Rattle.snesl_translation.specs.Plans.{Step, streams_at, run}
+use Rattle.flow_plans.specs.Plans.{Step, streams_at, run}
 use Rattle.snesl_translation.specs.Wires.{Wires, stream_of, Bound}
 use Rattle.snesl_translation.specs.Makings.{Making, done, and_then}
 use Rattle.snesl_translation.specs.FreeNames.{Names}

@@ -18,7 +18,7 @@ use Rattle.flow_rows.specs.Lists.{bind, each}
 use Rattle.flow_rows.specs.Made.{laid}
 use Rattle.flow_rows.proofs.Encoded.{const_makes}
 use Rattle.flow_rows.proofs.ValueDecoding.{AllAre, all_cons}
-use Rattle.snesl_translation.specs.Plans.{const}
+use Rattle.flow_plans.specs.Plans.{const}
 use Rattle.snesl_translation.specs.Wires.{Wires, IsSingle, Bound}
 use Rattle.snesl_translation.specs.Makings.{Making, done, and_then, stepped}
 use Rattle.snesl_translation.specs.FreeNames.{Names, is_among, without}

@@ -11,7 +11,7 @@ use Rattle.flow_base.specs.Flags.{flags}
 use Rattle.flow_rows.specs.Lists.{each, dist, pack}
 use Rattle.flow_rows.proofs.Options.{map_gives, each_forth, each_back}
 use Rattle.flow_rows.proofs.Mapped.{dist_map, pack_map}
-use Rattle.snesl_translation.specs.Plans.{streams_at}
+use Rattle.flow_plans.specs.Plans.{streams_at}
 use Rattle.snesl_translation.specs.Wires.{Bound}
 use Rattle.snesl_translation.specs.FreeNames.{Names, is_among}
 use Rattle.snesl_translation.specs.Moving.{distributed, kept, all_moved}

@@ -9,7 +9,7 @@ use Rattle.flow_edges.specs.Cells.{flag}
 use Rattle.flow_base.specs.Columns.{Columns}
 use Rattle.flow_base.specs.Flags.{flags}
 use Rattle.flow_rows.specs.Lists.{dist, pack}
-use Rattle.snesl_translation.specs.Plans.{streams_at}
+use Rattle.flow_plans.specs.Plans.{streams_at}
 use Rattle.snesl_translation.specs.Wires.{Wires, Bound}
 use Rattle.snesl_translation.specs.Makings.{Making, done, and_then}
 use Rattle.snesl_translation.specs.FreeNames.{Names, is_among, without}

@@ -15,7 +15,7 @@ use Rattle.flow_rows.specs.Lists.{bind}
 use Rattle.flow_rows.specs.Made.{laid}
 use Rattle.flow_rows.proofs.Edges.{laid_pair, laid_seq, laid_length}
 use Rattle.flow_rows.proofs.ValueDecoding.{AllAre, all_split, all_cons, all_joined, values_list}
-use Rattle.snesl_translation.specs.Plans.{Operation, made_by, streams_at, run}
+use Rattle.flow_plans.specs.Plans.{Operation, made_by, streams_at, run}
 use Rattle.snesl_translation.specs.Wires.{Wires, wire, two, segments, type_of_wires, AreWhole, IsSingle, numbers_of, wires_from, stream_of, first_wires, second_wires, item_wires}
 use Rattle.snesl_translation.specs.Makings.{Making, and_then, stepped, tested}
 use Rattle.snesl_translation.specs.Carrying.{Carries, Makes}

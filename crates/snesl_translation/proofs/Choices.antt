@@ -26,7 +26,7 @@ use Rattle.flow_rows.proofs.ValueDecoding.{elements_made}
 use Rattle.snesl_evaluation.specs.Answer.{Answer, gives, faults, go}
 use Rattle.snesl_evaluation.specs.Builtins.{truth_at}
 use Rattle.snesl_evaluation.specs.Eval.{Calls, eval}
-use Rattle.snesl_translation.specs.Plans.{unary, the_check, streams_at, run}
+use Rattle.flow_plans.specs.Plans.{unary, the_check, streams_at, run}
 use Rattle.snesl_translation.specs.Wires.{Wires, stream_of, item_wires, Bound}
 use Rattle.snesl_translation.specs.Makings.{Making, and_then, tested}
 use Rattle.snesl_translation.specs.FreeNames.{Names, free}

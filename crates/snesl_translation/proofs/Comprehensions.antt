@@ -22,7 +22,7 @@ use Rattle.flow_rows.proofs.Options.{map_map, map_joined}
 use Rattle.flow_rows.proofs.FlagRows.{same_numbers, same_numbers_back}
 use Rattle.flow_rows.proofs.Encoded.{units_of_makes}
 use Rattle.flow_rows.proofs.ValueDecoding.{elements_made, groups_made}
-use Rattle.snesl_translation.specs.Plans.{units_of, streams_at, run}
+use Rattle.flow_plans.specs.Plans.{units_of, streams_at, run}
 use Rattle.snesl_translation.specs.Wires.{Wires, segments, stream_of, item_wires, Bound}
 use Rattle.snesl_translation.specs.Makings.{Making, done, and_then}
 use Rattle.snesl_translation.specs.FreeNames.{Names, is_among, without}

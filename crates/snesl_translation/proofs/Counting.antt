@@ -27,7 +27,7 @@ use Rattle.flow_rows.proofs.Encoded.{length_makes, tab_makes, seq_makes}
 use Rattle.flow_rows.proofs.ValueDecoding.{AllAre, list_values}
 use Rattle.snesl_evaluation.specs.Answer.{Answer, gives, faults, go, go_all, answer_at}
 use Rattle.snesl_evaluation.specs.Builtins.{numbers_below, the_answer, applied}
-use Rattle.snesl_translation.specs.Plans.{iota, length_of, the_check, tab, seq_of, streams_at}
+use Rattle.flow_plans.specs.Plans.{iota, length_of, the_check, tab, seq_of, streams_at}
 use Rattle.snesl_translation.specs.Wires.{Wires, numbers_of, stream_of, first_wires, second_wires, item_wires, item_type}
 use Rattle.snesl_translation.specs.Makings.{done, stepped, tested}
 use Rattle.snesl_translation.specs.Translation.{call_streams}

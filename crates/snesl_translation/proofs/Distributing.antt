@@ -14,7 +14,7 @@ use Rattle.flow_rows.proofs.Options.{map_gives, paired_back}
 use Rattle.flow_rows.proofs.Mapped.{dist_map}
 use Rattle.flow_rows.proofs.Encoded.{dist_makes}
 use Rattle.flow_rows.proofs.ValueDecoding.{AllAre, all_split, all_cons, all_joined}
-use Rattle.snesl_translation.specs.Plans.{dist as dist_step, streams_at}
+use Rattle.flow_plans.specs.Plans.{dist as dist_step, streams_at}
 use Rattle.snesl_translation.specs.Wires.{Wires, wire, two, segments, type_of_wires, kind_of_type, IsSingle}
 use Rattle.snesl_translation.specs.Makings.{stepped}
 use Rattle.snesl_translation.specs.Moving.{distributed}

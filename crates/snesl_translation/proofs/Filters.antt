@@ -20,7 +20,7 @@ use Rattle.flow_rows.proofs.ValueDecoding.{elements_made, groups_made, list_valu
 use Rattle.snesl_evaluation.specs.Answer.{Answer, gives, faults, go}
 use Rattle.snesl_evaluation.specs.Builtins.{truth_at, sequence, seq_answer, append_answer}
 use Rattle.snesl_evaluation.specs.Eval.{kept as kept_answer}
-use Rattle.snesl_translation.specs.Plans.{const, units_of, flag_of_bool, streams_at}
+use Rattle.flow_plans.specs.Plans.{const, units_of, flag_of_bool, streams_at}
 use Rattle.snesl_translation.specs.Wires.{Wires, segments, stream_of, Bound}
 use Rattle.snesl_translation.specs.Makings.{Making, done, and_then, stepped}
 use Rattle.snesl_translation.specs.FreeNames.{Names}

@@ -9,7 +9,7 @@ use Rattle.flow_values.specs.Shapes.{elements_of}
 use Rattle.flow_rows.specs.Lists.{bind, each}
 use Rattle.flow_rows.specs.Decoded.{a_seq_of}
 use Rattle.flow_rows.proofs.ValueDecoding.{AllAre, all_cons, all_apart, all_split, elements_made, groups_made}
-use Rattle.snesl_translation.specs.Plans.{streams_at}
+use Rattle.flow_plans.specs.Plans.{streams_at}
 use Rattle.snesl_translation.specs.Wires.{Wires, segments, stream_of, item_wires}
 use Rattle.snesl_translation.specs.Carrying.{Carries}
 use Rattle.snesl_translation.proofs.Carrying.{flags_carry, items_carry, segments_carry}

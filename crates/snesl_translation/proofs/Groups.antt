@@ -27,7 +27,7 @@ use Rattle.flow_rows.proofs.Encoded.{scan_add_makes, reduce_makes, concat_flags_
 use Rattle.flow_rows.proofs.ValueDecoding.{AllAre, list_values, elements_made, groups_made}
 use Rattle.snesl_evaluation.specs.Answer.{Answer, gives, faults, go, go_all, go_join, answer_at}
 use Rattle.snesl_evaluation.specs.Builtins.{int_at, scalar_at, items_at, seq_answer, scalar_value, scalar_answer, reduce_answer, applied}
-use Rattle.snesl_translation.specs.Plans.{scan_add, reduce, concat_flags, streams_at}
+use Rattle.flow_plans.specs.Plans.{scan_add, reduce, concat_flags, streams_at}
 use Rattle.snesl_translation.specs.Wires.{Wires, segments, stream_of, item_wires}
 use Rattle.snesl_translation.specs.Makings.{done, stepped}
 use Rattle.snesl_translation.specs.Moving.{flags_stepped}

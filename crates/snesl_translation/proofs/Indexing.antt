@@ -19,7 +19,7 @@ use Rattle.flow_rows.proofs.Encoded.{index_makes}
 use Rattle.flow_rows.proofs.ValueDecoding.{AllAre, all_split, all_cons}
 use Rattle.snesl_evaluation.specs.Answer.{go_all, or_fault}
 use Rattle.snesl_evaluation.specs.Builtins.{binary_answer}
-use Rattle.snesl_translation.specs.Plans.{index, streams_at}
+use Rattle.flow_plans.specs.Plans.{index, streams_at}
 use Rattle.snesl_translation.specs.Wires.{Wires, stream_of, item_type}
 use Rattle.snesl_translation.specs.Makings.{stepped}
 use Rattle.snesl_translation.specs.Translation.{binary_streams}

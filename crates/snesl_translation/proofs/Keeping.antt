@@ -16,7 +16,7 @@ use Rattle.flow_rows.proofs.Options.{map_gives, paired_back, paired_map, lengths
 use Rattle.flow_rows.proofs.Mapped.{map_some_map, dist_map, pack_map}
 use Rattle.flow_rows.proofs.Encoded.{dist_makes, pack_makes, pack_groups_makes}
 use Rattle.flow_rows.proofs.ValueDecoding.{AllAre, all_split, all_cons}
-use Rattle.snesl_translation.specs.Plans.{dist as dist_step, pack as pack_step, pack_groups, streams_at}
+use Rattle.flow_plans.specs.Plans.{dist as dist_step, pack as pack_step, pack_groups, streams_at}
 use Rattle.snesl_translation.specs.Wires.{Wires, wire, two, segments, type_of_wires, kind_of_type, IsSingle, stream_of}
 use Rattle.snesl_translation.specs.Makings.{done, and_then, stepped}
 use Rattle.snesl_translation.specs.Moving.{flags_stepped, kept}

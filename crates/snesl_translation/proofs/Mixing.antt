@@ -16,7 +16,7 @@ use Rattle.flow_rows.proofs.Options.{cut_forth, lengths_map, interleave_forth, i
 use Rattle.flow_rows.proofs.Mapped.{cut_map, interleave_map}
 use Rattle.flow_rows.proofs.Encoded.{interleave_makes, interleave_groups_makes, concat_flags_makes}
 use Rattle.flow_rows.proofs.ValueDecoding.{AllAre, all_joined, all_apart}
-use Rattle.snesl_translation.specs.Plans.{interleave as interleave_step, interleave_groups, concat_flags as concat_step, streams_at}
+use Rattle.flow_plans.specs.Plans.{interleave as interleave_step, interleave_groups, concat_flags as concat_step, streams_at}
 use Rattle.snesl_translation.specs.Wires.{Wires, wire, two, segments, type_of_wires, kind_of_type, IsSingle, stream_of, first_wires, second_wires, item_wires}
 use Rattle.snesl_translation.specs.Makings.{done, and_then, stepped}
 use Rattle.snesl_translation.specs.Moving.{flags_stepped, mixed}

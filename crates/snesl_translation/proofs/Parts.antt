@@ -22,7 +22,7 @@ use Rattle.flow_rows.proofs.Decoding.{numbers_forth}
 use Rattle.flow_rows.proofs.ValueDecoding.{list_values, elements_made}
 use Rattle.snesl_evaluation.specs.Answer.{Answer, gives, faults, go, go_all}
 use Rattle.snesl_evaluation.specs.Builtins.{truth_at, into_first, parts_answer, applied}
-use Rattle.snesl_translation.specs.Plans.{Operation, part_flags, made_by, streams_at}
+use Rattle.flow_plans.specs.Plans.{Operation, part_flags, made_by, streams_at}
 use Rattle.snesl_translation.specs.Wires.{Wires, segments, stream_of, first_wires, second_wires, item_wires}
 use Rattle.snesl_translation.specs.Makings.{done, stepped}
 use Rattle.snesl_translation.specs.Translation.{call_streams}

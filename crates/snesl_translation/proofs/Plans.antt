@@ -1,6 +1,7 @@
 -- The plan of a program means its value.
-use Rattle.std.specs.Prelude.{◌≡◌, ℕ, zero, Bool, true, ◌&&◌, List, [], ◌∷◌, ◌++◌, length, Option, Some, None, refl}
+use Rattle.std.specs.Prelude.{◌≡◌, ℕ, zero, suc, ◌+◌, ◌<◌, Bool, true, ◌&&◌, List, [], ◌∷◌, ◌++◌, length, get_or, Option, Some, None, refl}
 use Rattle.std.proofs.Common.{arith, sym, ap, ◌∙◌, subst, length-append, append_assoc, append-nil}
+use Rattle.std.proofs.lemmas.List.{get_or_append_left, get_or-append-add}
 use Rattle.snesl_values.specs.declared.dialect.Dialect.{Dialect}
 use Rattle.snesl_values.specs.declared.fault.FaultKind.{FaultKind}
 use Rattle.snesl_values.specs.Types.{Ty, int, bool, pair, vec, seq}
@@ -10,7 +11,7 @@ use Rattle.snesl_evaluation.specs.Answer.{gives, faults}
 use Rattle.snesl_evaluation.specs.Eval.{eval, no_calls, calls_of, program_value}
 use Rattle.snesl_types.specs.Contexts.{opened}
 use Rattle.snesl_types.specs.Programs.{nothing_declared}
-use Rattle.flow_edges.specs.Cells.{unit}
+use Rattle.flow_edges.specs.Cells.{Cell, unit}
 use Rattle.flow_edges.specs.declared.message.Kind.{Kind}
 use Rattle.flow_base.specs.Columns.{Columns}
 use Rattle.flow_values.specs.Shapes.{is_a, all_are, kinds_of}
@@ -19,7 +20,7 @@ use Rattle.flow_rows.specs.Made.{laid, print_made}
 use Rattle.flow_rows.proofs.Edges.{laid_length}
 use Rattle.flow_rows.proofs.Encoded.{print_makes}
 use Rattle.flow_rows.proofs.ValueDecoding.{all_split, all_cons}
-use Rattle.snesl_translation.specs.Plans.{print, streams_at, run}
+use Rattle.flow_plans.specs.Plans.{print, streams_at, run}
 use Rattle.snesl_translation.specs.Wires.{Wires, type_of_wires, numbers_of, wires_from, Bound}
 use Rattle.snesl_translation.specs.Makings.{Making, done, and_then, tested}
 use Rattle.snesl_translation.specs.FreeNames.{Names, without, free}
@@ -28,7 +29,7 @@ use Rattle.snesl_translation.specs.Functions.{no_bodies, bodies_of}
 use Rattle.snesl_translation.specs.Carrying.{Carries, Controls, given_by, Makes, GoesTo}
 use Rattle.snesl_translation.specs.Meaning.{Bears}
 use Rattle.snesl_translation.specs.Theorems.{CallsMean, TypedExpressionsMean}
-use Rattle.snesl_translation.specs.Programs.{first_offset, source_steps, sourced, inputs_sourced, control_sourced, program_plan, PlansMean}
+use Rattle.snesl_translation.specs.Programs.{first_offset, source_steps, sourced, inputs_sourced, columns_of, cells_of, control_sourced, program_plan, PlansMean}
 use Rattle.snesl_translation.proofs.Carrying.{fresh, wires_type, wires_whole, tested_runs, carried_on, first_stops, rest_stops}
 use Rattle.snesl_translation.proofs.Doing.{Does, done_does, then_does}
 use Rattle.snesl_translation.proofs.Forms.{controls_on}
@@ -54,41 +55,71 @@ mutual
 
 -- sources
 
-sources_run : (at : ℕ) (kinds : List Kind) (columns streams : Columns) → length columns ≡ length kinds → run (source_steps at kinds columns) streams ≡ Some (streams ++ columns)
-sources_run at [] [] streams e = ap Some (sym (append-nil streams))
-sources_run at [] (c ∷ columns) streams e = absurd (omega (arith))
-sources_run at (kind ∷ kinds) [] streams e = absurd (omega (arith))
-sources_run at (kind ∷ kinds) (c ∷ columns) streams e = sources_run at kinds columns (streams ++ (c ∷ [])) (omega (arith)) ∙ ap Some (append_assoc streams (c ∷ []) columns)
+-- from this number on the cells are those of the columns
+Agrees : (ℕ → List Cell) → ℕ → Columns → Type 0
+Agrees cells number columns = (k i : ℕ) → k ≡ number + i → i < length columns → cells k ≡ get_or columns i []
 
-sourced_does : (at : ℕ) (t : Ty) (v : Value) (streams : Columns) → is_a t v ≡ true → Does streams (sourced at t v (length streams)) (λ l w. Carries l w t (v ∷ []))
-sourced_does at t v streams is = (
+sources_run : (at : ℕ) (cells : ℕ → List Cell) (number : ℕ) (kinds : List Kind) (columns streams : Columns) → length columns ≡ length kinds
+    → Agrees cells number columns → run (source_steps at cells number kinds) streams ≡ Some (streams ++ columns)
+unfolding Agrees
+sources_run at cells number [] [] streams e agrees = ap Some (sym (append-nil streams))
+sources_run at cells number [] (c ∷ columns) streams e agrees = absurd (omega (arith))
+sources_run at cells number (kind ∷ kinds) [] streams e agrees = absurd (omega (arith))
+sources_run at cells number (kind ∷ kinds) (c ∷ columns) streams e agrees =
+    ap (λ x. run (source_steps at cells (suc number) kinds) (streams ++ (x ∷ []))) (agrees number 0 (omega (arith)) (omega (arith)))
+    ∙ sources_run at cells (suc number) kinds columns (streams ++ (c ∷ [])) (omega (arith)) (λ k i is lt. agrees k (suc i) (omega (arith, is)) (omega (arith, lt)))
+    ∙ ap Some (append_assoc streams (c ∷ []) columns)
+
+sourced_does : (at : ℕ) (cells : ℕ → List Cell) (t : Ty) (v : Value) (streams : Columns) → is_a t v ≡ true → Agrees cells (length streams) (laid t (v ∷ []))
+    → Does streams (sourced at cells t (length streams)) (λ l w. Carries l w t (v ∷ []))
+sourced_does at cells t v streams is agrees = (
   laid t (v ∷ []),
-  sources_run at (kinds_of t) (laid t (v ∷ [])) streams (laid_length t (v ∷ [])),
+  sources_run at cells (length streams) (kinds_of t) (laid t (v ∷ [])) streams (laid_length t (v ∷ [])) agrees,
   omega (arith, length-append streams (laid t (v ∷ [])), laid_length t (v ∷ [])),
   record { of_type = wires_type t (length streams); whole = wires_whole t (length streams); are = all_cons t v [] is refl; there = fresh t streams (laid t (v ∷ [])) (laid_length t (v ∷ [])) },
 )
 
-inputs_does : (at : ℕ) (dialect : Dialect) (declarations : List Declaration) (environment : Environment) (streams : Columns) → Fits dialect declarations environment
-    → Does streams (inputs_sourced at declarations environment (length streams)) (λ l bound. (names : Names) → Bears l bound names (opened declarations) (environment ∷ []))
-inputs_does at dialect [] environment streams fits = done_does [] streams (λ l bound. (names : Names) → Bears l bound names [] (environment ∷ [])) (λ names bytes t among is. absurd (cc))
-inputs_does at dialect (declaration ∷ declarations) [] streams fits = absurd fits
-inputs_does at dialect (declaration ∷ declarations) (entry ∷ environment) streams fits =
+first_agree : (cells : ℕ → List Cell) (number : ℕ) (first others : Columns) → Agrees cells number (first ++ others) → Agrees cells number first
+unfolding Agrees
+first_agree cells number first others agrees k i is lt =
+    agrees k i is (omega (arith, lt, length-append first others)) ∙ get_or_append_left first others [] i lt
+
+others_agree : (cells : ℕ → List Cell) (number : ℕ) (first others : Columns) → Agrees cells number (first ++ others) → Agrees cells (number + length first) others
+unfolding Agrees
+others_agree cells number first others agrees k i is lt =
+    agrees k (length first + i) (omega (arith, is)) (omega (arith, lt, length-append first others)) ∙ get_or-append-add first others i []
+
+inputs_does : (at : ℕ) (cells : ℕ → List Cell) (dialect : Dialect) (declarations : List Declaration) (environment : Environment) (streams : Columns) → Fits dialect declarations environment
+    → Agrees cells (length streams) (columns_of declarations environment)
+    → Does streams (inputs_sourced at cells declarations (length streams)) (λ l bound. (names : Names) → Bears l bound names (opened declarations) (environment ∷ []))
+unfolding sourced_does
+inputs_does at cells dialect [] environment streams fits agrees = done_does [] streams (λ l bound. (names : Names) → Bears l bound names [] (environment ∷ [])) (λ names bytes t among is. absurd (cc))
+inputs_does at cells dialect (declaration ∷ declarations) [] streams fits agrees = absurd fits
+inputs_does at cells dialect (declaration ∷ declarations) (entry ∷ environment) streams fits agrees =
     let t = declaration.1 in
-    let first = sourced_does at t entry.1 streams (typed_is dialect t entry.1 fits.1) in
+    let columns = laid t (entry.1 ∷ []) in
+    let behind = columns_of declarations environment in
+    let first = sourced_does at cells t entry.1 streams (typed_is dialect t entry.1 fits.1) (first_agree cells (length streams) columns behind agrees) in
     let there = streams ++ first.0 in
-    let others = inputs_does at dialect declarations environment there fits.2 in
+    let later = subst (λ n. Agrees cells n behind) (sym (length-append streams columns)) (others_agree cells (length streams) columns behind agrees) in
+    let others = inputs_does at cells dialect declarations environment there fits.2 later in
     let last = there ++ others.0 in
     let u = wires_from t (length streams) in
-    let bound = (inputs_sourced at declarations environment (length there)).given in
+    let bound = (inputs_sourced at cells declarations (length there)).given in
     let named : ((declaration.0, entry.1) ∷ environment) ∷ [] ≡ (entry ∷ environment) ∷ [] = ap (λ n. ((n, entry.1) ∷ environment) ∷ []) (sym fits.0) in
     let borne : (names : Names) → Bears last ((declaration.0, u) ∷ bound) names (opened (declaration ∷ declarations)) ((entry ∷ environment) ∷ []) = λ names.
     subst (Bears last ((declaration.0, u) ∷ bound) names (opened (declaration ∷ declarations))) named
     (borne_with last bound declaration.0 u t names (opened declarations) (environment ∷ []) (entry.1 ∷ []) refl (carried_on there others.0 u t (entry.1 ∷ []) first.3) (others.3 (without declaration.0 names))) in
-    then_does (sourced at t entry.1 (length streams)) (λ u k. and_then (inputs_sourced at declarations environment k) (λ bound k. done ((declaration.0, u) ∷ bound) k)) streams
+    then_does (sourced at cells t (length streams)) (λ u k. and_then (inputs_sourced at cells declarations k) (λ bound k. done ((declaration.0, u) ∷ bound) k)) streams
     (λ l w. Carries l w t (entry.1 ∷ [])) (λ l bound. (names : Names) → Bears l bound names (opened (declaration ∷ declarations)) ((entry ∷ environment) ∷ [])) first
-    (then_does (inputs_sourced at declarations environment (length there)) (λ bound k. done ((declaration.0, u) ∷ bound) k) there
+    (then_does (inputs_sourced at cells declarations (length there)) (λ bound k. done ((declaration.0, u) ∷ bound) k) there
     (λ l bound. (names : Names) → Bears l bound names (opened declarations) (environment ∷ [])) (λ l bound. (names : Names) → Bears l bound names (opened (declaration ∷ declarations)) ((entry ∷ environment) ∷ [])) others
     (done_does ((declaration.0, u) ∷ bound) last (λ l bound. (names : Names) → Bears l bound names (opened (declaration ∷ declarations)) ((entry ∷ environment) ∷ [])) borne))
+
+-- those of a program's sources are so behind the control stream
+cells_agree : (declarations : List Declaration) (environment : Environment) → Agrees (cells_of declarations environment) 1 (columns_of declarations environment)
+unfolding Agrees
+cells_agree declarations environment k i is lt = ap (λ j. get_or (columns_of declarations environment) j []) (omega (arith, is))
 
 no_calls_mean : CallsMean [] no_calls no_bodies
 no_calls_mean streams at bytes signature us control rows is carry controls = absurd (cc)
@@ -106,6 +137,12 @@ plans_mean expressions text program declared t environment typed fits = (where_v
     dialect : Dialect
     dialect = program.dialect
 
+    cells : ℕ → List Cell
+    cells = cells_of declared.inputs environment
+
+    plan : Making Wires
+    plan = program_plan text program declared.inputs cells
+
     value : Environment → Option Value
     value environment = given_by (eval dialect program.expression text (calls_of dialect text program.declarations) environment)
 
@@ -116,47 +153,47 @@ plans_mean expressions text program declared t environment typed fits = (where_v
     printed w k = tested at (print (type_of_wires w)) (numbers_of w) w k
 
     behind : ℕ → ℕ → Making Wires
-    behind control k = and_then (inputs_sourced at declared.inputs environment k) (λ bound k. and_then (translated bound control k) printed)
+    behind control k = and_then (inputs_sourced at cells declared.inputs k) (λ bound k. and_then (translated bound control k) printed)
 
     first : Columns
     first = (unit ∷ []) ∷ []
 
-    inputs : Does first (inputs_sourced at declared.inputs environment (length first)) (λ l bound. (names : Names) → Bears l bound names (opened declared.inputs) (environment ∷ []))
-    inputs = inputs_does at dialect declared.inputs environment first fits
+    inputs : Does first (inputs_sourced at cells declared.inputs (length first)) (λ l bound. (names : Names) → Bears l bound names (opened declared.inputs) (environment ∷ []))
+    inputs = inputs_does at cells dialect declared.inputs environment first fits (cells_agree declared.inputs environment)
 
     there : Columns
     there = first ++ inputs.0
 
     bound : Bound
-    bound = (inputs_sourced at declared.inputs environment (length first)).given
+    bound = (inputs_sourced at cells declared.inputs (length first)).given
 
     goes : GoesTo there t (translated bound zero (length there)) (each value (environment ∷ []))
     goes = expressions dialect text declared.functions (calls_of dialect text program.declarations) (bodies_of dialect text program.declarations) (opened declared.inputs) program.expression t
         (functions_mean expressions dialect text nothing_declared declared no_calls no_bodies program.declarations no_calls_mean typed.declarations) typed.expression
         there bound zero (environment ∷ []) (inputs.3 (free text program.expression)) (controls_on first inputs.0 zero 1 refl)
 
-    where_value : (v : Value) → program_value text program environment ≡ gives v → (streams : Columns)
-        × (run (program_plan text program declared.inputs environment).steps [] ≡ Some streams) × (streams_at (numbers_of (program_plan text program declared.inputs environment).given) streams ≡ Some (laid t (v ∷ [])))
+    where_value : (v : Value) → program_value text program environment ≡ gives v
+        → (type_of_wires plan.given ≡ t) × ((streams : Columns) × (run plan.steps [] ≡ Some streams) × (streams_at (numbers_of plan.given) streams ≡ Some (laid t (v ∷ []))))
     where_value v is =
         let makes : Makes there t (translated bound zero (length there)) (v ∷ []) = subst (λ a. GoesTo there t (translated bound zero (length there)) (bind (given_by a) (λ y. Some (y ∷ [])))) is goes in
         let last = there ++ makes.0 in
         let w = (translated bound zero (length there)).given in
         let c = makes.3 in
-        let Holds : Columns → Wires → Type 0 = λ l w. streams_at (numbers_of w) l ≡ Some (laid t (v ∷ [])) in
+        let Holds : Columns → Wires → Type 0 = λ l w. (type_of_wires w ≡ t) × (streams_at (numbers_of w) l ≡ Some (laid t (v ∷ []))) in
         let end : Does last (printed w (length last)) Holds = (
           [],
           tested_runs last at (print (type_of_wires w)) (numbers_of w) w (length last) (laid t (v ∷ [])) c.there (prints last w t v c),
           ap length (sym (append-nil last)),
-          subst (λ l. Holds l w) (sym (append-nil last)) c.there,
+          subst (λ l. Holds l w) (sym (append-nil last)) (c.of_type, c.there),
         ) in
         let whole = then_does (control_sourced at zero) behind [] (λ l c. Controls l c 1) Holds (first, refl, refl, refl)
-        (then_does (inputs_sourced at declared.inputs environment (length first)) (λ bound k. and_then (translated bound zero k) printed) first (λ l bound. (names : Names) → Bears l bound names (opened declared.inputs) (environment ∷ [])) Holds inputs
+        (then_does (inputs_sourced at cells declared.inputs (length first)) (λ bound k. and_then (translated bound zero k) printed) first (λ l bound. (names : Names) → Bears l bound names (opened declared.inputs) (environment ∷ [])) Holds inputs
         (then_does (translated bound zero (length there)) printed there (λ l w. Carries l w t (v ∷ [])) Holds makes end)) in
-        (whole.0, whole.1, whole.3)
+        (whole.3.0, (whole.0, whole.1, whole.3.1))
 
-    where_fault : (kind : FaultKind) (place : ℕ) → program_value text program environment ≡ faults kind place → run (program_plan text program declared.inputs environment).steps [] ≡ None
+    where_fault : (kind : FaultKind) (place : ℕ) → program_value text program environment ≡ faults kind place → run plan.steps [] ≡ None
     where_fault kind place is =
         let stops : run (translated bound zero (length there)).steps there ≡ None = subst (λ a. GoesTo there t (translated bound zero (length there)) (bind (given_by a) (λ y. Some (y ∷ [])))) is goes in
         rest_stops (control_sourced at zero) [] first refl refl behind
-        (rest_stops (inputs_sourced at declared.inputs environment (length first)) first inputs.0 inputs.1 inputs.2 (λ bound k. and_then (translated bound zero k) printed)
+        (rest_stops (inputs_sourced at cells declared.inputs (length first)) first inputs.0 inputs.1 inputs.2 (λ bound k. and_then (translated bound zero k) printed)
         (first_stops (translated bound zero (length there)) printed there stops))

@@ -27,7 +27,7 @@ use Rattle.flow_rows.proofs.Encoded.{unary_makes, binary_makes}
 use Rattle.flow_rows.proofs.ValueDecoding.{AllAre, all_split}
 use Rattle.snesl_evaluation.specs.Answer.{gives, go, go_all}
 use Rattle.snesl_evaluation.specs.Builtins.{scalar_value, unary_answer, scalars_answer, equal_answer, prefix_answer, binary_answer}
-use Rattle.snesl_translation.specs.Plans.{unary, binary, streams_at}
+use Rattle.flow_plans.specs.Plans.{unary, binary, streams_at}
 use Rattle.snesl_translation.specs.Wires.{Wires, stream_of}
 use Rattle.snesl_translation.specs.Makings.{stepped}
 use Rattle.snesl_translation.specs.Translation.{scalars_step, equality, prefix_streams, binary_streams}

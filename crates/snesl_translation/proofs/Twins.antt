@@ -13,7 +13,7 @@ use Rattle.flow_rows.specs.Made.{laid}
 use Rattle.flow_rows.proofs.Options.{bind_gives, map_gives, some_same}
 use Rattle.flow_rows.proofs.ValueDecoding.{AllAre, all_cons}
 use Rattle.snesl_evaluation.specs.Answer.{Answer, gives, faults, go, go_all, answer_at}
-use Rattle.snesl_translation.specs.Plans.{Operation, made_by, streams_at}
+use Rattle.flow_plans.specs.Plans.{Operation, made_by, streams_at}
 use Rattle.snesl_translation.specs.Wires.{Wires}
 use Rattle.snesl_translation.specs.Makings.{Making, stepped}
 use Rattle.snesl_translation.specs.Carrying.{Makes, Goes}

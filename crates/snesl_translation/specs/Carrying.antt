@@ -7,7 +7,7 @@ use Rattle.flow_base.specs.Columns.{Columns}
 use Rattle.flow_values.specs.Shapes.{all_are}
 use Rattle.flow_rows.specs.Made.{laid}
 use Rattle.snesl_evaluation.specs.Answer.{Answer, gives, faults}
-use Rattle.snesl_translation.specs.Plans.{streams_at, run}
+use Rattle.flow_plans.specs.Plans.{streams_at, run}
 use Rattle.snesl_translation.specs.Wires.{Wires, type_of_wires, AreWhole, numbers_of}
 use Rattle.snesl_translation.specs.Makings.{Making}
 

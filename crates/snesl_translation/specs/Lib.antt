@@ -1,4 +1,3 @@
-pub mod Plans
 pub mod Wires
 pub mod Makings
 pub mod FreeNames

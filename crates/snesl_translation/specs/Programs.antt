@@ -1,5 +1,5 @@
 -- The plan of a program: sources of its inputs, its expression under a control stream of one Unit, and a Print of the value.
-use Rattle.std.specs.Prelude.{◌≡◌, ℕ, zero, suc, ◌+◌, List, [], ◌∷◌, Some, None}
+use Rattle.std.specs.Prelude.{◌≡◌, ℕ, zero, suc, ◌+◌, ◌-◌, List, [], ◌∷◌, ◌++◌, Some, None, slice_index_or}
 use Rattle.snesl_values.specs.declared.fault.FaultKind.{FaultKind}
 use Rattle.snesl_values.specs.Types.{Ty}
 use Rattle.snesl_values.specs.Values.{Value}
@@ -8,14 +8,14 @@ use Rattle.snesl_tree.specs.Tree.{Tree, integer, truth, name, binary, prefix, ca
 use Rattle.snesl_evaluation.specs.Answer.{gives, faults}
 use Rattle.snesl_evaluation.specs.Eval.{program_value}
 use Rattle.snesl_types.specs.Programs.{Declared, ProgramTypes}
-use Rattle.flow_edges.specs.Cells.{unit}
+use Rattle.flow_edges.specs.Cells.{Cell, unit}
 use Rattle.flow_edges.specs.declared.message.Kind.{Kind}
 use Rattle.flow_edges.specs.declared.message.Kind.TheVariants.{Unit as UnitKind}
 use Rattle.flow_base.specs.Columns.{Columns}
 use Rattle.flow_values.specs.Shapes.{kinds_of}
 use Rattle.flow_values.specs.Flats.{width}
 use Rattle.flow_rows.specs.Made.{laid}
-use Rattle.snesl_translation.specs.Plans.{source, print, Step, streams_at, run}
+use Rattle.flow_plans.specs.Plans.{source, print, Step, streams_at, run}
 use Rattle.snesl_translation.specs.Wires.{Wires, type_of_wires, numbers_of, wires_from, Bound}
 use Rattle.snesl_translation.specs.Makings.{Making, done, and_then, tested}
 use Rattle.snesl_translation.specs.Translation.{tr}
@@ -38,26 +38,39 @@ first_offset (literal at items) = at
 first_offset (filter at item condition) = at
 first_offset (each at body binders condition) = at
 
--- a source for each of these columns
-abbrev pub source_steps : ℕ → List Kind → Columns → List Step
-source_steps at (kind ∷ kinds) (cells ∷ columns) = record { at = at; operation = source kind cells; reads = [] } ∷ source_steps at kinds columns
-source_steps at _ _ = []
+-- sources of these kinds, the first of which writes the stream of this number; what that of stream n writes are the cells of n
+abbrev pub source_steps : ℕ → (ℕ → List Cell) → ℕ → List Kind → List Step
+source_steps at cells number [] = []
+source_steps at cells number (kind ∷ kinds) =
+    record { at = at; operation = source kind (cells number); reads = [] } ∷ source_steps at cells (suc number) kinds
 
 -- the sources of a value of the type
-abbrev pub sourced : ℕ → Ty → Value → ℕ → Making Wires
-sourced at t value next = record {
-  steps = source_steps at (kinds_of t) (laid t (value ∷ []));
+abbrev pub sourced : ℕ → (ℕ → List Cell) → Ty → ℕ → Making Wires
+sourced at cells t next = record {
+  steps = source_steps at cells next (kinds_of t);
   given = wires_from t next;
   next = next + width t;
 }
 
 -- those of inputs, beside their names
-abbrev pub inputs_sourced : ℕ → List Declaration → Environment → ℕ → Making Bound
-inputs_sourced at [] environment next = done [] next
-inputs_sourced at (declaration ∷ declarations) [] next = done [] next
-inputs_sourced at (declaration ∷ declarations) (entry ∷ environment) next =
-    and_then (sourced at declaration.1 entry.1 next) (λ u k.
-    and_then (inputs_sourced at declarations environment k) (λ bound k. done ((declaration.0, u) ∷ bound) k))
+abbrev pub inputs_sourced : ℕ → (ℕ → List Cell) → List Declaration → ℕ → Making Bound
+inputs_sourced at cells [] next = done [] next
+inputs_sourced at cells (declaration ∷ declarations) next =
+    and_then (sourced at cells declaration.1 next) (λ u k.
+    and_then (inputs_sourced at cells declarations k) (λ bound k. done ((declaration.0, u) ∷ bound) k))
+
+-- the columns of inputs that have these values
+abbrev pub columns_of : List Declaration → Environment → Columns
+columns_of (declaration ∷ declarations) (entry ∷ environment) = laid declaration.1 (entry.1 ∷ []) ++ columns_of declarations environment
+columns_of _ _ = []
+
+-- what their sources write: the control stream has number 0, and the columns have the next ones
+abbrev pub cells_of : List Declaration → Environment → ℕ → List Cell
+cells_of inputs environment number = slice_index_or (columns_of inputs environment) (number - 1) []
+
+-- nothing is set yet
+abbrev pub not_set : ℕ → List Cell
+not_set number = []
 
 -- the control stream of a program: one Unit
 abbrev pub control_sourced : ℕ → ℕ → Making ℕ
@@ -67,12 +80,13 @@ control_sourced at next = record {
   next = suc next;
 }
 
--- the plan of a program of these inputs, where they have these values; it gives the streams of the program's value
-abbrev pub program_plan : List ℕ → ProgramTree → List Declaration → Environment → Making Wires
-program_plan text program inputs environment =
+-- The plan of a program of these inputs, whose sources write these cells; it gives the streams of the program's value. Its
+-- steps, but for what sources write, are the same whatever the inputs are.
+abbrev pub program_plan : List ℕ → ProgramTree → List Declaration → (ℕ → List Cell) → Making Wires
+program_plan text program inputs cells =
     let at = first_offset program.expression in
     and_then (control_sourced at zero) (λ control k.
-    and_then (inputs_sourced at inputs environment k) (λ bound k.
+    and_then (inputs_sourced at cells inputs k) (λ bound k.
     and_then (tr program.dialect text (bodies_of program.dialect text program.declarations) program.expression bound control k) (λ w k.
     tested at (print (type_of_wires w)) (numbers_of w) w k)))
 
@@ -82,7 +96,7 @@ abbrev pub PlansMean : Type 0
 PlansMean =
     (text : List ℕ) (program : ProgramTree) (declared : Declared) (t : Ty) (environment : Environment)
     → ProgramTypes text program declared t → Fits program.dialect declared.inputs environment
-    → let plan = program_plan text program declared.inputs environment in
+    → let plan = program_plan text program declared.inputs (cells_of declared.inputs environment) in
     ((value : Value) → program_value text program environment ≡ gives value
-    → (streams : Columns) × (run plan.steps [] ≡ Some streams) × (streams_at (numbers_of plan.given) streams ≡ Some (laid t (value ∷ []))))
+    → (type_of_wires plan.given ≡ t) × ((streams : Columns) × (run plan.steps [] ≡ Some streams) × (streams_at (numbers_of plan.given) streams ≡ Some (laid t (value ∷ [])))))
     × ((kind : FaultKind) (at : ℕ) → program_value text program environment ≡ faults kind at → run plan.steps [] ≡ None)

@@ -8,7 +8,7 @@ use Rattle.snesl_types.specs.Contexts.{Context}
 use Rattle.flow_base.specs.Columns.{Columns}
 use Rattle.flow_rows.specs.Lists.{each}
 use Rattle.flow_rows.specs.Decoded.{a_seq_of}
-use Rattle.snesl_translation.specs.Plans.{run}
+use Rattle.flow_plans.specs.Plans.{run}
 use Rattle.snesl_translation.specs.Wires.{Bound}
 use Rattle.snesl_translation.specs.Makings.{Making}
 use Rattle.snesl_translation.specs.FreeNames.{Names, without}

@@ -1,5 +1,6 @@
 -- Plans: transducers in the order in which they were made, each with the streams that it reads. Streams have numbers: what
--- a step writes are those of the next numbers.
+-- a step writes are those of the next numbers. (Flattening of nested data-parallelism: Blelloch and Sabot 1990; onto streams:
+-- Madsen and Filinski 2013.)
 use Rattle.std.specs.Prelude.{ℕ, List, [], ◌∷◌, ◌++◌, Option, Some}
 use Rattle.std.specs.List.{slice_get}
 use Rattle.snesl_values.specs.declared.dialect.Dialect.{Dialect}
@@ -12,7 +13,7 @@ use Rattle.flow_edges.specs.Cells.{Cell}
 use Rattle.flow_edges.specs.declared.message.Kind.{Kind}
 use Rattle.flow_base.specs.Columns.{Columns}
 use Rattle.flow_rows.specs.Lists.{bind, each}
-use Rattle.flow_rows.specs.Made.{source_made, const_made, unary_made, binary_made, iota_made, units_of_made, scan_add_made, reduce_made, length_made, dist_made, pack_made, pack_groups_made, flag_of_bool_made, same_flags_made, concat_flags_made, part_flags_made, the_check_made, append_flags_made, interleave_made, interleave_groups_made, print_made, tab_made, seq_made, index_made}
+use Rattle.flow_rows.specs.Made.{source_made, const_made, unary_made, binary_made, iota_made, units_of_made, scan_add_made, reduce_made, length_made, dist_made, pack_made, pack_groups_made, flag_of_bool_made, same_flags_made, concat_flags_made, part_flags_made, the_check_made, append_flags_made, interleave_made, interleave_groups_made, print_made, tab_made, seq_made, index_made, fork_made, sink_made}
 
 -- which transducer a step is
 pub data Operation : Type 0 where
@@ -40,6 +41,9 @@ pub data Operation : Type 0 where
   tab : Ty → Operation
   seq_of : Ty → Operation
   index : Ty → Operation
+  -- these two stand only where streams are joined to those that read them (Layouts)
+  fork : Kind → ℕ → Operation
+  sink : Kind → Operation
 
 -- what it writes, as a function of what it reads
 abbrev pub made_by : Operation → Columns → Option Columns
@@ -67,6 +71,8 @@ made_by (print ty) = print_made ty
 made_by (tab ty) = tab_made ty
 made_by (seq_of ty) = seq_made ty
 made_by (index ty) = index_made ty
+made_by (fork kind outputs) = fork_made kind outputs
+made_by (sink kind) = sink_made kind
 
 -- a transducer, the offset of the form that it comes from, and the numbers of the streams that it reads, port by port
 pub record Step : Type 0 where

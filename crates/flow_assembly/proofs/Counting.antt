@@ -1,0 +1,35 @@
+-- Too many uses of a stream.
+use Rattle.std.specs.Prelude.{◌≡◌, ℕ, zero, suc, ◌+◌, ◌<◌, List, [], ◌∷◌, length, drop, map, refl}
+use Rattle.std.proofs.Common.{sym, ◌∙◌, ap, arith, get_or}
+use Rattle.std.proofs.Math.Seq.{drop-cons}
+use Rattle.snesl_values.specs.declared.dialect.Dialect.{Dialect}
+use Rattle.flow_graph.specs.Limits.{most_edges}
+use Rattle.flow_plans.specs.declared.operation.Step.{Step as StepData}
+use Rattle.flow_plans.specs.Layouts.{times, uses}
+use Rattle.flow_plans.specs.Views.{step_of, steps_of}
+use Rattle.flow_assembly.specs.declared.plan.Plan.{Plan}
+use Rattle.flow_assembly.specs.Ready.{plan_of, IsTooBig}
+use Rattle.flow_assembly.proofs.Limiting.{too_many_uses}
+
+-- one of the steps that a list holds, and those behind it
+pub steps_now : (dialect : Dialect) (steps : List StepData) (i : ℕ) (step : StepData) → i < length steps → step ≡ get_or steps i step → steps_of dialect (drop i steps) ≡ step_of dialect step ∷ steps_of dialect (drop (i + 1) steps)
+steps_now dialect steps i step lt is =
+    let e : suc i ≡ i + 1 = omega arith in
+    ap (steps_of dialect) (drop-cons steps i step lt) ∙ ap (λ s. step_of dialect s ∷ steps_of dialect (drop (suc i) steps)) (sym is) ∙ ap (λ n. step_of dialect step ∷ steps_of dialect (drop n steps)) e
+
+pub counted_big : (dialect : Dialect) (steps : List StepData) (i : ℕ) (step : StepData) (table reads : List ℕ) → i < length steps → step ≡ get_or steps i step → reads ≡ step.reads.items
+    → ((s : ℕ) → get_or table s 0 + uses s (steps_of dialect (drop i steps)) ≡ uses s (steps_of dialect steps)) → ((s : ℕ) × (most_edges < get_or table s 0 + times s reads)) → IsTooBig (steps_of dialect steps)
+counted_big dialect steps i step table reads lt is same counted (s, many) =
+    let here : uses s (steps_of dialect (drop i steps)) ≡ times s step.reads.items + uses s (steps_of dialect (drop (i + 1) steps)) = ap (uses s) (steps_now dialect steps i step lt is) in
+    too_many_uses (steps_of dialect steps) s (omega (arith, many, here, counted s, ap (times s) same))
+
+drop_map : {A B : Type 0} (f : A → B) (xs : List A) (i : ℕ) → drop i (map f xs) ≡ map f (drop i xs)
+drop_map f xs zero = refl
+drop_map f [] (suc i) = refl
+drop_map f (x ∷ xs) (suc i) = drop_map f xs i
+
+-- the step of this number, and those behind it
+pub step_now : (plan : Plan) (i : ℕ) (step : StepData) → i < length plan.steps.items → step ≡ get_or plan.steps.items i step → drop i (plan_of plan) ≡ step_of plan.dialect step ∷ drop (i + 1) (plan_of plan)
+step_now plan i step lt is =
+    drop_map (step_of plan.dialect) plan.steps.items i ∙ steps_now plan.dialect plan.steps.items i step lt is
+    ∙ ap (λ l. step_of plan.dialect step ∷ l) (sym (drop_map (step_of plan.dialect) plan.steps.items (i + 1)))

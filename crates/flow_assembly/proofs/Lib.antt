@@ -1,0 +1,11 @@
+pub mod Performing
+pub mod Pushes
+pub mod Fitting
+pub mod Joining
+pub mod Laying
+pub mod Putting
+pub mod Limiting
+pub mod Stepping
+pub mod Counting
+pub mod Steps
+pub mod Finishing

@@ -1,0 +1,43 @@
+-- A network while it is built: what is joined so far, and where the next reader of each stream gets it.
+use Rattle.std.specs.Prelude.{◌≡◌, ℕ, suc, ◌+◌, ◌<◌, ◌≤◌, ◌^◌, ◌⊎◌, List, length, Some, slice_index_or}
+use Rattle.std.specs.List.{slice_get}
+use Rattle.flow_graph.specs.declared.edge.Edge.{Edge}
+use Rattle.flow_graph.specs.Edges.{edge_at, out_edge, IsTakenIn, IsTakenOut}
+use Rattle.flow_graph.specs.Networks.{state_at}
+use Rattle.flow_nodes.specs.StreamNodes.{NodeKind, member, node_behaviour}
+use Rattle.flow_plans.specs.Layouts.{Placed, stream_from, stream_to}
+use Rattle.flow_assembly.specs.declared.network.Port.{Port}
+use Rattle.flow_assembly.specs.Openings.{Opens}
+
+-- where the next reader of a stream gets it
+abbrev pub supplier : List Port → ℕ → Port
+supplier supply s = slice_index_or supply s (record { node = 0; port = 0 })
+
+-- an edge from this output port to this input port
+abbrev pub edge_from : Port → (reader port : ℕ) → Edge
+edge_from from reader port = record { writer = from.node; writer_port = from.port; reader = reader; reader_port = port }
+
+-- the next output port of the same node
+abbrev pub port_after : Port → Port
+port_after from = record from { port = from.port + 1 }
+
+-- port q of node k comes before port p of node r
+abbrev pub ComesBefore : (k q r p : ℕ) → Type 0
+ComesBefore k q r p = (k < r) ⊎ ((k ≡ r) × (q < p))
+
+-- Of these transducers the first stand in the network, each in the state in which it opens. The input ports before port p of
+-- node r have their edges, and each edge joins two ports of one stream. Each stream has so many uses left, and for each of
+-- them an output port before node r, from its supplier on; all other output ports before node r have their edges.
+pub record IsJoinedTo (nodes : List Placed) (left : ℕ → ℕ) (supply : List Port) (r p : ℕ) (states : List ((t : NodeKind) × (member t).State)) (edges : List Edge) : Type 0 where
+  pub opens : (k : ℕ) (placed : Placed) → k < length states → slice_get nodes k ≡ Some placed → Opens placed.at placed.operation (state_at node_behaviour states k)
+  pub joins : (e : ℕ) → e < length edges → stream_from nodes (edge_at edges e).writer (edge_at edges e).writer_port ≡ stream_to nodes (edge_at edges e).reader (edge_at edges e).reader_port
+  pub readers : (e : ℕ) → e < length edges → ComesBefore (edge_at edges e).reader (edge_at edges e).reader_port r p
+  pub writers : (e : ℕ) → e < length edges → (edge_at edges e).writer < r
+  pub read : (k q s : ℕ) → ComesBefore k q r p → stream_to nodes k q ≡ Some s → IsTakenIn edges k q
+  pub written : (k q s : ℕ) → k < r → stream_from nodes k q ≡ Some s
+      → IsTakenOut edges k q ⊎ ((k ≡ (supplier supply s).node) × ((supplier supply s).port ≤ q) × (q < (supplier supply s).port + left s))
+  pub known : (k q s : ℕ) → k < r → stream_from nodes k q ≡ Some s → s < length supply
+  pub node : (s : ℕ) → s < length supply → 0 < left s → (supplier supply s).node < r
+  pub stream : (s i : ℕ) → s < length supply → i < left s → stream_from nodes (supplier supply s).node ((supplier supply s).port + i) ≡ Some s
+  pub free : (s i : ℕ) → s < length supply → i < left s → length edges ≤ out_edge edges (supplier supply s).node ((supplier supply s).port + i)
+  pub fits : (s : ℕ) → s < length supply → (supplier supply s).port + left s < 2 ^ 64

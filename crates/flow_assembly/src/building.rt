@@ -1,0 +1,130 @@
+// The steps of a plan as parts of its network.
+
+ghost use Rattle.std.specs.Prelude.{◌≡◌, ℕ, ◌+◌, ◌<◌, ◌≤◌, ◌⊎◌, [], length, drop, Some, OnOk, IfErr};
+ghost use Rattle.std.specs.List.{slice_get};
+ghost use Rattle.snesl_values.specs.declared.refusal.Refusal.TheVariants.{TooBig, NoMemory};
+ghost use Rattle.flow_graph.specs.Graphs.{states_so_far, edges_so_far};
+ghost use Rattle.flow_plans.specs.Layouts.{times, uses, behind, all_behind, layout, stream_to};
+ghost use Rattle.flow_plans.specs.Ports.{AreWired, kinds_after};
+ghost use Rattle.flow_assembly.specs.Joined.{IsJoinedTo};
+ghost use Rattle.flow_assembly.specs.Ready.{plan_of, IsCounted, IsTooBig, IsWithin, IsBuiltTo, IsPutTo, ComeNext};
+
+use crate::laws::openings_perform;
+use crate::network::{Network, Port};
+use crate::nodes::{fork_of, kinds_written, node_of, sink_of};
+use crate::plan::Plan;
+use flow_edges::Kind;
+use snesl_values::Refusal;
+
+impl Network {
+    /// Adds the step of this number, behind all before it: its transducer, and what stands behind the streams that it
+    /// writes. Each port that reads a stream is joined.
+    pub fn add_step(&mut self, plan: &Plan, number: usize) -> Result<(), Refusal>
+        requires inside { number < length plan.now.steps.items }
+        requires wired { AreWired [] (plan_of plan.now) }
+        requires counted { IsCounted plan.now.uses.items (plan_of plan.now) }
+        requires built { IsBuiltTo (plan_of plan.now) number self.old.supply.items self.old.places.items (states_so_far self.old.builder) (edges_so_far self.old.builder) }
+        ensures built { OnOk result (IsBuiltTo (plan_of plan.now) (number + 1) self.new.supply.items self.new.places.items (states_so_far self.new.builder) (edges_so_far self.new.builder)) }
+        ensures big { result ≡ Err TooBig → IsTooBig (plan_of plan.now) }
+        ensures memory { IfErr result (λ refusal. (refusal ≡ TooBig) ⊎ (refusal ≡ NoMemory)) }
+    {
+        let step = &plan.steps[number];
+        let node = node_of(self.alloc, plan.dialect, step.at, &step.operation)?;
+        let kinds = kinds_written(self.alloc, &node)?;
+        openings_perform();
+        let place = self.builder.node(node)?;
+        self.places.push(place)?;
+        self.read_streams(plan, &step.reads, place)?;
+        let first = self.supply.len();
+        self.add_streams(place, kinds.len())?;
+        self.put_all_behind(plan, step.at, first, &kinds)?;
+        Ok(())
+    }
+
+    // Joins the streams that the last node reads to its inputs, port by port.
+    fn read_streams(&mut self, plan: &Plan, reads: &[usize], node: usize) -> Result<(), Refusal>
+        requires wired { AreWired [] (plan_of plan.now) }
+        requires last { length (states_so_far self.old.builder) ≡ node + 1 }
+        requires reads { (q : ℕ) → stream_to (layout (plan_of plan.now)) node q ≡ slice_get reads.now q }
+        requires there { (q s : ℕ) → slice_get reads.now q ≡ Some s → s < length self.old.supply.items }
+        requires within { IsWithin (plan_of plan.now) (states_so_far self.old.builder) (edges_so_far self.old.builder) (length reads.now) }
+        requires joined { IsJoinedTo (layout (plan_of plan.now)) (λ s. times s reads.now + uses s (drop (length self.old.places.items) (plan_of plan.now))) self.old.supply.items node 0 (states_so_far self.old.builder) (edges_so_far self.old.builder) }
+        ensures joined { OnOk result (IsJoinedTo (layout (plan_of plan.now)) (λ s. uses s (drop (length self.old.places.items) (plan_of plan.now))) self.new.supply.items node (length reads.now) (states_so_far self.new.builder) (edges_so_far self.new.builder)) }
+        ensures within { OnOk result (IsWithin (plan_of plan.now) (states_so_far self.new.builder) (edges_so_far self.new.builder) 0) }
+        ensures nodes { states_so_far self.new.builder ≡ states_so_far self.old.builder }
+        ensures supply { OnOk result (length self.new.supply.items ≡ length self.old.supply.items) }
+        ensures places { self.new.places.items ≡ self.old.places.items }
+        ensures big { result ≡ Err TooBig → IsTooBig (plan_of plan.now) }
+        ensures memory { IfErr result (λ refusal. (refusal ≡ TooBig) ⊎ (refusal ≡ NoMemory)) }
+    {
+        openings_perform();
+        for (port, stream) in reads.iter().enumerate() {
+            self.join(*stream, node, port)?;
+        }
+        Ok(())
+    }
+
+    // Puts what stands behind the streams of these kinds, the first of which has this number.
+    fn put_all_behind(
+        &mut self,
+        plan: &Plan,
+        at: usize,
+        first: usize,
+        kinds: &[Kind],
+    ) -> Result<(), Refusal>
+        requires wired { AreWired [] (plan_of plan.now) }
+        requires counted { IsCounted plan.now.uses.items (plan_of plan.now) }
+        requires inside { first + length kinds.now ≤ length self.old.supply.items }
+        requires later { (s : ℕ) → first ≤ s → uses s (plan_of plan.now) ≡ uses s (drop (length self.old.places.items) (plan_of plan.now)) }
+        requires next { ComeNext (plan_of plan.now) (states_so_far self.old.builder) (all_behind (plan_of plan.now) at first kinds.now) }
+        requires so_far { IsPutTo (plan_of plan.now) first self.old.supply.items self.old.places.items (states_so_far self.old.builder) (edges_so_far self.old.builder) }
+        ensures so_far { OnOk result (IsPutTo (plan_of plan.now) (first + length kinds.now) self.new.supply.items self.new.places.items (states_so_far self.new.builder) (edges_so_far self.new.builder)) }
+        ensures nodes { OnOk result (length (states_so_far self.new.builder) ≡ length (states_so_far self.old.builder) + length (all_behind (plan_of plan.now) at first kinds.now)) }
+        ensures supply { OnOk result (length self.new.supply.items ≡ length self.old.supply.items) }
+        ensures places { self.new.places.items ≡ self.old.places.items }
+        ensures big { result ≡ Err TooBig → IsTooBig (plan_of plan.now) }
+        ensures memory { IfErr result (λ refusal. (refusal ≡ TooBig) ⊎ (refusal ≡ NoMemory)) }
+    {
+        for (port, kind) in kinds.iter().enumerate() {
+            self.put_behind(plan, at, first + port, *kind)?;
+        }
+        Ok(())
+    }
+
+    // Puts what stands behind one stream.
+    fn put_behind(
+        &mut self,
+        plan: &Plan,
+        at: usize,
+        stream: usize,
+        kind: Kind,
+    ) -> Result<(), Refusal>
+        requires wired { AreWired [] (plan_of plan.now) }
+        requires counted { IsCounted plan.now.uses.items (plan_of plan.now) }
+        requires inside { stream < length self.old.supply.items }
+        requires later { uses stream (plan_of plan.now) ≡ uses stream (drop (length self.old.places.items) (plan_of plan.now)) }
+        requires next { ComeNext (plan_of plan.now) (states_so_far self.old.builder) (behind at stream kind (uses stream (plan_of plan.now))) }
+        requires so_far { IsPutTo (plan_of plan.now) stream self.old.supply.items self.old.places.items (states_so_far self.old.builder) (edges_so_far self.old.builder) }
+        ensures so_far { OnOk result (IsPutTo (plan_of plan.now) (stream + 1) self.new.supply.items self.new.places.items (states_so_far self.new.builder) (edges_so_far self.new.builder)) }
+        ensures nodes { OnOk result (length (states_so_far self.new.builder) ≡ length (states_so_far self.old.builder) + length (behind at stream kind (uses stream (plan_of plan.now)))) }
+        ensures supply { OnOk result (length self.new.supply.items ≡ length self.old.supply.items) }
+        ensures places { self.new.places.items ≡ self.old.places.items }
+        ensures big { result ≡ Err TooBig → IsTooBig (plan_of plan.now) }
+        ensures memory { IfErr result (λ refusal. (refusal ≡ TooBig) ⊎ (refusal ≡ NoMemory)) }
+    {
+        openings_perform();
+        let outputs = plan.uses(stream);
+        if outputs == 1 {
+            return Ok(());
+        }
+        if outputs == 0 {
+            let sink = sink_of(at, kind);
+            self.attach(sink, stream)?;
+            return Ok(());
+        }
+        let fork = fork_of(self.alloc, at, kind, outputs);
+        let node = self.attach(fork, stream)?;
+        self.supply[stream] = Port { node, port: 0 };
+        Ok(())
+    }
+}

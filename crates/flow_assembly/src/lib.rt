@@ -1,0 +1,12 @@
+//! From the steps of a plan to its network: the graph of their transducers, each stream joined to all that read it.
+#![tactic(auto)]
+
+mod assembly;
+mod building;
+mod laws;
+mod network;
+mod nodes;
+mod plan;
+
+pub use assembly::{Assembled, assemble};
+pub use laws::openings_perform;

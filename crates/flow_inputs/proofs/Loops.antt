@@ -1,0 +1,50 @@
+-- One more value, behind those before it.
+use Rattle.std.specs.Prelude.{◌≡◌, ℕ, zero, suc, ◌+◌, ◌<◌, List, [], ◌∷◌, ◌++◌, map, length, refl}
+use Rattle.std.specs.Borrow.{Bor}
+use Rattle.std.proofs.Common.{get_or, take, drop, sym, ap, ◌∙◌, append_assoc}
+use Rattle.std.proofs.Math.Path.{ap₂}
+use Rattle.std.proofs.lemmas.List.{at_drop_more, map_more, map_push, length-map}
+use Rattle.snesl_values.specs.declared.datum.Datum.{Datum}
+use Rattle.snesl_values.specs.Values.{value_of}
+use Rattle.flow_edges.specs.Cells.{Cell}
+use Rattle.flow_base.specs.Flags.{F, T, elements, flags, lengths}
+use Rattle.flow_base.specs.Segments.{elements-append, elements-add}
+use Rattle.flow_values.specs.Shapes.{cell_for, elements_of}
+use Rattle.flow_inputs.specs.Data.{values_at}
+
+-- one more scalar
+pub cells_more : {A : Type 0} (cell : A → Cell) (all : List (Bor Datum)) (i : ℕ) (d : Bor Datum) (xs new : List A) (x : A) → i < length all → d ≡ get_or all i d
+    → cell x ≡ cell_for (value_of d.now) → new ≡ xs ++ x ∷ [] → map cell xs ≡ map cell_for (values_at (take i all)) → map cell new ≡ map cell_for (values_at (take (i + 1) all))
+cells_more cell all i d xs new x lt at is pushed so_far =
+    let value = λ (r : Bor Datum). value_of r.now in
+    ap (map cell) pushed ∙ map_push cell xs x
+    ∙ ap₂ (λ l c. l ++ c ∷ []) so_far (is ∙ ap (λ (r : Bor Datum). cell_for (value_of r.now)) at)
+    ∙ sym (ap (map cell_for) (map_more value all i d lt) ∙ map_push cell_for (values_at (take i all)) (value (get_or all i d)))
+
+abbrev flags_at : List (Bor Datum) → List Cell
+flags_at all = flags (lengths (map elements_of (values_at all)))
+
+-- the flags of one more sequence
+pub flags_more : (all : List (Bor Datum)) (i : ℕ) (d : Bor Datum) (own : List Datum) (so_far new : List Cell) → i < length all → d ≡ get_or all i d
+    → map value_of own ≡ elements_of (value_of d.now) → new ≡ so_far ++ elements (length own) (T ∷ []) → so_far ++ flags_at (drop i all) ≡ flags_at all
+    → new ++ flags_at (drop (i + 1) all) ≡ flags_at all
+flags_more all i d own so_far new lt at are added before =
+    let rest = flags_at (drop (i + 1) all) in
+    let n : length own ≡ length (elements_of (value_of d.now)) = sym (length-map own value_of) ∙ ap length are in
+    ap (λ l. l ++ rest) added ∙ append_assoc so_far (elements (length own) (T ∷ [])) rest
+    ∙ ap (λ l. so_far ++ l) (
+    elements-append (length own) rest ∙ ap (λ k. elements k (T ∷ rest)) n ∙ ap (λ (r : Bor Datum). flags_at (r ∷ drop (i + 1) all)) at
+    ∙ sym (at_drop_more flags_at all i d lt))
+    ∙ before
+
+-- one more flag
+pub flag_more : (i : ℕ) → elements i [] ++ F ∷ [] ≡ elements (i + 1) []
+flag_more i = go i ∙ sym (elements-add i 1 [])
+  where
+    go : (i : ℕ) → elements i [] ++ F ∷ [] ≡ elements i (F ∷ [])
+    go zero = refl
+    go (suc i) = ap (λ l. F ∷ l) (go i)
+
+pub flag_last : (i : ℕ) → elements i [] ++ T ∷ [] ≡ elements i (T ∷ [])
+flag_last zero = refl
+flag_last (suc i) = ap (λ l. F ∷ l) (flag_last i)

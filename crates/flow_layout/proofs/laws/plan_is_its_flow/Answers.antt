@@ -1,0 +1,17 @@
+use Rattle.flow_graph.specs.Graphs.{states_of, edges_of}
+use Rattle.flow_graph.specs.Laws.{IsWithinLimits}
+use Rattle.flow_graph.proofs.Nets.{graph_network}
+use Rattle.flow_layout.proofs.PlansOfFlows.{flow_is_plan}
+use Rattle.flow_layout.proofs.FlowsOfPlans.{plan_is_flow}
+use Rattle.flow_layout.proofs.laws.plan_is_its_flow.Goals as goal
+
+pub returns : goal.returns
+returns g c =
+    let graph = c.args.graph.now in
+    let b = g.T.Transducer.behaviour in
+    let laws = g.met.T.Transducer.laws in
+    let states = states_of graph in
+    let edges = edges_of graph in
+    let net = graph_network graph laws in
+    let limits : IsWithinLimits b states edges = record { kinds = graph.kept.kinds; few_nodes = graph.kept.few_nodes; few_edges = graph.kept.few_edges } in
+    record { forth = plan_is_flow b laws states edges net limits; back = flow_is_plan b laws states edges net limits }

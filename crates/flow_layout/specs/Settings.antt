@@ -1,0 +1,25 @@
+-- Setting what a source of a plan writes, in the plan and in its network.
+use Rattle.std.specs.Prelude.{◌≡◌, ℕ, List, Some, slice_set, slice_index_or}
+use Rattle.std.specs.List.{slice_get}
+use Rattle.flow_edges.specs.Cells.{Cell}
+use Rattle.flow_edges.specs.declared.message.Kind.{Kind}
+use Rattle.flow_base.specs.Transducers.{Behaviour}
+use Rattle.flow_graph.specs.declared.edge.Edge.{Edge}
+use Rattle.flow_graph.specs.Replacements.{MayReplace}
+use Rattle.flow_plans.specs.Plans.{Step, source}
+use Rattle.flow_plans.specs.Layouts.{places, Performs, IsNetworkOf}
+
+-- the plan, where its step i is a source of these cells
+abbrev pub with_source : ℕ → Step → Kind → List Cell → List Step → List Step
+with_source i step kind cells plan = slice_set plan i (record step { operation = source kind cells })
+
+-- Where step i of a plan is a source, another source of the same kind may stand in place of its node, and then the network is
+-- that of the plan with the other source, whose steps have their nodes where they were.
+abbrev pub SourceIsSet : {S : Type 0} → Behaviour S → List S → List Edge → Type 0
+SourceIsSet {S = S} b states edges =
+    (plan : List Step) → IsNetworkOf b plan states edges
+    → (i : ℕ) (step : Step) (kind : Kind) (before cells : List Cell) → slice_get plan i ≡ Some step → step.operation ≡ source kind before
+    → (s : S) → Performs b (source kind cells) s
+    → let k = slice_index_or (places plan) i 0 in
+    MayReplace b states k s × IsNetworkOf b (with_source i step kind cells plan) (slice_set states k s) edges
+    × (places (with_source i step kind cells plan) ≡ places plan)

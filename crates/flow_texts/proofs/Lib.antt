@@ -1,0 +1,2 @@
+mod LastTexts
+mod Printing

@@ -1,0 +1,6 @@
+//! What the Print of a network gathers.
+#![tactic(auto)]
+
+mod laws;
+
+pub use laws::print_tells;

@@ -1,0 +1,100 @@
+-- What a command line says.
+use Rattle.std.specs.Prelude.{◌≡◌, ◌⊎◌, ℕ, true, List, [], ◌∷◌, Option, Some, None, codes, fold, length, map}
+use Rattle.std.specs.List.{All, range_with_len}
+use Rattle.std.specs.Char.{digit_value}
+use Rattle.std.specs.Int.{IsInRange}
+use Rattle.std.specs.Str.Parse.{IsNumeral, digits_value, without_leading_plus}
+use Rattle.clap.specs.Simple.{on_top}
+use Rattle.clap.specs.Words.{App, Rule, Text, fault_of, first_of, matches_of, new_app, new_rule, with_rule}
+use Rattle.snesl_values.specs.declared.refusal.Refusal.{Refusal}
+use Rattle.snesl_values.specs.declared.refusal.Refusal.TheVariants.{BadConfig, NoMemory}
+use Rattle.flow_drive.specs.Configs.{IsLawful, IsWithin}
+use Rattle.flow_drive.specs.declared.config.Config.{Config}
+use Rattle.flow_drive.specs.declared.config.Drive.{Drive}
+use Rattle.flow_drive.specs.declared.config.Drive.TheVariants.{Serial}
+
+-- ---- the options
+
+-- an option `--name`, which takes one value
+abbrev pub option_named : Text → Rule
+option_named name = record (new_rule name) { long = Some name }
+
+-- the names of the options
+abbrev pub option_names : List Text
+option_names = codes "capacity" ∷ codes "chunk" ∷ codes "threads" ∷ codes "idle" ∷ codes "drive" ∷ codes "deal" ∷ []
+
+-- the same command, where `--help` is no option
+abbrev pub without_help : App → App
+without_help app = on_top (λ shape. record shape { disable_help_flag = true }) app
+
+-- the command of the program: it has these options, and takes no other word
+abbrev pub command_line : App
+command_line = fold with_rule (without_help (new_app (codes "snesl"))) (map option_named option_names)
+
+-- the value that the words give the option
+abbrev pub option_value : List Text → Text → Option Text
+option_value words name = first_of name (matches_of command_line words)
+
+-- ---- the values
+
+-- The text is a spelling of the number: decimal digits, before which one plus may stand.
+pub record SpellsNumber (text : Text) (number : ℕ) : Type 0 where
+  pub digits : IsNumeral 10 (without_leading_plus text)
+  pub value : digits_value 10 (without_leading_plus text) ≡ number
+
+-- the value spells the number; where there is no value, the number is the default
+abbrev pub SaysNumber : Option Text → ℕ → ℕ → Type 0
+SaysNumber None default number = number ≡ default
+SaysNumber (Some text) default number = SpellsNumber text number
+
+-- the word for a drive
+abbrev pub drive_word : Drive → Text
+drive_word Serial = codes "serial"
+
+-- the value is the word for the drive; where there is no value, the drive is `Serial`
+abbrev pub SaysDrive : Option Text → Drive → Type 0
+SaysDrive None drive = drive ≡ Serial
+SaysDrive (Some text) drive = text ≡ drive_word drive
+
+-- one of 0..9 (48 to 57) and a..f (97 to 102)
+abbrev pub IsShareDigit : ℕ → Type 0
+IsShareDigit letter = IsInRange 48 57 letter ⊎ IsInRange 97 102 letter
+
+-- the most digits of a share
+abbrev pub most_digits : ℕ
+most_digits = 64
+
+-- The text is the spelling of the entries: one digit for each.
+pub record SpellsShare (text : Text) (share : List ℕ) : Type 0 where
+  pub count : IsWithin most_digits (length text)
+  pub digits : All IsShareDigit text
+  pub entries : share ≡ map digit_value text
+
+-- the value spells the entries; where there is no value, they are the numbers below `threads`
+abbrev pub SaysShare : Option Text → ℕ → List ℕ → Type 0
+SaysShare None threads share = share ≡ range_with_len 0 threads
+SaysShare (Some text) threads share = SpellsShare text share
+
+-- ---- the configuration
+
+-- Each field is what its option says, by the values of the options.
+pub record HasFields (value : Text → Option Text) (config : Config) : Type 0 where
+  pub capacity : SaysNumber (value (codes "capacity")) 256 config.capacity
+  pub chunk : SaysNumber (value (codes "chunk")) 16 config.chunk
+  pub threads : SaysNumber (value (codes "threads")) 2 config.sharing.threads
+  pub idle_turns : SaysNumber (value (codes "idle")) 64 config.sharing.idle_turns
+  pub drive : SaysDrive (value (codes "drive")) config.drive
+  pub share : SaysShare (value (codes "deal")) config.sharing.threads config.sharing.share.items
+
+-- The words say the configuration: clap finds no fault in them, and each field is what its option says.
+pub record SaysSo (words : List Text) (config : Config) : Type 0 where
+  pub faultless : fault_of command_line words ≡ []
+  pub fields : HasFields (option_value words) config
+
+-- the words say a configuration that is lawful
+abbrev pub AreLawful : List Text → Type 0
+AreLawful words = (config : Config) × SaysSo words config × IsLawful config
+
+-- the refusal is want of memory, or it is `BadConfig` and `Lawful` does not hold
+abbrev pub RefusesBut : Type 0 → Refusal → Type 0
+RefusesBut Lawful refusal = (refusal ≡ NoMemory) ⊎ ((refusal ≡ BadConfig) × ¬ Lawful)

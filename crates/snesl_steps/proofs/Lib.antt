@@ -1,0 +1,3 @@
+pub mod Adding
+pub mod Sources
+pub mod Comparisons

@@ -1,0 +1,197 @@
+// The steps of operators and built-in functions.
+
+ghost use Rattle.std.specs.Prelude.{◌≡◌, ◌∷◌, []};
+ghost use Rattle.std.specs.Prelude.{map};
+ghost use Rattle.snesl_values.specs.Types.{ty_of};
+ghost use Rattle.flow_plans.specs.Plans.{const, units_of, index};
+ghost use Rattle.snesl_translation.specs.Makings.{stepped};
+ghost use Rattle.snesl_translation.specs.Wires.{type_of_wires, item_type, stream_of};
+ghost use Rattle.snesl_translation.specs.Moving.{flags_stepped, mixed};
+ghost use Rattle.snesl_translation.specs.Translation.{appended, binary_streams, prefix_streams, concatenated, scalars_step, equality, same_lengths, in_step};
+ghost use Rattle.snesl_steps.specs.Views.{bindings_of, dialect_of_steps, next_in, wires_of};
+ghost use Rattle.snesl_steps.specs.Added.{Adds};
+
+use crate::steps::Steps;
+use crate::wires::{Binding, Wires, copy_wires, kind_of, pair_wires, sequence_wires};
+use flow_plans::Operation;
+use snesl_operators::{BinaryOperator, Scalar, UnaryOperator};
+use snesl_tree::{Operator, Prefix};
+use snesl_values::{Refusal, Ty, copy_ty};
+
+/// A constant, of this type, for each Unit of a control stream. The errors are those of `Steps::step`.
+pub fn constant(
+    steps: &mut Steps,
+    at: usize,
+    scalar: Scalar,
+    ty: &Ty,
+    control: usize,
+) -> Result<Wires, Refusal>
+    ensures { Adds wires_of steps.old steps.new (stepped at (const scalar) (control ∷ []) (ty_of ty.now) (next_in steps.old)) result }
+{
+    steps.step_on(at, Operation::Const(scalar), &[control], ty)
+}
+
+/// A Unit for each element of the segments of a stream of flags. The errors are those of `Steps::step`.
+pub fn unit_for_each(steps: &mut Steps, at: usize, flags: usize) -> Result<Wires, Refusal>
+    ensures { Adds wires_of steps.old steps.new (flags_stepped at units_of (flags ∷ []) (next_in steps.old)) result }
+{
+    steps.step_on(at, Operation::UnitsOf, &[flags], &Ty::Bool)
+}
+
+/// One sequence followed by another. The errors are those of `Steps::step`.
+pub fn append(steps: &mut Steps, at: usize, left: &Wires, right: &Wires) -> Result<Wires, Refusal>
+    ensures { Adds wires_of steps.old steps.new (appended at (wires_of left.now) (wires_of right.now) (next_in steps.old)) result }
+{
+    let (f, g) = (left.stream(), right.stream());
+    let flags = steps.flags(at, Operation::AppendFlags, &[f, g])?;
+    let items = mixed(steps, at, f, g, left.items(), right.items())?;
+    let appended = sequence_wires(steps.alloc, flags, items)?;
+    Ok(appended)
+}
+
+// Of two values with as many segments, of flags f and g, the elements of both, segment by segment.
+fn mixed(
+    steps: &mut Steps,
+    at: usize,
+    f: usize,
+    g: usize,
+    left: &Wires,
+    right: &Wires,
+) -> Result<Wires, Refusal>
+    ensures { Adds wires_of steps.old steps.new (mixed at f g (wires_of left.now) (wires_of right.now) (next_in steps.old)) result }
+{
+    match left {
+        Wires::Wire(ty, number) => {
+            let operation = Operation::Interleave(kind_of(ty));
+            steps.step_on(at, operation, &[f, g, *number, right.stream()], ty)
+        }
+        Wires::Two(first, second) => {
+            let first = mixed(steps, at, f, g, first, right.first())?;
+            let second = mixed(steps, at, f, g, second, right.second())?;
+            let mixed = pair_wires(steps.alloc, first, second)?;
+            Ok(mixed)
+        }
+        Wires::Segments(p, items) => {
+            let q = right.stream();
+            let flags = steps.flags(at, Operation::InterleaveGroups, &[f, g, *p, q])?;
+            let f = steps.flags(at, Operation::ConcatFlags, &[f, *p])?;
+            let g = steps.flags(at, Operation::ConcatFlags, &[g, q])?;
+            let items = mixed(steps, at, f, g, items, right.items())?;
+            let mixed = sequence_wires(steps.alloc, flags, items)?;
+            Ok(mixed)
+        }
+    }
+}
+
+/// The inner sequences of a sequence as one. The errors are those of `Steps::step`.
+pub fn concatenate(steps: &mut Steps, at: usize, sequence: &Wires) -> Result<Wires, Refusal>
+    ensures { Adds wires_of steps.old steps.new (concatenated at (wires_of sequence.now) (next_in steps.old)) result }
+{
+    let (outer, inner) = (sequence.stream(), sequence.items().stream());
+    let flags = steps.flags(at, Operation::ConcatFlags, &[outer, inner])?;
+    let items = copy_wires(steps.alloc, sequence.items().items())?;
+    let joined = sequence_wires(steps.alloc, flags, items)?;
+    Ok(joined)
+}
+
+/// An operator between two operands. The errors are those of `Steps::step`.
+pub fn apply_operator(
+    steps: &mut Steps,
+    at: usize,
+    operator: Operator,
+    left: &Wires,
+    right: &Wires,
+) -> Result<Wires, Refusal>
+    ensures { Adds wires_of steps.old steps.new (binary_streams (dialect_of_steps steps.old) at operator (wires_of left.now) (wires_of right.now) (next_in steps.old)) result }
+{
+    let (scalar_operator, ty) = match operator {
+        Operator::Or => (BinaryOperator::Or, Ty::Bool),
+        Operator::And => (BinaryOperator::And, Ty::Bool),
+        Operator::Equal => (equality(left), Ty::Bool),
+        Operator::Less => (BinaryOperator::Less, Ty::Bool),
+        Operator::AtMost => (BinaryOperator::AtMost, Ty::Bool),
+        Operator::Greater => (BinaryOperator::Greater, Ty::Bool),
+        Operator::AtLeast => (BinaryOperator::AtLeast, Ty::Bool),
+        Operator::Append => return append(steps, at, left, right),
+        Operator::Add => (BinaryOperator::Add, Ty::Int),
+        Operator::Subtract => (BinaryOperator::Subtract, Ty::Int),
+        Operator::Multiply => (BinaryOperator::Multiply, Ty::Int),
+        Operator::Divide => (BinaryOperator::Divide, Ty::Int),
+        Operator::Remainder => (BinaryOperator::Remainder, Ty::Int),
+        Operator::Index => return element(steps, at, left, right),
+    };
+    let reads = [left.stream(), right.stream()];
+    steps.step_on(at, Operation::Binary(scalar_operator), &reads, &ty)
+}
+
+// `==` of two truth values, or of two integers.
+fn equality(operand: &Wires) -> BinaryOperator
+    ensures { result ≡ equality (type_of_wires (wires_of operand.now)) }
+{
+    match operand {
+        Wires::Wire(Ty::Bool, _) => BinaryOperator::EqualTruths,
+        _ => BinaryOperator::EqualIntegers,
+    }
+}
+
+// An element of a vector, by its place.
+fn element(steps: &mut Steps, at: usize, vector: &Wires, place: &Wires) -> Result<Wires, Refusal>
+    ensures { Adds wires_of steps.old steps.new (stepped at (index (item_type (type_of_wires (wires_of vector.now)))) (stream_of (wires_of vector.now) ∷ stream_of (wires_of place.now) ∷ []) (item_type (type_of_wires (wires_of vector.now))) (next_in steps.old)) result }
+{
+    let ty = vector.ty(steps.alloc)?;
+    let item = item_of(&ty);
+    let operation = Operation::Index(copy_ty(steps.alloc, item)?);
+    steps.step_on(at, operation, &[vector.stream(), place.stream()], item)
+}
+
+// The type of the elements of a vector or a sequence.
+pub(crate) fn item_of(ty: &Ty) -> &Ty
+    ensures { ty_of result.now ≡ item_type (ty_of ty.now) }
+{
+    match ty {
+        Ty::Vec(item) | Ty::Seq(item) => item,
+        _ => ty,
+    }
+}
+
+/// An operator before its operand. The errors are those of `Steps::step`.
+pub fn apply_prefix(
+    steps: &mut Steps,
+    at: usize,
+    operator: Prefix,
+    operand: &Wires,
+) -> Result<Wires, Refusal>
+    ensures { Adds wires_of steps.old steps.new (prefix_streams (dialect_of_steps steps.old) at operator (wires_of operand.now) (next_in steps.old)) result }
+{
+    let (operator, ty) = match operator {
+        Prefix::Negate => (UnaryOperator::Negate, Ty::Int),
+        Prefix::Not => (UnaryOperator::Not, Ty::Bool),
+    };
+    steps.step_on(at, Operation::Unary(operator), &[operand.stream()], &ty)
+}
+
+/// That the sequences of a comprehension have segments of the same lengths: the first is compared with each other one. The
+/// errors are those of `Steps::step`.
+pub fn same_lengths(steps: &mut Steps, at: usize, sources: &[Binding<'_>]) -> Result<(), Refusal>
+    ensures { Adds (λ x. x) steps.old steps.new (in_step at (bindings_of sources.now) (next_in steps.old)) result }
+{
+    match sources {
+        [] => Ok(()),
+        [first, others @ ..] => same_as(steps, at, first.wires.stream(), others),
+    }
+}
+
+// That these sequences have segments of the same lengths as the stream of flags.
+fn same_as(
+    steps: &mut Steps,
+    at: usize,
+    flags: usize,
+    others: &[Binding<'_>],
+) -> Result<(), Refusal>
+    ensures { Adds (λ x. x) steps.old steps.new (same_lengths at flags (bindings_of others.now) (next_in steps.old)) result }
+{
+    for source in others {
+        steps.test_on(at, Operation::SameFlags, &[flags, source.wires.stream()])?;
+    }
+    Ok(())
+}

@@ -1,0 +1,6 @@
+pub mod Declared
+pub mod Makings
+pub mod Listed
+pub mod Adding
+pub mod Bindings
+pub mod Opening

@@ -1,0 +1,46 @@
+-- Makings one after another, in other groups.
+use Rattle.std.proofs.Common.{◌≡◌, ℕ, List, [], ◌∷◌, ◌++◌, refl, sym, ap, ◌∙◌, append_assoc, append-nil}
+use Rattle.snesl_translation.specs.Wires.{Wires}
+use Rattle.snesl_translation.specs.Makings.{Making, done, and_then}
+use Rattle.snesl_translation.specs.Translation.{appended}
+use Rattle.snesl_translator.specs.Translated.{all_appended, appended_to}
+
+pub in_turn : {A B C : Type 0} (first : Making A) (second : A → ℕ → Making B) (rest : B → ℕ → Making C)
+    → and_then (and_then first second) rest ≡ and_then first (λ x k. and_then (second x k) rest)
+unfolding and_then
+in_turn first second rest =
+    let middle = second first.given first.next in
+    let last = rest middle.given middle.next in
+    ap (λ steps. record { steps = steps; given = last.given; next = last.next }) (append_assoc first.steps middle.steps last.steps)
+
+-- nothing behind a making changes it
+pub then_nothing : {A : Type 0} (first : Making A) → and_then first (λ x k. done x k) ≡ first
+unfolding and_then
+then_nothing first = ap (λ steps. record { steps = steps; given = first.given; next = first.next }) (append-nil first.steps)
+
+-- behind three makings that give one thing
+pub three_in_turn : {A B C D E : Type 0} (a : Making A) (b : A → ℕ → Making B) (c : A → B → ℕ → Making C) (g : A → B → C → D) (rest : D → ℕ → Making E)
+    → and_then (and_then a (λ x k. and_then (b x k) (λ y k. and_then (c x y k) (λ z k. done (g x y z) k)))) rest
+    ≡ and_then a (λ x k. and_then (b x k) (λ y k. and_then (c x y k) (λ z k. rest (g x y z) k)))
+unfolding and_then
+three_in_turn a b c g rest =
+    let second = b a.given a.next in
+    let third = c a.given second.given second.next in
+    let last = rest (g a.given second.given third.given) third.next in
+    ap (λ steps. record { steps = steps; given = last.given; next = last.next })
+    (append_assoc a.steps (second.steps ++ (third.steps ++ [])) last.steps
+    ∙ ap (λ l. a.steps ++ l) (append_assoc second.steps (third.steps ++ []) last.steps ∙ ap (λ l. second.steps ++ l) (append_assoc third.steps [] last.steps)))
+
+-- the last of several sequences is appended to first
+pub appended-last : (at : ℕ) (us : List Wires) (v w : Wires) (next : ℕ)
+    → appended_to at (us ++ v ∷ []) w next ≡ and_then (appended at v w next) (λ x k. appended_to at us x k)
+unfolding and_then
+appended-last at [] v w next = sym (then_nothing (appended at v w next))
+appended-last at (u ∷ us) v w next =
+    ap (λ (m : Making Wires). and_then m (λ y k. appended at u y k)) (appended-last at us v w next)
+    ∙ in_turn (appended at v w next) (λ x k. appended_to at us x k) (λ y k. appended at u y k)
+
+pub all_appended-last : (at : ℕ) (us : List Wires) (w : Wires) (next : ℕ) → all_appended at (us ++ w ∷ []) next ≡ appended_to at us w next
+all_appended-last at [] w next = refl
+all_appended-last at (u ∷ []) w next = refl
+all_appended-last at (u ∷ v ∷ us) w next = ap (λ (m : Making Wires). and_then m (λ y k. appended at u y k)) (all_appended-last at (v ∷ us) w next)

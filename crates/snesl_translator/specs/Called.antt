@@ -1,0 +1,28 @@
+-- Which function a call means, where the translator stands.
+use Rattle.std.specs.Prelude.{◌≡◌, ℕ, List, map}
+use Rattle.snesl_values.specs.declared.dialect.Dialect.{Dialect}
+use Rattle.snesl_tree.specs.declared.declaration.Declaration.{Declaration}
+use Rattle.snesl_tree.specs.declared.declaration.Function.{Function}
+use Rattle.snesl_tree.specs.View.{declaration_of, tree_of, typed_of}
+use Rattle.snesl_translation.specs.Wires.{Wires}
+use Rattle.snesl_translation.specs.Makings.{Making, done}
+use Rattle.snesl_translation.specs.Translation.{nowhere, tr}
+use Rattle.snesl_translation.specs.Functions.{bodies_of, parameters_bound}
+
+-- the steps of a function that stands behind these declarations, at these streams of its arguments
+abbrev pub entered : Dialect → List ℕ → Function → List Declaration → List Wires → (control next : ℕ) → Making Wires
+entered dialect text function earlier arguments control next =
+    tr dialect text (bodies_of dialect text (map declaration_of earlier)) (tree_of function.body)
+    (parameters_bound text (map typed_of function.parameters.items) arguments) control next
+
+-- calls of this name are, in each dialect, calls of this function, which stands behind these declarations
+abbrev pub IsCalled : List ℕ → List Declaration → List ℕ → Function → List Declaration → Type 0
+IsCalled text declarations name function earlier =
+    (dialect : Dialect) (at : ℕ) (arguments : List Wires) (control next : ℕ)
+    → bodies_of dialect text (map declaration_of declarations) at name arguments control next ≡ entered dialect text function earlier arguments control next
+
+-- calls of this name have no function
+abbrev pub IsUnknown : List ℕ → List Declaration → List ℕ → Type 0
+IsUnknown text declarations name =
+    (dialect : Dialect) (at : ℕ) (arguments : List Wires) (control next : ℕ)
+    → bodies_of dialect text (map declaration_of declarations) at name arguments control next ≡ done nowhere next

@@ -1,0 +1,75 @@
+-- The translation of an expression where the translator stands.
+use Rattle.std.specs.Prelude.{ℕ, List, [], ◌∷◌, map}
+use Rattle.snesl_values.specs.declared.dialect.Dialect.{Dialect}
+use Rattle.snesl_tree.specs.Tree.{Tree, Trees, Binders, none, both}
+use Rattle.snesl_tree.specs.View.{declaration_of}
+use Rattle.snesl_translation.specs.Wires.{Wires, segments, stream_of}
+use Rattle.snesl_translation.specs.Makings.{Making, done, and_then}
+use Rattle.snesl_translation.specs.FreeNames.{free}
+use Rattle.snesl_translation.specs.Translation.{Bodies, Sources, appended, concatenated, filtered, nowhere, single, tr, tr_all, tr_binders}
+use Rattle.snesl_translation.specs.Functions.{bodies_of}
+use Rattle.snesl_steps.specs.Views.{dialect_of_steps, next_in}
+use Rattle.snesl_steps.specs.declared.steps.Steps.{Steps}
+use Rattle.snesl_scopes.specs.Scopes.{bound_of}
+use Rattle.snesl_scopes.specs.declared.scope.Scope.{Scope}
+use Rattle.snesl_translator.specs.declared.translator.Setting.{Setting}
+use Rattle.snesl_translator.specs.Rows.{Opened}
+
+-- the bodies of the functions that may be called
+abbrev pub bodies_in : Dialect → Setting → Bodies
+bodies_in dialect setting = bodies_of dialect setting.text.now (map declaration_of setting.functions.now)
+
+-- the steps of an expression, from a stream's number on
+abbrev pub tr_in : Dialect → Setting → Scope → Tree → (control next : ℕ) → Making Wires
+tr_in dialect setting scope tree control next = tr dialect setting.text.now (bodies_in dialect setting) tree (bound_of scope) control next
+
+-- the steps of an expression behind these
+abbrev pub translated : Steps → Setting → Scope → Tree → ℕ → Making Wires
+translated steps setting scope tree control =
+    tr (dialect_of_steps steps) setting.text.now (bodies_in (dialect_of_steps steps) setting) tree (bound_of scope) control (next_in steps)
+
+-- those of arguments, and of the sequences of binders
+abbrev pub all_in : Dialect → Setting → Scope → Trees → (control next : ℕ) → Making (List Wires)
+all_in dialect setting scope trees control next = tr_all dialect setting.text.now (bodies_in dialect setting) trees (bound_of scope) control next
+
+abbrev pub binders_in : Dialect → Setting → Scope → Binders → (control next : ℕ) → Making Sources
+binders_in dialect setting scope binders control next = tr_binders dialect setting.text.now (bodies_in dialect setting) binders (bound_of scope) control next
+
+-- those of an item where truth values are true, and of one where true stands
+abbrev pub filtered_in : Dialect → Setting → Scope → ℕ → Tree → (truths next : ℕ) → Making Wires
+filtered_in dialect setting scope at item truths next =
+    filtered at (free setting.text.now item) (λ b c n. tr dialect setting.text.now (bodies_in dialect setting) item b c n) (bound_of scope) truths next
+
+abbrev pub single_in : Dialect → Setting → Scope → ℕ → Tree → (control next : ℕ) → Making Wires
+single_in dialect setting scope at item control next =
+    single at (free setting.text.now item) (λ b c n. tr dialect setting.text.now (bodies_in dialect setting) item b c n) (bound_of scope) control next
+
+-- those of the items of a literal, each alone
+abbrev pub singles_in : Dialect → Setting → Scope → ℕ → Trees → (control next : ℕ) → Making (List Wires)
+singles_in dialect setting scope at none control next = done [] next
+singles_in dialect setting scope at (both first others) control next =
+    and_then (single_in dialect setting scope at first control next) (λ u k.
+    and_then (singles_in dialect setting scope at others control k) (λ us k. done (u ∷ us) k))
+
+-- these sequences in order, and behind them one more: they are appended from the last one on
+abbrev pub appended_to : ℕ → List Wires → Wires → ℕ → Making Wires
+appended_to at [] w next = done w next
+appended_to at (u ∷ us) w next = and_then (appended_to at us w next) (λ v k. appended at u v k)
+
+-- sequences in order, one behind the other
+abbrev pub all_appended : ℕ → List Wires → ℕ → Making Wires
+all_appended at [] next = done nowhere next
+all_appended at (u ∷ []) next = done u next
+all_appended at (u ∷ v ∷ us) next = and_then (all_appended at (v ∷ us) next) (λ w k. appended at u w k)
+
+-- the steps of a body that sees this
+abbrev pub body_in : Dialect → Setting → Opened → Tree → ℕ → Making Wires
+body_in dialect setting rows body next =
+    and_then (tr dialect setting.text.now (bodies_in dialect setting) body rows.bound rows.control next) (λ w k. done (segments rows.flags w) k)
+
+-- and those of a body where a condition is true
+abbrev pub where_in : Dialect → Setting → Opened → ℕ → (body condition : Tree) → ℕ → Making Wires
+where_in dialect setting rows at body condition next =
+    and_then (tr dialect setting.text.now (bodies_in dialect setting) condition rows.bound rows.control next) (λ d k.
+    and_then (filtered at (free setting.text.now body) (λ b c n. tr dialect setting.text.now (bodies_in dialect setting) body b c n) rows.bound (stream_of d) k) (λ w k.
+    concatenated at (segments rows.flags w) k))

@@ -1,0 +1,107 @@
+// What the forms of expressions have beside the expressions in them.
+
+ghost use Rattle.std.specs.Prelude.{map};
+ghost use Rattle.snesl_tree.specs.Spelling.{spelling};
+ghost use Rattle.snesl_translation.specs.Wires.{two, segments, stream_of, item_wires};
+ghost use Rattle.snesl_translation.specs.Makings.{done, and_then, tested};
+ghost use Rattle.snesl_translation.specs.Translation.{appended, concatenated, wires_named};
+ghost use Rattle.flow_plans.specs.Plans.{the_check};
+ghost use Rattle.std.specs.Prelude.{◌∷◌, []};
+ghost use Rattle.snesl_steps.specs.Views.{next_in, wires_of};
+ghost use Rattle.snesl_steps.specs.Added.{Adds};
+ghost use Rattle.snesl_scopes.specs.Scopes.{bound_of};
+ghost use Rattle.snesl_translator.specs.Translated.{all_appended, appended_to};
+
+use snesl_scopes::{Scope, look_up};
+use snesl_steps::{Steps, Wires, append, apply_built_in, concatenate, pair_wires, sequence_wires};
+use snesl_tree::{Builtin, Span};
+use snesl_values::{Refusal, Ty};
+
+// The streams of a name.
+pub(crate) fn named(
+    steps: &mut Steps,
+    text: &[u8],
+    name: Span,
+    scope: &Scope<'_>,
+) -> Result<Wires, Refusal>
+    ensures { Adds wires_of steps.old steps.new (done (wires_named (spelling text.now name) (bound_of scope.now)) (next_in steps.old)) result }
+{
+    let wires = look_up(steps.alloc(), name.spelled(text), scope)?;
+    Ok(wires)
+}
+
+// The streams of a pair.
+pub(crate) fn paired(steps: &mut Steps, first: Wires, second: Wires) -> Result<Wires, Refusal>
+    ensures { Adds wires_of steps.old steps.new (done (two (wires_of first) (wires_of second)) (next_in steps.old)) result }
+{
+    let wires = pair_wires(steps.alloc(), first, second)?;
+    Ok(wires)
+}
+
+// The streams of a sequence.
+pub(crate) fn sequence(steps: &mut Steps, flags: usize, items: Wires) -> Result<Wires, Refusal>
+    ensures { Adds wires_of steps.old steps.new (done (segments flags (wires_of items)) (next_in steps.old)) result }
+{
+    let wires = sequence_wires(steps.alloc(), flags, items)?;
+    Ok(wires)
+}
+
+// The inner sequences of a sequence as one. The errors are those of `Steps::step`.
+pub(crate) fn flat(
+    steps: &mut Steps,
+    at: usize,
+    flags: usize,
+    items: Wires,
+) -> Result<Wires, Refusal>
+    ensures { Adds wires_of steps.old steps.new (concatenated at (segments flags (wires_of items)) (next_in steps.old)) result }
+{
+    let sequences = sequence_wires(steps.alloc(), flags, items)?;
+    concatenate(steps, at, &sequences)
+}
+
+// Of two sequences, of which one is empty, the element of the other. The errors are those of `Steps::step`.
+pub(crate) fn one_of(
+    steps: &mut Steps,
+    at: usize,
+    left: &Wires,
+    right: &Wires,
+) -> Result<Wires, Refusal>
+    ensures { Adds wires_of steps.old steps.new (and_then (appended at (wires_of left.now) (wires_of right.now) (next_in steps.old)) (λ w k. tested at the_check (stream_of w ∷ []) (item_wires w) k)) result }
+{
+    let both = append(steps, at, left, right)?;
+    let mut arguments = Vec::new(steps.alloc());
+    arguments.push(both)?;
+    apply_built_in(steps, at, Builtin::The, &arguments)
+}
+
+// Sequences in order, one behind the other. The errors are those of `Steps::step`.
+pub(crate) fn append_all(
+    steps: &mut Steps,
+    at: usize,
+    mut sequences: Vec<Wires>,
+) -> Result<Wires, Refusal>
+    ensures { Adds wires_of steps.old steps.new (all_appended at (map wires_of sequences.items) (next_in steps.old)) result }
+{
+    match sequences.pop() {
+        Some(last) => append_onto(steps, at, sequences, last),
+        None => Ok(Wires::Wire(Ty::Int, 0)),
+    }
+}
+
+// It calls itself not more often than there are steps: each of the sequences has some.
+fn append_onto(
+    steps: &mut Steps,
+    at: usize,
+    mut sequences: Vec<Wires>,
+    last: Wires,
+) -> Result<Wires, Refusal>
+    ensures { Adds wires_of steps.old steps.new (appended_to at (map wires_of sequences.items) (wires_of last) (next_in steps.old)) result }
+{
+    match sequences.pop() {
+        Some(before) => {
+            let longer = append(steps, at, &before, &last)?;
+            append_onto(steps, at, sequences, longer)
+        }
+        None => Ok(last),
+    }
+}

@@ -1,0 +1,112 @@
+// Parts of a program that run more often, or less often, than what is around them.
+
+ghost use Rattle.std.specs.Prelude.{◌≡◌, ◌∷◌, ◌++◌, []};
+ghost use Rattle.snesl_tree.specs.View.{binders_of, tree_of};
+ghost use Rattle.flow_plans.specs.Plans.{flag_of_bool};
+ghost use Rattle.snesl_translation.specs.FreeNames.{free, without_binders};
+ghost use Rattle.snesl_translation.specs.Moving.{flags_stepped};
+ghost use Rattle.snesl_steps.specs.Views.{bindings_of, next_in, wires_of};
+ghost use Rattle.snesl_steps.specs.Added.{Adds};
+ghost use Rattle.snesl_scopes.specs.Scopes.{bound_of, names_in};
+ghost use Rattle.snesl_translator.specs.Rows.{each_opened, rows_of, where_opened};
+
+use crate::frames::{bind_items, flags_of_first};
+use flow_plans::Operation;
+use snesl_scopes::{Part, Scope, distribute_all, keep_all};
+use snesl_steps::{Binding, Steps, Wires, same_lengths, unit_for_each};
+use snesl_tree::{Binder, Expr};
+use snesl_values::{Refusal, Ty};
+
+// What such a part sees: the flags that its values stand under, its own names, those from outside, and its control stream.
+#[derive(Drop)]
+pub(crate) struct Rows<'a> {
+    pub(crate) flags: usize,
+    pub(crate) items: Vec<Binding<'a>>,
+    pub(crate) outside: Vec<Binding<'a>>,
+    pub(crate) control: usize,
+}
+
+// A body within its binders.
+pub(crate) fn part_of<'a>(text: &'a [u8], binders: &'a [Binder], body: &'a Expr) -> Part<'a>
+    ensures { names_in result ≡ without_binders text.now (binders_of binders.now) (free text.now (tree_of body.now)) }
+{
+    Part {
+        text,
+        binders,
+        condition: None,
+        body,
+    }
+}
+
+// A condition and a body within their binders.
+pub(crate) fn part_where<'a>(
+    text: &'a [u8],
+    binders: &'a [Binder],
+    condition: &'a Expr,
+    body: &'a Expr,
+) -> Part<'a>
+    ensures { names_in result ≡ without_binders text.now (binders_of binders.now) (free text.now (tree_of condition.now) ++ free text.now (tree_of body.now)) }
+{
+    Part {
+        text,
+        binders,
+        condition: Some(condition),
+        body,
+    }
+}
+
+// Of a comprehension's body, beside these sequences. The errors are those of `Steps::step`.
+pub(crate) fn open_each<'a>(
+    steps: &mut Steps,
+    at: usize,
+    part: &Part<'_>,
+    sources: &[Binding<'a>],
+    scope: &Scope<'a>,
+) -> Result<Rows<'a>, Refusal>
+    ensures { Adds rows_of steps.old steps.new (each_opened at (names_in part.now) (bindings_of sources.now) (bound_of scope.now) (next_in steps.old)) result }
+{
+    let flags = flags_of_first(sources);
+    let items = bind_items(steps.alloc(), sources)?;
+    same_lengths(steps, at, sources)?;
+    let outside = distribute_all(steps, at, flags, part, scope)?;
+    let units = unit_for_each(steps, at, flags)?;
+    let control = units.stream();
+    Ok(Rows {
+        flags,
+        items,
+        outside,
+        control,
+    })
+}
+
+// Of an item, where these truth values are true. The errors are those of `Steps::step`.
+pub(crate) fn open_where<'a>(
+    steps: &mut Steps,
+    at: usize,
+    part: &Part<'_>,
+    truths: usize,
+    scope: &Scope<'a>,
+) -> Result<Rows<'a>, Refusal>
+    ensures { Adds rows_of steps.old steps.new (where_opened at (names_in part.now) (bound_of scope.now) truths (next_in steps.old)) result }
+{
+    let segments = flags_of(steps, at, truths)?;
+    let outside = keep_all(steps, at, truths, part, scope)?;
+    let flags = segments.stream();
+    let units = unit_for_each(steps, at, flags)?;
+    let control = units.stream();
+    Ok(Rows {
+        flags,
+        items: Vec::new(steps.alloc()),
+        outside,
+        control,
+    })
+}
+
+// The flags of one sequence for each truth value, which has an element where it is true.
+fn flags_of(steps: &mut Steps, at: usize, truths: usize) -> Result<Wires, Refusal>
+    ensures { Adds wires_of steps.old steps.new (flags_stepped at flag_of_bool (truths ∷ []) (next_in steps.old)) result }
+{
+    let mut reads = Vec::new(steps.alloc());
+    reads.push(truths)?;
+    steps.step(at, Operation::FlagOfBool, reads, &Ty::Bool)
+}

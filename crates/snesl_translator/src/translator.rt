@@ -1,0 +1,541 @@
+// Translation.
+
+ghost use Rattle.std.specs.Prelude.{◌∷◌, ◌++◌, map};
+ghost use Rattle.snesl_tree.specs.Spelling.{spelling};
+ghost use Rattle.snesl_tree.specs.Tree.{apply, always, binary, binding, call, choice, each, filter, literal, only_where, pair, prefix};
+ghost use Rattle.snesl_tree.specs.View.{binders_of, tree_of, trees_of};
+ghost use Rattle.snesl_translation.specs.Wires.{stream_of};
+ghost use Rattle.snesl_translation.specs.Makings.{and_then};
+ghost use Rattle.snesl_translation.specs.Translation.{prefix_streams, tr};
+ghost use Rattle.snesl_tree.specs.declared.operator.Prefix.TheVariants.{Not};
+ghost use Rattle.snesl_steps.specs.Views.{bindings_of, dialect_of_steps, next_in, wires_of};
+ghost use Rattle.snesl_steps.specs.Added.{Adds};
+ghost use Rattle.snesl_scopes.specs.Scopes.{bound_of};
+ghost use Rattle.snesl_translator.specs.Called.{entered};
+ghost use Rattle.snesl_translator.specs.Rows.{rows_of};
+ghost use Rattle.snesl_translator.specs.Translated.{all_in, binders_in, bodies_in, body_in, filtered_in, single_in, singles_in, translated, where_in};
+
+use crate::forms::{append_all, flat, named, one_of, paired, sequence};
+use crate::frames::{bind_parameters, one_bound};
+use crate::functions::find_function;
+use crate::rows::{Rows, open_each, open_where, part_of, part_where};
+use snesl_operators::Scalar;
+use snesl_scopes::Scope;
+use snesl_steps::{Binding, Steps, Wires, apply_built_in, apply_operator, apply_prefix, constant};
+use snesl_tree::{Binder, Builtin, Declaration, Expr, Function, Operator, Prefix, Span};
+use snesl_values::{Refusal, Ty};
+
+/// What stays the same in one body: the text, in which names are spelled, and the declarations whose functions may be
+/// called.
+#[derive(Clone, Copy)]
+pub struct Setting<'a> {
+    pub text: &'a [u8],
+    pub functions: &'a [Declaration],
+}
+
+/// Adds the steps of an expression under a control stream, which has one Unit for each instance of it, and returns the
+/// streams of its values. `scope` tells the streams of names.
+///
+/// The translation is the flattening of nested data-parallelism (Blelloch and Sabot, 1990), onto streams (Madsen and
+/// Filinski, 2013).
+///
+/// # Errors
+///
+/// `TooBig` where there would be more steps than a graph has nodes, and else `NoMemory`.
+#[cycle(translate)]
+#[inline(never)]
+pub fn translate(
+    steps: &mut Steps,
+    setting: &Setting<'_>,
+    expr: &Expr,
+    scope: &Scope<'_>,
+    control: usize,
+) -> Result<Wires, Refusal>
+    ensures { Adds wires_of steps.old steps.new (translated steps.old setting.now scope.now (tree_of expr.now) control) result }
+{
+    // It only hands each form on to a function of its own, and none is inlined into another: its frame, and theirs, are
+    // what translation takes of the stack.
+    match expr {
+        Expr::Integer { at, value } => constant(steps, *at, Scalar::Int(*value), &Ty::Int, control),
+        Expr::Truth { at, value } => constant(steps, *at, Scalar::Bool(*value), &Ty::Bool, control),
+        Expr::Name(name) => named(steps, setting.text, *name, scope),
+        Expr::Binary {
+            at,
+            operator,
+            left,
+            right,
+        } => binary_form(steps, setting, *at, *operator, left, right, scope, control),
+        Expr::Prefix {
+            at,
+            operator,
+            operand,
+        } => prefix_form(steps, setting, *at, *operator, operand, scope, control),
+        Expr::Call {
+            at,
+            function,
+            arguments,
+        } => built_in(steps, setting, *at, *function, arguments, scope, control),
+        Expr::Apply {
+            function,
+            arguments,
+        } => call_form(steps, setting, *function, arguments, scope, control),
+        Expr::Group { inner, .. } => translate(steps, setting, inner, scope, control),
+        Expr::Pair { at, first, second } => pair_form(
+            steps, setting, *at, first, second, scope, control,
+        ),
+        Expr::Let {
+            at,
+            name,
+            value,
+            body,
+        } => let_form(steps, setting, *at, *name, value, body, scope, control),
+        Expr::If {
+            at,
+            condition,
+            positive,
+            negative,
+        } => if_form(
+            steps, setting, *at, condition, positive, negative, scope, control,
+        ),
+        Expr::Literal { at, items } => literal_form(steps, setting, *at, items, scope, control),
+        Expr::Filter {
+            at,
+            item,
+            condition,
+        } => filter_form(steps, setting, *at, item, condition, scope, control),
+        Expr::Each {
+            at,
+            body,
+            binders,
+            condition,
+        } => match condition {
+            None => each_form(steps, setting, *at, body, binders, scope, control),
+            Some(condition) => each_where(
+                steps, setting, *at, body, binders, condition, scope, control,
+            ),
+        },
+    }
+}
+
+// An operator between two operands.
+#[cycle(translate)]
+#[inline(never)]
+fn binary_form(
+    steps: &mut Steps,
+    setting: &Setting<'_>,
+    at: usize,
+    operator: Operator,
+    left: &Expr,
+    right: &Expr,
+    scope: &Scope<'_>,
+    control: usize,
+) -> Result<Wires, Refusal>
+    ensures { Adds wires_of steps.old steps.new (translated steps.old setting.now scope.now (binary at operator (tree_of left.now) (tree_of right.now)) control) result }
+{
+    let u = translate(steps, setting, left, scope, control)?;
+    let v = translate(steps, setting, right, scope, control)?;
+    apply_operator(steps, at, operator, &u, &v)
+}
+
+// An operator before its operand.
+#[cycle(translate)]
+#[inline(never)]
+fn prefix_form(
+    steps: &mut Steps,
+    setting: &Setting<'_>,
+    at: usize,
+    operator: Prefix,
+    operand: &Expr,
+    scope: &Scope<'_>,
+    control: usize,
+) -> Result<Wires, Refusal>
+    ensures { Adds wires_of steps.old steps.new (translated steps.old setting.now scope.now (prefix at operator (tree_of operand.now)) control) result }
+{
+    let u = translate(steps, setting, operand, scope, control)?;
+    apply_prefix(steps, at, operator, &u)
+}
+
+#[cycle(translate)]
+#[inline(never)]
+fn pair_form(
+    steps: &mut Steps,
+    setting: &Setting<'_>,
+    at: usize,
+    first: &Expr,
+    second: &Expr,
+    scope: &Scope<'_>,
+    control: usize,
+) -> Result<Wires, Refusal>
+    ensures { Adds wires_of steps.old steps.new (translated steps.old setting.now scope.now (pair at (tree_of first.now) (tree_of second.now)) control) result }
+{
+    let u = translate(steps, setting, first, scope, control)?;
+    let v = translate(steps, setting, second, scope, control)?;
+    paired(steps, u, v)
+}
+
+// A body where a name stands for the streams of another expression.
+#[cycle(translate)]
+#[inline(never)]
+fn let_form(
+    steps: &mut Steps,
+    setting: &Setting<'_>,
+    at: usize,
+    name: Span,
+    value: &Expr,
+    body: &Expr,
+    scope: &Scope<'_>,
+    control: usize,
+) -> Result<Wires, Refusal>
+    ensures { Adds wires_of steps.old steps.new (translated steps.old setting.now scope.now (binding at name (tree_of value.now) (tree_of body.now)) control) result }
+{
+    let u = translate(steps, setting, value, scope, control)?;
+    let frame = one_bound(steps.alloc(), name.spelled(setting.text), u)?;
+    in_frame(steps, setting, body, &frame, &*scope, control)
+}
+
+// A body that sees these names before those of a scope.
+#[cycle(translate)]
+#[inline(never)]
+fn in_frame<'a>(
+    steps: &mut Steps,
+    setting: &Setting<'_>,
+    body: &Expr,
+    frame: &'a [Binding<'a>],
+    scope: &'a Scope<'a>,
+    control: usize,
+) -> Result<Wires, Refusal>
+    ensures { Adds wires_of steps.old steps.new (tr (dialect_of_steps steps.old) setting.now.text.now (bodies_in (dialect_of_steps steps.old) setting.now) (tree_of body.now) (bindings_of frame.now ++ bound_of scope.now) control (next_in steps.old)) result }
+{
+    let inner = Scope::Frame(frame, scope);
+    let w = translate(steps, setting, body, &inner, control)?;
+    Ok(w)
+}
+
+// The one of two expressions that a condition says: both are there, and only one of them runs.
+#[cycle(translate)]
+#[inline(never)]
+fn if_form(
+    steps: &mut Steps,
+    setting: &Setting<'_>,
+    at: usize,
+    condition: &Expr,
+    positive: &Expr,
+    negative: &Expr,
+    scope: &Scope<'_>,
+    control: usize,
+) -> Result<Wires, Refusal>
+    ensures { Adds wires_of steps.old steps.new (translated steps.old setting.now scope.now (choice at (tree_of condition.now) (tree_of positive.now) (tree_of negative.now)) control) result }
+{
+    let d = translate(steps, setting, condition, scope, control)?;
+    let u = filtered(steps, setting, at, positive, scope, d.stream())?;
+    let v = otherwise(steps, setting, at, negative, scope, &d)?;
+    one_of(steps, at, &u, &v)
+}
+
+// An item where truth values are false.
+#[cycle(translate)]
+#[inline(never)]
+fn otherwise(
+    steps: &mut Steps,
+    setting: &Setting<'_>,
+    at: usize,
+    item: &Expr,
+    scope: &Scope<'_>,
+    condition: &Wires,
+) -> Result<Wires, Refusal>
+    ensures { Adds wires_of steps.old steps.new (and_then (prefix_streams (dialect_of_steps steps.old) at Not (wires_of condition.now) (next_in steps.old)) (λ e k. filtered_in (dialect_of_steps steps.old) setting.now scope.now at (tree_of item.now) (stream_of e) k)) result }
+{
+    let e = apply_prefix(steps, at, Prefix::Not, condition)?;
+    filtered(steps, setting, at, item, scope, e.stream())
+}
+
+// A built-in function at arguments.
+#[cycle(translate)]
+#[inline(never)]
+fn built_in(
+    steps: &mut Steps,
+    setting: &Setting<'_>,
+    at: usize,
+    function: Builtin,
+    arguments: &[Expr],
+    scope: &Scope<'_>,
+    control: usize,
+) -> Result<Wires, Refusal>
+    ensures { Adds wires_of steps.old steps.new (translated steps.old setting.now scope.now (call at function (trees_of arguments.now)) control) result }
+{
+    let us = all_translated(steps, setting, arguments, scope, control)?;
+    apply_built_in(steps, at, function, &us)
+}
+
+// A declared function at arguments.
+#[cycle(translate)]
+#[inline(never)]
+fn call_form(
+    steps: &mut Steps,
+    setting: &Setting<'_>,
+    function: Span,
+    arguments: &[Expr],
+    scope: &Scope<'_>,
+    control: usize,
+) -> Result<Wires, Refusal>
+    ensures { Adds wires_of steps.old steps.new (translated steps.old setting.now scope.now (apply function (trees_of arguments.now)) control) result }
+{
+    let us = all_translated(steps, setting, arguments, scope, control)?;
+    called(steps, setting, function, &us, control)
+}
+
+// A declared function at the streams of its arguments.
+#[cycle(translate)]
+#[inline(never)]
+fn called(
+    steps: &mut Steps,
+    setting: &Setting<'_>,
+    name: Span,
+    arguments: &[Wires],
+    control: usize,
+) -> Result<Wires, Refusal>
+    ensures { Adds wires_of steps.old steps.new (bodies_in (dialect_of_steps steps.old) setting.now name.at (spelling setting.now.text.now name) (map wires_of arguments.now) control (next_in steps.old)) result }
+{
+    let bytes = name.spelled(setting.text);
+    match find_function(bytes, setting.text, setting.functions) {
+        Some((function, earlier)) => enter(steps, setting, function, earlier, arguments, control),
+        None => Ok(Wires::Wire(Ty::Int, 0)),
+    }
+}
+
+// The body of a function, which sees its parameters and the functions before it.
+#[cycle(translate)]
+#[inline(never)]
+fn enter(
+    steps: &mut Steps,
+    setting: &Setting<'_>,
+    function: &Function,
+    earlier: &[Declaration],
+    arguments: &[Wires],
+    control: usize,
+) -> Result<Wires, Refusal>
+    ensures { Adds wires_of steps.old steps.new (entered (dialect_of_steps steps.old) setting.now.text.now function.now earlier.now (map wires_of arguments.now) control (next_in steps.old)) result }
+{
+    let inner = Setting {
+        text: &*setting.text,
+        functions: &*earlier,
+    };
+    let frame = bind_parameters(steps.alloc(), setting.text, &function.parameters, arguments)?;
+    let nothing = Scope::Nothing;
+    let w = in_frame(steps, &inner, &function.body, &frame, &nothing, control)?;
+    Ok(w)
+}
+
+// The items of a literal, one behind the other.
+#[cycle(translate)]
+#[inline(never)]
+fn literal_form(
+    steps: &mut Steps,
+    setting: &Setting<'_>,
+    at: usize,
+    items: &[Expr],
+    scope: &Scope<'_>,
+    control: usize,
+) -> Result<Wires, Refusal>
+    ensures { Adds wires_of steps.old steps.new (translated steps.old setting.now scope.now (literal at (trees_of items.now)) control) result }
+{
+    let sequences = all_singles(steps, setting, at, items, scope, control)?;
+    append_all(steps, at, sequences)
+}
+
+// The item where the condition is true, and else nothing.
+#[cycle(translate)]
+#[inline(never)]
+fn filter_form(
+    steps: &mut Steps,
+    setting: &Setting<'_>,
+    at: usize,
+    item: &Expr,
+    condition: &Expr,
+    scope: &Scope<'_>,
+    control: usize,
+) -> Result<Wires, Refusal>
+    ensures { Adds wires_of steps.old steps.new (translated steps.old setting.now scope.now (filter at (tree_of item.now) (tree_of condition.now)) control) result }
+{
+    let d = translate(steps, setting, condition, scope, control)?;
+    filtered(steps, setting, at, item, scope, d.stream())
+}
+
+// A comprehension with no condition.
+#[cycle(translate)]
+#[inline(never)]
+fn each_form(
+    steps: &mut Steps,
+    setting: &Setting<'_>,
+    at: usize,
+    body: &Expr,
+    binders: &[Binder],
+    scope: &Scope<'_>,
+    control: usize,
+) -> Result<Wires, Refusal>
+    ensures { Adds wires_of steps.old steps.new (translated steps.old setting.now scope.now (each at (tree_of body.now) (binders_of binders.now) always) control) result }
+{
+    let sources = all_sources(steps, setting, binders, scope, control)?;
+    let part = part_of(&*setting.text, &*binders, &*body);
+    let rows = open_each(steps, at, &part, &sources, &*scope)?;
+    in_rows(steps, setting, body, &rows)
+}
+
+// A comprehension with a condition.
+#[cycle(translate)]
+#[inline(never)]
+fn each_where(
+    steps: &mut Steps,
+    setting: &Setting<'_>,
+    at: usize,
+    body: &Expr,
+    binders: &[Binder],
+    condition: &Expr,
+    scope: &Scope<'_>,
+    control: usize,
+) -> Result<Wires, Refusal>
+    ensures { Adds wires_of steps.old steps.new (translated steps.old setting.now scope.now (each at (tree_of body.now) (binders_of binders.now) (only_where (tree_of condition.now))) control) result }
+{
+    let sources = all_sources(steps, setting, binders, scope, control)?;
+    let part = part_where(&*setting.text, &*binders, &*condition, &*body);
+    let rows = open_each(steps, at, &part, &sources, &*scope)?;
+    where_true(steps, setting, at, body, condition, &rows)
+}
+
+// The streams of arguments, from left to right.
+#[cycle(translate)]
+#[inline(never)]
+fn all_translated(
+    steps: &mut Steps,
+    setting: &Setting<'_>,
+    exprs: &[Expr],
+    scope: &Scope<'_>,
+    control: usize,
+) -> Result<Vec<Wires>, Refusal>
+    ensures { Adds (λ us. map wires_of us.items) steps.old steps.new (all_in (dialect_of_steps steps.old) setting.now scope.now (trees_of exprs.now) control (next_in steps.old)) result }
+{
+    let mut us = Vec::new(steps.alloc());
+    for expr in exprs {
+        let u = translate(steps, setting, expr, scope, control)?;
+        us.push(u)?;
+    }
+    Ok(us)
+}
+
+// The items of a literal, each alone.
+#[cycle(translate)]
+#[inline(never)]
+fn all_singles(
+    steps: &mut Steps,
+    setting: &Setting<'_>,
+    at: usize,
+    items: &[Expr],
+    scope: &Scope<'_>,
+    control: usize,
+) -> Result<Vec<Wires>, Refusal>
+    ensures { Adds (λ us. map wires_of us.items) steps.old steps.new (singles_in (dialect_of_steps steps.old) setting.now scope.now at (trees_of items.now) control (next_in steps.old)) result }
+{
+    let mut us = Vec::new(steps.alloc());
+    for item in items {
+        let u = single(steps, setting, at, item, scope, control)?;
+        us.push(u)?;
+    }
+    Ok(us)
+}
+
+// The names of a comprehension and the streams of their sequences.
+#[cycle(translate)]
+#[inline(never)]
+fn all_sources<'a>(
+    steps: &mut Steps,
+    setting: &Setting<'a>,
+    binders: &[Binder],
+    scope: &Scope<'_>,
+    control: usize,
+) -> Result<Vec<Binding<'a>>, Refusal>
+    ensures { Adds (λ sources. bindings_of sources.items) steps.old steps.new (binders_in (dialect_of_steps steps.old) setting.now scope.now (binders_of binders.now) control (next_in steps.old)) result }
+{
+    let mut sources = Vec::new(steps.alloc());
+    for binder in binders {
+        let wires = translate(steps, setting, &binder.source, scope, control)?;
+        let name = binder.name.spelled(setting.text);
+        sources.push(Binding { name, wires })?;
+    }
+    Ok(sources)
+}
+
+// An item where true stands.
+#[cycle(translate)]
+#[inline(never)]
+fn single(
+    steps: &mut Steps,
+    setting: &Setting<'_>,
+    at: usize,
+    item: &Expr,
+    scope: &Scope<'_>,
+    control: usize,
+) -> Result<Wires, Refusal>
+    ensures { Adds wires_of steps.old steps.new (single_in (dialect_of_steps steps.old) setting.now scope.now at (tree_of item.now) control (next_in steps.old)) result }
+{
+    let d = constant(steps, at, Scalar::Bool(true), &Ty::Bool, control)?;
+    filtered(steps, setting, at, item, scope, d.stream())
+}
+
+// An item where these truth values are true, and else nothing.
+#[cycle(translate)]
+#[inline(never)]
+fn filtered(
+    steps: &mut Steps,
+    setting: &Setting<'_>,
+    at: usize,
+    item: &Expr,
+    scope: &Scope<'_>,
+    truths: usize,
+) -> Result<Wires, Refusal>
+    ensures { Adds wires_of steps.old steps.new (filtered_in (dialect_of_steps steps.old) setting.now scope.now at (tree_of item.now) truths (next_in steps.old)) result }
+{
+    let part = part_of(&*setting.text, &[], &*item);
+    let rows = open_where(steps, at, &part, truths, &*scope)?;
+    in_rows(steps, setting, item, &rows)
+}
+
+// The sequence of a body's values, which sees this.
+#[cycle(translate)]
+#[inline(never)]
+fn in_rows(
+    steps: &mut Steps,
+    setting: &Setting<'_>,
+    body: &Expr,
+    rows: &Rows<'_>,
+) -> Result<Wires, Refusal>
+    ensures { Adds wires_of steps.old steps.new (body_in (dialect_of_steps steps.old) setting.now (rows_of rows.now) (tree_of body.now) (next_in steps.old)) result }
+{
+    let nothing = Scope::Nothing;
+    let outside = Scope::Frame(&rows.outside, &nothing);
+    let scope = Scope::Frame(&rows.items, &outside);
+    let w = translate(steps, setting, body, &scope, rows.control)?;
+    let all = sequence(steps, rows.flags, w)?;
+    Ok(all)
+}
+
+// The sequence of its values where a condition is true.
+#[cycle(translate)]
+#[inline(never)]
+fn where_true(
+    steps: &mut Steps,
+    setting: &Setting<'_>,
+    at: usize,
+    body: &Expr,
+    condition: &Expr,
+    rows: &Rows<'_>,
+) -> Result<Wires, Refusal>
+    ensures { Adds wires_of steps.old steps.new (where_in (dialect_of_steps steps.old) setting.now (rows_of rows.now) at (tree_of body.now) (tree_of condition.now) (next_in steps.old)) result }
+{
+    let nothing = Scope::Nothing;
+    let outside = Scope::Frame(&rows.outside, &nothing);
+    let scope = Scope::Frame(&rows.items, &outside);
+    let d = translate(steps, setting, condition, &scope, rows.control)?;
+    let w = filtered(steps, setting, at, body, &scope, d.stream())?;
+    let all = flat(steps, at, rows.flags, w)?;
+    Ok(all)
+}

@@ -1,0 +1,11 @@
+pub mod Fitting
+pub mod Making
+pub mod Moving
+pub mod Bearing
+pub mod Forms
+pub mod Builtins
+pub mod Choices
+pub mod Comprehensions
+pub mod Expressions
+pub mod Functions
+pub mod Plans
