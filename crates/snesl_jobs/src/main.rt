@@ -1,19 +1,22 @@
 // Answers the jobs of the tables in the folder that it runs in, and says which answers differ from those told there.
 //
 // Each file whose name ends in `.jobs` is a table (`table.rt` has its form). A line is printed for each job that is
-// answered otherwise, and at last how many jobs there are and how many differ. The status is 1 where one differs, where
-// there is no table, and where a table cannot be read or has no row.
+// answered otherwise, and then how many jobs there are and how many differ. At last stands how the programs of the jobs
+// ended as networks beside their plain evaluation (`beside.rt`). The status is 1 where something differs, where there is
+// no table, and where a table cannot be read or has no row.
 #![tactic(auto)]
 
+mod beside;
 mod spelling;
 mod table;
 mod trial;
 
 use anyhow::{Context, Result, ensure};
+use beside::Totals;
 use std::rt::Files;
 use std::{fs, io};
 use table::{Row, rows_of};
-use trial::{Trial, tried};
+use trial::{Trial, job_of, tried};
 
 fn main(rt: HostRuntime) -> Result<()> {
     let names = table_names(&rt)?;
@@ -25,7 +28,13 @@ fn main(rt: HostRuntime) -> Result<()> {
         differing = differing.saturating_add(wrong);
     }
     println!(rt; "{jobs} jobs, {differing} differ")?;
+    let mut totals = Totals::none();
+    for name in &names {
+        run_table(&rt, name.as_str(), &mut totals)?;
+    }
+    println!(rt; "{totals}")?;
     ensure!(differing == 0, "{differing} jobs are answered otherwise");
+    ensure!(totals.differing == 0, "networks and evaluation differ");
     Ok(())
 }
 
@@ -55,6 +64,25 @@ fn try_table(rt: &HostRuntime, name: &str) -> Result<(usize, usize)> {
         }
     }
     Ok((rows.len(), differing))
+}
+
+// Runs the programs of a table's jobs that have no words, beside their evaluation. Says in which job a run differs.
+fn run_table(rt: &HostRuntime, name: &str, totals: &mut Totals) -> Result<()> {
+    let text = fs::read_to_string(rt, name).context(format_args!("reading {name}"))?;
+    let rows = rows_of(rt.alloc(), text.as_str()).context(format_args!("in {name}"))?;
+    for row in &rows {
+        if !row.words.is_empty() {
+            continue;
+        }
+        let before = totals.differing;
+        let job = job_of(rt.alloc(), row).context(format_args!("in {name}"))?;
+        totals.add(rt.alloc(), &job)?;
+        let line = row.line;
+        if totals.differing != before {
+            println!(rt; "{name}, line {line}: its network differs from its evaluation")?;
+        }
+    }
+    Ok(())
 }
 
 // Prints what a job was answered, and what was told.

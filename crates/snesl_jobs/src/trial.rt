@@ -65,8 +65,8 @@ fn line_of(alloc: Global, line: Option<&str>) -> Result<Vec<u8>, SpellingError> 
     Ok(bytes)
 }
 
-// The bytes of the job: its lines, with a line feed between two.
-fn job_of(alloc: Global, row: &Row<'_>) -> Result<Vec<u8>, SpellingError> {
+/// The bytes of the job: its lines, with a line feed between two.
+pub fn job_of(alloc: Global, row: &Row<'_>) -> Result<Vec<u8>, SpellingError> {
     let mut text = String::new(alloc);
     let mut first = true;
     for line in &row.job {

@@ -6,7 +6,7 @@ use Rattle.snesl_values.specs.Inputs.{InputMeans, OneInputMeaning, spells, refus
 use Rattle.snesl_tree.specs.Tree.{ProgramTree}
 use Rattle.snesl_grammar.specs.Limits.{greatest_length}
 use Rattle.snesl_syntax.specs.Parse.{Parses, too_long, HaveOneAnswer}
-use Rattle.snesl_run.specs.Meaning.{Meaning, Means, no_program, ill_typed, bad_input, evaluated}
+use Rattle.snesl_meaning.specs.Meaning.{Meaning, Means, no_program, ill_typed, bad_input, evaluated}
 use Rattle.snesl_run.specs.Job.{BeginsWithSeparator, at_the_end, before_line_feed, before_carriage_return, EndsLine, NoSeparatorBefore, IsJob, parted}
 use Rattle.snesl_run.specs.Prints.{longest_job}
 use Rattle.snesl_run.specs.Cuts.{CutChangesNothing}
@@ -86,7 +86,7 @@ both_too_long : HaveOneAnswer → (program input program' input' : List ℕ) (m 
 both_too_long answers program input program' input' m h k (no_program {refusal = r} p) =
     let e = answers program (Err r) (Err TooLong) p (too_long h) in
     let same : TooLong ≡ r = cc in
-    subst (λ x. Means program' input' (Rattle.snesl_run.specs.Meaning.is_refused x)) same (no_program (too_long k))
+    subst (λ x. Means program' input' (Rattle.snesl_meaning.specs.Meaning.is_refused x)) same (no_program (too_long k))
 both_too_long answers program input program' input' m h k (ill_typed {program = t} p v) = no_tree answers program t p h
 both_too_long answers program input program' input' m h k (bad_input {program = t} p d i) = no_tree answers program t p h
 both_too_long answers program input program' input' m h k (evaluated {program = t} p d i) = no_tree answers program t p h

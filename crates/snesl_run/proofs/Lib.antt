@@ -1,10 +1,7 @@
 pub mod Streaming
 pub mod Jobs
-pub mod Meanings
-pub mod Running
+pub mod Reports
 pub mod Printing
 pub mod OwnLines
 pub mod CutJobs
-pub mod InRange
-pub mod SomeMeaning
 pub mod SomeJob

@@ -4,7 +4,7 @@ use Rattle.std.proofs.lemmas.Fmt.{decimal_digit, decimal_step}
 use Rattle.snesl_values.specs.declared.refusal.Refusal.{Refusal}
 use Rattle.snesl_values.specs.declared.refusal.Refusal.TheVariants.{BadConfig, NoMemory, Output, NoThread, Read, Short}
 use Rattle.snesl_values.specs.Refusals.{is_of_the_system}
-use Rattle.snesl_run.specs.Prints.{refusal_line}
+use Rattle.snesl_run.specs.Prints.{refusal_line, stalled_line}
 
 abbrev line_with : List ℕ → List ℕ
 line_with digits = codes "refused " ++ digits ++ [] ++ 10 ∷ []
@@ -36,3 +36,6 @@ short_line_of NoThread h a b c d = absurd (c refl)
 short_line_of Read h a b c d = absurd (d refl)
 short_line_of Short h a b c d = short_line
 short_line_of refusal h a b c d = absurd (cc)
+
+pub stalled_line_is : codes "stalled\n" ≡ stalled_line
+stalled_line_is = refl

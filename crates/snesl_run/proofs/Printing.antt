@@ -1,17 +1,23 @@
 -- What is printed for a job.
-use Rattle.std.proofs.Common.{◌≡◌, ℕ, ◌≤◌, true, false, List, Option, Some, None, Result, Ok, Err, Vec, IfOk, MatchResult, refl, sym, subst}
+use Rattle.std.proofs.Common.{◌≡◌, ℕ, true, false, List, Option, Some, None, Result, Ok, Err, Vec, IfOk, MatchResult, ◌⊎◌, inl, inr, codes, refl, sym, ap, ◌∙◌, subst}
 use Rattle.std.specs.Global.{Global}
 use Rattle.std.specs.declared.alloc.AllocError.{AllocError}
 use Rattle.snesl_values.specs.declared.counted.Counted.{Counted}
 use Rattle.snesl_values.specs.declared.fault.Fault.{Fault}
 use Rattle.snesl_values.specs.declared.refusal.Refusal.{Refusal}
-use Rattle.snesl_values.specs.declared.refusal.Refusal.TheVariants.{NoMemory, Output, Read}
+use Rattle.snesl_values.specs.declared.refusal.Refusal.TheVariants.{BadConfig, TooBig, NoMemory, Output, Read}
 use Rattle.snesl_values.specs.Refusals.{is_of_the_system, status_of_refusal}
-use Rattle.snesl_run.specs.Meaning.{Meaning, Means, is_refused, has_fault, has_value}
+use Rattle.kahn.specs.declared.outcome.Outcome.{Outcome}
+use Rattle.kahn.specs.declared.outcome.Outcome.TheVariants.{Value as Ended, Fault as Failed, Stalled}
+use Rattle.flow_drive.specs.declared.config.Config.{Config}
+use Rattle.snesl_settings.specs.Settings.{AreLawful, RefusesBut}
+use Rattle.snesl_network.specs.Driven.{WasRefused}
 use Rattle.snesl_run.specs.Job.{IsJob}
-use Rattle.snesl_run.specs.Runs.{HasOutcome, HasError}
+use Rattle.snesl_run.specs.Runs.{IsReported, WroteFor, outcome_of, HasError}
 use Rattle.snesl_run.specs.Streams.{Taken, Given, taken, IsCutOff, WasTold}
-use Rattle.snesl_run.specs.Prints.{Prints, written, cut_off, Refuses, of_the_job, of_the_system, PrintsMeaning, Printed, meant, unfinished, HasRead, Answered, unread, out_of_memory, refusal_line, fault_line}
+use Rattle.snesl_run.specs.Prints.{Prints, written, cut_off, Refuses, of_the_job, of_the_system, PrintsOutcome, Printed, came_out, cut_off_value, refused, HasRead, IsJobAnswered, unread, out_of_memory, Answered, words_refused, words_lost, refusal_line, fault_line, stalled_line}
+use Rattle.snesl_run.specs.declared.report.Report.{Report}
+use Rattle.snesl_run.proofs.OwnLines.{bad_config_line}
 
 -- a line that could not be written
 pub cut_off_line : {out err : Taken} {line : List ℕ} {status : ℕ} (code : ℕ) → IsCutOff out line → WasTold err (refusal_line Output)
@@ -32,72 +38,97 @@ job_refused {out = out} {err = err} refusal line first status h is e printed =
     of_the_job h (subst (λ n. Prints out err (refusal_line refusal) n status) e (subst (λ l. Prints out err l first status) is printed))
 
 -- a job that could not be read
-pub read_refused : {words : ℕ} {reader : Given} {out err : Taken} (refusal : Refusal) (code : ℕ) → words ≤ 1 → HasRead reader (Err refusal) → out.nothing
-    → WasTold err (refusal_line refusal) → code ≡ status_of_refusal refusal → Answered words reader out err code
-read_refused NoMemory code few h untouched told e = out_of_memory few h (system_refused NoMemory code refl untouched told e)
-read_refused Read code few h untouched told e = unread few h (system_refused Read code refl untouched told e)
-read_refused refusal code few h untouched told e = absurd h
+pub read_refused : {config : Config} {reader : Given} {out err : Taken} (refusal : Refusal) (code : ℕ) → HasRead reader (Err refusal) → out.nothing
+    → WasTold err (refusal_line refusal) → code ≡ status_of_refusal refusal → IsJobAnswered config reader out err code
+read_refused NoMemory code h untouched told e = out_of_memory h (system_refused NoMemory code refl untouched told e)
+read_refused Read code h untouched told e = unread h (system_refused Read code refl untouched told e)
+read_refused refusal code h untouched told e = absurd h
 
--- what is printed for a job whose meaning leaves the writer as it was
-module _ {W : Type 0} (contents : W → Option (List ℕ)) (before mid after : Counted W) (err : Taken)
-    (job program input : List ℕ) (split : IsJob job program input) where
-  -- a line that could be made is printed as the meaning, and else memory is refused
-  made_line : (m : Meaning) (bytes : List ℕ) (line : Result (Vec ℕ Global) AllocError) (first status : ℕ)
-      → Means program input m → mid ≡ before
-      → ((out : Taken) → Prints out err bytes first status → PrintsMeaning out err m status)
-      → IfOk line (λ l. l.items ≡ bytes)
-      → MatchResult line (λ l. Prints (taken contents mid after) err l.items first status) (λ _. Refuses (taken contents mid after) err NoMemory status)
-      → Printed job (taken contents before after) err status
-  made_line m bytes (Ok l) first status means same as_meaning made printed =
-      subst (λ w. Printed job (taken contents w after) err status) same
-      (meant program input m split means
-      (as_meaning (taken contents mid after) (subst (λ b. Prints (taken contents mid after) err b first status) made printed)))
-  made_line m bytes (Err e) first status means same as_meaning made printed =
-      subst (λ w. Printed job (taken contents w after) err status) same (unfinished printed)
+module _ (config : Config) (job program input : List ℕ) (split : IsJob job program input) where
+  -- want of memory
+  memory_refused : {out err : Taken} {status : ℕ} → Refuses out err NoMemory status → Printed config job out err status
+  memory_refused h = refused program input NoMemory split tt h
 
-  pub printed_fault : (fault : Fault) (outcome : Option Fault) (line : Result (Vec ℕ Global) AllocError) (status : ℕ)
-      → HasOutcome program input (taken contents before mid) outcome → Some fault ≡ outcome
-      → IfOk line (λ l. l.items ≡ fault_line fault.kind fault.at)
-      → MatchResult line (λ l. Prints (taken contents mid after) err l.items 2 status) (λ _. Refuses (taken contents mid after) err NoMemory status)
-      → Printed job (taken contents before after) err status
-  printed_fault fault outcome line status has e made printed =
-      let h : HasOutcome program input (taken contents before mid) (Some fault) =
-      subst (λ o. HasOutcome program input (taken contents before mid) o) (sym e) has in
-      made_line (has_fault fault.kind fault.at) (fault_line fault.kind fault.at) line 2 status h.0 h.1 (λ out p. p) made printed
+  -- what is printed for a job whose run leaves the writer as it was
+  module _ {W : Type 0} (contents : W → Option (List ℕ)) (before mid after : Counted W) (err : Taken) where
+    -- a line that could be made is printed, and else memory is refused
+    made_line : (bytes : List ℕ) (line : Result (Vec ℕ Global) AllocError) (first status : ℕ) → mid ≡ before
+        → ((out : Taken) → Prints out err bytes first status → Printed config job out err status)
+        → IfOk line (λ l. l.items ≡ bytes)
+        → MatchResult line (λ l. Prints (taken contents mid after) err l.items first status) (λ _. Refuses (taken contents mid after) err NoMemory status)
+        → Printed config job (taken contents before after) err status
+    made_line bytes (Ok l) first status same as_printed made printed =
+        subst (λ w. Printed config job (taken contents w after) err status) same
+        (as_printed (taken contents mid after) (subst (λ b. Prints (taken contents mid after) err b first status) made printed))
+    made_line bytes (Err e) first status same as_printed made printed =
+        subst (λ w. Printed config job (taken contents w after) err status) same (memory_refused printed)
 
-  job_error : (refusal : Refusal) → is_of_the_system refusal ≡ false → HasError program input (taken contents before mid) refusal
-      → Means program input (is_refused refusal) × (mid ≡ before)
-  job_error NoMemory f h = absurd (cc)
-  job_error Output f h = absurd (cc)
-  job_error refusal f h = h
+    pub printed_fault : (fault : Fault) (report : Report) (line : Result (Vec ℕ Global) AllocError) (status : ℕ)
+        → IsReported program input config (taken contents before mid) report → outcome_of report ≡ Failed fault
+        → IfOk line (λ l. l.items ≡ fault_line fault.kind fault.at)
+        → MatchResult line (λ l. Prints (taken contents mid after) err l.items 2 status) (λ _. Refuses (taken contents mid after) err NoMemory status)
+        → Printed config job (taken contents before after) err status
+    printed_fault fault report line status has e made printed =
+        let h : WroteFor program input (taken contents before mid) (Failed fault) = subst (WroteFor program input (taken contents before mid)) e has.wrote in
+        made_line (fault_line fault.kind fault.at) line 2 status h.1
+        (λ out p. came_out program input _ (outcome_of report) split has.came has.outcome
+        (subst (λ o. PrintsOutcome program input out err o status) (sym e) (h.0, p))) made printed
 
-  -- the job is at fault
-  pub printed_refusal : (refusal error : Refusal) (line : Result (Vec ℕ Global) AllocError) (first status : ℕ)
-      → HasError program input (taken contents before mid) error → refusal ≡ error → is_of_the_system refusal ≡ false → first ≡ status_of_refusal refusal
-      → IfOk line (λ l. l.items ≡ refusal_line refusal)
-      → MatchResult line (λ l. Prints (taken contents mid after) err l.items first status) (λ _. Refuses (taken contents mid after) err NoMemory status)
-      → Printed job (taken contents before after) err status
-  printed_refusal refusal error line first status has e f s made printed =
-      let h = job_error refusal f (subst (λ r. HasError program input (taken contents before mid) r) (sym e) has) in
-      made_line (is_refused refusal) (refusal_line refusal) line first status h.0 h.1
-      (λ out p. job_refused refusal (refusal_line refusal) first status f refl s p) made printed
+    pub printed_stall : (edge : ℕ) (report : Report) (line : List ℕ) (status : ℕ)
+        → IsReported program input config (taken contents before mid) report → outcome_of report ≡ Stalled edge → line ≡ stalled_line
+        → Prints (taken contents mid after) err line 3 status → Printed config job (taken contents before after) err status
+    printed_stall edge report line status has e is printed =
+        let h : WroteFor program input (taken contents before mid) (Stalled edge) = subst (WroteFor program input (taken contents before mid)) e has.wrote in
+        subst (λ w. Printed config job (taken contents w after) err status) h
+        (came_out program input _ (outcome_of report) split has.came has.outcome
+        (subst (λ o. PrintsOutcome program input (taken contents mid after) err o status) (sym e) (subst (λ l. Prints (taken contents mid after) err l 3 status) is printed)))
 
-module _ (out err : Taken) (job program input : List ℕ) (split : IsJob job program input) where
-  -- the system is at fault
-  system_error : (refusal : Refusal) (status : ℕ) → is_of_the_system refusal ≡ true → HasError program input out refusal
-      → WasTold err (refusal_line refusal) → status ≡ status_of_refusal refusal → Printed job out err status
-  system_error NoMemory status f has told s = unfinished (system_refused NoMemory status f has told s)
-  system_error Output status f has told s = meant program input (has_value has.0) split has.1 (cut_off_line status has.2 told s)
-  system_error refusal status f has told s =
-      meant program input (is_refused refusal) split has.0 (system_refused refusal status f has.1 told s)
+    job_error : (refusal : Refusal) → is_of_the_system refusal ≡ false → HasError program input config (taken contents before mid) refusal
+        → WasRefused program input config refusal × (mid ≡ before)
+    job_error NoMemory f h = absurd (cc)
+    job_error Output f h = absurd (cc)
+    job_error refusal f h = h
 
-  pub printed_system_error : (refusal error : Refusal) (status : ℕ) → HasError program input out error → refusal ≡ error → is_of_the_system refusal ≡ true
-      → WasTold err (refusal_line refusal) → status ≡ status_of_refusal refusal → Printed job out err status
-  printed_system_error refusal error status has e f told s =
-      system_error refusal status f (subst (λ r. HasError program input out r) (sym e) has) told s
+    -- the job is at fault
+    pub printed_refusal : (refusal error : Refusal) (line : Result (Vec ℕ Global) AllocError) (first status : ℕ)
+        → HasError program input config (taken contents before mid) error → refusal ≡ error → is_of_the_system refusal ≡ false → first ≡ status_of_refusal refusal
+        → IfOk line (λ l. l.items ≡ refusal_line refusal)
+        → MatchResult line (λ l. Prints (taken contents mid after) err l.items first status) (λ _. Refuses (taken contents mid after) err NoMemory status)
+        → Printed config job (taken contents before after) err status
+    printed_refusal refusal error line first status has e f s made printed =
+        let h = job_error refusal f (subst (λ r. HasError program input config (taken contents before mid) r) (sym e) has) in
+        made_line (refusal_line refusal) line first status h.1
+        (λ out p. refused program input refusal split h.0 (job_refused refusal (refusal_line refusal) first status f refl s p)) made printed
 
-  -- a value's line that was written
-  pub printed_value : (outcome : Option Fault) → HasOutcome program input out outcome → None ≡ outcome → err.nothing → Printed job out err 0
-  printed_value outcome has e silent =
-      let h : HasOutcome program input out None = subst (λ o. HasOutcome program input out o) (sym e) has in
-      meant program input (has_value h.0) split h.1 (written h.2 silent)
+  module _ (out err : Taken) where
+    -- the system is at fault
+    system_error : (refusal : Refusal) (status : ℕ) → is_of_the_system refusal ≡ true → HasError program input config out refusal
+        → WasTold err (refusal_line refusal) → status ≡ status_of_refusal refusal → Printed config job out err status
+    system_error NoMemory status f has told s = memory_refused (system_refused NoMemory status f has told s)
+    system_error Output status f has told s = cut_off_value program input has.0 split has.1 (cut_off_line status has.2 told s)
+    system_error refusal status f has told s = refused program input refusal split has.0 (system_refused refusal status f has.1 told s)
+
+    pub printed_system_error : (refusal error : Refusal) (status : ℕ) → HasError program input config out error → refusal ≡ error → is_of_the_system refusal ≡ true
+        → WasTold err (refusal_line refusal) → status ≡ status_of_refusal refusal → Printed config job out err status
+    printed_system_error refusal error status has e f told s =
+        system_error refusal status f (subst (λ r. HasError program input config out r) (sym e) has) told s
+
+    -- a value's line that was written
+    pub printed_value : (report : Report) → IsReported program input config out report → outcome_of report ≡ Ended → err.nothing
+        → Printed config job out err 0
+    printed_value report has e silent =
+        let h : WroteFor program input out Ended = subst (WroteFor program input out) e has.wrote in
+        came_out program input _ (outcome_of report) split has.came has.outcome
+        (subst (λ o. PrintsOutcome program input out err o 0) (sym e) (h.0, h.1, written h.2 silent))
+
+-- words that are refused
+pub words_refused_line : {out err : Taken} (refusal : Refusal) (first status : ℕ) → (refusal ≡ BadConfig) ⊎ (refusal ≡ NoMemory) → is_of_the_system refusal ≡ false
+    → first ≡ status_of_refusal refusal → Prints out err (codes "refused 10\n") first status → Refuses out err refusal status
+words_refused_line refusal first status (inl bad) is e printed =
+    job_refused refusal (codes "refused 10\n") first status is (bad_config_line ∙ ap refusal_line (sym bad)) e printed
+words_refused_line refusal first status (inr memory) is e printed = absurd (let never = sym (ap is_of_the_system memory) ∙ is in cc)
+
+pub words_answered : {words : List (List ℕ)} {reader : Given} {out err : Taken} (refusal : Refusal) (status : ℕ) → RefusesBut (AreLawful words) refusal → reader.nothing
+    → Refuses out err refusal status → Answered words reader out err status
+words_answered {out = out} {err = err} refusal status (inl memory) none h = words_lost none (subst (λ r. Refuses out err r status) memory h)
+words_answered {out = out} {err = err} refusal status (inr (bad, unsaid)) none h = words_refused unsaid none (subst (λ r. Refuses out err r status) bad h)

@@ -1,6 +1,6 @@
 -- No byte behind the longest job that is read changes what a job means.
 use Rattle.std.specs.Prelude.{◌≡◌, ℕ, List, ◌++◌, length}
-use Rattle.snesl_run.specs.Meaning.{Meaning, Means}
+use Rattle.snesl_meaning.specs.Meaning.{Meaning, Means}
 use Rattle.snesl_run.specs.Job.{IsJob}
 use Rattle.snesl_run.specs.Prints.{longest_job}
 

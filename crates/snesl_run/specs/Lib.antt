@@ -1,4 +1,3 @@
-pub mod Meaning
 pub mod Job
 pub mod Streams
 pub mod Runs

@@ -6,8 +6,17 @@ use Rattle.snesl_values.specs.declared.refusal.Refusal.{Refusal}
 use Rattle.snesl_values.specs.declared.refusal.Refusal.TheVariants.{BadConfig, NoMemory, Output, Read}
 use Rattle.snesl_values.specs.Faults.{number_of_fault}
 use Rattle.snesl_values.specs.Refusals.{number_of_refusal, offset_of_refusal, is_of_the_system, status_of_refusal}
-use Rattle.snesl_run.specs.Meaning.{Meaning, Means, is_refused, has_value, has_fault}
-use Rattle.snesl_run.specs.Runs.{value_line}
+use Rattle.snesl_values.specs.Values.{Value}
+use Rattle.kahn.specs.declared.outcome.Outcome.{Outcome}
+use Rattle.kahn.specs.declared.outcome.Outcome.TheVariants.{Value as Ended, Fault as Failed, Stalled}
+use Rattle.flow_drive.specs.declared.config.Config.{Config}
+use Rattle.flow_drive.specs.Configs.{IsLawful}
+use Rattle.snesl_flatten.specs.Networks.{NodeState}
+use Rattle.snesl_meaning.specs.Meaning.{Means, has_value}
+use Rattle.snesl_settings.specs.Settings.{AreLawful, SaysSo}
+use Rattle.snesl_network.specs.NodesAtRest.{Rest}
+use Rattle.snesl_network.specs.Driven.{CameToRest, WasRefused}
+use Rattle.snesl_run.specs.Runs.{value_line, CameOut, EndsInFault}
 use Rattle.snesl_run.specs.Job.{IsJob}
 use Rattle.snesl_run.specs.Streams.{Taken, Given, IsWhole, IsCutOff, WasTold}
 
@@ -55,29 +64,45 @@ pub data Refuses (out err : Taken) (refusal : Refusal) : ℕ → Type 0 where
   of_the_system : is_of_the_system refusal ≡ true → out.nothing → WasTold err (refusal_line refusal)
       → Refuses out err refusal (status_of_refusal refusal)
 
--- a meaning was printed, and this is the exit status
-abbrev pub PrintsMeaning : Taken → Taken → Meaning → ℕ → Type 0
-PrintsMeaning out err (is_refused refusal) status = Refuses out err refusal status
-PrintsMeaning out err (has_value v) status = Prints out err (value_line v) 0 status
-PrintsMeaning out err (has_fault kind at) status = Prints out err (fault_line kind at) 2 status
+-- the line of a network that has stalled
+abbrev pub stalled_line : List ℕ
+stalled_line = codes "stalled\n"
 
--- what is printed for a job, and the exit status
-pub data Printed (job : List ℕ) (out err : Taken) : ℕ → Type 0 where
-  -- what the program of the job means for its input text
-  meant : {status : ℕ} (program input : List ℕ) (m : Meaning) → IsJob job program input → Means program input m
-      → PrintsMeaning out err m status → Printed job out err status
-  -- or nothing, for want of memory
-  unfinished : {status : ℕ} → Refuses out err NoMemory status → Printed job out err status
+-- what is printed for how a network came out, and the exit status: the program's value; a fault, which need not be that of the
+-- program, where it ends in one; or that the network has stalled
+abbrev pub PrintsOutcome : (program input : List ℕ) → Taken → Taken → Outcome → ℕ → Type 0
+PrintsOutcome program input out err Ended status = (v : Value) × Means program input (has_value v) × Prints out err (value_line v) 0 status
+PrintsOutcome program input out err (Failed f) status = EndsInFault program input × Prints out err (fault_line f.kind f.at) 2 status
+PrintsOutcome program input out err (Stalled e) status = Prints out err stalled_line 3 status
 
--- what the program answers where it is given so many words: what it read, wrote and said, and its exit status
-pub data Answered (words : ℕ) (reader : Given) (out err : Taken) : ℕ → Type 0 where
-  -- a word beyond the program's name is refused before anything is read
-  words_given : {status : ℕ} → 1 < words → reader.nothing → Refuses out err BadConfig status
-      → Answered words reader out err status
+-- what is printed for a job, driven so, and the exit status
+pub data Printed (config : Config) (job : List ℕ) (out err : Taken) : ℕ → Type 0 where
+  -- how the network of its program came out with its input text
+  came_out : {status : ℕ} (program input : List ℕ) (rest : Rest NodeState) (outcome : Outcome) → IsJob job program input
+      → CameToRest program input config.capacity rest → CameOut rest outcome → PrintsOutcome program input out err outcome status
+      → Printed config job out err status
+  -- the value of its program could not be written
+  cut_off_value : {status : ℕ} (program input : List ℕ) (v : Value) → IsJob job program input → Means program input (has_value v)
+      → Prints out err (value_line v) 0 status → Printed config job out err status
+  -- it was refused
+  refused : {status : ℕ} (program input : List ℕ) (refusal : Refusal) → IsJob job program input → WasRefused program input config refusal
+      → Refuses out err refusal status → Printed config job out err status
+
+-- what becomes of a job under this configuration: what was read, written and said, and the exit status
+pub data IsJobAnswered (config : Config) (reader : Given) (out err : Taken) : ℕ → Type 0 where
   -- the job was read, and its answer printed
-  answered : {status : ℕ} (job : List ℕ) → words ≤ 1 → IsRead reader job → Printed job out err status
-      → Answered words reader out err status
+  answered : {status : ℕ} (job : List ℕ) → IsRead reader job → Printed config job out err status → IsJobAnswered config reader out err status
   -- the job could not be read
-  unread : {status : ℕ} → words ≤ 1 → reader.failed → Refuses out err Read status → Answered words reader out err status
+  unread : {status : ℕ} → reader.failed → Refuses out err Read status → IsJobAnswered config reader out err status
   -- memory was refused to the job
-  out_of_memory : {status : ℕ} → words ≤ 1 → reader.worked → Refuses out err NoMemory status → Answered words reader out err status
+  out_of_memory : {status : ℕ} → reader.worked → Refuses out err NoMemory status → IsJobAnswered config reader out err status
+
+-- what the program answers where it is given these words
+pub data Answered (words : List (List ℕ)) (reader : Given) (out err : Taken) : ℕ → Type 0 where
+  -- the words say no lawful configuration, which is said before anything is read
+  words_refused : {status : ℕ} → ¬ AreLawful words → reader.nothing → Refuses out err BadConfig status → Answered words reader out err status
+  -- memory was refused to the words
+  words_lost : {status : ℕ} → reader.nothing → Refuses out err NoMemory status → Answered words reader out err status
+  -- the job is answered under the configuration that they say
+  under : {status : ℕ} (config : Config) → SaysSo words config → IsLawful config → IsJobAnswered config reader out err status
+      → Answered words reader out err status

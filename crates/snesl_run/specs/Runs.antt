@@ -1,18 +1,30 @@
 -- What a run writes and answers.
-use Rattle.std.specs.Prelude.{◌≡◌, ℕ, List, [], ◌∷◌, ◌++◌, Option, Some, None, Result, Ok, Err, Vec}
-use Rattle.std.specs.Global.{Global}
-use Rattle.snesl_values.specs.declared.fault.Fault.{Fault}
+use Rattle.std.specs.Prelude.{◌≡◌, ℕ, List, [], ◌∷◌, ◌++◌, Result, Ok, Err}
+use Rattle.snesl_values.specs.declared.fault.FaultKind.{FaultKind}
 use Rattle.snesl_values.specs.declared.refusal.Refusal.{Refusal}
 use Rattle.snesl_values.specs.declared.refusal.Refusal.TheVariants.{NoMemory, Output}
 use Rattle.snesl_values.specs.Values.{Value}
 use Rattle.snesl_values.specs.Text.{text}
-use Rattle.snesl_run.specs.Meaning.{Means, is_refused, has_value, has_fault}
+use Rattle.kahn.specs.declared.outcome.Outcome.{Outcome}
+use Rattle.kahn.specs.declared.outcome.Outcome.TheVariants.{Value as Ended, Fault as Failed, Stalled}
+use Rattle.flow_nodes.specs.StreamNodes.{node_behaviour}
+use Rattle.flow_drive.specs.declared.config.Config.{Config}
+use Rattle.flow_drive.specs.Configs.{IsLawful}
+use Rattle.flow_drive.specs.Drives.{ComesOut}
+use Rattle.snesl_flatten.specs.Networks.{NodeState}
+use Rattle.snesl_meaning.specs.Meaning.{Means, has_value, has_fault}
+use Rattle.snesl_network.specs.NodesAtRest.{Rest, rest_of}
+use Rattle.snesl_network.specs.Driven.{CameToRest, WasRefused}
 use Rattle.snesl_run.specs.Streams.{Taken, IsWhole, IsCutOff}
 use Rattle.snesl_run.specs.declared.report.Report.{Report}
 use Rattle.snesl_run.specs.declared.report.RunError.{RunError}
 
--- the fault that a run ended in
-abbrev pub outcome_of : Report → Option Fault
+-- the nodes of a run, at rest
+abbrev pub rest_in : Report → Rest NodeState
+rest_in report = rest_of report.rested
+
+-- how it came out
+abbrev pub outcome_of : Report → Outcome
 outcome_of report = report.outcome
 
 -- the refusal that a run ended in
@@ -23,28 +35,36 @@ refusal_of error = error.refusal
 abbrev pub value_line : Value → List ℕ
 value_line v = text v ++ 10 ∷ []
 
--- no fault: the value's line was written; a fault: it is that of the program, and nothing was written
-abbrev pub HasOutcome : (program input : List ℕ) → Taken → Option Fault → Type 0
-HasOutcome program input out None = (v : Value) × Means program input (has_value v) × IsWhole out (value_line v)
-HasOutcome program input out (Some fault) = Means program input (has_fault fault.kind fault.at) × out.nothing
+-- nodes at rest came out so
+abbrev pub CameOut : Rest NodeState → Outcome → Type 0
+CameOut rest outcome = ComesOut node_behaviour rest.states rest.edges rest.capacity rest.traffic outcome
 
--- want of memory leaves the writer untouched; a failed writer has taken a beginning of the value's line;
--- any other refusal is that of the program and its input, and leaves the writer untouched
-abbrev pub HasError : (program input : List ℕ) → Taken → Refusal → Type 0
-HasError program input out NoMemory = out.nothing
-HasError program input out Output = (v : Value) × Means program input (has_value v) × IsCutOff out (value_line v)
-HasError program input out refusal = Means program input (is_refused refusal) × out.nothing
+-- the program ends in a fault for the input
+abbrev pub EndsInFault : (program input : List ℕ) → Type 0
+EndsInFault program input = (kind : FaultKind) × (at : ℕ) × Means program input (has_fault kind at)
+
+-- where all nodes have ended, the line of the program's value was written; where a fault is named, the program ends in a
+-- fault, perhaps in another one, and nothing was written; where the network has stalled, nothing was written
+abbrev pub WroteFor : (program input : List ℕ) → Taken → Outcome → Type 0
+WroteFor program input out Ended = (v : Value) × Means program input (has_value v) × IsWhole out (value_line v)
+WroteFor program input out (Failed f) = EndsInFault program input × out.nothing
+WroteFor program input out (Stalled e) = out.nothing
+
+-- What a report tells: the network of the program with its input came to rest, and this was written.
+pub record IsReported (program input : List ℕ) (config : Config) (out : Taken) (report : Report) : Type 0 where
+  pub lawful : IsLawful config
+  pub came : CameToRest program input config.capacity (rest_in report)
+  pub outcome : CameOut (rest_in report) (outcome_of report)
+  pub wrote : WroteFor program input out (outcome_of report)
+
+-- want of memory leaves the writer untouched; a failed writer has taken a beginning of the value's line; any other refusal is
+-- that of the configuration, or of the program and its input, and leaves the writer untouched
+abbrev pub HasError : (program input : List ℕ) → Config → Taken → Refusal → Type 0
+HasError program input config out NoMemory = out.nothing
+HasError program input config out Output = (v : Value) × Means program input (has_value v) × IsCutOff out (value_line v)
+HasError program input config out refusal = WasRefused program input config refusal × out.nothing
 
 -- what a run does to the writer, and answers
-abbrev pub HasRun : (program input : List ℕ) → Taken → Result Report RunError → Type 0
-HasRun program input out (Ok report) = HasOutcome program input out (outcome_of report)
-HasRun program input out (Err error) = HasError program input out (refusal_of error)
-
--- what is known before the first write: the value's line or the fault; or a refusal that is that of the program and its
--- input, unless memory ran out
-abbrev pub HasEvaluated : (program input : List ℕ) → Result (Result (Vec ℕ Global) Fault) Refusal → Type 0
-HasEvaluated program input (Ok (Ok line)) = (v : Value) × Means program input (has_value v) × (line.items ≡ value_line v)
-HasEvaluated program input (Ok (Err fault)) = Means program input (has_fault fault.kind fault.at)
-HasEvaluated program input (Err NoMemory) = Unit {0}
-HasEvaluated program input (Err Output) = ⊥
-HasEvaluated program input (Err refusal) = Means program input (is_refused refusal)
+abbrev pub HasRun : (program input : List ℕ) → Config → Taken → Result Report RunError → Type 0
+HasRun program input config out (Ok report) = IsReported program input config out report
+HasRun program input config out (Err error) = HasError program input config out (refusal_of error)

@@ -1,25 +1,31 @@
 // Answering a job.
 
-ghost use Rattle.std.specs.Prelude.{length, MatchResult};
+ghost use Rattle.std.specs.Prelude.{◌≡◌, ◌⊎◌, MatchResult};
+ghost use Rattle.clap.specs.Walk.{texts};
 ghost use Rattle.snesl_run.specs.Streams.{given, taken};
-ghost use Rattle.snesl_run.specs.Prints.{Answered, Printed, Prints, Refuses};
-ghost use Rattle.snesl_values.specs.declared.refusal.Refusal.TheVariants.{NoMemory};
+ghost use Rattle.snesl_run.specs.Prints.{Answered, Printed, Prints, Refuses, IsJobAnswered};
+ghost use Rattle.snesl_run.specs.Runs.{HasRun};
+ghost use Rattle.snesl_values.specs.declared.refusal.Refusal.TheVariants.{BadConfig, NoMemory};
 
 use crate::job::split;
-use crate::lines::{BAD_CONFIG_LINE, fault_line, refusal_line};
+use crate::lines::{BAD_CONFIG_LINE, STALLED_LINE, fault_line, refusal_line};
 use crate::reading::read_job;
+use crate::report::{Report, RunError};
 use crate::runs::run;
 use crate::send::{complain, print};
+use flow_drive::{Config, NoGate, Outcome};
+use snesl_settings::settings;
 use snesl_values::{Counted, Refusal};
 use std::alloc::{AllocError, Global};
 use std::io::{Read, Write};
+use std::sync::Arc;
 
 /// Answers the job that a reader gives, and returns the exit status. `words` are those of a command
-/// line, the first of which is the program's name.
+/// line, the first of which is the program's name; `settings` tells what they set.
 ///
 /// A job is a program, and behind the first line `---` its input text; without such a line all of it
-/// is the program. One line is printed on `out`: the value (status 0), `fault N at K` (2), or
-/// `refused N at K` or `refused N` (1). A word beyond the program's name is `refused 10` (1), and
+/// is the program. One line is printed on `out`: the value (status 0), `fault N at K` (2), `stalled` (3), or
+/// `refused N at K` or `refused N` (1). Where the words are refused, that is `refused 10` (1), and
 /// then the job is not read.
 ///
 /// A refusal of the system goes to `err` as `refused N`, where that can be written, with status 4:
@@ -36,32 +42,64 @@ pub fn answer<R: Read, W: Write, E: Write>(
     out: &mut Counted<W>,
     err: &mut Counted<E>,
 ) -> u8
-    ensures { Answered (length words.now) (given R.remaining job.old job.new)
+    ensures { Answered (texts words.now) (given R.remaining job.old job.new)
         (taken W.contents out.old out.new) (taken E.contents err.old err.new) result }
 {
-    if words.len() > 1 {
-        return print(BAD_CONFIG_LINE, Refusal::BadConfig.status(), out, err);
+    match settings(alloc, words) {
+        Ok(config) => answer_job(alloc, &config, job, out, err),
+        Err(refusal) => refuse_words(refusal, out, err),
     }
+}
+
+// Prints that the words are refused, or says that memory was refused to them.
+fn refuse_words<W: Write, E: Write>(
+    refusal: Refusal,
+    out: &mut Counted<W>,
+    err: &mut Counted<E>,
+) -> u8
+    requires { (refusal ≡ BadConfig) ⊎ (refusal ≡ NoMemory) }
+    ensures { Refuses (taken W.contents out.old out.new) (taken E.contents err.old err.new) refusal result }
+{
+    if refusal.is_of_the_system() {
+        complain(refusal, err)
+    } else {
+        print(BAD_CONFIG_LINE, refusal.status(), out, err)
+    }
+}
+
+// Reads the job and prints its answer.
+fn answer_job<R: Read, W: Write, E: Write>(
+    alloc: Global,
+    config: &Config,
+    job: &mut Counted<R>,
+    out: &mut Counted<W>,
+    err: &mut Counted<E>,
+) -> u8
+    ensures { IsJobAnswered config.now (given R.remaining job.old job.new)
+        (taken W.contents out.old out.new) (taken E.contents err.old err.new) result }
+{
     match read_job(alloc, job) {
-        Ok(job) => print_meaning(alloc, &job, out, err),
+        Ok(job) => print_answer(alloc, config, &job, out, err),
         Err(refusal) => complain(refusal, err),
     }
 }
 
-// Prints what the program of a job means for its input text.
-fn print_meaning<W: Write, E: Write>(
+// Prints the answer of a job.
+fn print_answer<W: Write, E: Write>(
     alloc: Global,
+    config: &Config,
     job: &[u8],
     out: &mut Counted<W>,
     err: &mut Counted<E>,
 ) -> u8
-    ensures { Printed job.now (taken W.contents out.old out.new) (taken E.contents err.old err.new) result }
+    ensures { Printed config.now job.now (taken W.contents out.old out.new) (taken E.contents err.old err.new) result }
 {
     let (program, input) = split(job);
-    match run(alloc, program, input, out) {
+    match run_alone(alloc, program, input, config, out) {
         Ok(report) => match report.outcome() {
-            None => 0,
-            Some(fault) => print_made(fault_line(alloc, fault), 2, out, err),
+            Outcome::Value => 0,
+            Outcome::Fault(fault) => print_made(fault_line(alloc, fault), 2, out, err),
+            Outcome::Stalled { .. } => print(STALLED_LINE, 3, out, err),
         },
         Err(error) => {
             let refusal = error.refusal();
@@ -71,6 +109,24 @@ fn print_meaning<W: Write, E: Write>(
                 print_made(refusal_line(alloc, refusal), refusal.status(), out, err)
             }
         }
+    }
+}
+
+// Runs a program with a gate that does nothing.
+fn run_alone<W: Write>(
+    alloc: Global,
+    program: &[u8],
+    input: &[u8],
+    config: &Config,
+    out: &mut Counted<W>,
+) -> Result<Report, RunError>
+    ensures { HasRun program.now input.now config.now (taken W.contents out.old out.new) result }
+{
+    match Arc::new(alloc, NoGate) {
+        Ok(gate) => run(alloc, program, input, config, gate, out),
+        Err(_) => Err(RunError {
+            refusal: Refusal::NoMemory,
+        }),
     }
 }
 

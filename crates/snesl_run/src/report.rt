@@ -1,20 +1,32 @@
 // What a run answers.
 
 ghost use Rattle.std.specs.Prelude.{◌≡◌};
-ghost use Rattle.snesl_run.specs.Runs.{outcome_of, refusal_of};
+ghost use Rattle.snesl_network.specs.NodesAtRest.{rest_of};
+ghost use Rattle.snesl_run.specs.Runs.{outcome_of, refusal_of, rest_in};
 
-use snesl_values::{Fault, Refusal};
+use flow_drive::{Outcome, Rested};
+use flow_nodes::StreamNode;
+use snesl_values::Refusal;
 use thiserror::Error;
 
 /// How a run ended that was not refused.
-#[derive(Clone, Copy, Debug, PartialEq, Eq)]
+#[derive(Drop)]
 pub struct Report {
-    pub(crate) outcome: Option<Fault>,
+    pub(crate) rested: Rested<StreamNode>,
+    pub(crate) outcome: Outcome,
 }
 
 impl Report {
-    /// The fault that the program ended in; `None` where it has a value, which was written.
-    pub fn outcome(&self) -> Option<Fault>
+    /// The network of the program with its input, at rest.
+    pub fn rested(&self) -> &Rested<StreamNode>
+        ensures { rest_of result.now ≡ rest_in self.now }
+    {
+        &self.rested
+    }
+
+    /// How the network came out: `Value` where the program's value was written, a fault where the program ends in one, or
+    /// `Stalled`.
+    pub fn outcome(&self) -> Outcome
         ensures { result ≡ outcome_of self.now }
     {
         self.outcome

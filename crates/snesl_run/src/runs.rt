@@ -1,64 +1,68 @@
 // Running a program for an input text.
 
+ghost use Rattle.std.specs.Prelude.{◌≡◌, ◌++◌, ◌∷◌, [], IfOk, IfErr};
+ghost use Rattle.snesl_values.specs.declared.refusal.Refusal.TheVariants.{NoMemory};
 ghost use Rattle.snesl_run.specs.Streams.{taken};
-ghost use Rattle.snesl_run.specs.Runs.{HasRun, HasEvaluated};
+ghost use Rattle.snesl_run.specs.Runs.{HasRun};
 
 use crate::report::{Report, RunError};
 use crate::send::send;
-use snesl_syntax::parse;
-use snesl_types::{check, plain};
-use snesl_values::{Counted, Fault, Refusal, read_inputs, text_of};
+use flow_drive::{Config, Gate, Outcome};
+use snesl_network::drive_program;
+use snesl_values::{Counted, Refusal};
 use std::alloc::Global;
 use std::io::Write;
+use std::sync::Arc;
 
-/// Writes the value of a program for an input text to `out`, as one line, or answers the fault that
-/// the program ends in. Nothing is written where there is a fault or a refusal of the program. No
-/// call of `out` failed where a report is answered.
+/// Runs a program for an input text as a network of transducers, in the small fixed buffers of the configuration, and
+/// writes its value to `out`, as one line, where all nodes of the network have ended.
+///
+/// Where a fault is named, the program ends in a fault, perhaps in another one; where the network has stalled, some edge
+/// was too small. Then nothing is written. No call of `out` failed where a report is answered. Drives of several threads
+/// call the gate before each turn of a thread.
 ///
 /// # Errors
 ///
-/// - A refusal from 1 to 9: that of the program text, else of its typing, else of the input text.
+/// - `BadConfig`: the configuration is not lawful.
+/// - A refusal from 1 to 9: that of the program text, else of its typing, else of the input text, else `TooBig` where
+///   the network is greater than a graph may be.
 /// - `NoMemory`: memory was refused. Nothing was written, since memory is taken before the first
 ///   write.
 /// - `Output`: a write failed or took no byte, and no other call failed. The writer has taken a
 ///   beginning of the line, and no second try was made, at an interrupted call either.
-pub fn run<W: Write>(
+pub fn run<W: Write, G: Gate + Drop>(
     alloc: Global,
     program: &[u8],
     input: &[u8],
+    config: &Config,
+    gate: Arc<G, Global>,
     out: &mut Counted<W>,
 ) -> Result<Report, RunError>
-    ensures { HasRun program.now input.now (taken W.contents out.old out.new) result }
+    ensures { HasRun program.now input.now config.now (taken W.contents out.old out.new) result }
 {
-    match evaluated(alloc, program, input)? {
-        Err(fault) => Ok(Report {
-            outcome: Some(fault),
-        }),
-        Ok(line) => {
-            if send(out, &line) {
-                Ok(Report { outcome: None })
-            } else {
-                Err(RunError {
+    let rested = drive_program(alloc, program, input, config, gate)?;
+    let outcome = rested.outcome();
+    match outcome {
+        Outcome::Value => {
+            let line = line_of(alloc, rested.text())?;
+            if !send(out, &line) {
+                return Err(RunError {
                     refusal: Refusal::Output,
-                })
+                });
             }
         }
+        Outcome::Fault(_) => {}
+        Outcome::Stalled { .. } => {}
     }
+    Ok(Report { rested, outcome })
 }
 
-// The line of the program's value, or its fault.
-fn evaluated(alloc: Global, program: &[u8], input: &[u8]) -> Result<Result<Vec<u8>, Fault>, Refusal>
-    ensures { HasEvaluated program.now input.now result }
+// The text as a line.
+fn line_of(alloc: Global, text: &[u8]) -> Result<Vec<u8>, Refusal>
+    ensures line { IfOk result (λ line. line.items ≡ text.now ++ 10 ∷ []) }
+    ensures memory { IfErr result (λ refusal. refusal ≡ NoMemory) }
 {
-    let program = parse(alloc, program)?;
-    let typed = check(alloc, &program)?;
-    let inputs = read_inputs(typed.dialect(), alloc, typed.decls(), input)?;
-    match plain(alloc, &typed, &inputs)? {
-        Err(fault) => Ok(Err(fault)),
-        Ok(datum) => {
-            let mut line = text_of(alloc, &datum)?;
-            line.push(b'\n')?;
-            Ok(Ok(line))
-        }
-    }
+    let mut line = Vec::from_slice(alloc, text)?;
+    line.push(b'\n')?;
+    Ok(line)
 }

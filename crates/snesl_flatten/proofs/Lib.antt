@@ -1,0 +1,6 @@
+mod Adding
+mod Binding
+mod Wired
+mod Sources
+mod Ends
+mod InputValues

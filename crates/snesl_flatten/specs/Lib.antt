@@ -1,0 +1,4 @@
+pub mod Behind
+pub mod Networks
+pub mod PlanViews
+pub mod Sources

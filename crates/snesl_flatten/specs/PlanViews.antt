@@ -1,0 +1,32 @@
+-- What callers see of a plan.
+use Rattle.std.specs.Prelude.{◌≡◌, List, []}
+use Rattle.flow_graph.specs.declared.edge.Edge.{Edge}
+use Rattle.flow_graph.specs.Graphs.{states_of, edges_of}
+use Rattle.flow_plans.specs.Layouts.{places}
+use Rattle.flow_plans.specs.Plans.{Step}
+use Rattle.snesl_translation.specs.Programs.{not_set}
+use Rattle.snesl_types.specs.Typed.{typed_inputs, typed_text, typed_tree}
+use Rattle.snesl_types.specs.declared.typed.Typed.{Typed}
+use Rattle.snesl_flatten.specs.Networks.{NodeState, program_steps}
+use Rattle.snesl_flatten.specs.Sources.{HasSources}
+use Rattle.snesl_flatten.specs.declared.plan.Plan.{Plan}
+
+-- the program of which it is the plan
+abbrev pub planned : Plan → Typed
+planned plan = plan.typed.now
+
+-- the states of the nodes of its network, and the edges
+abbrev pub plan_states : Plan → List NodeState
+plan_states plan = states_of plan.graph
+
+abbrev pub plan_edges : Plan → List Edge
+plan_edges plan = edges_of plan.graph
+
+-- the steps of its program, whose sources write nothing yet
+abbrev pub steps_planned : Plan → List Step
+steps_planned plan = program_steps (typed_text (planned plan)) (typed_tree (planned plan)) (typed_inputs (planned plan)) not_set
+
+-- Its network is that of its program, no source of which is set, before any step; and it knows where the nodes of the steps are.
+pub record HoldsNetwork (plan : Plan) : Type 0 where
+  pub sources : HasSources (typed_text (planned plan)) (typed_tree (planned plan)) (typed_inputs (planned plan)) [] (plan_states plan) (plan_edges plan)
+  pub places_are : plan.places.items ≡ places (steps_planned plan)

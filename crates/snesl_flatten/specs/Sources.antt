@@ -1,0 +1,33 @@
+-- The sources of a plan as they are set one after another.
+use Rattle.std.specs.Prelude.{◌≡◌, ℕ, ◌-◌, List, [], ◌∷◌, ◌++◌, slice_index_or}
+use Rattle.snesl_values.specs.Inputs.{Declaration}
+use Rattle.snesl_tree.specs.Tree.{ProgramTree}
+use Rattle.flow_edges.specs.Cells.{Cell}
+use Rattle.flow_edges.specs.declared.message.Kind.{Kind}
+use Rattle.flow_base.specs.Columns.{Columns}
+use Rattle.flow_values.specs.Shapes.{kinds_of}
+use Rattle.flow_nodes.specs.StreamNodes.{node_behaviour}
+use Rattle.flow_graph.specs.declared.edge.Edge.{Edge}
+use Rattle.flow_graph.specs.Networks.{AreOpened}
+use Rattle.flow_plans.specs.Layouts.{places, IsNetworkOf}
+use Rattle.snesl_translation.specs.Wires.{type_of_wires}
+use Rattle.snesl_translation.specs.Programs.{first_offset, program_plan, not_set}
+use Rattle.flow_texts.specs.PrintedTexts.{PrintsAtTheEnd}
+use Rattle.snesl_flatten.specs.Networks.{NodeState, program_steps}
+
+-- the kinds of the streams of inputs, in order
+abbrev pub all_kinds : List Declaration → List Kind
+all_kinds [] = []
+all_kinds (declaration ∷ declarations) = kinds_of declaration.1 ++ all_kinds declarations
+
+-- what sources write where just the first ones are set, to these columns
+abbrev pub written : Columns → ℕ → List Cell
+written columns number = slice_index_or columns (number - 1) []
+
+-- The network is that of the program whose first sources are set to these columns, before any step. Its last node is a Print,
+-- and the nodes of its steps are where they were.
+pub record HasSources (text : List ℕ) (program : ProgramTree) (inputs : List Declaration) (columns : Columns) (states : List NodeState) (edges : List Edge) : Type 0 where
+  pub network : IsNetworkOf node_behaviour (program_steps text program inputs (written columns)) states edges
+  pub opened : AreOpened node_behaviour states
+  pub print : PrintsAtTheEnd (type_of_wires (program_plan text program inputs not_set).given) (first_offset program.expression) states
+  pub places_are : places (program_steps text program inputs (written columns)) ≡ places (program_steps text program inputs not_set)

@@ -1,0 +1,11 @@
+//! Flattening: from a typed program to the network that computes its value.
+#![tactic(auto)]
+
+mod flattening;
+mod inputs;
+mod offsets;
+mod plan;
+mod steps;
+
+pub use flattening::flatten;
+pub use plan::Plan;

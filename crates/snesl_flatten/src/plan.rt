@@ -1,0 +1,104 @@
+// The plan of a program.
+
+ghost use Rattle.std.specs.Prelude.{◌≡◌, ◌↔◌, [], map, IsTrue, IfOk};
+ghost use Rattle.snesl_values.specs.Inputs.{declarations_of, dialect_of, environment_of};
+ghost use Rattle.snesl_types.specs.Typed.{typed_dialect, typed_inputs, typed_text, typed_tree};
+ghost use Rattle.flow_scalar.specs.Streams.{stream_cells, stream_kind};
+ghost use Rattle.flow_nodes.specs.StreamNodes.{node_behaviour};
+ghost use Rattle.flow_graph.specs.Graphs.{states_of, edges_of};
+ghost use Rattle.flow_graph.specs.Networks.{AreOpened};
+ghost use Rattle.flow_plans.specs.Layouts.{places, IsNetworkOf};
+ghost use Rattle.snesl_translation.specs.Programs.{cells_of, columns_of};
+ghost use Rattle.snesl_flatten.specs.Networks.{program_steps, NetworkMeans};
+ghost use Rattle.snesl_flatten.specs.PlanViews.{planned, plan_states, plan_edges, steps_planned, HoldsNetwork};
+ghost use Rattle.snesl_flatten.specs.Sources.{all_kinds, HasSources};
+
+use crate::inputs::streams_of_inputs;
+use flow_assembly::openings_perform;
+use flow_graph::{Graph, ended_is_lawful, graph_is_a_network};
+use flow_layout::{plan_is_its_flow, source_is_set};
+use flow_nodes::StreamNode;
+use flow_scalar::{Source, Stream};
+use flow_texts::print_tells;
+use snesl_translation::programs_are_planned;
+use snesl_types::{Typed, soundness};
+use snesl_values::{Inputs, inputs_fit};
+use std::alloc::{AllocError, Global};
+
+/// The network of a typed program: one for all its inputs, whose sources wait for their lists.
+#[derive(Drop)]
+pub struct Plan<'a> {
+    pub(crate) alloc: Global,
+    pub(crate) typed: &'a Typed<'a>,
+    pub(crate) graph: Graph<StreamNode>,
+    // The number of the node of each step.
+    pub(crate) places: Vec<usize>,
+}
+
+impl<'a> Plan<'a> {
+    /// Whether the inputs were read for the program of the plan: in its dialect and for its declared inputs.
+    pub fn fits(&self, inputs: &Inputs) -> bool
+        ensures { IsTrue result ↔ ((dialect_of inputs.now ≡ typed_dialect (planned self.now)) × (declarations_of inputs.now ≡ typed_inputs (planned self.now))) }
+    {
+        self.typed.fits(inputs)
+    }
+
+    /// The network of a plan that `flatten` made, with the lists of these inputs in its sources, and else as it is. It is in
+    /// its opening states.
+    ///
+    /// It has a lawful flow just where the program has a value for the inputs, and then the text that is printed is that
+    /// of the value.
+    ///
+    /// # Errors
+    ///
+    /// `AllocError` where memory is refused.
+    pub fn with(self, inputs: Inputs) -> Result<Graph<StreamNode>, AllocError>
+        requires holds { HoldsNetwork self }
+        requires in_dialect { dialect_of inputs ≡ typed_dialect (planned self) }
+        requires fits { declarations_of inputs ≡ typed_inputs (planned self) }
+        ensures network { IfOk result (λ graph. IsNetworkOf node_behaviour (program_steps (typed_text (planned self.entry)) (typed_tree (planned self.entry)) (typed_inputs (planned self.entry)) (cells_of (typed_inputs (planned self.entry)) (environment_of inputs))) (states_of graph) (edges_of graph)) }
+        ensures opened { IfOk result (λ graph. AreOpened node_behaviour (states_of graph)) }
+        ensures means { IfOk result (λ graph. NetworkMeans (typed_text (planned self.entry)) (typed_tree (planned self.entry)) (environment_of inputs) (states_of graph) (edges_of graph)) }
+    {
+        let mut plan = self;
+        let streams = streams_of_inputs(plan.alloc, plan.typed.decls(), &inputs)?;
+        plan.set_sources(streams);
+        plan.has_meaning(&inputs);
+        Ok(plan.graph)
+    }
+
+    // Sets the lists of the inputs' sources, in order. Those are the steps behind the first one, the source of the control
+    // stream.
+    fn set_sources(&mut self, streams: Vec<Stream>)
+        requires sources { HasSources (typed_text (planned self.old)) (typed_tree (planned self.old)) (typed_inputs (planned self.old)) [] (plan_states self.old) (plan_edges self.old) }
+        requires places { self.old.places.items ≡ places (steps_planned self.old) }
+        requires kinds { map stream_kind streams.items ≡ all_kinds (typed_inputs (planned self.old)) }
+        ensures typed { planned self.new ≡ planned self.old }
+        ensures sources { HasSources (typed_text (planned self.old)) (typed_tree (planned self.old)) (typed_inputs (planned self.old)) (map stream_cells streams.items) (plan_states self.new) (plan_edges self.new) }
+    {
+        openings_perform();
+        let mut step = 1;
+        for stream in streams {
+            source_is_set(&self.graph);
+            let source = StreamNode::Source(Source::new(self.alloc, stream));
+            self.graph.replace(self.places[step], source);
+            step += 1;
+        }
+    }
+
+    // A law and no code to run: what the network means once the sources hold the values of these inputs.
+    fn has_meaning(&self, inputs: &Inputs)
+        requires in_dialect { dialect_of inputs.now ≡ typed_dialect (planned self.now) }
+        requires fits { declarations_of inputs.now ≡ typed_inputs (planned self.now) }
+        requires sources { HasSources (typed_text (planned self.now)) (typed_tree (planned self.now)) (typed_inputs (planned self.now)) (columns_of (typed_inputs (planned self.now)) (environment_of inputs.now)) (plan_states self.now) (plan_edges self.now) }
+        ensures { NetworkMeans (typed_text (planned self.now)) (typed_tree (planned self.now)) (environment_of inputs.now) (plan_states self.now) (plan_edges self.now) }
+    {
+        inputs_fit(inputs);
+        soundness();
+        programs_are_planned();
+        plan_is_its_flow(&self.graph);
+        graph_is_a_network(&self.graph);
+        ended_is_lawful(&self.graph);
+        print_tells(&self.graph);
+    }
+}

@@ -1,0 +1,90 @@
+// The steps of a program.
+
+ghost use Rattle.std.specs.Prelude.{◌≡◌, ◌<◌, ◌⊎◌, length, IfOk, IfErr, Err};
+ghost use Rattle.snesl_values.specs.declared.refusal.Refusal.TheVariants.{TooBig, NoMemory};
+ghost use Rattle.snesl_values.specs.Inputs.{declared};
+ghost use Rattle.snesl_tree.specs.View.{tree_of};
+ghost use Rattle.snesl_types.specs.Typed.{typed_dialect, typed_inputs, typed_text, typed_tree};
+ghost use Rattle.flow_graph.specs.Limits.{most_nodes};
+ghost use Rattle.flow_plans.specs.Views.{steps_of};
+ghost use Rattle.snesl_translation.specs.Programs.{inputs_sourced, program_plan, not_set};
+ghost use Rattle.snesl_steps.specs.Views.{bindings_of, dialect_of_steps, next_in, wires_of};
+ghost use Rattle.snesl_steps.specs.Added.{Adds};
+ghost use Rattle.snesl_flatten.specs.Networks.{program_steps};
+ghost use Rattle.snesl_flatten.specs.Behind.{printed};
+
+use crate::offsets::first_offset;
+use flow_plans::{Operation, Step};
+use snesl_scopes::Scope;
+use snesl_steps::{Binding, Steps, Wires};
+use snesl_translator::{Setting, translate};
+use snesl_tree::Expr;
+use snesl_types::Typed;
+use snesl_values::{Refusal, Ty};
+use std::alloc::Global;
+
+// The steps of a program whose inputs are not set. `TooBig` where they are more than a graph has nodes.
+pub(crate) fn steps_of_program(alloc: Global, typed: &Typed<'_>) -> Result<Vec<Step>, Refusal>
+    ensures steps { IfOk result (λ steps. steps_of (typed_dialect typed.now) steps.items ≡ program_steps (typed_text typed.now) (typed_tree typed.now) (typed_inputs typed.now) not_set) }
+    ensures big { result ≡ Err TooBig → most_nodes < length (program_steps (typed_text typed.now) (typed_tree typed.now) (typed_inputs typed.now) not_set) }
+    ensures memory { IfErr result (λ refusal. (refusal ≡ TooBig) ⊎ (refusal ≡ NoMemory)) }
+{
+    let mut steps = Steps::new(alloc, typed.dialect());
+    let _wires = add_program(&mut steps, typed)?;
+    Ok(steps.into_steps())
+}
+
+// Adds them where no step is there yet, and returns the streams of the program's value.
+fn add_program(steps: &mut Steps, typed: &Typed<'_>) -> Result<Wires, Refusal>
+    requires dialect { dialect_of_steps steps.old ≡ typed_dialect typed.now }
+    requires next { next_in steps.old ≡ 0 }
+    ensures { Adds wires_of steps.old steps.new (program_plan (typed_text typed.now) (typed_tree typed.now) (typed_inputs typed.now) not_set) result }
+{
+    let program = typed.program();
+    let at = first_offset(&program.expr);
+    let control = steps.control(at)?;
+    let inputs = bind_inputs(steps, at, typed.decls())?;
+    let setting = Setting {
+        text: &program.text,
+        functions: &program.declarations,
+    };
+    let wires = print_value(steps, at, &setting, &program.expr, &inputs, control)?;
+    Ok(wires)
+}
+
+// Adds the beginnings of the streams of inputs, and returns these beside the names.
+fn bind_inputs<'a>(
+    steps: &mut Steps,
+    at: usize,
+    declarations: &'a [(Vec<u8>, Ty)],
+) -> Result<Vec<Binding<'a>>, Refusal>
+    ensures { Adds (λ bindings. bindings_of bindings.items) steps.old steps.new (inputs_sourced at not_set (declared declarations.now) (next_in steps.old)) result }
+{
+    let mut bindings = Vec::new(steps.alloc());
+    for declaration in declarations {
+        let wires = steps.input(at, &declaration.1)?;
+        let name = declaration.0.as_slice();
+        bindings.push(Binding { name, wires })?;
+    }
+    Ok(bindings)
+}
+
+// Adds the steps of an expression under a control stream, and a Print of its value, whose streams are returned.
+fn print_value(
+    steps: &mut Steps,
+    at: usize,
+    setting: &Setting<'_>,
+    expr: &Expr,
+    inputs: &[Binding<'_>],
+    control: usize,
+) -> Result<Wires, Refusal>
+    ensures { Adds wires_of steps.old steps.new (printed steps.old at setting.now (tree_of expr.now) (bindings_of inputs.now) control) result }
+{
+    let nothing = Scope::Nothing;
+    let scope = Scope::Frame(inputs, &nothing);
+    let wires = translate(steps, setting, expr, &scope, control)?;
+    let ty = wires.ty(steps.alloc())?;
+    let numbers = wires.numbers(steps.alloc())?;
+    steps.test(at, Operation::Print(ty), numbers)?;
+    Ok(wires)
+}

@@ -1,0 +1,172 @@
+// Programs as networks beside their plain evaluation: whatever the edges hold, a run ends in the value that evaluation
+// gives, in some fault where evaluation gives one, or in no answer.
+
+use flow_drive::{Config, Drive, NoGate, Outcome, Sharing};
+use snesl_run::run;
+use snesl_syntax::parse;
+use snesl_types::{check, plain};
+use snesl_values::{Counted, Datum, Fault, Refusal, read_inputs, text_of};
+use std::alloc::{AllocError, Global};
+use std::fmt;
+use std::sync::Arc;
+
+/// How many programs were run, how many runs there were, and how they ended.
+#[derive(Clone, Copy, Debug)]
+pub struct Totals {
+    programs: usize,
+    runs: usize,
+    values: usize,
+    faults: usize,
+    stalled: usize,
+    refused: usize,
+    /// How many runs ended as evaluation does not allow.
+    pub differing: usize,
+}
+
+impl fmt::Display for Totals {
+    fn fmt<W: fmt::Write>(&self, f: &mut fmt::Formatter<W>) -> fmt::Result {
+        let (programs, runs, values, faults) = (self.programs, self.runs, self.values, self.faults);
+        let (stalled, refused, differing) = (self.stalled, self.refused, self.differing);
+        write!(
+            f,
+            "{programs} programs in {runs} runs: {values} values, {faults} faults, {stalled} stalled, {refused} too big, {differing} differ"
+        )
+    }
+}
+
+impl Totals {
+    /// No run.
+    pub fn none() -> Totals {
+        Totals {
+            programs: 0,
+            runs: 0,
+            values: 0,
+            faults: 0,
+            stalled: 0,
+            refused: 0,
+            differing: 0,
+        }
+    }
+
+    /// Runs the program of a job over edges of several capacities, and counts the runs; a program that is refused, or
+    /// whose input text is, counts for nothing. The error is that memory was refused.
+    pub fn add(&mut self, alloc: Global, job: &[u8]) -> Result<(), AllocError> {
+        let (program, input) = split(job);
+        let expected = match evaluated(alloc, program, input) {
+            Ok(Ok(datum)) => Some(line_of(alloc, &datum)?),
+            Ok(Err(_)) => None,
+            Err(Refusal::NoMemory) => return Err(AllocError),
+            Err(_) => return Ok(()),
+        };
+        self.programs = self.programs.saturating_add(1);
+        for capacity in [1, 2, 4, 256] {
+            for chunk in [1, 16] {
+                let config = config_of(alloc, capacity, chunk)?;
+                let (written, ending) = ran(alloc, program, input, &config)?;
+                self.count(&expected, &written, ending);
+            }
+        }
+        Ok(())
+    }
+
+    // Counts a run that wrote these bytes, where evaluation gives a value of this line or a fault.
+    fn count(
+        &mut self,
+        expected: &Option<Vec<u8>>,
+        written: &[u8],
+        ending: Result<Outcome, Refusal>,
+    ) {
+        self.runs = self.runs.saturating_add(1);
+        let silent = written.is_empty();
+        let allowed = match ending {
+            Ok(Outcome::Value) => {
+                self.values = self.values.saturating_add(1);
+                is_line(expected, written)
+            }
+            Ok(Outcome::Fault(_)) => {
+                self.faults = self.faults.saturating_add(1);
+                silent && expected.is_none()
+            }
+            Ok(Outcome::Stalled { .. }) => {
+                self.stalled = self.stalled.saturating_add(1);
+                silent
+            }
+            Err(Refusal::TooBig) => {
+                self.refused = self.refused.saturating_add(1);
+                silent
+            }
+            Err(_) => false,
+        };
+        if !allowed {
+            self.differing = self.differing.saturating_add(1);
+        }
+    }
+}
+
+// Whether these bytes are the line of the value that is expected.
+fn is_line(expected: &Option<Vec<u8>>, written: &[u8]) -> bool {
+    match expected {
+        Some(line) => line.as_slice() == written,
+        None => false,
+    }
+}
+
+// What a program evaluates to for an input text.
+fn evaluated(alloc: Global, text: &[u8], input: &[u8]) -> Result<Result<Datum, Fault>, Refusal> {
+    let program = parse(alloc, text)?;
+    let typed = check(alloc, &program)?;
+    let inputs = read_inputs(typed.dialect(), alloc, typed.decls(), input)?;
+    Ok(plain(alloc, &typed, &inputs)?)
+}
+
+// The text of a value, and one line feed.
+fn line_of(alloc: Global, datum: &Datum) -> Result<Vec<u8>, AllocError> {
+    let mut line = text_of(alloc, datum)?;
+    line.push(b'\n')?;
+    Ok(line)
+}
+
+// What a run wrote, and how it ended.
+fn ran(
+    alloc: Global,
+    program: &[u8],
+    input: &[u8],
+    config: &Config,
+) -> Result<(Vec<u8>, Result<Outcome, Refusal>), AllocError> {
+    let gate = Arc::new(alloc, NoGate)?;
+    let mut out = Counted::new(Vec::new(alloc));
+    let ending = match run(alloc, program, input, config, gate, &mut out) {
+        Ok(report) => Ok(report.outcome()),
+        Err(error) => Err(error.refusal()),
+    };
+    Ok((out.into_inner(), ending))
+}
+
+// Edges of this capacity, and visits of so many steps, in one thread.
+fn config_of(alloc: Global, capacity: usize, chunk: usize) -> Result<Config, AllocError> {
+    let sharing = Sharing {
+        threads: 1,
+        idle_turns: 1,
+        share: vec![in alloc; 0u8]?,
+    };
+    Ok(Config {
+        capacity,
+        chunk,
+        sharing,
+        drive: Drive::Serial,
+    })
+}
+
+// The program and the input text of a job: what stands before the first line `---`, and what behind it.
+fn split(job: &[u8]) -> (&[u8], &[u8]) {
+    let mut at = 0usize;
+    for line in job.split(|byte| *byte == b'\n') {
+        let behind = at.saturating_add(line.len()).saturating_add(1);
+        let is_last = behind > job.len();
+        if line == b"---".as_slice() || (line == b"---\r".as_slice() && !is_last) {
+            return (job.get(..at).unwrap_or(job), job.get(behind..).unwrap_or(&[]));
+        }
+        at = behind;
+    }
+    (job, &[])
+}

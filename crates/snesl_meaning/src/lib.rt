@@ -1,0 +1,6 @@
+//! What a program means for an input text.
+#![tactic(auto)]
+
+mod meaning;
+
+pub use meaning::one_meaning;

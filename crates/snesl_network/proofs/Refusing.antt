@@ -1,0 +1,43 @@
+-- Why there is no network of a program with its input.
+use Rattle.std.proofs.Common.{◌≡◌, ℕ, List, Result, Ok, Err, inr, sym, subst}
+use Rattle.std.specs.Result.{IsErrAnd}
+use Rattle.std.specs.Prelude.{IfErr}
+use Rattle.snesl_values.specs.declared.refusal.Refusal.{Refusal}
+use Rattle.snesl_values.specs.declared.refusal.Refusal.TheVariants.{TooBig, BadConfig, NoMemory, Output}
+use Rattle.snesl_tree.specs.Tree.{ProgramTree}
+use Rattle.snesl_syntax.specs.Parse.{Parses, IsOfText, IsRight}
+use Rattle.snesl_types.specs.Programs.{IsFirstViolation}
+use Rattle.snesl_types.proofs.TypingRefusals.{program_of_typing}
+use Rattle.snesl_meaning.specs.Meaning.{no_program, ill_typed}
+use Rattle.flow_drive.specs.declared.config.Config.{Config}
+use Rattle.snesl_flatten.specs.Networks.{NodeState}
+use Rattle.snesl_network.specs.NodesAtRest.{Rest}
+use Rattle.snesl_network.specs.Driven.{WasDriven}
+use Rattle.snesl_network.specs.Meant.{HasNoNetwork}
+
+module _ (text input : List ℕ) where
+  pub parse_refused : (refusal : Refusal) → IsOfText refusal → IsRight (Parses text) (Err refusal) → HasNoNetwork text input refusal
+  parse_refused NoMemory of_text right config = tt
+  parse_refused Output of_text right config = of_text
+  parse_refused BadConfig of_text right config = absurd of_text
+  parse_refused TooBig of_text right config = absurd of_text
+  parse_refused refusal of_text right config = no_program right
+
+  pub check_refused : (program : ProgramTree) (refusal : Refusal) → Parses text (Ok program) → IsFirstViolation text program refusal
+      → HasNoNetwork text input refusal
+  check_refused program NoMemory parsed first config = tt
+  check_refused program Output parsed first config = program_of_typing first
+  check_refused program BadConfig parsed first config = absurd (program_of_typing first)
+  check_refused program TooBig parsed first config = inr (ill_typed parsed first)
+  check_refused program refusal parsed first config = ill_typed parsed first
+
+  -- what is answered behind a `?`
+  pub passed_on : {A : Type 0} (r : Result A Refusal) (e : Refusal) → IsErrAnd r (λ x. x ≡ e) → HasNoNetwork text input e → IfErr r (HasNoNetwork text input)
+  passed_on (Ok x) e is none = absurd is
+  passed_on (Err x) e is none = subst (HasNoNetwork text input) (sym is) none
+
+  -- and by the drive
+  pub not_driven : {A : Type 0} (config : Config) (seen : A → Rest NodeState) (r : Result A Refusal) (e : Refusal) → IsErrAnd r (λ x. x ≡ e) → HasNoNetwork text input e
+      → WasDriven text input config seen r
+  not_driven config seen (Ok x) e is none = absurd is
+  not_driven config seen (Err x) e is none = subst (HasNoNetwork text input) (sym is) none config

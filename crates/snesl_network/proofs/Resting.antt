@@ -1,0 +1,99 @@
+-- How the network of a program comes to rest.
+use Rattle.std.proofs.Common.{◌≡◌, ℕ, ◌<◌, ◌≤◌, List, length, Some, refl, sym, subst}
+use Rattle.snesl_values.specs.declared.fault.Fault.{Fault}
+use Rattle.snesl_values.specs.declared.fault.FaultKind.{FaultKind}
+use Rattle.snesl_values.specs.Values.{Value}
+use Rattle.snesl_values.specs.Text.{text as text_of_value}
+use Rattle.snesl_evaluation.specs.Answer.{Answer, gives, faults}
+use Rattle.snesl_evaluation.specs.Eval.{program_value}
+use Rattle.snesl_meaning.specs.Meaning.{Means, evaluated, meaning_of, has_value, has_fault, HaveOneMeaning}
+use Rattle.kahn.specs.Networks.{Network}
+use Rattle.kahn.specs.Processes.{Process}
+use Rattle.kahn.specs.Configurations.{Configuration, AllEnded, IsSound}
+use Rattle.kahn.specs.Outcomes.{HasFault}
+use Rattle.kahn.proofs.Conclusions.{runs_are_sound}
+use Rattle.flow_edges.specs.Cells.{Cell}
+use Rattle.flow_edges.specs.Signals.{Signal}
+use Rattle.flow_base.specs.Transducers.{closed}
+use Rattle.flow_nodes.specs.StreamNodes.{node_behaviour, text_in}
+use Rattle.flow_graph.specs.declared.edge.Edge.{Edge}
+use Rattle.flow_graph.specs.Networks.{network_of, configuration_of}
+use Rattle.flow_graph.specs.Flows.{IsLawfulFlow}
+use Rattle.flow_graph.specs.FlowTheorems.{FlowIsBegun, FlowRunsToEnd}
+use Rattle.flow_graph.specs.Laws.{IsNetwork}
+use Rattle.flow_graph.specs.Shapes.{IsSameNetwork}
+use Rattle.flow_drive.specs.Drives.{EndsMaximalRun}
+use Rattle.flow_drive.specs.Texts.{last_text}
+use Rattle.snesl_flatten.specs.Networks.{NodeState}
+use Rattle.snesl_network.specs.NodesAtRest.{Rest}
+use Rattle.snesl_network.specs.Driven.{HaveEnded, IsNamed, CameToRest}
+use Rattle.snesl_network.specs.Meant.{IsMeantFor}
+
+module _ (text input : List ℕ) (states : List NodeState) (edges : List Edge) (meant : IsMeantFor text input states edges) (one : HaveOneMeaning) where
+  -- what evaluation answers
+  abbrev answer : Answer Value
+  answer = program_value text meant.start.program meant.start.environment
+
+  -- the program means what evaluation answers
+  means_as : (a : Answer Value) → answer ≡ a → Means text input (meaning_of a)
+  means_as a is = subst (λ x. Means text input (meaning_of x)) is (evaluated meant.start.parses meant.start.types meant.start.inputs)
+
+  -- where it has a value, that is what evaluation answers
+  gives_value : (v : Value) → Means text input (has_value v) → answer ≡ gives v
+  gives_value v has = by_answer answer refl
+    where
+      by_answer : (a : Answer Value) → answer ≡ a → answer ≡ gives v
+      by_answer (gives w) is = let same : has_value w ≡ has_value v = one text input (has_value w) (has_value v) (means_as (gives w) is) has in cc
+      by_answer (faults kind at) is =
+          let same : has_fault kind at ≡ has_value v = one text input (has_fault kind at) (has_value v) (means_as (faults kind at) is) has in absurd (cc)
+
+  module _ (capacity : ℕ) (rest : Rest NodeState) (same : IsSameNetwork node_behaviour states edges rest.states rest.edges)
+      (run : EndsMaximalRun node_behaviour capacity states edges rest.states rest.traffic) (graph : IsNetwork node_behaviour states edges)
+      (begun : FlowIsBegun node_behaviour states edges) (to_end : FlowRunsToEnd node_behaviour states edges) where
+    abbrev P : Process NodeState Signal
+    P = node_behaviour.process
+
+    abbrev net : Network NodeState
+    net = network_of node_behaviour states edges
+
+    abbrev at_rest : Configuration NodeState Signal
+    at_rest = configuration_of node_behaviour rest.states rest.traffic
+
+    sound : IsSound P net at_rest
+    sound = runs_are_sound P net graph.wired (Some capacity) run.0 at_rest run.1.run
+
+    value_printed : HaveEnded rest → (v : Value) × Means text input (has_value v) × (last_text text_in rest.states ≡ text_of_value v)
+    value_printed ended =
+        let printed = meant.means.prints rest.states rest.traffic same.nodes (record { sound = sound; ended = subst (λ n. AllEnded P n at_rest) same.network ended }) in
+        (printed.0, means_as (gives printed.0) printed.1, printed.2)
+
+    -- where a node has faulted, the network has no lawful flow, so the program has no value
+    fault_meant : (f : Fault) → IsNamed rest f → (kind : FaultKind) × (at : ℕ) × Means text input (has_fault kind at)
+    fault_meant f named = by_answer answer refl
+      where
+        by_answer : (a : Answer Value) → answer ≡ a → (kind : FaultKind) × (at : ℕ) × Means text input (has_fault kind at)
+        by_answer (faults kind at) is = (kind, at, means_as (faults kind at) is)
+        by_answer (gives v) is =
+            let flow = meant.means.flows v is in
+            let at : HasFault P net at_rest f = subst (λ n. HasFault P n at_rest f) same.network named.stands in
+            absurd ((begun flow.0 flow.1 at_rest sound).1 at.0 at.1 f at.2)
+
+    all_end : (v : Value) → Means text input (has_value v)
+        → (bodies : ℕ → List Cell) × IsLawfulFlow node_behaviour states edges bodies
+        × (((e : ℕ) → e < length edges → length (closed (bodies e)) ≤ capacity) → HaveEnded rest)
+    all_end v has =
+        let flow = meant.means.flows v (gives_value v has) in
+        (flow.0, flow.1, λ fits. subst (λ n. AllEnded P n at_rest) (sym same.network) (to_end flow.0 flow.1 capacity fits run.0 at_rest run.1).0)
+
+    pub comes_to_rest : rest.capacity ≡ capacity → CameToRest text input capacity rest
+    comes_to_rest capacity_is =
+        record {
+          states = states;
+          edges = edges;
+          start = meant.start;
+          same = same;
+          capacity_is = capacity_is;
+          value = value_printed;
+          fault = fault_meant;
+          never_stalls = all_end;
+        }

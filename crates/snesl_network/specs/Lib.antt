@@ -1,0 +1,3 @@
+pub mod NodesAtRest
+pub mod Driven
+pub mod Meant

@@ -1,0 +1,85 @@
+// From the text of a program and its input to the network at rest.
+
+ghost use Rattle.std.specs.Prelude.{◌≡◌, ℕ, List, IfOk, IfErr};
+ghost use Rattle.snesl_values.specs.declared.refusal.Refusal.TheVariants.{NoMemory};
+ghost use Rattle.flow_nodes.specs.StreamNodes.{node_behaviour};
+ghost use Rattle.flow_graph.specs.Graphs.{states_of, edges_of};
+ghost use Rattle.flow_graph.specs.Networks.{AreOpened};
+ghost use Rattle.flow_drive.specs.Configs.{IsLawful};
+ghost use Rattle.snesl_network.specs.Driven.{CameToRest, WasDriven};
+ghost use Rattle.snesl_network.specs.Meant.{IsMeantFor, HasNoNetwork};
+ghost use Rattle.snesl_network.specs.NodesAtRest.{rest_of};
+
+use flow_drive::{Config, DriveError, Gate, Rested, drive};
+use flow_graph::{Graph, flow_is_carried, flow_runs_to_end, graph_is_a_network};
+use flow_nodes::StreamNode;
+use snesl_flatten::flatten;
+use snesl_meaning::one_meaning;
+use snesl_syntax::parse;
+use snesl_types::check;
+use snesl_values::{Refusal, read_inputs};
+use std::alloc::Global;
+use std::sync::Arc;
+
+/// Drives the network of a program with its input text until no node can step.
+///
+/// What rests is the plan's network with the inputs. Where all its nodes have ended, its text is that of the program's value;
+/// where a fault is named, the program ends in a fault, perhaps in another one; it never stalls where the program has a
+/// value and each edge may hold all that goes over it.
+///
+/// # Errors
+///
+/// In this order: `BadConfig` exactly where the configuration is not lawful; the refusals of the program text, of its
+/// typing and of the input text; `TooBig` where the network is greater than a graph may be. `NoMemory` may come at any
+/// time where memory is refused.
+pub fn drive_program<G: Gate + Drop>(
+    alloc: Global,
+    program: &[u8],
+    input: &[u8],
+    config: &Config,
+    gate: Arc<G, Global>,
+) -> Result<Rested<StreamNode>, Refusal>
+    ensures { WasDriven program.now input.now config.now rest_of result }
+{
+    if !config.lawful() {
+        return Err(Refusal::BadConfig);
+    }
+    let graph = network(alloc, program, input)?;
+    driven(alloc, graph, config, gate)
+}
+
+// The network of a program with its input text, before any step.
+fn network(alloc: Global, program: &[u8], input: &[u8]) -> Result<Graph<StreamNode>, Refusal>
+    ensures meant { IfOk result (λ graph. IsMeantFor program.now input.now (states_of graph) (edges_of graph)) }
+    ensures refused { IfErr result (HasNoNetwork program.now input.now) }
+{
+    let program = parse(alloc, program)?;
+    let typed = check(alloc, &program)?;
+    let inputs = read_inputs(typed.dialect(), alloc, typed.decls(), input)?;
+    let plan = flatten(alloc, &typed)?;
+    let graph = plan.with(inputs)?;
+    Ok(graph)
+}
+
+// Drives a network until no node can step. It comes to rest as each program says of which it is the network.
+fn driven<G: Gate + Drop>(
+    alloc: Global,
+    graph: Graph<StreamNode>,
+    config: &Config,
+    gate: Arc<G, Global>,
+) -> Result<Rested<StreamNode>, Refusal>
+    requires lawful { IsLawful config.now }
+    requires opened { AreOpened node_behaviour (states_of graph) }
+    ensures rest { IfOk result (λ rested. (text input : List ℕ) → IsMeantFor text input (states_of graph) (edges_of graph) → CameToRest text input config.now.capacity (rest_of rested)) }
+    ensures memory { IfErr result (λ refusal. refusal ≡ NoMemory) }
+{
+    graph_is_a_network(&graph);
+    flow_is_carried(&graph);
+    flow_runs_to_end(&graph);
+    one_meaning();
+    match drive(alloc, graph, config, gate) {
+        Ok(rested) => Ok(rested),
+        Err(DriveError::BadConfig) => Err(Refusal::BadConfig),
+        Err(DriveError::NoMemory) => Err(Refusal::NoMemory),
+    }
+}

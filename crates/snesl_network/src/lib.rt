@@ -1,0 +1,6 @@
+//! Programs driven as networks.
+#![tactic(auto)]
+
+mod driving;
+
+pub use driving::drive_program;

@@ -1,9 +1,0 @@
-use Rattle.snesl_run.proofs.Meanings.{one_meaning}
-use Rattle.snesl_run.proofs.SomeMeaning.{some_meaning}
-use Rattle.snesl_run.proofs.meaning.one_meaning.Goals as goal
-
-pub returns : goal.returns
-returns c = record {
-  one = one_meaning c.one_answer.ensures.one c.one_typing.ensures.one c.one_input_meaning.ensures.one;
-  some = some_meaning c.one_answer.ensures.some c.one_typing.ensures.some c.one_input_meaning.ensures.some;
-}
