@@ -1,7 +1,6 @@
 // What can be asked of a graph at rest.
 ghost use Rattle.std.specs.Prelude.{◌≡◌, ◌<◌, ℕ, List, Option, length};
 ghost use Rattle.std.specs.Io.Iter.{u64_saturate};
-ghost use Rattle.flow_graph.specs.Graphs.{states_of, edges_of};
 ghost use Rattle.flow_drive.specs.Drives.{ComesOut};
 ghost use Rattle.flow_drive.specs.Resteds.{rested_states, rested_edges, rested_capacity, traffic_of};
 ghost use Rattle.flow_drive.specs.Texts.{last_text, IsTold};
@@ -9,7 +8,6 @@ ghost use Rattle.flow_drive.specs.Texts.{last_text, IsTold};
 use crate::outcome::{first_to_write, standing_fault};
 use crate::rested::Rested;
 use flow_base::{Printing, Transducer};
-use flow_graph::Graph;
 use kahn::Outcome;
 
 impl<T: Transducer> Rested<T> {
@@ -55,14 +53,6 @@ impl<T: Transducer> Rested<T> {
         ensures { result ≡ 0 }
     {
         0
-    }
-
-    /// The graph, its nodes in the states in which they rest.
-    pub fn graph(&self) -> &Graph<T>
-        ensures states { states_of result.now ≡ rested_states self.now }
-        ensures edges { edges_of result.now ≡ rested_edges self.now }
-    {
-        &self.graph
     }
 }
 

@@ -16,6 +16,7 @@ use snesl_tree::Builtin;
 use snesl_values::{Refusal, Ty, copy_ty};
 
 /// A built-in function at its arguments. The errors are those of `Steps::step`.
+#[inline(never)]
 pub fn apply_built_in(
     steps: &mut Steps,
     at: usize,

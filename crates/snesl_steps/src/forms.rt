@@ -19,6 +19,7 @@ use snesl_tree::{Operator, Prefix};
 use snesl_values::{Refusal, Ty, copy_ty};
 
 /// A constant, of this type, for each Unit of a control stream. The errors are those of `Steps::step`.
+#[inline(never)]
 pub fn constant(
     steps: &mut Steps,
     at: usize,
@@ -95,6 +96,7 @@ pub fn concatenate(steps: &mut Steps, at: usize, sequence: &Wires) -> Result<Wir
 }
 
 /// An operator between two operands. The errors are those of `Steps::step`.
+#[inline(never)]
 pub fn apply_operator(
     steps: &mut Steps,
     at: usize,
@@ -155,6 +157,7 @@ pub(crate) fn item_of(ty: &Ty) -> &Ty
 }
 
 /// An operator before its operand. The errors are those of `Steps::step`.
+#[inline(never)]
 pub fn apply_prefix(
     steps: &mut Steps,
     at: usize,

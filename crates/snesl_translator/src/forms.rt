@@ -18,6 +18,7 @@ use snesl_tree::{Builtin, Span};
 use snesl_values::{Refusal, Ty};
 
 // The streams of a name.
+#[inline(never)]
 pub(crate) fn named(
     steps: &mut Steps,
     text: &[u8],
@@ -31,6 +32,7 @@ pub(crate) fn named(
 }
 
 // The streams of a pair.
+#[inline(never)]
 pub(crate) fn paired(steps: &mut Steps, first: Wires, second: Wires) -> Result<Wires, Refusal>
     ensures { Adds wires_of steps.old steps.new (done (two (wires_of first) (wires_of second)) (next_in steps.old)) result }
 {
@@ -60,6 +62,7 @@ pub(crate) fn flat(
 }
 
 // Of two sequences, of which one is empty, the element of the other. The errors are those of `Steps::step`.
+#[inline(never)]
 pub(crate) fn one_of(
     steps: &mut Steps,
     at: usize,
@@ -75,6 +78,7 @@ pub(crate) fn one_of(
 }
 
 // Sequences in order, one behind the other. The errors are those of `Steps::step`.
+#[inline(never)]
 pub(crate) fn append_all(
     steps: &mut Steps,
     at: usize,

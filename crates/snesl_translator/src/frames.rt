@@ -11,6 +11,7 @@ use snesl_tree::Typing;
 use std::alloc::{AllocError, Global};
 
 // One name.
+#[inline(never)]
 pub(crate) fn one_bound<'a>(
     alloc: Global,
     name: &'a [u8],
@@ -24,6 +25,7 @@ pub(crate) fn one_bound<'a>(
 }
 
 // Parameters beside arguments.
+#[inline(never)]
 pub(crate) fn bind_parameters<'a>(
     alloc: Global,
     text: &'a [u8],

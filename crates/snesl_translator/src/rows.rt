@@ -56,6 +56,7 @@ pub(crate) fn part_where<'a>(
 }
 
 // Of a comprehension's body, beside these sequences. The errors are those of `Steps::step`.
+#[inline(never)]
 pub(crate) fn open_each<'a>(
     steps: &mut Steps,
     at: usize,
@@ -80,6 +81,7 @@ pub(crate) fn open_each<'a>(
 }
 
 // Of an item, where these truth values are true. The errors are those of `Steps::step`.
+#[inline(never)]
 pub(crate) fn open_where<'a>(
     steps: &mut Steps,
     at: usize,
