@@ -1,7 +1,7 @@
 // From the text of a program and its input to the network at rest.
 
-ghost use Rattle.std.specs.Prelude.{◌≡◌, ℕ, List, IfOk, IfErr};
-ghost use Rattle.snesl_values.specs.declared.refusal.Refusal.TheVariants.{NoMemory};
+ghost use Rattle.std.specs.Prelude.{◌≡◌, ℕ, List, Err, IfOk, IfErr};
+ghost use Rattle.snesl_values.specs.declared.refusal.Refusal.TheVariants.{BadConfig, NoMemory};
 ghost use Rattle.flow_nodes.specs.StreamNodes.{node_behaviour};
 ghost use Rattle.flow_graph.specs.Graphs.{states_of, edges_of};
 ghost use Rattle.flow_graph.specs.Networks.{AreOpened};
@@ -31,7 +31,7 @@ use std::sync::Arc;
 ///
 /// In this order: `BadConfig` exactly where the configuration is not lawful; the refusals of the program text, of its
 /// typing and of the input text; `TooBig` where the network is greater than a graph may be. `NoMemory` may come at any
-/// time where memory is refused.
+/// time behind the first where memory is refused.
 pub fn drive_program<G: Gate + Drop>(
     alloc: Global,
     program: &[u8],
@@ -39,7 +39,8 @@ pub fn drive_program<G: Gate + Drop>(
     config: &Config,
     gate: Arc<G, Global>,
 ) -> Result<Rested<StreamNode>, Refusal>
-    ensures { WasDriven program.now input.now config.now rest_of result }
+    ensures driven { WasDriven program.now input.now config.now rest_of result }
+    ensures config { (IsLawful config.now → ⊥) → result ≡ Err BadConfig }
 {
     if !config.lawful() {
         return Err(Refusal::BadConfig);

@@ -68,3 +68,8 @@ HasError program input config out refusal = WasRefused program input config refu
 abbrev pub HasRun : (program input : List ℕ) → Config → Taken → Result Report RunError → Type 0
 HasRun program input config out (Ok report) = IsReported program input config out report
 HasRun program input config out (Err error) = HasError program input config out (refusal_of error)
+
+-- it was refused, and with this refusal
+abbrev pub IsRefusedWith : Refusal → Result Report RunError → Type 0
+IsRefusedWith refusal (Ok report) = ⊥
+IsRefusedWith refusal (Err error) = refusal_of error ≡ refusal

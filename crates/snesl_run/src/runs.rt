@@ -1,9 +1,10 @@
 // Running a program for an input text.
 
 ghost use Rattle.std.specs.Prelude.{◌≡◌, ◌++◌, ◌∷◌, [], IfOk, IfErr};
-ghost use Rattle.snesl_values.specs.declared.refusal.Refusal.TheVariants.{NoMemory};
+ghost use Rattle.snesl_values.specs.declared.refusal.Refusal.TheVariants.{BadConfig, NoMemory};
+ghost use Rattle.flow_drive.specs.Configs.{IsLawful};
 ghost use Rattle.snesl_run.specs.Streams.{taken};
-ghost use Rattle.snesl_run.specs.Runs.{HasRun};
+ghost use Rattle.snesl_run.specs.Runs.{HasRun, IsRefusedWith};
 
 use crate::report::{Report, RunError};
 use crate::send::send;
@@ -23,7 +24,7 @@ use std::sync::Arc;
 ///
 /// # Errors
 ///
-/// - `BadConfig`: the configuration is not lawful.
+/// - `BadConfig`: exactly where the configuration is not lawful, before anything else.
 /// - A refusal from 1 to 9: that of the program text, else of its typing, else of the input text, else `TooBig` where
 ///   the network is greater than a graph may be.
 /// - `NoMemory`: memory was refused. Nothing was written, since memory is taken before the first
@@ -38,7 +39,8 @@ pub fn run<W: Write, G: Gate + Drop>(
     gate: Arc<G, Global>,
     out: &mut Counted<W>,
 ) -> Result<Report, RunError>
-    ensures { HasRun program.now input.now config.now (taken W.contents out.old out.new) result }
+    ensures ran { HasRun program.now input.now config.now (taken W.contents out.old out.new) result }
+    ensures config { (IsLawful config.now → ⊥) → IsRefusedWith BadConfig result }
 {
     let rested = drive_program(alloc, program, input, config, gate)?;
     let outcome = rested.outcome();
