@@ -1,5 +1,5 @@
 -- The Print at the end of the network of a program.
-use Rattle.std.proofs.Common.{◌≡◌, ◌≢◌, ℕ, zero, suc, ◌+◌, ◌<◌, List, [], ◌∷◌, ◌++◌, length, set, Some, refl, sym, ap, subst, ◌∙◌, arith, append_assoc, length-append, get_or-set_other}
+use Rattle.std.proofs.Common.{◌≡◌, ◌≢◌, ℕ, zero, suc, ◌+◌, List, [], ◌∷◌, ◌++◌, length, set, Some, refl, sym, ap, ◌∙◌, arith, append_assoc, length-append, get_or-set_other}
 use Rattle.std.proofs.lemmas.List.{get_or-map}
 use Rattle.std.proofs.Math.ListN.{length-set}
 use Rattle.std.specs.List.{slice_get}
@@ -22,7 +22,7 @@ use Rattle.snesl_translation.specs.Wires.{Wires, type_of_wires, numbers_of}
 use Rattle.snesl_translation.specs.Programs.{first_offset, program_plan, not_set}
 use Rattle.flow_texts.specs.PrintedTexts.{PrintsAtTheEnd}
 use Rattle.snesl_flatten.specs.Networks.{NodeState, program_steps}
-use Rattle.snesl_flatten.proofs.Sources.{value, front_steps, print_step, front_and_print, given_is}
+use Rattle.snesl_flatten.proofs.Sources.{value, front_steps, front_and_print, given_is}
 
 -- a Print that reads these streams
 abbrev pub print_placed : ℕ → Ty → List ℕ → Placed
@@ -75,7 +75,7 @@ pub print_stays : (ty : Ty) (offset : ℕ) (states : List NodeState) (k : ℕ) (
     → PrintsAtTheEnd ty offset (set states k (a_source, source_opened items))
 print_stays ty offset states k items may last =
     let s : NodeState = (a_source, source_opened items) in
-    let other : k ≢ last.0 = λ same.
+    let other : last.0 ≢ k = λ same.
     let ports : 1 ≡ 0 = may.outputs ∙ get_or-map node_behaviour.outputs states k node_behaviour.sample 0 may.node ∙ ap (λ j. node_behaviour.outputs (state_at node_behaviour states j)) (sym same) ∙ ap node_behaviour.outputs last.2 in
     absurd (omega (arith, ports)) in
-    (last.0, last.1 ∙ sym (length-set states k s), get_or-set_other states last.0 k s node_behaviour.sample other ∙ last.2)
+    (last.0, last.1 ∙ sym (length-set states k s), get_or-set_other states k last.0 s node_behaviour.sample other ∙ last.2)

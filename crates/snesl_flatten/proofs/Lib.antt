@@ -4,3 +4,5 @@ mod Wired
 mod Sources
 mod Ends
 mod InputValues
+mod Meanings
+mod Held

@@ -1,11 +1,16 @@
-use Rattle.std.proofs.Common.{◌≡◌, [], Err, inl, sym, subst, ◌∙◌, ap, arith}
+use Rattle.std.proofs.Common.{◌<◌, ◌≤◌, ◌⊎◌, [], Err, length, inl, sym, subst, ◌∙◌, ap, arith}
 use Rattle.snesl_values.specs.declared.refusal.Refusal.TheVariants.{TooBig}
 use Rattle.snesl_types.specs.Typed.{typed_inputs, typed_text, typed_tree}
+use Rattle.flow_nodes.specs.StreamNodes.{node_behaviour}
+use Rattle.flow_graph.specs.Graphs.{states_of, edges_of}
+use Rattle.flow_graph.specs.Limits.{most_nodes, most_edges}
+use Rattle.flow_plans.specs.Layouts.{layout, places, edges_needed, IsNetworkOf}
 use Rattle.flow_plans.specs.Ports.{AreWired}
 use Rattle.flow_plans.specs.Views.{steps_of}
 use Rattle.snesl_translation.specs.Programs.{not_set}
 use Rattle.snesl_flatten.specs.Networks.{program_steps}
 use Rattle.snesl_flatten.proofs.Wired.{typed_wired, node_each, refused_with}
+use Rattle.snesl_flatten.proofs.Held.{no_source_set}
 use Rattle.snesl_flatten.proofs.flattening.flatten.Goals as goal
 
 pub returns-in_err-steps-clause-big : goal.returns-in_err-steps-clause-big
@@ -20,3 +25,31 @@ assemble-requires c =
     record {
       wired = subst (λ steps. AreWired [] steps) (sym (ap (λ d. steps_of d c.in_ok-steps.steps.items) c.dialect.ensures ∙ c.in_ok-steps.ensures.steps)) (typed_wired c.plans_are_wired.ensures typed);
     }
+
+pub returns-in_err-assembled-clause-big : goal.returns-in_err-assembled-clause-big
+returns-in_err-assembled-clause-big c same =
+    subst (λ plan. (most_nodes < length (layout plan)) ⊎ (most_edges < edges_needed (layout plan))) (ap (λ d. steps_of d c.in_ok-steps.steps.items) c.dialect.ensures ∙ c.in_ok-steps.ensures.steps)
+    (c.in_err-assembled.ensures.big (ap Err (refused_with c.from_residual-in_err-assembled.result c.in_err-assembled.field-0.0 TooBig c.from_residual-in_err-assembled.ensures same)))
+
+pub returns-clause-holds : goal.returns-clause-holds
+returns-clause-holds c =
+    let typed = c.args.typed.now in
+    let assembled = c.in_ok-assembled.ensures in
+    let graph = c.in_ok-assembled.assembled.graph in
+    let steps = steps_of c.dialect.result c.in_ok-steps.steps.items in
+    let is = ap (λ d. steps_of d c.in_ok-steps.steps.items) c.dialect.ensures ∙ c.in_ok-steps.ensures.steps in
+    record {
+      sources = no_source_set (typed_text typed) (typed_tree typed) (typed_inputs typed) (states_of graph) (edges_of graph) steps is assembled.network assembled.opens assembled.opened;
+      places_are = assembled.places ∙ ap places is;
+    }
+
+pub returns-clause-network : goal.returns-clause-network
+returns-clause-network c =
+    let graph = c.in_ok-assembled.assembled.graph in
+    subst (λ plan. IsNetworkOf node_behaviour plan (states_of graph) (edges_of graph)) (ap (λ d. steps_of d c.in_ok-steps.steps.items) c.dialect.ensures ∙ c.in_ok-steps.ensures.steps)
+    c.in_ok-assembled.ensures.network
+
+pub returns-clause-few : goal.returns-clause-few
+returns-clause-few c =
+    subst (λ plan. (length (layout plan) ≤ most_nodes) × (edges_needed (layout plan) ≤ most_edges)) (ap (λ d. steps_of d c.in_ok-steps.steps.items) c.dialect.ensures ∙ c.in_ok-steps.ensures.steps)
+    c.in_ok-assembled.ensures.few

@@ -1,0 +1,27 @@
+-- The network that was assembled of the steps of a program, no source of which is set.
+use Rattle.std.proofs.Common.{◌≡◌, ℕ, List, [], refl, subst}
+use Rattle.snesl_values.specs.Inputs.{Declaration}
+use Rattle.snesl_tree.specs.Tree.{ProgramTree}
+use Rattle.flow_nodes.specs.StreamNodes.{node_behaviour}
+use Rattle.flow_graph.specs.declared.edge.Edge.{Edge}
+use Rattle.flow_graph.specs.Networks.{AreOpened}
+use Rattle.flow_plans.specs.Plans.{Step}
+use Rattle.flow_plans.specs.Layouts.{layout, IsNetworkOf}
+use Rattle.flow_assembly.specs.Openings.{AllOpen}
+use Rattle.snesl_translation.specs.Programs.{not_set}
+use Rattle.snesl_flatten.specs.Networks.{NodeState, program_steps}
+use Rattle.snesl_flatten.specs.Sources.{HasSources}
+use Rattle.snesl_flatten.proofs.Ends.{print_opens}
+
+module _ (text : List ℕ) (program : ProgramTree) (inputs : List Declaration) (states : List NodeState) (edges : List Edge) where
+  -- it has its sources before any of them is set
+  pub no_source_set : (steps : List Step) → steps ≡ program_steps text program inputs not_set → IsNetworkOf node_behaviour steps states edges → AllOpen (layout steps) states
+      → AreOpened node_behaviour states → HasSources text program inputs [] states edges
+  no_source_set steps is network opens opened =
+      let of : IsNetworkOf node_behaviour (program_steps text program inputs not_set) states edges = subst (λ plan. IsNetworkOf node_behaviour plan states edges) is network in
+      record {
+        network = of;
+        opened = opened;
+        print = print_opens text program inputs not_set states of.nodes (subst (λ plan. AllOpen (layout plan) states) is opens);
+        places_are = refl;
+      }
