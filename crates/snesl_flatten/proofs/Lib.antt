@@ -6,3 +6,5 @@ mod Ends
 mod InputValues
 mod Meanings
 mod Held
+mod InputStreams
+mod Setting

@@ -1,0 +1,101 @@
+-- Setting the next source of a network whose first sources are set.
+use Rattle.std.proofs.Common.{◌≡◌, ℕ, suc, ◌+◌, ◌<◌, List, [], ◌∷◌, ◌++◌, length, map, get_or, set, Some, refl, sym, ap, subst, ◌∙◌, arith}
+use Rattle.std.proofs.lemmas.Option.{slice_get-map, slice_get-get_or, slice_get_within, get_or_from_slice_get}
+use Rattle.std.proofs.lemmas.List.{length-map}
+use Rattle.std.specs.List.{slice_get}
+use Rattle.std.specs.Option.{option_map}
+use Rattle.snesl_values.specs.Inputs.{Declaration}
+use Rattle.snesl_tree.specs.Tree.{ProgramTree}
+use Rattle.flow_edges.specs.declared.message.Kind.{Kind}
+use Rattle.flow_base.specs.Columns.{Columns}
+use Rattle.flow_scalar.specs.Streams.{Items, stream_cells, stream_kind}
+use Rattle.flow_scalar.specs.declared.source.Stream.{Stream}
+use Rattle.flow_scalar.specs.SourceBehaviour.{source_opened}
+use Rattle.flow_nodes.specs.StreamNodes.{a_source, node_behaviour}
+use Rattle.flow_graph.specs.declared.edge.Edge.{Edge}
+use Rattle.flow_graph.specs.Networks.{AreOpened}
+use Rattle.flow_graph.specs.Replacements.{MayReplace}
+use Rattle.flow_plans.specs.Plans.{Step, source}
+use Rattle.flow_plans.specs.Ports.{kinds_written}
+use Rattle.flow_plans.specs.Layouts.{all_behind, places, places_from, IsNetworkOf}
+use Rattle.flow_layout.specs.Settings.{with_source, SourceIsSet}
+use Rattle.flow_assembly.specs.Openings.{OpeningsPerform}
+use Rattle.snesl_translation.specs.Wires.{type_of_wires}
+use Rattle.snesl_translation.specs.Programs.{first_offset, program_plan, not_set}
+use Rattle.snesl_flatten.specs.Networks.{NodeState, program_steps}
+use Rattle.snesl_flatten.specs.Sources.{all_kinds, written, HasSources}
+use Rattle.snesl_flatten.proofs.Sources.{source_step, next_source, next_set}
+use Rattle.snesl_flatten.proofs.Ends.{print_stays}
+
+-- the kind of the next stream
+pub kind_there : (streams : List Stream) (kinds : List Kind) → map stream_kind streams ≡ kinds → (n : ℕ) (s : Stream) → (n < length streams) × (s ≡ get_or streams n s) → slice_get kinds n ≡ Some (stream_kind s)
+kind_there streams kinds same n s turn =
+    ap (λ l. slice_get l n) (sym same) ∙ slice_get-map stream_kind streams n ∙ ap (option_map stream_kind) (slice_get-get_or streams n s turn.0 ∙ ap Some (sym turn.1))
+
+-- the same by how many columns there are
+pub kind_next : (streams : List Stream) (kinds : List Kind) → map stream_kind streams ≡ kinds → (done : List Stream) (s : Stream) → (length done < length streams) × (s ≡ get_or streams (length done) s)
+    → slice_get kinds (length (map stream_cells done)) ≡ Some (stream_kind s)
+kind_next streams kinds same done s turn = ap (slice_get kinds) (length-map done stream_cells) ∙ kind_there streams kinds same (length done) s turn
+
+-- a number that was read from a list that is this one
+pub place_is : (ps qs : List ℕ) → ps ≡ qs → (n m v : ℕ) → v ≡ get_or ps n v → n ≡ m → m < length qs → v ≡ get_or qs m 0
+place_is ps qs same n m v is on lt = is ∙ (λ i. get_or (same i) (on i) v) ∙ sym (get_or_from_slice_get qs m (get_or qs m v) 0 (slice_get-get_or qs m v lt))
+
+-- each step has a place
+places_length : (plan : List Step) (k s : ℕ) (steps : List Step) → length (places_from plan k s steps) ≡ length steps
+places_length plan k s [] = refl
+places_length plan k s (step ∷ steps) =
+    let kinds = kinds_written step.operation in
+    ap suc (places_length plan (suc (k + length (all_behind plan step.at s kinds))) (s + length kinds) steps)
+
+-- the next source has a place among those of the steps
+pub next_within : (text : List ℕ) (program : ProgramTree) (inputs : List Declaration) (columns : Columns) (states : List NodeState) (edges : List Edge) → HasSources text program inputs columns states edges
+    → (kind : Kind) → slice_get (all_kinds inputs) (length columns) ≡ Some kind → suc (length columns) < length (places (program_steps text program inputs not_set))
+next_within text program inputs columns states edges has kind there =
+    let steps = program_steps text program inputs (written columns) in
+    let within = slice_get_within steps (suc (length columns)) _ (next_source text program inputs columns kind there) in
+    omega (arith, within, places_length steps 0 0 steps, ap length has.places_are)
+
+module _ (text : List ℕ) (program : ProgramTree) (inputs : List Declaration) (columns : Columns) (states : List NodeState) (edges : List Edge) (has : HasSources text program inputs columns states edges)
+    (set_law : SourceIsSet node_behaviour states edges) (perform : OpeningsPerform) (items : Items) (there : slice_get (all_kinds inputs) (length columns) ≡ Some items.kind)
+    (k : ℕ) (place : k ≡ get_or (places (program_steps text program inputs not_set)) (suc (length columns)) 0) where
+  abbrev i : ℕ
+  i = suc (length columns)
+
+  abbrev steps : List Step
+  steps = program_steps text program inputs (written columns)
+
+  -- the step that is to be set
+  abbrev step : Step
+  step = source_step (first_offset program.expression) items.kind (written columns i)
+
+  abbrev steps_set : List Step
+  steps_set = with_source i step items.kind items.cells steps
+
+  -- the state of the source that is put there
+  abbrev s : NodeState
+  s = (a_source, source_opened items)
+
+  law : let k = get_or (places steps) i 0 in
+      MayReplace node_behaviour states k s × IsNetworkOf node_behaviour steps_set (set states k s) edges × (places steps_set ≡ places steps)
+  law =
+      set_law steps has.network i step items.kind (written columns i) items.cells (next_source text program inputs columns items.kind there) refl s
+      (perform (first_offset program.expression) (source items.kind items.cells) s tt (items, refl, refl, refl))
+
+  at_place : get_or (places steps) i 0 ≡ k
+  at_place = ap (λ l. get_or l i 0) has.places_are ∙ sym place
+
+  -- it may stand in place of the node of its step
+  pub may_set : MayReplace node_behaviour states k s
+  may_set = subst (λ n. MayReplace node_behaviour states n s) at_place law.0
+
+  -- and then one source more is set
+  pub next_has : AreOpened node_behaviour (set states k s) → HasSources text program inputs (columns ++ items.cells ∷ []) (set states k s) edges
+  next_has opened =
+      let same : steps_set ≡ program_steps text program inputs (written (columns ++ items.cells ∷ [])) = next_set text program inputs columns items.kind there items.cells in
+      record {
+        network = subst (λ l. IsNetworkOf node_behaviour l (set states k s) edges) same (subst (λ n. IsNetworkOf node_behaviour steps_set (set states n s) edges) at_place law.1);
+        opened = opened;
+        print = print_stays (type_of_wires (program_plan text program inputs not_set).given) (first_offset program.expression) states k items may_set has.print;
+        places_are = ap places (sym same) ∙ law.2 ∙ has.places_are;
+      }

@@ -1,0 +1,77 @@
+use Rattle.std.proofs.Common.{◌≡◌, ◌+◌, suc, [], ◌∷◌, ◌++◌, List, length, map, set, sym, subst, ◌∙◌, ap, arith, length-append}
+use Rattle.std.proofs.lemmas.List.{length-map, map-append}
+use Rattle.std.proofs.lemmas.Iterator.Adapters.{YieldsList-from_vec}
+use Rattle.std.proofs.lemmas.Iterator.Consumers.{YieldsList-turn}
+use Rattle.snesl_types.specs.Typed.{typed_inputs, typed_text, typed_tree}
+use Rattle.flow_scalar.specs.Streams.{stream_cells, items_of}
+use Rattle.flow_scalar.specs.SourceBehaviour.{source_opened}
+use Rattle.flow_nodes.specs.StreamNodes.{a_source, node_behaviour}
+use Rattle.flow_graph.specs.Graphs.{states_of, edges_of}
+use Rattle.flow_graph.specs.Networks.{AreOpened}
+use Rattle.flow_graph.specs.Replacements.{MayReplace}
+use Rattle.flow_graph.specs.declared.edge.Edge.{Edge}
+use Rattle.flow_plans.specs.Layouts.{places}
+use Rattle.flow_base.specs.Columns.{Columns}
+use Rattle.snesl_flatten.specs.Networks.{NodeState}
+use Rattle.snesl_flatten.specs.PlanViews.{planned, steps_planned}
+use Rattle.snesl_flatten.specs.Sources.{all_kinds, HasSources}
+use Rattle.snesl_flatten.proofs.Setting.{kind_next, place_is, next_within, may_set, next_has}
+use Rattle.snesl_flatten.proofs.plan.Plan.set_sources.Goals as goal
+
+pub index-requires : goal.index-requires
+index-requires c =
+    let typed = planned c.args.self.now in
+    let all = c.args.streams.items in
+    let it = c.into_iter-stream-iterator.ensures.into_iter_gives in
+    let done = c.loop-stream.yielded in
+    let turn = YieldsList-turn (YieldsList-from_vec all it.0 (omega (arith, it.1, c.args.streams.ok.0))) done c.loop-stream.stream-iterator c.loop-stream.yielded_by c.next.result c.next.new.self c.in-Some.stream c.in-Some.is c.next.ensures.steps in
+    let there = kind_next all (all_kinds (typed_inputs typed)) c.requires.kinds done c.in-Some.stream turn in
+    let within = next_within (typed_text typed) (typed_tree typed) (typed_inputs typed) (map stream_cells done) (states_of c.loop-stream.self.graph) (edges_of c.loop-stream.self.graph) c.loop-stream.invariant.sources _ there in
+    omega (arith, within, length-map done stream_cells, c.loop-stream.invariant.step, c.loop-stream.self.places.ok.0, ap length c.loop-stream.invariant.places, ap length c.requires.places)
+
+pub replace-requires : goal.replace-requires
+replace-requires c =
+    let typed = planned c.args.self.now in
+    let all = c.args.streams.items in
+    let it = c.into_iter-stream-iterator.ensures.into_iter_gives in
+    let done = c.loop-stream.yielded in
+    let columns = map stream_cells done in
+    let graph = c.loop-stream.self.graph in
+    let turn = YieldsList-turn (YieldsList-from_vec all it.0 (omega (arith, it.1, c.args.streams.ok.0))) done c.loop-stream.stream-iterator c.loop-stream.yielded_by c.next.result c.next.new.self c.in-Some.stream c.in-Some.is c.next.ensures.steps in
+    let there = kind_next all (all_kinds (typed_inputs typed)) c.requires.kinds done c.in-Some.stream turn in
+    let has = c.loop-stream.invariant.sources in
+    let on : c.loop-stream.step ≡ suc (length columns) = omega (arith, length-map done stream_cells, c.loop-stream.invariant.step) in
+    let place = place_is c.loop-stream.self.places.items (places (steps_planned c.args.self.now)) (c.loop-stream.invariant.places ∙ c.requires.places) c.loop-stream.step (suc (length columns)) c.index.result.now c.index.ensures on
+        (next_within (typed_text typed) (typed_tree typed) (typed_inputs typed) columns (states_of graph) (edges_of graph) has _ there) in
+    subst (λ s. MayReplace node_behaviour (states_of graph) c.index.result.now (a_source, s)) (sym c.new.ensures.state)
+    (may_set (typed_text typed) (typed_tree typed) (typed_inputs typed) columns (states_of graph) (edges_of graph) has c.source_is_set.ensures c.openings_perform.ensures (items_of c.in-Some.stream) there c.index.result.now place)
+
+pub loop-stream-preserved : goal.loop-stream-preserved
+loop-stream-preserved c =
+    let typed = planned c.args.self.now in
+    let all = c.args.streams.items in
+    let it = c.into_iter-stream-iterator.ensures.into_iter_gives in
+    let done = c.loop-stream.yielded in
+    let s = c.in-Some.stream in
+    let columns = map stream_cells done in
+    let graph = c.loop-stream.self.graph in
+    let states = states_of graph in
+    let k = c.index.result.now in
+    let turn = YieldsList-turn (YieldsList-from_vec all it.0 (omega (arith, it.1, c.args.streams.ok.0))) done c.loop-stream.stream-iterator c.loop-stream.yielded_by c.next.result c.next.new.self s c.in-Some.is c.next.ensures.steps in
+    let there = kind_next all (all_kinds (typed_inputs typed)) c.requires.kinds done s turn in
+    let has = c.loop-stream.invariant.sources in
+    let on : c.loop-stream.step ≡ suc (length columns) = omega (arith, length-map done stream_cells, c.loop-stream.invariant.step) in
+    let place = place_is c.loop-stream.self.places.items (places (steps_planned c.args.self.now)) (c.loop-stream.invariant.places ∙ c.requires.places) c.loop-stream.step (suc (length columns)) k c.index.ensures on
+        (next_within (typed_text typed) (typed_tree typed) (typed_inputs typed) columns states (edges_of graph) has _ there) in
+    let is = c.replace.ensures.nodes ∙ ap (λ x. set states k (a_source, x)) c.new.ensures.state in
+    let set_has = next_has (typed_text typed) (typed_tree typed) (typed_inputs typed) columns states (edges_of graph) has c.source_is_set.ensures c.openings_perform.ensures (items_of s) there k place
+        (subst (AreOpened node_behaviour) is (c.replace.ensures.opened has.opened)) in
+    record {
+      typed = c.loop-stream.invariant.typed;
+      places = c.loop-stream.invariant.places;
+      step = omega (arith, c.loop-stream.invariant.step, length-append done (s ∷ []));
+      sources =
+          subst (λ (l : Columns). HasSources (typed_text typed) (typed_tree typed) (typed_inputs typed) l (states_of c.replace.new.self) (edges_of c.replace.new.self)) (sym (map-append stream_cells done (s ∷ [])))
+          (subst (λ (l : List NodeState). HasSources (typed_text typed) (typed_tree typed) (typed_inputs typed) (columns ++ stream_cells s ∷ []) l (edges_of c.replace.new.self)) (sym is)
+          (subst (λ (l : List Edge). HasSources (typed_text typed) (typed_tree typed) (typed_inputs typed) (columns ++ stream_cells s ∷ []) (set states k (a_source, source_opened (items_of s))) l) (sym c.replace.ensures.edges) set_has));
+    }
