@@ -1,0 +1,20 @@
+use Rattle.std.proofs.Common.{◌≡◌, ap, subst, ◌∙◌}
+use Rattle.snesl_values.specs.Inputs.{environment_of}
+use Rattle.snesl_types.specs.Typed.{typed_inputs, typed_text, typed_tree}
+use Rattle.flow_base.specs.Columns.{Columns}
+use Rattle.flow_nodes.specs.StreamNodes.{node_behaviour}
+use Rattle.flow_plans.specs.Layouts.{IsNetworkOf}
+use Rattle.snesl_translation.specs.Programs.{columns_of}
+use Rattle.snesl_flatten.specs.Networks.{program_steps}
+use Rattle.snesl_flatten.specs.PlanViews.{planned, plan_states, plan_edges}
+use Rattle.snesl_flatten.specs.Sources.{written}
+use Rattle.snesl_flatten.proofs.plan.Plan.with.Goals as goal
+
+pub returns-clause-network : goal.returns-clause-network
+returns-clause-network c =
+    let typed = planned c.args.self in
+    let plan = c.set_sources.new.self in
+    let environment = environment_of c.args.inputs in
+    subst (λ (columns : Columns). IsNetworkOf node_behaviour (program_steps (typed_text typed) (typed_tree typed) (typed_inputs typed) (written columns)) (plan_states plan) (plan_edges plan))
+    (c.in_ok-streams.ensures.cells ∙ ap (λ inputs. columns_of inputs environment) c.decls.ensures)
+    c.set_sources.ensures.sources.network
