@@ -1,5 +1,5 @@
 -- The streams of the values of some inputs, and of one more.
-use Rattle.std.proofs.Common.{◌≡◌, ℕ, suc, ◌+◌, ◌<◌, ◌≤◌, true, List, [], ◌∷◌, ◌++◌, length, map, take, get_or, Vec, Option, Some, None, refl, sym, ap, subst, ◌∙◌, arith, add-one}
+use Rattle.std.proofs.Common.{◌≡◌, ℕ, suc, ◌<◌, ◌≤◌, true, List, [], ◌∷◌, ◌++◌, length, map, take, get_or, Vec, Option, Some, None, refl, sym, ap, subst, ◌∙◌, arith}
 use Rattle.std.proofs.Math.Path.{ap₂}
 use Rattle.std.proofs.lemmas.List.{map-append, take_all}
 use Rattle.std.proofs.lemmas.Option.{slice_get-map, slice_get-get_or}
@@ -71,6 +71,3 @@ fits_length dialect (d ∷ ds) (e ∷ es) fits = ap suc (fits_length dialect ds 
 pub columns_all : (dialect : Dialect) (ds : List Declaration) (es : Environment) (n : ℕ) → Fits dialect ds es → length ds ≤ n → columns_of (take n ds) (take n es) ≡ columns_of ds es
 columns_all dialect ds es n fits le =
     ap₂ columns_of (take_all n ds le) (take_all n es (omega (arith, fits_length dialect ds es fits)))
-
-pub kinds_all : (ds : List Declaration) (n : ℕ) → length ds ≤ n → all_kinds (take n ds) ≡ all_kinds ds
-kinds_all ds n le = ap all_kinds (take_all n ds le)

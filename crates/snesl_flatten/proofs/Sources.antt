@@ -1,5 +1,5 @@
 -- The steps of a program, and how they change where a source is set.
-use Rattle.std.proofs.Common.{◌≡◌, ◌≢◌, ℕ, zero, suc, ◌+◌, ◌-◌, ◌<◌, ◌≤◌, List, [], ◌∷◌, ◌++◌, length, get_or, set, Option, Some, None, refl, sym, ap, subst, ◌∙◌, arith, append_assoc, append-nil}
+use Rattle.std.proofs.Common.{◌≡◌, ◌≢◌, ℕ, zero, suc, ◌+◌, ◌-◌, ◌<◌, ◌≤◌, List, [], ◌∷◌, ◌++◌, length, get_or, set, Some, refl, sym, ap, ◌∙◌, arith, append_assoc, append-nil}
 use Rattle.std.proofs.Math.Path.{ap₂}
 use Rattle.std.proofs.lemmas.List.{set-append_left}
 use Rattle.std.proofs.lemmas.Option.{slice_get_within}
@@ -16,10 +16,10 @@ use Rattle.flow_plans.specs.Plans.{Step, source, print}
 use Rattle.flow_layout.specs.Settings.{with_source}
 use Rattle.flow_layout.proofs.Places.{get_left}
 use Rattle.snesl_translation.specs.Wires.{Wires, type_of_wires, numbers_of, wires_from, Bound}
-use Rattle.snesl_translation.specs.Makings.{Making, done, and_then, tested}
+use Rattle.snesl_translation.specs.Makings.{Making, and_then}
 use Rattle.snesl_translation.specs.Translation.{tr}
 use Rattle.snesl_translation.specs.Functions.{bodies_of}
-use Rattle.snesl_translation.specs.Programs.{first_offset, source_steps, sourced, inputs_sourced, control_sourced, program_plan, not_set}
+use Rattle.snesl_translation.specs.Programs.{first_offset, source_steps, inputs_sourced, program_plan, not_set}
 use Rattle.snesl_flatten.specs.Networks.{program_steps}
 use Rattle.snesl_flatten.specs.Sources.{all_kinds, written}
 

@@ -1,5 +1,5 @@
 -- The network of a program, and what it means.
-use Rattle.std.specs.Prelude.{◌≡◌, ℕ, ◌<◌, ◌≤◌, List, length}
+use Rattle.std.specs.Prelude.{◌≡◌, ℕ, List, length}
 use Rattle.snesl_values.specs.declared.fault.FaultKind.{FaultKind}
 use Rattle.snesl_values.specs.Inputs.{Declaration, Environment}
 use Rattle.snesl_values.specs.Values.{Value}
@@ -15,7 +15,6 @@ use Rattle.flow_graph.specs.declared.edge.Edge.{Edge}
 use Rattle.flow_graph.specs.Networks.{network_of, configuration_of}
 use Rattle.flow_graph.specs.Flows.{IsLawfulFlow}
 use Rattle.flow_plans.specs.Plans.{Step}
-use Rattle.flow_plans.specs.Layouts.{IsNetworkOf}
 use Rattle.snesl_translation.specs.Programs.{program_plan}
 use Rattle.flow_drive.specs.Texts.{last_text}
 

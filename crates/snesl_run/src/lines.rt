@@ -10,6 +10,7 @@ use std::alloc::{AllocError, Global};
 
 // This line and the next ones stand here whole, so that they can be said where memory is refused.
 pub(crate) const BAD_CONFIG_LINE: &[u8] = b"refused 10\n";
+
 pub(crate) const STALLED_LINE: &[u8] = b"stalled\n";
 
 // The line of a refusal of the system.

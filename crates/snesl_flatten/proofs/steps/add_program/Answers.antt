@@ -1,4 +1,4 @@
-use Rattle.std.proofs.Common.{◌≡◌, ◌∙◌, sym, ap, subst, Ok, Vec}
+use Rattle.std.proofs.Common.{◌∙◌, ap, subst, Ok, Vec}
 use Rattle.std.specs.Global.{Global}
 use Rattle.snesl_values.specs.Inputs.{declared}
 use Rattle.snesl_tree.specs.View.{tree_of}

@@ -1,4 +1,4 @@
-use Rattle.std.proofs.Common.{◌+◌, take, drop, length, Vec, sym, subst, subst₂, ◌∙◌, ap, arith}
+use Rattle.std.proofs.Common.{◌+◌, take, drop, Vec, sym, subst, subst₂, ◌∙◌, ap, arith}
 use Rattle.std.specs.Global.{Global}
 use Rattle.snesl_values.specs.Inputs.{declared, declaration_of}
 use Rattle.snesl_translation.specs.Programs.{inputs_sourced, not_set}

@@ -27,19 +27,19 @@ returns-clause-ran g c =
     nothing_written c.args.program.now c.args.input.now c.args.config.now.capacity (rest_of c.in_ok-rested.rested) c.in_ok-rested.ensures.driven.1
     (taken g.W.Write.contents c.args.out.now c.args.out.now) c.outcome-outcome.result c.outcome-outcome.ensures (λ e. not (sym is ∙ e)) refl in
     record {
-  lawful = c.in_ok-rested.ensures.driven.0;
-  came = c.in_ok-rested.ensures.driven.1;
-  outcome = c.outcome-outcome.ensures;
-  wrote = elim c.match-outcome.branch [
-    | in-Value+in_ok-line-in-Value+else-not-send w ↦
-      subst (λ out. WroteFor c.args.program.now c.args.input.now (taken g.W.Write.contents c.args.out.now out) c.outcome-outcome.result) (sym w.out-is)
-      (line_written c.args.program.now c.args.input.now c.args.config.now.capacity (rest_of c.in_ok-rested.rested) c.in_ok-rested.ensures.driven.1
-      (taken g.W.Write.contents c.args.out.now w.send.new.out) c.outcome-outcome.result w.text.result.now w.in_ok-line-in-Value.line.items w.send.result
-      c.outcome-outcome.ensures w.in-Value.is (w.text.ensures text_in (λ node. refl)) w.in_ok-line-in-Value.ensures.line
-      (subst (λ l. HasSent (taken g.W.Write.contents c.args.out.now w.send.new.out) l w.send.result) w.deref.ensures.value w.send.ensures) w.if-not-send.false)
-    | in-Fault w ↦
-      subst (λ out. WroteFor c.args.program.now c.args.input.now (taken g.W.Write.contents c.args.out.now out) c.outcome-outcome.result) (sym w.out-is) (untouched (Failed _) (λ e. absurd (cc)) w.in-Fault.is)
-    | in-Stalled w ↦
-      subst (λ out. WroteFor c.args.program.now c.args.input.now (taken g.W.Write.contents c.args.out.now out) c.outcome-outcome.result) (sym w.out-is) (untouched (Stalled _) (λ e. absurd (cc)) w.in-Stalled.is)
-  ];
-}
+      lawful = c.in_ok-rested.ensures.driven.0;
+      came = c.in_ok-rested.ensures.driven.1;
+      outcome = c.outcome-outcome.ensures;
+      wrote = elim c.match-outcome.branch [
+        | in-Value+in_ok-line-in-Value+else-not-send w ↦
+            subst (λ out. WroteFor c.args.program.now c.args.input.now (taken g.W.Write.contents c.args.out.now out) c.outcome-outcome.result) (sym w.out-is)
+            (line_written c.args.program.now c.args.input.now c.args.config.now.capacity (rest_of c.in_ok-rested.rested) c.in_ok-rested.ensures.driven.1
+            (taken g.W.Write.contents c.args.out.now w.send.new.out) c.outcome-outcome.result w.text.result.now w.in_ok-line-in-Value.line.items w.send.result
+            c.outcome-outcome.ensures w.in-Value.is (w.text.ensures text_in (λ node. refl)) w.in_ok-line-in-Value.ensures.line
+            (subst (λ l. HasSent (taken g.W.Write.contents c.args.out.now w.send.new.out) l w.send.result) w.deref.ensures.value w.send.ensures) w.if-not-send.false)
+        | in-Fault w ↦
+            subst (λ out. WroteFor c.args.program.now c.args.input.now (taken g.W.Write.contents c.args.out.now out) c.outcome-outcome.result) (sym w.out-is) (untouched (Failed _) (λ e. absurd (cc)) w.in-Fault.is)
+        | in-Stalled w ↦
+            subst (λ out. WroteFor c.args.program.now c.args.input.now (taken g.W.Write.contents c.args.out.now out) c.outcome-outcome.result) (sym w.out-is) (untouched (Stalled _) (λ e. absurd (cc)) w.in-Stalled.is)
+      ];
+    }

@@ -1,4 +1,4 @@
-use Rattle.std.proofs.Common.{◌≡◌, ◌+◌, suc, [], ◌∷◌, ◌++◌, List, length, map, set, sym, subst, ◌∙◌, ap, arith, length-append}
+use Rattle.std.proofs.Common.{◌≡◌, suc, [], ◌∷◌, ◌++◌, List, length, map, set, sym, subst, ◌∙◌, ap, arith, length-append}
 use Rattle.std.proofs.lemmas.List.{length-map, map-append}
 use Rattle.std.proofs.lemmas.Iterator.Adapters.{YieldsList-from_vec}
 use Rattle.std.proofs.lemmas.Iterator.Consumers.{YieldsList-turn}
@@ -42,7 +42,7 @@ replace-requires c =
     let has = c.loop-stream.invariant.sources in
     let on : c.loop-stream.step ≡ suc (length columns) = omega (arith, length-map done stream_cells, c.loop-stream.invariant.step) in
     let place = place_is c.loop-stream.self.places.items (places (steps_planned c.args.self.now)) (c.loop-stream.invariant.places ∙ c.requires.places) c.loop-stream.step (suc (length columns)) c.index.result.now c.index.ensures on
-        (next_within (typed_text typed) (typed_tree typed) (typed_inputs typed) columns (states_of graph) (edges_of graph) has _ there) in
+    (next_within (typed_text typed) (typed_tree typed) (typed_inputs typed) columns (states_of graph) (edges_of graph) has _ there) in
     subst (λ s. MayReplace node_behaviour (states_of graph) c.index.result.now (a_source, s)) (sym c.new.ensures.state)
     (may_set (typed_text typed) (typed_tree typed) (typed_inputs typed) columns (states_of graph) (edges_of graph) has c.source_is_set.ensures c.openings_perform.ensures (items_of c.in-Some.stream) there c.index.result.now place)
 
@@ -62,10 +62,10 @@ loop-stream-preserved c =
     let has = c.loop-stream.invariant.sources in
     let on : c.loop-stream.step ≡ suc (length columns) = omega (arith, length-map done stream_cells, c.loop-stream.invariant.step) in
     let place = place_is c.loop-stream.self.places.items (places (steps_planned c.args.self.now)) (c.loop-stream.invariant.places ∙ c.requires.places) c.loop-stream.step (suc (length columns)) k c.index.ensures on
-        (next_within (typed_text typed) (typed_tree typed) (typed_inputs typed) columns states (edges_of graph) has _ there) in
+    (next_within (typed_text typed) (typed_tree typed) (typed_inputs typed) columns states (edges_of graph) has _ there) in
     let is = c.replace.ensures.nodes ∙ ap (λ x. set states k (a_source, x)) c.new.ensures.state in
     let set_has = next_has (typed_text typed) (typed_tree typed) (typed_inputs typed) columns states (edges_of graph) has c.source_is_set.ensures c.openings_perform.ensures (items_of s) there k place
-        (subst (AreOpened node_behaviour) is (c.replace.ensures.opened has.opened)) in
+    (subst (AreOpened node_behaviour) is (c.replace.ensures.opened has.opened)) in
     record {
       typed = c.loop-stream.invariant.typed;
       places = c.loop-stream.invariant.places;
