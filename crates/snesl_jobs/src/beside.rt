@@ -2,13 +2,20 @@
 // gives, in some fault where evaluation gives one, or in no answer.
 
 use flow_drive::{Config, Drive, NoGate, Outcome, Sharing};
-use snesl_run::run;
+use snesl_run::{Report, RunError, run};
 use snesl_syntax::parse;
 use snesl_types::{check, plain};
 use snesl_values::{Counted, Datum, Fault, Refusal, read_inputs, text_of};
 use std::alloc::{AllocError, Global};
 use std::fmt;
 use std::sync::Arc;
+
+// No longer job is run here. Such a job is about the limits of a text, which no edge changes, and would be read again for
+// each configuration.
+const LONGEST: usize = 100_000;
+
+// A network of more nodes is run once. The few such networks would take most of the time.
+const MOST_NODES: usize = 500;
 
 /// How many programs were run, how many runs there were, and how they ended.
 #[derive(Clone, Copy, Debug)]
@@ -49,8 +56,12 @@ impl Totals {
     }
 
     /// Runs the program of a job over edges of several capacities, and counts the runs; a program that is refused, or
-    /// whose input text is, counts for nothing. The error is that memory was refused.
+    /// whose input text is, counts for nothing, and so does a job of over 100,000 bytes. A network of over 500 nodes is
+    /// run once, over the largest edges. The error is that memory was refused.
     pub fn add(&mut self, alloc: Global, job: &[u8]) -> Result<(), AllocError> {
+        if job.len() > LONGEST {
+            return Ok(());
+        }
         let (program, input) = split(job);
         let expected = match evaluated(alloc, program, input) {
             Ok(Ok(datum)) => Some(line_of(alloc, &datum)?),
@@ -59,29 +70,27 @@ impl Totals {
             Err(_) => return Ok(()),
         };
         self.programs = self.programs.saturating_add(1);
-        for capacity in [1, 2, 4, 256] {
-            for chunk in [1, 16] {
+        for capacity in [256, 4, 2, 1] {
+            for chunk in [16, 1] {
                 let config = config_of(alloc, capacity, chunk)?;
-                let (written, ending) = ran(alloc, program, input, &config)?;
-                self.count(&expected, &written, ending);
+                let done = ran(alloc, program, input, &config)?;
+                self.count(&expected, &done);
+                if done.is_large {
+                    return Ok(());
+                }
             }
         }
         Ok(())
     }
 
-    // Counts a run that wrote these bytes, where evaluation gives a value of this line or a fault.
-    fn count(
-        &mut self,
-        expected: &Option<Vec<u8>>,
-        written: &[u8],
-        ending: Result<Outcome, Refusal>,
-    ) {
+    // Counts a run, where evaluation gives a value of this line or a fault.
+    fn count(&mut self, expected: &Option<Vec<u8>>, done: &Done) {
         self.runs = self.runs.saturating_add(1);
-        let silent = written.is_empty();
-        let allowed = match ending {
+        let silent = done.written.is_empty();
+        let allowed = match done.ending {
             Ok(Outcome::Value) => {
                 self.values = self.values.saturating_add(1);
-                is_line(expected, written)
+                is_line(expected, &done.written)
             }
             Ok(Outcome::Fault(_)) => {
                 self.faults = self.faults.saturating_add(1);
@@ -126,20 +135,41 @@ fn line_of(alloc: Global, datum: &Datum) -> Result<Vec<u8>, AllocError> {
     Ok(line)
 }
 
-// What a run wrote, and how it ended.
-fn ran(
-    alloc: Global,
-    program: &[u8],
-    input: &[u8],
-    config: &Config,
-) -> Result<(Vec<u8>, Result<Outcome, Refusal>), AllocError> {
+// What a run wrote, how it ended, and whether the network is too large to be run again.
+#[derive(Drop)]
+struct Done {
+    written: Vec<u8>,
+    ending: Result<Outcome, Refusal>,
+    is_large: bool,
+}
+
+// Runs a program for an input text.
+fn ran(alloc: Global, program: &[u8], input: &[u8], config: &Config) -> Result<Done, AllocError> {
     let gate = Arc::new(alloc, NoGate)?;
     let mut out = Counted::new(Vec::new(alloc));
-    let ending = match run(alloc, program, input, config, gate, &mut out) {
+    let answer = run(alloc, program, input, config, gate, &mut out);
+    Ok(Done {
+        written: out.into_inner(),
+        is_large: is_large(&answer),
+        ending: ending(&answer),
+    })
+}
+
+// How a run ended.
+fn ending(answer: &Result<Report, RunError>) -> Result<Outcome, Refusal> {
+    match answer {
         Ok(report) => Ok(report.outcome()),
         Err(error) => Err(error.refusal()),
-    };
-    Ok((out.into_inner(), ending))
+    }
+}
+
+// Whether the network of a run is not to be run again. Where it is greater than a graph may be, it is so whatever the edges
+// hold.
+fn is_large(answer: &Result<Report, RunError>) -> bool {
+    match answer {
+        Ok(report) => report.rested().nodes() > MOST_NODES,
+        Err(error) => error.refusal() == Refusal::TooBig,
+    }
 }
 
 // Edges of this capacity, and visits of so many steps, in one thread.
@@ -164,7 +194,10 @@ fn split(job: &[u8]) -> (&[u8], &[u8]) {
         let behind = at.saturating_add(line.len()).saturating_add(1);
         let is_last = behind > job.len();
         if line == b"---".as_slice() || (line == b"---\r".as_slice() && !is_last) {
-            return (job.get(..at).unwrap_or(job), job.get(behind..).unwrap_or(&[]));
+            return (
+                job.get(..at).unwrap_or(job),
+                job.get(behind..).unwrap_or(&[]),
+            );
         }
         at = behind;
     }

@@ -1,7 +1,9 @@
 // Each public call once, with ample memory.
 
+use flow_drive::{NoGate, Outcome};
 use snesl_lexer::{Kind, Token, tokens_of};
 use snesl_run::{complain, run};
+use snesl_settings::settings;
 use snesl_syntax::{Expr, Span, parse};
 use snesl_types::{check, plain};
 use snesl_values::{
@@ -11,6 +13,7 @@ use snesl_values::{
 use std::alloc::{AllocError, Global};
 use std::io::{Read, Write};
 use std::process::Abort;
+use std::sync::Arc;
 use std::test::Fail;
 
 // The pair of a truth value and a vector of sequences, `(true,[{1,-2},{}])`.
@@ -225,32 +228,39 @@ fn values(rt: HostRuntime) -> Result<(), Fail> {
     Ok(())
 }
 
-// What a run wrote, and its outcome.
-fn ran(alloc: Global, program: &[u8], input: &[u8]) -> (Vec<u8>, Result<Option<Fault>, Refusal>) {
+// What a run wrote, and how it ended, under the configuration that no words say.
+fn ran(
+    alloc: Global,
+    program: &[u8],
+    input: &[u8],
+) -> Result<(Vec<u8>, Result<Outcome, Refusal>), Refusal> {
+    let config = settings(alloc, &["snesl"])?;
+    let gate = Arc::new(alloc, NoGate)?;
     let mut out = Counted::new(Vec::new(alloc));
-    let outcome = match run(alloc, program, input, &mut out) {
+    let ending = match run(alloc, program, input, &config, gate, &mut out) {
         Ok(report) => Ok(report.outcome()),
         Err(error) => Err(error.refusal()),
     };
-    (out.into_inner(), outcome)
+    Ok((out.into_inner(), ending))
 }
 
 #[test]
-fn runs(rt: HostRuntime) {
+fn runs(rt: HostRuntime) -> Result<(), Fail> {
     let fault = Fault {
         kind: FaultKind::NegativeCount,
         at: 0,
     };
-    let rows: [(&[u8], &[u8], &[u8], Result<Option<Fault>, Refusal>); 3] = [
-        (b"iota(3)", b"", b"{0,1,2}\n", Ok(None)),
-        (b"iota(0 - 3)", b"", b"", Ok(Some(fault))),
+    let rows: [(&[u8], &[u8], &[u8], Result<Outcome, Refusal>); 3] = [
+        (b"iota(3)", b"", b"{0,1,2}\n", Ok(Outcome::Value)),
+        (b"iota(0 - 3)", b"", b"", Ok(Outcome::Fault(fault))),
         (b"1", b"1", b"", Err(Refusal::BadInput(0))),
     ];
-    for (program, input, wanted, ending) in rows {
-        let (written, outcome) = ran(rt.alloc(), program, input);
-        assert_eq!(rt; outcome, ending);
+    for (program, input, wanted, wanted_ending) in rows {
+        let (written, ending) = ran(rt.alloc(), program, input)?;
+        assert_eq!(rt; ending, wanted_ending);
         assert_eq!(rt; written.as_slice(), wanted);
     }
+    Ok(())
 }
 
 #[test]

@@ -6,7 +6,7 @@ use std::alloc::Global;
 use std::process::Abort;
 use std::test::Fail;
 
-// A job is not read where there are words; what each word is answered stands in the tables of `snesl_jobs`.
+// A job is not read where the words are refused; what each word is answered stands in the tables of `snesl_jobs`.
 #[test]
 fn words(rt: HostRuntime) -> Result<(), Fail> {
     for word in ["--help", "--capacity", "1", ""] {

@@ -1,11 +1,14 @@
 -- The translation of an expression where the translator stands.
-use Rattle.std.specs.Prelude.{ℕ, List, [], ◌∷◌, map}
+use Rattle.std.specs.Prelude.{ℕ, true, List, [], ◌∷◌, ◌++◌, map}
 use Rattle.snesl_values.specs.declared.dialect.Dialect.{Dialect}
+use Rattle.snesl_values.specs.Types.{bool}
+use Rattle.snesl_operators.specs.declared.scalar.Scalar.TheVariants.{Bool as Truth}
+use Rattle.flow_plans.specs.Plans.{const}
 use Rattle.snesl_tree.specs.Tree.{Tree, Trees, Binders, none, both}
 use Rattle.snesl_tree.specs.View.{declaration_of}
 use Rattle.snesl_translation.specs.Wires.{Wires, segments, stream_of}
-use Rattle.snesl_translation.specs.Makings.{Making, done, and_then}
-use Rattle.snesl_translation.specs.FreeNames.{free}
+use Rattle.snesl_translation.specs.Makings.{Making, done, and_then, stepped}
+use Rattle.snesl_translation.specs.FreeNames.{free, without_binders}
 use Rattle.snesl_translation.specs.Translation.{Bodies, Sources, appended, concatenated, filtered, nowhere, single, tr, tr_all, tr_binders}
 use Rattle.snesl_translation.specs.Functions.{bodies_of}
 use Rattle.snesl_steps.specs.Views.{dialect_of_steps, next_in}
@@ -13,7 +16,7 @@ use Rattle.snesl_steps.specs.declared.steps.Steps.{Steps}
 use Rattle.snesl_scopes.specs.Scopes.{bound_of}
 use Rattle.snesl_scopes.specs.declared.scope.Scope.{Scope}
 use Rattle.snesl_translator.specs.declared.translator.Setting.{Setting}
-use Rattle.snesl_translator.specs.Rows.{Opened}
+use Rattle.snesl_translator.specs.Rows.{Opened, each_opened}
 
 -- the bodies of the functions that may be called
 abbrev pub bodies_in : Dialect → Setting → Bodies
@@ -44,6 +47,10 @@ abbrev pub single_in : Dialect → Setting → Scope → ℕ → Tree → (contr
 single_in dialect setting scope at item control next =
     single at (free setting.text.now item) (λ b c n. tr dialect setting.text.now (bodies_in dialect setting) item b c n) (bound_of scope) control next
 
+-- true for each instance
+abbrev pub always_true : ℕ → (control next : ℕ) → Making ℕ
+always_true at control next = and_then (stepped at (const (Truth true)) (control ∷ []) bool next) (λ d k. done (stream_of d) k)
+
 -- those of the items of a literal, each alone
 abbrev pub singles_in : Dialect → Setting → Scope → ℕ → Trees → (control next : ℕ) → Making (List Wires)
 singles_in dialect setting scope at none control next = done [] next
@@ -73,3 +80,14 @@ where_in dialect setting rows at body condition next =
     and_then (tr dialect setting.text.now (bodies_in dialect setting) condition rows.bound rows.control next) (λ d k.
     and_then (filtered at (free setting.text.now body) (λ b c n. tr dialect setting.text.now (bodies_in dialect setting) body b c n) rows.bound (stream_of d) k) (λ w k.
     concatenated at (segments rows.flags w) k))
+
+-- a comprehension behind its sequences, and one with a condition
+abbrev pub each_behind : Dialect → Setting → Scope → ℕ → Sources → Tree → Binders → ℕ → Making Wires
+each_behind dialect setting scope at sources body binders next =
+    and_then (each_opened at (without_binders setting.text.now binders (free setting.text.now body)) sources (bound_of scope) next) (λ rows k.
+    body_in dialect setting rows body k)
+
+abbrev pub where_behind : Dialect → Setting → Scope → ℕ → Sources → (body condition : Tree) → Binders → ℕ → Making Wires
+where_behind dialect setting scope at sources body condition binders next =
+    let names = without_binders setting.text.now binders (free setting.text.now condition ++ free setting.text.now body) in
+    and_then (each_opened at names sources (bound_of scope) next) (λ rows k. where_in dialect setting rows at body condition k)

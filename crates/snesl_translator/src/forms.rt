@@ -10,10 +10,13 @@ ghost use Rattle.std.specs.Prelude.{◌∷◌, []};
 ghost use Rattle.snesl_steps.specs.Views.{next_in, wires_of};
 ghost use Rattle.snesl_steps.specs.Added.{Adds};
 ghost use Rattle.snesl_scopes.specs.Scopes.{bound_of};
-ghost use Rattle.snesl_translator.specs.Translated.{all_appended, appended_to};
+ghost use Rattle.snesl_translator.specs.Translated.{all_appended, always_true, appended_to};
 
+use snesl_operators::Scalar;
 use snesl_scopes::{Scope, look_up};
-use snesl_steps::{Steps, Wires, append, apply_built_in, concatenate, pair_wires, sequence_wires};
+use snesl_steps::{
+    Steps, Wires, append, apply_built_in, concatenate, constant, pair_wires, sequence_wires,
+};
 use snesl_tree::{Builtin, Span};
 use snesl_values::{Refusal, Ty};
 
@@ -46,6 +49,15 @@ pub(crate) fn sequence(steps: &mut Steps, flags: usize, items: Wires) -> Result<
 {
     let wires = sequence_wires(steps.alloc(), flags, items)?;
     Ok(wires)
+}
+
+// The stream of `true` for each instance. The errors are those of `Steps::step`.
+#[inline(never)]
+pub(crate) fn always_true(steps: &mut Steps, at: usize, control: usize) -> Result<usize, Refusal>
+    ensures { Adds (λ n. n) steps.old steps.new (always_true at control (next_in steps.old)) result }
+{
+    let d = constant(steps, at, Scalar::Bool(true), &Ty::Bool, control)?;
+    Ok(d.stream())
 }
 
 // The inner sequences of a sequence as one. The errors are those of `Steps::step`.

@@ -13,9 +13,9 @@ ghost use Rattle.snesl_steps.specs.Added.{Adds};
 ghost use Rattle.snesl_scopes.specs.Scopes.{bound_of};
 ghost use Rattle.snesl_translator.specs.Called.{entered};
 ghost use Rattle.snesl_translator.specs.Rows.{rows_of};
-ghost use Rattle.snesl_translator.specs.Translated.{all_in, binders_in, bodies_in, body_in, filtered_in, single_in, singles_in, translated, where_in};
+ghost use Rattle.snesl_translator.specs.Translated.{all_in, binders_in, bodies_in, body_in, each_behind, filtered_in, single_in, singles_in, translated, where_behind, where_in};
 
-use crate::forms::{append_all, flat, named, one_of, paired, sequence};
+use crate::forms::{always_true, append_all, flat, named, one_of, paired, sequence};
 use crate::frames::{bind_parameters, one_bound};
 use crate::functions::find_function;
 use crate::rows::{Rows, open_each, open_where, part_of, part_where};
@@ -376,8 +376,25 @@ fn each_form(
     ensures { Adds wires_of steps.old steps.new (translated steps.old setting.now scope.now (each at (tree_of body.now) (binders_of binders.now) always) control) result }
 {
     let sources = all_sources(steps, setting, binders, scope, control)?;
+    each_over(steps, setting, at, body, binders, &sources, scope)
+}
+
+// A comprehension behind its sources, in a frame of its own: sources nest, and need nothing of what comes behind them.
+#[cycle(translate)]
+#[inline(never)]
+fn each_over(
+    steps: &mut Steps,
+    setting: &Setting<'_>,
+    at: usize,
+    body: &Expr,
+    binders: &[Binder],
+    sources: &[Binding<'_>],
+    scope: &Scope<'_>,
+) -> Result<Wires, Refusal>
+    ensures { Adds wires_of steps.old steps.new (each_behind (dialect_of_steps steps.old) setting.now scope.now at (bindings_of sources.now) (tree_of body.now) (binders_of binders.now) (next_in steps.old)) result }
+{
     let part = part_of(&*setting.text, &*binders, &*body);
-    let rows = open_each(steps, at, &part, &sources, &*scope)?;
+    let rows = open_each(steps, at, &part, &*sources, &*scope)?;
     in_rows(steps, setting, body, &rows)
 }
 
@@ -397,8 +414,28 @@ fn each_where(
     ensures { Adds wires_of steps.old steps.new (translated steps.old setting.now scope.now (each at (tree_of body.now) (binders_of binders.now) (only_where (tree_of condition.now))) control) result }
 {
     let sources = all_sources(steps, setting, binders, scope, control)?;
+    where_over(
+        steps, setting, at, body, binders, condition, &sources, scope,
+    )
+}
+
+// The same behind its sources.
+#[cycle(translate)]
+#[inline(never)]
+fn where_over(
+    steps: &mut Steps,
+    setting: &Setting<'_>,
+    at: usize,
+    body: &Expr,
+    binders: &[Binder],
+    condition: &Expr,
+    sources: &[Binding<'_>],
+    scope: &Scope<'_>,
+) -> Result<Wires, Refusal>
+    ensures { Adds wires_of steps.old steps.new (where_behind (dialect_of_steps steps.old) setting.now scope.now at (bindings_of sources.now) (tree_of body.now) (tree_of condition.now) (binders_of binders.now) (next_in steps.old)) result }
+{
     let part = part_where(&*setting.text, &*binders, &*condition, &*body);
-    let rows = open_each(steps, at, &part, &sources, &*scope)?;
+    let rows = open_each(steps, at, &part, &*sources, &*scope)?;
     where_true(steps, setting, at, body, condition, &rows)
 }
 
@@ -477,8 +514,8 @@ fn single(
 ) -> Result<Wires, Refusal>
     ensures { Adds wires_of steps.old steps.new (single_in (dialect_of_steps steps.old) setting.now scope.now at (tree_of item.now) control (next_in steps.old)) result }
 {
-    let d = constant(steps, at, Scalar::Bool(true), &Ty::Bool, control)?;
-    filtered(steps, setting, at, item, scope, d.stream())
+    let truths = always_true(steps, at, control)?;
+    filtered(steps, setting, at, item, scope, truths)
 }
 
 // An item where these truth values are true, and else nothing.

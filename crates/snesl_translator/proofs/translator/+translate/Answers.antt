@@ -1,6 +1,8 @@
-use Rattle.std.proofs.Common.{◌≡◌, ℕ, List, [], ◌∷◌, ◌++◌, map, Ok, Err, Vec, Global, sym, ap, subst, ◌∙◌}
-use Rattle.flow_plans.specs.Plans.{the_check}
+use Rattle.std.proofs.Common.{◌≡◌, ℕ, true, List, [], ◌∷◌, ◌++◌, map, Ok, Err, Vec, Global, sym, ap, subst, ◌∙◌}
+use Rattle.flow_plans.specs.Plans.{const, the_check}
 use Rattle.snesl_values.specs.declared.dialect.Dialect.{Dialect}
+use Rattle.snesl_values.specs.Types.{bool}
+use Rattle.snesl_operators.specs.declared.scalar.Scalar.TheVariants.{Bool as Truth}
 use Rattle.snesl_tree.specs.Spelling.{spelling}
 use Rattle.snesl_tree.specs.Tree.{Tree, Binders, apply, always, binding, call, choice, each, filter, literal, only_where}
 use Rattle.snesl_tree.specs.View.{tree_of, trees_of, binders_of}
@@ -9,7 +11,7 @@ use Rattle.snesl_tree.specs.declared.expr.Binder.{Binder}
 use Rattle.snesl_tree.specs.declared.operator.Prefix.TheVariants.{Not}
 use Rattle.snesl_tree.proofs.Arguments.{tree_of-Call, tree_of-Apply, tree_of-Literal, binders_row}
 use Rattle.snesl_translation.specs.FreeNames.{Names, free, without_binders}
-use Rattle.snesl_translation.specs.Makings.{Making, done, and_then, tested}
+use Rattle.snesl_translation.specs.Makings.{Making, done, and_then, stepped, tested}
 use Rattle.snesl_translation.specs.Wires.{Bound, Wires as WiresOf, item_wires, segments, stream_of, two}
 use Rattle.snesl_translation.specs.Translation.{appended, binary_streams, call_streams, concatenated, filtered, prefix_streams, tr}
 use Rattle.snesl_steps.specs.Added.{Adds, HasMade}
@@ -19,10 +21,10 @@ use Rattle.snesl_steps.specs.declared.wires.Wires.{Wires}
 use Rattle.snesl_steps.proofs.Adding.{exits, exits_first, refused_first, then_done}
 use Rattle.snesl_scopes.specs.Scopes.{bound_of}
 use Rattle.snesl_translator.specs.Rows.{each_opened, rows_of, where_opened}
-use Rattle.snesl_translator.specs.Translated.{all_appended, bodies_in, body_in, filtered_in, tr_in, translated, where_in}
+use Rattle.snesl_translator.specs.Translated.{all_appended, always_true, bodies_in, body_in, each_behind, filtered_in, tr_in, translated, where_behind, where_in}
 use Rattle.snesl_translator.proofs.Adding.{item_made, item_refused, items_made, none_made, then_adds}
 use Rattle.snesl_translator.proofs.Listed.{argument_in, arguments_listed, item_in, items_listed, literal_listed, source_in, sources_listed}
-use Rattle.snesl_translator.proofs.Makings.{in_turn}
+use Rattle.snesl_translator.proofs.Makings.{in_turn, one_in_turn}
 use Rattle.snesl_translator.proofs.Opening.{each_opens, each_rest, where_opens}
 use Rattle.snesl_translator.proofs.translator.+translate.Goals as goal
 
@@ -120,19 +122,25 @@ otherwise-returns t c =
     then_adds wires_of new (λ d e k. filtered_in d setting scope c.args.at item (stream_of e) k) c.filtered.result c.in_ok-e.ensures
     (subst (λ (n : ℕ). Adds wires_of middle new (filtered_in (dialect_of_steps middle) setting scope c.args.at item n (next_in middle)) c.filtered.result) c.stream.ensures c.filtered.ensures)
 
-pub single-returns-in_err-d : goal.single-returns-in_err-d
-single-returns-in_err-d t c =
-    exits_first wires_of wires_of c.args.steps.now c.constant.new.steps c.constant.new.steps _ _ c.in_err-d.field-0.0 c.from_residual.result c.from_residual.ensures c.in_err-d.ensures
+-- the true constant, of which single's definition takes the stream
+abbrev trues : (at control next : ℕ) → Making WiresOf
+trues at control next = stepped at (const (Truth true)) (control ∷ []) bool next
+
+pub single-returns-in_err-truths : goal.single-returns-in_err-truths
+single-returns-in_err-truths t c =
+    let old = c.args.steps.now in
+    let new = c.always_true.new.steps in
+    let rest : ℕ → ℕ → Making WiresOf = λ n k. filtered_in (dialect_of_steps old) c.args.setting.now c.args.scope.now c.args.at (tree_of c.args.item.now) n k in
+    subst (λ (m : Making WiresOf). Adds wires_of old new m c.from_residual.result) (one_in_turn (trues c.args.at c.args.control (next_in old)) stream_of rest)
+    (exits_first (λ (n : ℕ). n) wires_of old new new (always_true c.args.at c.args.control (next_in old)) rest c.in_err-truths.field-0.0 c.from_residual.result c.from_residual.ensures c.in_err-truths.ensures)
 
 pub single-returns : goal.single-returns
 single-returns t c =
-    let setting = c.args.setting.now in
-    let scope = c.args.scope.now in
-    let item = tree_of c.args.item.now in
-    let middle = c.constant.new.steps in
+    let old = c.args.steps.now in
     let new = c.filtered.new.steps in
-    then_adds wires_of new (λ d e k. filtered_in d setting scope c.args.at item (stream_of e) k) c.filtered.result c.in_ok-d.ensures
-    (subst (λ (n : ℕ). Adds wires_of middle new (filtered_in (dialect_of_steps middle) setting scope c.args.at item n (next_in middle)) c.filtered.result) c.stream.ensures c.filtered.ensures)
+    let rest : Dialect → ℕ → ℕ → Making WiresOf = λ d n k. filtered_in d c.args.setting.now c.args.scope.now c.args.at (tree_of c.args.item.now) n k in
+    subst (λ (m : Making WiresOf). Adds wires_of old new m c.filtered.result) (one_in_turn (trues c.args.at c.args.control (next_in old)) stream_of (rest (dialect_of_steps old)))
+    (then_adds wires_of new rest c.filtered.result c.in_ok-truths.ensures c.filtered.ensures)
 
 pub filter_form-returns-in_err-d : goal.filter_form-returns-in_err-d
 filter_form-returns-in_err-d t c =
@@ -297,89 +305,102 @@ pub each_form-returns-in_err-sources : goal.each_form-returns-in_err-sources
 each_form-returns-in_err-sources t c =
     exits_first (λ (sources : Vec Binding Global). bindings_of sources.items) wires_of c.args.steps.now c.all_sources.new.steps c.all_sources.new.steps _ _ c.in_err-sources.field-0.0 c.from_residual.result c.from_residual.ensures c.in_err-sources.ensures
 
-pub each_form-returns-in_err-rows : goal.each_form-returns-in_err-rows
-each_form-returns-in_err-rows t c =
-    let setting = c.args.setting.now in
-    let text = setting.text.now in
-    let at = c.args.at in
-    let bound = bound_of c.args.scope.now in
-    let body = tree_of c.args.body.now in
-    let names = without_binders text (binders_of c.args.binders.now) (free text body) in
-    let first = c.all_sources.new.steps in
-    let d = dialect_of_steps first in
-    let sources = bindings_of c.in_ok-sources.sources.items in
-    let new = c.open_each.new.steps in
-    let result = c.from_residual-in_err-rows.result in
-    then_adds wires_of new (λ d sources k. each_rest at names bound sources (λ rows k. body_in d setting rows body k) k) result c.in_ok-sources.ensures
-    (subst (λ (m : Making WiresOf). Adds wires_of first new m result) (each_opens at names bound sources (λ rows k. body_in d setting rows body k) (next_in first))
-    (exits_first rows_of wires_of first new new (each_opened at names sources bound (next_in first)) (λ rows k. body_in d setting rows body k) c.in_err-rows.field-0.0 result c.from_residual-in_err-rows.ensures
-    (subst (λ (l : List Binding). Adds rows_of first new (each_opened at names (bindings_of l) bound (next_in first)) (Err c.in_err-rows.field-0.0)) c.deref.ensures.value
-    (subst (λ (ns : Names). Adds rows_of first new (each_opened at ns (bindings_of c.deref.result.now) bound (next_in first)) (Err c.in_err-rows.field-0.0)) c.part_of-part.ensures c.in_err-rows.ensures))))
-
 pub each_form-returns : goal.each_form-returns
 each_form-returns t c =
     let setting = c.args.setting.now in
     let text = setting.text.now in
+    let scope = c.args.scope.now in
+    let at = c.args.at in
+    let body = tree_of c.args.body.now in
+    let binders = binders_of c.args.binders.now in
+    let names = without_binders text binders (free text body) in
+    let first = c.all_sources.new.steps in
+    let d = dialect_of_steps first in
+    let sources = bindings_of c.in_ok-sources.sources.items in
+    let new = c.each_over.new.steps in
+    let result = c.each_over.result in
+    then_adds wires_of new (λ d sources k. each_rest at names (bound_of scope) sources (λ rows k. body_in d setting rows body k) k) result c.in_ok-sources.ensures
+    (subst (λ (m : Making WiresOf). Adds wires_of first new m result) (each_opens at names (bound_of scope) sources (λ rows k. body_in d setting rows body k) (next_in first))
+    (subst (λ (l : List Binding). Adds wires_of first new (each_behind d setting scope at (bindings_of l) body binders (next_in first)) result) c.deref.ensures.value c.each_over.ensures))
+
+pub each_over-returns-in_err-rows : goal.each_over-returns-in_err-rows
+each_over-returns-in_err-rows t c =
+    let setting = c.args.setting.now in
+    let text = setting.text.now in
     let at = c.args.at in
     let bound = bound_of c.args.scope.now in
     let body = tree_of c.args.body.now in
     let names = without_binders text (binders_of c.args.binders.now) (free text body) in
-    let first = c.all_sources.new.steps in
+    let first = c.args.steps.now in
     let d = dialect_of_steps first in
-    let sources = bindings_of c.in_ok-sources.sources.items in
-    let new = c.in_rows.new.steps in
-    let result = c.in_rows.result in
-    then_adds wires_of new (λ d sources k. each_rest at names bound sources (λ rows k. body_in d setting rows body k) k) result c.in_ok-sources.ensures
-    (subst (λ (m : Making WiresOf). Adds wires_of first new m result) (each_opens at names bound sources (λ rows k. body_in d setting rows body k) (next_in first))
-    (then_adds wires_of new (λ d rows k. body_in d setting rows body k) result
-    (subst (λ (l : List Binding). HasMade first c.open_each.new.steps (each_opened at names (bindings_of l) bound (next_in first)) (rows_of c.in_ok-rows.rows)) c.deref.ensures.value
-    (subst (λ (ns : Names). HasMade first c.open_each.new.steps (each_opened at ns (bindings_of c.deref.result.now) bound (next_in first)) (rows_of c.in_ok-rows.rows)) c.part_of-part.ensures c.in_ok-rows.ensures))
-    c.in_rows.ensures))
+    let sources = bindings_of c.args.sources.now in
+    let new = c.open_each.new.steps in
+    exits_first rows_of wires_of first new new (each_opened at names sources bound (next_in first)) (λ rows k. body_in d setting rows body k) c.in_err-rows.field-0.0 c.from_residual.result c.from_residual.ensures
+    (subst (λ (ns : Names). Adds rows_of first new (each_opened at ns sources bound (next_in first)) (Err c.in_err-rows.field-0.0)) c.part_of-part.ensures c.in_err-rows.ensures)
+
+pub each_over-returns : goal.each_over-returns
+each_over-returns t c =
+    let setting = c.args.setting.now in
+    let at = c.args.at in
+    let bound = bound_of c.args.scope.now in
+    let body = tree_of c.args.body.now in
+    let first = c.args.steps.now in
+    let sources = bindings_of c.args.sources.now in
+    then_adds wires_of c.in_rows.new.steps (λ d rows k. body_in d setting rows body k) c.in_rows.result
+    (subst (λ (ns : Names). HasMade first c.open_each.new.steps (each_opened at ns sources bound (next_in first)) (rows_of c.in_ok-rows.rows)) c.part_of-part.ensures c.in_ok-rows.ensures)
+    c.in_rows.ensures
 
 pub each_where-returns-in_err-sources : goal.each_where-returns-in_err-sources
 each_where-returns-in_err-sources t c =
     exits_first (λ (sources : Vec Binding Global). bindings_of sources.items) wires_of c.args.steps.now c.all_sources.new.steps c.all_sources.new.steps _ _ c.in_err-sources.field-0.0 c.from_residual.result c.from_residual.ensures c.in_err-sources.ensures
 
-pub each_where-returns-in_err-rows : goal.each_where-returns-in_err-rows
-each_where-returns-in_err-rows t c =
-    let setting = c.args.setting.now in
-    let text = setting.text.now in
-    let at = c.args.at in
-    let bound = bound_of c.args.scope.now in
-    let body = tree_of c.args.body.now in
-    let condition = tree_of c.args.condition.now in
-    let names = without_binders text (binders_of c.args.binders.now) (free text condition ++ free text body) in
-    let first = c.all_sources.new.steps in
-    let d = dialect_of_steps first in
-    let sources = bindings_of c.in_ok-sources.sources.items in
-    let new = c.open_each.new.steps in
-    let result = c.from_residual-in_err-rows.result in
-    then_adds wires_of new (λ d sources k. each_rest at names bound sources (λ rows k. where_in d setting rows at body condition k) k) result c.in_ok-sources.ensures
-    (subst (λ (m : Making WiresOf). Adds wires_of first new m result) (each_opens at names bound sources (λ rows k. where_in d setting rows at body condition k) (next_in first))
-    (exits_first rows_of wires_of first new new (each_opened at names sources bound (next_in first)) (λ rows k. where_in d setting rows at body condition k) c.in_err-rows.field-0.0 result c.from_residual-in_err-rows.ensures
-    (subst (λ (l : List Binding). Adds rows_of first new (each_opened at names (bindings_of l) bound (next_in first)) (Err c.in_err-rows.field-0.0)) c.deref.ensures.value
-    (subst (λ (ns : Names). Adds rows_of first new (each_opened at ns (bindings_of c.deref.result.now) bound (next_in first)) (Err c.in_err-rows.field-0.0)) c.part_where-part.ensures c.in_err-rows.ensures))))
-
 pub each_where-returns : goal.each_where-returns
 each_where-returns t c =
     let setting = c.args.setting.now in
     let text = setting.text.now in
+    let scope = c.args.scope.now in
+    let at = c.args.at in
+    let body = tree_of c.args.body.now in
+    let condition = tree_of c.args.condition.now in
+    let binders = binders_of c.args.binders.now in
+    let names = without_binders text binders (free text condition ++ free text body) in
+    let first = c.all_sources.new.steps in
+    let d = dialect_of_steps first in
+    let sources = bindings_of c.in_ok-sources.sources.items in
+    let new = c.where_over.new.steps in
+    let result = c.where_over.result in
+    then_adds wires_of new (λ d sources k. each_rest at names (bound_of scope) sources (λ rows k. where_in d setting rows at body condition k) k) result c.in_ok-sources.ensures
+    (subst (λ (m : Making WiresOf). Adds wires_of first new m result) (each_opens at names (bound_of scope) sources (λ rows k. where_in d setting rows at body condition k) (next_in first))
+    (subst (λ (l : List Binding). Adds wires_of first new (where_behind d setting scope at (bindings_of l) body condition binders (next_in first)) result) c.deref.ensures.value c.where_over.ensures))
+
+pub where_over-returns-in_err-rows : goal.where_over-returns-in_err-rows
+where_over-returns-in_err-rows t c =
+    let setting = c.args.setting.now in
+    let text = setting.text.now in
     let at = c.args.at in
     let bound = bound_of c.args.scope.now in
     let body = tree_of c.args.body.now in
     let condition = tree_of c.args.condition.now in
     let names = without_binders text (binders_of c.args.binders.now) (free text condition ++ free text body) in
-    let first = c.all_sources.new.steps in
+    let first = c.args.steps.now in
     let d = dialect_of_steps first in
-    let sources = bindings_of c.in_ok-sources.sources.items in
-    let new = c.where_true.new.steps in
-    let result = c.where_true.result in
-    then_adds wires_of new (λ d sources k. each_rest at names bound sources (λ rows k. where_in d setting rows at body condition k) k) result c.in_ok-sources.ensures
-    (subst (λ (m : Making WiresOf). Adds wires_of first new m result) (each_opens at names bound sources (λ rows k. where_in d setting rows at body condition k) (next_in first))
-    (then_adds wires_of new (λ d rows k. where_in d setting rows at body condition k) result
-    (subst (λ (l : List Binding). HasMade first c.open_each.new.steps (each_opened at names (bindings_of l) bound (next_in first)) (rows_of c.in_ok-rows.rows)) c.deref.ensures.value
-    (subst (λ (ns : Names). HasMade first c.open_each.new.steps (each_opened at ns (bindings_of c.deref.result.now) bound (next_in first)) (rows_of c.in_ok-rows.rows)) c.part_where-part.ensures c.in_ok-rows.ensures))
-    c.where_true.ensures))
+    let sources = bindings_of c.args.sources.now in
+    let new = c.open_each.new.steps in
+    exits_first rows_of wires_of first new new (each_opened at names sources bound (next_in first)) (λ rows k. where_in d setting rows at body condition k) c.in_err-rows.field-0.0 c.from_residual.result c.from_residual.ensures
+    (subst (λ (ns : Names). Adds rows_of first new (each_opened at ns sources bound (next_in first)) (Err c.in_err-rows.field-0.0)) c.part_where-part.ensures c.in_err-rows.ensures)
+
+pub where_over-returns : goal.where_over-returns
+where_over-returns t c =
+    let setting = c.args.setting.now in
+    let at = c.args.at in
+    let bound = bound_of c.args.scope.now in
+    let body = tree_of c.args.body.now in
+    let condition = tree_of c.args.condition.now in
+    let first = c.args.steps.now in
+    let sources = bindings_of c.args.sources.now in
+    then_adds wires_of c.where_true.new.steps (λ d rows k. where_in d setting rows at body condition k) c.where_true.result
+    (subst (λ (ns : Names). HasMade first c.open_each.new.steps (each_opened at ns sources bound (next_in first)) (rows_of c.in_ok-rows.rows)) c.part_where-part.ensures c.in_ok-rows.ensures)
+    c.where_true.ensures
 
 pub in_rows-returns-in_err-w : goal.in_rows-returns-in_err-w
 in_rows-returns-in_err-w t c =

@@ -63,8 +63,14 @@ decreases-filter_form l = rank (max (size-Expr l.item.now) (size-Expr l.conditio
 abbrev pub decreases-each_form : goal.decreases-each_form
 decreases-each_form l = rank (max (size-Expr l.body.now) (binders_depth l.binders.now)) (weight l.setting.now.functions.now) 4
 
+abbrev pub decreases-each_over : goal.decreases-each_over
+decreases-each_over l = rank (size-Expr l.body.now) (weight l.setting.now.functions.now) 3
+
 abbrev pub decreases-each_where : goal.decreases-each_where
-decreases-each_where l = rank (max (size-Expr l.body.now) (max (size-Expr l.condition.now) (binders_depth l.binders.now))) (weight l.setting.now.functions.now) 5
+decreases-each_where l = rank (max (size-Expr l.body.now) (max (size-Expr l.condition.now) (binders_depth l.binders.now))) (weight l.setting.now.functions.now) 6
+
+abbrev pub decreases-where_over : goal.decreases-where_over
+decreases-where_over l = rank (max (size-Expr l.body.now) (size-Expr l.condition.now)) (weight l.setting.now.functions.now) 5
 
 abbrev pub decreases-all_translated : goal.decreases-all_translated
 decreases-all_translated l = rank (goal.size-all_translated l) (weight l.setting.now.functions.now) 1
