@@ -1,7 +1,8 @@
 // Answers the job on standard input.
 #![tactic(auto)]
 
-use snesl_run::{answer, complain};
+use snesl_console::complain;
+use snesl_run::answer;
 use snesl_values::{Counted, Refusal};
 use std::alloc::{AllocError, Global};
 use std::env::{self, FillError};

@@ -2,6 +2,7 @@
 // gives, in some fault where evaluation gives one, or in no answer.
 
 use flow_drive::{Config, Drive, NoGate, Outcome, Sharing};
+use snesl_console::split;
 use snesl_run::{Report, RunError, run};
 use snesl_syntax::parse;
 use snesl_types::{check, plain};
@@ -185,21 +186,4 @@ fn config_of(alloc: Global, capacity: usize, chunk: usize) -> Result<Config, All
         sharing,
         drive: Drive::Serial,
     })
-}
-
-// The program and the input text of a job: what stands before the first line `---`, and what behind it.
-fn split(job: &[u8]) -> (&[u8], &[u8]) {
-    let mut at = 0usize;
-    for line in job.split(|byte| *byte == b'\n') {
-        let behind = at.saturating_add(line.len()).saturating_add(1);
-        let is_last = behind > job.len();
-        if line == b"---".as_slice() || (line == b"---\r".as_slice() && !is_last) {
-            return (
-                job.get(..at).unwrap_or(job),
-                job.get(behind..).unwrap_or(&[]),
-            );
-        }
-        at = behind;
-    }
-    (job, &[])
 }

@@ -7,10 +7,10 @@ use Rattle.snesl_tree.specs.Tree.{ProgramTree}
 use Rattle.snesl_grammar.specs.Limits.{greatest_length}
 use Rattle.snesl_syntax.specs.Parse.{Parses, too_long, HaveOneAnswer}
 use Rattle.snesl_meaning.specs.Meaning.{Meaning, Means, no_program, ill_typed, bad_input, evaluated}
-use Rattle.snesl_run.specs.Job.{BeginsWithSeparator, at_the_end, before_line_feed, before_carriage_return, EndsLine, NoSeparatorBefore, IsJob, parted}
-use Rattle.snesl_run.specs.Prints.{longest_job}
+use Rattle.snesl_console.specs.Job.{BeginsWithSeparator, at_the_end, before_line_feed, before_carriage_return, EndsLine, NoSeparatorBefore, IsJob, parted}
+use Rattle.snesl_console.specs.Reads.{longest_job}
 use Rattle.snesl_run.specs.Cuts.{CutChangesNothing}
-use Rattle.snesl_run.proofs.Jobs.{HasForm, form, IsParted, IsAlone, ways, one_job}
+use Rattle.snesl_console.proofs.Jobs.{HasForm, form, IsParted, IsAlone, ways, one_job}
 
 -- a beginning of two lists that are equally joined is split off both
 halves : (cut behind program back : List ℕ) → cut ++ behind ≡ program ++ back → length program ≤ length cut

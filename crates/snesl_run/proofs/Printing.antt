@@ -1,41 +1,25 @@
 -- What is printed for a job.
-use Rattle.std.proofs.Common.{◌≡◌, ℕ, true, false, List, Option, Some, None, Result, Ok, Err, Vec, IfOk, MatchResult, ◌⊎◌, inl, inr, codes, refl, sym, ap, ◌∙◌, subst}
+use Rattle.std.proofs.Common.{◌≡◌, ℕ, true, false, List, Option, Some, None, Result, Ok, Err, Vec, IfOk, MatchResult, inl, inr, refl, sym, ap, ◌∙◌, subst}
 use Rattle.std.specs.Global.{Global}
 use Rattle.std.specs.declared.alloc.AllocError.{AllocError}
 use Rattle.snesl_values.specs.declared.counted.Counted.{Counted}
 use Rattle.snesl_values.specs.declared.fault.Fault.{Fault}
 use Rattle.snesl_values.specs.declared.refusal.Refusal.{Refusal}
-use Rattle.snesl_values.specs.declared.refusal.Refusal.TheVariants.{BadConfig, TooBig, NoMemory, Output, Read}
+use Rattle.snesl_values.specs.declared.refusal.Refusal.TheVariants.{NoMemory, Output, Read}
 use Rattle.snesl_values.specs.Refusals.{is_of_the_system, status_of_refusal}
 use Rattle.kahn.specs.declared.outcome.Outcome.{Outcome}
 use Rattle.kahn.specs.declared.outcome.Outcome.TheVariants.{Value as Ended, Fault as Failed, Stalled}
 use Rattle.flow_drive.specs.declared.config.Config.{Config}
 use Rattle.snesl_settings.specs.Settings.{AreLawful, RefusesBut}
 use Rattle.snesl_network.specs.Driven.{WasRefused}
-use Rattle.snesl_run.specs.Job.{IsJob}
+use Rattle.snesl_console.specs.Job.{IsJob}
 use Rattle.snesl_run.specs.Runs.{IsReported, WroteFor, outcome_of, HasError}
-use Rattle.snesl_run.specs.Streams.{Taken, Given, taken, IsCutOff, WasTold}
-use Rattle.snesl_run.specs.Prints.{Prints, written, cut_off, Refuses, of_the_job, of_the_system, PrintsOutcome, Printed, came_out, cut_off_value, refused, HasRead, IsJobAnswered, unread, out_of_memory, Answered, words_refused, words_lost, refusal_line, fault_line, stalled_line}
+use Rattle.snesl_console.specs.Streams.{Taken, Given, taken, WasTold}
+use Rattle.snesl_console.specs.Lines.{Prints, written, Refuses, refusal_line, fault_line, stalled_line}
+use Rattle.snesl_console.specs.Reads.{HasRead}
+use Rattle.snesl_run.specs.Prints.{PrintsOutcome, Printed, came_out, cut_off_value, refused, IsJobAnswered, unread, out_of_memory, Answered, words_refused, words_lost}
 use Rattle.snesl_run.specs.declared.report.Report.{Report}
-use Rattle.snesl_run.proofs.OwnLines.{bad_config_line}
-
--- a line that could not be written
-pub cut_off_line : {out err : Taken} {line : List ℕ} {status : ℕ} (code : ℕ) → IsCutOff out line → WasTold err (refusal_line Output)
-    → code ≡ status_of_refusal Output → Prints out err line status code
-cut_off_line {out = out} {err = err} {line = line} {status = status} code cut told e =
-    subst (λ n. Prints out err line status n) (sym e) (cut_off cut told)
-
--- a refusal of the system that was said
-pub system_refused : {out err : Taken} (refusal : Refusal) (code : ℕ) → is_of_the_system refusal ≡ true → out.nothing → WasTold err (refusal_line refusal)
-    → code ≡ status_of_refusal refusal → Refuses out err refusal code
-system_refused {out = out} {err = err} refusal code h untouched told e =
-    subst (λ n. Refuses out err refusal n) (sym e) (of_the_system h untouched told)
-
--- a refusal of the job whose line was printed
-pub job_refused : {out err : Taken} (refusal : Refusal) (line : List ℕ) (first status : ℕ) → is_of_the_system refusal ≡ false → line ≡ refusal_line refusal
-    → first ≡ status_of_refusal refusal → Prints out err line first status → Refuses out err refusal status
-job_refused {out = out} {err = err} refusal line first status h is e printed =
-    of_the_job h (subst (λ n. Prints out err (refusal_line refusal) n status) e (subst (λ l. Prints out err l first status) is printed))
+use Rattle.snesl_console.proofs.Printing.{cut_off_line, system_refused, job_refused}
 
 -- a job that could not be read
 pub read_refused : {config : Config} {reader : Given} {out err : Taken} (refusal : Refusal) (code : ℕ) → HasRead reader (Err refusal) → out.nothing
@@ -120,13 +104,6 @@ module _ (config : Config) (job program input : List ℕ) (split : IsJob job pro
         let h : WroteFor program input out Ended = subst (WroteFor program input out) e has.wrote in
         came_out program input _ (outcome_of report) split has.came has.outcome
         (subst (λ o. PrintsOutcome program input out err o 0) (sym e) (h.0, h.1, written h.2 silent))
-
--- words that are refused
-pub words_refused_line : {out err : Taken} (refusal : Refusal) (first status : ℕ) → (refusal ≡ BadConfig) ⊎ (refusal ≡ NoMemory) → is_of_the_system refusal ≡ false
-    → first ≡ status_of_refusal refusal → Prints out err (codes "refused 10\n") first status → Refuses out err refusal status
-words_refused_line refusal first status (inl bad) is e printed =
-    job_refused refusal (codes "refused 10\n") first status is (bad_config_line ∙ ap refusal_line (sym bad)) e printed
-words_refused_line refusal first status (inr memory) is e printed = absurd (let never = sym (ap is_of_the_system memory) ∙ is in cc)
 
 pub words_answered : {words : List (List ℕ)} {reader : Given} {out err : Taken} (refusal : Refusal) (status : ℕ) → RefusesBut (AreLawful words) refusal → reader.nothing
     → Refuses out err refusal status → Answered words reader out err status

@@ -14,7 +14,7 @@ use Rattle.snesl_meaning.specs.Meaning.{Means, has_value}
 use Rattle.snesl_network.specs.NodesAtRest.{Rest}
 use Rattle.snesl_network.specs.Driven.{CameToRest, WasRefused}
 use Rattle.snesl_run.specs.Runs.{HasRun, HasError, refusal_of, value_line, CameOut, WroteFor}
-use Rattle.snesl_run.specs.Streams.{Taken, IsWhole, IsCutOff, HasSent}
+use Rattle.snesl_console.specs.Streams.{Taken, IsWhole, IsCutOff, HasSent}
 use Rattle.snesl_run.specs.declared.report.Report.{Report}
 use Rattle.snesl_run.specs.declared.report.RunError.{RunError}
 

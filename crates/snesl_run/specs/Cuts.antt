@@ -1,8 +1,8 @@
 -- No byte behind the longest job that is read changes what a job means.
 use Rattle.std.specs.Prelude.{◌≡◌, ℕ, List, ◌++◌, length}
 use Rattle.snesl_meaning.specs.Meaning.{Meaning, Means}
-use Rattle.snesl_run.specs.Job.{IsJob}
-use Rattle.snesl_run.specs.Prints.{longest_job}
+use Rattle.snesl_console.specs.Job.{IsJob}
+use Rattle.snesl_console.specs.Reads.{longest_job}
 
 -- a job that is longer means what its beginning of that length means
 abbrev pub CutChangesNothing : Type 0

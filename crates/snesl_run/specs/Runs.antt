@@ -15,7 +15,7 @@ use Rattle.snesl_flatten.specs.Networks.{NodeState}
 use Rattle.snesl_meaning.specs.Meaning.{Means, has_value, has_fault}
 use Rattle.snesl_network.specs.NodesAtRest.{Rest, rest_of}
 use Rattle.snesl_network.specs.Driven.{CameToRest, WasRefused}
-use Rattle.snesl_run.specs.Streams.{Taken, IsWhole, IsCutOff}
+use Rattle.snesl_console.specs.Streams.{Taken, IsWhole, IsCutOff}
 use Rattle.snesl_run.specs.declared.report.Report.{Report}
 use Rattle.snesl_run.specs.declared.report.RunError.{RunError}
 

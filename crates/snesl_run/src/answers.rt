@@ -2,18 +2,18 @@
 
 ghost use Rattle.std.specs.Prelude.{◌≡◌, ◌⊎◌, MatchResult};
 ghost use Rattle.clap.specs.Walk.{texts};
-ghost use Rattle.snesl_run.specs.Streams.{given, taken};
-ghost use Rattle.snesl_run.specs.Prints.{Answered, Printed, Prints, Refuses, IsJobAnswered};
+ghost use Rattle.snesl_console.specs.Streams.{given, taken};
+ghost use Rattle.snesl_console.specs.Lines.{Prints, Refuses};
+ghost use Rattle.snesl_run.specs.Prints.{Answered, Printed, IsJobAnswered};
 ghost use Rattle.snesl_run.specs.Runs.{HasRun};
 ghost use Rattle.snesl_values.specs.declared.refusal.Refusal.TheVariants.{BadConfig, NoMemory};
 
-use crate::job::split;
-use crate::lines::{BAD_CONFIG_LINE, STALLED_LINE, fault_line, refusal_line};
-use crate::reading::read_job;
 use crate::report::{Report, RunError};
 use crate::runs::run;
-use crate::send::{complain, print};
 use flow_drive::{Config, NoGate, Outcome};
+use snesl_console::{
+    BAD_CONFIG_LINE, STALLED_LINE, complain, fault_line, print, read_job, refusal_line, split,
+};
 use snesl_settings::settings;
 use snesl_values::{Counted, Refusal};
 use std::alloc::{AllocError, Global};

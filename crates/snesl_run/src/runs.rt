@@ -3,12 +3,12 @@
 ghost use Rattle.std.specs.Prelude.{◌≡◌, ◌++◌, ◌∷◌, [], IfOk, IfErr};
 ghost use Rattle.snesl_values.specs.declared.refusal.Refusal.TheVariants.{BadConfig, NoMemory};
 ghost use Rattle.flow_drive.specs.Configs.{IsLawful};
-ghost use Rattle.snesl_run.specs.Streams.{taken};
+ghost use Rattle.snesl_console.specs.Streams.{taken};
 ghost use Rattle.snesl_run.specs.Runs.{HasRun, IsRefusedWith};
 
 use crate::report::{Report, RunError};
-use crate::send::send;
 use flow_drive::{Config, Gate, Outcome};
+use snesl_console::send;
 use snesl_network::drive_program;
 use snesl_values::{Counted, Refusal};
 use std::alloc::Global;

@@ -1,8 +1,9 @@
 // Each public call once, with ample memory.
 
 use flow_drive::{NoGate, Outcome};
+use snesl_console::complain;
 use snesl_lexer::{Kind, Token, tokens_of};
-use snesl_run::{complain, run};
+use snesl_run::run;
 use snesl_settings::settings;
 use snesl_syntax::{Expr, Span, parse};
 use snesl_types::{check, plain};

@@ -1,5 +1,5 @@
 use Rattle.std.proofs.Common.{refl, subst}
-use Rattle.snesl_run.specs.Streams.{taken}
+use Rattle.snesl_console.specs.Streams.{taken}
 use Rattle.snesl_run.specs.Prints.{answered, Printed}
 use Rattle.snesl_run.proofs.Printing.{read_refused}
 use Rattle.snesl_run.proofs.answers.answer_job.Goals as goal

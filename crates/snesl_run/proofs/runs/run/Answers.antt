@@ -4,7 +4,7 @@ use Rattle.kahn.specs.declared.outcome.Outcome.TheVariants.{Value as Ended, Faul
 use Rattle.flow_nodes.specs.StreamNodes.{text_in}
 use Rattle.snesl_network.specs.NodesAtRest.{rest_of}
 use Rattle.snesl_run.specs.Runs.{WroteFor}
-use Rattle.snesl_run.specs.Streams.{taken, HasSent}
+use Rattle.snesl_console.specs.Streams.{taken, HasSent}
 use Rattle.snesl_run.proofs.Reports.{run_refused, line_cut_off, line_written, nothing_written}
 use Rattle.snesl_run.proofs.runs.run.Goals.{in-Value+in_ok-line-in-Value+else-not-send, in-Fault, in-Stalled}
 use Rattle.snesl_run.proofs.runs.run.Goals as goal

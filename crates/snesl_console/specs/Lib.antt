@@ -1,0 +1,4 @@
+pub mod Job
+pub mod Streams
+pub mod Lines
+pub mod Reads
