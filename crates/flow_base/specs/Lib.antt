@@ -25,3 +25,4 @@ pub mod Bodies
 pub mod Computed
 pub mod Members
 pub mod RowPorts
+pub mod Visits

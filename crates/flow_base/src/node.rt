@@ -1,11 +1,17 @@
 // Transducers made of workers: what they do where streams end.
 
-ghost use Rattle.std.specs.Prelude.{◌≡◌, ◌+◌};
-ghost use Rattle.flow_base.specs.Nodes.{closing, opened};
+ghost use Rattle.std.specs.Prelude.{◌≡◌, ◌+◌, true, false, IfOk, OnErr, IsOk};
+ghost use Rattle.flow_edges.specs.Signals.{signal_of};
+ghost use Rattle.flow_edges.specs.Ends.{SameEnds};
+ghost use Rattle.flow_base.specs.Machines.{move_of, ask_of};
+ghost use Rattle.flow_base.specs.Workers.{IsReading};
+ghost use Rattle.flow_base.specs.Nodes.{closing, opened, want_for};
+ghost use Rattle.flow_base.specs.Visits.{IsPlaced, Visited, BrokeOff};
+ghost use Rattle.flow_base.specs.declared.node.Phase.TheVariants.{Working};
 
 use crate::transducer::Transducer;
 use crate::worker::{Ask, Stop, Worker};
-use flow_edges::{Kind, Msg};
+use flow_edges::{Ends, Kind, Msg};
 use kahn::Want;
 use snesl_values::{Fault, FaultKind};
 use std::alloc::AllocError;
@@ -64,6 +70,85 @@ impl<W: Worker> Node<W> {
     {
         Want::Faulted(Fault { kind, at: self.at })
     }
+
+    // What it wants while it works.
+    #[inline(always)]
+    fn want_on(&self) -> Want
+        ensures { result ≡ want_for (ask_of (move_of W.machine (W.state self.now.worker))) }
+    {
+        match self.worker.ask() {
+            Ask::Begin => Want::Read(0),
+            Ask::Take(port) => Want::Read(port),
+            Ask::Give(port) => Want::Write(port),
+        }
+    }
+
+    // Reads the message that it wants while it works. Whether it works on.
+    #[inline(always)]
+    fn read_on(&mut self, message: Msg) -> Result<bool, AllocError>
+        requires works { self.old.phase ≡ Working }
+        requires reads { IsReading (ask_of (move_of W.machine (W.state self.old.worker))) }
+        ensures ok { IfOk result (λ on. ⟦<Node<W> as Transducer>⟧.state self.new ≡ ⟦<Node<W> as Transducer>⟧.behaviour.process.read (⟦<Node<W> as Transducer>⟧.state self.old) (signal_of message)) }
+        ensures on { IfOk result (λ on. on ≡ true → self.new.phase ≡ Working) }
+        ensures err { OnErr result (⟦<Node<W> as Transducer>⟧.state self.new ≡ ⟦<Node<W> as Transducer>⟧.state self.old) }
+        ensures sure { W.machine.takes_memory (W.state self.old.worker).1 ≡ false → IsOk result }
+    {
+        match message {
+            Msg::Item(item) => match self.worker.take(item) {
+                Ok(()) => Ok(true),
+                Err(Stop::Faulted(kind)) => {
+                    self.phase = Phase::Faulted(kind);
+                    Ok(false)
+                }
+                Err(Stop::OutOfMemory) => Err(AllocError),
+            },
+            Msg::End => {
+                self.phase = match self.worker.ask() {
+                    Ask::Begin => Phase::closing_after(0, self.worker.inputs()),
+                    _ => Phase::Faulted(FaultKind::Shape),
+                };
+                Ok(false)
+            }
+        }
+    }
+
+    // One step, or none where it can make none.
+    #[inline(never)]
+    fn step<E: Ends>(
+        &mut self,
+        inputs: &[usize],
+        outputs: &[usize],
+        ends: &mut E,
+    ) -> Result<bool, AllocError>
+        requires placed { IsPlaced ⟦<Node<W> as Transducer>⟧.behaviour inputs.now outputs.now (⟦<Node<W> as Transducer>⟧.state self.old) (E.view ends.old) }
+        ensures same { E.same ends.old ends.new }
+        ensures ends { SameEnds (E.view ends.old) (E.view ends.new) }
+        ensures visited { IfOk result (λ any. Visited inputs.now outputs.now ⟦<Node<W> as Transducer>⟧.behaviour (⟦<Node<W> as Transducer>⟧.state self.old) (E.view ends.old) (⟦<Node<W> as Transducer>⟧.state self.new) (E.view ends.new) any) }
+        ensures broke { OnErr result (BrokeOff inputs.now outputs.now ⟦<Node<W> as Transducer>⟧.behaviour (⟦<Node<W> as Transducer>⟧.state self.old) (E.view ends.old) (⟦<Node<W> as Transducer>⟧.state self.new) (E.view ends.new)) }
+    {
+        match self.want() {
+            Want::Read(port) => {
+                prove!(port < inputs.len());
+                let Some(message) = ends.take(inputs[port]) else {
+                    return Ok(false);
+                };
+                self.give(port, message)?;
+                Ok(true)
+            }
+            Want::Write(port) => {
+                prove!(port < outputs.len());
+                let edge = outputs[port];
+                if !ends.room(edge) {
+                    return Ok(false);
+                }
+                let message = self.emit()?;
+                // Only after End is the message refused, and no lawful node writes after End.
+                let _ = ends.put(edge, message);
+                Ok(true)
+            }
+            Want::Ended | Want::Faulted(_) => Ok(false),
+        }
+    }
 }
 
 impl<W: Worker> Transducer for Node<W> {
@@ -78,13 +163,10 @@ impl<W: Worker> Transducer for Node<W> {
 
     ghost laws = { behaviour_laws W.machine W.laws };
 
+    #[inline(always)]
     fn want(&self) -> Want {
         match self.phase {
-            Phase::Working => match self.worker.ask() {
-                Ask::Begin => Want::Read(0),
-                Ask::Take(port) => Want::Read(port),
-                Ask::Give(port) => Want::Write(port),
-            },
+            Phase::Working => self.want_on(),
             Phase::Closing(port) => {
                 if port < self.worker.inputs() {
                     Want::Read(port)
@@ -119,35 +201,24 @@ impl<W: Worker> Transducer for Node<W> {
         self.worker.kind_out(port)
     }
 
+    #[inline(always)]
     fn give(&mut self, port: usize, message: Msg) -> Result<(), AllocError> {
+        if matches!(self.phase, Phase::Working) {
+            self.read_on(message)?;
+            return Ok(());
+        }
         match message {
-            Msg::Item(item) => match self.phase {
-                Phase::Working => match self.worker.take(item) {
-                    Ok(()) => Ok(()),
-                    Err(Stop::Faulted(kind)) => {
-                        self.phase = Phase::Faulted(kind);
-                        Ok(())
-                    }
-                    Err(Stop::OutOfMemory) => Err(AllocError),
-                },
-                _ => {
-                    self.phase = Phase::Faulted(FaultKind::Shape);
-                    Ok(())
-                }
-            },
+            Msg::Item(_) => {
+                self.phase = Phase::Faulted(FaultKind::Shape);
+            }
             Msg::End => {
-                self.phase = match self.phase {
-                    Phase::Working => match self.worker.ask() {
-                        Ask::Begin => Phase::closing_after(0, self.worker.inputs()),
-                        _ => Phase::Faulted(FaultKind::Shape),
-                    },
-                    _ => Phase::closing_after(port, self.worker.inputs()),
-                };
-                Ok(())
+                self.phase = Phase::closing_after(port, self.worker.inputs());
             }
         }
+        Ok(())
     }
 
+    #[inline(always)]
     fn emit(&mut self) -> Result<Msg, AllocError> {
         if let Phase::Ending(port) = self.phase {
             if port < self.worker.outputs() {
@@ -157,5 +228,46 @@ impl<W: Worker> Transducer for Node<W> {
         }
         let item = self.worker.give()?;
         Ok(Msg::Item(item))
+    }
+
+    // In a loop while it works, and else one step.
+    #[inline(never)]
+    fn run<E: Ends>(
+        &mut self,
+        inputs: &[usize],
+        outputs: &[usize],
+        ends: &mut E,
+        chunk: usize,
+    ) -> Result<bool, AllocError> {
+        if !matches!(self.phase, Phase::Working) {
+            return self.step(inputs, outputs, ends);
+        }
+        let mut moved = false;
+        for _ in 0..chunk {
+            match self.want_on() {
+                Want::Read(port) => {
+                    prove!(port < inputs.len());
+                    let Some(message) = ends.take(inputs[port]) else {
+                        break;
+                    };
+                    if !self.read_on(message)? {
+                        return Ok(true);
+                    }
+                }
+                Want::Write(port) => {
+                    prove!(port < outputs.len());
+                    let edge = outputs[port];
+                    if !ends.room(edge) {
+                        break;
+                    }
+                    let item = self.worker.give()?;
+                    // Only after End is the message refused, and no lawful node writes after End.
+                    let _ = ends.put(edge, Msg::Item(item));
+                }
+                Want::Ended | Want::Faulted(_) => break,
+            }
+            moved = true;
+        }
+        Ok(moved)
     }
 }

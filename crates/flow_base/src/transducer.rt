@@ -3,7 +3,7 @@
 ghost use Rattle.std.specs.Prelude.{◌≡◌};
 ghost use Rattle.flow_base.specs.Transducers.{TransducerLaws};
 
-use flow_edges::{Kind, Msg};
+use flow_edges::{Ends, Kind, Msg};
 use kahn::Want;
 use std::alloc::AllocError;
 
@@ -11,10 +11,12 @@ use std::alloc::AllocError;
 ///
 /// Its laws speak of an abstract state, and of what messages say.
 pub trait Transducer {
-    ghost use Rattle.std.specs.Prelude.{◌≡◌, ℕ, false, IfOk, OnOk, OnErr, IsOk};
+    ghost use Rattle.std.specs.Prelude.{◌≡◌, ◌<◌, ℕ, false, IfOk, OnOk, OnErr, IsOk};
     ghost use Rattle.kahn.specs.declared.want.Want.TheVariants.{Read};
     ghost use Rattle.flow_edges.specs.Signals.{signal_of};
+    ghost use Rattle.flow_edges.specs.Ends.{SameEnds};
     ghost use Rattle.flow_base.specs.Transducers.{Behaviour, BehaviourLaws, IsWrite};
+    ghost use Rattle.flow_base.specs.Visits.{IsPlaced, Visited, BrokeOff};
 
     /// What its laws see of it.
     ghost State: { Type 0 };
@@ -58,6 +60,53 @@ pub trait Transducer {
         ensures ok { IfOk result (λ message. (signal_of message ≡ behaviour.process.written (state self.old)) × (state self.new ≡ behaviour.process.wrote (state self.old))) }
         ensures err { OnErr result (state self.new ≡ state self.old) }
         ensures sure { behaviour.takes_memory (state self.old) ≡ false → IsOk result };
+
+    /// A visit: as many steps as it can make, at least one where its ends are certain of one, and at most `chunk`. The
+    /// edges at its input ports and at its output ports are `inputs` and `outputs`. Whether it made a step.
+    ///
+    /// An error where memory was refused. Then it stays where it was before that step, and a message that it was to
+    /// read is lost.
+    #[inline(never)]
+    fn run<E: Ends>(
+        &mut self,
+        inputs: &[usize],
+        outputs: &[usize],
+        ends: &mut E,
+        chunk: usize,
+    ) -> Result<bool, AllocError>
+        requires some { 0 < chunk }
+        requires placed { IsPlaced behaviour inputs.now outputs.now (state self.old) (E.view ends.old) }
+        ensures same { E.same ends.old ends.new }
+        ensures ends { SameEnds (E.view ends.old) (E.view ends.new) }
+        ensures visited { IfOk result (λ any. Visited inputs.now outputs.now behaviour (state self.old) (E.view ends.old) (state self.new) (E.view ends.new) any) }
+        ensures broke { OnErr result (BrokeOff inputs.now outputs.now behaviour (state self.old) (E.view ends.old) (state self.new) (E.view ends.new)) }
+    {
+        let mut moved = false;
+        for _ in 0..chunk {
+            match self.want() {
+                Want::Read(port) => {
+                    prove!(port < inputs.len());
+                    let Some(message) = ends.take(inputs[port]) else {
+                        break;
+                    };
+                    self.give(port, message)?;
+                }
+                Want::Write(port) => {
+                    prove!(port < outputs.len());
+                    let edge = outputs[port];
+                    if !ends.room(edge) {
+                        break;
+                    }
+                    let message = self.emit()?;
+                    // Only after End is the message refused, and no lawful node writes after End.
+                    let _ = ends.put(edge, message);
+                }
+                Want::Ended | Want::Faulted(_) => break,
+            }
+            moved = true;
+        }
+        Ok(moved)
+    }
 
     /// What it keeps to in each state.
     ghost laws: { BehaviourLaws behaviour };

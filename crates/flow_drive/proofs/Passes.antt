@@ -18,7 +18,8 @@ use Rattle.flow_graph.specs.declared.graph.Graph.{Graph}
 use Rattle.flow_graph.specs.Graphs.{states_of, edges_of}
 use Rattle.flow_graph.specs.Shapes.{IsSameNetwork, KeepsShape}
 use Rattle.flow_graph.proofs.Nets.{opens, graph_wired}
-use Rattle.flow_drive.specs.Visits.{is_over, IsVisited, Visits}
+use Rattle.flow_graph.specs.Visits.{IsVisited, Visits}
+use Rattle.flow_drive.specs.Over.{is_over}
 use Rattle.flow_drive.specs.Drives.{EndsMaximalRun}
 use Rattle.flow_drive.proofs.Visits.{over_stays, visited_rest, visited_falls}
 use Rattle.flow_drive.proofs.Graphs.{in_network}

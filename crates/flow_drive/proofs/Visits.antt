@@ -8,20 +8,13 @@ use Rattle.kahn.specs.Processes.{Process, Event, Reads, Writes, Settles}
 use Rattle.kahn.specs.Networks.{Network, IsWired, actor}
 use Rattle.kahn.specs.Configurations.{Configuration, moved, start}
 use Rattle.kahn.specs.Runs.{Can, next, Run, Reaches, AtRest}
-use Rattle.kahn.specs.Turns.{Turn, IsSwept}
+use Rattle.kahn.specs.Turns.{IsSwept}
 use Rattle.kahn.proofs.Basics.{updated_other}
 use Rattle.kahn.proofs.Finite.{most_events}
 use Rattle.kahn.proofs.Traffic.{moved_run}
 use Rattle.kahn.proofs.Turns.{reaches_then, swept_falls}
-use Rattle.flow_drive.specs.Visits.{is_over, IsVisited}
-
--- the one element of a list of one
-contains_one : (k j : ℕ) → Contains (k ∷ []) j → j ≡ k
-contains_one k j has = go (Contains-push_cases [] k j has)
-  where
-    go : Contains [] j ⊎ (k ≡ j) → j ≡ k
-    go (inl none) = absurd (omega (arith, none.1))
-    go (inr same) = sym same
+use Rattle.flow_graph.specs.Visits.{IsVisited}
+use Rattle.flow_drive.specs.Over.{is_over}
 
 -- whether something moved, after one visit more
 pub or_moved : (any one now : Bool) → one ≡ true → now ≡ true → (any || one) ≡ now
@@ -42,27 +35,6 @@ over_no_write w q over is = let x : is_over (Write q) ≡ true = ap is_over (sym
 module _ {State Message : Type 0} (P : Process State Message) (net : Network State) (limit : Option ℕ) where
   pub visited_none : (c : Configuration State Message) → IsVisited P net limit [] c c false
   visited_none c = record { reaches = ([], refl); calm = λ h. (refl, λ a has can. absurd (omega (arith, has.1))); busy = λ h. cc }
-
-  -- one turn of a node is a visit
-  pub visited_turn : (k : ℕ) (c d : Configuration State Message) (any : Bool) → Turn P net limit k c d any → IsVisited P net limit (k ∷ []) c d any
-  visited_turn k c d true (a, at, can, is) =
-      let to : Reaches P net limit c d = (a ∷ [], (can, sym is)) in
-      record { reaches = to; calm = λ h. cc; busy = λ h. omega (arith, moved_run P net limit to.0 c d to.1) }
-  visited_turn k c d false (is, none) =
-      record {
-        reaches = ([], sym is);
-        calm = λ h. (is, λ a has can. none a (contains_one k (actor net a) has) (subst (λ x. Can P net limit x a) is can));
-        busy = λ h. cc;
-      }
-
-  -- further visits of a node that made a step
-  pub visited_again : (nodes more : List ℕ) (c d e : Configuration State Message) (any : Bool) → IsVisited P net limit nodes c d any → IsVisited P net limit more d e true → IsVisited P net limit nodes c e true
-  visited_again nodes more c d e any s t =
-      record { reaches = reaches_then P net limit c d e s.reaches t.reaches; calm = λ h. cc; busy = λ h. omega (arith, t.busy refl, moved_run P net limit s.reaches.0 c d s.reaches.1) }
-
-  -- where a step was made it does not matter which nodes were visited
-  pub visited_any : (nodes more : List ℕ) (c d : Configuration State Message) → IsVisited P net limit nodes c d true → IsVisited P net limit more c d true
-  visited_any nodes more c d s = record { reaches = s.reaches; calm = λ h. cc; busy = s.busy }
 
   -- one node more
   pub visited_push : (nodes : List ℕ) (k : ℕ) (c d e : Configuration State Message) (any one : Bool) → IsVisited P net limit nodes c d any → IsVisited P net limit (k ∷ []) d e one → IsVisited P net limit (nodes ++ k ∷ []) c e (any || one)

@@ -1,6 +1,6 @@
 pub mod Limits
 pub mod Configs
-pub mod Visits
+pub mod Over
 pub mod Drives
 pub mod Counts
 pub mod CountLaws

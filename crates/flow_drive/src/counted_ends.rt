@@ -56,18 +56,22 @@ impl<E: Ends> Ends for CountedEnds<E> {
         self.inner.has_reader(edge)
     }
 
+    #[inline(always)]
     fn room(&mut self, edge: usize) -> bool {
         self.inner.room(edge)
     }
 
+    #[inline(always)]
     fn ready(&mut self, edge: usize) -> bool {
         self.inner.ready(edge)
     }
 
+    #[inline(always)]
     fn put(&mut self, edge: usize, message: Msg) -> Result<(), Refused> {
         self.inner.put(edge, message)
     }
 
+    #[inline(always)]
     fn take(&mut self, edge: usize) -> Option<Msg> {
         let message = self.inner.take(edge)?;
         count_one(&mut self.received, edge);
@@ -105,6 +109,7 @@ fn zeros(alloc: Global, count: usize) -> Result<Vec<u64>, AllocError>
 }
 
 // Counts one more message of this edge, if messages of it are counted.
+#[inline(always)]
 fn count_one(counts: &mut Vec<u64>, edge: usize)
     ensures count { length counts.new.items ≡ length counts.old.items }
     ensures others { (e : ℕ) → e ≢ edge → slice_index_or counts.new.items e 0 ≡ slice_index_or counts.old.items e 0 }

@@ -6,12 +6,12 @@ mod counted_ends;
 mod driver;
 mod gate;
 mod outcome;
+mod over;
 mod pass;
 mod queries;
 mod rested;
 mod serial;
 mod theorems;
-mod visit;
 
 pub use config::{Config, Drive, MAX_CHUNK, MAX_IDLE_TURNS, MAX_SHARE, MAX_THREADS, Sharing};
 pub use driver::{DriveError, drive};

@@ -3,9 +3,9 @@ ghost use Rattle.std.specs.Prelude.{◌≡◌, ◌<◌, true, length, IfOk};
 ghost use Rattle.std.specs.List.{All};
 ghost use Rattle.flow_graph.specs.Graphs.{states_of, edges_of};
 ghost use Rattle.flow_graph.specs.Shapes.{KeepsShape};
-ghost use Rattle.flow_drive.specs.Visits.{HasAllEnds, Visits};
+ghost use Rattle.flow_graph.specs.Visits.{HasAllEnds, Visits};
 
-use crate::visit::{is_over, visit};
+use crate::over::is_over;
 use flow_base::Transducer;
 use flow_edges::WholeEnds;
 use flow_graph::Graph;
@@ -39,7 +39,7 @@ pub fn pass_over<T: Transducer, E: WholeEnds>(
         over: false,
     };
     for &node in nodes {
-        if visit(graph, ends, node, chunk)? {
+        if graph.visit(ends, node, chunk)? {
             pass.moved = true;
         } else if is_over(graph, node) {
             pass.over = true;

@@ -2,7 +2,7 @@
 ghost use Rattle.std.specs.Prelude.{◌≡◌, length};
 ghost use Rattle.flow_edges.specs.Tables.{ends_of, capacity_of};
 ghost use Rattle.flow_graph.specs.Graphs.{states_of, edges_of};
-ghost use Rattle.flow_drive.specs.Visits.{HasAllEnds};
+ghost use Rattle.flow_graph.specs.Visits.{HasAllEnds};
 ghost use Rattle.flow_drive.specs.Drives.{IsSoundAt, RestsAt};
 
 use crate::counted_ends::CountedEnds;

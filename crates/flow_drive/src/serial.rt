@@ -5,11 +5,11 @@ ghost use Rattle.flow_edges.specs.Tables.{IsFresh};
 ghost use Rattle.flow_graph.specs.Networks.{state_at, AreOpened};
 ghost use Rattle.flow_graph.specs.Graphs.{states_of, edges_of};
 ghost use Rattle.flow_graph.specs.Shapes.{KeepsShape};
-ghost use Rattle.flow_drive.specs.Visits.{is_over};
+ghost use Rattle.flow_drive.specs.Over.{is_over};
 ghost use Rattle.flow_drive.specs.Drives.{EndsMaximalRun};
 
+use crate::over::is_over;
 use crate::pass::pass_over;
-use crate::visit::is_over;
 use flow_base::Transducer;
 use flow_edges::WholeEnds;
 use flow_graph::Graph;

@@ -42,6 +42,7 @@ impl Line {
     }
 
     /// Whether it holds fewer messages than it may.
+    #[inline(always)]
     pub fn room(&self) -> bool
         ensures { IsTrue result ↔ (0 < self.now.capacity - length self.now.queue.items) }
     {
@@ -49,6 +50,7 @@ impl Line {
     }
 
     /// Whether it holds a message.
+    #[inline(always)]
     pub fn ready(&self) -> bool
         ensures { IsTrue result ↔ (0 < length self.now.queue.items) }
     {
@@ -56,6 +58,7 @@ impl Line {
     }
 
     /// Puts a message behind all others, or gives it back.
+    #[inline(always)]
     #[tactic(auto, using(crate::proofs::Signals::signal_steps))]
     pub fn put(&mut self, message: Msg) -> Result<(), Refused>
         ensures capacity { self.new.capacity ≡ self.old.capacity }
@@ -80,17 +83,14 @@ impl Line {
         }
         let closes = message.is_end();
         let sent = self.sent.with(&message);
-        match self.queue.push_back(message) {
-            Ok(()) => {
-                self.closed = closes;
-                self.sent = sent;
-                Ok(())
-            }
-            Err(_) => unreachable!(),
-        }
+        self.queue.push_back_reserved(message);
+        self.closed = closes;
+        self.sent = sent;
+        Ok(())
     }
 
     /// Takes the oldest message.
+    #[inline(always)]
     pub fn take(&mut self) -> Option<Msg>
         ensures capacity { self.new.capacity ≡ self.old.capacity }
         ensures sent { self.new.sent.items ≡ self.old.sent.items }

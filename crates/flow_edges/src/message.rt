@@ -22,6 +22,7 @@ pub enum Kind {
 
 impl Kind {
     /// Whether the item is of this kind.
+    #[inline(always)]
     pub fn fits(self, item: &Item) -> bool
         ensures { result ≡ is_of self (cell_of item.now) }
     {
@@ -55,6 +56,7 @@ impl Item {
 
 impl Item {
     /// An item that carries the same. Only the copy of a vector takes memory, and is refused where there is none.
+    #[inline(always)]
     pub fn copy(&self, alloc: Global) -> Result<Item, AllocError>
         ensures ok { IfOk result (λ item. cell_of item ≡ cell_of self.now) }
         ensures scalar { is_of Kind.Vec (cell_of self.now) ≡ false → IsOk result }
@@ -77,6 +79,7 @@ pub enum Msg {
 
 impl Msg {
     /// Whether it is the end of the stream.
+    #[inline(always)]
     pub fn is_end(&self) -> bool
         ensures { result ≡ is_stop (signal_of self.now) }
     {

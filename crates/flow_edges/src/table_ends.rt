@@ -50,18 +50,22 @@ impl Ends for Table {
         edge < self.lines.len()
     }
 
+    #[inline(always)]
     fn room(&mut self, edge: usize) -> bool {
         self.lines[edge].room()
     }
 
+    #[inline(always)]
     fn ready(&mut self, edge: usize) -> bool {
         self.lines[edge].ready()
     }
 
+    #[inline(always)]
     fn put(&mut self, edge: usize, message: Msg) -> Result<(), Refused> {
         self.lines[edge].put(message)
     }
 
+    #[inline(always)]
     fn take(&mut self, edge: usize) -> Option<Msg> {
         self.lines[edge].take()
     }

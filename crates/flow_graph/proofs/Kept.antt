@@ -1,8 +1,7 @@
 -- What every graph keeps: with a node or an edge more, and after a step.
-use Rattle.std.proofs.Common.{◌≡◌, ℕ, ◌<◌, List, [], ◌∷◌, ◌++◌, length, get_or, map, Result, Ok, Err, OnOk, OnErr, IsOk, is_ok, if◌then◌else◌, ◌⊎◌, inl, inr, sym, ◌∙◌, ap, subst, arith}
+use Rattle.std.proofs.Common.{◌≡◌, ℕ, ◌<◌, List, [], ◌∷◌, ◌++◌, length, get_or, map, Result, Ok, Err, IsOk, is_ok, if◌then◌else◌, ◌⊎◌, inl, inr, sym, ◌∙◌, ap, subst, arith}
 use Rattle.std.proofs.lemmas.Bool.{cases_eq}
 use Rattle.std.proofs.lemmas.List.{get_or-map, get_or_append_left, get_or_push, length_push, length-map, map-append}
-use Rattle.std.proofs.lemmas.List.Elements.{All-push}
 use Rattle.flow_edges.specs.declared.message.Kind.{Kind}
 use Rattle.flow_edges.specs.declared.message.Kind.TheVariants.{Unit as UnitKind}
 use Rattle.flow_base.specs.Transducers.{Behaviour}
@@ -12,7 +11,7 @@ use Rattle.flow_graph.specs.declared.wiring.Ports.{Ports}
 use Rattle.flow_graph.specs.Edges.{edge_at}
 use Rattle.flow_graph.specs.Tables.{ins, outs, row_at, count_at, IsWiring, IsFull}
 use Rattle.flow_graph.specs.Networks.{inputs_at, outputs_at, kind_from, kind_to, MayJoin, IsJoined}
-use Rattle.flow_graph.specs.Kept.{IsReached, IsKept}
+use Rattle.flow_graph.specs.Kept.{IsKept}
 use Rattle.flow_graph.proofs.Tables.{row_inside, node_inside}
 
 -- the items at both ends of the edge are of one kind
@@ -59,11 +58,10 @@ module _ {S : Type 0} (b : Behaviour S) (states : List S) (ports : List Ports) (
       let port : edge.reader_port < length (row_at (ins ports) edge.reader) = row_inside (ins ports) edge.reader edge.reader_port e (wired.ins.stands e l) in
       omega (arith, node_inside (ins ports) edge.reader edge.reader_port port, length-map ports (λ (n : Ports). n.inputs.items), nodes_are)
 
-  pub kept_node : IsWiring ports edges → (s : S) (after : List Ports) → b.opening s ≡ s → map length (ins after) ≡ map length (ins ports) ++ b.inputs s ∷ [] → map length (outs after) ≡ map length (outs ports) ++ b.outputs s ∷ [] → length states < most_nodes → IsKept b (states ++ s ∷ []) after edges
-  kept_node wired s after opened i o few = record {
+  pub kept_node : IsWiring ports edges → (s : S) (after : List Ports) → map length (ins after) ≡ map length (ins ports) ++ b.inputs s ∷ [] → map length (outs after) ≡ map length (outs ports) ++ b.outputs s ∷ [] → length states < most_nodes → IsKept b (states ++ s ∷ []) after edges
+  kept_node wired s after i o few = record {
     inputs = i ∙ ap (λ (l : List ℕ). l ++ b.inputs s ∷ []) kept.inputs ∙ sym (map-append b.inputs states (s ∷ []));
     outputs = o ∙ ap (λ (l : List ℕ). l ++ b.outputs s ∷ []) kept.outputs ∙ sym (map-append b.outputs states (s ∷ []));
-    reached = All-push (IsReached b) states s kept.reached ∣ ([], opened) ∣₁;
     kinds = λ e l.
         let reader : (edge_at edges e).reader < length states = reader_there wired e l in
         kind_more (λ x. b.kind_out x (edge_at edges e).writer_port) (edge_at edges e).writer (omega (arith, wired.forward e l))
@@ -81,7 +79,6 @@ module _ {S : Type 0} (b : Behaviour S) (states : List S) (ports : List Ports) (
   kept_edge x after may i o few = record {
     inputs = i ∙ kept.inputs;
     outputs = o ∙ kept.outputs;
-    reached = kept.reached;
     kinds = λ e l. go e l (cases_eq e (length edges));
     few_nodes = kept.few_nodes;
     few_edges = omega (arith, length_push edges x);
@@ -92,11 +89,3 @@ module _ {S : Type 0} (b : Behaviour S) (states : List S) (ports : List Ports) (
       go e l (inr ne) =
           let old : e < length edges = omega (arith, length_push edges x) in
           subst (HasOneKind b states) (sym (get_or_append_left edges (x ∷ []) _ e old)) (kept.kinds e old)
-
-  pub kept_same : (after : List Ports) → map length (ins after) ≡ map length (ins ports) → map length (outs after) ≡ map length (outs ports) → IsKept b states after edges
-  kept_same after i o = record { inputs = i ∙ kept.inputs; outputs = o ∙ kept.outputs; reached = kept.reached; kinds = kept.kinds; few_nodes = kept.few_nodes; few_edges = kept.few_edges }
-
--- a call that adds an edge, or is refused
-pub added_or_not : {X Y E : Type 0} (r : Result Y E) (before after : List X) (x : X) → OnOk r (after ≡ before ++ x ∷ []) → OnErr r (after ≡ before) → (after ≡ before ++ x ∷ []) ⊎ (after ≡ before)
-added_or_not (Ok y) before after x ok err = inl ok
-added_or_not (Err e) before after x ok err = inr err

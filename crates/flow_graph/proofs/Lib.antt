@@ -3,10 +3,14 @@ pub mod Wirings
 pub mod KindTests
 pub mod Kept
 pub mod Reached
+pub mod Seats
 pub mod Nets
 pub mod Looks
 pub mod Turns
+pub mod Carried
+pub mod Visits
 pub mod NodeEnds
 pub mod Shapes
+pub mod Layouts
 pub mod Flows
 pub mod Replacements

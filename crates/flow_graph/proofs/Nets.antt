@@ -44,6 +44,7 @@ module _ {S : Type 0} (b : Behaviour S) (states : List S) (ports : List Ports) (
         (joined.outputs k q m, wired.outs.of_node k q (out_edge edges k q) some, wired.outs.of_port k q (out_edge edges k q) some);
   }
 
+module _ {S : Type 0} (b : Behaviour S) (states : List S) (edges : List Edge) where
   pub lawful_net : BehaviourLaws b → AllLawful b.process (network_of b states edges)
   lawful_net laws k l =
       let s = state_at b states k in
@@ -56,10 +57,10 @@ module _ {S : Type 0} (b : Behaviour S) (states : List S) (ports : List Ports) (
 -- the same of a graph
 module _ {X : Type 0} {t : Ghosts X} (graph : Graph X t) where
   pub graph_wired : IsWired (network_of t.behaviour (states_of graph) (edges_of graph))
-  graph_wired = wired_net t.behaviour (states_of graph) graph.wiring.ports.items (edges_of graph) graph.wiring.wired graph.kept graph.joined
+  graph_wired = graph.built.wired
 
   pub graph_lawful : BehaviourLaws t.behaviour → AllLawful t.behaviour.process (network_of t.behaviour (states_of graph) (edges_of graph))
-  graph_lawful laws = lawful_net t.behaviour (states_of graph) graph.wiring.ports.items (edges_of graph) graph.wiring.wired graph.kept graph.joined laws
+  graph_lawful laws = lawful_net t.behaviour (states_of graph) (edges_of graph) laws
 
   pub graph_network : BehaviourLaws t.behaviour → IsNetwork t.behaviour (states_of graph) (edges_of graph)
   graph_network laws = record { wired = graph_wired; lawful = graph_lawful laws; settles = laws.settles; end = laws.end }

@@ -1,28 +1,36 @@
 -- The ends of the edges at the ports of one node.
-use Rattle.std.proofs.Common.{◌≡◌, ℕ, ◌<◌, true, List, length, get_or, arith}
-use Rattle.std.specs.Option.{ForSome}
+use Rattle.std.proofs.Common.{◌≡◌, ℕ, ◌<◌, true, List, length, get_or, sym, ◌∙◌, ap, arith}
 use Rattle.std.specs.List.{All}
+use Rattle.std.proofs.lemmas.List.{get_or_default}
 use Rattle.flow_edges.specs.Ends.{View}
 use Rattle.flow_base.specs.Transducers.{Behaviour}
+use Rattle.flow_base.specs.declared.transducer.Transducer.{Ghosts}
 use Rattle.flow_graph.specs.declared.edge.Edge.{Edge}
-use Rattle.flow_graph.specs.declared.wiring.Ports.{Ports}
-use Rattle.flow_graph.specs.Tables.{IsWiring}
-use Rattle.flow_graph.specs.Networks.{IsJoined, HasEnds}
-use Rattle.flow_graph.specs.Kept.{IsKept}
-use Rattle.flow_graph.proofs.Wirings.{input_side, output_side, from_ports, to_ports}
-use Rattle.flow_graph.proofs.Kept.{count_inputs, count_outputs, joined_is_full}
+use Rattle.flow_graph.specs.declared.placed.Placed.{Placed}
+use Rattle.flow_graph.specs.Edges.{in_edge, out_edge}
+use Rattle.flow_graph.specs.Networks.{inputs_at, outputs_at, IsJoined, HasEnds}
+use Rattle.flow_graph.specs.Visits.{HasAllEnds}
+use Rattle.flow_graph.specs.Places.{states_in, AreSeated}
+use Rattle.flow_graph.proofs.Seats.{inputs_here, outputs_here, input_here, output_here}
 
-module _ {S : Type 0} (b : Behaviour S) (states : List S) (ports : List Ports) (edges : List Edge) (wired : IsWiring ports edges) (kept : IsKept b states ports edges) (joined : IsJoined b states edges) (view : View) (k : ℕ) (x : Ports) (inside : k < length ports) (is : x ≡ get_or ports k x) where
-  pub ends_from : All (λ edge. ForSome edge (λ e. view.reads e ≡ true)) x.inputs.items → All (λ edge. ForSome edge (λ e. view.writes e ≡ true)) x.outputs.items → HasEnds b states edges k view
-  ends_from reads writes =
-      let full = joined_is_full b states ports edges kept joined in
-      record {
-        reads = λ p h. from_ports input_side ports edges wired.ins k x inside is (λ e. view.reads e ≡ true) (full.inputs k) reads p (omega (arith, count_inputs b states ports edges kept k));
-        writes = λ q h. from_ports output_side ports edges wired.outs k x inside is (λ e. view.writes e ≡ true) (full.outputs k) writes q (omega (arith, count_outputs b states ports edges kept k));
-      }
+-- where all ends are there, those of each node are
+pub all_node_ends : {S : Type 0} (b : Behaviour S) (states : List S) (edges : List Edge) (view : View) → IsJoined b states edges → HasAllEnds (length edges) view → (k : ℕ) → HasEnds b states edges k view
+all_node_ends b states edges view joined all k =
+    record { reads = λ p l. (all (in_edge edges k p) (joined.inputs k p l)).1; writes = λ q l. (all (out_edge edges k q) (joined.outputs k q l)).0 }
 
-  pub ends_reads : HasEnds b states edges k view → All (λ edge. ForSome edge (λ e. view.reads e ≡ true)) x.inputs.items
-  ends_reads ends = to_ports input_side ports edges wired.ins k x inside is (λ e. view.reads e ≡ true) (λ p h. ends.reads p (omega (arith, count_inputs b states ports edges kept k)))
+module _ {X : Type 0} {t : Ghosts X} (nodes : List (Placed X t)) (k : ℕ) (x : Placed X t) (inside : k < length nodes) (is : x ≡ get_or nodes k x) (edges : List Edge) (joined : IsJoined t.behaviour (states_in nodes) edges) (seated : AreSeated nodes edges) (view : View) where
+  pub ends_from : All (λ e. view.reads e ≡ true) x.inputs.items → All (λ e. view.writes e ≡ true) x.outputs.items → HasEnds t.behaviour (states_in nodes) edges k view
+  ends_from reads writes = record {
+    reads = λ p h. ap view.reads (sym (input_here nodes k x inside is edges joined seated p h)) ∙ reads p 0 (omega (arith, h, inputs_here nodes k x inside is));
+    writes = λ q h. ap view.writes (sym (output_here nodes k x inside is edges joined seated q h)) ∙ writes q 0 (omega (arith, h, outputs_here nodes k x inside is));
+  }
 
-  pub ends_writes : HasEnds b states edges k view → All (λ edge. ForSome edge (λ e. view.writes e ≡ true)) x.outputs.items
-  ends_writes ends = to_ports output_side ports edges wired.outs k x inside is (λ e. view.writes e ≡ true) (λ q h. ends.writes q (omega (arith, count_outputs b states ports edges kept k)))
+  pub ends_reads : HasEnds t.behaviour (states_in nodes) edges k view → All (λ e. view.reads e ≡ true) x.inputs.items
+  ends_reads ends p d l =
+      let port : p < inputs_at t.behaviour (states_in nodes) k = omega (arith, l, inputs_here nodes k x inside is) in
+      ap view.reads (get_or_default x.inputs.items p d 0 l ∙ input_here nodes k x inside is edges joined seated p port) ∙ ends.reads p port
+
+  pub ends_writes : HasEnds t.behaviour (states_in nodes) edges k view → All (λ e. view.writes e ≡ true) x.outputs.items
+  ends_writes ends q d l =
+      let port : q < outputs_at t.behaviour (states_in nodes) k = omega (arith, l, outputs_here nodes k x inside is) in
+      ap view.writes (get_or_default x.outputs.items q d 0 l ∙ output_here nodes k x inside is edges joined seated q port) ∙ ends.writes q port

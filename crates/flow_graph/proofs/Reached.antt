@@ -1,23 +1,22 @@
 -- Nodes one step further: what a graph keeps.
-use Rattle.std.proofs.Common.{◌≡◌, ℕ, zero, suc, ◌<◌, List, [], ◌∷◌, ◌++◌, length, get_or, set, map, Result, Ok, Err, OnOk, OnErr, IfOk, ◌⊎◌, inl, inr, refl, sym, ◌∙◌, ap, subst, arith, get_or-set_other, get_or-set_same}
-use Rattle.std.specs.List.{All}
+use Rattle.std.proofs.Common.{◌≡◌, ℕ, ◌<◌, List, [], ◌∷◌, ◌++◌, length, get_or, set, map, Result, Ok, Err, OnOk, OnErr, IfOk, ◌⊎◌, inl, inr, refl, sym, ◌∙◌, ap, subst, arith, get_or-set_other, get_or-set_same}
 use Rattle.std.proofs.lemmas.List.{get_or-map, map-set, set-get_or, length-map}
-use Rattle.std.proofs.lemmas.List.Elements.{All-get_or, All-set}
 use mathlib.Core.Logic.{∥∥₁_elim, ∥∥₁_map}
 use native.Mathlib.Bridge.{le_prop}
 use Rattle.kahn.specs.declared.want.Want.{Want}
 use Rattle.kahn.specs.declared.want.Want.TheVariants.{Read, Write, Ended, Faulted}
-use Rattle.kahn.specs.Processes.{Does, Reads, Writes, IsLawful}
+use Rattle.kahn.specs.Processes.{Event, Does, Reads, Writes, IsLawful}
+use Rattle.kahn.specs.Networks.{IsWired}
 use Rattle.kahn.proofs.History.{does_then}
 use Rattle.flow_edges.specs.Signals.{Signal}
 use Rattle.flow_edges.specs.declared.message.Kind.{Kind}
 use Rattle.flow_edges.specs.declared.message.Kind.TheVariants.{Unit as UnitKind}
 use Rattle.flow_base.specs.Transducers.{Behaviour, BehaviourLaws, IsWrite}
 use Rattle.flow_graph.specs.declared.edge.Edge.{Edge}
-use Rattle.flow_graph.specs.declared.wiring.Ports.{Ports}
 use Rattle.flow_graph.specs.Edges.{edge_at}
-use Rattle.flow_graph.specs.Networks.{state_at, inputs_at, outputs_at, SameBut, IsJoined, network_of}
-use Rattle.flow_graph.specs.Kept.{IsReached, IsKept}
+use Rattle.flow_graph.specs.Networks.{state_at, SameBut, IsJoined, network_of}
+use Rattle.flow_base.specs.Visits.{IsReached}
+use Rattle.flow_graph.specs.Kept.{IsBuilt}
 
 -- the state of one node, and the states of all
 pub state_read : {S T : Type 0} (state : T → S) (nodes : List T) (k : ℕ) (x : T) (d : S) → k < length nodes → x ≡ get_or nodes k x → state x ≡ get_or (map state nodes) k d
@@ -33,12 +32,6 @@ states_kept state nodes k x y l is same =
 
 pub state_written : {S : Type 0} (b : Behaviour S) (states states' : List S) (k : ℕ) (s : S) → k < length states → states' ≡ set states k s → state_at b states' k ≡ s
 state_written {S = S} b states states' k s l is = ap (λ (xs : List S). get_or xs k b.sample) is ∙ get_or-set_same states k s b.sample l
-
--- f goes through the list, also beyond its end
-map_get : {X Y : Type 0} (f : X → Y) (xs : List X) (k : ℕ) (d : X) → f (get_or xs k d) ≡ get_or (map f xs) k (f d)
-map_get f [] k d = refl
-map_get f (x ∷ xs) zero d = refl
-map_get f (x ∷ xs) (suc k) d = map_get f xs k d
 
 map_through : {X Y : Type 0} (f : X → Y) (h : X → X) (xs : List X) → ((x : X) → f (h x) ≡ f x) → map f (map h xs) ≡ map f xs
 map_through f h [] same = refl
@@ -81,19 +74,6 @@ module _ {S : Type 0} (b : Behaviour S) (laws : BehaviourLaws b) where
     pub same_length : length states' ≡ length states
     same_length = sym (length-map states' b.opening) ∙ ap length same ∙ length-map states b.opening
 
-    pub kept_openings : (ports : List Ports) (edges : List Edge) → IsKept b states ports edges → All (IsReached b) states' → IsKept b states' ports edges
-    kept_openings ports edges kept reached = record {
-      inputs = kept.inputs ∙ sym (stays b.inputs laws.same_inputs);
-      outputs = kept.outputs ∙ sym (stays b.outputs laws.same_outputs);
-      reached = reached;
-      kinds = λ e l.
-          ap (λ (ks : List Kind). get_or ks (edge_at edges e).writer UnitKind) (stays (λ s. b.kind_out s (edge_at edges e).writer_port) (λ s. laws.same_kinds_out s (edge_at edges e).writer_port))
-          ∙ kept.kinds e l
-          ∙ sym (ap (λ (ks : List Kind). get_or ks (edge_at edges e).reader UnitKind) (stays (λ s. b.kind_in s (edge_at edges e).reader_port) (λ s. laws.same_kinds_in s (edge_at edges e).reader_port)));
-      few_nodes = omega (arith, same_length, kept.few_nodes);
-      few_edges = kept.few_edges;
-    }
-
     pub joined_openings : (edges : List Edge) → IsJoined b states edges → IsJoined b states' edges
     joined_openings edges joined = record {
       inputs = λ k p h. joined.inputs k p (subst (λ (l : List ℕ). p < get_or l k 0) (stays b.inputs laws.same_inputs) h);
@@ -120,10 +100,19 @@ module _ {S : Type 0} (b : Behaviour S) (laws : BehaviourLaws b) where
       out_edge = (network_of b states edges).out_edge;
     })
 
-  -- the opening states after one node changed, which opened alike
-  pub openings_set : (states : List S) (k : ℕ) (s s' : S) → k < length states → s ≡ get_or states k s → b.opening s' ≡ b.opening s → map b.opening (set states k s') ≡ map b.opening states
-  openings_set states k s s' l is same =
-      map-set b.opening states k s' ∙ ap (set (map b.opening states) k) (same ∙ ap b.opening is ∙ map_get b.opening states k s) ∙ set-get_or (map b.opening states) k (b.opening s)
+    pub built_openings : (edges : List Edge) → IsBuilt b states edges → IsBuilt b states' edges
+    built_openings edges built = record {
+      wired = subst IsWired (sym (same_network edges edges refl)) built.wired;
+      joined = joined_openings edges built.joined;
+      limits = record {
+        kinds = λ e l.
+            ap (λ (ks : List Kind). get_or ks (edge_at edges e).writer UnitKind) (stays (λ s. b.kind_out s (edge_at edges e).writer_port) (λ s. laws.same_kinds_out s (edge_at edges e).writer_port))
+            ∙ built.limits.kinds e l
+            ∙ sym (ap (λ (ks : List Kind). get_or ks (edge_at edges e).reader UnitKind) (stays (λ s. b.kind_in s (edge_at edges e).reader_port) (λ s. laws.same_kinds_in s (edge_at edges e).reader_port)));
+        few_nodes = omega (arith, same_length, built.limits.few_nodes);
+        few_edges = built.limits.few_edges;
+      };
+    }
 
   -- The state s' opened as s did, and is reached where s is.
   pub record Follows (s s' : S) : Type 0 where
@@ -141,24 +130,24 @@ module _ {S : Type 0} (b : Behaviour S) (laws : BehaviourLaws b) where
   follows_wrote s s' q wants (inl is) = record { opening = opening_wrote s s' q wants is; reached = reached_wrote s s' q wants is }
   follows_wrote s s' q wants (inr is) = follows_same s s' is
 
-  module _ {T : Type 0} (state : T → S) (nodes : List T) (k : ℕ) (x y : T) (l : k < length nodes) (is : x ≡ get_or nodes k x) (follows : Follows (state x) (state y)) where
-    pub nodes_opening : map b.opening (map state (set nodes k y)) ≡ map b.opening (map state nodes)
-    nodes_opening =
-        ap (map b.opening) (states_set state nodes k y (state y) refl)
-        ∙ openings_set (map state nodes) k (state x) (state y) (omega (arith, length-map nodes state)) (state_read state nodes k x (state x) l is) follows.opening
+  -- so is one that made some steps
+  pub follows_does : (s s' : S) (h : List (Event Signal)) → Does b.process s h s' → Follows s s'
+  follows_does s s' [] same = follows_same s s' (sym same)
+  follows_does s s' (Reads p m ∷ h) (wants, rest) =
+      let one : Follows s (b.process.read s m) = follows_read s (b.process.read s m) p m wants (inl refl) in
+      let more : Follows (b.process.read s m) s' = follows_does (b.process.read s m) s' h rest in
+      record { opening = more.opening ∙ one.opening; reached = λ r. more.reached (one.reached r) }
+  follows_does s s' (Writes q m ∷ h) (wants, is, rest) =
+      let one : Follows s (b.process.wrote s) = follows_wrote s (b.process.wrote s) q wants (inl refl) in
+      let more : Follows (b.process.wrote s) s' = follows_does (b.process.wrote s) s' h rest in
+      record { opening = more.opening ∙ one.opening; reached = λ r. more.reached (one.reached r) }
 
-    pub nodes_reached : All (IsReached b) (map state nodes) → All (IsReached b) (map state (set nodes k y))
-    nodes_reached all =
-        let here : IsReached b (state x) = subst (IsReached b) (sym (state_read state nodes k x (state x) l is)) (All-get_or (IsReached b) (map state nodes) k (state x) (omega (arith, length-map nodes state)) all) in
-        subst (All (IsReached b)) (sym (states_set state nodes k y (state y) refl)) (All-set (IsReached b) (map state nodes) k (state y) (follows.reached here) all)
+  module _ (s s' : S) (follows : Follows s s') where
+    pub follows_inputs : (n : ℕ) → n ≡ b.inputs s → n ≡ b.inputs s'
+    follows_inputs n is = is ∙ sym (laws.same_inputs s) ∙ ap b.inputs (sym follows.opening) ∙ laws.same_inputs s'
 
-  pub wanted_in : (states : List S) (k p : ℕ) → k < length states → All (IsReached b) states → b.process.want (state_at b states k) ≡ Read p → p < inputs_at b states k
-  wanted_in states k p l all wants =
-      subst (λ n. p < n) (sym (get_or-map b.inputs states k b.sample 0 l)) (wants_input (state_at b states k) p wants (All-get_or (IsReached b) states k b.sample l all))
-
-  pub wanted_out : (states : List S) (k q : ℕ) → k < length states → All (IsReached b) states → b.process.want (state_at b states k) ≡ Write q → q < outputs_at b states k
-  wanted_out states k q l all wants =
-      subst (λ n. q < n) (sym (get_or-map b.outputs states k b.sample 0 l)) (wants_output (state_at b states k) q wants (All-get_or (IsReached b) states k b.sample l all))
+    pub follows_outputs : (n : ℕ) → n ≡ b.outputs s → n ≡ b.outputs s'
+    follows_outputs n is = is ∙ sym (laws.same_outputs s) ∙ ap b.outputs (sym follows.opening) ∙ laws.same_outputs s'
 
 -- a node that writes wants some port
 pub writes_port : (w : Want) → IsWrite w → (q : ℕ) × (w ≡ Write q)

@@ -3,7 +3,6 @@ use Rattle.std.proofs.Common.{◌≡◌, ℕ, zero, suc, ◌<◌, ◌≤◌, ◌
 use Rattle.std.proofs.lemmas.Bool.{cases_eq, cases_lt}
 use Rattle.std.proofs.lemmas.List.{get_or-map, map-set, set-get_or, get_or_append_left, get_or_push, length_push, length-map, length-replicate, get_or-replicate, get_or_past, map-append, get_or_default}
 use Rattle.std.specs.List.{All, position_or_len}
-use Rattle.std.specs.Option.{ForSome}
 use Rattle.std.proofs.lemmas.List.Elements.{All-map}
 use Rattle.flow_graph.specs.declared.edge.Edge.{Edge}
 use Rattle.flow_graph.specs.declared.wiring.Ports.{Ports}
@@ -160,25 +159,6 @@ module _ (side : Side) (ports : List Ports) (edges : List Edge) (is : IsTableOf 
           λ t. let h = test.0 t in (omega (arith, count, h.0), omega (arith, number_none side.node side.port (map side.of ports) edges is k p (sym (node_entry p) ∙ h.1))),
           λ free. test.1 (omega (arith, count, free.0), node_entry p ∙ entry_none side.node side.port (map side.of ports) edges is k p free.1),
         )
-
-    -- a port of the node with its edge
-    pub taken_some : (p : ℕ) → number k p < length edges → get_or (side.of x) p None ≡ Some (number k p)
-    taken_some p taken = node_entry p ∙ table_some k p taken
-
-    pub taken_there : (row : List (Option ℕ)) (p : ℕ) → row ≡ side.of x → p < count_at (map side.of ports) k → number k p < length edges → (p < length row) × IsSome (get_or row p None)
-    taken_there row p same port taken =
-        (omega (arith, ap length same, port, count_is side.of ports k x inside here), is_some_of (get_or row p None) (number k p) (ap (λ (r : List (Option ℕ)). get_or r p None) same ∙ taken_some p taken))
-
-    pub taken_is : (row : List (Option ℕ)) (p e : ℕ) → row ≡ side.of x → number k p < length edges → get_or row p None ≡ Some e → e ≡ number k p
-    taken_is row p e same taken read = let is_e : Some e ≡ Some (number k p) = sym read ∙ ap (λ (r : List (Option ℕ)). get_or r p None) same ∙ taken_some p taken in cc
-
-    -- what holds of the edge at each port of the node
-    pub from_ports : (P : ℕ → Type 0) → ((p : ℕ) → p < count_at (map side.of ports) k → number k p < length edges) → All (λ edge. ForSome edge P) (side.of x) → (p : ℕ) → p < count_at (map side.of ports) k → P (number k p)
-    from_ports P taken all p h = all p None (omega (arith, count_is side.of ports k x inside here)) (number k p) (taken_some p (taken p h))
-
-    pub to_ports : (P : ℕ → Type 0) → ((p : ℕ) → p < count_at (map side.of ports) k → P (number k p)) → All (λ edge. ForSome edge P) (side.of x)
-    to_ports P all p d within e some =
-        subst P (some_table k p e (sym (node_entry p) ∙ get_or_default (side.of x) p None d within ∙ some)).0 (all p (omega (arith, count_is side.of ports k x inside here)))
 
 -- all ports of all nodes
 module _ (ports : List Ports) (edges : List Edge) (wired : IsWiring ports edges) where

@@ -2,12 +2,15 @@ pub mod Edges
 pub mod Tables
 pub mod Networks
 pub mod Limits
+pub mod Places
+pub mod Laws
 pub mod Kept
 pub mod Graphs
+pub mod Layouts
 pub mod Steps
 pub mod Shapes
 pub mod Turns
-pub mod Laws
+pub mod Visits
 pub mod Flows
 pub mod FlowTheorems
 pub mod Replacements

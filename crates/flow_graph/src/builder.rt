@@ -7,6 +7,7 @@ ghost use Rattle.flow_graph.specs.Graphs.{states_of, edges_of, states_so_far, ed
 
 use crate::edge::{Edge, MAX_EDGES, MAX_NODES};
 use crate::graph::{Graph, GraphBuilder};
+use crate::placed::Placed;
 use crate::wiring::Wiring;
 use flow_base::Transducer;
 use snesl_values::Refusal;
@@ -45,8 +46,9 @@ impl<T: Transducer + Drop> GraphBuilder<T> {
         }
         self.nodes.reserve(1)?;
         let (inputs, outputs) = (node.inputs(), node.outputs());
+        let placed = Placed::new(self.alloc, number, node)?;
         self.wiring.add_node(self.alloc, inputs, outputs)?;
-        match self.nodes.push(node) {
+        match self.nodes.push(placed) {
             Ok(()) => Ok(number),
             Err(_) => unreachable!(),
         }
@@ -78,8 +80,9 @@ impl<T: Transducer + Drop> GraphBuilder<T> {
         {
             return false;
         }
-        self.nodes[edge.writer].kind_out(edge.writer_port)
-            == self.nodes[edge.reader].kind_in(edge.reader_port)
+        let from = &self.nodes[edge.writer].node;
+        let to = &self.nodes[edge.reader].node;
+        from.kind_out(edge.writer_port) == to.kind_in(edge.reader_port)
     }
 
     /// Adds an edge behind all others. Its number is how many there were.
@@ -100,6 +103,8 @@ impl<T: Transducer + Drop> GraphBuilder<T> {
             return Err(Refusal::TooBig);
         }
         self.wiring.add_edge(edge)?;
+        self.nodes[edge.writer].set_output(edge.writer_port, number);
+        self.nodes[edge.reader].set_input(edge.reader_port, number);
         Ok(number)
     }
 
@@ -116,9 +121,10 @@ impl<T: Transducer + Drop> GraphBuilder<T> {
         ensures nodes { states_of result ≡ states_so_far self }
         ensures edges { edges_of result ≡ edges_so_far self }
     {
+        let wiring = self.wiring;
         Graph {
             nodes: self.nodes,
-            wiring: self.wiring,
+            edges: wiring.edges,
         }
     }
 }

@@ -1,6 +1,5 @@
 // The parts of a graph.
 ghost use Rattle.std.specs.Prelude.{◌≡◌, ◌<◌, ◌↔◌, true, length, IsTrue};
-ghost use Rattle.std.specs.Option.{ForSome};
 ghost use Rattle.std.specs.List.{All};
 ghost use Rattle.flow_graph.specs.Edges.{edge_at};
 ghost use Rattle.flow_graph.specs.Networks.{state_at, HasEnds};
@@ -23,7 +22,7 @@ impl<T: Transducer> Graph<T> {
     pub fn edges(&self) -> usize
         ensures { result ≡ length (edges_of self.now) }
     {
-        self.wiring.edges.len()
+        self.edges.len()
     }
 
     /// The edge of this number.
@@ -31,7 +30,7 @@ impl<T: Transducer> Graph<T> {
         requires { number < length (edges_of self.now) }
         ensures { result ≡ edge_at (edges_of self.now) number }
     {
-        self.wiring.edges[number]
+        self.edges[number]
     }
 
     /// The node of this number.
@@ -39,7 +38,7 @@ impl<T: Transducer> Graph<T> {
         requires { number < length (states_of self.now) }
         ensures { T.state result.now ≡ state_at T.behaviour (states_of self.now) number }
     {
-        &self.nodes[number]
+        &self.nodes[number].node
     }
 
     /// Whether the ends are there of all edges of the node.
@@ -47,34 +46,30 @@ impl<T: Transducer> Graph<T> {
         requires { node < length (states_of self.now) }
         ensures { IsTrue result ↔ HasEnds T.behaviour (states_of self.now) (edges_of self.now) node (E.view ends.now) }
     {
-        let ports = &self.wiring.ports[node];
-        has_readers(ends, &ports.inputs) && has_writers(ends, &ports.outputs)
+        let placed = &self.nodes[node];
+        has_readers(ends, &placed.inputs) && has_writers(ends, &placed.outputs)
     }
 }
 
 /// Whether the readers' ends are there of these edges.
-fn has_readers<E: Ends>(ends: &E, edges: &[Option<usize>]) -> bool
-    ensures { IsTrue result ↔ All (λ edge. ForSome edge (λ e. (E.view ends.now).reads e ≡ true)) edges.now }
+fn has_readers<E: Ends>(ends: &E, edges: &[usize]) -> bool
+    ensures { IsTrue result ↔ All (λ e. (E.view ends.now).reads e ≡ true) edges.now }
 {
-    for edge in edges {
-        if let Some(edge) = edge {
-            if !ends.has_reader(*edge) {
-                return false;
-            }
+    for &edge in edges {
+        if !ends.has_reader(edge) {
+            return false;
         }
     }
     true
 }
 
 /// Whether the writers' ends are there of these edges.
-fn has_writers<E: Ends>(ends: &E, edges: &[Option<usize>]) -> bool
-    ensures { IsTrue result ↔ All (λ edge. ForSome edge (λ e. (E.view ends.now).writes e ≡ true)) edges.now }
+fn has_writers<E: Ends>(ends: &E, edges: &[usize]) -> bool
+    ensures { IsTrue result ↔ All (λ e. (E.view ends.now).writes e ≡ true) edges.now }
 {
-    for edge in edges {
-        if let Some(edge) = edge {
-            if !ends.has_writer(*edge) {
-                return false;
-            }
+    for &edge in edges {
+        if !ends.has_writer(edge) {
+            return false;
         }
     }
     true

@@ -16,6 +16,6 @@ impl<T: Transducer + Drop> Graph<T> {
         ensures edges { edges_of self.new ≡ edges_of self.old }
         ensures opened { AreOpened T.behaviour (states_of self.old) → AreOpened T.behaviour (states_of self.new) }
     {
-        self.nodes[number] = node;
+        self.nodes[number].replace(node);
     }
 }

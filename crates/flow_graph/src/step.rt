@@ -30,7 +30,7 @@ impl<T: Transducer> Graph<T> {
         requires { node < length (states_of self.now) }
         ensures { result ≡ T.behaviour.process.want (state_at T.behaviour (states_of self.now) node) }
     {
-        self.nodes[node].want()
+        self.nodes[node].node.want()
     }
 
     /// The edge at the input port that the node wants to read.
@@ -40,7 +40,7 @@ impl<T: Transducer> Graph<T> {
         ensures port { port < inputs_at T.behaviour (states_of self.now) node }
         ensures edge { result ≡ in_edge (edges_of self.now) node port }
     {
-        self.wiring.input(node, port)
+        self.nodes[node].inputs[port]
     }
 
     /// The edge at the output port that the node wants to write.
@@ -50,7 +50,7 @@ impl<T: Transducer> Graph<T> {
         ensures port { port < outputs_at T.behaviour (states_of self.now) node }
         ensures edge { result ≡ out_edge (edges_of self.now) node port }
     {
-        self.wiring.output(node, port)
+        self.nodes[node].outputs[port]
     }
 
     /// Gives the node the message that it wanted to read.

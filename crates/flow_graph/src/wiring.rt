@@ -1,7 +1,7 @@
 // How nodes are joined.
 ghost use Rattle.std.specs.Prelude.{◌≡◌, ℕ, ◌<◌, ◌≤◌, ◌++◌, ◌∷◌, [], ◌↔◌, IsTrue, IsSome, IfOk, OnOk, OnErr, Some, None, length, map, replicate, slice_index_or, slice_set};
 ghost use Rattle.std.specs.List.{All};
-ghost use Rattle.flow_graph.specs.Edges.{in_edge, out_edge, IsTakenIn, IsTakenOut};
+ghost use Rattle.flow_graph.specs.Edges.{in_edge, out_edge};
 ghost use Rattle.flow_graph.specs.Tables.{ins, outs, count_at, IsWiring, HasAllEdges, IsFull};
 
 use crate::edge::Edge;
@@ -118,24 +118,6 @@ impl Wiring {
     {
         all_complete(&self.ports)
     }
-
-    /// The edge at this input port.
-    pub fn input(&self, node: usize, port: usize) -> usize
-        requires port { port < count_at (ins self.now.ports.items) node }
-        requires taken { IsTakenIn self.now.edges.items node port }
-        ensures { result ≡ in_edge self.now.edges.items node port }
-    {
-        edge_of(&self.ports[node].inputs, port)
-    }
-
-    /// The edge at this output port.
-    pub fn output(&self, node: usize, port: usize) -> usize
-        requires port { port < count_at (outs self.now.ports.items) node }
-        requires taken { IsTakenOut self.now.edges.items node port }
-        ensures { result ≡ out_edge self.now.edges.items node port }
-    {
-        edge_of(&self.ports[node].outputs, port)
-    }
 }
 
 /// Whether each port of each of these nodes has its edge.
@@ -162,18 +144,6 @@ fn is_free(ports: &[Option<usize>], port: usize) -> bool
     ensures { IsTrue result ↔ ((port < length ports.now) × (slice_index_or ports.now port None ≡ None)) }
 {
     port < ports.len() && ports[port].is_none()
-}
-
-/// The edge at this port.
-fn edge_of(ports: &[Option<usize>], port: usize) -> usize
-    requires inside { port < length ports.now }
-    requires taken { IsSome (slice_index_or ports.now port None) }
-    ensures { slice_index_or ports.now port None ≡ Some result }
-{
-    match ports[port] {
-        Some(edge) => edge,
-        None => unreachable!(),
-    }
 }
 
 /// So many ports with no edges.

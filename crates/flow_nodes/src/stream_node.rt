@@ -4,7 +4,7 @@ ghost use Rattle.std.specs.Prelude.{◌≡◌};
 ghost use Rattle.flow_nodes.specs.StreamNodes.{node_behaviour, state_of};
 
 use flow_base::{Node, Printing, Transducer};
-use flow_edges::{Kind, Msg};
+use flow_edges::{Ends, Kind, Msg};
 use flow_scalar::{
     Binary, Const, Fork, Iota, Length, Reduce, ScanAdd, Sink, Source, Unary, UnitsOf,
 };
@@ -121,6 +121,17 @@ impl Transducer for StreamNode {
 
     fn emit(&mut self) -> Result<Msg, AllocError> {
         with_node!(self, node => node.emit())
+    }
+
+    #[inline(always)]
+    fn run<E: Ends>(
+        &mut self,
+        inputs: &[usize],
+        outputs: &[usize],
+        ends: &mut E,
+        chunk: usize,
+    ) -> Result<bool, AllocError> {
+        with_node!(self, node => node.run(inputs, outputs, ends, chunk))
     }
 }
 

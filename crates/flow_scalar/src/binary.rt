@@ -64,6 +64,7 @@ impl Worker for Binary {
 
     ghost laws = { binary_laws };
 
+    #[inline(always)]
     fn ask(&self) -> Ask {
         match self.progress {
             Progress::Start => Ask::Begin,
@@ -88,6 +89,7 @@ impl Worker for Binary {
         kind_of(self.operator.result())
     }
 
+    #[inline(always)]
     fn take(&mut self, item: Item) -> Result<(), Stop> {
         let operand = operand_of(self.operator.operand(), &item)?;
         self.progress = match self.progress {
@@ -100,6 +102,7 @@ impl Worker for Binary {
         Ok(())
     }
 
+    #[inline(always)]
     fn give(&mut self) -> Result<Item, AllocError> {
         match self.progress {
             Progress::Value(value) => {

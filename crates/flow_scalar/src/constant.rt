@@ -45,6 +45,7 @@ impl Worker for Const {
 
     ghost laws = { const_laws };
 
+    #[inline(always)]
     fn ask(&self) -> Ask {
         if self.due { Ask::Give(0) } else { Ask::Begin }
     }
@@ -65,6 +66,7 @@ impl Worker for Const {
         kind_of(self.scalar.scalar_type())
     }
 
+    #[inline(always)]
     fn take(&mut self, item: Item) -> Result<(), Stop> {
         match item {
             Item::Unit => {
@@ -75,6 +77,7 @@ impl Worker for Const {
         }
     }
 
+    #[inline(always)]
     fn give(&mut self) -> Result<Item, AllocError> {
         self.due = false;
         Ok(item_of(self.scalar))

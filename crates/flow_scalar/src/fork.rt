@@ -58,6 +58,7 @@ impl Worker for Fork {
 
     ghost laws = { fork_laws };
 
+    #[inline(always)]
     fn ask(&self) -> Ask {
         match self.held {
             None => Ask::Begin,
@@ -81,6 +82,7 @@ impl Worker for Fork {
         self.kind
     }
 
+    #[inline(always)]
     fn take(&mut self, item: Item) -> Result<(), Stop> {
         if !self.kind.fits(&item) {
             return Err(Stop::Faulted(FaultKind::Shape));
@@ -90,6 +92,7 @@ impl Worker for Fork {
         Ok(())
     }
 
+    #[inline(always)]
     fn give(&mut self) -> Result<Item, AllocError> {
         if self.next + 1 < self.outputs {
             let copy = match &self.held {

@@ -56,6 +56,7 @@ impl Worker for Iota {
 
     ghost laws = { iota_laws };
 
+    #[inline(always)]
     fn ask(&self) -> Ask {
         match self {
             Iota::Between => Ask::Begin,
@@ -80,6 +81,7 @@ impl Worker for Iota {
         if port == 0 { Kind::Bool } else { Kind::Int }
     }
 
+    #[inline(always)]
     fn take(&mut self, item: Item) -> Result<(), Stop> {
         match item {
             Item::Int(end) => {
@@ -93,6 +95,7 @@ impl Worker for Iota {
         }
     }
 
+    #[inline(always)]
     fn give(&mut self) -> Result<Item, AllocError> {
         match *self {
             Iota::Flag { next, end } => {

@@ -9,6 +9,7 @@ use snesl_operators::{Scalar, ScalarType};
 use snesl_values::FaultKind;
 
 /// The scalar of this type that the item carries. `Shape` where it carries none.
+#[inline(always)]
 pub fn operand_of(scalar_type: ScalarType, item: &Item) -> Result<Scalar, FaultKind>
     ensures { result ≡ operand_in scalar_type (cell_of item.now) }
 {

@@ -44,6 +44,7 @@ impl Stage {
     ghost use Rattle.flow_scalar.specs.ReduceMachine.{at_flag, reduce_move};
 
     // Where the item leads that comes as a flag, after elements that reduce to what is so far.
+    #[inline(always)]
     fn at_flag(so_far: Option<Scalar>, item: &Item) -> Result<Stage, FaultKind>
         ensures { result ≡ taken (at_flag so_far) (cell_of item.now) }
     {
@@ -55,6 +56,7 @@ impl Stage {
     }
 
     // Where the item leads.
+    #[inline(always)]
     #[tactic(auto, using(crate::specs::laws::Reduce::element_is))]
     fn next(self, dialect: Dialect, reduction: Reduction, item: &Item) -> Result<Stage, FaultKind>
         ensures { result ≡ given_of (reduce_move dialect reduction self) (cell_of item.now) }
@@ -101,6 +103,7 @@ impl Worker for Reduce {
 
     ghost laws = { reduce_laws };
 
+    #[inline(always)]
     fn ask(&self) -> Ask {
         match self.stage {
             Stage::Start => Ask::Begin,
@@ -130,11 +133,13 @@ impl Worker for Reduce {
         kind_of(self.reduction.scalar_type())
     }
 
+    #[inline(always)]
     fn take(&mut self, item: Item) -> Result<(), Stop> {
         self.stage = self.stage.next(self.dialect, self.reduction, &item)?;
         Ok(())
     }
 
+    #[inline(always)]
     fn give(&mut self) -> Result<Item, AllocError> {
         match self.stage {
             Stage::Value(value) => {

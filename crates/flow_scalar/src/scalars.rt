@@ -18,6 +18,7 @@ pub fn kind_of(scalar_type: ScalarType) -> Kind
 }
 
 /// The scalar that the item carries. `None` where it carries none.
+#[inline(always)]
 pub fn scalar_of(item: &Item) -> Option<Scalar>
     ensures { result ≡ scalar_in (cell_of item.now) }
 {

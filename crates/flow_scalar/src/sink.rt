@@ -40,6 +40,7 @@ impl Worker for Sink {
 
     ghost laws = { sink_laws };
 
+    #[inline(always)]
     fn ask(&self) -> Ask {
         Ask::Begin
     }
@@ -60,6 +61,7 @@ impl Worker for Sink {
         self.kind
     }
 
+    #[inline(always)]
     fn take(&mut self, item: Item) -> Result<(), Stop> {
         if !self.kind.fits(&item) {
             return Err(Stop::Faulted(FaultKind::Shape));

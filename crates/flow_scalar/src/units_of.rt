@@ -42,6 +42,7 @@ impl Worker for UnitsOf {
 
     ghost laws = { units_of_laws };
 
+    #[inline(always)]
     fn ask(&self) -> Ask {
         if self.due { Ask::Give(0) } else { Ask::Begin }
     }
@@ -62,6 +63,7 @@ impl Worker for UnitsOf {
         Kind::Unit
     }
 
+    #[inline(always)]
     fn take(&mut self, item: Item) -> Result<(), Stop> {
         match item {
             Item::Bool(ends) => {
@@ -72,6 +74,7 @@ impl Worker for UnitsOf {
         }
     }
 
+    #[inline(always)]
     fn give(&mut self) -> Result<Item, AllocError> {
         self.due = false;
         Ok(Item::Unit)

@@ -15,5 +15,7 @@ pub mod Held
 pub mod Parts
 pub mod Rounds
 pub mod Shares
+pub mod Histories
+pub mod AllHistories
 pub mod NamedFaults
 pub mod Outcomes

@@ -12,3 +12,4 @@ pub mod RunTheorems
 pub mod RestTheorems
 pub mod TrafficTheorems
 pub mod ShareTheorems
+pub mod HistoryTheorems

@@ -95,6 +95,7 @@ impl BinaryOperator {
 
     /// The value at these operands. `Divide` where the divisor is 0, `Overflow` where the value does not lie in the range,
     /// `Shape` for operands of another type.
+    #[inline(always)]
     pub fn apply(self, dialect: Dialect, left: Scalar, right: Scalar) -> Result<Scalar, FaultKind>
         ensures { result ≡ binary_value dialect self left right }
     {
@@ -105,6 +106,7 @@ impl BinaryOperator {
         }
     }
 
+    #[inline(always)]
     fn of_integers(self, dialect: Dialect, m: i128, n: i128) -> Result<Scalar, FaultKind>
         ensures { result ≡ binary_value dialect self (Int m) (Int n) }
     {

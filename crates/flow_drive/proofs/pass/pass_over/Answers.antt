@@ -4,7 +4,7 @@ use Rattle.std.proofs.Math.Seq.{take-suc}
 use Rattle.flow_graph.specs.Graphs.{states_of, edges_of}
 use Rattle.flow_graph.proofs.Nets.{graph_wired}
 use Rattle.flow_graph.proofs.Shapes.{shape_then}
-use Rattle.flow_drive.specs.Visits.{Visits}
+use Rattle.flow_graph.specs.Visits.{Visits}
 use Rattle.flow_drive.proofs.Visits.{or_moved, or_calm}
 use Rattle.flow_drive.proofs.Graphs.{visits_push}
 use Rattle.flow_drive.proofs.pass.pass_over.Goals as goal
@@ -12,7 +12,7 @@ use Rattle.flow_drive.proofs.pass.pass_over.Goals.{then-branch, else-branch+then
 
 pub returns-in_err-visit-clause-shape : goal.returns-in_err-visit-clause-shape
 returns-in_err-visit-clause-shape g c =
-    shape_then g.E.Ends.same g.E.Ends.view g.met.E.Ends.same_trans c.args.graph.now c.args.ends.now c.loop-node.graph c.loop-node.ends c.visit.new.graph c.visit.new.ends c.loop-node.invariant.shape c.visit.ensures.shape
+    shape_then g.E.Ends.same g.E.Ends.view g.met.E.Ends.same_trans c.args.graph.now c.args.ends.now c.loop-node.graph c.loop-node.ends c.visit.new.self c.visit.new.ends c.loop-node.invariant.shape c.visit.ensures.shape
 
 pub loop-node-preserved : goal.loop-node-preserved
 loop-node-preserved g c =
@@ -24,7 +24,7 @@ loop-node-preserved g c =
     let states' = states_of c.loop-node.graph in
     let edges' = edges_of c.loop-node.graph in
     let view' = g.E.Ends.view c.loop-node.ends in
-    let states'' = states_of c.visit.new.graph in
+    let states'' = states_of c.visit.new.self in
     let view'' = g.E.Ends.view c.visit.new.ends in
     let i = c.loop-node.node-index in
     let nodes = c.args.nodes.now in
@@ -45,7 +45,7 @@ loop-node-preserved g c =
       | else-branch+else-is_over w ↦ or_calm c.loop-node.pass.moved one now w.if-branch.false (ap (λ p. p.moved) w.pass-is)
     ] in
     record {
-      shape = shape_then g.E.Ends.same g.E.Ends.view g.met.E.Ends.same_trans c.args.graph.now c.args.ends.now c.loop-node.graph c.loop-node.ends c.visit.new.graph c.visit.new.ends c.loop-node.invariant.shape c.visit.ensures.shape;
+      shape = shape_then g.E.Ends.same g.E.Ends.view g.met.E.Ends.same_trans c.args.graph.now c.args.ends.now c.loop-node.graph c.loop-node.ends c.visit.new.self c.visit.new.ends c.loop-node.invariant.shape c.visit.ensures.shape;
       visits = visits now is;
       some = λ h. omega arith;
     }

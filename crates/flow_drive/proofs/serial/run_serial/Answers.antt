@@ -1,7 +1,7 @@
 use Rattle.std.proofs.Common.{◌≡◌, inl, Bool, true, false, not, length, refl, arith}
 use Rattle.flow_graph.specs.Graphs.{states_of, edges_of}
 use Rattle.flow_graph.proofs.Shapes.{shape_refl, shape_then}
-use Rattle.flow_drive.specs.Visits.{Visits}
+use Rattle.flow_graph.specs.Visits.{Visits}
 use Rattle.flow_drive.proofs.Passes.{reached_first, pass_reached, pass_ends, pass_others, pass_falls}
 use Rattle.flow_drive.proofs.serial.run_serial.Goals as goal
 

@@ -1,6 +1,5 @@
-use Rattle.std.proofs.Common.{◌≡◌, ◌<◌, ℕ, true, Option, slice_index_or}
-use Rattle.std.specs.Option.{ForSome}
+use Rattle.std.proofs.Common.{◌≡◌, ◌<◌, ℕ, true, slice_index_or}
 use Rattle.flow_graph.proofs.parts.has_writers.Given as goal
 
 abbrev pub invariant-loop-edge : goal.invariant-loop-edge
-invariant-loop-edge g l = (k : ℕ) (d : Option ℕ) → k < l.edge-index → ForSome (slice_index_or l.edges k d) (λ e. (g.E.Ends.view l.ends).writes e ≡ true)
+invariant-loop-edge g l = (k d : ℕ) → k < l.edge-index → (g.E.Ends.view l.ends).writes (slice_index_or l.edges k d) ≡ true

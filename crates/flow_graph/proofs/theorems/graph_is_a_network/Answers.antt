@@ -6,5 +6,5 @@ returns g c =
     let graph = c.args.graph.now in
     record {
       network = graph_network graph g.met.T.Transducer.laws;
-      limits = record { kinds = graph.kept.kinds; few_nodes = graph.kept.few_nodes; few_edges = graph.kept.few_edges };
+      limits = graph.built.limits;
     }

@@ -1,5 +1,4 @@
 use Rattle.flow_graph.specs.Graphs.{states_of, edges_of}
-use Rattle.flow_graph.specs.Laws.{IsWithinLimits}
 use Rattle.flow_graph.proofs.Nets.{graph_network}
 use Rattle.flow_layout.proofs.PlansOfFlows.{flow_is_plan}
 use Rattle.flow_layout.proofs.FlowsOfPlans.{plan_is_flow}
@@ -13,5 +12,4 @@ returns g c =
     let states = states_of graph in
     let edges = edges_of graph in
     let net = graph_network graph laws in
-    let limits : IsWithinLimits b states edges = record { kinds = graph.kept.kinds; few_nodes = graph.kept.few_nodes; few_edges = graph.kept.few_edges } in
-    record { forth = plan_is_flow b laws states edges net limits; back = flow_is_plan b laws states edges net limits }
+    record { forth = plan_is_flow b laws states edges net graph.built.limits; back = flow_is_plan b laws states edges net graph.built.limits }

@@ -3,4 +3,4 @@ use Rattle.flow_edges.proofs.line.Line.put.Goals as goal
 
 pub invariant_of-self-clause-fifo : goal.invariant_of-self-clause-fifo
 invariant_of-self-clause-fifo c =
-    fifo-put _ c.args.self.now.queue.items _ _ _ c.args.message c.args.self.now.fifo c.in-Ok.ensures.items c.with-sent.ensures
+    fifo-put _ c.args.self.now.queue.items _ _ _ c.args.message c.args.self.now.fifo c.push_back_reserved.ensures.items c.with-sent.ensures

@@ -1,34 +1,52 @@
-use Rattle.std.proofs.Common.{◌≡◌, map, set, sym, subst}
-use Rattle.std.proofs.lemmas.List.{map-set}
+use Rattle.std.proofs.Common.{◌≡◌, ◌<◌, length, set, sym, ◌∙◌, ap, subst, arith}
+use Rattle.std.proofs.lemmas.List.{length-map}
 use Rattle.flow_graph.specs.Graphs.{states_of, edges_of}
-use Rattle.flow_graph.specs.Networks.{AreOpened, IsJoined}
-use Rattle.flow_graph.specs.Kept.{IsKept}
-use Rattle.flow_graph.proofs.Nets.{graph_wired}
-use Rattle.flow_graph.proofs.Replacements.{kept_replaced, joined_replaced, opened_replaced}
+use Rattle.flow_graph.specs.Networks.{AreOpened}
+use Rattle.flow_graph.specs.Places.{placed_state, states_in}
+use Rattle.flow_graph.specs.Kept.{IsBuilt}
+use Rattle.flow_graph.proofs.Reached.{states_set}
+use Rattle.flow_graph.proofs.Replacements.{built_replaced, opened_replaced}
+use Rattle.flow_graph.proofs.Seats.{inputs_here, outputs_here, seated_same}
 use Rattle.flow_graph.proofs.graph.Graph.replace.Goals as goal
+
+pub replace-requires-clause-inputs : goal.replace-requires-clause-inputs
+replace-requires-clause-inputs g c =
+    let nodes = c.args.self.now.nodes.items in
+    let x = c.index_mut.result.now in
+    let l : c.args.number < length nodes = omega (arith, c.requires.node, length-map nodes placed_state) in
+    c.requires.inputs ∙ sym (inputs_here nodes c.args.number x l c.index_mut.ensures.value) ∙ x.each_input
+
+pub replace-requires-clause-outputs : goal.replace-requires-clause-outputs
+replace-requires-clause-outputs g c =
+    let nodes = c.args.self.now.nodes.items in
+    let x = c.index_mut.result.now in
+    let l : c.args.number < length nodes = omega (arith, c.requires.node, length-map nodes placed_state) in
+    c.requires.outputs ∙ sym (outputs_here nodes c.args.number x l c.index_mut.ensures.value) ∙ x.each_output
 
 pub invariant_of-self : goal.invariant_of-self
 invariant_of-self g c =
     let b = g.T.Transducer.behaviour in
-    let state = g.T.Transducer.state in
     let graph = c.args.self.now in
-    let s = state c.args.node in
+    let nodes = graph.nodes.items in
     let k = c.args.number in
-    let states = states_of graph in
-    let ports = graph.wiring.ports.items in
-    let edges = edges_of graph in
-    let net = graph_wired graph in
-    let is : map state (set graph.nodes.items k c.args.node) ≡ set states k s = map-set state graph.nodes.items k c.args.node in
+    let s = g.T.Transducer.state c.args.node in
+    let x = c.index_mut.result.now in
+    let y = c.replace.new.self in
+    let l : k < length nodes = omega (arith, c.requires.node, length-map nodes placed_state) in
+    let is : states_in (set nodes k y) ≡ set (states_of graph) k s = states_set placed_state nodes k y s (ap g.T.Transducer.state c.replace.ensures.node) in
     record {
-      kept = subst (λ l. IsKept b l ports edges) (sym is) (kept_replaced b states k s c.requires ports edges graph.kept net.writer_out net.reader_in);
-      joined = subst (λ l. IsJoined b l edges) (sym is) (joined_replaced b states k s c.requires edges graph.joined);
+      built = subst (λ l. IsBuilt b l (edges_of graph)) (sym is) (built_replaced b (states_of graph) k s c.requires (edges_of graph) graph.built);
+      seated = seated_same nodes k x l c.index_mut.ensures.value y c.replace.ensures.number c.replace.ensures.inputs c.replace.ensures.outputs (edges_of graph) graph.seated;
     }
 
 pub returns-clause-nodes : goal.returns-clause-nodes
-returns-clause-nodes g c = map-set g.T.Transducer.state c.args.self.now.nodes.items c.args.number c.args.node
+returns-clause-nodes g c = states_set placed_state c.args.self.now.nodes.items c.args.number c.replace.new.self _ (ap g.T.Transducer.state c.replace.ensures.node)
 
 pub returns-clause-opened : goal.returns-clause-opened
 returns-clause-opened g c all =
-    let state = g.T.Transducer.state in
+    let b = g.T.Transducer.behaviour in
     let graph = c.args.self.now in
-    subst (AreOpened g.T.Transducer.behaviour) (sym (map-set state graph.nodes.items c.args.number c.args.node)) (opened_replaced g.T.Transducer.behaviour (states_of graph) c.args.number (state c.args.node) c.requires all)
+    let k = c.args.number in
+    let s = g.T.Transducer.state c.args.node in
+    let is : states_in (set graph.nodes.items k c.replace.new.self) ≡ set (states_of graph) k s = states_set placed_state graph.nodes.items k c.replace.new.self s (ap g.T.Transducer.state c.replace.ensures.node) in
+    subst (AreOpened b) (sym is) (opened_replaced b (states_of graph) k s c.requires all)

@@ -1,23 +1,33 @@
-use Rattle.std.proofs.Common.{map, arith}
-use Rattle.flow_graph.proofs.Kept.{count_inputs}
-use Rattle.flow_graph.proofs.Reached.{wanted_in}
+use Rattle.std.proofs.Common.{◌<◌, length, ◌∙◌, ap, arith}
+use Rattle.std.proofs.lemmas.List.{length-map, get_or_default}
+use Rattle.flow_graph.specs.Places.{placed_state, states_in}
+use Rattle.flow_graph.specs.Networks.{inputs_at}
+use Rattle.flow_graph.proofs.Reached.{wants_input}
+use Rattle.flow_graph.proofs.Seats.{state_here, inputs_here, input_here}
 use Rattle.flow_graph.proofs.graph.Graph.wanted_input.Goals as goal
 
-pub input-requires-clause-port : goal.input-requires-clause-port
-input-requires-clause-port g c =
-    let graph = c.args.self.now in
+pub index-requires-2 : goal.index-requires-2
+index-requires-2 g c =
     let b = g.T.Transducer.behaviour in
-    let states = map g.T.Transducer.state graph.nodes.items in
-    omega (arith, wanted_in b g.met.T.Transducer.laws states c.args.node c.args.port c.requires.inside graph.kept.reached c.requires.wants, count_inputs b states graph.wiring.ports.items graph.wiring.edges.items graph.kept c.args.node)
-
-pub input-requires-clause-taken : goal.input-requires-clause-taken
-input-requires-clause-taken g c =
-    let graph = c.args.self.now in
-    let b = g.T.Transducer.behaviour in
-    let states = map g.T.Transducer.state graph.nodes.items in
-    graph.joined.inputs c.args.node c.args.port (wanted_in b g.met.T.Transducer.laws states c.args.node c.args.port c.requires.inside graph.kept.reached c.requires.wants)
+    let nodes = c.args.self.now.nodes.items in
+    let x = c.index.result.now in
+    let l : c.args.node < length nodes = omega (arith, c.requires.inside, length-map nodes placed_state) in
+    omega (arith, wants_input b g.met.T.Transducer.laws (placed_state x) c.args.port (ap b.process.want (state_here nodes c.args.node x l c.index.ensures) ∙ c.requires.wants) x.reached, x.each_input, x.inputs.ok.0)
 
 pub returns-clause-port : goal.returns-clause-port
 returns-clause-port g c =
+    let b = g.T.Transducer.behaviour in
+    let nodes = c.args.self.now.nodes.items in
+    let x = c.index.result.now in
+    let l : c.args.node < length nodes = omega (arith, c.requires.inside, length-map nodes placed_state) in
+    omega (arith, wants_input b g.met.T.Transducer.laws (placed_state x) c.args.port (ap b.process.want (state_here nodes c.args.node x l c.index.ensures) ∙ c.requires.wants) x.reached, x.each_input, inputs_here nodes c.args.node x l c.index.ensures)
+
+pub returns-clause-edge : goal.returns-clause-edge
+returns-clause-edge g c =
+    let b = g.T.Transducer.behaviour in
     let graph = c.args.self.now in
-    wanted_in g.T.Transducer.behaviour g.met.T.Transducer.laws (map g.T.Transducer.state graph.nodes.items) c.args.node c.args.port c.requires.inside graph.kept.reached c.requires.wants
+    let nodes = graph.nodes.items in
+    let x = c.index.result.now in
+    let l : c.args.node < length nodes = omega (arith, c.requires.inside, length-map nodes placed_state) in
+    let port : c.args.port < inputs_at b (states_in nodes) c.args.node = omega (arith, wants_input b g.met.T.Transducer.laws (placed_state x) c.args.port (ap b.process.want (state_here nodes c.args.node x l c.index.ensures) ∙ c.requires.wants) x.reached, x.each_input, inputs_here nodes c.args.node x l c.index.ensures) in
+    c.index-2.ensures ∙ get_or_default x.inputs.items c.args.port c.index-2.result.now 0 (omega (arith, port, inputs_here nodes c.args.node x l c.index.ensures)) ∙ input_here nodes c.args.node x l c.index.ensures graph.edges.items graph.built.joined graph.seated c.args.port port

@@ -1,4 +1,4 @@
-use Rattle.std.proofs.Common.{map}
+use Rattle.flow_graph.specs.Places.{states_in}
 use Rattle.flow_graph.proofs.Kept.{full_is_joined, joined_is_full}
 use Rattle.flow_graph.proofs.graph.GraphBuilder.complete.Goals as goal
 
@@ -6,7 +6,7 @@ pub returns : goal.returns
 returns g c =
     let builder = c.args.self.now in
     let b = g.T.Transducer.behaviour in
-    let states = map g.T.Transducer.state builder.nodes.items in
+    let states = states_in builder.nodes.items in
     let answer = c.is_complete.ensures in (
       λ t. full_is_joined b states builder.wiring.ports.items builder.wiring.edges.items builder.kept (answer.0 t),
       λ joined. answer.1 (joined_is_full b states builder.wiring.ports.items builder.wiring.edges.items builder.kept joined),

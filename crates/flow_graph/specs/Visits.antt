@@ -1,8 +1,6 @@
 -- What the visits of some nodes make of a network: each makes some steps, or none where it can make none.
 use Rattle.std.specs.Prelude.{◌≡◌, ℕ, ◌<◌, Bool, true, false, List, Option, Some}
 use Rattle.std.specs.List.{Contains}
-use Rattle.kahn.specs.declared.want.Want.{Want}
-use Rattle.kahn.specs.declared.want.Want.TheVariants.{Read, Write, Ended, Faulted}
 use Rattle.kahn.specs.Processes.{Process, Event}
 use Rattle.kahn.specs.Networks.{Network, actor}
 use Rattle.kahn.specs.Configurations.{Configuration, moved, IsSound}
@@ -11,13 +9,6 @@ use Rattle.flow_edges.specs.Ends.{View}
 use Rattle.flow_base.specs.Transducers.{Behaviour}
 use Rattle.flow_graph.specs.declared.edge.Edge.{Edge}
 use Rattle.flow_graph.specs.Networks.{network_of, configuration_of}
-
--- whether a node that wants this makes no step again
-abbrev pub is_over : Want → Bool
-is_over Ended = true
-is_over (Faulted fault) = true
-is_over (Read p) = false
-is_over (Write q) = false
 
 -- From c to d each of these nodes was visited, and `any` says whether one of them made a step.
 pub record IsVisited {State Message : Type 0} (P : Process State Message) (net : Network State) (limit : Option ℕ) (nodes : List ℕ) (c d : Configuration State Message) (any : Bool) : Type 0 where

@@ -1,0 +1,39 @@
+-- A state that was reached stays so with one step more, and wants only ports that there are.
+use Rattle.std.proofs.Common.{◌≡◌, ℕ, ◌<◌, List, [], ◌∷◌, ◌++◌, refl, sym, ◌∙◌, ap, subst}
+use mathlib.Core.Logic.{∥∥₁_elim, ∥∥₁_map}
+use native.Mathlib.Bridge.{le_prop}
+use Rattle.kahn.specs.declared.want.Want.TheVariants.{Read, Write}
+use Rattle.kahn.specs.Processes.{Reads, Writes, Does, IsLawful}
+use Rattle.kahn.proofs.History.{does_then}
+use Rattle.flow_edges.specs.Signals.{Signal}
+use Rattle.flow_base.specs.Transducers.{Behaviour, BehaviourLaws}
+use Rattle.flow_base.specs.Visits.{IsReached}
+
+module _ {S : Type 0} (b : Behaviour S) (laws : BehaviourLaws b) where
+  pub opening_read : (s s' : S) (p : ℕ) (m : Signal) → b.process.want s ≡ Read p → s' ≡ b.process.read s m → b.opening s' ≡ b.opening s
+  opening_read s s' p m wants is = ap b.opening is ∙ laws.read_opening s p m wants
+
+  pub opening_wrote : (s s' : S) (q : ℕ) → b.process.want s ≡ Write q → s' ≡ b.process.wrote s → b.opening s' ≡ b.opening s
+  opening_wrote s s' q wants is = ap b.opening is ∙ laws.wrote_opening s q wants
+
+  pub reached_read : (s s' : S) (p : ℕ) (m : Signal) → b.process.want s ≡ Read p → s' ≡ b.process.read s m → IsReached b s → IsReached b s'
+  reached_read s s' p m wants is reached = ∥∥₁_map reached (λ (h, does). (
+    h ++ Reads p m ∷ [],
+    subst (λ o. Does b.process o (h ++ Reads p m ∷ []) s') (sym (opening_read s s' p m wants is)) (does_then b.process (b.opening s) s s' h (Reads p m ∷ []) does (wants, sym is)),
+  ))
+
+  pub reached_wrote : (s s' : S) (q : ℕ) → b.process.want s ≡ Write q → s' ≡ b.process.wrote s → IsReached b s → IsReached b s'
+  reached_wrote s s' q wants is reached = ∥∥₁_map reached (λ (h, does). (
+    h ++ Writes q (b.process.written s) ∷ [],
+    subst (λ o. Does b.process o (h ++ Writes q (b.process.written s) ∷ []) s') (sym (opening_wrote s s' q wants is)) (does_then b.process (b.opening s) s s' h (Writes q (b.process.written s) ∷ []) does (wants, refl, sym is)),
+  ))
+
+  lawful_at : (s : S) → IsLawful b.process (b.opening s) (b.inputs (b.opening s)) (b.outputs (b.opening s))
+  lawful_at s = (laws.opened (b.opening s) (laws.same_opening s)).lawful
+
+  -- a node wants only ports that it has
+  pub wants_input : (s : S) (p : ℕ) → b.process.want s ≡ Read p → IsReached b s → p < b.inputs s
+  wants_input s p wants reached = subst (λ n. p < n) (laws.same_inputs s) (∥∥₁_elim reached (λ x y. le_prop x y) (λ (h, does). (lawful_at s).in_port h s p does wants))
+
+  pub wants_output : (s : S) (q : ℕ) → b.process.want s ≡ Write q → IsReached b s → q < b.outputs s
+  wants_output s q wants reached = subst (λ n. q < n) (laws.same_outputs s) (∥∥₁_elim reached (λ x y. le_prop x y) (λ (h, does). (lawful_at s).out_port h s q does wants))
