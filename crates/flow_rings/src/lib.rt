@@ -16,17 +16,22 @@
 //!   are exactly what was put.
 //! - [`EdgeWriter::finish`] gives up the writer for a mark. With it the reader learns in
 //!   [`EdgeReader::after`] how many messages are left for it.
+//! - [`Rings`] owns the ends that a share of a network has, each at the number of its edge.
 //!
-//! No call waits for the other end, and none takes memory but [`edge`]. The ends are those of a ring
+//! No call waits for the other end, and none takes memory but [`edge`] and [`Rings::none`]. The ends are those of a ring
 //! of the crate `rtrb`.
 #![tactic(auto)]
 
 mod making;
 mod reader;
 mod ring;
+mod rings;
+#[cfg(test)]
+mod tests;
 mod theorems;
 mod writer;
 
 pub use making::{edge, meet};
 pub use ring::{Closing, EdgeReader, EdgeWriter, FinishedMark, Held};
-pub use theorems::{all_was_received, same_ends_are_an_edge};
+pub use rings::Rings;
+pub use theorems::{all_was_received, rings_stay_joined, same_ends_are_an_edge};

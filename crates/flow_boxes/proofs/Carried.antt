@@ -1,0 +1,40 @@
+-- The two boxes of an edge, after a carrying.
+use Rattle.std.proofs.Common.{◌≡◌, ℕ, ◌+◌, ◌<◌, ◌≤◌, true, List, [], ◌∷◌, ◌++◌, length, drop, refl, ap, sym, ◌∙◌, get_or, set, arith, append_assoc, append-nil}
+use Rattle.std.proofs.Math.Seq.{drop-append_seam}
+use Rattle.flow_edges.specs.declared.message.Msg.{Msg}
+use Rattle.flow_edges.specs.Signals.{Signal, signals, signal_of}
+use Rattle.flow_edges.specs.TableLaws.{signals-length}
+use Rattle.flow_edges.proofs.Signals.{signals-nil, signals-cons}
+use Rattle.flow_edges.specs.Ends.{held}
+use Rattle.flow_boxes.specs.Contents.{Contents}
+use Rattle.flow_boxes.specs.Rounds.{IsLinked, IsCarried}
+
+pub signals-append : (ms ns : List Msg) → signals (ms ++ ns) ≡ signals ms ++ signals ns
+unfolding signals
+signals-append [] ns = refl
+signals-append (m ∷ ms) ns = ap (λ (l : List Signal). signal_of m ∷ l) (signals-append ms ns)
+
+module _ (w r w' r' : Contents) (e : ℕ) (linked : IsLinked w r e)
+    (sent : w'.ends.sent e ≡ w.ends.sent e) (received : r'.ends.received e ≡ r.ends.received e) (coming : r'.ends.coming e ≡ r.ends.coming e ++ w.leaving e)
+    (emptied : w'.leaving e ≡ []) (room : w'.ends.room e + held r'.ends e ≡ w'.capacity) where
+  all_arrived : r'.ends.received e ++ r'.ends.coming e ≡ w'.ends.sent e
+  all_arrived =
+      ap (λ (x : List Signal). x ++ r'.ends.coming e) received ∙ ap (λ (x : List Signal). r.ends.received e ++ x) coming
+      ∙ sym (append_assoc (r.ends.received e) (r.ends.coming e) (w.leaving e)) ∙ linked.in_order ∙ sym sent
+
+  pub is-carried : IsCarried w' r' e
+  is-carried = record {
+    arrived = all_arrived;
+    coming = sym (ap (drop (length (r'.ends.received e))) (sym all_arrived) ∙ drop-append_seam (r'.ends.received e) (r'.ends.coming e));
+    leaving = emptied;
+    room = room;
+  }
+
+  pub stays-linked : w'.ends.writes e ≡ true → r'.ends.reads e ≡ true → r'.capacity ≡ w'.capacity → IsLinked w' r' e
+  stays-linked writes reads capacity = record {
+    writes = writes;
+    reads = reads;
+    capacity = capacity;
+    in_order = ap (λ (x : List Signal). (r'.ends.received e ++ r'.ends.coming e) ++ x) emptied ∙ append-nil (r'.ends.received e ++ r'.ends.coming e) ∙ all_arrived;
+    bound = omega (arith, room, ap length emptied);
+  }

@@ -1,0 +1,238 @@
+-- One box of a share, and the others.
+use Rattle.std.proofs.Common.{◌≡◌, ◌≢◌, ℕ, zero, suc, ◌+◌, ◌<◌, ◌≤◌, true, false, List, [], ◌∷◌, ◌++◌, length, refl, ap, sym, ◌∙◌, get_or, set, arith, length-set, length-append, append-nil, append_assoc, ◌⊎◌, inl, inr}
+use Rattle.std.proofs.lemmas.Bool.{cases_eq}
+use Rattle.std.specs.Prelude.{Option, Some, None}
+use Rattle.flow_edges.specs.declared.message.Msg.{Msg}
+use Rattle.flow_edges.specs.Signals.{Signal, signals, signal_of}
+use Rattle.flow_edges.specs.Tables.{at_line}
+use Rattle.flow_edges.specs.Ends.{View, held, SameEnds, SameTraffic, LookedForRoom, LookedForMessages, Put, Taken}
+use Rattle.flow_edges.specs.TableLaws.{signals-length}
+use Rattle.flow_edges.proofs.Signals.{signals-nil, signals-cons, signals-snoc}
+use Rattle.flow_edges.proofs.Tables.{at_line-here, at_line-same, at_line-other, at_line-kept}
+use Rattle.flow_boxes.specs.declared.outbox.Outbox.{Outbox}
+use Rattle.flow_boxes.specs.declared.inbox.Inbox.{Inbox}
+use Rattle.flow_boxes.specs.Contents.{Contents, contents_of, sent_in, leaving_in, room_in, writes_in, received_in, coming_in, reads_in}
+use Rattle.flow_boxes.specs.Rounds.{SameBoxes, KeepsRound, GrowAlike, OthersSame}
+use Rattle.flow_boxes.specs.RoundLaws.{keeps_refl}
+
+-- a fact at e and at all others holds at every edge
+pub everywhere : (P : ℕ → Type 0) (e : ℕ) → P e → ((k : ℕ) → k ≢ e → P k) → (k : ℕ) → P k
+everywhere P e here others k = by_cases (cases_eq k e) where
+  by_cases : (k ≡ e) ⊎ (k ≡ e → ⊥) → P k
+  by_cases (inl at) = rw at here
+  by_cases (inr ne) = others k ne
+
+-- where a box is there, its number is below the count
+pub writer-below : (os : List (Option Outbox)) (e : ℕ) → at_line writes_in os e false ≡ true → e < length os
+writer-below [] e h = cc
+writer-below (o ∷ os) zero h = omega arith
+writer-below (o ∷ os) (suc e) h = omega (arith, writer-below os e h)
+
+pub reader-below : (is : List (Option Inbox)) (e : ℕ) → at_line reads_in is e false ≡ true → e < length is
+reader-below [] e h = cc
+reader-below (i ∷ is) zero h = omega arith
+reader-below (i ∷ is) (suc e) h = omega (arith, reader-below is e h)
+
+grow_none : (s q s' q' : List Signal) → s' ≡ s → q' ≡ q → GrowAlike s q s' q'
+grow_none s q s' q' i j = ([], i ∙ sym (append-nil s), j ∙ sym (append-nil q))
+
+module _ (capacity : ℕ) (os : List (Option Outbox)) (is : List (Option Inbox)) (e : ℕ) (old : Option Outbox) (o n : Outbox) (h : e < length os) (at : old ≡ get_or os e old) (was : old ≡ Some o) where
+  abbrev before : Contents
+  before = contents_of capacity os is
+
+  abbrev after : Contents
+  after = contents_of capacity (set os e (Some n)) is
+
+  pub writer_boxes : SameBoxes before after
+  writer_boxes = record {
+    ends = record { writes = at_line-kept writes_in os e false old (Some n) h at (sym (ap writes_in was)); reads = λ k. refl };
+    count = length-set os e (Some n);
+    capacity = refl;
+  }
+
+  pub had_sent : before.ends.sent e ≡ signals o.sent.items
+  had_sent = at_line-here sent_in os e [] old h at ∙ ap sent_in was
+
+  pub had_leaving : before.leaving e ≡ signals o.queue.items
+  had_leaving = at_line-here leaving_in os e [] old h at ∙ ap leaving_in was
+
+  pub had_room : before.ends.room e ≡ o.room
+  had_room = at_line-here room_in os e 0 old h at ∙ ap room_in was
+
+  pub has_sent : after.ends.sent e ≡ signals n.sent.items
+  has_sent = at_line-same sent_in os e [] (Some n) h
+
+  pub has_leaving : after.leaving e ≡ signals n.queue.items
+  has_leaving = at_line-same leaving_in os e [] (Some n) h
+
+  pub has_room : after.ends.room e ≡ n.room
+  has_room = at_line-same room_in os e 0 (Some n) h
+
+  pub writer_others : OthersSame e before after
+  writer_others = record {
+    writes = λ k ne. writer_boxes.ends.writes k;
+    reads = λ k ne. refl;
+    sent = at_line-other sent_in os e [] (Some n);
+    received = λ k ne. refl;
+    coming = λ k ne. refl;
+    room = at_line-other room_in os e 0 (Some n);
+    leaving = at_line-other leaving_in os e [] (Some n);
+    count = writer_boxes.count;
+    capacity = refl;
+  }
+
+  module _ (m : Msg) (sent : n.sent.items ≡ o.sent.items ++ m ∷ []) (queue : n.queue.items ≡ o.queue.items ++ m ∷ []) (room : n.room + 1 ≡ o.room) where
+    sent_one : after.ends.sent e ≡ before.ends.sent e ++ signal_of m ∷ []
+    sent_one = has_sent ∙ ap signals sent ∙ signals-snoc o.sent.items m ∙ ap (λ (x : List Signal). x ++ signal_of m ∷ []) (sym had_sent)
+
+    leaving_one : after.leaving e ≡ before.leaving e ++ signal_of m ∷ []
+    leaving_one = has_leaving ∙ ap signals queue ∙ signals-snoc o.queue.items m ∙ ap (λ (x : List Signal). x ++ signal_of m ∷ []) (sym had_leaving)
+
+    pub writer-put : Put before.ends e (signal_of m) after.ends
+    writer-put = record {
+      ends = writer_boxes.ends;
+      sent = sent_one;
+      others = writer_others.sent;
+      received = λ k. refl;
+      coming = λ k ne. refl;
+      coming_here = ([], append-nil (before.ends.coming e));
+      room = writer_others.room;
+      room_here = omega (arith, had_room, has_room);
+    }
+
+    pub put-keeps : KeepsRound before after
+    put-keeps = record {
+      boxes = writer_boxes;
+      arrived = λ k. refl;
+      received = λ k. omega arith;
+      sent = everywhere (λ k. GrowAlike (before.ends.sent k) (before.leaving k) (after.ends.sent k) (after.leaving k)) e
+          (signal_of m ∷ [], sent_one, leaving_one)
+          (λ k ne. grow_none _ _ _ _ (writer_others.sent k ne) (writer_others.leaving k ne));
+      places = everywhere (λ k. length (before.ends.sent k) + before.ends.room k ≡ length (after.ends.sent k) + after.ends.room k) e
+          (let longer = ap length sent_one ∙ length-append (before.ends.sent e) (signal_of m ∷ []) in omega (arith, longer, had_room, has_room))
+          (λ k ne. omega (arith, ap length (writer_others.sent k ne), writer_others.room k ne));
+    }
+
+  module _ (sent : n.sent.items ≡ o.sent.items) (queue : n.queue.items ≡ o.queue.items) (room : n.room ≡ o.room) where
+    all_sent : (k : ℕ) → after.ends.sent k ≡ before.ends.sent k
+    all_sent = everywhere (λ k. after.ends.sent k ≡ before.ends.sent k) e (has_sent ∙ ap signals sent ∙ sym had_sent) writer_others.sent
+
+    all_leaving : (k : ℕ) → after.leaving k ≡ before.leaving k
+    all_leaving = everywhere (λ k. after.leaving k ≡ before.leaving k) e (has_leaving ∙ ap signals queue ∙ sym had_leaving) writer_others.leaving
+
+    all_room : (k : ℕ) → after.ends.room k ≡ before.ends.room k
+    all_room = everywhere (λ k. after.ends.room k ≡ before.ends.room k) e (has_room ∙ room ∙ sym had_room) writer_others.room
+
+    pub writer-kept : LookedForRoom before.ends e after.ends
+    writer-kept = record {
+      ends = writer_boxes.ends;
+      traffic = record { sent = all_sent; received = λ k. refl };
+      coming = λ k. refl;
+      room = writer_others.room;
+      more = omega (arith, all_room e);
+    }
+
+    pub refused-keeps : KeepsRound before after
+    refused-keeps = record {
+      boxes = writer_boxes;
+      arrived = λ k. refl;
+      received = λ k. omega arith;
+      sent = λ k. grow_none _ _ _ _ (all_sent k) (all_leaving k);
+      places = λ k. omega (arith, ap length (all_sent k), all_room k);
+    }
+
+module _ (capacity : ℕ) (os : List (Option Outbox)) (is : List (Option Inbox)) (e : ℕ) (old : Option Inbox) (i n : Inbox) (h : e < length is) (at : old ≡ get_or is e old) (was : old ≡ Some i) where
+  abbrev from : Contents
+  from = contents_of capacity os is
+
+  abbrev till : Contents
+  till = contents_of capacity os (set is e (Some n))
+
+  pub reader_boxes : SameBoxes from till
+  reader_boxes = record {
+    ends = record { reads = at_line-kept reads_in is e false old (Some n) h at (sym (ap reads_in was)); writes = λ k. refl };
+    count = refl;
+    capacity = refl;
+  }
+
+  pub had_received : from.ends.received e ≡ signals i.received.items
+  had_received = at_line-here received_in is e [] old h at ∙ ap received_in was
+
+  pub had_coming : from.ends.coming e ≡ signals i.queue.items
+  had_coming = at_line-here coming_in is e [] old h at ∙ ap coming_in was
+
+  pub has_received : till.ends.received e ≡ signals n.received.items
+  has_received = at_line-same received_in is e [] (Some n) h
+
+  pub has_coming : till.ends.coming e ≡ signals n.queue.items
+  has_coming = at_line-same coming_in is e [] (Some n) h
+
+  pub reader_others : OthersSame e from till
+  reader_others = record {
+    writes = λ k ne. refl;
+    reads = λ k ne. reader_boxes.ends.reads k;
+    sent = λ k ne. refl;
+    received = at_line-other received_in is e [] (Some n);
+    coming = at_line-other coming_in is e [] (Some n);
+    room = λ k ne. refl;
+    leaving = λ k ne. refl;
+    count = refl;
+    capacity = refl;
+  }
+
+  pub all_received : n.received.items ≡ i.received.items → (k : ℕ) → till.ends.received k ≡ from.ends.received k
+  all_received same = everywhere (λ k. till.ends.received k ≡ from.ends.received k) e (has_received ∙ ap signals same ∙ sym had_received) reader_others.received
+
+  module _ (m : Msg) (received : n.received.items ≡ i.received.items ++ m ∷ []) (queue : i.queue.items ≡ m ∷ n.queue.items) where
+    received_one : till.ends.received e ≡ from.ends.received e ++ signal_of m ∷ []
+    received_one = has_received ∙ ap signals received ∙ signals-snoc i.received.items m ∙ ap (λ (x : List Signal). x ++ signal_of m ∷ []) (sym had_received)
+
+    coming_one : from.ends.coming e ≡ signal_of m ∷ till.ends.coming e
+    coming_one = had_coming ∙ ap signals queue ∙ signals-cons m n.queue.items ∙ ap (λ (x : List Signal). signal_of m ∷ x) (sym has_coming)
+
+    pub reader-taken : Taken from.ends e (signal_of m) till.ends
+    reader-taken = record {
+      ends = reader_boxes.ends;
+      received = received_one;
+      others = reader_others.received;
+      sent = λ k. refl;
+      room = λ k ne. refl;
+      room_here = omega arith;
+      coming = reader_others.coming;
+      coming_here = ([], append-nil (from.ends.coming e) ∙ coming_one);
+    }
+
+    pub take-keeps : KeepsRound from till
+    take-keeps = record {
+      boxes = reader_boxes;
+      arrived = everywhere (λ k. from.ends.received k ++ from.ends.coming k ≡ till.ends.received k ++ till.ends.coming k) e
+          (ap (λ (x : List Signal). from.ends.received e ++ x) coming_one ∙ sym (append_assoc (from.ends.received e) (signal_of m ∷ []) (till.ends.coming e)) ∙ ap (λ (x : List Signal). x ++ till.ends.coming e) (sym received_one))
+          (λ k ne. ap (λ (x : List Signal). x ++ from.ends.coming k) (sym (reader_others.received k ne)) ∙ ap (λ (x : List Signal). till.ends.received k ++ x) (sym (reader_others.coming k ne)));
+      received = everywhere (λ k. length (from.ends.received k) ≤ length (till.ends.received k)) e
+          (let longer = ap length received_one ∙ length-append (from.ends.received e) (signal_of m ∷ []) in omega (arith, longer))
+          (λ k ne. omega (arith, ap length (reader_others.received k ne)));
+      sent = λ k. grow_none _ _ _ _ refl refl;
+      places = λ k. refl;
+    }
+
+  module _ (received : n.received.items ≡ i.received.items) (queue : n.queue.items ≡ i.queue.items) where
+    all_coming : (k : ℕ) → till.ends.coming k ≡ from.ends.coming k
+    all_coming = everywhere (λ k. till.ends.coming k ≡ from.ends.coming k) e (has_coming ∙ ap signals queue ∙ sym had_coming) reader_others.coming
+
+    pub reader-kept : LookedForMessages from.ends e till.ends
+    reader-kept = record {
+      ends = reader_boxes.ends;
+      traffic = record { sent = λ k. refl; received = all_received received };
+      room = λ k. refl;
+      coming = λ k ne. all_coming k;
+      more = ([], append-nil (from.ends.coming e) ∙ sym (all_coming e));
+    }
+
+    pub none-keeps : KeepsRound from till
+    none-keeps = record {
+      boxes = reader_boxes;
+      arrived = λ k. ap (λ (x : List Signal). x ++ from.ends.coming k) (sym (all_received received k)) ∙ ap (λ (x : List Signal). till.ends.received k ++ x) (sym (all_coming k));
+      received = λ k. omega (arith, ap length (all_received received k));
+      sent = λ k. grow_none _ _ _ _ refl refl;
+      places = λ k. refl;
+    }

@@ -1,0 +1,33 @@
+use Rattle.std.proofs.Common.{◌∙◌}
+use Rattle.flow_edges.proofs.Tables.{on_ok, if_err}
+use Rattle.std.specs.Prelude.{Ok, Err}
+use Rattle.flow_boxes.proofs.Changed.{writer-below, writer-put, writer-kept, put-keeps, refused-keeps, has_room}
+use Rattle.flow_boxes.proofs.Results.{by_result}
+use Rattle.flow_boxes.proofs.box_ends.BoxesEnds.put.Goals as goal
+
+pub returns-clause-same : goal.returns-clause-same
+returns-clause-same c =
+    let s = c.args.self.now in
+    let h = writer-below s.outboxes.items c.args.edge c.requires in
+    by_result c.put.result
+    (λ p. put-keeps s.capacity s.outboxes.items s.inboxes.items c.args.edge _ c.in-Some.outbox c.put.new.self h c.index_mut.ensures.value c.in-Some.is c.args.message p.0 p.1 p.2)
+    (λ x p. refused-keeps s.capacity s.outboxes.items s.inboxes.items c.args.edge _ c.in-Some.outbox c.put.new.self h c.index_mut.ensures.value c.in-Some.is p.1 p.2 p.3)
+    c.put.ensures.ok c.put.ensures.refused
+
+pub returns-clause-ok : goal.returns-clause-ok
+returns-clause-ok c =
+    let s = c.args.self.now in
+    let h = writer-below s.outboxes.items c.args.edge c.requires in
+    on_ok c.put.result (λ p. writer-put s.capacity s.outboxes.items s.inboxes.items c.args.edge _ c.in-Some.outbox c.put.new.self h c.index_mut.ensures.value c.in-Some.is c.args.message p.0 p.1 p.2) c.put.ensures.ok
+
+pub returns-clause-refused : goal.returns-clause-refused
+returns-clause-refused c =
+    let s = c.args.self.now in
+    let h = writer-below s.outboxes.items c.args.edge c.requires in
+    if_err _ _ c.put.result (λ x p. (p.0, writer-kept s.capacity s.outboxes.items s.inboxes.items c.args.edge _ c.in-Some.outbox c.put.new.self h c.index_mut.ensures.value c.in-Some.is p.1 p.2 p.3)) c.put.ensures.refused
+
+pub returns-clause-full : goal.returns-clause-full
+returns-clause-full c =
+    let s = c.args.self.now in
+    let h = writer-below s.outboxes.items c.args.edge c.requires in
+    λ full. has_room s.capacity s.outboxes.items s.inboxes.items c.args.edge _ c.in-Some.outbox c.put.new.self h c.index_mut.ensures.value c.in-Some.is ∙ c.put.ensures.full full

@@ -1,0 +1,28 @@
+use Rattle.std.proofs.Common.{◌≡◌, ℕ, ◌≤◌, ◌++◌, false, [], ◌∷◌, List, length, ap, subst, sym, ◌∙◌, arith, refl, length-append}
+use Rattle.std.specs.Prelude.{Option, Some, None}
+use Rattle.std.specs.List.{All}
+use Rattle.flow_edges.specs.Tables.{at_line}
+use Rattle.flow_edges.proofs.Tables.{all-snoc}
+use Rattle.flow_boxes.specs.declared.outbox.Outbox.{Outbox}
+use Rattle.flow_boxes.specs.declared.inbox.Inbox.{Inbox}
+use Rattle.flow_boxes.specs.Contents.{writes_in, reads_in}
+use Rattle.flow_boxes.specs.Reserved.{outbox_places, inbox_places, OutboxesReserved, InboxesReserved}
+use Rattle.flow_boxes.proofs.Opened.{one-empty}
+use Rattle.flow_boxes.proofs.boxes.Boxes.new.Goals as goal
+
+pub loop-preserved : goal.loop-preserved
+loop-preserved c =
+    let i = c.loop.invariant in
+    let os = c.loop.outboxes.items in
+    let is = c.loop.inboxes.items in
+    let n = c.args.capacity in
+    let o' = c.in_ok-push.ensures.items in
+    let i' = c.in_ok-push-2.ensures.items in
+    record {
+      outbox_count = omega (arith, i.outbox_count, ap length o', length-append os (None ∷ []));
+      inbox_count = omega (arith, i.inbox_count, ap length i', length-append is (None ∷ []));
+      writes = λ k. ap (λ (x : List (Option Outbox)). at_line writes_in x k false) o' ∙ one-empty writes_in os false i.writes refl k;
+      reads = λ k. ap (λ (x : List (Option Inbox)). at_line reads_in x k false) i' ∙ one-empty reads_in is false i.reads refl k;
+      outboxes = subst (λ (x : List (Option Outbox)). OutboxesReserved n x) (sym o') (all-snoc (λ (o : Option Outbox). n ≤ outbox_places n o) os None i.outboxes (omega arith));
+      inboxes = subst (λ (x : List (Option Inbox)). InboxesReserved n x) (sym i') (all-snoc (λ (b : Option Inbox). n ≤ inbox_places n b) is None i.inboxes (omega arith));
+    }

@@ -1,0 +1,15 @@
+use Rattle.std.proofs.Common.{◌≡◌, ℕ, false, length}
+use Rattle.flow_edges.specs.Tables.{at_line}
+use Rattle.flow_boxes.specs.Contents.{writes_in, reads_in}
+use Rattle.flow_boxes.specs.Reserved.{OutboxesReserved, InboxesReserved}
+use Rattle.flow_boxes.proofs.boxes.Boxes.new.Given as goal
+
+abbrev pub invariant-loop : goal.invariant-loop
+invariant-loop l = record {
+  outbox_count : length l.outboxes.items ≡ l.counter;
+  inbox_count : length l.inboxes.items ≡ l.counter;
+  writes : (k : ℕ) → at_line writes_in l.outboxes.items k false ≡ false;
+  reads : (k : ℕ) → at_line reads_in l.inboxes.items k false ≡ false;
+  outboxes : OutboxesReserved l.capacity l.outboxes.items;
+  inboxes : InboxesReserved l.capacity l.inboxes.items;
+}

@@ -1,0 +1,64 @@
+-- What a contract sees of the boxes of a share.
+use Rattle.std.specs.Prelude.{ℕ, Bool, true, false, List, [], length, Option, Some, None}
+use Rattle.flow_edges.specs.Signals.{Signal, signals}
+use Rattle.flow_edges.specs.Ends.{View}
+use Rattle.flow_edges.specs.Tables.{at_line}
+use Rattle.flow_boxes.specs.declared.outbox.Outbox.{Outbox}
+use Rattle.flow_boxes.specs.declared.inbox.Inbox.{Inbox}
+use Rattle.flow_boxes.specs.declared.boxes.Boxes.{Boxes}
+
+pub record Contents : Type 0 where
+  pub ends : View
+  pub leaving : ℕ → List Signal  -- what was put since the last carrying, the oldest first
+  pub count : ℕ  -- the edges have the numbers below it
+  pub capacity : ℕ  -- how many messages an edge holds at most
+
+abbrev pub sent_in : Option Outbox → List Signal
+sent_in None = []
+sent_in (Some o) = signals o.sent.items
+
+abbrev pub leaving_in : Option Outbox → List Signal
+leaving_in None = []
+leaving_in (Some o) = signals o.queue.items
+
+abbrev pub room_in : Option Outbox → ℕ
+room_in None = 0
+room_in (Some o) = o.room
+
+abbrev pub writes_in : Option Outbox → Bool
+writes_in None = false
+writes_in (Some o) = true
+
+abbrev pub received_in : Option Inbox → List Signal
+received_in None = []
+received_in (Some i) = signals i.received.items
+
+abbrev pub coming_in : Option Inbox → List Signal
+coming_in None = []
+coming_in (Some i) = signals i.queue.items
+
+abbrev pub reads_in : Option Inbox → Bool
+reads_in None = false
+reads_in (Some i) = true
+
+-- what is seen of these boxes
+abbrev pub contents_of : ℕ → List (Option Outbox) → List (Option Inbox) → Contents
+contents_of capacity os is = record {
+  ends = record {
+    sent = λ e. at_line sent_in os e [];
+    received = λ e. at_line received_in is e [];
+    coming = λ e. at_line coming_in is e [];
+    room = λ e. at_line room_in os e 0;
+    writes = λ e. at_line writes_in os e false;
+    reads = λ e. at_line reads_in is e false;
+  };
+  leaving = λ e. at_line leaving_in os e [];
+  count = length os;
+  capacity = capacity;
+}
+
+abbrev pub contents : Boxes → Contents
+contents b = contents_of b.capacity b.outboxes.items b.inboxes.items
+
+abbrev pub view_of : Boxes → View
+view_of b = (contents b).ends

@@ -1,0 +1,4 @@
+pub mod Reserved
+pub mod Contents
+pub mod Rounds
+pub mod RoundLaws

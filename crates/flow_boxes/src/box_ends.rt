@@ -1,0 +1,104 @@
+// Opening boxes, and boxes as ends.
+ghost use Rattle.std.specs.Prelude.{◌≡◌, ◌<◌, false, IfOk, OnOk, OnErr};
+ghost use Rattle.flow_boxes.specs.Contents.{contents, view_of};
+ghost use Rattle.flow_boxes.specs.Rounds.{KeepsRound, HasNone, OpensWriter, OpensReader};
+
+use crate::boxes::Boxes;
+use crate::inbox::Inbox;
+use crate::outbox::Outbox;
+use flow_edges::{Ends, Msg, Refused};
+use std::alloc::{AllocError, Global};
+
+impl Boxes {
+    /// No box, at any of the edges with the numbers below `edges`, each of which may hold at most
+    /// `capacity` messages. Its only error is that memory was refused.
+    pub fn new(alloc: Global, edges: usize, capacity: usize) -> Result<Boxes, AllocError>
+        ensures { IfOk result (λ boxes. HasNone edges capacity (contents boxes)) }
+    {
+        let mut outboxes = Vec::with_capacity(alloc, edges)?;
+        let mut inboxes = Vec::with_capacity(alloc, edges)?;
+        for _ in 0..edges {
+            outboxes.push(None)?;
+            inboxes.push(None)?;
+        }
+        Ok(Boxes {
+            outboxes,
+            inboxes,
+            capacity,
+        })
+    }
+
+    /// Opens a fresh box for the writer of this edge. Its only error is that memory was refused, and
+    /// then nothing was changed.
+    pub fn open_writer(&mut self, alloc: Global, edge: usize) -> Result<(), AllocError>
+        requires below { edge < (contents self.old).count }
+        requires none { (view_of self.old).writes edge ≡ false }
+        ensures ok { OnOk result (OpensWriter edge (contents self.old) (contents self.new)) }
+        ensures err { OnErr result (self.new ≡ self.old) }
+    {
+        let outbox = Outbox::new(alloc, self.capacity)?;
+        self.outboxes[edge] = Some(outbox);
+        Ok(())
+    }
+
+    /// Opens a fresh box for the reader of this edge. Its only error is that memory was refused, and
+    /// then nothing was changed.
+    pub fn open_reader(&mut self, alloc: Global, edge: usize) -> Result<(), AllocError>
+        requires below { edge < (contents self.old).count }
+        requires none { (view_of self.old).reads edge ≡ false }
+        ensures ok { OnOk result (OpensReader edge (contents self.old) (contents self.new)) }
+        ensures err { OnErr result (self.new ≡ self.old) }
+    {
+        let inbox = Inbox::new(alloc, self.capacity)?;
+        self.inboxes[edge] = Some(inbox);
+        Ok(())
+    }
+}
+
+impl Ends for Boxes {
+    ghost use Rattle.flow_boxes.specs.RoundLaws.{keeps_refl, keeps_trans};
+
+    ghost view = { view_of };
+
+    ghost same = { λ a b. KeepsRound (contents a) (contents b) };
+
+    fn has_writer(&self, edge: usize) -> bool {
+        matches!(self.outboxes.get(edge), Some(Some(_)))
+    }
+
+    fn has_reader(&self, edge: usize) -> bool {
+        matches!(self.inboxes.get(edge), Some(Some(_)))
+    }
+
+    fn room(&mut self, edge: usize) -> bool {
+        match &self.outboxes[edge] {
+            Some(outbox) => outbox.room > 0,
+            None => unreachable!(),
+        }
+    }
+
+    fn ready(&mut self, edge: usize) -> bool {
+        match &self.inboxes[edge] {
+            Some(inbox) => !inbox.queue.is_empty(),
+            None => unreachable!(),
+        }
+    }
+
+    fn put(&mut self, edge: usize, message: Msg) -> Result<(), Refused> {
+        match &mut self.outboxes[edge] {
+            Some(outbox) => outbox.put(message),
+            None => unreachable!(),
+        }
+    }
+
+    fn take(&mut self, edge: usize) -> Option<Msg> {
+        match &mut self.inboxes[edge] {
+            Some(inbox) => inbox.take(),
+            None => unreachable!(),
+        }
+    }
+
+    ghost same_refl = { λ a. keeps_refl (contents a) };
+
+    ghost same_trans = { λ a b c. keeps_trans (contents a) (contents b) (contents c) };
+}

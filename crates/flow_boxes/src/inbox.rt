@@ -1,0 +1,40 @@
+// The reader's box of an edge.
+ghost use Rattle.std.specs.Prelude.{◌≡◌, ◌≤◌, [], ◌∷◌, ◌++◌, IfOk, IfSome, IfNone};
+ghost use Rattle.std.specs.VecDeque.{deque_capacity};
+
+use flow_edges::Msg;
+use flow_history::History;
+use std::alloc::{AllocError, Global};
+use std::collections::VecDeque;
+
+/// The messages that have arrived and were not taken, the oldest first.
+#[derive(Drop)]
+pub struct Inbox {
+    pub queue: VecDeque<Msg>,
+    pub received: History<Msg>,
+}
+
+impl Inbox {
+    /// An empty box, with room for the capacity.
+    pub fn new(alloc: Global, capacity: usize) -> Result<Inbox, AllocError>
+        ensures fresh { IfOk result (λ i. (i.received.items ≡ []) × (i.queue.items ≡ [])) }
+        ensures reserved { IfOk result (λ i. capacity ≤ deque_capacity i.queue) }
+    {
+        let queue = VecDeque::with_capacity(alloc, capacity)?;
+        Ok(Inbox {
+            queue,
+            received: History::new(),
+        })
+    }
+
+    /// Takes the oldest message.
+    pub fn take(&mut self) -> Option<Msg>
+        ensures reserved { deque_capacity self.new.queue ≡ deque_capacity self.old.queue }
+        ensures some { IfSome result (λ m. (self.new.received.items ≡ self.old.received.items ++ m ∷ []) × (self.old.queue.items ≡ m ∷ self.new.queue.items)) }
+        ensures none { IfNone result ((self.new.received.items ≡ self.old.received.items) × (self.new.queue.items ≡ []) × (self.old.queue.items ≡ [])) }
+    {
+        let message = self.queue.pop_front()?;
+        self.received = self.received.with(&message);
+        Some(message)
+    }
+}

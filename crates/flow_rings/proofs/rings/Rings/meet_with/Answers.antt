@@ -1,0 +1,23 @@
+use Rattle.std.proofs.Common.{refl}
+use Rattle.flow_rings.proofs.RingLines.{writer-looked, reader-looked}
+use Rattle.flow_rings.proofs.Meetings.{kept-room, kept-messages, joins-writer, joins-reader, met_here}
+use Rattle.flow_rings.proofs.rings.Rings.meet_with.Goals as goal
+
+pub returns-clause-writer_kept : goal.returns-clause-writer_kept
+returns-clause-writer_kept c =
+    let ws = c.args.self.now.writers.items in
+    let m = c.meet.ensures in
+    kept-room _ _ c.args.edge (writer-looked ws c.args.self.now.readers.items c.args.edge _ c.in-Some-Some.writer c.meet.new.writer (joins-writer ws c.args.edge _ c.requires) c.index_mut.ensures.value c.in-Some-Some.is-0 m.writer.1 m.looked.0)
+
+pub returns-clause-reader_kept : goal.returns-clause-reader_kept
+returns-clause-reader_kept c =
+    let rs = c.args.other.now.readers.items in
+    let m = c.meet.ensures in
+    kept-messages _ _ c.args.edge (reader-looked c.args.other.now.writers.items rs c.args.edge _ c.in-Some-Some.reader c.meet.new.reader (joins-reader _ rs c.args.edge c.requires) c.index_mut-2.ensures.value c.in-Some-Some.is-1 m.reader.1 m.looked.1)
+
+pub returns-clause-met : goal.returns-clause-met
+returns-clause-met c =
+    let ws = c.args.self.now.writers.items in
+    let rs = c.args.other.now.readers.items in
+    let m = c.meet.ensures in
+    met_here ws rs _ _ c.args.edge c.meet.new.writer c.meet.new.reader c.meet.result (joins-writer ws c.args.edge _ c.requires) (joins-reader _ rs c.args.edge c.requires) refl refl m.fifo m.count m.room m.whole
