@@ -1,0 +1,4 @@
+pub mod Stays
+pub mod Places
+pub mod Dealing
+pub mod Gathered

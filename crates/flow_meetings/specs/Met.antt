@@ -1,0 +1,47 @@
+-- What is known of an edge where its two ends have met.
+use Rattle.std.proofs.Common.{◌≡◌, ℕ, ◌+◌, ◌≤◌, List, [], ◌++◌, length, refl, sym, ap, ◌∙◌, arith, append-nil, append_assoc, length-append}
+use mathlib.Core.List.{IsPrefix}
+use Rattle.flow_edges.specs.Signals.{Signal}
+use Rattle.flow_edges.specs.Ends.{View, held}
+use Rattle.flow_rings.specs.Rings.{Kept}
+
+-- The writer of edge e is seen in a, and its reader in b. The edge holds so many messages at most.
+pub record Met (a b : View) (places e : ℕ) : Type 0 where
+  -- what was received is a beginning of what was sent
+  pub begins : IsPrefix (b.received e) (a.sent e)
+  -- all that was sent and not received is certain to the reader
+  pub held : length (a.sent e) ≤ length (b.received e) + held b e
+  -- all places that hold no message are room to the writer
+  pub room : places + length (b.received e) ≤ a.room e + length (a.sent e)
+
+-- what is known of an edge stays known where nothing is sent or received
+pub met_kept : (a a' b b' : View) (places e : ℕ) → Met a b places e → Kept a a' → Kept b b' → Met a' b' places e
+met_kept a a' b b' places e m p q =
+    let more = q.coming e in
+    let longer : held b' e ≡ held b e + length more.0 = ap length (sym more.1) ∙ length-append (b.coming e) more.0 in
+    let sent = ap length (p.traffic.sent e) in
+    let received = ap length (q.traffic.received e) in
+    record {
+      begins = (m.begins.0, ap (λ (x : List Signal). x ++ m.begins.0) (q.traffic.received e) ∙ m.begins.1 ∙ sym (p.traffic.sent e));
+      held = omega (arith, m.held, longer, sent, received);
+      room = omega (arith, m.room, p.room e, sent, received);
+    }
+
+prefix_trans : (xs ys zs : List Signal) → IsPrefix xs ys → IsPrefix ys zs → IsPrefix xs zs
+prefix_trans xs ys zs p q = (p.0 ++ q.0, sym (append_assoc xs p.0 q.0) ∙ ap (λ (l : List Signal). l ++ q.0) p.1 ∙ q.1)
+
+pub kept_refl : (a : View) → Kept a a
+kept_refl a = record {
+  ends = record { writes = λ k. refl; reads = λ k. refl };
+  traffic = record { sent = λ k. refl; received = λ k. refl };
+  coming = λ k. ([], append-nil (a.coming k));
+  room = λ k. omega arith;
+}
+
+pub kept_trans : (a b c : View) → Kept a b → Kept b c → Kept a c
+kept_trans a b c p q = record {
+  ends = record { writes = λ k. q.ends.writes k ∙ p.ends.writes k; reads = λ k. q.ends.reads k ∙ p.ends.reads k };
+  traffic = record { sent = λ k. q.traffic.sent k ∙ p.traffic.sent k; received = λ k. q.traffic.received k ∙ p.traffic.received k };
+  coming = λ k. prefix_trans (a.coming k) (b.coming k) (c.coming k) (p.coming k) (q.coming k);
+  room = λ k. omega (arith, p.room k, q.room k);
+}

@@ -1,0 +1,37 @@
+// Boxes meet where the messages are carried.
+use crate::meeting::Meeting;
+use flow_boxes::{Boxes, carry, carry_own};
+
+impl Meeting for Boxes {
+    ghost use Rattle.flow_meetings.specs.BoxMeetings.{BoxesJoin, box_places, BoxesMeet, boxes_join_ends, boxes_meet_refl, boxes_meet_kept, boxes_meet_places, boxes_join_writer, boxes_join_reader, boxes_stay_joined, boxes_keep_places};
+
+    ghost joins = { BoxesJoin };
+
+    ghost places = { box_places };
+
+    ghost meets = { BoxesMeet };
+
+    fn meet_with(&mut self, other: &mut Boxes, edge: usize) {
+        carry(self, other, edge);
+    }
+
+    fn meet_own(&mut self, edge: usize) {
+        carry_own(self, edge);
+    }
+
+    ghost join_ends = { boxes_join_ends };
+
+    ghost meets_refl = { boxes_meet_refl };
+
+    ghost meets_kept = { boxes_meet_kept };
+
+    ghost meets_places = { boxes_meet_places };
+
+    ghost join_writer = { boxes_join_writer };
+
+    ghost join_reader = { boxes_join_reader };
+
+    ghost stay_joined = { boxes_stay_joined };
+
+    ghost keep_places = { boxes_keep_places };
+}

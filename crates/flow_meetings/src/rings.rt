@@ -1,0 +1,38 @@
+// Rings meet where their ends see each other.
+use crate::meeting::Meeting;
+use flow_rings::Rings;
+
+impl Meeting for Rings {
+    ghost use Rattle.flow_rings.proofs.Meetings.{joins-kept};
+    ghost use Rattle.flow_meetings.specs.RingMeetings.{RingsJoin, ring_places, RingsMeet, rings_join_ends, rings_meet_refl, rings_meet_kept, rings_meet_places, rings_join_writer, rings_join_reader, rings_keep_places};
+
+    ghost joins = { RingsJoin };
+
+    ghost places = { ring_places };
+
+    ghost meets = { RingsMeet };
+
+    fn meet_with(&mut self, other: &mut Rings, edge: usize) {
+        Rings::meet_with(self, other, edge);
+    }
+
+    fn meet_own(&mut self, edge: usize) {
+        Rings::meet_own(self, edge);
+    }
+
+    ghost join_ends = { rings_join_ends };
+
+    ghost meets_refl = { rings_meet_refl };
+
+    ghost meets_kept = { rings_meet_kept };
+
+    ghost meets_places = { rings_meet_places };
+
+    ghost join_writer = { rings_join_writer };
+
+    ghost join_reader = { rings_join_reader };
+
+    ghost stay_joined = { joins-kept };
+
+    ghost keep_places = { rings_keep_places };
+}

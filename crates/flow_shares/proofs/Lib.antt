@@ -1,0 +1,11 @@
+pub mod Ports
+pub mod Later
+pub mod Moves
+pub mod Between
+pub mod Visits
+pub mod Busy
+pub mod Calm
+pub mod Passes
+pub mod Counts
+pub mod Rounds
+pub mod Portless

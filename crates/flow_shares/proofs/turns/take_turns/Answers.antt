@@ -1,0 +1,85 @@
+use Rattle.std.proofs.Common.{inl, inr, refl, sym, ◌∙◌, arith}
+use Rattle.flow_base.proofs.Visits.{on_err}
+use Rattle.flow_shares.specs.Shares.{most_turns}
+use Rattle.flow_shares.proofs.Moves.{moved_none}
+use Rattle.flow_shares.proofs.Rounds.{turned_none, turned_end, there_now, apart_now, own_now, turn_lost, moved_last, stuck_last, turned_next, still_calm, busy_before, busy_last}
+use Rattle.flow_shares.proofs.turns.take_turns.Goals.{then-branch, else-branch+else-idle-idle_turns}
+use Rattle.flow_shares.proofs.turns.take_turns.Goals as goal
+
+pub returns-then-is_empty-clause-moved : goal.returns-then-is_empty-clause-moved
+returns-then-is_empty-clause-moved g c = moved_none c.args.nodes.now.items (g.E.Ends.view c.args.ends.now)
+
+pub loop-turn-init : goal.loop-turn-init
+loop-turn-init g c = record {
+  same = g.met.E.Ends.same_refl c.args.ends.now;
+  turned = turned_none c.args.nodes.now.items (g.E.Ends.view c.args.ends.now) c.args.idle_turns c.requires.idle;
+  busy = λ h. cc;
+  calm = λ h. record { sent = λ k. refl; received = λ k. refl };
+}
+
+pub pass-requires-clause-there : goal.pass-requires-clause-there
+pass-requires-clause-there g c = there_now c.loop-turn.turn c.loop-turn.idle c.args.idle_turns c.args.nodes.now.items c.loop-turn.nodes.items (g.E.Ends.view c.args.ends.now) (g.E.Ends.view c.loop-turn.ends) c.loop-turn.invariant.turned c.requires.there
+
+pub pass-requires-clause-apart : goal.pass-requires-clause-apart
+pass-requires-clause-apart g c = apart_now c.loop-turn.turn c.loop-turn.idle c.args.idle_turns c.args.nodes.now.items c.loop-turn.nodes.items (g.E.Ends.view c.args.ends.now) (g.E.Ends.view c.loop-turn.ends) c.loop-turn.invariant.turned c.requires.apart
+
+pub pass-requires-clause-own : goal.pass-requires-clause-own
+pass-requires-clause-own g c = own_now c.loop-turn.turn c.loop-turn.idle c.args.idle_turns c.args.nodes.now.items c.loop-turn.nodes.items (g.E.Ends.view c.args.ends.now) (g.E.Ends.view c.loop-turn.ends) c.loop-turn.invariant.turned c.requires.own
+
+pub returns-in_err-pass-clause-lost : goal.returns-in_err-pass-clause-lost
+returns-in_err-pass-clause-lost g c =
+    let view = g.E.Ends.view in
+    on_err c.from_residual.result (turn_lost c.loop-turn.turn c.loop-turn.idle c.args.idle_turns c.args.nodes.now.items c.loop-turn.nodes.items (view c.args.ends.now) (view c.loop-turn.ends) c.loop-turn.invariant.turned c.pass.new.nodes.items (view c.pass.new.ends) c.in_err-pass.ensures.lost)
+
+pub returns-then-idle-idle_turns-clause-moved : goal.returns-then-idle-idle_turns-clause-moved
+returns-then-idle-idle_turns-clause-moved g c =
+    let view = g.E.Ends.view in
+    let ensures = c.in_ok-pass.ensures in
+    moved_last c.loop-turn.turn c.loop-turn.idle c.args.idle_turns c.args.nodes.now.items c.loop-turn.nodes.items (view c.args.ends.now) (view c.loop-turn.ends) c.loop-turn.invariant.turned c.pass.new.nodes.items (view c.pass.new.ends) ensures.places ensures.ends ensures.moved c.in_ok-pass.field-0 ensures.busy ensures.stuck
+
+pub returns-then-idle-idle_turns-clause-progress : goal.returns-then-idle-idle_turns-clause-progress
+returns-then-idle-idle_turns-clause-progress g c =
+    let view = g.E.Ends.view in
+    let ensures = c.in_ok-pass.ensures in
+    stuck_last c.loop-turn.turn c.loop-turn.idle c.args.idle_turns c.args.nodes.now.items c.loop-turn.nodes.items (view c.args.ends.now) (view c.loop-turn.ends) c.loop-turn.invariant.turned c.pass.new.nodes.items (view c.pass.new.ends) ensures.places ensures.ends ensures.moved c.in_ok-pass.field-0 ensures.busy ensures.stuck
+
+pub loop-turn-preserved : goal.loop-turn-preserved
+loop-turn-preserved g c =
+    let view = g.E.Ends.view in
+    let ensures = c.in_ok-pass.ensures in
+    let few = c.loop-turn.invariant.turned.few in
+    let now = c.if-branch.idle in
+    record {
+      same = g.met.E.Ends.same_trans c.args.ends.now c.loop-turn.ends c.pass.new.ends c.loop-turn.invariant.same ensures.same;
+      turned = elim c.if-branch.branch [
+        | then-branch w ↦ turned_next c.loop-turn.turn c.loop-turn.idle c.args.idle_turns c.args.nodes.now.items c.loop-turn.nodes.items (view c.args.ends.now) (view c.loop-turn.ends) c.loop-turn.invariant.turned c.pass.new.nodes.items (view c.pass.new.ends) ensures.places ensures.ends ensures.moved c.in_ok-pass.field-0 ensures.busy ensures.stuck
+            now (omega (arith, w.idle-is, c.requires.idle)) (inl (w.if-branch.true, w.idle-is))
+        | else-branch+else-idle-idle_turns w ↦ turned_next c.loop-turn.turn c.loop-turn.idle c.args.idle_turns c.args.nodes.now.items c.loop-turn.nodes.items (view c.args.ends.now) (view c.loop-turn.ends) c.loop-turn.invariant.turned c.pass.new.nodes.items (view c.pass.new.ends) ensures.places ensures.ends ensures.moved c.in_ok-pass.field-0 ensures.busy ensures.stuck
+            now (omega (arith, w.idle-is, few, w.if-idle-idle_turns.false)) (inr (w.if-branch.false, w.idle-is))
+      ];
+      busy = elim c.if-branch.branch [
+        | then-branch w ↦ λ h. busy_last c.args.nodes.now.items c.loop-turn.nodes.items c.pass.new.nodes.items (view c.args.ends.now) (view c.loop-turn.ends) (view c.pass.new.ends) c.loop-turn.invariant.turned.moved ensures.moved (ensures.busy w.if-branch.true)
+        | else-branch+else-idle-idle_turns w ↦ λ h. busy_before c.args.nodes.now.items c.loop-turn.nodes.items c.pass.new.nodes.items (view c.args.ends.now) (view c.loop-turn.ends) (view c.pass.new.ends) c.loop-turn.invariant.turned.moved ensures.moved (c.loop-turn.invariant.busy (sym w.moved-is ∙ h))
+      ];
+      calm = elim c.if-branch.branch [
+        | then-branch w ↦ λ h. absurd (let no = sym w.moved-is ∙ h in cc)
+        | else-branch+else-idle-idle_turns w ↦ λ h. still_calm c.args.nodes.now.items c.loop-turn.nodes.items c.pass.new.nodes.items (view c.args.ends.now) (view c.loop-turn.ends) (view c.pass.new.ends) (c.loop-turn.invariant.calm (sym w.moved-is ∙ h)) (ensures.calm w.if-branch.false)
+      ];
+    }
+
+pub returns-clause-often : goal.returns-clause-often
+returns-clause-often g c =
+    let view = g.E.Ends.view in
+    λ spent. turned_end c.loop-turn.turn c.loop-turn.idle c.args.idle_turns c.args.nodes.now.items c.loop-turn.nodes.items (view c.args.ends.now) (view c.loop-turn.ends) c.loop-turn.invariant.turned most_turns (omega arith)
+
+pub returns-then-idle-idle_turns-clause-busy : goal.returns-then-idle-idle_turns-clause-busy
+returns-then-idle-idle_turns-clause-busy g c =
+    let view = g.E.Ends.view in
+    let ensures = c.in_ok-pass.ensures in
+    λ h. busy_before c.args.nodes.now.items c.loop-turn.nodes.items c.pass.new.nodes.items (view c.args.ends.now) (view c.loop-turn.ends) (view c.pass.new.ends) c.loop-turn.invariant.turned.moved ensures.moved (c.loop-turn.invariant.busy h)
+
+pub returns-then-idle-idle_turns-clause-calm : goal.returns-then-idle-idle_turns-clause-calm
+returns-then-idle-idle_turns-clause-calm g c =
+    let view = g.E.Ends.view in
+    let ensures = c.in_ok-pass.ensures in
+    λ h. still_calm c.args.nodes.now.items c.loop-turn.nodes.items c.pass.new.nodes.items (view c.args.ends.now) (view c.loop-turn.ends) (view c.pass.new.ends) (c.loop-turn.invariant.calm h) (ensures.calm c.if-branch.false)

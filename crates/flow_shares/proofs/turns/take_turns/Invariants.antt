@@ -1,0 +1,13 @@
+use Rattle.std.proofs.Common.{◌≡◌, true, false}
+use Rattle.flow_edges.specs.Ends.{SameTraffic}
+use Rattle.flow_shares.proofs.Rounds.{Turned}
+use Rattle.flow_shares.proofs.turns.take_turns.Given as goal
+
+-- the turns so far
+abbrev pub invariant-loop-turn : goal.invariant-loop-turn
+invariant-loop-turn g l = record {
+  same : g.E.Ends.same l.fn.ends l.ends;
+  turned : Turned l.turn l.idle l.idle_turns l.fn.nodes.items l.nodes.items (g.E.Ends.view l.fn.ends) (g.E.Ends.view l.ends);
+  busy : l.moved ≡ true → SameTraffic (g.E.Ends.view l.fn.ends) (g.E.Ends.view l.ends) → ⊥;
+  calm : l.moved ≡ false → SameTraffic (g.E.Ends.view l.fn.ends) (g.E.Ends.view l.ends);
+}

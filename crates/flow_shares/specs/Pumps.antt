@@ -1,0 +1,26 @@
+-- What a pump makes of a share.
+use Rattle.std.specs.Prelude.{◌≡◌, true, false}
+use Rattle.flow_edges.specs.Ends.{SameEnds, SameTraffic}
+use Rattle.flow_edges.specs.declared.ends.Ends.{Ghosts as EndsGhosts}
+use Rattle.flow_base.specs.declared.transducer.Transducer.{Ghosts}
+use Rattle.flow_graph.specs.Layouts.{AreSamePlaces}
+use Rattle.flow_shares.specs.declared.share.Share.{Share}
+use Rattle.flow_shares.specs.Shares.{AreStuck, HaveMoved, HaveMovedAndLost}
+
+-- The share that comes back has the nodes and the ends that were given, and its nodes went on by reads and writes of
+-- their own.
+pub record IsPumped {X Y : Type 0} {t : Ghosts X} {u : EndsGhosts Y} (share result : Share X Y t u) : Type 0 where
+  pub number : result.number ≡ share.number
+  pub places : AreSamePlaces share.nodes.items result.nodes.items
+  pub same : u.same share.ends result.ends
+  pub ends : SameEnds (u.view share.ends) (u.view result.ends)
+  pub moved : result.starved ≡ false → HaveMoved share.nodes.items result.nodes.items (u.view share.ends) (u.view result.ends)
+  -- where memory was refused, one message may be lost
+  pub lost : result.starved ≡ true → HaveMovedAndLost share.nodes.items result.nodes.items (u.view share.ends) (u.view result.ends)
+  -- whether a message moved
+  pub busy : result.starved ≡ false → result.moved ≡ true → SameTraffic (u.view share.ends) (u.view result.ends) → ⊥
+  pub calm : result.starved ≡ false → result.moved ≡ false → SameTraffic (u.view share.ends) (u.view result.ends)
+  -- where none moved, no node could step by what its ends were certain of
+  pub progress : result.starved ≡ false → SameTraffic (u.view share.ends) (u.view result.ends) → AreStuck (u.view share.ends) share.nodes.items
+  -- and none can now, unless it made all the turns that it may
+  pub rest : result.starved ≡ false → result.spent ≡ false → AreStuck (u.view result.ends) result.nodes.items

@@ -1,0 +1,18 @@
+//! Shares of a graph: some of its nodes, and the ends of their edges, which one thread runs.
+//!
+//! A graph is taken apart, and each of its nodes goes to one [`Share`], with the ends of the edges at its ports. [`pump`]
+//! visits the nodes of a share in turn, as long as they can step by what its own ends are certain of. What other
+//! threads do in the meantime it neither sees nor needs: each node goes on by reads and writes of its own, which are
+//! just what came to the lists of its ends.
+#![tactic(auto)]
+
+mod gate;
+mod pass;
+mod share;
+#[cfg(test)]
+mod tests;
+mod turns;
+
+pub use gate::{Gate, NoGate};
+pub use share::Share;
+pub use turns::{MAX_TURNS, pump};

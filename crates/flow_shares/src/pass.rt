@@ -1,0 +1,40 @@
+// One turn of a share.
+ghost use Rattle.std.specs.Prelude.{◌≡◌, ◌<◌, true, false, IfOk, OnErr};
+ghost use Rattle.std.specs.List.{All};
+ghost use Rattle.flow_edges.specs.Ends.{SameEnds, SameTraffic};
+ghost use Rattle.flow_graph.specs.Layouts.{AreSamePlaces};
+ghost use Rattle.flow_shares.specs.Shares.{HasItsEnds, AreApart, IsOwn, AreStuck, TakesMemory, HaveMoved, HaveMovedAndLost};
+
+use flow_base::Transducer;
+use flow_edges::Ends;
+use flow_graph::Placed;
+use std::alloc::AllocError;
+
+/// Visits each node once, in order, with at most `chunk` steps each. Whether one made a step.
+///
+/// An error where memory was refused to a node. Then a message that it was to read is lost.
+pub fn pass<T: Transducer, E: Ends>(
+    nodes: &mut Vec<Placed<T>>,
+    ends: &mut E,
+    chunk: usize,
+) -> Result<bool, AllocError>
+    requires some { 0 < chunk }
+    requires there { All (HasItsEnds (E.view ends.old)) nodes.old.items }
+    requires apart { AreApart nodes.old.items }
+    requires own { All (IsOwn (E.view ends.old)) nodes.old.items }
+    ensures places { AreSamePlaces nodes.old.items nodes.new.items }
+    ensures same { E.same ends.old ends.new }
+    ensures ends { SameEnds (E.view ends.old) (E.view ends.new) }
+    ensures moved { IfOk result (λ any. HaveMoved nodes.old.items nodes.new.items (E.view ends.old) (E.view ends.new)) }
+    ensures lost { OnErr result (HaveMovedAndLost nodes.old.items nodes.new.items (E.view ends.old) (E.view ends.new)) }
+    ensures starves { OnErr result (TakesMemory nodes.new.items) }
+    ensures busy { IfOk result (λ any. any ≡ true → SameTraffic (E.view ends.old) (E.view ends.new) → ⊥) }
+    ensures calm { IfOk result (λ any. any ≡ false → SameTraffic (E.view ends.old) (E.view ends.new)) }
+    ensures stuck { IfOk result (λ any. any ≡ false → AreStuck (E.view ends.old) nodes.old.items × AreStuck (E.view ends.new) nodes.new.items) }
+{
+    let mut moved = false;
+    for k in 0..nodes.len() {
+        moved |= nodes[k].run(ends, chunk)?;
+    }
+    Ok(moved)
+}

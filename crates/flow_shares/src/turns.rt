@@ -1,0 +1,154 @@
+// Running a share: turn after turn.
+ghost use Rattle.std.specs.Prelude.{◌≡◌, ◌<◌, true, false, length, IfOk, OnErr};
+ghost use Rattle.std.specs.List.{All};
+ghost use Rattle.flow_edges.specs.Ends.{SameEnds, SameTraffic};
+ghost use Rattle.flow_graph.specs.Layouts.{AreSamePlaces};
+ghost use Rattle.flow_shares.specs.Pumps.{IsPumped};
+ghost use Rattle.flow_shares.specs.Shares.{most_turns, HasItsEnds, AreApart, IsOwn, AreStuck, TakesMemory, HaveMoved, HaveMovedForTurns, HaveMovedAndLost};
+
+use crate::gate::Gate;
+use crate::pass::pass;
+use crate::share::Share;
+use flow_base::Transducer;
+use flow_edges::Ends;
+use flow_graph::Placed;
+use std::alloc::AllocError;
+
+/// The most turns of a pump.
+pub const MAX_TURNS: usize = 65_536;
+
+/// Visits the nodes of a share in turns, in ascending order and with at most `chunk` steps each, and gives the share back.
+///
+/// It ends after `idle_turns` turns in a row that moved nothing: then no node can step by what its ends are certain of.
+/// It ends at once where the share has no node; after [`MAX_TURNS`] turns, and then the share is spent; and where memory
+/// was refused to a node, and then the share is starved. The gate is called before each turn.
+pub fn pump<T: Transducer, E: Ends, G: Gate>(
+    share: Share<T, E>,
+    chunk: usize,
+    idle_turns: usize,
+    gate: &G,
+) -> Share<T, E>
+    requires some { 0 < chunk }
+    requires idle { 0 < idle_turns }
+    requires fed { share.starved ≡ false }
+    ensures pumped { IsPumped share result }
+    ensures starves { result.starved ≡ true → TakesMemory result.nodes.items }
+    ensures spent { result.spent ≡ true → result.starved ≡ false }
+    ensures often { result.spent ≡ true → HaveMovedForTurns most_turns idle_turns share.nodes.items result.nodes.items (E.view share.ends) (E.view result.ends) }
+    ensures none { length share.nodes.items ≡ 0 → result.spent ≡ false }
+{
+    after_turns(share, chunk, idle_turns, gate)
+}
+
+// The share after its turns: what a pump promises, clause by clause.
+fn after_turns<T: Transducer, E: Ends, G: Gate>(
+    share: Share<T, E>,
+    chunk: usize,
+    idle_turns: usize,
+    gate: &G,
+) -> Share<T, E>
+    requires some { 0 < chunk }
+    requires idle { 0 < idle_turns }
+    requires fed { share.starved ≡ false }
+    ensures number { result.number ≡ share.number }
+    ensures places { AreSamePlaces share.nodes.items result.nodes.items }
+    ensures same { E.same share.ends result.ends }
+    ensures ends { SameEnds (E.view share.ends) (E.view result.ends) }
+    ensures moved { result.starved ≡ false → HaveMoved share.nodes.items result.nodes.items (E.view share.ends) (E.view result.ends) }
+    ensures lost { result.starved ≡ true → HaveMovedAndLost share.nodes.items result.nodes.items (E.view share.ends) (E.view result.ends) }
+    ensures busy { result.starved ≡ false → result.moved ≡ true → SameTraffic (E.view share.ends) (E.view result.ends) → ⊥ }
+    ensures calm { result.starved ≡ false → result.moved ≡ false → SameTraffic (E.view share.ends) (E.view result.ends) }
+    ensures progress { result.starved ≡ false → SameTraffic (E.view share.ends) (E.view result.ends) → AreStuck (E.view share.ends) share.nodes.items }
+    ensures rest { result.starved ≡ false → result.spent ≡ false → AreStuck (E.view result.ends) result.nodes.items }
+    ensures starves { result.starved ≡ true → TakesMemory result.nodes.items }
+    ensures spent { result.spent ≡ true → result.starved ≡ false }
+    ensures often { result.spent ≡ true → HaveMovedForTurns most_turns idle_turns share.nodes.items result.nodes.items (E.view share.ends) (E.view result.ends) }
+    ensures none { length share.nodes.items ≡ 0 → result.spent ≡ false }
+{
+    let Share {
+        number,
+        mut nodes,
+        mut ends,
+        ..
+    } = share;
+    match take_turns(number, &mut nodes, &mut ends, chunk, idle_turns, gate) {
+        Ok(Turns { spent, moved }) => Share {
+            number,
+            nodes,
+            ends,
+            spent,
+            starved: false,
+            moved,
+        },
+        Err(_) => Share {
+            number,
+            nodes,
+            ends,
+            spent: false,
+            starved: true,
+            moved: false,
+        },
+    }
+}
+
+// What came of the turns of a share.
+struct Turns {
+    // Whether all were made that may be, and it did not come to rest.
+    spent: bool,
+    // Whether one moved a message.
+    moved: bool,
+}
+
+/// Makes turns until `idle_turns` in a row moved nothing, and at most [`MAX_TURNS`].
+///
+/// An error where memory was refused to a node.
+fn take_turns<T: Transducer, E: Ends, G: Gate>(
+    number: usize,
+    nodes: &mut Vec<Placed<T>>,
+    ends: &mut E,
+    chunk: usize,
+    idle_turns: usize,
+    gate: &G,
+) -> Result<Turns, AllocError>
+    requires some { 0 < chunk }
+    requires idle { 0 < idle_turns }
+    requires there { All (HasItsEnds (E.view ends.old)) nodes.old.items }
+    requires apart { AreApart nodes.old.items }
+    requires own { All (IsOwn (E.view ends.old)) nodes.old.items }
+    ensures places { AreSamePlaces nodes.old.items nodes.new.items }
+    ensures same { E.same ends.old ends.new }
+    ensures ends { SameEnds (E.view ends.old) (E.view ends.new) }
+    ensures moved { IfOk result (λ turns. HaveMoved nodes.old.items nodes.new.items (E.view ends.old) (E.view ends.new)) }
+    ensures lost { OnErr result (HaveMovedAndLost nodes.old.items nodes.new.items (E.view ends.old) (E.view ends.new)) }
+    ensures busy { IfOk result (λ turns. turns.moved ≡ true → SameTraffic (E.view ends.old) (E.view ends.new) → ⊥) }
+    ensures calm { IfOk result (λ turns. turns.moved ≡ false → SameTraffic (E.view ends.old) (E.view ends.new)) }
+    ensures progress { IfOk result (λ turns. SameTraffic (E.view ends.old) (E.view ends.new) → AreStuck (E.view ends.old) nodes.old.items) }
+    ensures rest { IfOk result (λ turns. turns.spent ≡ false → AreStuck (E.view ends.new) nodes.new.items) }
+    ensures starves { OnErr result (TakesMemory nodes.new.items) }
+    ensures often { IfOk result (λ turns. turns.spent ≡ true → HaveMovedForTurns most_turns idle_turns nodes.old.items nodes.new.items (E.view ends.old) (E.view ends.new)) }
+    ensures none { IfOk result (λ turns. length nodes.old.items ≡ 0 → turns.spent ≡ false) }
+{
+    if nodes.is_empty() {
+        return Ok(Turns {
+            spent: false,
+            moved: false,
+        });
+    }
+    let (mut idle, mut moved) = (0, false);
+    for turn in 0..MAX_TURNS {
+        gate.turn(number, turn);
+        if pass(nodes, ends, chunk)? {
+            idle = 0;
+            moved = true;
+        } else {
+            idle += 1;
+            if idle == idle_turns {
+                return Ok(Turns {
+                    spent: false,
+                    moved,
+                });
+            }
+        }
+    }
+    Ok(Turns { spent: true, moved })
+}

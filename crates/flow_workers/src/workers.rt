@@ -1,0 +1,133 @@
+// Workers: threads, each of which pumps a share and gives it back.
+ghost use Rattle.std.specs.Prelude.{◌≡◌, ◌<◌, ℕ, false, map, length, slice_index_or, IfOk};
+ghost use Rattle.std.specs.List.{All};
+ghost use Rattle.flow_shares.specs.Pumps.{IsPumped};
+
+use crate::error::WorkError;
+use flow_base::Transducer;
+use flow_edges::Ends;
+use flow_shares::{Gate, Share, pump};
+use std::alloc::Global;
+use std::snapshot::Snapshot;
+use std::sync::Arc;
+use std::thread;
+use std::thread::{Promise, PromisedHandle, Threads};
+
+// What a worker promises of the share that it gives back: a pump made it of the one that was given.
+#[derive(Drop)]
+struct Pumped<T: Transducer, E: Ends> {
+    given: Snapshot<Share<T, E>>,
+}
+
+impl<T: Transducer, E: Ends> Promise<Share<T, E>> for Pumped<T, E> {
+    ghost kept_by = { λ promise result. IsPumped promise.given.value result };
+}
+
+// A worker that was started and is still to be joined.
+type Worker<T, E> = PromisedHandle<Share<T, E>, Pumped<T, E>>;
+
+// Starts a worker for the share. A share for which none could be started is let go.
+fn start<
+    R: Threads,
+    T: Transducer + Send + Drop + 'static,
+    E: Ends + Send + Drop + 'static,
+    G: Gate + Send + Sync + Drop + 'static,
+>(
+    rt: &R,
+    share: Share<T, E>,
+    chunk: usize,
+    idle_turns: usize,
+    gate: &Arc<G, Global>,
+) -> Result<Worker<T, E>, WorkError>
+    requires some { 0 < chunk }
+    requires idle { 0 < idle_turns }
+    requires fed { share.starved ≡ false }
+    ensures { IfOk result (λ worker. worker.promise.given.value ≡ share) }
+{
+    let gate = Arc::try_clone(gate)?;
+    let promise = Pumped {
+        given: Snapshot::of(&share),
+    };
+    let worker = thread::spawn_with(
+        rt,
+        promise,
+        move || -> Share<T, E>
+            requires some { 0 < chunk }
+            requires idle { 0 < idle_turns }
+            requires fed { share.starved ≡ false }
+        { pump(share, chunk, idle_turns, &*gate) },
+    )?;
+    Ok(worker)
+}
+
+// Joins the workers, and lets their shares go.
+fn join_all<R: Threads, T: Transducer + Drop, E: Ends + Drop>(rt: &R, workers: Vec<Worker<T, E>>) {
+    for worker in workers {
+        drop(worker.join(rt));
+    }
+}
+
+// Starts a worker for each share, in order. Where one is refused, those that were started are joined.
+fn start_all<
+    R: Threads,
+    T: Transducer + Send + Drop + 'static,
+    E: Ends + Send + Drop + 'static,
+    G: Gate + Send + Sync + Drop + 'static,
+>(
+    rt: &R,
+    alloc: Global,
+    shares: Vec<Share<T, E>>,
+    chunk: usize,
+    idle_turns: usize,
+    gate: &Arc<G, Global>,
+) -> Result<Vec<Worker<T, E>>, WorkError>
+    requires some { 0 < chunk }
+    requires idle { 0 < idle_turns }
+    requires fed { All (λ share. share.starved ≡ false) shares.items }
+    ensures { IfOk result (λ workers. map (λ worker. worker.promise.given.value) workers.items ≡ shares.items) }
+{
+    let mut workers = Vec::with_capacity(alloc, shares.len())?;
+    for share in shares {
+        match start(rt, share, chunk, idle_turns, gate) {
+            Ok(worker) => workers.push_reserved(worker),
+            Err(refused) => {
+                join_all(rt, workers);
+                return Err(refused);
+            }
+        }
+    }
+    Ok(workers)
+}
+
+/// Runs each share in a worker of its own, all of them at once, and gives them back in order.
+///
+/// All workers are started before any is joined, and one share gets a worker too. A worker that was started is joined
+/// whatever else fails, and its share is let go.
+///
+/// No contract can say so, nor that each pump gets this `chunk`, these `idle_turns` and this gate, nor which error is
+/// answered: only a reader of the code sees it.
+pub fn run_all<
+    R: Threads,
+    T: Transducer + Send + Drop + 'static,
+    E: Ends + Send + Drop + 'static,
+    G: Gate + Send + Sync + Drop + 'static,
+>(
+    rt: &R,
+    alloc: Global,
+    shares: Vec<Share<T, E>>,
+    chunk: usize,
+    idle_turns: usize,
+    gate: &Arc<G, Global>,
+) -> Result<Vec<Share<T, E>>, WorkError>
+    requires some { 0 < chunk }
+    requires idle { 0 < idle_turns }
+    requires fed { All (λ share. share.starved ≡ false) shares.items }
+    ensures count { IfOk result (λ back. length back.items ≡ length shares.items) }
+    ensures each { IfOk result (λ back. (k : ℕ) (d : _) → k < length shares.items → IsPumped (slice_index_or shares.items k d) (slice_index_or back.items k d)) }
+{
+    let mut back = Vec::with_capacity(alloc, shares.len())?;
+    for worker in start_all(rt, alloc, shares, chunk, idle_turns, gate)? {
+        back.push_reserved(worker.join(rt));
+    }
+    Ok(back)
+}
