@@ -1,6 +1,6 @@
 -- What a carrying changes in the shares.
-use Rattle.std.proofs.Common.{◌≡◌, ◌≢◌, ℕ, ◌+◌, ◌<◌, ◌≤◌, true, List, [], ◌++◌, length, refl, ap, sym, ◌∙◌, get_or, set, arith}
-use Rattle.std.specs.Prelude.{Option, Some, None}
+use Rattle.std.proofs.Common.{◌≡◌, ℕ, ◌+◌, ◌<◌, ◌≤◌, List, [], ◌++◌, length, refl, ap, sym, ◌∙◌, get_or, set, arith}
+use Rattle.std.specs.Prelude.{Option, Some}
 use Rattle.flow_edges.specs.Signals.{Signal, signals}
 use Rattle.flow_edges.specs.TableLaws.{signals-length}
 use Rattle.flow_edges.proofs.Signals.{signals-nil}

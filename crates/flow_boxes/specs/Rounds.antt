@@ -1,6 +1,5 @@
 -- What happens within a round, and between two.
 use Rattle.std.specs.Prelude.{◌≡◌, ◌≢◌, ℕ, ◌+◌, ◌≤◌, true, false, List, [], ◌++◌, length, drop}
-use mathlib.Core.List.{IsPrefix}
 use Rattle.flow_edges.specs.Signals.{Signal}
 use Rattle.flow_edges.specs.Ends.{held, SameEnds, SameTraffic}
 use Rattle.flow_boxes.specs.Contents.{Contents}

@@ -8,4 +8,3 @@ pub mod Calm
 pub mod Passes
 pub mod Counts
 pub mod Rounds
-pub mod Portless

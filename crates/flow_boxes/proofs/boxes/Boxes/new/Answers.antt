@@ -1,6 +1,5 @@
-use Rattle.std.proofs.Common.{◌≡◌, ℕ, ◌≤◌, ◌++◌, false, [], ◌∷◌, List, length, ap, subst, sym, ◌∙◌, arith, refl, length-append}
-use Rattle.std.specs.Prelude.{Option, Some, None}
-use Rattle.std.specs.List.{All}
+use Rattle.std.proofs.Common.{◌≤◌, false, [], ◌∷◌, List, length, ap, subst, sym, ◌∙◌, arith, refl, length-append}
+use Rattle.std.specs.Prelude.{Option, None}
 use Rattle.flow_edges.specs.Tables.{at_line}
 use Rattle.flow_edges.proofs.Tables.{all-snoc}
 use Rattle.flow_boxes.specs.declared.outbox.Outbox.{Outbox}
