@@ -1,32 +1,38 @@
--- A state that was reached stays so with one step more, and wants only ports that there are.
+-- A state that was reached stays so with more steps, and wants only ports that there are.
 use Rattle.std.proofs.Common.{◌≡◌, ℕ, ◌<◌, List, [], ◌∷◌, ◌++◌, refl, sym, ◌∙◌, ap, subst}
 use mathlib.Core.Logic.{∥∥₁_elim, ∥∥₁_map}
 use native.Mathlib.Bridge.{le_prop}
 use Rattle.kahn.specs.declared.want.Want.TheVariants.{Read, Write}
-use Rattle.kahn.specs.Processes.{Reads, Writes, Does, IsLawful}
+use Rattle.kahn.specs.Processes.{Event, Reads, Writes, Does, IsLawful}
 use Rattle.kahn.proofs.History.{does_then}
 use Rattle.flow_edges.specs.Signals.{Signal}
 use Rattle.flow_base.specs.Transducers.{Behaviour, BehaviourLaws}
 use Rattle.flow_base.specs.Visits.{IsReached}
 
 module _ {S : Type 0} (b : Behaviour S) (laws : BehaviourLaws b) where
+  -- all states of a history opened alike
+  pub opening_does : (h : List (Event Signal)) (s t : S) → Does b.process s h t → b.opening t ≡ b.opening s
+  opening_does [] s t same = ap b.opening (sym same)
+  opening_does (Reads p m ∷ h) s t (wants, does) = opening_does h (b.process.read s m) t does ∙ laws.read_opening s p m wants
+  opening_does (Writes q m ∷ h) s t (wants, is, does) = opening_does h (b.process.wrote s) t does ∙ laws.wrote_opening s q wants
+
+  pub reached_does : (h : List (Event Signal)) (s t : S) → Does b.process s h t → IsReached b s → IsReached b t
+  reached_does h s t does reached = ∥∥₁_map reached (λ (before, first). (
+    before ++ h,
+    subst (λ o. Does b.process o (before ++ h) t) (sym (opening_does h s t does)) (does_then b.process (b.opening s) s t before h first does),
+  ))
+
   pub opening_read : (s s' : S) (p : ℕ) (m : Signal) → b.process.want s ≡ Read p → s' ≡ b.process.read s m → b.opening s' ≡ b.opening s
-  opening_read s s' p m wants is = ap b.opening is ∙ laws.read_opening s p m wants
+  opening_read s s' p m wants is = opening_does (Reads p m ∷ []) s s' (wants, sym is)
 
   pub opening_wrote : (s s' : S) (q : ℕ) → b.process.want s ≡ Write q → s' ≡ b.process.wrote s → b.opening s' ≡ b.opening s
-  opening_wrote s s' q wants is = ap b.opening is ∙ laws.wrote_opening s q wants
+  opening_wrote s s' q wants is = opening_does (Writes q (b.process.written s) ∷ []) s s' (wants, refl, sym is)
 
   pub reached_read : (s s' : S) (p : ℕ) (m : Signal) → b.process.want s ≡ Read p → s' ≡ b.process.read s m → IsReached b s → IsReached b s'
-  reached_read s s' p m wants is reached = ∥∥₁_map reached (λ (h, does). (
-    h ++ Reads p m ∷ [],
-    subst (λ o. Does b.process o (h ++ Reads p m ∷ []) s') (sym (opening_read s s' p m wants is)) (does_then b.process (b.opening s) s s' h (Reads p m ∷ []) does (wants, sym is)),
-  ))
+  reached_read s s' p m wants is reached = reached_does (Reads p m ∷ []) s s' (wants, sym is) reached
 
   pub reached_wrote : (s s' : S) (q : ℕ) → b.process.want s ≡ Write q → s' ≡ b.process.wrote s → IsReached b s → IsReached b s'
-  reached_wrote s s' q wants is reached = ∥∥₁_map reached (λ (h, does). (
-    h ++ Writes q (b.process.written s) ∷ [],
-    subst (λ o. Does b.process o (h ++ Writes q (b.process.written s) ∷ []) s') (sym (opening_wrote s s' q wants is)) (does_then b.process (b.opening s) s s' h (Writes q (b.process.written s) ∷ []) does (wants, refl, sym is)),
-  ))
+  reached_wrote s s' q wants is reached = reached_does (Writes q (b.process.written s) ∷ []) s s' (wants, refl, sym is) reached
 
   lawful_at : (s : S) → IsLawful b.process (b.opening s) (b.inputs (b.opening s)) (b.outputs (b.opening s))
   lawful_at s = (laws.opened (b.opening s) (laws.same_opening s)).lawful

@@ -1,6 +1,6 @@
 // Transducers made of workers: what they do where streams end.
 
-ghost use Rattle.std.specs.Prelude.{◌≡◌, ◌+◌, true, false, IfOk, OnErr, IsOk};
+ghost use Rattle.std.specs.Prelude.{◌≡◌, ◌+◌, ◌<◌, ◌≤◌, true, false, nat_lt, IfOk, OnErr, IsOk};
 ghost use Rattle.flow_edges.specs.Signals.{signal_of};
 ghost use Rattle.flow_edges.specs.Ends.{SameEnds};
 ghost use Rattle.flow_base.specs.Machines.{move_of, ask_of};
@@ -149,6 +149,77 @@ impl<W: Worker> Node<W> {
             Want::Ended | Want::Faulted(_) => Ok(false),
         }
     }
+
+    // Steps while it works, at most `chunk`. How many it made.
+    #[inline(always)]
+    fn work<E: Ends>(
+        &mut self,
+        inputs: &[usize],
+        outputs: &[usize],
+        ends: &mut E,
+        chunk: usize,
+    ) -> Result<usize, AllocError>
+        requires some { 0 < chunk }
+        requires works { self.old.phase ≡ Working }
+        requires placed { IsPlaced ⟦<Node<W> as Transducer>⟧.behaviour inputs.now outputs.now (⟦<Node<W> as Transducer>⟧.state self.old) (E.view ends.old) }
+        ensures same { E.same ends.old ends.new }
+        ensures ends { SameEnds (E.view ends.old) (E.view ends.new) }
+        ensures within { IfOk result (λ made. made ≤ chunk) }
+        ensures visited { IfOk result (λ made. Visited inputs.now outputs.now ⟦<Node<W> as Transducer>⟧.behaviour (⟦<Node<W> as Transducer>⟧.state self.old) (E.view ends.old) (⟦<Node<W> as Transducer>⟧.state self.new) (E.view ends.new) (nat_lt 0 made)) }
+        ensures broke { OnErr result (BrokeOff inputs.now outputs.now ⟦<Node<W> as Transducer>⟧.behaviour (⟦<Node<W> as Transducer>⟧.state self.old) (E.view ends.old) (⟦<Node<W> as Transducer>⟧.state self.new) (E.view ends.new)) }
+    {
+        for made in 0..chunk {
+            match self.want_on() {
+                Want::Read(port) => {
+                    prove!(port < inputs.len());
+                    let Some(message) = ends.take(inputs[port]) else {
+                        return Ok(made);
+                    };
+                    if !self.read_on(message)? {
+                        return Ok(made + 1);
+                    }
+                }
+                Want::Write(port) => {
+                    prove!(port < outputs.len());
+                    let edge = outputs[port];
+                    if !ends.room(edge) {
+                        return Ok(made);
+                    }
+                    let item = self.worker.give()?;
+                    // Only after End is the message refused, and no lawful node writes after End.
+                    let _ = ends.put(edge, Msg::Item(item));
+                }
+                Want::Ended | Want::Faulted(_) => return Ok(made),
+            }
+        }
+        Ok(chunk)
+    }
+
+    // Steps in any phase, at most `left`. Whether it made one.
+    #[inline(never)]
+    fn close<E: Ends>(
+        &mut self,
+        inputs: &[usize],
+        outputs: &[usize],
+        ends: &mut E,
+        left: usize,
+    ) -> Result<bool, AllocError>
+        requires some { 0 < left }
+        requires placed { IsPlaced ⟦<Node<W> as Transducer>⟧.behaviour inputs.now outputs.now (⟦<Node<W> as Transducer>⟧.state self.old) (E.view ends.old) }
+        ensures same { E.same ends.old ends.new }
+        ensures ends { SameEnds (E.view ends.old) (E.view ends.new) }
+        ensures visited { IfOk result (λ any. Visited inputs.now outputs.now ⟦<Node<W> as Transducer>⟧.behaviour (⟦<Node<W> as Transducer>⟧.state self.old) (E.view ends.old) (⟦<Node<W> as Transducer>⟧.state self.new) (E.view ends.new) any) }
+        ensures broke { OnErr result (BrokeOff inputs.now outputs.now ⟦<Node<W> as Transducer>⟧.behaviour (⟦<Node<W> as Transducer>⟧.state self.old) (E.view ends.old) (⟦<Node<W> as Transducer>⟧.state self.new) (E.view ends.new)) }
+    {
+        let mut moved = false;
+        for _ in 0..left {
+            if !self.step(inputs, outputs, ends)? {
+                break;
+            }
+            moved = true;
+        }
+        Ok(moved)
+    }
 }
 
 impl<W: Worker> Transducer for Node<W> {
@@ -230,7 +301,7 @@ impl<W: Worker> Transducer for Node<W> {
         Ok(Msg::Item(item))
     }
 
-    // In a loop while it works, and else one step.
+    // First in a loop while it works, and then step by step.
     #[inline(never)]
     fn run<E: Ends>(
         &mut self,
@@ -240,34 +311,14 @@ impl<W: Worker> Transducer for Node<W> {
         chunk: usize,
     ) -> Result<bool, AllocError> {
         if !matches!(self.phase, Phase::Working) {
-            return self.step(inputs, outputs, ends);
+            return self.close(inputs, outputs, ends, chunk);
         }
-        let mut moved = false;
-        for _ in 0..chunk {
-            match self.want_on() {
-                Want::Read(port) => {
-                    prove!(port < inputs.len());
-                    let Some(message) = ends.take(inputs[port]) else {
-                        break;
-                    };
-                    if !self.read_on(message)? {
-                        return Ok(true);
-                    }
-                }
-                Want::Write(port) => {
-                    prove!(port < outputs.len());
-                    let edge = outputs[port];
-                    if !ends.room(edge) {
-                        break;
-                    }
-                    let item = self.worker.give()?;
-                    // Only after End is the message refused, and no lawful node writes after End.
-                    let _ = ends.put(edge, Msg::Item(item));
-                }
-                Want::Ended | Want::Faulted(_) => break,
-            }
-            moved = true;
+        let made = self.work(inputs, outputs, ends, chunk)?;
+        if made == chunk || matches!(self.phase, Phase::Working) {
+            return Ok(made > 0);
         }
-        Ok(moved)
+        // It has made the step that ended its work.
+        self.close(inputs, outputs, ends, chunk - made)?;
+        Ok(true)
     }
 }

@@ -1,20 +1,14 @@
 -- A visit of a node is one of its kind.
-use Rattle.std.proofs.Common.{◌≡◌, ℕ, Bool, List, [], ◌∷◌, sym, ◌∙◌, ap, subst, Result, Ok, Err, IfOk, OnErr}
+use Rattle.std.proofs.Common.{◌≡◌, ℕ, Bool, List, sym, ◌∙◌, subst, Result, Ok, Err, IfOk, OnErr}
 use mathlib.Core.Logic.{∥∥₁_map}
 use Rattle.std.specs.declared.alloc.AllocError.{AllocError}
-use Rattle.kahn.specs.Processes.{Event, Reads, Writes, Does}
+use Rattle.kahn.specs.Processes.{Event, Does}
 use Rattle.flow_edges.specs.Signals.{Signal}
 use Rattle.flow_edges.specs.Ends.{View}
-use Rattle.flow_base.specs.Transducers.{Behaviour, BehaviourLaws}
 use Rattle.flow_base.specs.Sums.{sum_does, does_sum}
 use Rattle.flow_base.specs.Visits.{IsPlaced, Visited, BrokeOff}
+use Rattle.flow_base.proofs.Reached.{opening_does}
 use Rattle.flow_nodes.specs.StreamNodes.{NodeKind, a_source, member, node_behaviour}
-
--- all states of a history opened alike
-opening_does : {S : Type 0} (b : Behaviour S) (laws : BehaviourLaws b) (h : List (Event Signal)) (s t : S) → Does b.process s h t → b.opening t ≡ b.opening s
-opening_does b laws [] s t same = ap b.opening (sym same)
-opening_does b laws (Reads p m ∷ h) s t (wants, does) = opening_does b laws h (b.process.read s m) t does ∙ laws.read_opening s p m wants
-opening_does b laws (Writes p m ∷ h) s t (wants, is, does) = opening_does b laws h (b.process.wrote s) t does ∙ laws.wrote_opening s p wants
 
 -- a history from the state in which that of this node opened, which its kind has
 abbrev Comes : (t : NodeKind) × (member t).State → Type 0

@@ -1,9 +1,9 @@
-use Rattle.std.proofs.Common.{◌≡◌, ◌<◌, true, false, sym, ◌∙◌, subst, arith, inl, inr}
+use Rattle.std.proofs.Common.{◌≡◌, ◌<◌, true, sym, ◌∙◌, subst, arith, inl, inr}
 use Rattle.kahn.specs.declared.want.Want.TheVariants.{Read, Write}
 use Rattle.flow_edges.specs.Signals.{signal_of}
 use Rattle.flow_base.specs.Visits.{edge_of, IsStuck}
 use Rattle.flow_base.specs.Members.{node_of}
-use Rattle.flow_base.proofs.Visits.{Made, made_none, input_there, output_there, reads_at, made_read, made_put, made_looked, made_room, visited, broke_off, broke_reading, starves_err, no_room, on_err}
+use Rattle.flow_base.proofs.Visits.{made_none, input_there, output_there, made_read, made_put, made_looked, made_room, visited, broke_off, broke_reading, starves_err, no_room, on_err}
 use Rattle.flow_base.proofs.node.Node.step.Goals as goal
 
 pub prove-unreachable-requires : goal.prove-unreachable-requires
@@ -11,30 +11,22 @@ prove-unreachable-requires g c =
     let node = node_of g.W.Worker.state g.W.Worker.machine g.met.W.Worker.laws in
     let b = node.behaviour in
     let laws = node.laws in
-    let ins = c.args.inputs.now in
-    let outs = c.args.outputs.now in
     let s = node.state c.args.self.now in
-    let view = g.E.Ends.view in
-    let a = view c.args.ends.now in
     let placed = c.requires.placed in
-    let made : Made b laws ins outs s a s a false = made_none b laws ins outs s a placed in
+    let made = made_none laws placed in
     let wants : b.process.want s ≡ Read c.in-Read.port = sym c.want.ensures ∙ c.in-Read.is in
-    omega (arith, c.if-prove.true, input_there b laws ins outs s a placed s a false made c.in-Read.port wants)
+    omega (arith, c.if-prove.true, input_there laws placed made c.in-Read.port wants)
 
 pub prove-unreachable-requires-in-Write : goal.prove-unreachable-requires-in-Write
 prove-unreachable-requires-in-Write g c =
     let node = node_of g.W.Worker.state g.W.Worker.machine g.met.W.Worker.laws in
     let b = node.behaviour in
     let laws = node.laws in
-    let ins = c.args.inputs.now in
-    let outs = c.args.outputs.now in
     let s = node.state c.args.self.now in
-    let view = g.E.Ends.view in
-    let a = view c.args.ends.now in
     let placed = c.requires.placed in
-    let made : Made b laws ins outs s a s a false = made_none b laws ins outs s a placed in
+    let made = made_none laws placed in
     let wants : b.process.want s ≡ Write c.in-Write.port = sym c.want.ensures ∙ c.in-Write.is in
-    omega (arith, c.if-prove-2.true, output_there b laws ins outs s a placed s a false made c.in-Write.port wants)
+    omega (arith, c.if-prove-2.true, output_there laws placed made c.in-Write.port wants)
 
 pub returns-in_default-clause-visited : goal.returns-in_default-clause-visited
 returns-in_default-clause-visited g c =
@@ -45,28 +37,24 @@ returns-in_default-clause-visited g c =
     let outs = c.args.outputs.now in
     let s = node.state c.args.self.now in
     let view = g.E.Ends.view in
-    let a = view c.args.ends.now in
     let placed = c.requires.placed in
-    let made : Made b laws ins outs s a s a false = made_none b laws ins outs s a placed in
+    let made = made_none laws placed in
     let wants : b.process.want s ≡ Read c.in-Read.port = sym c.want.ensures ∙ c.in-Read.is in
     let u = view c.take.new.self in
-    let looked : Made b laws ins outs s a s u false = made_looked b laws ins outs s a placed s a false made c.in-Read.port u wants c.in_default.ensures.none.0 in
-    visited b laws ins outs s a placed s u false looked (λ h. subst (IsStuck ins outs u) (sym wants) c.in_default.ensures.none.1)
+    let looked = made_looked laws placed made c.in-Read.port u wants c.in_default.ensures.none.0 in
+    visited laws placed looked (λ h. subst (IsStuck ins outs u) (sym wants) c.in_default.ensures.none.1)
 
 pub returns-in_err-give-in-Read-clause-broke : goal.returns-in_err-give-in-Read-clause-broke
 returns-in_err-give-in-Read-clause-broke g c =
     let node = node_of g.W.Worker.state g.W.Worker.machine g.met.W.Worker.laws in
     let b = node.behaviour in
     let laws = node.laws in
-    let ins = c.args.inputs.now in
-    let outs = c.args.outputs.now in
     let s = node.state c.args.self.now in
     let view = g.E.Ends.view in
-    let a = view c.args.ends.now in
     let placed = c.requires.placed in
-    let made : Made b laws ins outs s a s a false = made_none b laws ins outs s a placed in
+    let made = made_none laws placed in
     let starves : b.takes_memory s ≡ true = starves_err (b.takes_memory s) c.give.result c.in_err-give-in-Read.field-0.0 c.in_err-give-in-Read.was c.give.ensures.sure in
-    on_err c.from_residual.result (broke_reading b laws ins outs s a placed s a false made c.in-Read.port (signal_of c.in-Some.message) (node.state c.give.new.self) (view c.take.new.self) (sym c.want.ensures ∙ c.in-Read.is) c.in-Some.ensures.some c.in_err-give-in-Read.ensures.err starves)
+    on_err c.from_residual.result (broke_reading laws placed made c.in-Read.port (signal_of c.in-Some.message) (node.state c.give.new.self) (view c.take.new.self) (sym c.want.ensures ∙ c.in-Read.is) c.in-Some.ensures.some c.in_err-give-in-Read.ensures.err starves)
 
 pub returns-then-not-room-clause-visited : goal.returns-then-not-room-clause-visited
 returns-then-not-room-clause-visited g c =
@@ -77,85 +65,74 @@ returns-then-not-room-clause-visited g c =
     let outs = c.args.outputs.now in
     let s = node.state c.args.self.now in
     let view = g.E.Ends.view in
-    let a = view c.args.ends.now in
     let placed = c.requires.placed in
-    let made : Made b laws ins outs s a s a false = made_none b laws ins outs s a placed in
+    let made = made_none laws placed in
     let wants : b.process.want s ≡ Write c.in-Write.port = sym c.want.ensures ∙ c.in-Write.is in
     let u = view c.room.new.self in
     let full : u.room (edge_of outs c.in-Write.port) ≡ 0 = no_room c.room.result (u.room (edge_of outs c.in-Write.port)) c.room.ensures.value c.if-not-room.true in
-    let looked : Made b laws ins outs s a s u false = made_room b laws ins outs s a placed s a false made c.in-Write.port u wants c.room.ensures.looked in
-    visited b laws ins outs s a placed s u false looked (λ h. subst (IsStuck ins outs u) (sym wants) full)
+    let looked = made_room laws placed made c.in-Write.port u wants c.room.ensures.looked in
+    visited laws placed looked (λ h. subst (IsStuck ins outs u) (sym wants) full)
 
 pub returns-in_err-message-in-Write-clause-broke : goal.returns-in_err-message-in-Write-clause-broke
 returns-in_err-message-in-Write-clause-broke g c =
     let node = node_of g.W.Worker.state g.W.Worker.machine g.met.W.Worker.laws in
     let b = node.behaviour in
     let laws = node.laws in
-    let ins = c.args.inputs.now in
-    let outs = c.args.outputs.now in
     let s = node.state c.args.self.now in
     let view = g.E.Ends.view in
-    let a = view c.args.ends.now in
     let placed = c.requires.placed in
-    let made : Made b laws ins outs s a s a false = made_none b laws ins outs s a placed in
+    let made = made_none laws placed in
     let wants : b.process.want s ≡ Write c.in-Write.port = sym c.want.ensures ∙ c.in-Write.is in
     let u = view c.room.new.self in
     let starves : b.takes_memory s ≡ true = starves_err (b.takes_memory s) c.emit.result c.in_err-message-in-Write.field-0.0 c.in_err-message-in-Write.was c.emit.ensures.sure in
-    let looked : Made b laws ins outs s a s u false = made_room b laws ins outs s a placed s a false made c.in-Write.port u wants c.room.ensures.looked in
-    on_err c.from_residual-in_err-message-in-Write.result (broke_off b laws ins outs s a placed s u false looked (node.state c.emit.new.self) c.in_err-message-in-Write.ensures.err starves)
+    let looked = made_room laws placed made c.in-Write.port u wants c.room.ensures.looked in
+    on_err c.from_residual-in_err-message-in-Write.result (broke_off laws placed looked (node.state c.emit.new.self) c.in_err-message-in-Write.ensures.err starves)
 
 pub returns-in_ok-give-in-Read-clause-visited : goal.returns-in_ok-give-in-Read-clause-visited
 returns-in_ok-give-in-Read-clause-visited g c =
     let node = node_of g.W.Worker.state g.W.Worker.machine g.met.W.Worker.laws in
     let b = node.behaviour in
     let laws = node.laws in
-    let ins = c.args.inputs.now in
-    let outs = c.args.outputs.now in
     let s = node.state c.args.self.now in
     let view = g.E.Ends.view in
-    let a = view c.args.ends.now in
     let placed = c.requires.placed in
-    let made : Made b laws ins outs s a s a false = made_none b laws ins outs s a placed in
+    let made = made_none laws placed in
     let wants : b.process.want s ≡ Read c.in-Read.port = sym c.want.ensures ∙ c.in-Read.is in
     let t = node.state c.give.new.self in
     let w = view c.take.new.self in
-    let after : Made b laws ins outs s a t w true = made_read b laws ins outs s a placed s a false made c.in-Read.port (signal_of c.in-Some.message) t w wants c.in-Some.ensures.some c.in_ok-give-in-Read.ensures.ok in
-    visited b laws ins outs s a placed t w true after (λ h. cc)
+    let after = made_read laws placed made c.in-Read.port (signal_of c.in-Some.message) t w wants c.in-Some.ensures.some c.in_ok-give-in-Read.ensures.ok in
+    visited laws placed after (λ h. cc)
 
 pub returns-in_ok-message-in-Write-clause-visited : goal.returns-in_ok-message-in-Write-clause-visited
 returns-in_ok-message-in-Write-clause-visited g c =
     let node = node_of g.W.Worker.state g.W.Worker.machine g.met.W.Worker.laws in
     let b = node.behaviour in
     let laws = node.laws in
-    let ins = c.args.inputs.now in
     let outs = c.args.outputs.now in
     let s = node.state c.args.self.now in
     let view = g.E.Ends.view in
-    let a = view c.args.ends.now in
     let placed = c.requires.placed in
-    let made : Made b laws ins outs s a s a false = made_none b laws ins outs s a placed in
+    let made = made_none laws placed in
     let wants : b.process.want s ≡ Write c.in-Write.port = sym c.want.ensures ∙ c.in-Write.is in
     let sent = c.in_ok-message-in-Write in
     let t = node.state c.emit.new.self in
     let u = view c.room.new.self in
     let w = view c.put.new.self in
     let certain : 0 < u.room (edge_of outs c.in-Write.port) = c.room.ensures.value.0 (cc (c.if-not-room.false)) in
-    let after : Made b laws ins outs s a t w true = made_put b laws ins outs s a placed s a false made c.in-Write.port sent.message t u w c.put.result wants sent.ensures.ok.0 sent.ensures.ok.1 c.room.ensures.looked certain c.put.ensures.ok c.put.ensures.refused c.put.ensures.closed c.put.ensures.succeeds in
-    visited b laws ins outs s a placed t w true after (λ h. cc)
+    let after = made_put laws placed made c.in-Write.port sent.message t u w c.put.result wants sent.ensures.ok.0 sent.ensures.ok.1 c.room.ensures.looked certain c.put.ensures.ok c.put.ensures.refused c.put.ensures.closed c.put.ensures.succeeds in
+    visited laws placed after (λ h. cc)
 
 pub returns-in-Ended-clause-visited : goal.returns-in-Ended-clause-visited
 returns-in-Ended-clause-visited g c =
     let node = node_of g.W.Worker.state g.W.Worker.machine g.met.W.Worker.laws in
-    let b = node.behaviour in
     let laws = node.laws in
     let ins = c.args.inputs.now in
     let outs = c.args.outputs.now in
-    let s = node.state c.args.self.now in
     let view = g.E.Ends.view in
     let a = view c.args.ends.now in
     let placed = c.requires.placed in
-    let made : Made b laws ins outs s a s a false = made_none b laws ins outs s a placed in
-    visited b laws ins outs s a placed s a false made (λ h. elim c.in-Ended.is [
+    let made = made_none laws placed in
+    visited laws placed made (λ h. elim c.in-Ended.is [
       | inl is ↦ subst (IsStuck ins outs a) (sym (sym c.want.ensures ∙ is)) tt
       | inr x ↦ subst (IsStuck ins outs a) (sym (sym c.want.ensures ∙ x.1)) tt
     ])

@@ -1,256 +1,37 @@
-use Rattle.std.proofs.Common.{◌≡◌, ◌<◌, true, false, refl, sym, ◌∙◌, ap, subst, arith}
-use Rattle.kahn.specs.declared.want.Want.TheVariants.{Read, Write}
-use Rattle.flow_edges.specs.Signals.{signal_of, carry}
-use Rattle.flow_edges.specs.declared.message.Msg.TheVariants as msg
-use Rattle.flow_base.specs.Machines.{move_of, told_of}
-use Rattle.flow_base.specs.Nodes.{node_state, want_in, told_in, after_in, memory_in}
+use Rattle.std.proofs.Common.{◌≡◌, true, sym, ◌∙◌, ap, subst, nat_lt}
+use Rattle.std.proofs.lemmas.Bool.{or_left}
+use Rattle.flow_base.specs.declared.node.Phase.TheVariants.{Working}
 use Rattle.flow_base.specs.Members.{node_of}
-use Rattle.flow_base.specs.Visits.{edge_of, IsStuck}
-use Rattle.flow_base.proofs.Visits.{Made, made_none, input_there, output_there, reads_at, made_read, made_put, made_looked, made_room, visited, broke_off, broke_reading, starves_err, no_room, on_err}
-use Rattle.flow_base.proofs.node.NodeTransducer.run.Goals.{in-Working, in_default, in-Read+else-prove+in-Some+in_ok-read_on-in-Read+else-not-branch, in-Write+else-prove-2+else-not-room+in_ok-item-in-Write+in-Err+in-Item+in-Vec-1, in-Write+else-prove-2+else-not-room+in_ok-item-in-Write+in-Err+in-Item+in-Unit-1, in-Write+else-prove-2+else-not-room+in_ok-item-in-Write+in-Err+in-End-1, in-Write+else-prove-2+else-not-room+in_ok-item-in-Write+in-Ok-1}
+use Rattle.flow_base.specs.Visits.{Visited}
+use Rattle.flow_base.proofs.Visits.{made_none, made_visit, placed_on, visited_on, broke_on, moved, on_err}
+use Rattle.flow_base.proofs.node.NodeTransducer.run.Goals.{in-Working, in_default, in-Working-matches, in_default-matches}
 use Rattle.flow_base.proofs.node.NodeTransducer.run.Goals as goal
 
-pub prove-unreachable-requires : goal.prove-unreachable-requires
-prove-unreachable-requires g c =
-    let m = g.W.Worker.machine in
-    let node = node_of g.W.Worker.state m g.met.W.Worker.laws in
-    let b = node.behaviour in
-    let laws = node.laws in
-    let ins = c.args.inputs.now in
-    let outs = c.args.outputs.now in
-    let s = node.state c.args.self.now in
-    let t = node.state c.loop.self in
-    let view = g.E.Ends.view in
-    let a = view c.args.ends.now in
-    let v = view c.loop.ends in
-    let placed = c.requires.placed in
-    let made = c.loop.invariant.made in
-    let works = c.loop.invariant.works in
-    let wants : b.process.want t ≡ Read c.in-Read.port = ap (λ p. want_in m p t) works ∙ sym c.want_on.ensures ∙ c.in-Read.is in
-    omega (arith, c.if-prove.true, input_there b laws ins outs s a placed t v c.loop.moved made c.in-Read.port wants)
-
-pub prove-unreachable-requires-in-Write : goal.prove-unreachable-requires-in-Write
-prove-unreachable-requires-in-Write g c =
-    let m = g.W.Worker.machine in
-    let node = node_of g.W.Worker.state m g.met.W.Worker.laws in
-    let b = node.behaviour in
-    let laws = node.laws in
-    let ins = c.args.inputs.now in
-    let outs = c.args.outputs.now in
-    let s = node.state c.args.self.now in
-    let t = node.state c.loop.self in
-    let view = g.E.Ends.view in
-    let a = view c.args.ends.now in
-    let v = view c.loop.ends in
-    let placed = c.requires.placed in
-    let made = c.loop.invariant.made in
-    let works = c.loop.invariant.works in
-    let wants : b.process.want t ≡ Write c.in-Write.port = ap (λ p. want_in m p t) works ∙ sym c.want_on.ensures ∙ c.in-Write.is in
-    omega (arith, c.if-prove-2.true, output_there b laws ins outs s a placed t v c.loop.moved made c.in-Write.port wants)
-
-pub take-requires : goal.take-requires
-take-requires g c =
-    let m = g.W.Worker.machine in
-    let node = node_of g.W.Worker.state m g.met.W.Worker.laws in
-    let b = node.behaviour in
-    let laws = node.laws in
-    let ins = c.args.inputs.now in
-    let outs = c.args.outputs.now in
-    let s = node.state c.args.self.now in
-    let t = node.state c.loop.self in
-    let view = g.E.Ends.view in
-    let a = view c.args.ends.now in
-    let v = view c.loop.ends in
-    let placed = c.requires.placed in
-    let made = c.loop.invariant.made in
-    let works = c.loop.invariant.works in
-    reads_at b laws ins outs s a placed t v c.loop.moved made c.in-Read.port c.if-prove.false
-
-pub returns-in_default-take-clause-visited : goal.returns-in_default-take-clause-visited
-returns-in_default-take-clause-visited g c =
-    let m = g.W.Worker.machine in
-    let node = node_of g.W.Worker.state m g.met.W.Worker.laws in
-    let b = node.behaviour in
-    let laws = node.laws in
-    let ins = c.args.inputs.now in
-    let outs = c.args.outputs.now in
-    let s = node.state c.args.self.now in
-    let t = node.state c.loop.self in
-    let view = g.E.Ends.view in
-    let a = view c.args.ends.now in
-    let v = view c.loop.ends in
-    let placed = c.requires.placed in
-    let made = c.loop.invariant.made in
-    let works = c.loop.invariant.works in
-    let wants : b.process.want t ≡ Read c.in-Read.port = ap (λ p. want_in m p t) works ∙ sym c.want_on.ensures ∙ c.in-Read.is in
-    let u = view c.take.new.self in
-    let looked : Made b laws ins outs s a t u c.loop.moved = made_looked b laws ins outs s a placed t v c.loop.moved made c.in-Read.port u wants c.in_default-take.ensures.none.0 in
-    visited b laws ins outs s a placed t u c.loop.moved looked (λ h. subst (IsStuck ins outs u) (sym wants) c.in_default-take.ensures.none.1)
-
-pub returns-then-not-room-clause-visited : goal.returns-then-not-room-clause-visited
-returns-then-not-room-clause-visited g c =
-    let m = g.W.Worker.machine in
-    let node = node_of g.W.Worker.state m g.met.W.Worker.laws in
-    let b = node.behaviour in
-    let laws = node.laws in
-    let ins = c.args.inputs.now in
-    let outs = c.args.outputs.now in
-    let s = node.state c.args.self.now in
-    let t = node.state c.loop.self in
-    let view = g.E.Ends.view in
-    let a = view c.args.ends.now in
-    let v = view c.loop.ends in
-    let placed = c.requires.placed in
-    let made = c.loop.invariant.made in
-    let works = c.loop.invariant.works in
-    let wants : b.process.want t ≡ Write c.in-Write.port = ap (λ p. want_in m p t) works ∙ sym c.want_on.ensures ∙ c.in-Write.is in
-    let u = view c.room.new.self in
-    let full : u.room (edge_of outs c.in-Write.port) ≡ 0 = no_room c.room.result (u.room (edge_of outs c.in-Write.port)) c.room.ensures.value c.if-not-room.true in
-    let looked : Made b laws ins outs s a t u c.loop.moved = made_room b laws ins outs s a placed t v c.loop.moved made c.in-Write.port u wants c.room.ensures.looked in
-    visited b laws ins outs s a placed t u c.loop.moved looked (λ h. subst (IsStuck ins outs u) (sym wants) full)
-
-pub returns-then-not-branch-clause-visited : goal.returns-then-not-branch-clause-visited
-returns-then-not-branch-clause-visited g c =
-    let m = g.W.Worker.machine in
-    let node = node_of g.W.Worker.state m g.met.W.Worker.laws in
-    let b = node.behaviour in
-    let laws = node.laws in
-    let ins = c.args.inputs.now in
-    let outs = c.args.outputs.now in
-    let s = node.state c.args.self.now in
-    let t = node.state c.loop.self in
-    let view = g.E.Ends.view in
-    let a = view c.args.ends.now in
-    let v = view c.loop.ends in
-    let placed = c.requires.placed in
-    let made = c.loop.invariant.made in
-    let works = c.loop.invariant.works in
-    let wants : b.process.want t ≡ Read c.in-Read.port = ap (λ p. want_in m p t) works ∙ sym c.want_on.ensures ∙ c.in-Read.is in
-    let next = node.state c.read_on.new.self in
-    let w = view c.take.new.self in
-    let after : Made b laws ins outs s a next w true = made_read b laws ins outs s a placed t v c.loop.moved made c.in-Read.port (signal_of c.in-Some.message) next w wants c.in-Some.ensures.some c.in_ok-read_on-in-Read.ensures.ok in
-    visited b laws ins outs s a placed next w true after (λ h. cc)
-
-pub returns-in_err-read_on-in-Read-clause-broke : goal.returns-in_err-read_on-in-Read-clause-broke
-returns-in_err-read_on-in-Read-clause-broke g c =
-    let m = g.W.Worker.machine in
-    let node = node_of g.W.Worker.state m g.met.W.Worker.laws in
-    let b = node.behaviour in
-    let laws = node.laws in
-    let ins = c.args.inputs.now in
-    let outs = c.args.outputs.now in
-    let s = node.state c.args.self.now in
-    let t = node.state c.loop.self in
-    let view = g.E.Ends.view in
-    let a = view c.args.ends.now in
-    let v = view c.loop.ends in
-    let placed = c.requires.placed in
-    let made = c.loop.invariant.made in
-    let works = c.loop.invariant.works in
-    let starves : b.takes_memory t ≡ true = ap (λ p. memory_in m p t) works ∙ starves_err (m.takes_memory t.worker.1) c.read_on.result c.in_err-read_on-in-Read.field-0.0 c.in_err-read_on-in-Read.was c.read_on.ensures.sure in
-    on_err c.from_residual.result (broke_reading b laws ins outs s a placed t v c.loop.moved made c.in-Read.port (signal_of c.in-Some.message) (node.state c.read_on.new.self) (view c.take.new.self) (ap (λ p. want_in m p t) works ∙ sym c.want_on.ensures ∙ c.in-Read.is) c.in-Some.ensures.some c.in_err-read_on-in-Read.ensures.err starves)
-
-pub returns-in_err-item-in-Write-clause-broke : goal.returns-in_err-item-in-Write-clause-broke
-returns-in_err-item-in-Write-clause-broke g c =
-    let m = g.W.Worker.machine in
-    let node = node_of g.W.Worker.state m g.met.W.Worker.laws in
-    let b = node.behaviour in
-    let laws = node.laws in
-    let ins = c.args.inputs.now in
-    let outs = c.args.outputs.now in
-    let s = node.state c.args.self.now in
-    let t = node.state c.loop.self in
-    let view = g.E.Ends.view in
-    let a = view c.args.ends.now in
-    let v = view c.loop.ends in
-    let placed = c.requires.placed in
-    let made = c.loop.invariant.made in
-    let works = c.loop.invariant.works in
-    let wants : b.process.want t ≡ Write c.in-Write.port = ap (λ p. want_in m p t) works ∙ sym c.want_on.ensures ∙ c.in-Write.is in
-    let u = view c.room.new.self in
-    let starves : b.takes_memory t ≡ true = ap (λ p. memory_in m p t) works ∙ starves_err (m.takes_memory t.worker.1) c.give.result c.in_err-item-in-Write.field-0.0 c.in_err-item-in-Write.was c.give.ensures.sure in
-    let looked : Made b laws ins outs s a t u c.loop.moved = made_room b laws ins outs s a placed t v c.loop.moved made c.in-Write.port u wants c.room.ensures.looked in
-    on_err c.from_residual-in_err-item-in-Write.result (broke_off b laws ins outs s a placed t u c.loop.moved looked (node_state (g.W.Worker.state c.give.new.self) c.loop.self.phase c.loop.self.at) (ap (λ x. node_state x c.loop.self.phase c.loop.self.at) c.in_err-item-in-Write.ensures.err) starves)
-
-pub loop-preserved : goal.loop-preserved
-loop-preserved g c =
-    let m = g.W.Worker.machine in
-    let node = node_of g.W.Worker.state m g.met.W.Worker.laws in
-    let b = node.behaviour in
-    let laws = node.laws in
-    let ins = c.args.inputs.now in
-    let outs = c.args.outputs.now in
-    let s = node.state c.args.self.now in
-    let t = node.state c.loop.self in
-    let view = g.E.Ends.view in
-    let a = view c.args.ends.now in
-    let v = view c.loop.ends in
-    let placed = c.requires.placed in
-    let made = c.loop.invariant.made in
-    let works = c.loop.invariant.works in
-    let inv = c.loop.invariant in
-    let next = node.state c.match-want_on.self in
-    elim c.match-want_on.branch [
-      | in-Read+else-prove+in-Some+in_ok-read_on-in-Read+else-not-branch w ↦ (let wants : b.process.want t ≡ Read w.in-Read.port = ap (λ p. want_in m p t) works ∙ sym c.want_on.ensures ∙ w.in-Read.is in
-          let is : next ≡ b.process.read t (signal_of w.in-Some.message) = ap node.state w.self-is ∙ w.in_ok-read_on-in-Read.ensures.ok in
-          record {
-            same = subst (g.E.Ends.same c.args.ends.now) (sym w.ends-is) (g.met.E.Ends.same_trans c.args.ends.now c.loop.ends w.take.new.self inv.same w.take.ensures.same);
-            works = ap (λ n. n.phase) w.self-is ∙ w.in_ok-read_on-in-Read.ensures.on (cc (w.if-not-branch.false));
-            made = subst (λ x. Made b laws ins outs s a next (view x) true) (sym w.ends-is) (made_read b laws ins outs s a placed t v c.loop.moved made w.in-Read.port (signal_of w.in-Some.message) next (view w.take.new.self) wants w.in-Some.ensures.some is);
-            first = λ h. cc;
-          })
-      | in-Write+else-prove-2+else-not-room+in_ok-item-in-Write+in-Err+in-Item+in-Vec-1 w ↦ (let wants : b.process.want t ≡ Write w.in-Write.port = ap (λ p. want_in m p t) works ∙ sym c.want_on.ensures ∙ w.in-Write.is in
-          let sent = w.in_ok-item-in-Write in
-          let told : carry (told_of (move_of m t.worker)) ≡ b.process.written t = sym (ap (λ p. told_in m p t) works) in
-          let is : next ≡ b.process.wrote t = ap node.state w.self-is ∙ ap (λ x. node_state x c.loop.self.phase c.loop.self.at) sent.ensures.ok.1 ∙ sym (ap (λ p. after_in m p t) works) in
-          let certain : 0 < (view w.room.new.self).room (edge_of outs w.in-Write.port) = w.room.ensures.value.0 (cc (w.if-not-room.false)) in
-          record {
-            same = subst (g.E.Ends.same c.args.ends.now) (sym w.ends-is) (g.met.E.Ends.same_trans c.args.ends.now w.room.new.self w.put.new.self (g.met.E.Ends.same_trans c.args.ends.now c.loop.ends w.room.new.self inv.same w.room.ensures.same) w.put.ensures.same);
-            works = ap (λ n. n.phase) w.self-is ∙ works;
-            made = subst (λ x. Made b laws ins outs s a next (view x) true) (sym w.ends-is) (made_put b laws ins outs s a placed t v c.loop.moved made w.in-Write.port (msg.Item sent.item) next (view w.room.new.self) (view w.put.new.self) w.put.result wants (ap carry sent.ensures.ok.0 ∙ told) is w.room.ensures.looked certain w.put.ensures.ok w.put.ensures.refused w.put.ensures.closed w.put.ensures.succeeds);
-            first = λ h. cc;
-          })
-      | in-Write+else-prove-2+else-not-room+in_ok-item-in-Write+in-Err+in-Item+in-Unit-1 w ↦ (let wants : b.process.want t ≡ Write w.in-Write.port = ap (λ p. want_in m p t) works ∙ sym c.want_on.ensures ∙ w.in-Write.is in
-          let sent = w.in_ok-item-in-Write in
-          let told : carry (told_of (move_of m t.worker)) ≡ b.process.written t = sym (ap (λ p. told_in m p t) works) in
-          let is : next ≡ b.process.wrote t = ap node.state w.self-is ∙ ap (λ x. node_state x c.loop.self.phase c.loop.self.at) sent.ensures.ok.1 ∙ sym (ap (λ p. after_in m p t) works) in
-          let certain : 0 < (view w.room.new.self).room (edge_of outs w.in-Write.port) = w.room.ensures.value.0 (cc (w.if-not-room.false)) in
-          record {
-            same = subst (g.E.Ends.same c.args.ends.now) (sym w.ends-is) (g.met.E.Ends.same_trans c.args.ends.now w.room.new.self w.put.new.self (g.met.E.Ends.same_trans c.args.ends.now c.loop.ends w.room.new.self inv.same w.room.ensures.same) w.put.ensures.same);
-            works = ap (λ n. n.phase) w.self-is ∙ works;
-            made = subst (λ x. Made b laws ins outs s a next (view x) true) (sym w.ends-is) (made_put b laws ins outs s a placed t v c.loop.moved made w.in-Write.port (msg.Item sent.item) next (view w.room.new.self) (view w.put.new.self) w.put.result wants (ap carry sent.ensures.ok.0 ∙ told) is w.room.ensures.looked certain w.put.ensures.ok w.put.ensures.refused w.put.ensures.closed w.put.ensures.succeeds);
-            first = λ h. cc;
-          })
-      | in-Write+else-prove-2+else-not-room+in_ok-item-in-Write+in-Err+in-End-1 w ↦ (let wants : b.process.want t ≡ Write w.in-Write.port = ap (λ p. want_in m p t) works ∙ sym c.want_on.ensures ∙ w.in-Write.is in
-          let sent = w.in_ok-item-in-Write in
-          let told : carry (told_of (move_of m t.worker)) ≡ b.process.written t = sym (ap (λ p. told_in m p t) works) in
-          let is : next ≡ b.process.wrote t = ap node.state w.self-is ∙ ap (λ x. node_state x c.loop.self.phase c.loop.self.at) sent.ensures.ok.1 ∙ sym (ap (λ p. after_in m p t) works) in
-          let certain : 0 < (view w.room.new.self).room (edge_of outs w.in-Write.port) = w.room.ensures.value.0 (cc (w.if-not-room.false)) in
-          record {
-            same = subst (g.E.Ends.same c.args.ends.now) (sym w.ends-is) (g.met.E.Ends.same_trans c.args.ends.now w.room.new.self w.put.new.self (g.met.E.Ends.same_trans c.args.ends.now c.loop.ends w.room.new.self inv.same w.room.ensures.same) w.put.ensures.same);
-            works = ap (λ n. n.phase) w.self-is ∙ works;
-            made = subst (λ x. Made b laws ins outs s a next (view x) true) (sym w.ends-is) (made_put b laws ins outs s a placed t v c.loop.moved made w.in-Write.port (msg.Item sent.item) next (view w.room.new.self) (view w.put.new.self) w.put.result wants (ap carry sent.ensures.ok.0 ∙ told) is w.room.ensures.looked certain w.put.ensures.ok w.put.ensures.refused w.put.ensures.closed w.put.ensures.succeeds);
-            first = λ h. cc;
-          })
-      | in-Write+else-prove-2+else-not-room+in_ok-item-in-Write+in-Ok-1 w ↦ (let wants : b.process.want t ≡ Write w.in-Write.port = ap (λ p. want_in m p t) works ∙ sym c.want_on.ensures ∙ w.in-Write.is in
-          let sent = w.in_ok-item-in-Write in
-          let told : carry (told_of (move_of m t.worker)) ≡ b.process.written t = sym (ap (λ p. told_in m p t) works) in
-          let is : next ≡ b.process.wrote t = ap node.state w.self-is ∙ ap (λ x. node_state x c.loop.self.phase c.loop.self.at) sent.ensures.ok.1 ∙ sym (ap (λ p. after_in m p t) works) in
-          let certain : 0 < (view w.room.new.self).room (edge_of outs w.in-Write.port) = w.room.ensures.value.0 (cc (w.if-not-room.false)) in
-          record {
-            same = subst (g.E.Ends.same c.args.ends.now) (sym w.ends-is) (g.met.E.Ends.same_trans c.args.ends.now w.room.new.self w.put.new.self (g.met.E.Ends.same_trans c.args.ends.now c.loop.ends w.room.new.self inv.same w.room.ensures.same) w.put.ensures.same);
-            works = ap (λ n. n.phase) w.self-is ∙ works;
-            made = subst (λ x. Made b laws ins outs s a next (view x) true) (sym w.ends-is) (made_put b laws ins outs s a placed t v c.loop.moved made w.in-Write.port (msg.Item sent.item) next (view w.room.new.self) (view w.put.new.self) w.put.result wants (ap carry sent.ensures.ok.0 ∙ told) is w.room.ensures.looked certain w.put.ensures.ok w.put.ensures.refused w.put.ensures.closed w.put.ensures.succeeds);
-            first = λ h. cc;
-          })
-    ]
-
-pub loop-init : goal.loop-init
-loop-init g c =
+pub close-requires-2-clause-placed : goal.close-requires-2-clause-placed
+close-requires-2-clause-placed g c =
     let node = node_of g.W.Worker.state g.W.Worker.machine g.met.W.Worker.laws in
-    record {
-      same = g.met.E.Ends.same_refl c.args.ends.now;
-      works = elim c.match-matches.branch [ in-Working w ↦ w.in-Working.is | in_default w ↦ absurd (cc (w.matches-is, c.if-not-matches.false)) ];
-      made = made_none node.behaviour node.laws c.args.inputs.now c.args.outputs.now (node.state c.args.self.now) (g.E.Ends.view c.args.ends.now) c.requires.placed;
-      first = λ h. refl;
-    }
+    let placed = c.requires.placed in
+    placed_on node.laws placed (made_visit node.laws placed (made_none node.laws placed) c.work.ensures.ends c.in_ok-made.ensures.visited)
+
+pub returns-in_err-close-clause-broke : goal.returns-in_err-close-clause-broke
+returns-in_err-close-clause-broke g c =
+    let node = node_of g.W.Worker.state g.W.Worker.machine g.met.W.Worker.laws in
+    let placed = c.requires.placed in
+    let worked = made_visit node.laws placed (made_none node.laws placed) c.work.ensures.ends c.in_ok-made.ensures.visited in
+    on_err c.from_residual-in_err-close.result (broke_on node.laws placed worked c.in_err-close.ensures.broke)
+
+-- it works no longer, and so it made a step
+pub returns-clause-visited : goal.returns-clause-visited
+returns-clause-visited g c =
+    let node = node_of g.W.Worker.state g.W.Worker.machine g.met.W.Worker.laws in
+    let view = g.E.Ends.view in
+    let placed = c.requires.placed in
+    let s = node.state c.args.self.now in
+    let t = node.state c.work.new.self in
+    let worked = made_visit node.laws placed (made_none node.laws placed) c.work.ensures.ends c.in_ok-made.ensures.visited in
+    let works : s.phase ≡ Working = elim c.match-matches.branch [ in-Working w ↦ w.in-Working.is | in_default w ↦ absurd (cc (w.matches-is, c.if-not-matches.false)) ] in
+    let stopped : t.phase ≡ Working → ⊥ = λ on. elim c.match-matches-2.branch [ in-Working-matches w ↦ absurd (cc (w.matches-is, c.if-matches.false)) | in_default-matches w ↦ w.in_default-matches.not-Working on ] in
+    let some : nat_lt 0 c.in_ok-made.made ≡ true = moved node.laws placed worked (λ same. stopped (sym (ap (λ n. n.phase) same) ∙ works)) in
+    subst (Visited c.args.inputs.now c.args.outputs.now node.behaviour s (view c.args.ends.now) (node.state c.close-2.new.self) (view c.close-2.new.ends))
+    (or_left (nat_lt 0 c.in_ok-made.made) c.in_ok-close.field-0 some)
+    (visited_on node.laws placed worked c.close-2.ensures.ends c.in_ok-close.ensures.visited)

@@ -1,4 +1,4 @@
-use Rattle.std.proofs.Common.{◌≡◌, ◌<◌, true, false, refl, sym, ◌∙◌, ap, subst, arith}
+use Rattle.std.proofs.Common.{◌≡◌, ◌<◌, true, refl, sym, ◌∙◌, ap, subst, arith}
 use Rattle.kahn.specs.declared.want.Want.TheVariants.{Read, Write}
 use Rattle.flow_edges.specs.Signals.{signal_of}
 use Rattle.flow_base.specs.Visits.{edge_of, IsStuck}
@@ -9,7 +9,7 @@ use Rattle.flow_base.proofs.transducer.Transducer.run.Goals as goal
 pub loop-init : goal.loop-init
 loop-init g c = record {
   same = g.met.E.Ends.same_refl c.args.ends.now;
-  made = made_none g.Self.Transducer.behaviour g.met.Self.Transducer.laws c.args.inputs.now c.args.outputs.now (g.Self.Transducer.state c.args.self.now) (g.E.Ends.view c.args.ends.now) c.requires.placed;
+  made = made_none g.met.Self.Transducer.laws c.requires.placed;
   first = λ h. refl;
 }
 
@@ -17,88 +17,57 @@ pub prove-unreachable-requires : goal.prove-unreachable-requires
 prove-unreachable-requires g c =
     let b = g.Self.Transducer.behaviour in
     let laws = g.met.Self.Transducer.laws in
-    let ins = c.args.inputs.now in
-    let outs = c.args.outputs.now in
     let state = g.Self.Transducer.state in
-    let view = g.E.Ends.view in
-    let s = state c.args.self.now in
     let t = state c.loop.self in
-    let a = view c.args.ends.now in
-    let v = view c.loop.ends in
     let placed = c.requires.placed in
     let made = c.loop.invariant.made in
     let wants : b.process.want t ≡ Read c.in-Read.port = sym c.want.ensures ∙ c.in-Read.is in
-    omega (arith, c.if-prove.true, input_there b laws ins outs s a placed t v c.loop.moved made c.in-Read.port wants)
+    omega (arith, c.if-prove.true, input_there laws placed made c.in-Read.port wants)
 
 pub take-requires : goal.take-requires
 take-requires g c =
-    let b = g.Self.Transducer.behaviour in
     let laws = g.met.Self.Transducer.laws in
-    let ins = c.args.inputs.now in
-    let outs = c.args.outputs.now in
-    let state = g.Self.Transducer.state in
-    let view = g.E.Ends.view in
-    let s = state c.args.self.now in
-    let t = state c.loop.self in
-    let a = view c.args.ends.now in
-    let v = view c.loop.ends in
     let placed = c.requires.placed in
     let made = c.loop.invariant.made in
-    reads_at b laws ins outs s a placed t v c.loop.moved made c.in-Read.port c.if-prove.false
+    reads_at laws placed made c.in-Read.port c.if-prove.false
 
 pub prove-unreachable-requires-in-Write : goal.prove-unreachable-requires-in-Write
 prove-unreachable-requires-in-Write g c =
     let b = g.Self.Transducer.behaviour in
     let laws = g.met.Self.Transducer.laws in
-    let ins = c.args.inputs.now in
-    let outs = c.args.outputs.now in
     let state = g.Self.Transducer.state in
-    let view = g.E.Ends.view in
-    let s = state c.args.self.now in
     let t = state c.loop.self in
-    let a = view c.args.ends.now in
-    let v = view c.loop.ends in
     let placed = c.requires.placed in
     let made = c.loop.invariant.made in
     let wants : b.process.want t ≡ Write c.in-Write.port = sym c.want.ensures ∙ c.in-Write.is in
-    omega (arith, c.if-prove-2.true, output_there b laws ins outs s a placed t v c.loop.moved made c.in-Write.port wants)
+    omega (arith, c.if-prove-2.true, output_there laws placed made c.in-Write.port wants)
 
 pub returns-in_err-give-in-Read-clause-broke : goal.returns-in_err-give-in-Read-clause-broke
 returns-in_err-give-in-Read-clause-broke g c =
     let b = g.Self.Transducer.behaviour in
     let laws = g.met.Self.Transducer.laws in
-    let ins = c.args.inputs.now in
-    let outs = c.args.outputs.now in
     let state = g.Self.Transducer.state in
     let view = g.E.Ends.view in
-    let s = state c.args.self.now in
     let t = state c.loop.self in
-    let a = view c.args.ends.now in
-    let v = view c.loop.ends in
     let placed = c.requires.placed in
     let made = c.loop.invariant.made in
     let starves : b.takes_memory t ≡ true = starves_err (b.takes_memory t) c.give.result c.in_err-give-in-Read.field-0.0 c.in_err-give-in-Read.was c.give.ensures.sure in
-    on_err c.from_residual.result (broke_reading b laws ins outs s a placed t v c.loop.moved made c.in-Read.port (signal_of c.in-Some.message) (state c.give.new.self) (view c.take.new.self) (sym c.want.ensures ∙ c.in-Read.is) c.in-Some.ensures.some c.in_err-give-in-Read.ensures.err starves)
+    on_err c.from_residual.result (broke_reading laws placed made c.in-Read.port (signal_of c.in-Some.message) (state c.give.new.self) (view c.take.new.self) (sym c.want.ensures ∙ c.in-Read.is) c.in-Some.ensures.some c.in_err-give-in-Read.ensures.err starves)
 
 pub returns-in_err-message-in-Write-clause-broke : goal.returns-in_err-message-in-Write-clause-broke
 returns-in_err-message-in-Write-clause-broke g c =
     let b = g.Self.Transducer.behaviour in
     let laws = g.met.Self.Transducer.laws in
-    let ins = c.args.inputs.now in
-    let outs = c.args.outputs.now in
     let state = g.Self.Transducer.state in
     let view = g.E.Ends.view in
-    let s = state c.args.self.now in
     let t = state c.loop.self in
-    let a = view c.args.ends.now in
-    let v = view c.loop.ends in
     let placed = c.requires.placed in
     let made = c.loop.invariant.made in
     let wants : b.process.want t ≡ Write c.in-Write.port = sym c.want.ensures ∙ c.in-Write.is in
     let u = view c.room.new.self in
     let starves : b.takes_memory t ≡ true = starves_err (b.takes_memory t) c.emit.result c.in_err-message-in-Write.field-0.0 c.in_err-message-in-Write.was c.emit.ensures.sure in
-    let looked : Made b laws ins outs s a t u c.loop.moved = made_room b laws ins outs s a placed t v c.loop.moved made c.in-Write.port u wants c.room.ensures.looked in
-    on_err c.from_residual-in_err-message-in-Write.result (broke_off b laws ins outs s a placed t u c.loop.moved looked (state c.emit.new.self) c.in_err-message-in-Write.ensures.err starves)
+    let looked = made_room laws placed made c.in-Write.port u wants c.room.ensures.looked in
+    on_err c.from_residual-in_err-message-in-Write.result (broke_off laws placed looked (state c.emit.new.self) c.in_err-message-in-Write.ensures.err starves)
 
 pub returns-in_default-clause-visited : goal.returns-in_default-clause-visited
 returns-in_default-clause-visited g c =
@@ -108,16 +77,13 @@ returns-in_default-clause-visited g c =
     let outs = c.args.outputs.now in
     let state = g.Self.Transducer.state in
     let view = g.E.Ends.view in
-    let s = state c.args.self.now in
     let t = state c.loop.self in
-    let a = view c.args.ends.now in
-    let v = view c.loop.ends in
     let placed = c.requires.placed in
     let made = c.loop.invariant.made in
     let wants : b.process.want t ≡ Read c.in-Read.port = sym c.want.ensures ∙ c.in-Read.is in
     let u = view c.take.new.self in
-    let looked : Made b laws ins outs s a t u c.loop.moved = made_looked b laws ins outs s a placed t v c.loop.moved made c.in-Read.port u wants c.in_default.ensures.none.0 in
-    visited b laws ins outs s a placed t u c.loop.moved looked (λ h. subst (IsStuck ins outs u) (sym wants) c.in_default.ensures.none.1)
+    let looked = made_looked laws placed made c.in-Read.port u wants c.in_default.ensures.none.0 in
+    visited laws placed looked (λ h. subst (IsStuck ins outs u) (sym wants) c.in_default.ensures.none.1)
 
 pub returns-then-not-room-clause-visited : goal.returns-then-not-room-clause-visited
 returns-then-not-room-clause-visited g c =
@@ -127,17 +93,14 @@ returns-then-not-room-clause-visited g c =
     let outs = c.args.outputs.now in
     let state = g.Self.Transducer.state in
     let view = g.E.Ends.view in
-    let s = state c.args.self.now in
     let t = state c.loop.self in
-    let a = view c.args.ends.now in
-    let v = view c.loop.ends in
     let placed = c.requires.placed in
     let made = c.loop.invariant.made in
     let wants : b.process.want t ≡ Write c.in-Write.port = sym c.want.ensures ∙ c.in-Write.is in
     let u = view c.room.new.self in
     let full : u.room (edge_of outs c.in-Write.port) ≡ 0 = no_room c.room.result (u.room (edge_of outs c.in-Write.port)) c.room.ensures.value c.if-not-room.true in
-    let looked : Made b laws ins outs s a t u c.loop.moved = made_room b laws ins outs s a placed t v c.loop.moved made c.in-Write.port u wants c.room.ensures.looked in
-    visited b laws ins outs s a placed t u c.loop.moved looked (λ h. subst (IsStuck ins outs u) (sym wants) full)
+    let looked = made_room laws placed made c.in-Write.port u wants c.room.ensures.looked in
+    visited laws placed looked (λ h. subst (IsStuck ins outs u) (sym wants) full)
 
 pub loop-preserved : goal.loop-preserved
 loop-preserved g c =
@@ -150,7 +113,6 @@ loop-preserved g c =
     let s = state c.args.self.now in
     let t = state c.loop.self in
     let a = view c.args.ends.now in
-    let v = view c.loop.ends in
     let placed = c.requires.placed in
     let made = c.loop.invariant.made in
     let inv = c.loop.invariant in
@@ -160,7 +122,7 @@ loop-preserved g c =
           let is : next ≡ b.process.read t (signal_of w.in-Some.message) = ap state w.self-is ∙ w.in_ok-give-in-Read.ensures.ok in
           record {
             same = subst (g.E.Ends.same c.args.ends.now) (sym w.ends-is) (g.met.E.Ends.same_trans c.args.ends.now c.loop.ends w.take.new.self inv.same w.take.ensures.same);
-            made = subst (λ x. Made b laws ins outs s a next (view x) true) (sym w.ends-is) (made_read b laws ins outs s a placed t v c.loop.moved made w.in-Read.port (signal_of w.in-Some.message) next (view w.take.new.self) wants w.in-Some.ensures.some is);
+            made = subst (λ x. Made b ins outs s a next (view x) true) (sym w.ends-is) (made_read laws placed made w.in-Read.port (signal_of w.in-Some.message) next (view w.take.new.self) wants w.in-Some.ensures.some is);
             first = λ h. cc;
           })
       | in-Write+else-prove-2+else-not-room+in_ok-message-in-Write+in-Err+in-Item+in-Vec-1 w ↦ (let wants : b.process.want t ≡ Write w.in-Write.port = sym c.want.ensures ∙ w.in-Write.is in
@@ -169,7 +131,7 @@ loop-preserved g c =
           let certain : 0 < (view w.room.new.self).room (edge_of outs w.in-Write.port) = w.room.ensures.value.0 (cc (w.if-not-room.false)) in
           record {
             same = subst (g.E.Ends.same c.args.ends.now) (sym w.ends-is) (g.met.E.Ends.same_trans c.args.ends.now w.room.new.self w.put.new.self (g.met.E.Ends.same_trans c.args.ends.now c.loop.ends w.room.new.self inv.same w.room.ensures.same) w.put.ensures.same);
-            made = subst (λ x. Made b laws ins outs s a next (view x) true) (sym w.ends-is) (made_put b laws ins outs s a placed t v c.loop.moved made w.in-Write.port sent.message next (view w.room.new.self) (view w.put.new.self) w.put.result wants sent.ensures.ok.0 is w.room.ensures.looked certain w.put.ensures.ok w.put.ensures.refused w.put.ensures.closed w.put.ensures.succeeds);
+            made = subst (λ x. Made b ins outs s a next (view x) true) (sym w.ends-is) (made_put laws placed made w.in-Write.port sent.message next (view w.room.new.self) (view w.put.new.self) w.put.result wants sent.ensures.ok.0 is w.room.ensures.looked certain w.put.ensures.ok w.put.ensures.refused w.put.ensures.closed w.put.ensures.succeeds);
             first = λ h. cc;
           })
       | in-Write+else-prove-2+else-not-room+in_ok-message-in-Write+in-Err+in-Item+in-Unit-1 w ↦ (let wants : b.process.want t ≡ Write w.in-Write.port = sym c.want.ensures ∙ w.in-Write.is in
@@ -178,7 +140,7 @@ loop-preserved g c =
           let certain : 0 < (view w.room.new.self).room (edge_of outs w.in-Write.port) = w.room.ensures.value.0 (cc (w.if-not-room.false)) in
           record {
             same = subst (g.E.Ends.same c.args.ends.now) (sym w.ends-is) (g.met.E.Ends.same_trans c.args.ends.now w.room.new.self w.put.new.self (g.met.E.Ends.same_trans c.args.ends.now c.loop.ends w.room.new.self inv.same w.room.ensures.same) w.put.ensures.same);
-            made = subst (λ x. Made b laws ins outs s a next (view x) true) (sym w.ends-is) (made_put b laws ins outs s a placed t v c.loop.moved made w.in-Write.port sent.message next (view w.room.new.self) (view w.put.new.self) w.put.result wants sent.ensures.ok.0 is w.room.ensures.looked certain w.put.ensures.ok w.put.ensures.refused w.put.ensures.closed w.put.ensures.succeeds);
+            made = subst (λ x. Made b ins outs s a next (view x) true) (sym w.ends-is) (made_put laws placed made w.in-Write.port sent.message next (view w.room.new.self) (view w.put.new.self) w.put.result wants sent.ensures.ok.0 is w.room.ensures.looked certain w.put.ensures.ok w.put.ensures.refused w.put.ensures.closed w.put.ensures.succeeds);
             first = λ h. cc;
           })
       | in-Write+else-prove-2+else-not-room+in_ok-message-in-Write+in-Err+in-End-1 w ↦ (let wants : b.process.want t ≡ Write w.in-Write.port = sym c.want.ensures ∙ w.in-Write.is in
@@ -187,7 +149,7 @@ loop-preserved g c =
           let certain : 0 < (view w.room.new.self).room (edge_of outs w.in-Write.port) = w.room.ensures.value.0 (cc (w.if-not-room.false)) in
           record {
             same = subst (g.E.Ends.same c.args.ends.now) (sym w.ends-is) (g.met.E.Ends.same_trans c.args.ends.now w.room.new.self w.put.new.self (g.met.E.Ends.same_trans c.args.ends.now c.loop.ends w.room.new.self inv.same w.room.ensures.same) w.put.ensures.same);
-            made = subst (λ x. Made b laws ins outs s a next (view x) true) (sym w.ends-is) (made_put b laws ins outs s a placed t v c.loop.moved made w.in-Write.port sent.message next (view w.room.new.self) (view w.put.new.self) w.put.result wants sent.ensures.ok.0 is w.room.ensures.looked certain w.put.ensures.ok w.put.ensures.refused w.put.ensures.closed w.put.ensures.succeeds);
+            made = subst (λ x. Made b ins outs s a next (view x) true) (sym w.ends-is) (made_put laws placed made w.in-Write.port sent.message next (view w.room.new.self) (view w.put.new.self) w.put.result wants sent.ensures.ok.0 is w.room.ensures.looked certain w.put.ensures.ok w.put.ensures.refused w.put.ensures.closed w.put.ensures.succeeds);
             first = λ h. cc;
           })
       | in-Write+else-prove-2+else-not-room+in_ok-message-in-Write+in-Ok-1 w ↦ (let wants : b.process.want t ≡ Write w.in-Write.port = sym c.want.ensures ∙ w.in-Write.is in
@@ -196,7 +158,7 @@ loop-preserved g c =
           let certain : 0 < (view w.room.new.self).room (edge_of outs w.in-Write.port) = w.room.ensures.value.0 (cc (w.if-not-room.false)) in
           record {
             same = subst (g.E.Ends.same c.args.ends.now) (sym w.ends-is) (g.met.E.Ends.same_trans c.args.ends.now w.room.new.self w.put.new.self (g.met.E.Ends.same_trans c.args.ends.now c.loop.ends w.room.new.self inv.same w.room.ensures.same) w.put.ensures.same);
-            made = subst (λ x. Made b laws ins outs s a next (view x) true) (sym w.ends-is) (made_put b laws ins outs s a placed t v c.loop.moved made w.in-Write.port sent.message next (view w.room.new.self) (view w.put.new.self) w.put.result wants sent.ensures.ok.0 is w.room.ensures.looked certain w.put.ensures.ok w.put.ensures.refused w.put.ensures.closed w.put.ensures.succeeds);
+            made = subst (λ x. Made b ins outs s a next (view x) true) (sym w.ends-is) (made_put laws placed made w.in-Write.port sent.message next (view w.room.new.self) (view w.put.new.self) w.put.result wants sent.ensures.ok.0 is w.room.ensures.looked certain w.put.ensures.ok w.put.ensures.refused w.put.ensures.closed w.put.ensures.succeeds);
             first = λ h. cc;
           })
     ]

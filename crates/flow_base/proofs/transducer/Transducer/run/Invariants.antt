@@ -1,4 +1,4 @@
-use Rattle.std.proofs.Common.{◌≡◌, ℕ, false}
+use Rattle.std.proofs.Common.{◌≡◌, false}
 use Rattle.flow_base.proofs.Visits.{Made}
 use Rattle.flow_base.proofs.transducer.Transducer.run.Given as goal
 
@@ -6,6 +6,6 @@ use Rattle.flow_base.proofs.transducer.Transducer.run.Given as goal
 abbrev pub invariant-loop : goal.invariant-loop
 invariant-loop g l = let state = g.Self.Transducer.state in record {
   same : g.E.Ends.same l.fn.ends l.ends;
-  made : Made g.Self.Transducer.behaviour g.met.Self.Transducer.laws l.fn.inputs l.fn.outputs (state l.fn.self) (g.E.Ends.view l.fn.ends) (state l.self) (g.E.Ends.view l.ends) l.moved;
+  made : Made g.Self.Transducer.behaviour l.fn.inputs l.fn.outputs (state l.fn.self) (g.E.Ends.view l.fn.ends) (state l.self) (g.E.Ends.view l.ends) l.moved;
   first : l.moved ≡ false → l.counter ≡ 0;
 }

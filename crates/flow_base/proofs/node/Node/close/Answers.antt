@@ -1,0 +1,41 @@
+use Rattle.std.proofs.Common.{◌||◌, refl, ◌∙◌, ap, subst}
+use Rattle.std.proofs.Math.Bool.{or-false}
+use Rattle.std.proofs.lemmas.Bool.{or_right}
+use Rattle.flow_base.specs.Members.{node_of}
+use Rattle.flow_base.specs.Visits.{Visited}
+use Rattle.flow_base.proofs.Visits.{Made, made_none, made_visit, visited_on, broke_on, on_err}
+use Rattle.flow_base.proofs.node.Node.close.Goals as goal
+
+pub loop-init : goal.loop-init
+loop-init g c =
+    let node = node_of g.W.Worker.state g.W.Worker.machine g.met.W.Worker.laws in
+    record {
+      same = g.met.E.Ends.same_refl c.args.ends.now;
+      made = made_none node.laws c.requires.placed;
+      first = λ h. refl;
+    }
+
+pub returns-in_err-step-clause-broke : goal.returns-in_err-step-clause-broke
+returns-in_err-step-clause-broke g c =
+    let node = node_of g.W.Worker.state g.W.Worker.machine g.met.W.Worker.laws in
+    on_err c.from_residual.result (broke_on node.laws c.requires.placed c.loop.invariant.made c.in_err-step.ensures.broke)
+
+pub loop-preserved : goal.loop-preserved
+loop-preserved g c =
+    let node = node_of g.W.Worker.state g.W.Worker.machine g.met.W.Worker.laws in
+    let view = g.E.Ends.view in
+    record {
+      same = g.met.E.Ends.same_trans c.args.ends.now c.loop.ends c.step.new.ends c.loop.invariant.same c.step.ensures.same;
+      made = subst (Made node.behaviour c.args.inputs.now c.args.outputs.now (node.state c.args.self.now) (view c.args.ends.now) (node.state c.step.new.self) (view c.step.new.ends))
+          (or_right c.loop.moved c.in_ok-step.field-0 c.if-not-branch.false)
+          (made_visit node.laws c.requires.placed c.loop.invariant.made c.step.ensures.ends c.in_ok-step.ensures.visited);
+      first = λ h. cc;
+    }
+
+pub returns-then-not-branch-clause-visited : goal.returns-then-not-branch-clause-visited
+returns-then-not-branch-clause-visited g c =
+    let node = node_of g.W.Worker.state g.W.Worker.machine g.met.W.Worker.laws in
+    let view = g.E.Ends.view in
+    subst (Visited c.args.inputs.now c.args.outputs.now node.behaviour (node.state c.args.self.now) (view c.args.ends.now) (node.state c.step.new.self) (view c.step.new.ends))
+    (ap (λ any. c.loop.moved || any) c.if-not-branch.true ∙ or-false c.loop.moved)
+    (visited_on node.laws c.requires.placed c.loop.invariant.made c.step.ensures.ends c.in_ok-step.ensures.visited)

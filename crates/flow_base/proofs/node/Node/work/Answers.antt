@@ -1,0 +1,211 @@
+use Rattle.std.proofs.Common.{◌≡◌, ℕ, ◌+◌, ◌<◌, nat_lt, true, sym, ◌∙◌, ap, subst, arith}
+use Rattle.std.proofs.lemmas.Bool.Decides.{nat_tests}
+use Rattle.kahn.specs.declared.want.Want.TheVariants.{Read, Write}
+use Rattle.flow_edges.specs.Signals.{signal_of, carry}
+use Rattle.flow_edges.specs.declared.message.Msg.TheVariants as msg
+use Rattle.flow_base.specs.Machines.{move_of, told_of}
+use Rattle.flow_base.specs.Nodes.{node_state, want_in, told_in, after_in, memory_in}
+use Rattle.flow_base.specs.Members.{node_of}
+use Rattle.flow_base.specs.Visits.{edge_of, IsStuck, Visited}
+use Rattle.flow_base.proofs.Visits.{Made, made_none, input_there, output_there, reads_at, made_read, made_put, made_looked, made_room, visited, broke_off, broke_reading, starves_err, no_room, on_err}
+use Rattle.flow_base.proofs.node.Node.work.Goals.{in-Read+else-prove+in-Some+in_ok-read_on-in-Read+else-not-branch, in-Write+else-prove-2+else-not-room+in_ok-item-in-Write+in-Err+in-Item+in-Vec-1, in-Write+else-prove-2+else-not-room+in_ok-item-in-Write+in-Err+in-Item+in-Unit-1, in-Write+else-prove-2+else-not-room+in_ok-item-in-Write+in-Err+in-End-1, in-Write+else-prove-2+else-not-room+in_ok-item-in-Write+in-Ok-1}
+use Rattle.flow_base.proofs.node.Node.work.Goals as goal
+
+stepped : (n : ℕ) → true ≡ nat_lt 0 (n + 1)
+stepped n = grind (arith, nat_tests)
+
+pub prove-unreachable-requires : goal.prove-unreachable-requires
+prove-unreachable-requires g c =
+    let m = g.W.Worker.machine in
+    let node = node_of g.W.Worker.state m g.met.W.Worker.laws in
+    let b = node.behaviour in
+    let laws = node.laws in
+    let t = node.state c.loop-made.self in
+    let placed = c.requires.placed in
+    let made = c.loop-made.invariant.made in
+    let works = c.loop-made.invariant.works in
+    let wants : b.process.want t ≡ Read c.in-Read.port = ap (λ p. want_in m p t) works ∙ sym c.want_on.ensures ∙ c.in-Read.is in
+    omega (arith, c.if-prove.true, input_there laws placed made c.in-Read.port wants)
+
+pub prove-unreachable-requires-in-Write : goal.prove-unreachable-requires-in-Write
+prove-unreachable-requires-in-Write g c =
+    let m = g.W.Worker.machine in
+    let node = node_of g.W.Worker.state m g.met.W.Worker.laws in
+    let b = node.behaviour in
+    let laws = node.laws in
+    let t = node.state c.loop-made.self in
+    let placed = c.requires.placed in
+    let made = c.loop-made.invariant.made in
+    let works = c.loop-made.invariant.works in
+    let wants : b.process.want t ≡ Write c.in-Write.port = ap (λ p. want_in m p t) works ∙ sym c.want_on.ensures ∙ c.in-Write.is in
+    omega (arith, c.if-prove-2.true, output_there laws placed made c.in-Write.port wants)
+
+pub take-requires : goal.take-requires
+take-requires g c =
+    let m = g.W.Worker.machine in
+    let node = node_of g.W.Worker.state m g.met.W.Worker.laws in
+    let laws = node.laws in
+    let placed = c.requires.placed in
+    let made = c.loop-made.invariant.made in
+    reads_at laws placed made c.in-Read.port c.if-prove.false
+
+pub returns-in_default-clause-visited : goal.returns-in_default-clause-visited
+returns-in_default-clause-visited g c =
+    let m = g.W.Worker.machine in
+    let node = node_of g.W.Worker.state m g.met.W.Worker.laws in
+    let b = node.behaviour in
+    let laws = node.laws in
+    let ins = c.args.inputs.now in
+    let outs = c.args.outputs.now in
+    let t = node.state c.loop-made.self in
+    let view = g.E.Ends.view in
+    let placed = c.requires.placed in
+    let made = c.loop-made.invariant.made in
+    let works = c.loop-made.invariant.works in
+    let wants : b.process.want t ≡ Read c.in-Read.port = ap (λ p. want_in m p t) works ∙ sym c.want_on.ensures ∙ c.in-Read.is in
+    let u = view c.take.new.self in
+    let looked = made_looked laws placed made c.in-Read.port u wants c.in_default.ensures.none.0 in
+    visited laws placed looked (λ h. subst (IsStuck ins outs u) (sym wants) c.in_default.ensures.none.1)
+
+pub returns-then-not-room-clause-visited : goal.returns-then-not-room-clause-visited
+returns-then-not-room-clause-visited g c =
+    let m = g.W.Worker.machine in
+    let node = node_of g.W.Worker.state m g.met.W.Worker.laws in
+    let b = node.behaviour in
+    let laws = node.laws in
+    let ins = c.args.inputs.now in
+    let outs = c.args.outputs.now in
+    let t = node.state c.loop-made.self in
+    let view = g.E.Ends.view in
+    let placed = c.requires.placed in
+    let made = c.loop-made.invariant.made in
+    let works = c.loop-made.invariant.works in
+    let wants : b.process.want t ≡ Write c.in-Write.port = ap (λ p. want_in m p t) works ∙ sym c.want_on.ensures ∙ c.in-Write.is in
+    let u = view c.room.new.self in
+    let full : u.room (edge_of outs c.in-Write.port) ≡ 0 = no_room c.room.result (u.room (edge_of outs c.in-Write.port)) c.room.ensures.value c.if-not-room.true in
+    let looked = made_room laws placed made c.in-Write.port u wants c.room.ensures.looked in
+    visited laws placed looked (λ h. subst (IsStuck ins outs u) (sym wants) full)
+
+pub returns-then-not-branch-clause-visited : goal.returns-then-not-branch-clause-visited
+returns-then-not-branch-clause-visited g c =
+    let m = g.W.Worker.machine in
+    let node = node_of g.W.Worker.state m g.met.W.Worker.laws in
+    let b = node.behaviour in
+    let laws = node.laws in
+    let t = node.state c.loop-made.self in
+    let view = g.E.Ends.view in
+    let placed = c.requires.placed in
+    let made = c.loop-made.invariant.made in
+    let works = c.loop-made.invariant.works in
+    let wants : b.process.want t ≡ Read c.in-Read.port = ap (λ p. want_in m p t) works ∙ sym c.want_on.ensures ∙ c.in-Read.is in
+    let next = node.state c.read_on.new.self in
+    let w = view c.take.new.self in
+    let after = made_read laws placed made c.in-Read.port (signal_of c.in-Some.message) next w wants c.in-Some.ensures.some c.in_ok-read_on-in-Read.ensures.ok in
+    subst (Visited c.args.inputs.now c.args.outputs.now b (node.state c.args.self.now) (view c.args.ends.now) next w) (stepped c.loop-made.made) (visited laws placed after (λ h. cc))
+
+pub returns-in_err-read_on-in-Read-clause-broke : goal.returns-in_err-read_on-in-Read-clause-broke
+returns-in_err-read_on-in-Read-clause-broke g c =
+    let m = g.W.Worker.machine in
+    let node = node_of g.W.Worker.state m g.met.W.Worker.laws in
+    let b = node.behaviour in
+    let laws = node.laws in
+    let t = node.state c.loop-made.self in
+    let view = g.E.Ends.view in
+    let placed = c.requires.placed in
+    let made = c.loop-made.invariant.made in
+    let works = c.loop-made.invariant.works in
+    let starves : b.takes_memory t ≡ true = ap (λ p. memory_in m p t) works ∙ starves_err (m.takes_memory t.worker.1) c.read_on.result c.in_err-read_on-in-Read.field-0.0 c.in_err-read_on-in-Read.was c.read_on.ensures.sure in
+    on_err c.from_residual.result (broke_reading laws placed made c.in-Read.port (signal_of c.in-Some.message) (node.state c.read_on.new.self) (view c.take.new.self) (ap (λ p. want_in m p t) works ∙ sym c.want_on.ensures ∙ c.in-Read.is) c.in-Some.ensures.some c.in_err-read_on-in-Read.ensures.err starves)
+
+pub returns-in_err-item-in-Write-clause-broke : goal.returns-in_err-item-in-Write-clause-broke
+returns-in_err-item-in-Write-clause-broke g c =
+    let m = g.W.Worker.machine in
+    let node = node_of g.W.Worker.state m g.met.W.Worker.laws in
+    let b = node.behaviour in
+    let laws = node.laws in
+    let t = node.state c.loop-made.self in
+    let view = g.E.Ends.view in
+    let placed = c.requires.placed in
+    let made = c.loop-made.invariant.made in
+    let works = c.loop-made.invariant.works in
+    let wants : b.process.want t ≡ Write c.in-Write.port = ap (λ p. want_in m p t) works ∙ sym c.want_on.ensures ∙ c.in-Write.is in
+    let u = view c.room.new.self in
+    let starves : b.takes_memory t ≡ true = ap (λ p. memory_in m p t) works ∙ starves_err (m.takes_memory t.worker.1) c.give.result c.in_err-item-in-Write.field-0.0 c.in_err-item-in-Write.was c.give.ensures.sure in
+    let looked = made_room laws placed made c.in-Write.port u wants c.room.ensures.looked in
+    on_err c.from_residual-in_err-item-in-Write.result (broke_off laws placed looked (node_state (g.W.Worker.state c.give.new.self) c.loop-made.self.phase c.loop-made.self.at) (ap (λ x. node_state x c.loop-made.self.phase c.loop-made.self.at) c.in_err-item-in-Write.ensures.err) starves)
+
+pub loop-made-preserved : goal.loop-made-preserved
+loop-made-preserved g c =
+    let m = g.W.Worker.machine in
+    let node = node_of g.W.Worker.state m g.met.W.Worker.laws in
+    let b = node.behaviour in
+    let laws = node.laws in
+    let ins = c.args.inputs.now in
+    let outs = c.args.outputs.now in
+    let s = node.state c.args.self.now in
+    let t = node.state c.loop-made.self in
+    let view = g.E.Ends.view in
+    let a = view c.args.ends.now in
+    let placed = c.requires.placed in
+    let made = c.loop-made.invariant.made in
+    let works = c.loop-made.invariant.works in
+    let inv = c.loop-made.invariant in
+    let next = node.state c.match-want_on.self in
+    elim c.match-want_on.branch [
+      | in-Read+else-prove+in-Some+in_ok-read_on-in-Read+else-not-branch w ↦ (let wants : b.process.want t ≡ Read w.in-Read.port = ap (λ p. want_in m p t) works ∙ sym c.want_on.ensures ∙ w.in-Read.is in
+          let is : next ≡ b.process.read t (signal_of w.in-Some.message) = ap node.state w.self-is ∙ w.in_ok-read_on-in-Read.ensures.ok in
+          record {
+            same = subst (g.E.Ends.same c.args.ends.now) (sym w.ends-is) (g.met.E.Ends.same_trans c.args.ends.now c.loop-made.ends w.take.new.self inv.same w.take.ensures.same);
+            works = ap (λ n. n.phase) w.self-is ∙ w.in_ok-read_on-in-Read.ensures.on (cc (w.if-not-branch.false));
+            made = subst (λ x. Made b ins outs s a next (view x) (nat_lt 0 (c.loop-made.made + 1))) (sym w.ends-is) (subst (Made b ins outs s a next (view w.take.new.self)) (stepped c.loop-made.made) (made_read laws placed made w.in-Read.port (signal_of w.in-Some.message) next (view w.take.new.self) wants w.in-Some.ensures.some is));
+          })
+      | in-Write+else-prove-2+else-not-room+in_ok-item-in-Write+in-Err+in-Item+in-Vec-1 w ↦ (let wants : b.process.want t ≡ Write w.in-Write.port = ap (λ p. want_in m p t) works ∙ sym c.want_on.ensures ∙ w.in-Write.is in
+          let sent = w.in_ok-item-in-Write in
+          let told : carry (told_of (move_of m t.worker)) ≡ b.process.written t = sym (ap (λ p. told_in m p t) works) in
+          let is : next ≡ b.process.wrote t = ap node.state w.self-is ∙ ap (λ x. node_state x c.loop-made.self.phase c.loop-made.self.at) sent.ensures.ok.1 ∙ sym (ap (λ p. after_in m p t) works) in
+          let certain : 0 < (view w.room.new.self).room (edge_of outs w.in-Write.port) = w.room.ensures.value.0 (cc (w.if-not-room.false)) in
+          record {
+            same = subst (g.E.Ends.same c.args.ends.now) (sym w.ends-is) (g.met.E.Ends.same_trans c.args.ends.now w.room.new.self w.put.new.self (g.met.E.Ends.same_trans c.args.ends.now c.loop-made.ends w.room.new.self inv.same w.room.ensures.same) w.put.ensures.same);
+            works = ap (λ n. n.phase) w.self-is ∙ works;
+            made = subst (λ x. Made b ins outs s a next (view x) (nat_lt 0 (c.loop-made.made + 1))) (sym w.ends-is) (subst (Made b ins outs s a next (view w.put.new.self)) (stepped c.loop-made.made) (made_put laws placed made w.in-Write.port (msg.Item sent.item) next (view w.room.new.self) (view w.put.new.self) w.put.result wants (ap carry sent.ensures.ok.0 ∙ told) is w.room.ensures.looked certain w.put.ensures.ok w.put.ensures.refused w.put.ensures.closed w.put.ensures.succeeds));
+          })
+      | in-Write+else-prove-2+else-not-room+in_ok-item-in-Write+in-Err+in-Item+in-Unit-1 w ↦ (let wants : b.process.want t ≡ Write w.in-Write.port = ap (λ p. want_in m p t) works ∙ sym c.want_on.ensures ∙ w.in-Write.is in
+          let sent = w.in_ok-item-in-Write in
+          let told : carry (told_of (move_of m t.worker)) ≡ b.process.written t = sym (ap (λ p. told_in m p t) works) in
+          let is : next ≡ b.process.wrote t = ap node.state w.self-is ∙ ap (λ x. node_state x c.loop-made.self.phase c.loop-made.self.at) sent.ensures.ok.1 ∙ sym (ap (λ p. after_in m p t) works) in
+          let certain : 0 < (view w.room.new.self).room (edge_of outs w.in-Write.port) = w.room.ensures.value.0 (cc (w.if-not-room.false)) in
+          record {
+            same = subst (g.E.Ends.same c.args.ends.now) (sym w.ends-is) (g.met.E.Ends.same_trans c.args.ends.now w.room.new.self w.put.new.self (g.met.E.Ends.same_trans c.args.ends.now c.loop-made.ends w.room.new.self inv.same w.room.ensures.same) w.put.ensures.same);
+            works = ap (λ n. n.phase) w.self-is ∙ works;
+            made = subst (λ x. Made b ins outs s a next (view x) (nat_lt 0 (c.loop-made.made + 1))) (sym w.ends-is) (subst (Made b ins outs s a next (view w.put.new.self)) (stepped c.loop-made.made) (made_put laws placed made w.in-Write.port (msg.Item sent.item) next (view w.room.new.self) (view w.put.new.self) w.put.result wants (ap carry sent.ensures.ok.0 ∙ told) is w.room.ensures.looked certain w.put.ensures.ok w.put.ensures.refused w.put.ensures.closed w.put.ensures.succeeds));
+          })
+      | in-Write+else-prove-2+else-not-room+in_ok-item-in-Write+in-Err+in-End-1 w ↦ (let wants : b.process.want t ≡ Write w.in-Write.port = ap (λ p. want_in m p t) works ∙ sym c.want_on.ensures ∙ w.in-Write.is in
+          let sent = w.in_ok-item-in-Write in
+          let told : carry (told_of (move_of m t.worker)) ≡ b.process.written t = sym (ap (λ p. told_in m p t) works) in
+          let is : next ≡ b.process.wrote t = ap node.state w.self-is ∙ ap (λ x. node_state x c.loop-made.self.phase c.loop-made.self.at) sent.ensures.ok.1 ∙ sym (ap (λ p. after_in m p t) works) in
+          let certain : 0 < (view w.room.new.self).room (edge_of outs w.in-Write.port) = w.room.ensures.value.0 (cc (w.if-not-room.false)) in
+          record {
+            same = subst (g.E.Ends.same c.args.ends.now) (sym w.ends-is) (g.met.E.Ends.same_trans c.args.ends.now w.room.new.self w.put.new.self (g.met.E.Ends.same_trans c.args.ends.now c.loop-made.ends w.room.new.self inv.same w.room.ensures.same) w.put.ensures.same);
+            works = ap (λ n. n.phase) w.self-is ∙ works;
+            made = subst (λ x. Made b ins outs s a next (view x) (nat_lt 0 (c.loop-made.made + 1))) (sym w.ends-is) (subst (Made b ins outs s a next (view w.put.new.self)) (stepped c.loop-made.made) (made_put laws placed made w.in-Write.port (msg.Item sent.item) next (view w.room.new.self) (view w.put.new.self) w.put.result wants (ap carry sent.ensures.ok.0 ∙ told) is w.room.ensures.looked certain w.put.ensures.ok w.put.ensures.refused w.put.ensures.closed w.put.ensures.succeeds));
+          })
+      | in-Write+else-prove-2+else-not-room+in_ok-item-in-Write+in-Ok-1 w ↦ (let wants : b.process.want t ≡ Write w.in-Write.port = ap (λ p. want_in m p t) works ∙ sym c.want_on.ensures ∙ w.in-Write.is in
+          let sent = w.in_ok-item-in-Write in
+          let told : carry (told_of (move_of m t.worker)) ≡ b.process.written t = sym (ap (λ p. told_in m p t) works) in
+          let is : next ≡ b.process.wrote t = ap node.state w.self-is ∙ ap (λ x. node_state x c.loop-made.self.phase c.loop-made.self.at) sent.ensures.ok.1 ∙ sym (ap (λ p. after_in m p t) works) in
+          let certain : 0 < (view w.room.new.self).room (edge_of outs w.in-Write.port) = w.room.ensures.value.0 (cc (w.if-not-room.false)) in
+          record {
+            same = subst (g.E.Ends.same c.args.ends.now) (sym w.ends-is) (g.met.E.Ends.same_trans c.args.ends.now w.room.new.self w.put.new.self (g.met.E.Ends.same_trans c.args.ends.now c.loop-made.ends w.room.new.self inv.same w.room.ensures.same) w.put.ensures.same);
+            works = ap (λ n. n.phase) w.self-is ∙ works;
+            made = subst (λ x. Made b ins outs s a next (view x) (nat_lt 0 (c.loop-made.made + 1))) (sym w.ends-is) (subst (Made b ins outs s a next (view w.put.new.self)) (stepped c.loop-made.made) (made_put laws placed made w.in-Write.port (msg.Item sent.item) next (view w.room.new.self) (view w.put.new.self) w.put.result wants (ap carry sent.ensures.ok.0 ∙ told) is w.room.ensures.looked certain w.put.ensures.ok w.put.ensures.refused w.put.ensures.closed w.put.ensures.succeeds));
+          })
+    ]
+
+pub loop-made-init : goal.loop-made-init
+loop-made-init g c =
+    let node = node_of g.W.Worker.state g.W.Worker.machine g.met.W.Worker.laws in
+    record {
+      same = g.met.E.Ends.same_refl c.args.ends.now;
+      works = c.requires.works;
+      made = made_none node.laws c.requires.placed;
+    }
