@@ -5,6 +5,7 @@ ghost use Rattle.flow_graph.specs.Graphs.{states_of, edges_of};
 ghost use Rattle.flow_graph.specs.Layouts.{nodes_of, edges_in, FitTogether};
 ghost use Rattle.flow_graph.specs.Shapes.{IsSameNetwork};
 
+use crate::edge::Edge;
 use crate::graph::{Graph, Layout};
 use crate::placed::Placed;
 use flow_base::Transducer;
@@ -21,6 +22,13 @@ impl<T: Transducer> Graph<T> {
 }
 
 impl Layout {
+    /// Its edges, in the order of their numbers.
+    pub fn edges(&self) -> &[Edge]
+        ensures { result.now ≡ edges_in self.now }
+    {
+        &self.edges
+    }
+
     /// The graph of these nodes, which are those of the layout in their order, in whatever states. Its network is that
     /// of all nodes that opened as these did.
     pub fn put_together<T: Transducer>(self, nodes: Vec<Placed<T>>) -> Graph<T>
