@@ -1,4 +1,4 @@
-// Opening boxes, and boxes as ends.
+// Opening boxes, and boxes as ends that count.
 ghost use Rattle.std.specs.Prelude.{◌≡◌, ◌<◌, false, IfOk, OnOk, OnErr};
 ghost use Rattle.flow_boxes.specs.Contents.{contents, view_of};
 ghost use Rattle.flow_boxes.specs.Rounds.{KeepsRound, HasNone, OpensWriter, OpensReader};
@@ -6,7 +6,7 @@ ghost use Rattle.flow_boxes.specs.Rounds.{KeepsRound, HasNone, OpensWriter, Open
 use crate::boxes::Boxes;
 use crate::inbox::Inbox;
 use crate::outbox::Outbox;
-use flow_edges::{Ends, Msg, Refused};
+use flow_edges::{CountedEnds, Ends, Msg, Refused};
 use std::alloc::{AllocError, Global};
 
 impl Boxes {
@@ -101,4 +101,20 @@ impl Ends for Boxes {
     ghost same_refl = { λ a. keeps_refl (contents a) };
 
     ghost same_trans = { λ a b c. keeps_trans (contents a) (contents b) (contents c) };
+}
+
+impl CountedEnds for Boxes {
+    fn sent_count(&self, edge: usize) -> u64 {
+        match &self.outboxes[edge] {
+            Some(outbox) => outbox.put,
+            None => unreachable!(),
+        }
+    }
+
+    fn received_count(&self, edge: usize) -> u64 {
+        match &self.inboxes[edge] {
+            Some(inbox) => inbox.taken,
+            None => unreachable!(),
+        }
+    }
 }

@@ -1,6 +1,7 @@
 // The reader's box of an edge.
-ghost use Rattle.std.specs.Prelude.{◌≡◌, ◌≤◌, [], ◌∷◌, ◌++◌, IfOk, IfSome, IfNone};
+ghost use Rattle.std.specs.Prelude.{◌≡◌, ◌≤◌, [], ◌∷◌, ◌++◌, length, IfOk, IfSome, IfNone};
 ghost use Rattle.std.specs.VecDeque.{deque_capacity};
+ghost use Rattle.std.specs.Io.Iter.{u64_saturate};
 
 use flow_edges::Msg;
 use flow_history::History;
@@ -11,7 +12,10 @@ use std::collections::VecDeque;
 #[derive(Drop)]
 pub struct Inbox {
     pub queue: VecDeque<Msg>,
+    /// How many messages were taken. The count stays at `u64::MAX`.
+    pub taken: u64,
     pub received: History<Msg>,
+    ghost counts: { taken ≡ u64_saturate (length received.items) },
 }
 
 impl Inbox {
@@ -23,6 +27,7 @@ impl Inbox {
         let queue = VecDeque::with_capacity(alloc, capacity)?;
         Ok(Inbox {
             queue,
+            taken: 0,
             received: History::new(),
         })
     }
@@ -34,6 +39,7 @@ impl Inbox {
         ensures none { IfNone result ((self.new.received.items ≡ self.old.received.items) × (self.new.queue.items ≡ []) × (self.old.queue.items ≡ [])) }
     {
         let message = self.queue.pop_front()?;
+        self.taken = self.taken.saturating_add(1);
         self.received = self.received.with(&message);
         Some(message)
     }

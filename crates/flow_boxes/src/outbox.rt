@@ -1,6 +1,7 @@
 // The writer's box of an edge.
 ghost use Rattle.std.specs.Prelude.{◌≡◌, ◌+◌, ◌<◌, ◌≤◌, ◌↔◌, true, false, [], ◌∷◌, ◌++◌, length, IsOk, OnOk, IfOk, IfErr, IsErrAnd};
 ghost use Rattle.std.specs.VecDeque.{deque_capacity};
+ghost use Rattle.std.specs.Io.Iter.{u64_saturate};
 ghost use Rattle.flow_edges.specs.Signals.{signals, ended, orderly};
 ghost use Rattle.flow_edges.specs.declared.ends.Why.TheVariants.{Full, Closed};
 
@@ -17,8 +18,11 @@ pub struct Outbox {
     pub queue: VecDeque<Msg>,
     pub room: usize,
     closed: bool,
+    /// How many messages were put. The count stays at `u64::MAX`.
+    pub put: u64,
     pub sent: History<Msg>,
     ghost closes: { closed ≡ ended (signals sent.items) },
+    ghost counts: { put ≡ u64_saturate (length sent.items) },
     ghost orderly: { orderly (signals sent.items) ≡ true },
     ghost reserved: { length queue.items + room ≤ deque_capacity queue },
 }
@@ -35,6 +39,7 @@ impl Outbox {
             queue,
             room: capacity,
             closed: false,
+            put: 0,
             sent: History::new(),
         })
     }
@@ -67,6 +72,7 @@ impl Outbox {
             Ok(()) => {
                 self.room -= 1;
                 self.closed = closes;
+                self.put = self.put.saturating_add(1);
                 self.sent = sent;
                 Ok(())
             }

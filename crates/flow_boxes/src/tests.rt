@@ -5,7 +5,7 @@ ghost use Rattle.flow_boxes.specs.Rounds.{IsLinked};
 
 use crate::boxes::Boxes;
 use crate::carrying::{carry, carry_own};
-use flow_edges::{Ends, Item, Msg, Refused, Why};
+use flow_edges::{CountedEnds, Ends, Item, Msg, Refused, Why};
 use std::alloc::{AllocError, Global};
 use std::test::Fail;
 
@@ -78,6 +78,9 @@ fn both_boxes_may_lie_in_one_share(rt: HostRuntime) -> Result<(), Fail> {
     assert!(rt; !boxes.ready(0));
     carry_own(&mut boxes, 0);
     assert!(rt; boxes.ready(0));
+    assert_eq!(rt; boxes.sent_count(0), 1);
+    assert_eq!(rt; boxes.received_count(0), 0);
     assert!(rt; is_number(boxes.take(0), 1));
+    assert_eq!(rt; boxes.received_count(0), 1);
     Ok(())
 }

@@ -1,3 +1,4 @@
 pub mod Signals
+pub mod Counts
 pub mod Tables
 pub mod Waiting

@@ -34,10 +34,10 @@ module _ {L X : Type 0} (f : L → X) (ls : List L) (e : ℕ) (d : X) (old new :
     by_cases (inr ne) = at_line-other f ls e d new k ne
 
 -- what a view reads off a line
-abbrev sent_on : Line → List Signal
+abbrev pub sent_on : Line → List Signal
 sent_on l = signals l.sent.items
 
-abbrev received_on : Line → List Signal
+abbrev pub received_on : Line → List Signal
 received_on l = signals l.received.items
 
 abbrev coming_on : Line → List Signal

@@ -2,10 +2,11 @@
 //!
 //! An edge is a channel as in Kahn's networks of processes (1974), but it holds no more messages than
 //! its capacity. A message is an item or the end of the stream. [`Ends`] is what a driver of
-//! transducers sees of a set of edges, [`WholeEnds`] where it sees both ends of each, and [`Table`]
-//! holds both ends of every edge, in one thread.
+//! transducers sees of a set of edges, [`WholeEnds`] where it sees both ends of each, [`CountedEnds`]
+//! where the messages are counted, and [`Table`] holds both ends of every edge, in one thread.
 #![tactic(auto)]
 
+mod counted;
 mod ends;
 mod line;
 mod message;
@@ -14,6 +15,7 @@ mod table_ends;
 mod theorems;
 mod whole;
 
+pub use counted::CountedEnds;
 pub use ends::{Ends, Refused, Why};
 pub use message::{Item, Kind, Msg};
 pub use table::{MAX_CAPACITY, Table};

@@ -1,6 +1,7 @@
 // One edge in one thread.
 ghost use Rattle.std.specs.Prelude.{◌≡◌, ◌+◌, ◌-◌, ◌<◌, ◌≤◌, ◌↔◌, true, false, [], ◌∷◌, ◌++◌, length, IsTrue, IsOk, IsSome, OnOk, IfOk, IfErr, IsErrAnd, IfSome, IfNone};
 ghost use Rattle.std.specs.VecDeque.{deque_capacity};
+ghost use Rattle.std.specs.Io.Iter.{u64_saturate};
 ghost use Rattle.flow_edges.specs.Signals.{signals, ended, orderly};
 ghost use Rattle.flow_edges.specs.declared.ends.Why.TheVariants.{Full, Closed};
 
@@ -16,10 +17,13 @@ pub struct Line {
     pub queue: VecDeque<Msg>,
     pub capacity: usize,
     closed: bool,
+    /// How many messages were taken. The count stays at `u64::MAX`.
+    pub taken: u64,
     pub sent: History<Msg>,
     pub received: History<Msg>,
     ghost fifo: { received.items ++ queue.items ≡ sent.items },
     ghost closes: { closed ≡ ended (signals sent.items) },
+    ghost counts: { taken ≡ u64_saturate (length received.items) },
     ghost orderly: { orderly (signals sent.items) ≡ true },
     ghost bound: { length queue.items ≤ capacity },
     ghost reserved: { capacity ≤ deque_capacity queue },
@@ -36,6 +40,7 @@ impl Line {
             queue,
             capacity,
             closed: false,
+            taken: 0,
             sent: History::new(),
             received: History::new(),
         })
@@ -98,7 +103,16 @@ impl Line {
         ensures none { IfNone result ((self.new.received.items ≡ self.old.received.items) × (self.new.queue.items ≡ []) × (self.old.queue.items ≡ [])) }
     {
         let message = self.queue.pop_front()?;
+        self.taken = self.taken.saturating_add(1);
         self.received = self.received.with(&message);
         Some(message)
+    }
+
+    /// How many messages were put on it. The count stays at `u64::MAX`.
+    pub fn sent_count(&self) -> u64
+        ensures { result ≡ u64_saturate (length self.now.sent.items) }
+    {
+        // What was put was taken or is held, so a put has nothing to count.
+        self.taken.saturating_add(self.queue.len() as u64)
     }
 }

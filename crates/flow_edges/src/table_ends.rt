@@ -1,8 +1,9 @@
-// A table of fresh edges, a table as ends, and a table as both ends of each edge.
+// A table of fresh edges, a table as ends, as both ends of each edge, and as ends that count.
 ghost use Rattle.std.specs.Prelude.{◌≡◌, ◌<◌, ◌≤◌, ◌↔◌, IsTrue, IfOk};
 ghost use Rattle.flow_edges.specs.Limits.{greatest_capacity};
 ghost use Rattle.flow_edges.specs.Tables.{ends_of, capacity_of, IsFresh};
 
+use crate::counted::CountedEnds;
 use crate::ends::{Ends, Refused};
 use crate::line::Line;
 use crate::message::Msg;
@@ -91,4 +92,14 @@ impl WholeEnds for Table {
     ghost whole = { whole_table };
 
     ghost same_capacity = { λ a b same. same };
+}
+
+impl CountedEnds for Table {
+    fn sent_count(&self, edge: usize) -> u64 {
+        self.lines[edge].sent_count()
+    }
+
+    fn received_count(&self, edge: usize) -> u64 {
+        self.lines[edge].taken
+    }
 }
