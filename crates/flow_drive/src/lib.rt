@@ -2,20 +2,20 @@
 #![tactic(auto)]
 
 mod config;
-mod counted_ends;
 mod driver;
-mod gate;
+mod lines;
 mod outcome;
 mod over;
 mod pass;
 mod queries;
 mod rested;
+mod rounds;
 mod serial;
 mod theorems;
 
 pub use config::{Config, Drive, MAX_CHUNK, MAX_IDLE_TURNS, MAX_SHARE, MAX_THREADS, Sharing};
 pub use driver::{DriveError, drive};
-pub use gate::{Gate, NoGate};
+pub use flow_shares::{Gate, NoGate};
 pub use kahn::Outcome;
 pub use rested::Rested;
 pub use theorems::rested_is_sound;

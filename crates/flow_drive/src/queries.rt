@@ -5,9 +5,12 @@ ghost use Rattle.flow_drive.specs.Drives.{ComesOut};
 ghost use Rattle.flow_drive.specs.Resteds.{rested_states, rested_edges, rested_capacity, traffic_of};
 ghost use Rattle.flow_drive.specs.Texts.{last_text, IsTold};
 
+use crate::lines::Lines;
 use crate::outcome::{first_to_write, standing_fault};
 use crate::rested::Rested;
 use flow_base::{Printing, Transducer};
+use flow_edges::CountedEnds;
+use flow_graph::Edge;
 use kahn::Outcome;
 
 impl<T: Transducer> Rested<T> {
@@ -45,10 +48,17 @@ impl<T: Transducer> Rested<T> {
         ensures sent { result.0 ≡ u64_saturate (length ((traffic_of self.now).sent edge)) }
         ensures received { result.1 ≡ u64_saturate (length ((traffic_of self.now).received edge)) }
     {
-        self.ends.counts(edge)
+        let Edge { writer, reader, .. } = self.graph.edge(edge);
+        match &self.lines {
+            Lines::Whole(table) => (table.sent_count(edge), table.received_count(edge)),
+            Lines::Shared(shared) => (
+                shared.of_node(writer).sent_count(edge),
+                shared.of_node(reader).received_count(edge),
+            ),
+        }
     }
 
-    /// How many times the ends of all edges met in the run. In one thread they never do.
+    /// How many epochs the run took, in each of which the ends of all edges met over rings: none, in one thread and in rounds.
     pub fn epochs(&self) -> u64
         ensures { result ≡ 0 }
     {

@@ -1,0 +1,30 @@
+-- The edges of a graph at rest: both ends of each in one table, or in the boxes of shares.
+use Rattle.std.specs.Prelude.{ℕ, List, length, map}
+use Rattle.flow_edges.specs.Ends.{View}
+use Rattle.flow_edges.specs.Tables.{ends_of, capacity_of}
+use Rattle.flow_graph.specs.declared.edge.Edge.{Edge}
+use Rattle.flow_graph.specs.Visits.{HasAllEnds}
+use Rattle.flow_boxes.specs.Contents.{Contents, contents}
+use Rattle.flow_round_laws.specs.Joints.{joint_view, HaveMet}
+use Rattle.flow_drive.specs.declared.lines.Lines.{Lines}
+use Rattle.flow_drive.specs.declared.lines.Lines.TheVariants.{Whole, Shared}
+use Rattle.flow_drive.specs.declared.lines.SharedLines.{SharedLines}
+
+-- what is seen of the boxes of each share
+abbrev pub seen_in : SharedLines → List Contents
+seen_in shared = map contents shared.boxes.items
+
+-- what was sent and received on these edges
+abbrev pub traffic_in : List Edge → Lines → View
+traffic_in edges (Whole table) = ends_of table
+traffic_in edges (Shared shared) = joint_view shared.share.items edges (seen_in shared)
+
+-- how many messages each edge holds at most
+abbrev pub capacity_in : Lines → ℕ
+capacity_in (Whole table) = capacity_of table
+capacity_in (Shared shared) = shared.capacity
+
+-- both ends of each of these edges are there, and have met
+abbrev pub AreThere : List Edge → Lines → Type 0
+AreThere edges (Whole table) = HasAllEnds (length edges) (ends_of table)
+AreThere edges (Shared shared) = HaveMet shared.share.items edges (seen_in shared) shared.capacity
