@@ -18,8 +18,8 @@ module _ {X : Type 0} {t : Ghosts X} where
 
   -- what was sent and received on its edges
   abbrev pub traffic_of : Rested X t → View
-  traffic_of rested = ends_of rested.ends.inner
+  traffic_of rested = ends_of rested.ends
 
   -- how many messages each edge held at most
   abbrev pub rested_capacity : Rested X t → ℕ
-  rested_capacity rested = capacity_of rested.ends.inner
+  rested_capacity rested = capacity_of rested.ends

@@ -9,7 +9,6 @@ ghost use Rattle.flow_drive.specs.Resteds.{rested_states, rested_edges, rested_c
 ghost use Rattle.flow_drive.specs.declared.driver.DriveError.TheVariants.{BadConfig, NoMemory};
 
 use crate::config::{Config, Drive};
-use crate::counted_ends::CountedEnds;
 use crate::gate::Gate;
 use crate::rested::Rested;
 use crate::serial::run_serial;
@@ -76,8 +75,7 @@ fn drive_serial<T: Transducer + Drop>(
     ensures capacity { IfOk result (λ rested. rested_capacity rested ≡ config.now.capacity) }
     ensures run { IfOk result (λ rested. EndsMaximalRun T.behaviour config.now.capacity (states_of graph) (edges_of graph) (rested_states rested) (traffic_of rested)) }
 {
-    let table = Table::new(alloc, graph.edges(), config.capacity)?;
-    let mut ends = CountedEnds::new(alloc, table, graph.edges())?;
+    let mut ends = Table::new(alloc, graph.edges(), config.capacity)?;
     let mut graph = graph;
     run_serial(alloc, &mut graph, &mut ends, config.chunk)?;
     Ok(Rested { graph, ends })

@@ -2,7 +2,6 @@
 #![tactic(auto)]
 
 mod config;
-mod counted_ends;
 mod driver;
 mod gate;
 mod outcome;

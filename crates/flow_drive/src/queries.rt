@@ -8,6 +8,7 @@ ghost use Rattle.flow_drive.specs.Texts.{last_text, IsTold};
 use crate::outcome::{first_to_write, standing_fault};
 use crate::rested::Rested;
 use flow_base::{Printing, Transducer};
+use flow_edges::CountedEnds;
 use kahn::Outcome;
 
 impl<T: Transducer> Rested<T> {
@@ -45,7 +46,7 @@ impl<T: Transducer> Rested<T> {
         ensures sent { result.0 ≡ u64_saturate (length ((traffic_of self.now).sent edge)) }
         ensures received { result.1 ≡ u64_saturate (length ((traffic_of self.now).received edge)) }
     {
-        self.ends.counts(edge)
+        (self.ends.sent_count(edge), self.ends.received_count(edge))
     }
 
     /// How many times the ends of all edges met in the run. In one thread they never do.
