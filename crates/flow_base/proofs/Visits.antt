@@ -349,3 +349,7 @@ module _ {S : Type 0} {b : Behaviour S} (laws : BehaviourLaws b) {inputs outputs
       others = λ e none. next.others e none ∙ received_on next.history e;
       sent = λ e. next.sent e ∙ sent_on next.history e;
     }
+
+  -- a visit is what it made
+  pub made_first : {t : S} {v : View} {any : Bool} → SameEnds a v → Visited inputs outputs b s a t v any → Made b inputs outputs s a t v any
+  made_first ends first = made_visit made_none ends first

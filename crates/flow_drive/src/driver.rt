@@ -100,11 +100,11 @@ fn drive_serial<T: Transducer + Drop>(
     ensures capacity { IfOk result (λ rested. rested_capacity rested ≡ config.now.capacity) }
     ensures run { IfOk result (λ rested. EndsMaximalRun T.behaviour config.now.capacity (states_of graph) (edges_of graph) (rested_states rested) (traffic_of rested)) }
 {
-    let mut table = Table::new(alloc, graph.edges(), config.capacity)?;
+    let mut ends = Table::new(alloc, graph.edges(), config.capacity)?;
     let mut graph = graph;
-    run_serial(alloc, &mut graph, &mut table, config.chunk)?;
+    run_serial(alloc, &mut graph, &mut ends, config.chunk)?;
     Ok(Rested {
         graph,
-        lines: Lines::Whole(table),
+        lines: Lines::Whole(ends),
     })
 }

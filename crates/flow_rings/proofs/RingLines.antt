@@ -82,6 +82,9 @@ module _ (ws : List (Option EdgeWriter)) (rs : List (Option EdgeReader)) (e : �
   pub reader-held : held till e ≡ length (certain_held v)
   reader-held = ap length now_coming ∙ signals-length (certain_held v)
 
+  pub had_received : from.received e ≡ signals (received r)
+  had_received = at_line-here received_of rs e [] old h is ∙ ap received_of was
+
   pub had_held : held from e ≡ length (certain_held r)
   had_held = ap length had_coming ∙ signals-length (certain_held r)
 
@@ -93,7 +96,7 @@ module _ (ws : List (Option EdgeWriter)) (rs : List (Option EdgeReader)) (e : �
       let said = signals-prefix (certain_held r) (m ∷ certain_held v) first in
       record {
         ends = reader_ends;
-        received = at_line-same received_of rs e [] (Some v) h ∙ ap signals grown ∙ signals-snoc (received r) m ∙ ap (λ xs. xs ++ signal_of m ∷ []) (sym (at_line-here received_of rs e [] old h is ∙ ap received_of was));
+        received = at_line-same received_of rs e [] (Some v) h ∙ ap signals grown ∙ signals-snoc (received r) m ∙ ap (λ xs. xs ++ signal_of m ∷ []) (sym had_received);
         others = at_line-other received_of rs e [] (Some v);
         sent = λ k. refl;
         room = λ k _. refl;

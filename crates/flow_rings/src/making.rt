@@ -24,8 +24,13 @@ pub fn edge(alloc: Global, capacity: usize) -> Result<(EdgeWriter, EdgeReader), 
     let writer = EdgeWriter {
         ring: producer,
         closed: false,
+        put: 0,
     };
-    Ok((writer, EdgeReader { ring: consumer }))
+    let reader = EdgeReader {
+        ring: consumer,
+        taken: 0,
+    };
+    Ok((writer, reader))
 }
 
 /// Has both ends of an edge see each other: how many messages the edge holds, and how many more it has

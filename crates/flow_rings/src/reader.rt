@@ -17,7 +17,9 @@ impl EdgeReader {
         ensures open { IfSome result (λ _. ended (signals (received self.old)) ≡ false) }
         ensures succeeds { 0 < length (certain_held self.old) → IsSome result }
     {
-        self.ring.pop().ok()
+        let message = self.ring.pop().ok()?;
+        self.taken = self.taken.saturating_add(1);
+        Some(message)
     }
 
     /// Whether the edge is certain to hold a message. Only the writer adds more.

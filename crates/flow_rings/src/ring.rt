@@ -1,6 +1,7 @@
 // The two ends, as those of a ring.
-ghost use Rattle.std.specs.Prelude.{◌≡◌, true};
-ghost use Rattle.rtrb.specs.Ring.{sent, all_sent};
+ghost use Rattle.std.specs.Prelude.{◌≡◌, true, length};
+ghost use Rattle.std.specs.Io.Iter.{u64_saturate};
+ghost use Rattle.rtrb.specs.Ring.{sent, received, all_sent};
 ghost use Rattle.flow_edges.specs.Signals.{signals, ended, orderly};
 
 use flow_edges::Msg;
@@ -22,14 +23,18 @@ impl Protocol<Msg> for Closing {
 pub struct EdgeWriter {
     pub(crate) ring: Producer<Msg, Global, Closing>,
     pub(crate) closed: bool,
+    pub(crate) put: u64,
     ghost closes: { closed ≡ ended (signals (sent ring)) },
     ghost orderly: { orderly (signals (sent ring)) ≡ true },
+    ghost counts: { put ≡ u64_saturate (length (sent ring)) },
 }
 
 /// The end of an edge that takes messages.
 #[derive(Drop)]
 pub struct EdgeReader {
     pub(crate) ring: Consumer<Msg, Global, Closing>,
+    pub(crate) taken: u64,
+    ghost counts: { taken ≡ u64_saturate (length (received ring)) },
 }
 
 /// What is left of a writer that has finished. It tells the reader what was put.

@@ -4,7 +4,7 @@ ghost use Rattle.flow_rings.specs.Rings.{ends_of, writer_at, reader_at, SameRing
 
 use crate::making::meet;
 use crate::ring::{EdgeReader, EdgeWriter, Held};
-use flow_edges::{Ends, Msg, Refused};
+use flow_edges::{CountedEnds, Ends, Msg, Refused};
 use std::alloc::{AllocError, Global};
 
 /// Some writers and some readers, each at the number of its edge.
@@ -67,6 +67,22 @@ impl Ends for Rings {
     ghost same_refl = { same_rings_refl };
 
     ghost same_trans = { same_rings_trans };
+}
+
+impl CountedEnds for Rings {
+    fn sent_count(&self, edge: usize) -> u64 {
+        match &self.writers[edge] {
+            Some(writer) => writer.put,
+            None => unreachable!(),
+        }
+    }
+
+    fn received_count(&self, edge: usize) -> u64 {
+        match &self.readers[edge] {
+            Some(reader) => reader.taken,
+            None => unreachable!(),
+        }
+    }
 }
 
 impl Rings {

@@ -6,7 +6,7 @@ use crate::making::edge;
 use crate::ring::Held;
 use crate::rings::Rings;
 use crate::theorems::rings_stay_joined;
-use flow_edges::{Ends, Item, Msg};
+use flow_edges::{CountedEnds, Ends, Item, Msg};
 use std::alloc::{AllocError, Global};
 use std::test::Fail;
 
@@ -91,5 +91,7 @@ fn own_ends_meet(rt: HostRuntime) -> Result<(), Fail> {
     assert!(rt; !share.room(1));
     assert!(rt; matches!(share.take(1), Some(Msg::End)));
     assert_eq!(rt; Some(share.meet_own(1)), held(0, 1));
+    assert_eq!(rt; share.sent_count(1), 1);
+    assert_eq!(rt; share.received_count(1), 1);
     Ok(())
 }

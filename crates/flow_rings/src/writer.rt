@@ -32,6 +32,7 @@ impl EdgeWriter {
         match self.ring.push(message) {
             Ok(()) => {
                 self.closed = closes;
+                self.put = self.put.saturating_add(1);
                 Ok(())
             }
             Err(PushError::Full(message)) => Err(Refused {
@@ -55,7 +56,7 @@ impl EdgeWriter {
     pub fn finish(self) -> Option<FinishedMark>
         ensures { IfSome result (λ f. Finishes self f) }
     {
-        let EdgeWriter { ring, closed: _ } = self;
+        let EdgeWriter { ring, .. } = self;
         let mark = ring.finish()?;
         Some(FinishedMark { mark })
     }

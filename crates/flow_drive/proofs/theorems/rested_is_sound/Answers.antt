@@ -15,5 +15,5 @@ lines_fit capacity (l ∷ lines) even (suc e) = lines_fit capacity lines (λ k d
 
 pub returns-clause-fits : goal.returns-clause-fits
 returns-clause-fits g c e =
-    let table = c.args.rested.now.ends.inner in
+    let table = c.args.rested.now.ends in
     omega (arith, lines_fit table.capacity table.lines.items table.even e, ap length ((whole_table table).coming e), waits-length (capacity_of table) (ends_of table) e (whole_table table))
