@@ -4,7 +4,6 @@
 mod config;
 mod counted_ends;
 mod driver;
-mod gate;
 mod outcome;
 mod over;
 mod pass;
@@ -15,7 +14,7 @@ mod theorems;
 
 pub use config::{Config, Drive, MAX_CHUNK, MAX_IDLE_TURNS, MAX_SHARE, MAX_THREADS, Sharing};
 pub use driver::{DriveError, drive};
-pub use gate::{Gate, NoGate};
+pub use flow_shares::{Gate, NoGate};
 pub use kahn::Outcome;
 pub use rested::Rested;
 pub use theorems::rested_is_sound;
