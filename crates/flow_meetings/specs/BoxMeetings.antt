@@ -1,8 +1,8 @@
 -- Boxes that meet at an edge.
-use Rattle.std.proofs.Common.{◌≡◌, ◌≢◌, ℕ, true, refl}
+use Rattle.std.proofs.Common.{◌≡◌, ◌≢◌, ℕ, true, refl, ◌∙◌}
 use Rattle.flow_boxes.specs.declared.boxes.Boxes.{Boxes}
 use Rattle.flow_boxes.specs.Contents.{Contents, contents, view_of}
-use Rattle.flow_boxes.specs.Rounds.{IsLinked, KeepsRound, CarriesAt}
+use Rattle.flow_boxes.specs.Rounds.{SameBoxes, IsLinked, KeepsRound, CarriesAt}
 use Rattle.flow_boxes.specs.RoundLaws.{same_boxes_refl}
 use Rattle.flow_boxes.proofs.Linking.{writer-linked, reader-linked, writer-elsewhere, reader-elsewhere}
 use Rattle.flow_rings.specs.Rings.{Kept}
@@ -20,6 +20,10 @@ box_places a e = (contents a).capacity
 pub record BoxesMeet (e : ℕ) (a b : Boxes) : Type 0 where
   pub carries : CarriesAt e (contents a) (contents b)
   pub kept : Kept (view_of a) (view_of b)
+
+-- the same boxes are there, with the same capacity
+abbrev pub BoxesStay : Boxes → Boxes → Type 0
+BoxesStay a b = SameBoxes (contents a) (contents b)
 
 carries_refl : (e : ℕ) (a : Contents) → CarriesAt e a a
 carries_refl e a = record {
@@ -49,6 +53,19 @@ boxes_meet_kept e a b met = met.kept
 
 pub boxes_meet_places : (e : ℕ) (a b : Boxes) → BoxesMeet e a b → (k : ℕ) → box_places b k ≡ box_places a k
 boxes_meet_places e a b met k = met.carries.boxes.capacity
+
+pub boxes_meet_same : (e : ℕ) (a b : Boxes) → BoxesMeet e a b → BoxesStay a b
+boxes_meet_same e a b met = met.carries.boxes
+
+pub boxes_same_stay : (a b : Boxes) → KeepsRound (contents a) (contents b) → BoxesStay a b
+boxes_same_stay a b keeps = keeps.boxes
+
+pub boxes_stay_trans : (a b c : Boxes) → BoxesStay a b → BoxesStay b c → BoxesStay a c
+boxes_stay_trans a b c p q = record {
+  ends = record { writes = λ k. q.ends.writes k ∙ p.ends.writes k; reads = λ k. q.ends.reads k ∙ p.ends.reads k };
+  count = q.count ∙ p.count;
+  capacity = q.capacity ∙ p.capacity;
+}
 
 pub boxes_join_writer : (a a' b : Boxes) (e k : ℕ) → BoxesJoin a b k → k ≢ e → BoxesMeet e a a' → BoxesJoin a' b k
 boxes_join_writer a a' b e k joined ne met = writer-elsewhere (contents a) (contents a') (contents b) e k joined ne met.carries.others

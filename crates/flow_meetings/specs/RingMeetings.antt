@@ -61,6 +61,12 @@ rings_keep_places a b same k = same_places (writer_at a k) (writer_at b k) (same
 pub rings_meet_places : (e : ℕ) (a b : Rings) → RingsMeet e a b → (k : ℕ) → ring_places b k ≡ ring_places a k
 rings_meet_places e a b met k = rings_keep_places a b met.same k
 
+pub rings_meet_same : (e : ℕ) (a b : Rings) → RingsMeet e a b → SameRings a b
+rings_meet_same e a b met = met.same
+
+pub rings_same_stay : (a b : Rings) → SameRings a b → SameRings a b
+rings_same_stay a b same = same
+
 pub rings_join_writer : (a a' b : Rings) (e k : ℕ) → RingsJoin a b k → k ≢ e → RingsMeet e a a' → RingsJoin a' b k
 rings_join_writer a a' b e k joined ne met = joins-kept a a' b b k joined met.same (same_rings_refl b)
 

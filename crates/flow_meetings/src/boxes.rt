@@ -3,13 +3,15 @@ use crate::meeting::Meeting;
 use flow_boxes::{Boxes, carry, carry_own};
 
 impl Meeting for Boxes {
-    ghost use Rattle.flow_meetings.specs.BoxMeetings.{BoxesJoin, box_places, BoxesMeet, boxes_join_ends, boxes_meet_refl, boxes_meet_kept, boxes_meet_places, boxes_join_writer, boxes_join_reader, boxes_stay_joined, boxes_keep_places};
+    ghost use Rattle.flow_meetings.specs.BoxMeetings.{BoxesJoin, box_places, BoxesMeet, BoxesStay, boxes_join_ends, boxes_meet_refl, boxes_meet_kept, boxes_meet_places, boxes_meet_same, boxes_same_stay, boxes_stay_trans, boxes_join_writer, boxes_join_reader, boxes_stay_joined, boxes_keep_places};
 
     ghost joins = { BoxesJoin };
 
     ghost places = { box_places };
 
     ghost meets = { BoxesMeet };
+
+    ghost stays = { BoxesStay };
 
     fn meet_with(&mut self, other: &mut Boxes, edge: usize) {
         carry(self, other, edge);
@@ -26,6 +28,12 @@ impl Meeting for Boxes {
     ghost meets_kept = { boxes_meet_kept };
 
     ghost meets_places = { boxes_meet_places };
+
+    ghost meets_stays = { boxes_meet_same };
+
+    ghost same_stays = { boxes_same_stay };
+
+    ghost stays_trans = { boxes_stay_trans };
 
     ghost join_writer = { boxes_join_writer };
 

@@ -39,6 +39,7 @@ pub fn meet_all<E: Meeting>(ends: &mut [E], wires: &[Wire])
     requires readers { (e : ℕ) (w : _) → e < length wires.now → (slice_index_or wires.now e w).reader < length ends.old }
     requires joined { (e : ℕ) (w : _) (d : _) → e < length wires.now → let wire = slice_index_or wires.now e w in E.joins (slice_index_or ends.old wire.writer d) (slice_index_or ends.old wire.reader d) e }
     ensures kept { (k : ℕ) (d : _) → k < length ends.old → Kept (E.view (slice_index_or ends.old k d)) (E.view (slice_index_or ends.new k d)) }
+    ensures same { (k : ℕ) (d : _) → k < length ends.old → E.stays (slice_index_or ends.old k d) (slice_index_or ends.new k d) }
     ensures places { (k e : ℕ) (d : _) → k < length ends.old → E.places (slice_index_or ends.new k d) e ≡ E.places (slice_index_or ends.old k d) e }
     ensures joined { (e : ℕ) (w : _) (d : _) → e < length wires.now → let wire = slice_index_or wires.now e w in E.joins (slice_index_or ends.new wire.writer d) (slice_index_or ends.new wire.reader d) e }
     ensures met { (e : ℕ) (w : _) (d : _) → e < length wires.now → let wire = slice_index_or wires.now e w in let a = slice_index_or ends.new wire.writer d in Met (E.view a) (E.view (slice_index_or ends.new wire.reader d)) (E.places a e) e }

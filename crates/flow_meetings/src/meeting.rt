@@ -18,6 +18,9 @@ pub trait Meeting: Ends {
     /// Before and after a meeting at this edge.
     ghost meets: { ℕ → Self → Self → Type 0 };
 
+    /// The two are the same ends, before and after meetings and whatever else they are called for.
+    ghost stays: { Self → Self → Type 0 };
+
     /// The writer's end that is here and the reader's that is there meet.
     fn meet_with(&mut self, other: &mut Self, edge: usize)
         requires { joins self.old other.old edge }
@@ -44,6 +47,14 @@ pub trait Meeting: Ends {
 
     /// A meeting changes no number of places.
     ghost meets_places: { (e : ℕ) (a b : Self) → meets e a b → (k : ℕ) → places b k ≡ places a k };
+
+    /// A meeting leaves the same ends.
+    ghost meets_stays: { (e : ℕ) (a b : Self) → meets e a b → stays a b };
+
+    /// Whatever the ends are called for between meetings, they are the same.
+    ghost same_stays: { (a b : Self) → Self.same a b → stays a b };
+
+    ghost stays_trans: { (a b c : Self) → stays a b → stays b c → stays a c };
 
     /// What joins stays so over a meeting at another edge, of the writer's share.
     ghost join_writer: { (a a' b : Self) (e k : ℕ) → joins a b k → k ≢ e → meets e a a' → joins a' b k };

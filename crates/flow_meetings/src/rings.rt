@@ -3,14 +3,18 @@ use crate::meeting::Meeting;
 use flow_rings::Rings;
 
 impl Meeting for Rings {
+    ghost use Rattle.flow_rings.specs.Rings.{SameRings};
+    ghost use Rattle.flow_rings.specs.SameEnds.{same_rings_trans};
     ghost use Rattle.flow_rings.proofs.Meetings.{joins-kept};
-    ghost use Rattle.flow_meetings.specs.RingMeetings.{RingsJoin, ring_places, RingsMeet, rings_join_ends, rings_meet_refl, rings_meet_kept, rings_meet_places, rings_join_writer, rings_join_reader, rings_keep_places};
+    ghost use Rattle.flow_meetings.specs.RingMeetings.{RingsJoin, ring_places, RingsMeet, rings_join_ends, rings_meet_refl, rings_meet_kept, rings_meet_places, rings_meet_same, rings_same_stay, rings_join_writer, rings_join_reader, rings_keep_places};
 
     ghost joins = { RingsJoin };
 
     ghost places = { ring_places };
 
     ghost meets = { RingsMeet };
+
+    ghost stays = { SameRings };
 
     fn meet_with(&mut self, other: &mut Rings, edge: usize) {
         Rings::meet_with(self, other, edge);
@@ -27,6 +31,12 @@ impl Meeting for Rings {
     ghost meets_kept = { rings_meet_kept };
 
     ghost meets_places = { rings_meet_places };
+
+    ghost meets_stays = { rings_meet_same };
+
+    ghost same_stays = { rings_same_stay };
+
+    ghost stays_trans = { same_rings_trans };
 
     ghost join_writer = { rings_join_writer };
 

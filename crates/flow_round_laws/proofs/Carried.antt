@@ -2,28 +2,29 @@
 use Rattle.std.proofs.Common.{◌≡◌, ℕ, ◌<◌, ◌≤◌, List, length, ◌⊎◌, inl, inr, sym, ◌∙◌, ap, arith}
 use Rattle.std.proofs.lemmas.Bool.{cases_lt}
 use Rattle.std.proofs.lemmas.List.{get_or_past}
-use Rattle.flow_edges.specs.Ends.{SameTraffic}
+use Rattle.flow_edges.specs.Ends.{View, SameTraffic}
 use Rattle.flow_base.specs.declared.transducer.Transducer.{Ghosts}
 use Rattle.flow_graph.specs.declared.edge.Edge.{Edge}
 use Rattle.flow_graph.specs.Networks.{state_at}
 use Rattle.flow_boxes.specs.Contents.{Contents}
-use Rattle.flow_round_laws.specs.Joints.{no_contents, boxes_at, writer_boxes, reader_boxes, joint_view}
-use Rattle.flow_round_laws.specs.RoundTheorems.{NothingMoved, joint, CarryingKeepsTheConfiguration}
+use Rattle.flow_round_laws.specs.Joints.{no_contents, boxes_at, views_of, writer_view, reader_view, joined_view}
+use Rattle.flow_round_laws.specs.RoundTheorems.{NothingMoved, CarryingKeepsTheConfiguration}
+use Rattle.flow_round_laws.specs.JoinedTheorems.{joined}
 use Rattle.flow_round_laws.proofs.Views.{sent_at, received_at, none_sent, none_received}
 
 -- it is enough that nothing was sent or received at the ends of each edge
-module _ (share : List ℕ) (edges : List Edge) (boxes carried : List Contents)
-    (writers : (e : ℕ) → e < length edges → SameTraffic (writer_boxes share edges boxes e).ends (writer_boxes share edges carried e).ends) (readers : (e : ℕ) → e < length edges → SameTraffic (reader_boxes share edges boxes e).ends (reader_boxes share edges carried e).ends) where
-  same_sent : (e : ℕ) → ((e < length edges) ⊎ (length edges ≤ e)) → (joint_view share edges carried).sent e ≡ (joint_view share edges boxes).sent e
-  same_sent e (inl l) = sent_at share edges carried e l ∙ (writers e l).sent e ∙ sym (sent_at share edges boxes e l)
-  same_sent e (inr above) = none_sent share edges carried e above ∙ sym (none_sent share edges boxes e above)
+module _ (share : List ℕ) (edges : List Edge) (view_at after : ℕ → View)
+    (writers : (e : ℕ) → e < length edges → SameTraffic (writer_view share edges view_at e) (writer_view share edges after e)) (readers : (e : ℕ) → e < length edges → SameTraffic (reader_view share edges view_at e) (reader_view share edges after e)) where
+  same_sent : (e : ℕ) → ((e < length edges) ⊎ (length edges ≤ e)) → (joined_view share edges after).sent e ≡ (joined_view share edges view_at).sent e
+  same_sent e (inl l) = sent_at share edges after e l ∙ (writers e l).sent e ∙ sym (sent_at share edges view_at e l)
+  same_sent e (inr above) = none_sent share edges after e above ∙ sym (none_sent share edges view_at e above)
 
-  same_received : (e : ℕ) → ((e < length edges) ⊎ (length edges ≤ e)) → (joint_view share edges carried).received e ≡ (joint_view share edges boxes).received e
-  same_received e (inl l) = received_at share edges carried e l ∙ (readers e l).received e ∙ sym (received_at share edges boxes e l)
-  same_received e (inr above) = none_received share edges carried e above ∙ sym (none_received share edges boxes e above)
+  same_received : (e : ℕ) → ((e < length edges) ⊎ (length edges ≤ e)) → (joined_view share edges after).received e ≡ (joined_view share edges view_at).received e
+  same_received e (inl l) = received_at share edges after e l ∙ (readers e l).received e ∙ sym (received_at share edges view_at e l)
+  same_received e (inr above) = none_received share edges after e above ∙ sym (none_received share edges view_at e above)
 
-  pub same_joint : {X : Type 0} (t : Ghosts X) (states : List t.State) → joint t share edges states carried ≡ joint t share edges states boxes
-  same_joint t states = λ i. record {
+  pub same_joined : {X : Type 0} (t : Ghosts X) (states : List t.State) → joined t share edges states after ≡ joined t share edges states view_at
+  same_joined t states = λ i. record {
     state = state_at t.behaviour states;
     sent = λ e. same_sent e (cases_lt e (length edges)) i;
     received = λ e. same_received e (cases_lt e (length edges)) i;
@@ -40,4 +41,5 @@ same_traffic boxes carried even nothing s = at (cases_lt s (length boxes))
         record { sent = λ e. ap (λ b. b.ends.sent e) same; received = λ e. ap (λ b. b.ends.received e) same }
 
 pub carrying_keeps_the_configuration : {X : Type 0} (t : Ghosts X) → CarryingKeepsTheConfiguration t
-carrying_keeps_the_configuration t share edges states boxes carried even nothing = same_joint share edges boxes carried (λ e l. same_traffic boxes carried even nothing _) (λ e l. same_traffic boxes carried even nothing _) t states
+carrying_keeps_the_configuration t share edges states boxes carried even nothing =
+    same_joined share edges (views_of boxes) (views_of carried) (λ e l. same_traffic boxes carried even nothing _) (λ e l. same_traffic boxes carried even nothing _) t states

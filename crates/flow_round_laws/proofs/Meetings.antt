@@ -1,4 +1,4 @@
--- Where all edges have met: a sound configuration, and before any step the start of the network.
+-- A sound configuration of shares, and before any step the start of their network.
 use Rattle.std.proofs.Common.{◌≡◌, ℕ, ◌<◌, ◌≤◌, nat_lt, List, [], ◌++◌, length, ◌⊎◌, inl, inr, refl, sym, ◌∙◌, ap, subst, arith}
 use Rattle.std.proofs.lemmas.Bool.{cases_lt}
 use Rattle.std.proofs.lemmas.List.{get_or-map}
@@ -16,11 +16,11 @@ use Rattle.flow_graph.specs.declared.placed.Placed.{Placed}
 use Rattle.flow_graph.specs.Places.{placed_state, states_in}
 use Rattle.flow_graph.specs.Layouts.{FitTogether}
 use Rattle.flow_graph.proofs.Nets.{opens}
-use Rattle.flow_boxes.specs.Contents.{Contents}
 use Rattle.flow_shares.specs.Shares.{inputs_of, outputs_of, HasHistory}
 use Rattle.flow_deal.specs.Deals.{share_of, AreDealt}
-use Rattle.flow_round_laws.specs.Joints.{boxes_at, reader_boxes, joint_view, HaveMet, AreStates}
-use Rattle.flow_round_laws.specs.RoundTheorems.{AllOwn, net_of, joint, FreshSharesStart, MeetingIsSound}
+use Rattle.flow_round_laws.specs.Joints.{reader_boxes, views_of, joint_view, AreStates}
+use Rattle.flow_round_laws.specs.RoundTheorems.{net_of, FreshSharesStart, MeetingIsSound}
+use Rattle.flow_round_laws.specs.JoinedTheorems.{AllBegin, AllAreOwn, joined, OwnSharesAreSound}
 use Rattle.flow_round_laws.proofs.Parts.{any_of, StandsAt}
 use Rattle.flow_round_laws.proofs.Seats.{nodes_count, seat, seat_reads, seat_writes}
 use Rattle.flow_round_laws.proofs.Views.{sent_at, received_at, none_sent, none_received}
@@ -33,21 +33,21 @@ fresh_shares_start t share edges nodes boxes opened empty = opens t.behaviour (s
     both = record (joint_view share edges boxes) { writes = λ e. nat_lt e (length edges); reads = λ e. nat_lt e (length edges) }
 
     none_sent_at : (e : ℕ) → (e < length edges) ⊎ (length edges ≤ e) → (joint_view share edges boxes).sent e ≡ []
-    none_sent_at e (inl l) = sent_at share edges boxes e l ∙ (empty e l).0
-    none_sent_at e (inr above) = none_sent share edges boxes e above
+    none_sent_at e (inl l) = sent_at share edges (views_of boxes) e l ∙ (empty e l).0
+    none_sent_at e (inr above) = none_sent share edges (views_of boxes) e above
 
     none_received_at : (e : ℕ) → (e < length edges) ⊎ (length edges ≤ e) → (joint_view share edges boxes).received e ≡ []
-    none_received_at e (inl l) = received_at share edges boxes e l ∙ (empty e l).1
-    none_received_at e (inr above) = none_received share edges boxes e above
+    none_received_at e (inl l) = received_at share edges (views_of boxes) e l ∙ (empty e l).1
+    none_received_at e (inr above) = none_received share edges (views_of boxes) e above
 
     fresh : IsFresh (length edges) both
     fresh = record { writes = λ e. refl; reads = λ e. refl; sent = λ e. none_sent_at e (cases_lt e (length edges)); received = λ e. none_received_at e (cases_lt e (length edges)) }
 
-module _ {X : Type 0} {t : Ghosts X} (capacity : ℕ) (share : List ℕ) (edges : List Edge) (nodes : List (Placed X t)) (fit : FitTogether nodes edges)
+module _ {X : Type 0} {t : Ghosts X} (share : List ℕ) (edges : List Edge) (nodes : List (Placed X t)) (fit : FitTogether nodes edges)
     (dealt : List (List (Placed X t))) (deals : AreDealt share nodes dealt) (states : List t.State) (are : AreStates share nodes dealt deals states)
-    (boxes : List Contents) (met : HaveMet share edges boxes capacity) where
+    (view_at : ℕ → View) where
   abbrev c : Configuration t.State Signal
-  c = joint t share edges states boxes
+  c = joined t share edges states view_at
 
   abbrev net : Network t.State
   net = net_of nodes edges
@@ -60,19 +60,19 @@ module _ {X : Type 0} {t : Ghosts X} (capacity : ℕ) (share : List ℕ) (edges 
       ∙ sym (deals.here k d l).opening
 
   -- its history in its share is its history in the network
-  reached_at : (k : ℕ) (d : Placed X t) → k < length nodes → HasHistory (boxes_at boxes (share_of share k)).ends (seat edges nodes fit share dealt deals k d) → IsReached t.behaviour.process net c k
+  reached_at : (k : ℕ) (d : Placed X t) → k < length nodes → HasHistory (view_at (share_of share k)) (seat edges nodes fit share dealt deals k d) → IsReached t.behaviour.process net c k
   reached_at k d l has = record {
     history = has.history;
     does = subst (λ s. Does t.behaviour.process s has.history (c.state k)) (sym (opening_is k d l)) (subst (λ s. Does t.behaviour.process (t.behaviour.opening (placed_state x)) has.history s) (sym (are.each k d l)) has.does);
     received = λ e low at.
         let stands : StandsAt (inputs_of x) (net.reader_port e) e = subst (λ j. StandsAt (inputs_of (seat edges nodes fit share dealt deals j d)) (net.reader_port e) e) at (seat_reads edges nodes fit share dealt deals e low d) in
-        received_at share edges boxes e low
-        ∙ ap (λ j. (boxes_at boxes (share_of share j)).ends.received e) at
+        received_at share edges view_at e low
+        ∙ ap (λ j. (view_at (share_of share j)).received e) at
         ∙ subst (λ f. view.received f ≡ reads (net.reader_port e) has.history) stands.is (has.received (net.reader_port e) stands.inside);
     sent = λ e low at.
         let stands : StandsAt (outputs_of x) (net.writer_port e) e = subst (λ j. StandsAt (outputs_of (seat edges nodes fit share dealt deals j d)) (net.writer_port e) e) at (seat_writes edges nodes fit share dealt deals e low d) in
-        sent_at share edges boxes e low
-        ∙ ap (λ j. (boxes_at boxes (share_of share j)).ends.sent e) at
+        sent_at share edges view_at e low
+        ∙ ap (λ j. (view_at (share_of share j)).sent e) at
         ∙ subst (λ f. view.sent f ≡ writes (net.writer_port e) has.history) stands.is (has.sent (net.writer_port e) stands.inside);
   }
     where
@@ -80,20 +80,25 @@ module _ {X : Type 0} {t : Ghosts X} (capacity : ℕ) (share : List ℕ) (edges 
       x = seat edges nodes fit share dealt deals k d
 
       view : View
-      view = (boxes_at boxes (share_of share k)).ends
+      view = (view_at (share_of share k))
 
-  flows : Flows net c
-  flows e l = ((reader_boxes share edges boxes e).ends.coming e, ap (λ ms. ms ++ (reader_boxes share edges boxes e).ends.coming e) (received_at share edges boxes e l) ∙ (met.carried e l).arrived ∙ sym (sent_at share edges boxes e l))
+  flows : AllBegin share edges view_at → Flows net c
+  flows begins e l = let (rest, is) = begins e l in (rest, ap (λ ms. ms ++ rest) (received_at share edges view_at e l) ∙ is ∙ sym (sent_at share edges view_at e l))
 
-  all_reached : AllOwn dealt boxes → (k : ℕ) → k < net.nodes → ∥ IsReached t.behaviour.process net c k ∥₁
+  all_reached : AllAreOwn dealt view_at → (k : ℕ) → k < net.nodes → ∥ IsReached t.behaviour.process net c k ∥₁
   all_reached own k inside =
       let l : k < length nodes = omega (arith, inside, nodes_count edges nodes fit) in
       let d = any_of nodes k l in
       let here = deals.inside k l in
       ∥∥₁_map (own (share_of share k) here.0 (deals.place k) d here.1) (reached_at k d l)
 
+pub own_shares_are_sound : {X : Type 0} (t : Ghosts X) → OwnSharesAreSound t
+own_shares_are_sound t share edges nodes fit dealt deals states are view_at begins own =
+    sound_from t.behaviour.process (net_of nodes edges) (joined t share edges states view_at)
+    (all_reached share edges nodes fit dealt deals states are view_at own)
+    (flows share edges nodes fit dealt deals states are view_at begins)
+
 pub a_meeting_is_sound : {X : Type 0} (t : Ghosts X) → MeetingIsSound t
 a_meeting_is_sound t capacity share edges nodes fit dealt deals states are boxes met own =
-    sound_from t.behaviour.process (net_of nodes edges) (joint t share edges states boxes)
-    (all_reached capacity share edges nodes fit dealt deals states are boxes met own)
-    (flows capacity share edges nodes fit dealt deals states are boxes met)
+    own_shares_are_sound t share edges nodes fit dealt deals states are (views_of boxes)
+    (λ e l. ((reader_boxes share edges boxes e).ends.coming e, (met.carried e l).arrived)) own

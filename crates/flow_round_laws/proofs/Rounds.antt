@@ -20,7 +20,7 @@ use Rattle.flow_graph.specs.Layouts.{FitTogether}
 use Rattle.flow_graph.proofs.Nets.{lawful_net}
 use Rattle.flow_boxes.specs.Contents.{Contents}
 use Rattle.flow_deal.specs.Deals.{AreDealt}
-use Rattle.flow_round_laws.specs.Joints.{HaveMet, AreStates}
+use Rattle.flow_round_laws.specs.Joints.{views_of, HaveMet, AreStates}
 use Rattle.flow_round_laws.specs.RoundTheorems.{NothingMoved, HaveGoneOn, net_of, joint, RoundIsARun}
 use Rattle.flow_round_laws.proofs.Parts.{no_length, part_of_total}
 use Rattle.flow_round_laws.proofs.Seats.{nodes_count}
@@ -75,36 +75,36 @@ module _ {X : Type 0} {t : Ghosts X} (laws : BehaviourLaws t.behaviour) (capacit
   had e l =
       let (rest, is) = had_come share nodes dealt later deals boxes after gone edges fit e l capacity met in (
         rest,
-        ap (λ ms. (ms ++ reads (net.reader_port e) (h (net.reader e))) ++ rest) (received_at share edges boxes e l) ∙ is ∙ sym (sent_at share edges boxes e l),
+        ap (λ ms. (ms ++ reads (net.reader_port e) (h (net.reader e))) ++ rest) (received_at share edges (views_of boxes) e l) ∙ is ∙ sym (sent_at share edges (views_of boxes) e l),
       )
 
   room : (e : ℕ) → e < net.edges → length (c.sent e ++ writes (net.writer_port e) (h (net.writer e))) - length (c.received e) ≤ capacity
   room e l =
-      let sent = ap (λ ms. length (ms ++ writes (net.writer_port e) (h (net.writer e)))) (sent_at share edges boxes e l) in
-      omega (arith, found_room share nodes dealt later deals boxes after gone edges fit e l capacity met, sent, ap length (received_at share edges boxes e l))
+      let sent = ap (λ ms. length (ms ++ writes (net.writer_port e) (h (net.writer e)))) (sent_at share edges (views_of boxes) e l) in
+      omega (arith, found_room share nodes dealt later deals boxes after gone edges fit e l capacity met, sent, ap length (received_at share edges (views_of boxes) e l))
 
   -- where all of it leads
   sent_is : (e : ℕ) → ((e < length edges) ⊎ (length edges ≤ e)) → (after_histories net c h d.state).sent e ≡ d.sent e
   sent_is e (inl l) =
       cond-true (ltb e net.edges) _ _ (lt-ltb e net.edges l)
-      ∙ ap (λ ms. ms ++ writes (net.writer_port e) (h (net.writer e))) (sent_at share edges boxes e l)
+      ∙ ap (λ ms. ms ++ writes (net.writer_port e) (h (net.writer e))) (sent_at share edges (views_of boxes) e l)
       ∙ sym (sent_own share nodes dealt later deals boxes after gone edges fit e l)
-      ∙ sym (sent_at share edges after e l)
+      ∙ sym (sent_at share edges (views_of after) e l)
   sent_is e (inr above) =
       cond-false (ltb e net.edges) _ _ (le-ltb e net.edges above)
-      ∙ none_sent share edges boxes e above
-      ∙ sym (none_sent share edges after e above)
+      ∙ none_sent share edges (views_of boxes) e above
+      ∙ sym (none_sent share edges (views_of after) e above)
 
   received_is : (e : ℕ) → ((e < length edges) ⊎ (length edges ≤ e)) → (after_histories net c h d.state).received e ≡ d.received e
   received_is e (inl l) =
       cond-true (ltb e net.edges) _ _ (lt-ltb e net.edges l)
-      ∙ ap (λ ms. ms ++ reads (net.reader_port e) (h (net.reader e))) (received_at share edges boxes e l)
+      ∙ ap (λ ms. ms ++ reads (net.reader_port e) (h (net.reader e))) (received_at share edges (views_of boxes) e l)
       ∙ sym (received_own share nodes dealt later deals boxes after gone edges fit e l)
-      ∙ sym (received_at share edges after e l)
+      ∙ sym (received_at share edges (views_of after) e l)
   received_is e (inr above) =
       cond-false (ltb e net.edges) _ _ (le-ltb e net.edges above)
-      ∙ none_received share edges boxes e above
-      ∙ sym (none_received share edges after e above)
+      ∙ none_received share edges (views_of boxes) e above
+      ∙ sym (none_received share edges (views_of after) e above)
 
   leads_to : after_histories net c h d.state ≡ d
   leads_to = λ i. record {

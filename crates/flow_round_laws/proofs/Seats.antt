@@ -1,10 +1,12 @@
 -- Nodes in their shares: the edges at their ports, and where they stand later.
 use Rattle.std.proofs.Common.{◌≡◌, ℕ, ◌<◌, List, length, get_or, sym, ◌∙◌, ap, subst, arith}
 use Rattle.std.proofs.lemmas.List.{get_or-map, get_or_default, length-map}
+use Rattle.flow_base.specs.Visits.{edge_of}
 use Rattle.flow_base.specs.declared.transducer.Transducer.{Ghosts}
 use Rattle.flow_graph.specs.declared.edge.Edge.{Edge}
 use Rattle.flow_graph.specs.declared.placed.Placed.{Placed}
 use Rattle.flow_graph.specs.Edges.{edge_at, in_edge, out_edge}
+use Rattle.flow_graph.specs.Networks.{inputs_at, outputs_at}
 use Rattle.flow_graph.specs.Places.{states_in}
 use Rattle.flow_graph.specs.Layouts.{FitTogether, AreSamePlaces}
 use Rattle.flow_graph.proofs.Seats.{inputs_here, outputs_here, input_here, output_here}
@@ -66,6 +68,47 @@ module _ {X : Type 0} {t : Ghosts X} (edges : List Edge) (nodes : List (Placed X
 
     pub seat_writes : (e : ℕ) → e < length edges → (d : Placed X t) → StandsAt (outputs_of (seat (edge_at edges e).writer d)) (edge_at edges e).writer_port e
     seat_writes e l d = subst (λ row. StandsAt row (edge_at edges e).writer_port e) (sym (deals.here (edge_at edges e).writer d (writer_inside e l)).outputs) (writer_stands e l d)
+
+    -- each port of a node in its share stands at an edge, whose reader or writer lies in that share
+    module _ (s i : ℕ) (d : Placed X t) (share_inside : s < length dealt) (node_inside : i < length (nodes_at dealt s)) where
+      abbrev node : Placed X t
+      node = get_or (nodes_at dealt s) i d
+
+      -- it is this node of the network
+      back : (node.number < length nodes) × (share_of share node.number ≡ s) × (deals.place node.number ≡ i)
+      back = deals.back s i d share_inside node_inside
+
+      abbrev known : Placed X t
+      known = get_or nodes node.number d
+
+      known_is : known ≡ get_or nodes node.number known
+      known_is = get_or_default nodes node.number d known back.0
+
+      is_seat : seat node.number d ≡ node
+      is_seat = ap (λ r. get_or (nodes_at dealt r) (deals.place node.number) d) back.1 ∙ ap (λ j. get_or (nodes_at dealt s) j d) back.2
+
+      same_inputs : inputs_of node ≡ inputs_of known
+      same_inputs = ap (λ (x : Placed X t). inputs_of x) (sym is_seat) ∙ (deals.here node.number d back.0).inputs
+
+      same_outputs : outputs_of node ≡ outputs_of known
+      same_outputs = ap (λ (x : Placed X t). outputs_of x) (sym is_seat) ∙ (deals.here node.number d back.0).outputs
+
+      states_inside : node.number < length (states_in nodes)
+      states_inside = omega (arith, back.0, nodes_count)
+
+      pub port_reads : (p : ℕ) → p < length (inputs_of node) → let e = edge_of (inputs_of node) p in (e < length edges) × (share_of share (edge_at edges e).reader ≡ s)
+      port_reads p port =
+          let here : p < inputs_at t.behaviour (states_in nodes) node.number = omega (arith, port, ap length same_inputs, inputs_here nodes node.number known back.0 known_is) in
+          let place = fit.built.wired.in_edge node.number p states_inside here in
+          let is : edge_of (inputs_of node) p ≡ in_edge edges node.number p = ap (λ row. edge_of row p) same_inputs ∙ input_here nodes node.number known back.0 known_is edges fit.built.joined fit.seated p here in
+          subst (λ e. (e < length edges) × (share_of share (edge_at edges e).reader ≡ s)) (sym is) (place.0, ap (share_of share) place.1 ∙ back.1)
+
+      pub port_writes : (q : ℕ) → q < length (outputs_of node) → let e = edge_of (outputs_of node) q in (e < length edges) × (share_of share (edge_at edges e).writer ≡ s)
+      port_writes q port =
+          let here : q < outputs_at t.behaviour (states_in nodes) node.number = omega (arith, port, ap length same_outputs, outputs_here nodes node.number known back.0 known_is) in
+          let place = fit.built.wired.out_edge node.number q states_inside here in
+          let is : edge_of (outputs_of node) q ≡ out_edge edges node.number q = ap (λ row. edge_of row q) same_outputs ∙ output_here nodes node.number known back.0 known_is edges fit.built.joined fit.seated q here in
+          subst (λ e. (e < length edges) × (share_of share (edge_at edges e).writer ≡ s)) (sym is) (place.0, ap (share_of share) place.1 ∙ back.1)
 
     module _ (later : List (List (Placed X t))) (places : (s : ℕ) → s < length dealt → AreSamePlaces (nodes_at dealt s) (nodes_at later s)) where
       -- each node has one place: in its share, and later

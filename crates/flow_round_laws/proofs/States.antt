@@ -1,5 +1,5 @@
 -- The states of nodes that are dealt out: there are some, and no two lists of them.
-use Rattle.std.proofs.Common.{◌≡◌, ℕ, ◌<◌, List, length, get_or, map, refl, sym, ◌∙◌, ap, arith, ext_get_or}
+use Rattle.std.proofs.Common.{◌≡◌, ℕ, ◌<◌, List, length, get_or, refl, sym, ◌∙◌, ap, arith, ext_get_or}
 use Rattle.std.proofs.lemmas.List.{get_or-map, get_or_default, length-map}
 use Rattle.flow_base.specs.declared.transducer.Transducer.{Ghosts}
 use Rattle.flow_graph.specs.declared.edge.Edge.{Edge}
@@ -8,7 +8,7 @@ use Rattle.flow_graph.specs.Networks.{state_at}
 use Rattle.flow_graph.specs.Places.{placed_state}
 use Rattle.flow_graph.specs.Layouts.{FitTogether, AreSamePlaces}
 use Rattle.flow_deal.specs.Deals.{share_of, AreDealt}
-use Rattle.flow_round_laws.specs.Joints.{nodes_at, AreStates}
+use Rattle.flow_round_laws.specs.Joints.{nodes_at, states_in_shares, AreStates}
 use Rattle.flow_round_laws.proofs.Parts.{any_of}
 use Rattle.flow_round_laws.proofs.Seats.{number_is, same_place}
 
@@ -21,7 +21,7 @@ module _ {X : Type 0} {t : Ghosts X} (share : List ℕ) (edges : List Edge) (nod
   state_of k d = placed_state (get_or (nodes_at dealt (share_of share k)) (deals.place k) d)
 
   abbrev pub states_of_shares : List t.State
-  states_of_shares = map (λ (n : Placed X t). state_of n.number n) nodes
+  states_of_shares = states_in_shares share nodes dealt deals
 
   pub are_states : AreStates share nodes dealt deals states_of_shares
   are_states = record {
@@ -33,12 +33,20 @@ module _ {X : Type 0} {t : Ghosts X} (share : List ℕ) (edges : List Edge) (nod
         ∙ ap placed_state (get_or_default (nodes_at dealt (share_of share k)) (deals.place k) n d (deals.inside k l).1);
   }
 
+  -- nodes whose states stayed have the same states
+  module _ (later : List (List (Placed X t))) (places : (s : ℕ) → s < length dealt → AreSamePlaces (nodes_at dealt s) (nodes_at later s)) (still : AreDealt share nodes later) where
+    pub states_stay : ((s i : ℕ) (d : Placed X t) → s < length dealt → i < length (nodes_at dealt s) → placed_state (get_or (nodes_at later s) i d) ≡ placed_state (get_or (nodes_at dealt s) i d))
+        → (one other : List t.State) → AreStates share nodes dealt deals one → AreStates share nodes later still other → other ≡ one
+    states_stay stayed one other are others = ext_get_or t.behaviour.sample other one (others.count ∙ sym are.count) (λ k l. same k (omega (arith, l, others.count)))
+      where
+        same : (k : ℕ) → k < length nodes → state_at t.behaviour other k ≡ state_at t.behaviour one k
+        same k l =
+            let d = any_of nodes k l in
+            let here = deals.inside k l in
+            others.each k d l
+            ∙ ap (λ i. placed_state (get_or (nodes_at later (share_of share k)) i d)) (same_place edges nodes fit share dealt deals later places still k l)
+            ∙ stayed (share_of share k) (deals.place k) d here.0 here.1
+            ∙ sym (are.each k d l)
+
   pub states_are_one : (also : AreDealt share nodes dealt) (one other : List t.State) → AreStates share nodes dealt deals one → AreStates share nodes dealt also other → one ≡ other
-  states_are_one also one other are others = ext_get_or t.behaviour.sample one other (are.count ∙ sym others.count) (λ k l. same k (omega (arith, l, are.count)))
-    where
-      same : (k : ℕ) → k < length nodes → state_at t.behaviour one k ≡ state_at t.behaviour other k
-      same k l =
-          let d = any_of nodes k l in
-          are.each k d l
-          ∙ ap (λ i. placed_state (get_or (nodes_at dealt (share_of share k)) i d)) (sym (same_place edges nodes fit share dealt deals dealt (λ s low. same_places_refl (nodes_at dealt s)) also k l))
-          ∙ sym (others.each k d l)
+  states_are_one also one other are others = sym (states_stay dealt (λ s l. same_places_refl (nodes_at dealt s)) also (λ s i d l low. refl) one other are others)

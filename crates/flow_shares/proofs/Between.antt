@@ -50,15 +50,15 @@ moved_grows {X} {t} nodes later a v moved = record {
   ];
 }
 
+pub begins_length : {X : Type 0} (xs ys : List X) → Begins xs ys → length xs ≤ length ys
+begins_length xs ys (rest, is) = omega (arith, ap length is, length-append xs rest)
+
 -- a list that is no longer than its beginning
-no_more : {X : Type 0} (xs ys : List X) → Begins xs ys → length ys ≤ length xs → ys ≡ xs
+pub no_more : {X : Type 0} (xs ys : List X) → Begins xs ys → length ys ≤ length xs → ys ≡ xs
 no_more xs ys ([], is) short = sym is ∙ append-nil xs
 no_more xs ys (x ∷ rest, is) short = absurd (omega (arith, short, ap length is, length-append xs (x ∷ rest)))
 
 module _ {X : Type 0} (xs ys zs : List X) (h : Begins xs ys) (g : Begins ys zs) (same : zs ≡ xs) where
-  begins_length : (us vs : List X) → Begins us vs → length us ≤ length vs
-  begins_length us vs (rest, is) = omega (arith, ap length is, length-append us rest)
-
   pub first_same : ys ≡ xs
   first_same = no_more xs ys h (omega (arith, begins_length ys zs g, ap length same))
 

@@ -8,3 +8,4 @@ pub mod Calm
 pub mod Passes
 pub mod Counts
 pub mod Rounds
+pub mod Lending

@@ -3,10 +3,12 @@
 //! A graph is taken apart, and each of its nodes goes to one [`Share`], with the ends of the edges at its ports. [`pump`]
 //! visits the nodes of a share in turn, as long as they can step by what its own ends are certain of. What other
 //! threads do in the meantime it neither sees nor needs: each node goes on by reads and writes of its own, which are
-//! just what came to the lists of its ends.
+//! just what came to the lists of its ends. Between two pumps a share may lend its ends, so that they meet those of other
+//! shares ([`Share::lend`]).
 #![tactic(auto)]
 
 mod gate;
+mod lender;
 mod pass;
 mod share;
 #[cfg(test)]
@@ -14,5 +16,6 @@ mod tests;
 mod turns;
 
 pub use gate::{Gate, NoGate};
+pub use lender::Lender;
 pub use share::Share;
 pub use turns::{MAX_TURNS, pump};

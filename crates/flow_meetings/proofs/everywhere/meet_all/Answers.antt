@@ -1,4 +1,4 @@
-use Rattle.std.proofs.Common.{◌≡◌, ◌<◌, ◌+◌, ℕ, length, get_or, arith, below_more, ◌∙◌}
+use Rattle.std.proofs.Common.{◌≡◌, ◌<◌, ℕ, length, get_or, arith, below_more, ◌∙◌}
 use Rattle.std.proofs.lemmas.List.{get_or_default}
 use Rattle.flow_boxes.proofs.Changed.{everywhere}
 use Rattle.flow_meetings.specs.declared.everywhere.Wire.{Wire}
@@ -25,10 +25,11 @@ loop-edge-preserved g c =
     let here : (w : Wire) → get_or wires edge w ≡ get_or wires edge none = λ w. get_or_default wires edge w none c.loop-edge-test.true in
     let meets = λ (k : ℕ) (d : g.row.E.Denot) (low : k < length old). (let low' : k < length now = omega (arith, c.loop-edge.auto.ends) in step.meets k d low') in
     let kept = λ (k : ℕ) (d : g.row.E.Denot) (low : k < length old). law.meets_kept edge (get_or now k d) (get_or new k d) (meets k d low) in
-    let same = λ (k e : ℕ) (d : g.row.E.Denot) (low : k < length old). law.meets_places edge (get_or now k d) (get_or new k d) (meets k d low) e in
+    let alike = λ (k e : ℕ) (d : g.row.E.Denot) (low : k < length old). law.meets_places edge (get_or now k d) (get_or new k d) (meets k d low) e in
     record {
       kept = λ k d low. kept_trans (view (get_or old k d)) (view (get_or now k d)) (view (get_or new k d)) (inv.kept k d low) (kept k d low);
-      places = λ k e d low. same k e d low ∙ inv.places k e d low;
+      same = λ k d low. law.stays_trans (get_or old k d) (get_or now k d) (get_or new k d) (inv.same k d low) (law.meets_stays edge (get_or now k d) (get_or new k d) (meets k d low));
+      places = λ k e d low. alike k e d low ∙ inv.places k e d low;
       joined = λ e w d low. (
           everywhere (λ i. i < length wires → joins (get_or new (get_or wires i w).writer d) (get_or new (get_or wires i w).reader d) i) edge
           (λ there. rw (here w) (step.joined d))
@@ -49,7 +50,7 @@ loop-edge-preserved g c =
           let wire = get_or wires i w in
           let hw = c.requires.writers i w there in
           let hr = c.requires.readers i w there in
-          rw (same wire.writer i d hw)
+          rw (alike wire.writer i d hw)
           (met_kept (view (get_or now wire.writer d)) (view (get_or new wire.writer d)) (view (get_or now wire.reader d)) (view (get_or new wire.reader d)) (places (get_or now wire.writer d) i) i
           (inv.met i w d below) (kept wire.writer d hw) (kept wire.reader d hr))
           ))
