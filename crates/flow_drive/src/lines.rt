@@ -24,13 +24,13 @@ pub struct SharedLines {
     pub boxes: Vec<Boxes>,
     /// How many messages an edge holds at most.
     pub capacity: usize,
+    ghost named: { 0 < length share.items },
 }
 
 impl SharedLines {
     /// The boxes of the share that has this node.
     pub fn of_node(&self, node: usize) -> &Boxes
-        requires named { 0 < length self.now.share.items }
-        requires there { share_of self.now.share.items node < length self.now.boxes.items }
+        requires { share_of self.now.share.items node < length self.now.boxes.items }
         ensures { (d : _) → result.now ≡ slice_index_or self.now.boxes.items (share_of self.now.share.items node) d }
     {
         &self.boxes[share_of(&self.share, node)]

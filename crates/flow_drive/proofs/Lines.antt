@@ -1,0 +1,57 @@
+-- The edges of a graph at rest: each has its ends, and holds at most the capacity.
+use Rattle.std.proofs.Common.{ℕ, zero, suc, ◌≡◌, ◌+◌, ◌<◌, ◌≤◌, ◌⊎◌, inl, inr, true, List, [], ◌∷◌, ◌++◌, length, length-append, ap, arith}
+use Rattle.std.proofs.lemmas.List.{get_or_past}
+use Rattle.std.proofs.lemmas.Bool.{cases_lt}
+use Rattle.std.specs.List.{All}
+use Rattle.flow_edges.specs.declared.line.Line.{Line}
+use Rattle.flow_edges.specs.declared.table.Table.{Table}
+use Rattle.flow_edges.specs.Ends.{held}
+use Rattle.flow_edges.specs.TableLaws.{signals-length, whole_table}
+use Rattle.flow_edges.specs.Tables.{view_of_lines, ends_of, capacity_of}
+use Rattle.flow_edges.proofs.Waiting.{waits-length}
+use Rattle.flow_graph.specs.declared.edge.Edge.{Edge}
+use Rattle.flow_graph.specs.Edges.{edge_at}
+use Rattle.flow_boxes.specs.Contents.{Contents}
+use Rattle.flow_deal.specs.Deals.{share_of}
+use Rattle.flow_round_laws.specs.Joints.{no_contents, boxes_at, views_of, writer_boxes, reader_boxes, HaveMet}
+use Rattle.flow_round_laws.proofs.Views.{sent_at, received_at, none_sent}
+use Rattle.flow_drive.specs.declared.lines.Lines.{Lines}
+use Rattle.flow_drive.specs.declared.lines.Lines.TheVariants.{Whole, Shared}
+use Rattle.flow_drive.specs.Edges.{seen_in, traffic_in, capacity_in, AreThere}
+
+-- no line holds more than its capacity
+table_fits : (capacity : ℕ) (lines : List Line) → All (λ l. l.capacity ≡ capacity) lines → (e : ℕ) → held (view_of_lines lines) e ≤ capacity
+table_fits capacity [] even e = omega arith
+table_fits capacity (l ∷ lines) even zero = omega (arith, l.bound, even 0 l (omega arith), signals-length l.queue.items)
+table_fits capacity (l ∷ lines) even (suc e) = table_fits capacity lines (λ k d low. even (suc k) d (omega arith)) e
+
+-- a share that has an end of an edge is among the shares
+pub writer_there : (boxes : List Contents) (s e : ℕ) → (boxes_at boxes s).ends.writes e ≡ true → s < length boxes
+writer_there boxes s e writes = at (cases_lt s (length boxes))
+  where
+    at : (s < length boxes) ⊎ (length boxes ≤ s) → s < length boxes
+    at (inl l) = l
+    at (inr above) = absurd (cc (ap (λ (b : Contents). b.ends.writes e) (get_or_past boxes s no_contents above), writes))
+
+pub reader_there : (boxes : List Contents) (s e : ℕ) → (boxes_at boxes s).ends.reads e ≡ true → s < length boxes
+reader_there boxes s e reads = at (cases_lt s (length boxes))
+  where
+    at : (s < length boxes) ⊎ (length boxes ≤ s) → s < length boxes
+    at (inl l) = l
+    at (inr above) = absurd (cc (ap (λ (b : Contents). b.ends.reads e) (get_or_past boxes s no_contents above), reads))
+
+module _ (share : List ℕ) (edges : List Edge) (boxes : List Contents) (most : ℕ) (met : HaveMet share edges boxes most) (e : ℕ) where
+  boxes_fit : (e < length edges) ⊎ (length edges ≤ e) → let view = Rattle.flow_round_laws.specs.Joints.joint_view share edges boxes in length (view.sent e) ≤ length (view.received e) + most
+  boxes_fit (inl l) =
+      let w = writer_boxes share edges boxes e in
+      let r = reader_boxes share edges boxes e in
+      let link = met.linked e l in
+      omega (arith, ap length (sent_at share edges (views_of boxes) e l), ap length (received_at share edges (views_of boxes) e l), ap length link.in_order, link.bound, met.capacity e l,
+          length-append (r.ends.received e ++ r.ends.coming e) (w.leaving e), length-append (r.ends.received e) (r.ends.coming e))
+  boxes_fit (inr above) = omega (arith, ap length (none_sent share edges (views_of boxes) e above))
+
+-- no edge holds more than the capacity
+pub lines_fit : (edges : List Edge) (lines : Lines) → AreThere edges lines → (e : ℕ) → length ((traffic_in edges lines).sent e) ≤ length ((traffic_in edges lines).received e) + capacity_in lines
+lines_fit edges (Whole table) there e =
+    omega (arith, table_fits table.capacity table.lines.items table.even e, ap length ((whole_table table).coming e), waits-length (capacity_of table) (ends_of table) e (whole_table table))
+lines_fit edges (Shared shared) met e = boxes_fit shared.share.items edges (seen_in shared) shared.capacity met e (cases_lt e (length edges))
