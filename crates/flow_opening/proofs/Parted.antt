@@ -1,0 +1,90 @@
+-- One end in the front and one in the back of a list that was split.
+use Rattle.std.proofs.Common.{◌≡◌, ◌≢◌, ◌==◌, ℕ, ◌+◌, ◌-◌, ◌<◌, Bool, true, false, suc, List, [], ◌∷◌, length, ◌++◌, take, drop, append-nil, get_or, set, refl, sym, ap, ◌∙◌, subst, arith, length-set, get_or-set_same, get_or-set_other}
+use Rattle.std.specs.Prelude.{Result, Ok, Err, OnOk}
+use Rattle.std.proofs.lemmas.Bool.{eq-eqb, ne_eqb}
+use Rattle.std.proofs.lemmas.List.{get_or_default, get_or_append_left, get_or-append-add, set-append_left, set-append_right, length-append, take_all, drop_all}
+use Rattle.std.specs.List.{AllZip}
+use Rattle.flow_edges.specs.Ends.{View}
+use Rattle.flow_boxes.proofs.Changed.{everywhere}
+use Rattle.flow_opening.specs.Opens.{OpensAt}
+
+pub on_both : {X E : Type 0} {P Q R : Type 0} (r : Result X E) → (P → Q → R) → OnOk r P → OnOk r Q → OnOk r R
+on_both (Ok x) f p q = f p q
+on_both (Err e) f p q = tt
+
+-- what was written to all of a list is there
+pub written_back : {X : Type 0} (new items : List X) (n : ℕ) → length new ≡ length items → n ≡ length items → take n (new ++ drop (length new) items) ≡ new
+written_back new items n even all =
+    ap (λ l. take n (new ++ l)) (ap (λ m. drop m items) even ∙ drop_all (length items) items (omega arith))
+    ∙ ap (take n) (append-nil new) ∙ take_all n new (omega (arith, even, all))
+
+-- what holds place by place holds of two lists of one length
+pub all_zipped : {A B : Type 0} (R : A → B → Type 0) (xs : List A) (ys : List B) → length ys ≡ length xs → ((k : ℕ) (x : A) (y : B) → k < length xs → R (get_or xs k x) (get_or ys k y)) → AllZip R xs ys
+all_zipped R [] [] long each = tt
+all_zipped R [] (y ∷ ys) long each = absurd (omega (arith, long))
+all_zipped R (x ∷ xs) [] long each = absurd (omega (arith, long))
+all_zipped R (x ∷ xs) (y ∷ ys) long each = (each 0 x y (omega arith), all_zipped R xs ys (omega (arith, long)) (λ k a b l. each (suc k) a b (omega (arith, l))))
+
+-- where no end was opened
+pub none_opened : (e capacity : ℕ) (w r : Bool) (a : View) → w ≡ false → r ≡ false → OpensAt e capacity w r a a
+none_opened e capacity w r a no_writer no_reader =
+    subst (λ w. OpensAt e capacity w r a a) (sym no_writer) (subst (λ r. OpensAt e capacity false r a a) (sym no_reader) (record {
+      elsewhere = record { writes = λ k ne. refl; reads = λ k ne. refl; sent = λ k ne. refl; received = λ k ne. refl; coming = λ k ne. refl; room = λ k ne. refl };
+      writes = refl;
+      sent = refl;
+      room = refl;
+      reads = refl;
+      received = refl;
+      coming = refl;
+    }))
+
+-- and where the names of the shares say which
+pub opened_as : (e capacity : ℕ) (w r w' r' : Bool) (a b : View) → w ≡ w' → r ≡ r' → OpensAt e capacity w' r' a b → OpensAt e capacity w r a b
+opened_as e capacity w r w' r' a b p q opens = subst (λ w. OpensAt e capacity w r a b) (sym p) (subst (λ r. OpensAt e capacity w' r a b) (sym q) opens)
+
+-- the list is split at m; x is at i in the front, and y at m, and a and b come there
+module _ {X : Type 0} (old front back : List X) (m i : ℕ) (is : old ≡ front ++ back) (count : length front ≡ m) (li : i < m) (some : m < length old) (x y a b : X) (x_is : x ≡ get_or front i x) (y_is : y ≡ get_or back 0 y) where
+  abbrev now : List X
+  now = set front i a ++ set back 0 b
+
+  some_back : 0 < length back
+  some_back = omega (arith, ap length is, length-append front back, count, some)
+
+  now_is : now ≡ set (set old i a) m b
+  now_is =
+      ap (λ j. set front i a ++ set back j b) (zero_is (omega arith))
+      ∙ sym (set-append_right (set front i a) back m m b (length-set front i a ∙ count) (omega arith))
+      ∙ ap (λ l. set l m b) (sym (set-append_left front back i a (omega (arith, li, count))) ∙ ap (λ l. set l i a) (sym is))
+    where
+      zero_is : m - m ≡ 0 → 0 ≡ m - m
+      zero_is h = sym h
+
+  front_was : (d : X) → get_or old i d ≡ x
+  front_was d =
+      ap (λ l. get_or l i d) is ∙ get_or_append_left front back d i (omega (arith, li, count))
+      ∙ get_or_default front i d x (omega (arith, li, count)) ∙ sym x_is
+
+  back_was : (d : X) → get_or old m d ≡ y
+  back_was d =
+      ap (λ l. get_or l m d) is ∙ ap (λ k. get_or (front ++ back) k d) (omega (arith, count)) ∙ get_or-append-add front back 0 d
+      ∙ get_or_default back 0 d y some_back ∙ sym y_is
+
+  pub back_now : (d : X) → get_or now m d ≡ b
+  back_now d = ap (λ l. get_or l m d) now_is ∙ get_or-set_same (set old i a) m b d (omega (arith, some, length-set old i a))
+
+  pub front_now : (d : X) → get_or now i d ≡ a
+  front_now d = ap (λ l. get_or l i d) now_is ∙ get_or-set_other (set old i a) m i b d (λ h. omega (arith, h, li)) ∙ get_or-set_same old i a d (omega (arith, li, some))
+
+  others_now : (k : ℕ) (d : X) → k ≢ i → k ≢ m → get_or now k d ≡ get_or old k d
+  others_now k d ne nm = ap (λ l. get_or l k d) now_is ∙ get_or-set_other (set old i a) m k b d nm ∙ get_or-set_other old i k a d ne
+
+  -- what holds at both, and at the others, holds at all
+  pub each_place : (P : ℕ → X → X → Type 0) → P i x a → P m y b → ((k : ℕ) (z : X) → k ≢ i → k ≢ m → P k z z) → (k : ℕ) (d : X) → P k (get_or old k d) (get_or now k d)
+  each_place P at_front at_back others k d =
+      everywhere (λ k. P k (get_or old k d) (get_or now k d)) i
+      (rw (front_was d) (rw (front_now d) at_front))
+      (λ k ne. (
+      everywhere (λ k. k ≢ i → P k (get_or old k d) (get_or now k d)) m
+      (λ ne. rw (back_was d) (rw (back_now d) at_back))
+      (λ k nm ne. rw (others_now k d ne nm) (others k (get_or old k d) ne nm)) k ne
+      )) k

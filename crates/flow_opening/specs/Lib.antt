@@ -1,0 +1,5 @@
+pub mod Opens
+pub mod BoxOpenings
+pub mod RingOpenings
+pub mod Open
+pub mod Deals

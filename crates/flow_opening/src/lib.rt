@@ -1,0 +1,22 @@
+//! A graph dealt out to shares, as a drive of several threads begins.
+//!
+//! [`deal`] takes a graph apart. Each of its nodes goes to one share, with the ends of the edges at its ports, and the
+//! [`Wire`](flow_meetings::Wire) of each edge says in which shares its ends are. [`Opening`] is what sets of ends offer
+//! that can be opened: boxes, and rings. [`open_all`] opens the ends of every edge, wherever they are to be.
+#![tactic(auto)]
+
+mod boxes;
+mod dealing;
+mod dealt;
+mod everywhere;
+mod opening;
+mod rings;
+#[cfg(test)]
+mod tests;
+mod wires;
+
+pub use dealing::deal;
+pub use dealt::Dealt;
+pub use everywhere::open_all;
+pub use opening::Opening;
+pub use wires::wires_of;
