@@ -2,6 +2,7 @@
 #![tactic(auto)]
 
 mod config;
+mod dealing;
 mod driver;
 mod lines;
 mod outcome;
@@ -14,6 +15,7 @@ mod serial;
 mod theorems;
 
 pub use config::{Config, Drive, MAX_CHUNK, MAX_IDLE_TURNS, MAX_SHARE, MAX_THREADS, Sharing};
+pub use dealing::deal;
 pub use driver::{DriveError, drive};
 pub use flow_shares::{Gate, NoGate};
 pub use kahn::Outcome;
