@@ -49,7 +49,7 @@ fn measure(rt: &HostRuntime, count: i64, chunk: usize) -> Result<()> {
     };
     let gate = Arc::new(alloc, NoGate)?;
     let start = Instant::now(rt)?;
-    let rested = drive(alloc, graph, &config, gate)?;
+    let rested = drive(rt, alloc, graph, &config, gate)?;
     let time = start.elapsed(rt)?;
     report(rt, &rested, count, chunk, time)
 }

@@ -20,6 +20,7 @@ use std::alloc::{AllocError, Global};
 use std::process::Abort;
 use std::sync::Arc;
 use std::test::Fail;
+use std::thread::Threads;
 
 // A lawful configuration.
 fn config(alloc: Global, capacity: usize, chunk: usize) -> Result<Config, AllocError> {
@@ -37,6 +38,7 @@ fn config(alloc: Global, capacity: usize, chunk: usize) -> Result<Config, AllocE
 
 /// Drives the graph with ample memory.
 pub fn driven(
+    rt: &impl Threads,
     alloc: Global,
     graph: Graph<StreamNode>,
     capacity: usize,
@@ -45,7 +47,7 @@ pub fn driven(
     requires { AreOpened node_behaviour (states_of graph) }
 {
     let config = config(alloc, capacity, chunk)?;
-    Ok(drive(alloc, graph, &config, Arc::new(alloc, NoGate)?)?)
+    Ok(drive(rt, alloc, graph, &config, Arc::new(alloc, NoGate)?)?)
 }
 
 // How many messages were sent and how many received on this edge.
@@ -69,7 +71,13 @@ fn all_counts(rt: &impl Abort, rested: &Rested<StreamNode>) -> (u64, u64) {
 fn nineteen_messages(rt: HostRuntime) -> Result<(), Fail> {
     for capacity in [1, 2, 256] {
         for chunk in [1, 2, 16, 1_024] {
-            let rested = driven(rt.alloc(), sum_of_five(&rt, rt.alloc())?, capacity, chunk)?;
+            let rested = driven(
+                &rt,
+                rt.alloc(),
+                sum_of_five(&rt, rt.alloc())?,
+                capacity,
+                chunk,
+            )?;
             assert_eq!(rt; rested.outcome(), Outcome::Value);
             assert_eq!(rt; (rested.nodes(), rested.edges()), (5, 5));
             assert_eq!(rt; all_counts(&rt, &rested), (19, 19));
@@ -88,7 +96,13 @@ fn a_fault_at_seven(rt: HostRuntime) -> Result<(), Fail> {
     };
     for capacity in [1, 4] {
         for chunk in [1, 1_024] {
-            let rested = driven(rt.alloc(), sum_of_unlike(&rt, rt.alloc())?, capacity, chunk)?;
+            let rested = driven(
+                &rt,
+                rt.alloc(),
+                sum_of_unlike(&rt, rt.alloc())?,
+                capacity,
+                chunk,
+            )?;
             assert_eq!(rt; rested.outcome(), Outcome::Fault(shape));
             // The numbers and the end from the left; the number and the end from the right; the sum.
             assert_eq!(rt; counts(&rt, &rested, 0).1, 2);
@@ -141,7 +155,13 @@ fn waits_for_its_length(rt: &impl Abort, alloc: Global) -> Result<Graph<StreamNo
 #[test]
 fn stalls_at_capacity_one(rt: HostRuntime) -> Result<(), Fail> {
     for chunk in [1, 2, 1_024] {
-        let rested = driven(rt.alloc(), waits_for_its_length(&rt, rt.alloc())?, 1, chunk)?;
+        let rested = driven(
+            &rt,
+            rt.alloc(),
+            waits_for_its_length(&rt, rt.alloc())?,
+            1,
+            chunk,
+        )?;
         // The fork has the end of the segment for an edge that holds its second flag.
         assert_eq!(rt; rested.outcome(), Outcome::Stalled { edge: 1 });
         assert_eq!(rt; counts(&rt, &rested, 0), (4, 3));
@@ -155,7 +175,13 @@ fn stalls_at_capacity_one(rt: HostRuntime) -> Result<(), Fail> {
 #[test]
 fn runs_at_capacity_two(rt: HostRuntime) -> Result<(), Fail> {
     for chunk in [1, 2, 1_024] {
-        let rested = driven(rt.alloc(), waits_for_its_length(&rt, rt.alloc())?, 2, chunk)?;
+        let rested = driven(
+            &rt,
+            rt.alloc(),
+            waits_for_its_length(&rt, rt.alloc())?,
+            2,
+            chunk,
+        )?;
         assert_eq!(rt; rested.outcome(), Outcome::Value);
         assert_eq!(rt; all_counts(&rt, &rested), (23, 23));
     }
@@ -190,6 +216,7 @@ fn text_of_the_value(rt: HostRuntime) -> Result<(), Fail> {
     for capacity in [1, 256] {
         for chunk in [1, 1_024] {
             let rested = driven(
+                &rt,
                 rt.alloc(),
                 prints_below_five(&rt, rt.alloc())?,
                 capacity,
@@ -199,7 +226,7 @@ fn text_of_the_value(rt: HostRuntime) -> Result<(), Fail> {
             assert_eq!(rt; rested.text(), b"{0,1,2,3,4}".as_slice());
         }
     }
-    let rested = driven(rt.alloc(), sum_of_five(&rt, rt.alloc())?, 1, 1)?;
+    let rested = driven(&rt, rt.alloc(), sum_of_five(&rt, rt.alloc())?, 1, 1)?;
     assert!(rt; rested.text().is_empty());
     Ok(())
 }
@@ -238,6 +265,7 @@ fn limits_of_configurations(rt: HostRuntime) -> Result<(), Fail> {
         };
         assert_eq!(rt; config.lawful(), lawful);
         let answer = drive(
+            &rt,
             alloc,
             sum_of_five(&rt, alloc)?,
             &config,

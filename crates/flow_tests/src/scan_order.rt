@@ -61,7 +61,7 @@ fn names_the_fault_of_the_element(rt: HostRuntime) -> Result<(), Fail> {
     for capacity in [1, 4] {
         for chunk in [1, 1_024] {
             let graph = scan_of_quotients(&rt, rt.alloc())?;
-            let rested = driven(rt.alloc(), graph, capacity, chunk)?;
+            let rested = driven(&rt, rt.alloc(), graph, capacity, chunk)?;
             assert_eq!(rt; rested.outcome(), Outcome::Fault(divide));
         }
     }

@@ -32,7 +32,7 @@ fn answered<W: Write, E: Write>(
     let mut job = Counted::new(rt.stdin());
     let args = args_of(rt)?;
     let words = words_of(rt.alloc(), &args)?;
-    Ok(answer(rt.alloc(), &words, &mut job, out, err))
+    Ok(answer(rt, rt.alloc(), &words, &mut job, out, err))
 }
 
 // The words of the command line. Where one of them is no UTF-8, the name and one word are given, each as `?`.

@@ -10,6 +10,7 @@ use snesl_values::{Counted, Datum, Fault, Refusal, read_inputs, text_of};
 use std::alloc::{AllocError, Global};
 use std::fmt;
 use std::sync::Arc;
+use std::thread::Threads;
 
 // No longer job is run here. Such a job is about the limits of a text, which no edge changes, and would be read again for
 // each configuration.
@@ -59,7 +60,7 @@ impl Totals {
     /// Runs the program of a job over edges of several capacities, and counts the runs; a program that is refused, or
     /// whose input text is, counts for nothing, and so does a job of over 100,000 bytes. A network of over 500 nodes is
     /// run once, over the largest edges. The error is that memory was refused.
-    pub fn add(&mut self, alloc: Global, job: &[u8]) -> Result<(), AllocError> {
+    pub fn add(&mut self, rt: &impl Threads, alloc: Global, job: &[u8]) -> Result<(), AllocError> {
         if job.len() > LONGEST {
             return Ok(());
         }
@@ -74,7 +75,7 @@ impl Totals {
         for capacity in [256, 4, 2, 1] {
             for chunk in [16, 1] {
                 let config = config_of(alloc, capacity, chunk)?;
-                let done = ran(alloc, program, input, &config)?;
+                let done = ran(rt, alloc, program, input, &config)?;
                 self.count(&expected, &done);
                 if done.is_large {
                     return Ok(());
@@ -145,10 +146,16 @@ struct Done {
 }
 
 // Runs a program for an input text.
-fn ran(alloc: Global, program: &[u8], input: &[u8], config: &Config) -> Result<Done, AllocError> {
+fn ran(
+    rt: &impl Threads,
+    alloc: Global,
+    program: &[u8],
+    input: &[u8],
+    config: &Config,
+) -> Result<Done, AllocError> {
     let gate = Arc::new(alloc, NoGate)?;
     let mut out = Counted::new(Vec::new(alloc));
-    let answer = run(alloc, program, input, config, gate, &mut out);
+    let answer = run(rt, alloc, program, input, config, gate, &mut out);
     Ok(Done {
         written: out.into_inner(),
         is_large: is_large(&answer),

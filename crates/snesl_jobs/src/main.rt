@@ -57,7 +57,7 @@ fn try_table(rt: &HostRuntime, name: &str) -> Result<(usize, usize)> {
     let rows = rows_of(rt.alloc(), text.as_str()).context(format_args!("in {name}"))?;
     let mut differing = 0usize;
     for row in &rows {
-        let trial = tried(rt.alloc(), row).context(format_args!("in {name}"))?;
+        let trial = tried(rt, rt.alloc(), row).context(format_args!("in {name}"))?;
         if !trial.holds() {
             differing = differing.saturating_add(1);
             say(rt, name, row, &trial)?;
@@ -76,7 +76,7 @@ fn run_table(rt: &HostRuntime, name: &str, totals: &mut Totals) -> Result<()> {
         }
         let before = totals.differing;
         let job = job_of(rt.alloc(), row).context(format_args!("in {name}"))?;
-        totals.add(rt.alloc(), &job)?;
+        totals.add(rt, rt.alloc(), &job)?;
         let line = row.line;
         if totals.differing != before {
             println!(rt; "{name}, line {line}: its network differs from its evaluation")?;
