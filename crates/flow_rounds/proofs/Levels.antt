@@ -1,0 +1,127 @@
+-- What is known of all edges where their ends have met.
+use Rattle.std.proofs.Common.{◌≡◌, ℕ, zero, suc, ◌+◌, ◌<◌, List, [], ◌∷◌, ◌++◌, drop, length, map, get_or, refl, sym, ◌∙◌, ap, subst, arith, append-nil, length-append}
+use Rattle.std.proofs.lemmas.List.{get_or-map, length-map}
+use Rattle.std.specs.List.{AllZip}
+use Rattle.flow_edges.specs.Signals.{Signal}
+use Rattle.flow_edges.specs.Ends.{SameTraffic, held}
+use Rattle.flow_graph.specs.declared.edge.Edge.{Edge}
+use Rattle.flow_graph.specs.Edges.{edge_at}
+use Rattle.flow_rings.specs.Rings.{Kept}
+use Rattle.flow_boxes.specs.declared.boxes.Boxes.{Boxes}
+use Rattle.flow_boxes.specs.Contents.{Contents, contents, view_of}
+use Rattle.flow_boxes.specs.Rounds.{IsLinked, IsCarried}
+use Rattle.flow_meetings.specs.declared.everywhere.Wire.{Wire}
+use Rattle.flow_meetings.specs.Met.{Met}
+use Rattle.flow_meetings.specs.BoxMeetings.{BoxesJoin}
+use Rattle.flow_deal.specs.Deals.{share_of}
+use Rattle.flow_round_laws.specs.Joints.{no_contents, boxes_at, writer_boxes, reader_boxes, HaveMet}
+use Rattle.flow_round_laws.specs.RoundTheorems.{NothingMoved}
+use Rattle.flow_round_laws.proofs.Parts.{any_of, no_length}
+use Rattle.flow_rounds.specs.Standing.{AreWires, AreLinked}
+use Rattle.flow_rounds.specs.Gathered.{seen}
+
+drop_all : {X : Type 0} (xs ys : List X) → drop (length xs) (xs ++ ys) ≡ ys
+drop_all [] ys = refl
+drop_all (x ∷ xs) ys = drop_all xs ys
+
+-- what holds place by place holds of two lists of one length
+pub all_zipped : {A B : Type 0} (R : A → B → Type 0) (xs : List A) (ys : List B) → length ys ≡ length xs → ((k : ℕ) (x : A) (y : B) → k < length xs → R (get_or xs k x) (get_or ys k y)) → AllZip R xs ys
+all_zipped R [] [] long each = tt
+all_zipped R [] (y ∷ ys) long each = absurd (omega (arith, long))
+all_zipped R (x ∷ xs) [] long each = absurd (omega (arith, long))
+all_zipped R (x ∷ xs) (y ∷ ys) long each = (each 0 x y (omega arith), all_zipped R xs ys (omega (arith, long)) (λ k a b l. each (suc k) a b (omega (arith, l))))
+
+-- boxes that are linked and have met are carried
+are_carried : (w r : Contents) (e : ℕ) → IsLinked w r e → Met w.ends r.ends w.capacity e → IsCarried w r e
+are_carried w r e linked met =
+    let came = length-append (r.ends.received e) (r.ends.coming e) in
+    let none : w.leaving e ≡ [] = no_length (w.leaving e) (omega (arith, ap length linked.in_order, length-append (r.ends.received e ++ r.ends.coming e) (w.leaving e), came, met.held)) in
+    let arrived : r.ends.received e ++ r.ends.coming e ≡ w.ends.sent e =
+    sym (append-nil (r.ends.received e ++ r.ends.coming e)) ∙ ap (λ (x : List Signal). (r.ends.received e ++ r.ends.coming e) ++ x) (sym none) ∙ linked.in_order in
+    record {
+      arrived = arrived;
+      coming = sym (drop_all (r.ends.received e) (r.ends.coming e)) ∙ ap (drop (length (r.ends.received e))) arrived;
+      leaving = none;
+      room = omega (arith, linked.bound, met.room, ap length none, ap length arrived, came);
+    }
+
+pub seen_at : (boxes : List Boxes) (s : ℕ) (d : Boxes) → s < length boxes → boxes_at (seen boxes) s ≡ contents (get_or boxes s d)
+seen_at boxes s d l = get_or-map contents boxes s d no_contents l
+
+module _ (share : List ℕ) (edges : List Edge) (wires : List Wire) (are : AreWires share edges wires) (boxes : List Boxes) (capacity : ℕ) (linked : AreLinked share edges (seen boxes) capacity) where
+  long : length (seen boxes) ≡ length boxes
+  long = length-map boxes contents
+
+  abbrev writer : ℕ → ℕ
+  writer e = share_of share (edge_at edges e).writer
+
+  abbrev reader : ℕ → ℕ
+  reader e = share_of share (edge_at edges e).reader
+
+  inside : (e : ℕ) → e < length wires → e < length edges
+  inside e l = omega (arith, l, are.count)
+
+  pub writers_inside : (e : ℕ) (w : Wire) → e < length wires → (get_or wires e w).writer < length boxes
+  writers_inside e w l = omega (arith, are.writers e w (inside e l), linked.writers e (inside e l), long)
+
+  pub readers_inside : (e : ℕ) (w : Wire) → e < length wires → (get_or wires e w).reader < length boxes
+  readers_inside e w l = omega (arith, are.readers e w (inside e l), linked.readers e (inside e l), long)
+
+  -- the boxes that the wire names are those of the edge
+  module _ (now : List Boxes) (same : length now ≡ length boxes) (e : ℕ) (w : Wire) (d : Boxes) (l : e < length wires) where
+    pub writer_is : writer_boxes share edges (seen now) e ≡ contents (get_or now (get_or wires e w).writer d)
+    writer_is = seen_at now (writer e) d (omega (arith, linked.writers e (inside e l), long, same)) ∙ ap (λ s. contents (get_or now s d)) (sym (are.writers e w (inside e l)))
+
+    pub reader_is : reader_boxes share edges (seen now) e ≡ contents (get_or now (get_or wires e w).reader d)
+    reader_is = seen_at now (reader e) d (omega (arith, linked.readers e (inside e l), long, same)) ∙ ap (λ s. contents (get_or now s d)) (sym (are.readers e w (inside e l)))
+
+  pub all_join : (e : ℕ) (w : Wire) (d : Boxes) → e < length wires → BoxesJoin (get_or boxes (get_or wires e w).writer d) (get_or boxes (get_or wires e w).reader d) e
+  all_join e w d l =
+      subst (λ a. IsLinked a (contents (get_or boxes (get_or wires e w).reader d)) e) (writer_is boxes refl e w d l)
+      (subst (λ b. IsLinked (writer_boxes share edges (seen boxes) e) b e) (reader_is boxes refl e w d l) (linked.linked e (inside e l)))
+
+  module _ (now : List Boxes) (same : length now ≡ length boxes)
+      (kept : (k : ℕ) (d : Boxes) → k < length boxes → Kept (view_of (get_or boxes k d)) (view_of (get_or now k d)))
+      (places : (k e : ℕ) (d : Boxes) → k < length boxes → (contents (get_or now k d)).capacity ≡ (contents (get_or boxes k d)).capacity)
+      (joined : (e : ℕ) (w : Wire) (d : Boxes) → e < length wires → BoxesJoin (get_or now (get_or wires e w).writer d) (get_or now (get_or wires e w).reader d) e)
+      (met : (e : ℕ) (w : Wire) (d : Boxes) → e < length wires → Met (view_of (get_or now (get_or wires e w).writer d)) (view_of (get_or now (get_or wires e w).reader d)) (contents (get_or now (get_or wires e w).writer d)).capacity e) where
+    none : Wire
+    none = record { writer = 0; reader = 0 }
+
+    wire : (e : ℕ) → e < length edges → e < length wires
+    wire e l = omega (arith, l, are.count)
+
+    -- some boxes
+    some : (e : ℕ) → e < length edges → Boxes
+    some e l = any_of boxes (writer e) (omega (arith, linked.writers e l, long))
+
+    pub have_met : HaveMet share edges (seen now) capacity
+    have_met = record {
+      linked = linked_at;
+      carried = λ e l.
+          let d = some e l in
+          let h = wire e l in
+          subst (λ a. IsCarried a (reader_boxes share edges (seen now) e) e) (sym (writer_is now same e none d h))
+          (subst (λ b. IsCarried (contents (get_or now (get_or wires e none).writer d)) b e) (sym (reader_is now same e none d h)) (are_carried _ _ e (joined e none d h) (met e none d h)));
+      capacity = λ e l.
+          let d = some e l in
+          let h = wire e l in
+          ap (λ (b : Contents). b.capacity) (writer_is now same e none d h)
+          ∙ places (get_or wires e none).writer e d (writers_inside e none h)
+          ∙ ap (λ (b : Contents). b.capacity) (sym (writer_is boxes refl e none d h))
+          ∙ linked.capacity e l;
+    }
+      where
+        linked_at : (e : ℕ) → e < length edges → IsLinked (writer_boxes share edges (seen now) e) (reader_boxes share edges (seen now) e) e
+        linked_at e l =
+            let d = some e l in
+            let h = wire e l in
+            subst (λ a. IsLinked a (reader_boxes share edges (seen now) e) e) (sym (writer_is now same e none d h))
+            (subst (λ b. IsLinked (contents (get_or now (get_or wires e none).writer d)) b e) (sym (reader_is now same e none d h)) (joined e none d h))
+
+    pub nothing_moved : NothingMoved (length (seen boxes)) (seen boxes) (seen now)
+    nothing_moved s l =
+        let h : s < length boxes = omega (arith, l, long) in
+        let d = any_of boxes s h in
+        subst (λ (a : Contents). SameTraffic a.ends (boxes_at (seen now) s).ends) (sym (seen_at boxes s d h))
+        (subst (λ (b : Contents). SameTraffic (view_of (get_or boxes s d)) b.ends) (sym (seen_at now s d (omega (arith, h, same)))) (kept s d h).traffic)

@@ -1,0 +1,57 @@
+-- All edges meet: what is known of the shares before and after.
+use Rattle.std.proofs.Common.{◌≡◌, ℕ, ◌<◌, List, [], ◌∷◌, length, map, get_or, refl, sym, ◌∙◌, ap, subst, arith}
+use Rattle.std.proofs.lemmas.List.{get_or-map, length-map}
+use Rattle.std.specs.List.{AllZip}
+use Rattle.flow_edges.specs.declared.ends.Ends.{Ghosts as EndsGhosts}
+use Rattle.flow_base.specs.declared.transducer.Transducer.{Ghosts}
+use Rattle.flow_rings.specs.Rings.{Kept}
+use Rattle.flow_boxes.specs.declared.boxes.Boxes.{Boxes}
+use Rattle.flow_boxes.specs.Contents.{Contents, contents, view_of}
+use Rattle.flow_meetings.specs.declared.everywhere.Wire.{Wire}
+use Rattle.flow_meetings.specs.Met.{Met}
+use Rattle.flow_meetings.specs.BoxMeetings.{BoxesJoin}
+use Rattle.flow_shares.specs.declared.share.Share.{Share}
+use Rattle.flow_round_laws.specs.Joints.{HaveMet}
+use Rattle.flow_round_laws.specs.RoundTheorems.{NothingMoved}
+use Rattle.flow_rounds.specs.Standing.{Setting, AreWires, AreLinked, dealt_of, boxes_of, numbers_of, AreFed, AreMet}
+use Rattle.flow_rounds.specs.Gathered.{seen}
+use Rattle.flow_rounds.proofs.Lists.{mapped_twice}
+use Rattle.flow_rounds.proofs.Levels.{all_zipped, have_met, nothing_moved}
+
+-- what lost no certainty did not, whatever the boxes were part of
+pub zip_kept : {A : Type 0} (ends_of : A → Boxes) (parts : List A) (boxes now : List Boxes) → boxes ≡ map ends_of parts → length now ≡ length boxes
+    → ((k : ℕ) (d : Boxes) → k < length boxes → Kept (view_of (get_or boxes k d)) (view_of (get_or now k d))) → AllZip (λ part ends. Kept (view_of (ends_of part)) (view_of ends)) parts now
+zip_kept {A} ends_of parts boxes now is same kept = all_zipped _ parts now (same ∙ long) each
+  where
+    long : length boxes ≡ length parts
+    long = ap length is ∙ length-map parts ends_of
+
+    each : (k : ℕ) (p : A) (b : Boxes) → k < length parts → Kept (view_of (ends_of (get_or parts k p))) (view_of (get_or now k b))
+    each k p b l =
+        subst (λ (a : Boxes). Kept (view_of a) (view_of (get_or now k b))) (ap (λ xs. get_or xs k b) is ∙ get_or-map ends_of parts k p b l) (kept k b (omega (arith, l, long)))
+
+module _ {X : Type 0} {t : Ghosts X} {u : EndsGhosts Boxes} where
+  pub seen_is : (shares : List (Share X Boxes t u)) (boxes : List Boxes) → boxes ≡ map (λ share. share.ends) shares → seen boxes ≡ boxes_of shares
+  seen_is shares boxes is = ap seen is ∙ mapped_twice contents (λ (share : Share X Boxes t u). share.ends) shares
+
+  module _ (setting : Setting t) (wires : List Wire) (are : AreWires setting.share setting.edges wires) (shares : List (Share X Boxes t u)) (linked : AreLinked setting.share setting.edges (boxes_of shares) setting.capacity)
+      (boxes : List Boxes) (taken : boxes ≡ map (λ share. share.ends) shares) where
+    pub their_links : AreLinked setting.share setting.edges (seen boxes) setting.capacity
+    their_links = subst (λ b. AreLinked setting.share setting.edges b setting.capacity) (sym (seen_is shares boxes taken)) linked
+
+    pub are_met : (now : List Boxes) (same : length now ≡ length boxes)
+        → ((k : ℕ) (d : Boxes) → k < length boxes → Kept (view_of (get_or boxes k d)) (view_of (get_or now k d)))
+        → ((k e : ℕ) (d : Boxes) → k < length boxes → (contents (get_or now k d)).capacity ≡ (contents (get_or boxes k d)).capacity)
+        → ((e : ℕ) (w : Wire) (d : Boxes) → e < length wires → BoxesJoin (get_or now (get_or wires e w).writer d) (get_or now (get_or wires e w).reader d) e)
+        → ((e : ℕ) (w : Wire) (d : Boxes) → e < length wires → Met (view_of (get_or now (get_or wires e w).writer d)) (view_of (get_or now (get_or wires e w).reader d)) (contents (get_or now (get_or wires e w).writer d)).capacity e)
+        → (after : List (Share X Boxes t u)) → numbers_of after ≡ numbers_of shares → dealt_of after ≡ dealt_of shares → map (λ share. share.ends) after ≡ now → AreFed after → AreMet setting shares after
+    are_met now same kept places joined met after numbers nodes ends fed =
+        let is : seen now ≡ boxes_of after = seen_is after now (sym ends) in
+        record {
+          numbers = numbers;
+          nodes = nodes;
+          fed = fed;
+          traffic = subst (λ b. NothingMoved (length b) b (boxes_of after)) (seen_is shares boxes taken)
+              (subst (λ b. NothingMoved (length (seen boxes)) (seen boxes) b) is (nothing_moved setting.share setting.edges wires are boxes setting.capacity their_links now same kept places joined met));
+          met = subst (λ b. HaveMet setting.share setting.edges b setting.capacity) is (have_met setting.share setting.edges wires are boxes setting.capacity their_links now same kept places joined met);
+        }

@@ -1,0 +1,120 @@
+-- A round is a run of the network, and where it moved nothing no node can step.
+use Rattle.std.proofs.Common.{◌≡◌, ℕ, ◌+◌, ◌-◌, ◌<◌, List, [], ◌∷◌, length, Option, Some, refl, sym, ◌∙◌, ap, subst, arith}
+use Rattle.std.proofs.lemmas.List.{length-map}
+use Rattle.kahn.specs.Processes.{Process, Event}
+use Rattle.kahn.specs.Networks.{Network}
+use Rattle.kahn.specs.Configurations.{Configuration, start, moved, IsSound}
+use Rattle.kahn.specs.Runs.{Run, Reaches, AtRest}
+use Rattle.kahn.proofs.Steps.{sound_start, sound_run}
+use Rattle.kahn.proofs.Finite.{most_events, run_most}
+use Rattle.kahn.proofs.Traffic.{moved_run}
+use Rattle.kahn.proofs.Turns.{reaches_then}
+use Rattle.flow_edges.specs.Signals.{Signal}
+use Rattle.flow_edges.specs.declared.ends.Ends.{Ghosts as EndsGhosts}
+use Rattle.flow_base.specs.Transducers.{BehaviourLaws}
+use Rattle.flow_base.specs.declared.transducer.Transducer.{Ghosts}
+use Rattle.flow_graph.specs.declared.placed.Placed.{Placed}
+use Rattle.flow_boxes.specs.declared.boxes.Boxes.{Boxes}
+use Rattle.flow_boxes.specs.Contents.{Contents, contents}
+use Rattle.flow_shares.specs.declared.share.Share.{Share}
+use Rattle.flow_deal.specs.Deals.{AreDealt}
+use Rattle.flow_round_laws.specs.Joints.{AreStates}
+use Rattle.flow_round_laws.specs.RoundTheorems.{NothingMoved, HaveGoneOn, AllStuck, net_of, joint}
+use Rattle.flow_round_laws.proofs.Seats.{dealt_later}
+use Rattle.flow_round_laws.proofs.States.{states_of_shares, are_states}
+use Rattle.flow_round_laws.proofs.Rounds.{a_round_is_a_run}
+use Rattle.flow_round_laws.proofs.Carried.{carrying_keeps_the_configuration}
+use Rattle.flow_round_laws.proofs.Calm.{calm_rounds_rest}
+use Rattle.flow_rounds.specs.Standing.{Setting, dealt_of, boxes_of, moved_in, joint_of, AreMet, StandBetweenRounds, RestBetweenRounds}
+
+-- a run from where no node can step has no step
+stays : {S M : Type 0} (P : Process S M) (net : Network S) (limit : Option ℕ) (events : List (Event M)) (c d : Configuration S M) → AtRest P net limit c → Run P net limit events c d → c ≡ d
+stays P net limit [] c d rest same = same
+stays P net limit (a ∷ more) c d rest (can, run) = absurd (rest a can)
+
+module _ {X : Type 0} {t : Ghosts X} (laws : BehaviourLaws t.behaviour) (setting : Setting t) where
+  abbrev P : Process t.State Signal
+  P = t.behaviour.process
+
+  abbrev net : Network t.State
+  net = net_of setting.nodes setting.edges
+
+  abbrev first : Configuration t.State Signal
+  first = start net
+
+  -- so many messages at most are sent and received in all
+  pub most_moved : ℕ
+  most_moved = most_events P net setting.fit.built.wired laws.settles first (λ e inside. ([], refl)) + moved net first
+
+  module _ {u : EndsGhosts Boxes} where
+    module _ (shares back new : List (Share X Boxes t u)) (stand : StandBetweenRounds setting shares) (went : HaveGoneOn (dealt_of shares) (dealt_of back) (boxes_of shares) (boxes_of back)) (met : AreMet setting back new) where
+      gone : HaveGoneOn (dealt_of shares) (dealt_of new) (boxes_of shares) (boxes_of back)
+      gone = subst (λ later. HaveGoneOn (dealt_of shares) later (boxes_of shares) (boxes_of back)) (sym met.nodes) went
+
+      abbrev deals : AreDealt setting.share setting.nodes (dealt_of new)
+      deals = dealt_later setting.share setting.nodes (dealt_of shares) (dealt_of new) stand.deals gone.count gone.places
+
+      abbrev states : List t.State
+      states = states_of_shares setting.share setting.edges setting.nodes setting.fit (dealt_of new) deals
+
+      are : AreStates setting.share setting.nodes (dealt_of new) deals states
+      are = are_states setting.share setting.edges setting.nodes setting.fit (dealt_of new) deals
+
+      -- where the network stood before the round, after the pumps, and now
+      abbrev c : Configuration t.State Signal
+      c = joint_of setting stand.states shares
+
+      abbrev d : Configuration t.State Signal
+      d = joint t setting.share setting.edges states (boxes_of back)
+
+      abbrev e : Configuration t.State Signal
+      e = joint_of setting states new
+
+      sound : IsSound P net c
+      sound = sound_run P net setting.fit.built.wired (Some setting.capacity) stand.reaches.0 first c (sound_start P net) stand.reaches.1
+
+      run : Reaches P net (Some setting.capacity) c d × ((NothingMoved (length (dealt_of shares)) (boxes_of shares) (boxes_of back) → ⊥) → moved net c < moved net d)
+      run =
+          a_round_is_a_run t laws setting.capacity setting.share setting.edges setting.nodes setting.fit (dealt_of shares) (dealt_of new) stand.deals deals stand.states states stand.are_states are
+          (boxes_of shares) (boxes_of back) stand.met sound gone
+
+      even : length (boxes_of new) ≡ length (boxes_of back)
+      even =
+          length-map new (λ (share : Share X Boxes t u). contents share.ends) ∙ sym (length-map new (λ (share : Share X Boxes t u). share.number))
+          ∙ ap length met.numbers ∙ length-map back (λ (share : Share X Boxes t u). share.number) ∙ sym (length-map back (λ (share : Share X Boxes t u). contents share.ends))
+
+      carried : e ≡ d
+      carried = carrying_keeps_the_configuration t setting.share setting.edges states (boxes_of back) (boxes_of new) even met.traffic
+
+      pub stands : StandBetweenRounds setting new
+      stands = record {
+        deals = deals;
+        fed = met.fed;
+        met = met.met;
+        states = states;
+        are_states = are;
+        reaches = reaches_then P net (Some setting.capacity) first c e stand.reaches (subst (λ x. Reaches P net (Some setting.capacity) c x) (sym carried) run.0);
+      }
+
+      pub rests : AllStuck (dealt_of shares) (boxes_of shares) → RestBetweenRounds setting new
+      unfolding stands
+      rests stuck =
+          let rest : AtRest P net (Some setting.capacity) c =
+          calm_rounds_rest t setting.capacity setting.share setting.edges setting.nodes setting.fit (dealt_of shares) stand.deals stand.states stand.are_states (boxes_of shares) stand.met stuck in
+          let same : c ≡ e = stays P net (Some setting.capacity) run.0.0 c d rest run.0.1 ∙ sym carried in
+          record { stand = stands; rest = subst (λ x. AtRest P net (Some setting.capacity) x) same rest }
+
+      pub moves : (NothingMoved (length (dealt_of shares)) (boxes_of shares) (boxes_of back) → ⊥) → moved_in setting (boxes_of shares) < moved_in setting (boxes_of new)
+      moves some = subst (λ x. moved net c < moved net x) (sym carried) (run.1 some)
+
+    pub within_most : (shares : List (Share X Boxes t u)) → StandBetweenRounds setting shares → moved_in setting (boxes_of shares) < most_moved + 1
+    unfolding most_moved
+    within_most shares stand =
+        let c : Configuration t.State Signal = joint_of setting stand.states shares in
+        let most = run_most P net setting.fit.built.wired laws.settles (Some setting.capacity) stand.reaches.0 first c (λ e inside. ([], refl)) stand.reaches.1 in
+        let count : moved net c ≡ length stand.reaches.0 + moved net first = moved_run P net (Some setting.capacity) stand.reaches.0 first c stand.reaches.1 in
+        omega (arith, most, count)
+
+    -- a round that moves something leaves less to move
+    pub left_falls : (shares new : List (Share X Boxes t u)) → StandBetweenRounds setting new → moved_in setting (boxes_of shares) < moved_in setting (boxes_of new) → most_moved - moved_in setting (boxes_of new) < most_moved - moved_in setting (boxes_of shares)
+    left_falls shares new stand more = omega (arith, more, within_most new stand)

@@ -1,0 +1,136 @@
+-- What a round makes of the lists of all shares: of their nodes, and of what is seen of their boxes.
+use Rattle.std.proofs.Common.{◌≡◌, ℕ, ◌<◌, Bool, true, false, List, [], length, map, get_or, refl, sym, ◌∙◌, subst, arith}
+use Rattle.std.proofs.lemmas.List.{get_or-map, length-map}
+use Rattle.std.specs.List.{All}
+use Rattle.flow_edges.specs.Ends.{View, SameTraffic}
+use Rattle.flow_edges.specs.declared.ends.Ends.{Ghosts as EndsGhosts}
+use Rattle.flow_base.specs.declared.transducer.Transducer.{Ghosts}
+use Rattle.flow_graph.specs.declared.edge.Edge.{Edge}
+use Rattle.flow_graph.specs.declared.placed.Placed.{Placed}
+use Rattle.flow_graph.specs.Edges.{edge_at}
+use Rattle.flow_graph.specs.Layouts.{FitTogether, AreSamePlaces}
+use Rattle.flow_boxes.specs.declared.boxes.Boxes.{Boxes}
+use Rattle.flow_boxes.specs.Contents.{Contents, contents, view_of}
+use Rattle.flow_boxes.specs.Rounds.{KeepsRound}
+use Rattle.flow_boxes.proofs.Linking.{writer-linked, reader-linked}
+use Rattle.flow_shares.specs.declared.share.Share.{Share}
+use Rattle.flow_shares.specs.Shares.{HaveMoved, AreStuck}
+use Rattle.flow_shares.specs.Pumps.{IsPumped}
+use Rattle.flow_deal.specs.Deals.{share_of, AreDealt}
+use Rattle.flow_round_laws.specs.Joints.{no_contents, nodes_at, boxes_at, writer_boxes, reader_boxes, HaveMet}
+use Rattle.flow_round_laws.specs.RoundTheorems.{NothingMoved, HaveGoneOn, AllStuck}
+use Rattle.flow_round_laws.proofs.Parts.{any_of}
+use Rattle.flow_round_laws.proofs.Seats.{reader_inside, writer_inside}
+use Rattle.flow_rounds.specs.Standing.{AreLinked, dealt_of, boxes_of, AreFed, AreCalm}
+
+module _ {X : Type 0} {t : Ghosts X} {u : EndsGhosts Boxes} where
+  pub nodes_are : (shares : List (Share X Boxes t u)) (s : ℕ) (d : Share X Boxes t u) → s < length shares → nodes_at (dealt_of shares) s ≡ (get_or shares s d).nodes.items
+  nodes_are shares s d l = get_or-map (λ (share : Share X Boxes t u). share.nodes.items) shares s d [] l
+
+  pub boxes_are : (shares : List (Share X Boxes t u)) (s : ℕ) (d : Share X Boxes t u) → s < length shares → boxes_at (boxes_of shares) s ≡ contents (get_or shares s d).ends
+  boxes_are shares s d l = get_or-map (λ (share : Share X Boxes t u). contents share.ends) shares s d no_contents l
+
+  module _ (sees : u.view ≡ view_of) (keeps : (a b : Boxes) → u.same a b → KeepsRound (contents a) (contents b)) (shares back : List (Share X Boxes t u)) (count : length back ≡ length shares)
+      (each : (k : ℕ) (d : Share X Boxes t u) → k < length shares → IsPumped (get_or shares k d) (get_or back k d)) (fed : AreFed back) where
+    there : (s : ℕ) → s < length (dealt_of shares) → s < length shares
+    there s l = omega (arith, l, length-map shares (λ (share : Share X Boxes t u). share.nodes.items))
+
+    module _ (s : ℕ) (l : s < length shares) where
+      low : s < length back
+      low = omega (arith, l, count)
+
+      -- some share
+      abbrev any : Share X Boxes t u
+      any = any_of shares s l
+
+      -- the share before and after
+      abbrev old : Share X Boxes t u
+      old = get_or shares s any
+
+      abbrev new : Share X Boxes t u
+      new = get_or back s any
+
+      pumped : IsPumped old new
+      pumped = each s any l
+
+      is_fed : new.starved ≡ false
+      is_fed = fed s any low
+
+      -- what holds of the share holds of what the lists have of it
+      of_lists : (Q : List (Placed X t) → List (Placed X t) → Contents → Contents → Type 0) → Q old.nodes.items new.nodes.items (contents old.ends) (contents new.ends)
+          → Q (nodes_at (dealt_of shares) s) (nodes_at (dealt_of back) s) (boxes_at (boxes_of shares) s) (boxes_at (boxes_of back) s)
+      of_lists Q q =
+          subst (λ n. Q n (nodes_at (dealt_of back) s) (boxes_at (boxes_of shares) s) (boxes_at (boxes_of back) s)) (sym (nodes_are shares s any l))
+          (subst (λ m. Q old.nodes.items m (boxes_at (boxes_of shares) s) (boxes_at (boxes_of back) s)) (sym (nodes_are back s any low))
+          (subst (λ a. Q old.nodes.items new.nodes.items a (boxes_at (boxes_of back) s)) (sym (boxes_are shares s any l))
+          (subst (λ b. Q old.nodes.items new.nodes.items (contents old.ends) b) (sym (boxes_are back s any low)) q)))
+
+      traffic_of : SameTraffic (boxes_at (boxes_of shares) s).ends (boxes_at (boxes_of back) s).ends → SameTraffic (u.view old.ends) (u.view new.ends)
+      traffic_of same =
+          subst (λ (v : Boxes → View). SameTraffic (v old.ends) (v new.ends)) (sym sees)
+          (subst (λ (b : Contents). SameTraffic (view_of old.ends) b.ends) (boxes_are back s any low)
+          (subst (λ (a : Contents). SameTraffic a.ends (boxes_at (boxes_of back) s).ends) (boxes_are shares s any l) same))
+
+      kept : KeepsRound (boxes_at (boxes_of shares) s) (boxes_at (boxes_of back) s)
+      kept = of_lists (λ n m a b. KeepsRound a b) (keeps old.ends new.ends pumped.same)
+
+    pub gone_on : HaveGoneOn (dealt_of shares) (dealt_of back) (boxes_of shares) (boxes_of back)
+    gone_on = record {
+      count = length-map back (λ (share : Share X Boxes t u). share.nodes.items) ∙ count ∙ sym (length-map shares (λ (share : Share X Boxes t u). share.nodes.items));
+      places = λ s l. of_lists s (there s l) (λ n m a b. AreSamePlaces n m) (pumped s (there s l)).places;
+      moved = λ s l.
+          let h = there s l in
+          of_lists s h (λ n m a b. HaveMoved n m a.ends b.ends)
+          (subst (λ (v : Boxes → View). HaveMoved (old s h).nodes.items (new s h).nodes.items (v (old s h).ends) (v (new s h).ends)) sees ((pumped s h).moved (is_fed s h)));
+      kept = λ s l. kept s (there s l);
+    }
+
+    -- where nothing moved, no node could step
+    pub all_stuck : NothingMoved (length (dealt_of shares)) (boxes_of shares) (boxes_of back) → AllStuck (dealt_of shares) (boxes_of shares)
+    all_stuck nothing s l =
+        let h = there s l in
+        of_lists s h (λ n m a b. AreStuck a.ends n)
+        (subst (λ (v : Boxes → View). AreStuck (v (old s h).ends) (old s h).nodes.items) sees ((pumped s h).progress (is_fed s h) (traffic_of s h (nothing s l))))
+
+    pub calm_moves_nothing : AreCalm back → NothingMoved (length (dealt_of shares)) (boxes_of shares) (boxes_of back)
+    calm_moves_nothing calm s l =
+        let h = there s l in
+        of_lists s h (λ n m a b. SameTraffic a.ends b.ends)
+        (subst (λ (v : Boxes → View). SameTraffic (v (old s h).ends) (v (new s h).ends)) sees ((pumped s h).calm (is_fed s h) (calm s (any s h) (low s h))))
+
+    pub nothing_is_calm : NothingMoved (length (dealt_of shares)) (boxes_of shares) (boxes_of back) → AreCalm back
+    nothing_is_calm nothing s d l = at (get_or back s d).moved refl
+      where
+        h : s < length shares
+        h = omega (arith, l, count)
+
+        at : (b : Bool) → (get_or back s d).moved ≡ b → (get_or back s d).moved ≡ false
+        at false is = is
+        at true is = absurd ((each s d h).busy (fed s d l) is (same d))
+          where
+            same : (d : Share X Boxes t u) → SameTraffic (u.view (get_or shares s d).ends) (u.view (get_or back s d).ends)
+            same d =
+                subst (λ (v : Boxes → View). SameTraffic (v (get_or shares s d).ends) (v (get_or back s d).ends)) (sym sees)
+                (subst (λ (b : Contents). SameTraffic (view_of (get_or shares s d).ends) b.ends) (boxes_are back s d l)
+                (subst (λ (a : Contents). SameTraffic a.ends (boxes_at (boxes_of back) s).ends) (boxes_are shares s d h) (nothing s (omega (arith, h, length-map shares (λ (share : Share X Boxes t u). share.nodes.items))))))
+
+    -- boxes that were linked still are
+    pub still_linked : (share : List ℕ) (edges : List Edge) (nodes : List (Placed X t)) (capacity : ℕ) → FitTogether nodes edges → AreDealt share nodes (dealt_of shares) → HaveMet share edges (boxes_of shares) capacity → AreLinked share edges (boxes_of back) capacity
+    still_linked share edges nodes capacity fit deals met = record {
+      writers = λ e l. omega (arith, writes e l, long);
+      readers = λ e l. omega (arith, reads e l, long);
+      linked = λ e l.
+          reader-linked (writer_boxes share edges (boxes_of back) e) (reader_boxes share edges (boxes_of shares) e) (reader_boxes share edges (boxes_of back) e) e
+          (writer-linked (writer_boxes share edges (boxes_of shares) e) (writer_boxes share edges (boxes_of back) e) (reader_boxes share edges (boxes_of shares) e) e (met.linked e l) (kept (share_of share (edge_at edges e).writer) (there _ (writes e l))))
+          (kept (share_of share (edge_at edges e).reader) (there _ (reads e l)));
+      capacity = λ e l. (kept (share_of share (edge_at edges e).writer) (there _ (writes e l))).boxes.capacity ∙ met.capacity e l;
+    }
+      where
+        long : length (boxes_of back) ≡ length (dealt_of shares)
+        long = length-map back (λ (share : Share X Boxes t u). contents share.ends) ∙ count ∙ sym (length-map shares (λ (share : Share X Boxes t u). share.nodes.items))
+
+        writes : (e : ℕ) → e < length edges → share_of share (edge_at edges e).writer < length (dealt_of shares)
+        writes e l = (deals.inside (edge_at edges e).writer (writer_inside edges nodes fit e l)).0
+
+        reads : (e : ℕ) → e < length edges → share_of share (edge_at edges e).reader < length (dealt_of shares)
+        reads e l = (deals.inside (edge_at edges e).reader (reader_inside edges nodes fit e l)).0

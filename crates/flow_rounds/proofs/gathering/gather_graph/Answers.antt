@@ -1,0 +1,30 @@
+use Rattle.std.proofs.Common.{sym, subst}
+use Rattle.flow_graph.specs.Places.{states_in}
+use Rattle.flow_graph.specs.Graphs.{states_of, edges_of}
+use Rattle.flow_graph.specs.Layouts.{FitTogether}
+use Rattle.flow_graph.specs.Shapes.{IsSameNetwork}
+use Rattle.flow_deal.specs.Deals.{lists_in}
+use Rattle.flow_rounds.proofs.Gathers.{they_fit, openings, come_to_rest}
+use Rattle.flow_rounds.proofs.gathering.gather_graph.Goals as goal
+
+pub put_together-requires : goal.put_together-requires
+put_together-requires g c =
+    let lists = c.in_ok-lists in
+    let nodes = c.in_ok-nodes in
+    subst (λ e. FitTogether nodes.nodes.items e) (sym c.requires.1.1.1.1.0)
+    (they_fit g.setting c.args.shares.items c.requires.1.1.1.1.1 c.args.share.now c.requires.1.1.1.0 (lists_in lists.lists.items) lists.ensures.nodes nodes.nodes.items nodes.ensures.nodes nodes.ensures.places g.met.T.Transducer.laws)
+
+pub returns-clause-network : goal.returns-clause-network
+returns-clause-network g c =
+    let lists = c.in_ok-lists in
+    let nodes = c.in_ok-nodes in
+    subst (λ e. IsSameNetwork g.T.Transducer.behaviour (states_in g.setting.nodes) e (states_of c.put_together.result) (edges_of c.put_together.result)) c.requires.1.1.1.1.0
+    (c.put_together.ensures.network (states_in g.setting.nodes)
+    (openings g.setting c.args.shares.items c.requires.1.1.1.1.1 c.args.share.now c.requires.1.1.1.0 (lists_in lists.lists.items) lists.ensures.nodes nodes.nodes.items nodes.ensures.nodes nodes.ensures.places))
+
+pub returns-clause-rest : goal.returns-clause-rest
+returns-clause-rest g c =
+    let lists = c.in_ok-lists in
+    let nodes = c.in_ok-nodes in
+    come_to_rest g.setting c.args.shares.items c.requires.1.1.1.1.1 c.args.share.now c.requires.1.1.1.0 (lists_in lists.lists.items) lists.ensures.nodes nodes.nodes.items nodes.ensures.nodes nodes.ensures.places
+    lists.boxes.items lists.ensures.boxes (states_of c.put_together.result) c.put_together.ensures.nodes

@@ -1,0 +1,18 @@
+use Rattle.std.specs.Prelude.{◌≡◌, ◌-◌, length}
+use Rattle.flow_rounds.specs.Standing.{StandBetweenRounds, boxes_of, moved_in}
+use Rattle.flow_rounds.proofs.Rounds.{most_moved}
+use Rattle.flow_rounds.proofs.round.run_rounds.Given as goal
+
+abbrev pub ghost-round : goal.ghost-round
+ghost-round g a = g.setting
+
+-- the shares stand where a run led, all of them
+abbrev pub invariant-rounds : goal.invariant-rounds
+invariant-rounds g l = record {
+  stand : StandBetweenRounds g.setting l.shares.items;
+  count : length l.shares.items ≡ length l.fn.shares.items;
+}
+
+-- how many messages are still to be sent and received
+abbrev pub decreases-rounds : goal.decreases-rounds
+decreases-rounds g l = most_moved (g.met.T.Transducer g.world.𝓛 g.world.𝓜 g.world.𝓡 ((λ s x. x), (λ x. x), (λ x. x), λ x. x)).laws g.setting - moved_in g.setting (boxes_of l.shares.items)

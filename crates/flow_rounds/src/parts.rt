@@ -1,0 +1,90 @@
+// Shares without their boxes, while these meet.
+ghost use Rattle.std.specs.Prelude.{◌≡◌, false, map, IfOk};
+ghost use Rattle.std.specs.List.{All, AllZip};
+ghost use Rattle.flow_rings.specs.Rings.{Kept};
+ghost use Rattle.flow_boxes.specs.Contents.{view_of};
+ghost use Rattle.flow_deal.specs.Deals.{lists_in};
+
+use flow_base::Transducer;
+use flow_boxes::Boxes;
+use flow_graph::Placed;
+use flow_shares::Share;
+use std::alloc::{AllocError, Global};
+use std::snapshot::Snapshot;
+
+/// What is left of a share without its boxes.
+#[derive(Drop)]
+pub(crate) struct Part<T: Transducer> {
+    pub(crate) number: usize,
+    pub(crate) nodes: Vec<Placed<T>>,
+    pub(crate) share: Snapshot<Share<T, Boxes>>,
+    ghost same_number: { number ≡ share.value.number },
+    ghost same_nodes: { nodes ≡ share.value.nodes },
+    ghost fed: { share.value.starved ≡ false },
+}
+
+/// Takes shares apart, in order.
+pub(crate) fn take_apart<T: Transducer + Drop>(
+    alloc: Global,
+    shares: Vec<Share<T, Boxes>>,
+) -> Result<(Vec<Part<T>>, Vec<Boxes>), AllocError>
+    requires fed { All (λ share. share.starved ≡ false) shares.items }
+    ensures parts { IfOk result (λ made. map (λ part. part.share.value) made.0.items ≡ shares.items) }
+    ensures boxes { IfOk result (λ made. made.1.items ≡ map (λ share. share.ends) shares.items) }
+{
+    let mut parts = Vec::with_capacity(alloc, shares.len())?;
+    let mut boxes = Vec::with_capacity(alloc, shares.len())?;
+    for share in shares {
+        let number = share.number();
+        let given = Snapshot::of(&share);
+        let (nodes, ends) = share.into_parts();
+        parts.push_reserved(Part {
+            number,
+            nodes,
+            share: given,
+        });
+        boxes.push_reserved(ends);
+    }
+    Ok((parts, boxes))
+}
+
+/// Puts shares together, in order, each with boxes that are just as its own were, or are certain of more.
+pub(crate) fn put_together<T: Transducer + Drop>(
+    alloc: Global,
+    parts: Vec<Part<T>>,
+    boxes: Vec<Boxes>,
+) -> Result<Vec<Share<T, Boxes>>, AllocError>
+    requires kept { AllZip (λ part ends. Kept (view_of part.share.value.ends) (view_of ends)) parts.items boxes.items }
+    ensures numbers { IfOk result (λ shares. map (λ share. share.number) shares.items ≡ map (λ part. part.share.value.number) parts.items) }
+    ensures nodes { IfOk result (λ shares. map (λ share. share.nodes.items) shares.items ≡ map (λ part. part.share.value.nodes.items) parts.items) }
+    ensures boxes { IfOk result (λ shares. map (λ share. share.ends) shares.items ≡ boxes.items) }
+    ensures fed { IfOk result (λ shares. All (λ share. share.starved ≡ false) shares.items) }
+{
+    let mut shares = Vec::with_capacity(alloc, parts.len())?;
+    let mut boxes = boxes.into_iter();
+    for part in parts {
+        match boxes.next() {
+            Some(ends) => shares.push_reserved(Share::new(part.number, part.nodes, ends)),
+            None => unreachable!(),
+        }
+    }
+    Ok(shares)
+}
+
+/// The nodes of each share, and its boxes, in order.
+pub(crate) fn split<T: Transducer + Drop>(
+    alloc: Global,
+    shares: Vec<Share<T, Boxes>>,
+) -> Result<(Vec<Vec<Placed<T>>>, Vec<Boxes>), AllocError>
+    ensures nodes { IfOk result (λ made. lists_in made.0.items ≡ map (λ share. share.nodes.items) shares.items) }
+    ensures boxes { IfOk result (λ made. made.1.items ≡ map (λ share. share.ends) shares.items) }
+{
+    let mut lists = Vec::with_capacity(alloc, shares.len())?;
+    let mut boxes = Vec::with_capacity(alloc, shares.len())?;
+    for share in shares {
+        let (nodes, ends) = share.into_parts();
+        lists.push_reserved(nodes);
+        boxes.push_reserved(ends);
+    }
+    Ok((lists, boxes))
+}
