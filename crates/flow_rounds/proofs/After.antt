@@ -36,5 +36,5 @@ module _ {X : Type 0} {t : Ghosts X} {u : EndsGhosts Boxes} (laws : BehaviourLaw
     moves_after some = moves laws setting shares back new stand went met (λ nothing. absurd (true≢false (sym (says.1 (nothing_is_calm sees keeps shares back count each fed nothing)) ∙ isnt calm some)))
       where
         isnt : (b : Bool) → not b ≡ true → b ≡ false
-        isnt true no = absurd (false≢true no)
-        isnt false no = refl
+        isnt true same = absurd (false≢true same)
+        isnt false same = refl
