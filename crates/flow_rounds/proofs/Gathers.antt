@@ -1,9 +1,6 @@
 -- Nodes that are gathered again stand where the run of their shares came to rest.
-use Rattle.std.proofs.Common.{◌≡◌, ℕ, ◌<◌, List, length, map, get_or, refl, sym, ◌∙◌, ap, subst, arith, ext_get_or}
+use Rattle.std.proofs.Common.{◌≡◌, ℕ, ◌<◌, List, length, map, get_or, sym, ◌∙◌, ap, subst, arith, ext_get_or}
 use Rattle.std.proofs.lemmas.List.{get_or-map, length-map}
-use Rattle.std.specs.Prelude.{Some}
-use Rattle.kahn.specs.Configurations.{start}
-use Rattle.kahn.specs.Runs.{Reaches, AtRest}
 use Rattle.flow_edges.specs.declared.ends.Ends.{Ghosts as EndsGhosts}
 use Rattle.flow_base.specs.Transducers.{BehaviourLaws}
 use Rattle.flow_base.specs.declared.transducer.Transducer.{Ghosts}
@@ -14,8 +11,7 @@ use Rattle.flow_graph.proofs.Layouts.{later_fit}
 use Rattle.flow_boxes.specs.declared.boxes.Boxes.{Boxes}
 use Rattle.flow_deal.specs.Deals.{share_of, node_at, AreJustDealt, AreSameAsDealt}
 use Rattle.flow_shares.specs.declared.share.Share.{Share}
-use Rattle.flow_round_laws.specs.Joints.{HaveMet, AreStates}
-use Rattle.flow_round_laws.specs.RoundTheorems.{net_of, joint}
+use Rattle.flow_round_laws.specs.Joints.{AreStates}
 use Rattle.flow_round_laws.proofs.Parts.{any_of}
 use Rattle.flow_round_laws.proofs.Seats.{number_is}
 use Rattle.flow_round_laws.proofs.States.{states_are_one}

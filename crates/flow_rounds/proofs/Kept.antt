@@ -1,12 +1,11 @@
 -- Nodes keep their ends and their histories where nothing is sent or received.
-use Rattle.std.proofs.Common.{◌≡◌, true, List, sym, ◌∙◌}
+use Rattle.std.proofs.Common.{List, ◌∙◌}
 use mathlib.Core.Logic.{∥∥₁_map}
 use Rattle.std.specs.List.{All}
 use Rattle.flow_edges.specs.Ends.{View, SameEnds, SameTraffic}
-use Rattle.flow_base.specs.Visits.{edge_of}
 use Rattle.flow_base.specs.declared.transducer.Transducer.{Ghosts}
 use Rattle.flow_graph.specs.declared.placed.Placed.{Placed}
-use Rattle.flow_shares.specs.Shares.{inputs_of, outputs_of, HasItsEnds, HasHistory, IsOwn}
+use Rattle.flow_shares.specs.Shares.{HasItsEnds, IsOwn}
 
 module _ {X : Type 0} {t : Ghosts X} (nodes : List (Placed X t)) (a v : View) where
   pub ends_stay : SameEnds a v → All (HasItsEnds a) nodes → All (HasItsEnds v) nodes

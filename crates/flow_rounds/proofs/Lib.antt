@@ -5,4 +5,5 @@ pub mod Meets
 pub mod Rounds
 pub mod Kept
 pub mod Gathers
+pub mod After
 pub mod Begins

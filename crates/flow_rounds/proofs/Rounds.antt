@@ -13,9 +13,8 @@ use Rattle.flow_edges.specs.Signals.{Signal}
 use Rattle.flow_edges.specs.declared.ends.Ends.{Ghosts as EndsGhosts}
 use Rattle.flow_base.specs.Transducers.{BehaviourLaws}
 use Rattle.flow_base.specs.declared.transducer.Transducer.{Ghosts}
-use Rattle.flow_graph.specs.declared.placed.Placed.{Placed}
 use Rattle.flow_boxes.specs.declared.boxes.Boxes.{Boxes}
-use Rattle.flow_boxes.specs.Contents.{Contents, contents}
+use Rattle.flow_boxes.specs.Contents.{contents}
 use Rattle.flow_shares.specs.declared.share.Share.{Share}
 use Rattle.flow_deal.specs.Deals.{AreDealt}
 use Rattle.flow_round_laws.specs.Joints.{AreStates}

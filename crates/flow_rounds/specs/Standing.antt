@@ -1,11 +1,10 @@
 -- Shares of a graph between two rounds.
-use Rattle.std.specs.Prelude.{◌≡◌, ℕ, ◌+◌, ◌<◌, false, List, [], length, map, slice_index_or, Some}
+use Rattle.std.specs.Prelude.{◌≡◌, ℕ, ◌+◌, ◌<◌, false, List, length, map, slice_index_or, Some}
 use Rattle.std.specs.List.{All}
 use Rattle.kahn.specs.Basics.{total}
 use Rattle.kahn.specs.Configurations.{Configuration, start}
 use Rattle.kahn.specs.Runs.{Reaches, AtRest}
 use Rattle.flow_edges.specs.Signals.{Signal}
-use Rattle.flow_edges.specs.Ends.{View}
 use Rattle.flow_edges.specs.declared.ends.Ends.{Ghosts as EndsGhosts}
 use Rattle.flow_base.specs.declared.transducer.Transducer.{Ghosts}
 use Rattle.flow_graph.specs.declared.edge.Edge.{Edge}

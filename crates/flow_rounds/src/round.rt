@@ -49,11 +49,7 @@ pub fn run_rounds<
 }
 
 // One round: all shares are pumped side by side, and then the ends of all edges meet. Whether a message moved.
-fn round<
-    R: Threads,
-    T: Transducer + Send + Drop + 'static,
-    G: Gate + Send + Sync + Drop + 'static,
->(
+fn round<R: Threads, T: Transducer + Send + Drop + 'static, G: Gate + Send + Sync + Drop + 'static>(
     rt: &R,
     alloc: Global,
     shares: Vec<Share<T, Boxes>>,

@@ -3,7 +3,7 @@ use Rattle.std.specs.List.{AllZip}
 use Rattle.flow_rings.specs.Rings.{Kept}
 use Rattle.flow_boxes.specs.Contents.{view_of}
 use Rattle.flow_rounds.proofs.Lists.{mapped_twice, written_back, four_of_ok}
-use Rattle.flow_rounds.proofs.Levels.{writers_inside, readers_inside, all_join}
+use Rattle.flow_rounds.proofs.Levels.{all_join}
 use Rattle.flow_rounds.proofs.Meets.{their_links, are_met, zip_kept}
 use Rattle.flow_rounds.proofs.meet.meet.Goals as goal
 

@@ -1,6 +1,6 @@
-use Rattle.std.proofs.Common.{◌≡◌, false, map, sym, ◌∙◌, ap, arith}
+use Rattle.std.proofs.Common.{◌≡◌, false, sym, ◌∙◌, ap, arith}
 use Rattle.std.proofs.lemmas.Grind.{common_steps}
-use Rattle.flow_rounds.proofs.Lists.{goes_over, goes_over_as, first_of_all, rest_of_all}
+use Rattle.flow_rounds.proofs.Lists.{goes_over_as, first_of_all, rest_of_all}
 use Rattle.flow_rounds.proofs.parts.take_apart.Goals as goal
 
 pub invariant_of-push_reserved : goal.invariant_of-push_reserved

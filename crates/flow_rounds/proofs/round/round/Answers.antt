@@ -1,18 +1,21 @@
-use Rattle.std.proofs.Common.{◌≡◌, Bool, true, false, refl, sym, ◌∙◌, ap, subst, rules, tests}
+use Rattle.std.proofs.Common.{refl, subst, rules}
+use Rattle.std.specs.Prelude.{◌↔◌, IsTrue}
 use Rattle.flow_opening.specs.Open.{AreWires}
-use Rattle.flow_rounds.specs.Standing.{AreFed, AreCalm, AreLinked, boxes_of, StandBetweenRounds}
-use Rattle.flow_rounds.proofs.Shares.{gone_on, all_stuck, calm_moves_nothing, nothing_is_calm, still_linked}
-use Rattle.flow_rounds.proofs.Rounds.{stands, rests, moves}
+use Rattle.flow_rounds.specs.Standing.{AreFed, AreCalm, StandBetweenRounds}
+use Rattle.flow_rounds.proofs.Shares.{still_linked}
+use Rattle.flow_rounds.proofs.After.{stands_after, rests_after, moves_after}
 use Rattle.flow_rounds.proofs.round.round.Goals as goal
 
 pub meet-requires : goal.meet-requires
 meet-requires g c =
     let s = g.setting in
-    let r = c.requires in
-    let f = c.are_fed.ensures in
-    let d = c.deref.ensures in
-    let e = c.in_ok-back.ensures in
-    ?
+    let shares = c.args.shares.items in
+    let back = c.in_ok-back.back.items in
+    let stand : StandBetweenRounds s shares = search rules in
+    let wires : AreWires s.share s.edges c.args.wires.now = search rules in
+    let fed = subst (λ l. AreFed l) c.deref.ensures.value (c.are_fed.ensures.0 c.if-not-are_fed.false) in
+    let linked = still_linked refl (λ a b same. same) shares back c.in_ok-back.ensures.count c.in_ok-back.ensures.each fed s.share s.edges s.nodes s.capacity s.fit stand.deals stand.met in
+    λ κs sub. (search rules, (wires, (linked, fed)))
 
 pub returns-clause-stand : goal.returns-clause-stand
 returns-clause-stand g c =
@@ -20,7 +23,30 @@ returns-clause-stand g c =
     let shares = c.args.shares.items in
     let back = c.in_ok-back.back.items in
     let stand : StandBetweenRounds s shares = search rules in
-    let is : c.deref.result.now ≡ back = cc in
-    let fed = subst (λ l. AreFed l) is (c.are_fed.ensures.0 (search (rules, tests))) in
+    let fed = subst (λ l. AreFed l) c.deref.ensures.value (c.are_fed.ensures.0 c.if-not-are_fed.false) in
     let laws = (g.met.T.Transducer g.world.𝓛 g.world.𝓜 g.world.𝓡 ((λ s x. x), (λ x. x), (λ x. x), λ x. x)).laws in
-    stands laws s shares back c.in_ok-met.met.items stand (gone_on refl (λ a b same. same) shares back c.in_ok-back.ensures.count c.in_ok-back.ensures.each fed) c.in_ok-met.ensures
+    stands_after laws s refl (λ a b same. same) shares back c.in_ok-met.met.items stand c.in_ok-back.ensures.count c.in_ok-back.ensures.each fed c.in_ok-met.ensures
+
+pub returns-clause-rest : goal.returns-clause-rest
+returns-clause-rest g c =
+    let s = g.setting in
+    let shares = c.args.shares.items in
+    let back = c.in_ok-back.back.items in
+    let stand : StandBetweenRounds s shares = search rules in
+    let fed = subst (λ l. AreFed l) c.deref.ensures.value (c.are_fed.ensures.0 c.if-not-are_fed.false) in
+    let laws = (g.met.T.Transducer g.world.𝓛 g.world.𝓜 g.world.𝓡 ((λ s x. x), (λ x. x), (λ x. x), λ x. x)).laws in
+    let calm = c.are_calm-moved in
+    let says = subst (λ l. IsTrue calm.result ↔ AreCalm l) c.deref-2.ensures.value calm.ensures in
+    rests_after laws s refl (λ a b same. same) shares back c.in_ok-met.met.items stand c.in_ok-back.ensures.count c.in_ok-back.ensures.each fed c.in_ok-met.ensures calm.result says
+
+pub returns-clause-more : goal.returns-clause-more
+returns-clause-more g c =
+    let s = g.setting in
+    let shares = c.args.shares.items in
+    let back = c.in_ok-back.back.items in
+    let stand : StandBetweenRounds s shares = search rules in
+    let fed = subst (λ l. AreFed l) c.deref.ensures.value (c.are_fed.ensures.0 c.if-not-are_fed.false) in
+    let laws = (g.met.T.Transducer g.world.𝓛 g.world.𝓜 g.world.𝓡 ((λ s x. x), (λ x. x), (λ x. x), λ x. x)).laws in
+    let calm = c.are_calm-moved in
+    let says = subst (λ l. IsTrue calm.result ↔ AreCalm l) c.deref-2.ensures.value calm.ensures in
+    moves_after laws s refl (λ a b same. same) shares back c.in_ok-met.met.items stand c.in_ok-back.ensures.count c.in_ok-back.ensures.each fed c.in_ok-met.ensures calm.result says
