@@ -1,15 +1,14 @@
 // Programs as networks beside their plain evaluation: whatever the edges hold, a run ends in the value that evaluation
 // gives, in some fault where evaluation gives one, or in no answer.
 
-use flow_drive::{Config, Drive, NoGate, Outcome, Sharing};
+use crate::running::{Done, ran};
+use flow_drive::{Config, Drive, Outcome, Sharing};
 use snesl_console::split;
-use snesl_run::{Report, RunError, run};
 use snesl_syntax::parse;
 use snesl_types::{check, plain};
-use snesl_values::{Counted, Datum, Fault, Refusal, read_inputs, text_of};
+use snesl_values::{Datum, Fault, Refusal, read_inputs, text_of};
 use std::alloc::{AllocError, Global};
 use std::fmt;
-use std::sync::Arc;
 use std::thread::Threads;
 
 // No longer job is run here. Such a job is about the limits of a text, which no edge changes, and would be read again for
@@ -77,7 +76,7 @@ impl Totals {
                 let config = config_of(alloc, capacity, chunk)?;
                 let done = ran(rt, alloc, program, input, &config)?;
                 self.count(&expected, &done);
-                if done.is_large {
+                if done.nodes > MOST_NODES || done.ending == Err(Refusal::TooBig) {
                     return Ok(());
                 }
             }
@@ -135,49 +134,6 @@ fn line_of(alloc: Global, datum: &Datum) -> Result<Vec<u8>, AllocError> {
     let mut line = text_of(alloc, datum)?;
     line.push(b'\n')?;
     Ok(line)
-}
-
-// What a run wrote, how it ended, and whether the network is too large to be run again.
-#[derive(Drop)]
-struct Done {
-    written: Vec<u8>,
-    ending: Result<Outcome, Refusal>,
-    is_large: bool,
-}
-
-// Runs a program for an input text.
-fn ran(
-    rt: &impl Threads,
-    alloc: Global,
-    program: &[u8],
-    input: &[u8],
-    config: &Config,
-) -> Result<Done, AllocError> {
-    let gate = Arc::new(alloc, NoGate)?;
-    let mut out = Counted::new(Vec::new(alloc));
-    let answer = run(rt, alloc, program, input, config, gate, &mut out);
-    Ok(Done {
-        written: out.into_inner(),
-        is_large: is_large(&answer),
-        ending: ending(&answer),
-    })
-}
-
-// How a run ended.
-fn ending(answer: &Result<Report, RunError>) -> Result<Outcome, Refusal> {
-    match answer {
-        Ok(report) => Ok(report.outcome()),
-        Err(error) => Err(error.refusal()),
-    }
-}
-
-// Whether the network of a run is not to be run again. Where it is greater than a graph may be, it is so whatever the edges
-// hold.
-fn is_large(answer: &Result<Report, RunError>) -> bool {
-    match answer {
-        Ok(report) => report.rested().nodes() > MOST_NODES,
-        Err(error) => error.refusal() == Refusal::TooBig,
-    }
 }
 
 // Edges of this capacity, and visits of so many steps, in one thread.

@@ -2,21 +2,28 @@
 //
 // Each file whose name ends in `.jobs` is a table (`table.rt` has its form). A line is printed for each job that is
 // answered otherwise, and then how many jobs there are and how many differ. At last stands how the programs of the jobs
-// ended as networks beside their plain evaluation (`beside.rt`). The status is 1 where something differs, where there is
-// no table, and where a table cannot be read or has no row.
+// ended as networks beside their plain evaluation (`beside.rt`), and how those of the worked rows ended by the drives of
+// several threads (`drives.rt`). The status is 1 where something differs, where there is no table, and where a table cannot
+// be read or has no row.
 #![tactic(auto)]
 
 mod beside;
+mod drives;
+mod running;
 mod spelling;
 mod table;
 mod trial;
 
 use anyhow::{Context, Result, ensure};
 use beside::Totals;
+use drives::Drives;
 use std::rt::Files;
 use std::{fs, io};
 use table::{Row, rows_of};
 use trial::{Trial, job_of, tried};
+
+// The table of worked rows, whose programs are run by every drive.
+const WORKED: &str = "worked.jobs";
 
 fn main(rt: HostRuntime) -> Result<()> {
     let names = table_names(&rt)?;
@@ -33,8 +40,11 @@ fn main(rt: HostRuntime) -> Result<()> {
         run_table(&rt, name.as_str(), &mut totals)?;
     }
     println!(rt; "{totals}")?;
+    let drives = drive_table(&rt, WORKED)?;
+    println!(rt; "{drives}")?;
     ensure!(differing == 0, "{differing} jobs are answered otherwise");
     ensure!(totals.differing == 0, "networks and evaluation differ");
+    ensure!(drives.differing == 0, "drives differ");
     Ok(())
 }
 
@@ -83,6 +93,23 @@ fn run_table(rt: &HostRuntime, name: &str, totals: &mut Totals) -> Result<()> {
         }
     }
     Ok(())
+}
+
+// Runs the programs of a table by every drive. Says in which job a run differs from that of one thread.
+fn drive_table(rt: &HostRuntime, name: &str) -> Result<Drives> {
+    let text = fs::read_to_string(rt, name).context(format_args!("reading {name}"))?;
+    let rows = rows_of(rt.alloc(), text.as_str()).context(format_args!("in {name}"))?;
+    let mut drives = Drives::none();
+    for row in &rows {
+        let before = drives.differing;
+        let job = job_of(rt.alloc(), row).context(format_args!("in {name}"))?;
+        drives.add(rt, rt.alloc(), &job)?;
+        let line = row.line;
+        if drives.differing != before {
+            println!(rt; "{name}, line {line}: a drive differs from that of one thread")?;
+        }
+    }
+    Ok(drives)
 }
 
 // Prints what a job was answered, and what was told.
