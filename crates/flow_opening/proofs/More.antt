@@ -10,7 +10,7 @@ use Rattle.flow_boxes.proofs.Changed.{everywhere}
 use Rattle.flow_meetings.specs.declared.everywhere.Wire.{Wire}
 use Rattle.flow_meetings.specs.Met.{Met}
 use Rattle.flow_opening.specs.Opens.{OpensAt}
-use Rattle.flow_opening.specs.Open.{HasFreshEnds, AreOpen}
+use Rattle.flow_opening.specs.Open.{HasFreshEnds, AreFreshEnds}
 
 -- one wire more, as f reads it
 more_other : (f : Wire → Bool) (wires : List Wire) (wire : Wire) (k : ℕ) → k ≢ length wires → at_line f (wires ++ wire ∷ []) k false ≡ at_line f wires k false
@@ -104,7 +104,7 @@ fresh_none capacity s v none = record {
 
 module _ {X : Type 0} (view : X → View) (joins : X → X → ℕ → Type 0) (places : X → ℕ → ℕ) (capacity : ℕ) where
   abbrev Open : List Wire → List X → Type 0
-  Open wires ends = AreOpen view joins places wires capacity ends
+  Open wires ends = AreFreshEnds view joins places wires capacity ends
 
   pub open_none : (ends : List X) → All (λ a. (e : ℕ) → ((view a).writes e ≡ false) × ((view a).reads e ≡ false)) ends → Open [] ends
   open_none ends none = record {

@@ -12,7 +12,7 @@ use Rattle.flow_deal.specs.Deals.{AreJustDealt}
 use Rattle.flow_shares.specs.declared.share.Share.{Share}
 use Rattle.flow_shares.specs.Shares.{HasItsEnds, AreApart, IsOwn}
 use Rattle.flow_opening.specs.declared.dealt.Dealt.{Dealt}
-use Rattle.flow_opening.specs.Open.{AreWires, AreOpen}
+use Rattle.flow_opening.specs.Open.{AreWires, AreFreshEnds}
 
 -- These nodes make a share with the ends of which this is seen.
 pub record MakeAShare {X : Type 0} {t : Ghosts X} (view : View) (nodes : List (Placed X t)) : Type 0 where
@@ -52,4 +52,4 @@ module _ {X Y : Type 0} {t : Ghosts X} {u : EndsGhosts Y} where
     -- the wires name the shares of the writer and the reader of each edge
     pub wires : AreWires share (edges_of graph) dealt.wires.items
     -- each end of each edge lies in the share that the wire names, and nowhere else, and all are fresh
-    pub ends : AreOpen u.view joins places dealt.wires.items capacity (ends_in dealt.shares.items)
+    pub ends : AreFreshEnds u.view joins places dealt.wires.items capacity (ends_in dealt.shares.items)

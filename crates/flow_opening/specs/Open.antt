@@ -28,7 +28,7 @@ pub record HasFreshEnds (wires : List Wire) (capacity s : ℕ) (v : View) : Type
   pub coming : (e : ℕ) → v.reads e ≡ true → v.coming e ≡ []
 
 -- These are the ends of all shares, by the shares' numbers.
-pub record AreOpen {X : Type 0} (view : X → View) (joins : X → X → ℕ → Type 0) (places_of : X → ℕ → ℕ) (wires : List Wire) (capacity : ℕ) (ends : List X) : Type 0 where
+pub record AreFreshEnds {X : Type 0} (view : X → View) (joins : X → X → ℕ → Type 0) (places_of : X → ℕ → ℕ) (wires : List Wire) (capacity : ℕ) (ends : List X) : Type 0 where
   -- each share has its ends, and they are fresh
   pub fresh : (s : ℕ) (d : X) → s < length ends → HasFreshEnds wires capacity s (view (slice_index_or ends s d))
   -- the two ends of each edge are those of one edge

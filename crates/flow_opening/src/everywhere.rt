@@ -2,8 +2,8 @@
 ghost use Rattle.std.specs.Prelude.{◌≡◌, ◌==◌, ℕ, ◌<◌, ◌≤◌, false, length, slice_index_or, IfOk, OnOk};
 ghost use Rattle.std.specs.List.{All};
 ghost use Rattle.flow_edges.specs.Limits.{greatest_capacity};
-ghost use Rattle.flow_opening.specs.Opens.{OpensAt};
-ghost use Rattle.flow_opening.specs.Open.{AreOpen};
+ghost use Rattle.flow_opening.specs.Opens.{OpensEdge};
+ghost use Rattle.flow_opening.specs.Open.{AreFreshEnds};
 
 use crate::opening::Opening;
 use flow_meetings::Wire;
@@ -24,7 +24,7 @@ pub fn open_all<E: Opening + Drop>(
     requires writers { All (λ wire. wire.writer < threads) wires.now }
     requires readers { All (λ wire. wire.reader < threads) wires.now }
     ensures count { IfOk result (λ ends. length ends.items ≡ threads) }
-    ensures opened { IfOk result (λ ends. AreOpen E.view E.joins E.places wires.now capacity ends.items) }
+    ensures opened { IfOk result (λ ends. AreFreshEnds E.view E.joins E.places wires.now capacity ends.items) }
 {
     let mut ends = no_ends(alloc, threads, wires.len(), capacity)?;
     for edge in 0..wires.len() {
@@ -66,10 +66,7 @@ fn open_edge<E: Opening>(
     requires place { All (λ a. E.has_place a edge capacity) ends.old }
     requires no_writer { All (λ a. (E.view a).writes edge ≡ false) ends.old }
     requires no_reader { All (λ a. (E.view a).reads edge ≡ false) ends.old }
-    ensures opens { OnOk result ((s : ℕ) (d : _) → s < length ends.old → E.opens edge (slice_index_or ends.old s d) (slice_index_or ends.new s d)) }
-    ensures fresh { OnOk result ((s : ℕ) (d : _) → s < length ends.old → OpensAt edge capacity (wire.writer == s) (wire.reader == s) (E.view (slice_index_or ends.old s d)) (E.view (slice_index_or ends.new s d))) }
-    ensures joined { OnOk result ((d : _) → E.joins (slice_index_or ends.new wire.writer d) (slice_index_or ends.new wire.reader d) edge) }
-    ensures places { OnOk result ((d : _) → E.places (slice_index_or ends.new wire.writer d) edge ≡ capacity) }
+    ensures { OnOk result (OpensEdge E.view E.joins E.places E.opens wire edge capacity ends.old ends.new) }
 {
     if wire.writer == wire.reader {
         ends[wire.writer].open_own(alloc, edge, capacity)

@@ -1,4 +1,6 @@
 // Edges that were opened carry messages, and a graph without nodes is dealt out.
+ghost use Rattle.std.specs.Prelude.{◌≡◌, ◌<◌, ℕ, true, [], ◌∷◌, length, slice_index_or};
+
 use crate::dealing::deal;
 use crate::dealt::Dealt;
 use crate::everywhere::open_all;
@@ -12,10 +14,30 @@ use flow_scalar::Source;
 use std::alloc::{AllocError, Global};
 use std::test::Fail;
 
-// Edge 0 goes from the first share to the second, and edge 1 back. What comes over each after a meeting is returned.
-fn pass_each_way<E: Opening + Drop>(
-    alloc: Global,
-) -> Result<(Option<Msg>, Option<Msg>), AllocError> {
+// Puts a message on an edge, whatever comes of it.
+fn put_at<E: Opening>(ends: &mut [E], share: usize, edge: usize, message: Msg)
+    requires there { share < length ends.old }
+    requires writes { (d : _) → (E.view (slice_index_or ends.old share d)).writes edge ≡ true }
+    ensures { (s : ℕ) (d : _) → s < length ends.old → E.same (slice_index_or ends.old s d) (slice_index_or ends.new s d) }
+{
+    let _ = ends[share].put(edge, message);
+}
+
+// What is certain to come over an edge, if its reader is there.
+fn take_at<E: Opening>(ends: &mut [E], share: usize, edge: usize) -> Option<Msg>
+    requires { share < length ends.old }
+{
+    if ends[share].has_reader(edge) {
+        ends[share].take(edge)
+    } else {
+        None
+    }
+}
+
+// Edge 0 goes from the first share to the second, and edge 1 back.
+fn wires() -> [Wire; 2]
+    ensures { result ≡ record { writer = 0; reader = 1 } ∷ record { writer = 1; reader = 0 } ∷ [] }
+{
     let there = Wire {
         writer: 0,
         reader: 1,
@@ -24,13 +46,28 @@ fn pass_each_way<E: Opening + Drop>(
         writer: 1,
         reader: 0,
     };
-    let mut ends: Vec<E> = open_all(alloc, 2, &[there, back], 1)?;
-    let _ = ends[0].put(0, Msg::Item(Item::Unit));
-    let _ = ends[1].put(1, Msg::End);
-    meet_all(&mut ends, &[there, back]);
-    let came = ends[1].take(0);
-    let came_back = ends[0].take(1);
-    Ok((came, came_back))
+    [there, back]
+}
+
+// What comes over each of the edges after a meeting.
+fn pass_each_way<E: Opening>(ends: &mut [E]) -> (Option<Msg>, Option<Msg>)
+    requires count { length ends.old ≡ 2 }
+    requires there { (d : _) → E.joins (slice_index_or ends.old 0 d) (slice_index_or ends.old 1 d) 0 }
+    requires back { (d : _) → E.joins (slice_index_or ends.old 1 d) (slice_index_or ends.old 0 d) 1 }
+{
+    put_at(ends, 0, 0, Msg::Item(Item::Unit));
+    put_at(ends, 1, 1, Msg::End);
+    meet_all(ends, &wires());
+    let came = take_at(ends, 1, 0);
+    let came_back = take_at(ends, 0, 1);
+    (came, came_back)
+}
+
+fn open_and_pass<E: Opening + Drop>(
+    alloc: Global,
+) -> Result<(Option<Msg>, Option<Msg>), AllocError> {
+    let mut ends: Vec<E> = open_all(alloc, 2, &wires(), 1)?;
+    Ok(pass_each_way(&mut ends))
 }
 
 fn are_unit_and_end(messages: &(Option<Msg>, Option<Msg>)) -> bool {
@@ -39,14 +76,14 @@ fn are_unit_and_end(messages: &(Option<Msg>, Option<Msg>)) -> bool {
 
 #[test]
 fn boxes_that_were_opened_carry(rt: HostRuntime) -> Result<(), Fail> {
-    let messages = pass_each_way::<Boxes>(rt.alloc())?;
+    let messages = open_and_pass::<Boxes>(rt.alloc())?;
     assert!(rt; are_unit_and_end(&messages));
     Ok(())
 }
 
 #[test]
 fn rings_that_were_opened_carry(rt: HostRuntime) -> Result<(), Fail> {
-    let messages = pass_each_way::<Rings>(rt.alloc())?;
+    let messages = open_and_pass::<Rings>(rt.alloc())?;
     assert!(rt; are_unit_and_end(&messages));
     Ok(())
 }

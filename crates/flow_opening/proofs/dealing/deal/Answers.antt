@@ -4,7 +4,7 @@ use Rattle.flow_graph.specs.Places.{states_in}
 use Rattle.flow_graph.specs.Layouts.{nodes_of, edges_in}
 use Rattle.flow_graph.specs.Networks.{AreOpened}
 use Rattle.flow_deal.specs.Deals.{lists_in, AreJustDealt}
-use Rattle.flow_opening.specs.Open.{AreWires, AreOpen}
+use Rattle.flow_opening.specs.Open.{AreWires, AreFreshEnds}
 use Rattle.flow_opening.specs.Deals.{MakeAShare, nodes_in, ends_in}
 use Rattle.flow_opening.proofs.Parted.{all_zipped}
 use Rattle.flow_opening.proofs.Fits.{make_a_share}
@@ -21,7 +21,7 @@ make_shares-requires g c =
     let wires = c.in_ok-wires.wires.items in
     let opened = subst (λ ns. AreOpened g.T.Transducer.behaviour (states_in ns)) (sym c.take_apart-nodes.ensures.nodes) c.requires.opened in
     let are = subst (λ es. AreWires share es wires) c.edges.ensures c.in_ok-wires.ensures in
-    let all = subst (λ ws. AreOpen view g.E.Meeting.joins g.E.Meeting.places ws c.args.capacity ends) c.deref.ensures.value c.in_ok-ends.ensures.opened in
+    let all = subst (λ ws. AreFreshEnds view g.E.Meeting.joins g.E.Meeting.places ws c.args.capacity ends) c.deref.ensures.value c.in_ok-ends.ensures.opened in
     let many : length ends ≡ length lists = c.in_ok-ends.ensures.count ∙ sym c.in_ok-nodes.ensures.count in
     all_zipped (λ nodes ends. MakeAShare (view ends) nodes.items) lists ends many (λ s x y l. (
     subst (λ ns. MakeAShare (view (get_or ends s y)) ns) (get_or-map (λ nodes. nodes.items) lists s x [] l)
@@ -44,7 +44,7 @@ returns g c =
       nodes = subst (λ ns. AreJustDealt share ns (nodes_in shares)) c.take_apart-nodes.ensures.nodes (subst (λ dealt. AreJustDealt share nodes dealt) (sym made.nodes) c.in_ok-nodes.ensures.dealt);
       layout = c.take_apart-nodes.ensures.edges;
       wires = subst (λ es. AreWires share es wires) (c.edges.ensures ∙ c.take_apart-nodes.ensures.edges) c.in_ok-wires.ensures;
-      ends = subst (λ l. AreOpen view g.E.Meeting.joins g.E.Meeting.places wires c.args.capacity l) (sym made.ends) (
-          subst (λ ws. AreOpen view g.E.Meeting.joins g.E.Meeting.places ws c.args.capacity c.in_ok-ends.ends.items) c.deref.ensures.value c.in_ok-ends.ensures.opened
+      ends = subst (λ l. AreFreshEnds view g.E.Meeting.joins g.E.Meeting.places wires c.args.capacity l) (sym made.ends) (
+          subst (λ ws. AreFreshEnds view g.E.Meeting.joins g.E.Meeting.places ws c.args.capacity c.in_ok-ends.ends.items) c.deref.ensures.value c.in_ok-ends.ensures.opened
           );
     }

@@ -4,7 +4,7 @@ use Rattle.std.proofs.lemmas.List.{take_more, length-take-le}
 use Rattle.std.proofs.lemmas.List.Elements.{All-take}
 use Rattle.flow_meetings.specs.declared.everywhere.Wire.{Wire}
 use Rattle.flow_opening.specs.Opens.{OpensAt}
-use Rattle.flow_opening.specs.Open.{AreOpen}
+use Rattle.flow_opening.specs.Open.{AreFreshEnds}
 use Rattle.flow_opening.proofs.More.{open_more}
 use Rattle.flow_opening.proofs.Parted.{written_back}
 use Rattle.flow_opening.proofs.everywhere.open_all.Goals as goal
@@ -39,7 +39,7 @@ loop-edge-preserved g c =
           let l : k < length old = omega (arith, low, c.open_edge.auto.ends) in
           law.opens_place n (get_or old k d) (get_or new k d) (step.opens k d l) e capacity (place k d l e h)
           ));
-      opened = subst (λ l. AreOpen view joins places (take (n + 1) wires) capacity l) (sym back) (subst (λ ws. AreOpen view joins places ws capacity new) (sym next) (
+      opened = subst (λ l. AreFreshEnds view joins places (take (n + 1) wires) capacity l) (sym back) (subst (λ ws. AreFreshEnds view joins places ws capacity new) (sym next) (
           open_more view joins places capacity g.E.Opening.opens law.opens_places law.open_join_writer law.open_join_reader (take n wires) wire old new c.open_edge.auto.ends
           (subst (All (λ w. w.writer < length old)) next (All-take (λ w. w.writer < length old) (n + 1) wires (λ k d l. omega (arith, c.requires.writers k d l, many))))
           (subst (All (λ w. w.reader < length old)) next (All-take (λ w. w.reader < length old) (n + 1) wires (λ k d l. omega (arith, c.requires.readers k d l, many))))
@@ -47,6 +47,6 @@ loop-edge-preserved g c =
           (λ s d l. subst (λ m. OpensAt m capacity (wire.writer == s) (wire.reader == s) (view (get_or old s d)) (view (get_or new s d))) (sym at) (step.fresh s d l))
           (λ d. subst (λ m. joins (get_or new wire.writer d) (get_or new wire.reader d) m) (sym at) (step.joined d))
           (λ d. subst (λ m. places (get_or new wire.writer d) m ≡ capacity) (sym at) (step.places d))
-          (subst (λ l. AreOpen view joins places (take n wires) capacity l) (sym value) inv.opened)
+          (subst (λ l. AreFreshEnds view joins places (take n wires) capacity l) (sym value) inv.opened)
           ));
     }
