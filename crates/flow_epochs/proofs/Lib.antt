@@ -1,0 +1,4 @@
+pub mod Lists
+pub mod Meets
+pub mod Pumps
+pub mod Whole

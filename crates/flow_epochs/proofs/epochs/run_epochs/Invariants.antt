@@ -1,0 +1,22 @@
+use Rattle.std.specs.Prelude.{◌+◌, ◌-◌, ◌<◌, ◌≤◌}
+use Rattle.flow_epochs.specs.Dealt.{AreFed, moved_in}
+use Rattle.flow_epochs.specs.Epochs.{AreLater, AreOfOneGraph}
+use Rattle.flow_epochs.proofs.Whole.{most_moved}
+use Rattle.flow_epochs.proofs.epochs.run_epochs.Given as goal
+
+abbrev pub ghost-epoch : goal.ghost-epoch
+ghost-epoch g a = g.setting
+
+-- the shares are those that were given, later, and each epoch so far moved a message
+abbrev pub invariant-epochs : goal.invariant-epochs
+invariant-epochs g l = record {
+  later : AreLater l.fn.shares.items l.shares.items;
+  graph : AreOfOneGraph g.setting l.shares.items;
+  fed : AreFed l.shares.items;
+  least : moved_in g.setting l.fn.shares.items < moved_in g.setting l.shares.items → 0 < l.count;
+  most : l.count + moved_in g.setting l.fn.shares.items ≤ moved_in g.setting l.shares.items;
+}
+
+-- how many messages are still to be sent and received
+abbrev pub decreases-epochs : goal.decreases-epochs
+decreases-epochs g l = most_moved (g.met.T.Transducer g.world.𝓛 g.world.𝓜 g.world.𝓡 ((λ s x. x), (λ x. x), (λ x. x), λ x. x)).laws g.setting - moved_in g.setting l.shares.items

@@ -1,0 +1,72 @@
+-- A graph whose nodes were dealt out to shares.
+use Rattle.std.specs.Prelude.{◌≡◌, ℕ, ◌+◌, ◌<◌, false, List, [], length, map, slice_index_or}
+use Rattle.std.specs.List.{All}
+use Rattle.kahn.specs.Basics.{total}
+use Rattle.flow_edges.specs.Ends.{View}
+use Rattle.flow_edges.specs.declared.ends.Ends.{Ghosts as EndsGhosts}
+use Rattle.flow_base.specs.declared.transducer.Transducer.{Ghosts}
+use Rattle.flow_graph.specs.declared.edge.Edge.{Edge}
+use Rattle.flow_graph.specs.declared.placed.Placed.{Placed}
+use Rattle.flow_graph.specs.declared.graph.Graph.{Graph}
+use Rattle.flow_graph.specs.Edges.{edge_at}
+use Rattle.flow_graph.specs.Graphs.{edges_of}
+use Rattle.flow_graph.specs.Layouts.{nodes_of, FitTogether}
+use Rattle.flow_meetings.specs.declared.everywhere.Wire.{Wire}
+use Rattle.flow_deal.specs.Deals.{share_of}
+use Rattle.flow_shares.specs.declared.share.Share.{Share}
+use Rattle.flow_round_laws.specs.Joints.{no_ends, joined_view}
+
+-- The wire of each edge names the shares of its writer and its reader.
+pub record AreWires (share : List ℕ) (edges : List Edge) (wires : List Wire) : Type 0 where
+  pub count : length wires ≡ length edges
+  pub writers : (e : ℕ) (w : Wire) → e < length edges → (slice_index_or wires e w).writer ≡ share_of share (edge_at edges e).writer
+  pub readers : (e : ℕ) (w : Wire) → e < length edges → (slice_index_or wires e w).reader ≡ share_of share (edge_at edges e).reader
+
+-- What was dealt out, and to whom: the nodes and edges of a graph, the list that names a share for each node, and how
+-- many messages an edge holds at most.
+pub record Setting {X : Type 0} (t : Ghosts X) : Type 0 where
+  pub nodes : List (Placed X t)
+  pub edges : List Edge
+  pub fit : FitTogether nodes edges
+  pub share : List ℕ
+  pub capacity : ℕ
+
+-- a graph as it was built, dealt out so
+abbrev pub setting_of : {X : Type 0} {t : Ghosts X} → Graph X t → List ℕ → ℕ → Setting t
+setting_of graph share capacity = record {
+  nodes = nodes_of graph;
+  edges = edges_of graph;
+  fit = record { built = graph.built; seated = graph.seated };
+  share = share;
+  capacity = capacity;
+}
+
+module _ {X Y : Type 0} {t : Ghosts X} {u : EndsGhosts Y} where
+  -- the nodes of each share
+  abbrev pub dealt_of : List (Share X Y t u) → List (List (Placed X t))
+  dealt_of shares = map (λ share. share.nodes.items) shares
+
+  -- the ends of each share
+  abbrev pub all_ends : List (Share X Y t u) → List Y
+  all_ends shares = map (λ share. share.ends) shares
+
+  -- what share s sees
+  abbrev pub view_at : List (Share X Y t u) → ℕ → View
+  view_at shares s = slice_index_or (map (λ share. u.view share.ends) shares) s no_ends
+
+  abbrev pub numbers_of : List (Share X Y t u) → List ℕ
+  numbers_of shares = map (λ share. share.number) shares
+
+  -- memory was refused to none of them
+  abbrev pub AreFed : List (Share X Y t u) → Type 0
+  AreFed shares = All (λ share. share.starved ≡ false) shares
+
+  -- the last pumps moved no message
+  abbrev pub AreCalm : List (Share X Y t u) → Type 0
+  AreCalm shares = All (λ share. share.moved ≡ false) shares
+
+  -- how many messages were sent and received on all edges
+  abbrev pub moved_in : Setting t → List (Share X Y t u) → ℕ
+  moved_in setting shares =
+      let view = joined_view setting.share setting.edges (view_at shares) in
+      total (λ e. length (view.sent e) + length (view.received e)) (length setting.edges)

@@ -1,0 +1,84 @@
+-- Shares over rings before and after an epoch.
+use Rattle.std.specs.Prelude.{◌≡◌, ℕ, ◌<◌, List, length, map, Some, slice_index_or}
+use Rattle.kahn.specs.Configurations.{Configuration, IsSound}
+use Rattle.kahn.specs.Runs.{AtRest}
+use Rattle.flow_edges.specs.Signals.{Signal}
+use Rattle.flow_edges.specs.Ends.{SameTraffic}
+use Rattle.flow_edges.specs.declared.ends.Ends.{Ghosts as EndsGhosts}
+use Rattle.flow_base.specs.declared.transducer.Transducer.{Ghosts}
+use Rattle.flow_graph.specs.Edges.{edge_at}
+use Rattle.flow_graph.specs.Layouts.{AreSamePlaces}
+use Rattle.flow_rings.specs.declared.rings.Rings.{Rings}
+use Rattle.flow_rings.specs.Rings.{SameRings}
+use Rattle.flow_meetings.specs.RingMeetings.{RingsJoin, ring_places}
+use Rattle.flow_deal.specs.Deals.{share_of, AreDealt}
+use Rattle.flow_shares.specs.declared.share.Share.{Share}
+use Rattle.flow_shares.specs.Lending.{body_of}
+use Rattle.flow_round_laws.specs.Joints.{states_in_shares}
+use Rattle.flow_round_laws.specs.RoundTheorems.{net_of}
+use Rattle.flow_round_laws.specs.JoinedTheorems.{AllMet, joined}
+use Rattle.flow_epochs.specs.Dealt.{Setting, dealt_of, all_ends, view_at, AreFed, AreCalm, moved_in}
+
+module _ {X : Type 0} {t : Ghosts X} {u : EndsGhosts Rings} where
+  -- A share later: it has its number, its nodes in their places, and its ends.
+  pub record IsLater (share later : Share X Rings t u) : Type 0 where
+    pub number : later.number ≡ share.number
+    pub places : AreSamePlaces share.nodes.items later.nodes.items
+    pub ends : SameRings share.ends later.ends
+
+  -- the same shares later, in order
+  pub record AreLater (shares later : List (Share X Rings t u)) : Type 0 where
+    pub count : length later ≡ length shares
+    pub each : (s : ℕ) (d : Share X Rings t u) → s < length shares → IsLater (slice_index_or shares s d) (slice_index_or later s d)
+
+  module _ (setting : Setting t) (shares : List (Share X Rings t u)) where
+    -- the ends of the share that writes edge e, and of the share that reads it; d where there is none
+    abbrev pub writer_rings : ℕ → Rings → Rings
+    writer_rings e d = slice_index_or (all_ends shares) (share_of setting.share (edge_at setting.edges e).writer) d
+
+    abbrev pub reader_rings : ℕ → Rings → Rings
+    reader_rings e d = slice_index_or (all_ends shares) (share_of setting.share (edge_at setting.edges e).reader) d
+
+    -- All nodes are dealt out to these shares, with both ends of every edge, each of which holds at most the capacity.
+    pub record AreOfOneGraph : Type 0 where
+      pub deals : AreDealt setting.share setting.nodes (dealt_of shares)
+      pub joined : (e : ℕ) (d : Rings) → e < length setting.edges → RingsJoin (writer_rings e d) (reader_rings e d) e
+      pub capacity : (e : ℕ) (d : Rings) → e < length setting.edges → ring_places (writer_rings e d) e ≡ setting.capacity
+
+    -- the ends of every edge have met
+    abbrev pub HaveMetAll : Type 0
+    HaveMetAll = AllMet setting.share setting.edges (view_at shares) setting.capacity
+
+    -- where the nodes of these shares stand, with what their ends say
+    abbrev pub joint_of : AreOfOneGraph → Configuration t.State Signal
+    joint_of graph = joined t setting.share setting.edges (states_in_shares setting.share setting.nodes (dealt_of shares) graph.deals) (view_at shares)
+
+    -- that is a sound configuration of the graph's network
+    abbrev pub StandSound : Type 0
+    StandSound = (graph : AreOfOneGraph) → ∥ IsSound t.behaviour.process (net_of setting.nodes setting.edges) (joint_of graph) ∥₁
+
+    -- there no node can step
+    abbrev pub StandAtRest : Type 0
+    StandAtRest = (graph : AreOfOneGraph) → AtRest t.behaviour.process (net_of setting.nodes setting.edges) (Some setting.capacity) (joint_of graph)
+
+  module _ (setting : Setting t) (shares : List (Share X Rings t u)) where
+    -- The ends of every edge have met since: the shares are as they were, but that their ends may be certain of more.
+    pub record AreMet (after : List (Share X Rings t u)) : Type 0 where
+      pub bodies : map body_of after ≡ map body_of shares
+      pub ends : (s : ℕ) (d : Rings) → s < length shares → SameRings (slice_index_or (all_ends shares) s d) (slice_index_or (all_ends after) s d)
+      pub traffic : (s : ℕ) → s < length shares → SameTraffic (view_at shares s) (view_at after s)
+      pub graph : AreOfOneGraph setting after
+      pub met : HaveMetAll setting after
+
+    -- An epoch gives the same shares back, later, with the ends of every edge met.
+    pub record IsEpoch (back : List (Share X Rings t u)) : Type 0 where
+      pub later : AreLater shares back
+      pub graph : AreOfOneGraph setting back
+      pub met : HaveMetAll setting back
+      -- where memory was refused to none, they stand sound
+      pub sound : AreFed back → StandSound setting back
+      -- and the pumps tell whether a message was sent or received
+      pub calm : AreFed back → AreCalm back → moved_in setting back ≡ moved_in setting shares
+      pub busy : AreFed back → (AreCalm back → ⊥) → moved_in setting shares < moved_in setting back
+      -- where none was, no node can step
+      pub rest : AreFed back → moved_in setting back ≡ moved_in setting shares → StandAtRest setting back

@@ -1,0 +1,118 @@
+// Epochs.
+ghost use Rattle.std.specs.Prelude.{◌+◌, ◌<◌, ◌≤◌, ◌↔◌, IfOk, IsTrue};
+ghost use Rattle.flow_epochs.specs.Dealt.{Setting, AreWires, AreFed, AreCalm, moved_in};
+ghost use Rattle.flow_epochs.specs.Epochs.{AreLater, AreOfOneGraph, HaveMetAll, StandSound, StandAtRest, IsEpoch};
+
+use crate::meet::meet;
+use flow_base::Transducer;
+use flow_meetings::Wire;
+use flow_rings::Rings;
+use flow_shares::{Gate, Share};
+use flow_workers::{WorkError, run_all};
+use std::alloc::Global;
+use std::sync::Arc;
+use std::thread::Threads;
+
+/// One epoch: the ends of every edge meet, all shares are pumped side by side, each in a worker, and the ends meet again.
+///
+/// A share that starved comes back with the others. Refused as `NoThread` where a worker could not be started, and as
+/// `NoMemory` where memory was refused for a list; the shares are then let go.
+pub fn epoch<
+    R: Threads,
+    T: Transducer + Send + Drop + 'static,
+    G: Gate + Send + Sync + Drop + 'static,
+>(
+    rt: &R,
+    alloc: Global,
+    shares: Vec<Share<T, Rings>>,
+    wires: &[Wire],
+    chunk: usize,
+    idle_turns: usize,
+    gate: &Arc<G, Global>,
+) -> Result<Vec<Share<T, Rings>>, WorkError>
+    ghost setting: { Setting ⟦<T as Transducer>⟧ }
+    requires some { 0 < chunk }
+    requires idle { 0 < idle_turns }
+    requires wires { AreWires setting.share setting.edges wires.now }
+    requires graph { AreOfOneGraph setting shares.items }
+    requires fed { AreFed shares.items }
+    ensures { IfOk result (λ back. IsEpoch setting shares.items back.items) }
+{
+    let met = meet(alloc, shares, wires)?;
+    let back = run_all(rt, alloc, met, chunk, idle_turns, gate)?;
+    let back = meet(alloc, back, wires)?;
+    Ok(back)
+}
+
+/// Runs shares in epochs, until one moves nothing: then no node can step. The shares, and how many epochs there were; the
+/// count stays at the greatest `u64`.
+///
+/// Each epoch but the last moves a message at least. Refused as `NoThread` where a worker could not be started, and as
+/// `NoMemory` where memory was refused, to a node too. The shares are then let go.
+pub fn run_epochs<
+    R: Threads,
+    T: Transducer + Send + Drop + 'static,
+    G: Gate + Send + Sync + Drop + 'static,
+>(
+    rt: &R,
+    alloc: Global,
+    shares: Vec<Share<T, Rings>>,
+    wires: &[Wire],
+    chunk: usize,
+    idle_turns: usize,
+    gate: &Arc<G, Global>,
+) -> Result<(Vec<Share<T, Rings>>, u64), WorkError>
+    ghost setting: { Setting ⟦<T as Transducer>⟧ }
+    requires some { 0 < chunk }
+    requires idle { 0 < idle_turns }
+    requires wires { AreWires setting.share setting.edges wires.now }
+    requires graph { AreOfOneGraph setting shares.items }
+    requires fed { AreFed shares.items }
+    ensures later { IfOk result (λ made. AreLater shares.items made.0.items) }
+    ensures graph { IfOk result (λ made. AreOfOneGraph setting made.0.items) }
+    ensures met { IfOk result (λ made. HaveMetAll setting made.0.items) }
+    ensures fed { IfOk result (λ made. AreFed made.0.items) }
+    ensures sound { IfOk result (λ made. StandSound setting made.0.items) }
+    ensures rest { IfOk result (λ made. StandAtRest setting made.0.items) }
+    ensures some { IfOk result (λ made. 0 < made.1) }
+    ensures least { IfOk result (λ made. moved_in setting shares.items < moved_in setting made.0.items → 1 < made.1) }
+    ensures most { IfOk result (λ made. made.1 + moved_in setting shares.items ≤ moved_in setting made.0.items + 1) }
+{
+    let mut shares = shares;
+    let mut count: u64 = 0;
+    'epochs: loop {
+        let back = epoch(rt, alloc, shares, wires, chunk, idle_turns, gate)?;
+        if !are_fed(&back) {
+            return Err(WorkError::NoMemory);
+        }
+        count = count.saturating_add(1);
+        if are_calm(&back) {
+            return Ok((back, count));
+        }
+        shares = back;
+    }
+}
+
+// Whether memory was refused to none of the shares.
+fn are_fed<T: Transducer>(shares: &[Share<T, Rings>]) -> bool
+    ensures { IsTrue result ↔ AreFed shares.now }
+{
+    for share in shares {
+        if share.starved() {
+            return false;
+        }
+    }
+    true
+}
+
+// Whether the last pumps moved no message.
+fn are_calm<T: Transducer>(shares: &[Share<T, Rings>]) -> bool
+    ensures { IsTrue result ↔ AreCalm shares.now }
+{
+    for share in shares {
+        if share.moved() {
+            return false;
+        }
+    }
+    true
+}
