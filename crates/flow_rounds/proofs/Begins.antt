@@ -115,6 +115,7 @@ module _ {X : Type 0} {t : Ghosts X} {u : EndsGhosts Boxes} (sees : u.view ≡ v
   deals = as_given share nodes (dealt_of shares) is.nodes
 
   are_states : AreStates share nodes (dealt_of shares) deals (states_in nodes)
+  unfolding deals
   are_states = record {
     count = length-map nodes placed_state;
     each = λ k d l. get_or-map placed_state nodes k d t.behaviour.sample l ∙ ap placed_state (is.nodes.here k d l);
