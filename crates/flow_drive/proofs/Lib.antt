@@ -3,4 +3,4 @@ pub mod Graphs
 pub mod Passes
 pub mod Rests
 pub mod Texts
-pub mod Lines
+pub mod Holding

@@ -5,6 +5,7 @@ ghost use Rattle.flow_graph.specs.Networks.{AreOpened};
 ghost use Rattle.flow_graph.specs.Shapes.{IsSameNetwork};
 ghost use Rattle.flow_drive.specs.Configs.{IsLawful, StartsThreads};
 ghost use Rattle.flow_drive.specs.Drives.{EndsMaximalRun};
+ghost use Rattle.flow_drive.specs.Refusals.{refused_work};
 ghost use Rattle.flow_drive.specs.Resteds.{rested_states, rested_edges, rested_capacity, traffic_of};
 ghost use Rattle.flow_drive.specs.declared.driver.DriveError.TheVariants.{BadConfig, NoMemory, NoThread};
 

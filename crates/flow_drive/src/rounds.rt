@@ -1,8 +1,12 @@
 // The drive of several threads by rounds.
-ghost use Rattle.std.specs.Prelude.{◌≡◌, ◌⊎◌, IfOk, IfErr};
+ghost use Rattle.std.specs.Prelude.{◌≡◌, ◌<◌, length, IfOk};
 ghost use Rattle.flow_graph.specs.Graphs.{states_of, edges_of};
+ghost use Rattle.flow_graph.specs.Layouts.{edges_in};
 ghost use Rattle.flow_graph.specs.Networks.{AreOpened};
+ghost use Rattle.flow_graph.specs.Places.{states_in};
 ghost use Rattle.flow_graph.specs.Shapes.{IsSameNetwork};
+ghost use Rattle.flow_opening.specs.Open.{AreWires};
+ghost use Rattle.flow_rounds.specs.Standing.{Setting, StandBetweenRounds};
 ghost use Rattle.flow_drive.specs.Configs.{IsLawful};
 ghost use Rattle.flow_drive.specs.Drives.{EndsMaximalRun};
 ghost use Rattle.flow_drive.specs.Resteds.{rested_states, rested_edges, rested_capacity, traffic_of};
@@ -18,6 +22,7 @@ use flow_rounds::{gather_graph, run_rounds};
 use flow_shares::Gate;
 use flow_workers::WorkError;
 use std::alloc::Global;
+use std::snapshot::Snapshot;
 use std::sync::Arc;
 use std::thread::Threads;
 
@@ -42,21 +47,66 @@ pub fn drive_rounds<
     ensures capacity { IfOk result (λ rested. rested_capacity rested ≡ config.now.capacity) }
     ensures run { IfOk result (λ rested. EndsMaximalRun T.behaviour config.now.capacity (states_of graph) (edges_of graph) (rested_states rested) (traffic_of rested)) }
 {
+    let given = Snapshot::of(&graph);
     let nodes = graph.nodes();
-    let capacity = config.capacity;
     let share = config.sharing.share.clone()?;
-    let dealt: Dealt<T, Boxes> = deal(alloc, graph, config.sharing.threads, &share, capacity)?;
+    let dealt = deal(alloc, graph, config.sharing.threads, &share, config.capacity)?;
+    let graph = Given {
+        graph: given,
+        nodes,
+        share,
+        capacity: config.capacity,
+    };
+    run_dealt(rt, alloc, graph, dealt, config.chunk, gate)
+}
+
+// What is known of a graph that was dealt out: how many nodes it has, to which share each went, and how many messages an
+// edge holds at most.
+#[derive(Drop)]
+struct Given<T: Transducer> {
+    graph: Snapshot<Graph<T>>,
+    nodes: usize,
+    share: Vec<u8>,
+    capacity: usize,
+}
+
+// Runs the shares of a graph that was just dealt out, and gathers them.
+fn run_dealt<
+    R: Threads,
+    T: Transducer + Send + Drop + 'static,
+    G: Gate + Send + Sync + Drop + 'static,
+>(
+    rt: &R,
+    alloc: Global,
+    given: Given<T>,
+    dealt: Dealt<T, Boxes>,
+    chunk: usize,
+    gate: &Arc<G, Global>,
+) -> Result<Rested<T>, WorkError>
+    ghost setting: { Setting ⟦<T as Transducer>⟧ }
+    requires some { 0 < chunk }
+    requires named { 0 < length given.share.items }
+    requires nodes { given.nodes ≡ length setting.nodes }
+    requires share { given.share.items ≡ setting.share }
+    requires capacity { given.capacity ≡ setting.capacity }
+    requires wires { AreWires setting.share setting.edges dealt.wires.items }
+    requires layout { edges_in dealt.layout ≡ setting.edges }
+    requires stand { StandBetweenRounds setting dealt.shares.items }
+    ensures network { IfOk result (λ rested. IsSameNetwork T.behaviour (states_in setting.nodes) setting.edges (rested_states rested) (rested_edges rested)) }
+    ensures capacity { IfOk result (λ rested. rested_capacity rested ≡ setting.capacity) }
+    ensures run { IfOk result (λ rested. EndsMaximalRun T.behaviour setting.capacity (states_in setting.nodes) setting.edges (rested_states rested) (traffic_of rested)) }
+{
     let Dealt {
         shares,
         wires,
         layout,
     } = dealt;
-    let shares = run_rounds(rt, alloc, shares, &wires, config.chunk, IDLE_TURNS, gate)?;
-    let (graph, boxes) = gather_graph(alloc, shares, layout, nodes, &share)?;
+    let shares = run_rounds(rt, alloc, shares, &wires, chunk, IDLE_TURNS, gate)?;
+    let (graph, boxes) = gather_graph(alloc, shares, layout, given.nodes, &given.share)?;
     let lines = Lines::Shared(SharedLines {
-        share,
+        share: given.share,
         boxes,
-        capacity,
+        capacity: given.capacity,
     });
     Ok(Rested { graph, lines })
 }

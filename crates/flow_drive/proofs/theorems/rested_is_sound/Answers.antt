@@ -1,5 +1,5 @@
 use Rattle.flow_graph.specs.Graphs.{edges_of}
-use Rattle.flow_drive.proofs.Lines.{lines_fit}
+use Rattle.flow_drive.proofs.Holding.{lines_fit}
 use Rattle.flow_drive.proofs.theorems.rested_is_sound.Goals as goal
 
 pub returns-clause-fits : goal.returns-clause-fits

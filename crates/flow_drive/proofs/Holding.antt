@@ -1,5 +1,5 @@
 -- The edges of a graph at rest: each has its ends, and holds at most the capacity.
-use Rattle.std.proofs.Common.{ℕ, zero, suc, ◌≡◌, ◌+◌, ◌<◌, ◌≤◌, ◌⊎◌, inl, inr, true, List, [], ◌∷◌, ◌++◌, length, length-append, ap, arith}
+use Rattle.std.proofs.Common.{ℕ, zero, suc, ◌≡◌, ◌+◌, ◌<◌, ◌≤◌, ◌⊎◌, inl, inr, true, List, [], ◌∷◌, ◌++◌, length, length-append, refl, ap, arith}
 use Rattle.std.proofs.lemmas.List.{get_or_past}
 use Rattle.std.proofs.lemmas.Bool.{cases_lt}
 use Rattle.std.specs.List.{All}
@@ -54,4 +54,4 @@ module _ (share : List ℕ) (edges : List Edge) (boxes : List Contents) (most : 
 pub lines_fit : (edges : List Edge) (lines : Lines) → AreThere edges lines → (e : ℕ) → length ((traffic_in edges lines).sent e) ≤ length ((traffic_in edges lines).received e) + capacity_in lines
 lines_fit edges (Whole table) there e =
     omega (arith, table_fits table.capacity table.lines.items table.even e, ap length ((whole_table table).coming e), waits-length (capacity_of table) (ends_of table) e (whole_table table))
-lines_fit edges (Shared shared) met e = boxes_fit shared.share.items edges (seen_in shared) shared.capacity met e (cases_lt e (length edges))
+lines_fit edges (Shared boxes) there e = boxes_fit boxes.share.items edges (seen_in boxes) boxes.capacity (there.shared boxes refl) e (cases_lt e (length edges))
