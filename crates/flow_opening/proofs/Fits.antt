@@ -1,6 +1,5 @@
 -- The nodes that were dealt out to a share, and its fresh ends, make a share.
-use Rattle.std.proofs.Common.{◌≡◌, ℕ, ◌<◌, ◌≤◌, true, List, [], ◌∷◌, length, map, get_or, ◌⊎◌, inl, inr, refl, sym, ◌∙◌, ap, subst, arith}
-use Rattle.std.specs.List.{All}
+use Rattle.std.proofs.Common.{◌≡◌, ℕ, ◌<◌, ◌≤◌, true, List, [], ◌∷◌, length, map, get_or, ◌⊎◌, inl, inr, sym, ◌∙◌, ap, subst, arith}
 use Rattle.std.proofs.lemmas.Bool.{cases_lt}
 use Rattle.std.proofs.lemmas.List.{get_or-map, get_or_default, get_or_past, length-map}
 use Rattle.flow_edges.specs.Ends.{View}
@@ -9,12 +8,12 @@ use Rattle.flow_graph.specs.declared.edge.Edge.{Edge}
 use Rattle.flow_graph.specs.declared.placed.Placed.{Placed}
 use Rattle.flow_graph.specs.Edges.{edge_at, in_edge, out_edge}
 use Rattle.flow_graph.specs.Networks.{AreOpened, inputs_at, outputs_at}
-use Rattle.flow_graph.specs.Places.{number_at, placed_state, states_in, inputs_in, outputs_in}
+use Rattle.flow_graph.specs.Places.{placed_state, states_in}
 use Rattle.flow_graph.specs.Layouts.{FitTogether}
 use Rattle.flow_graph.proofs.Seats.{state_here, inputs_here, outputs_here, input_here, output_here}
 use Rattle.flow_meetings.specs.declared.everywhere.Wire.{Wire}
 use Rattle.flow_deal.specs.Deals.{share_of, node_at, AreJustDealt}
-use Rattle.flow_shares.specs.Shares.{row_of, StandOnce, HasItsEnds, HasHistory, IsOwn, AreApart}
+use Rattle.flow_shares.specs.Shares.{row_of, StandOnce, HasItsEnds, HasHistory}
 use Rattle.flow_opening.specs.Open.{AreWires, HasFreshEnds}
 use Rattle.flow_opening.specs.Deals.{MakeAShare}
 use Rattle.flow_opening.proofs.More.{writes_there, reads_there}

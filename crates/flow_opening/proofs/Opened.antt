@@ -1,5 +1,5 @@
 -- What opening an edge makes of boxes and of rings.
-use Rattle.std.proofs.Common.{◌≡◌, ◌≢◌, ℕ, zero, suc, ◌<◌, true, false, List, [], ◌∷◌, length, refl, ap, sym, ◌∙◌, subst, get_or, set, get_or-set_same, get_or-set_other, length-set}
+use Rattle.std.proofs.Common.{◌≡◌, ℕ, zero, suc, ◌<◌, true, false, List, [], ◌∷◌, length, refl, ap, sym, ◌∙◌, subst, get_or, set, get_or-set_other, length-set}
 use Rattle.std.specs.Prelude.{Option, Some, None}
 use Rattle.flow_edges.specs.Signals.{signals}
 use Rattle.flow_edges.specs.Ends.{View}

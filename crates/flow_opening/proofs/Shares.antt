@@ -1,5 +1,5 @@
 -- The shares so far, and one more.
-use Rattle.std.proofs.Common.{◌≡◌, ◌≢◌, ℕ, ◌+◌, ◌<◌, false, List, [], ◌∷◌, ◌++◌, length, map, get_or, refl, sym, ap, ◌∙◌, subst, arith, append_assoc}
+use Rattle.std.proofs.Common.{◌≡◌, ◌<◌, List, [], ◌∷◌, ◌++◌, length, map, get_or, refl, sym, ap, ◌∙◌, subst, arith, append_assoc}
 use Rattle.std.proofs.lemmas.List.{get_or_push, get_or_append_left, length_push, map-append}
 use Rattle.flow_edges.specs.declared.ends.Ends.{Ghosts as EndsGhosts}
 use Rattle.flow_edges.proofs.Tables.{all-snoc}

@@ -1,11 +1,11 @@
-use Rattle.std.proofs.Common.{◌≡◌, ◌<◌, ℕ, List, [], length, map, get_or, sym, ap, ◌∙◌, subst, arith}
+use Rattle.std.proofs.Common.{◌≡◌, [], length, get_or, sym, ap, ◌∙◌, subst, arith}
 use Rattle.std.proofs.lemmas.List.{get_or-map, length-map}
 use Rattle.flow_graph.specs.Places.{states_in}
-use Rattle.flow_graph.specs.Layouts.{nodes_of, edges_in}
+use Rattle.flow_graph.specs.Layouts.{edges_in}
 use Rattle.flow_graph.specs.Networks.{AreOpened}
 use Rattle.flow_deal.specs.Deals.{lists_in, AreJustDealt}
 use Rattle.flow_opening.specs.Open.{AreWires, AreFreshEnds}
-use Rattle.flow_opening.specs.Deals.{MakeAShare, nodes_in, ends_in}
+use Rattle.flow_opening.specs.Deals.{MakeAShare, nodes_in}
 use Rattle.flow_opening.proofs.Parted.{all_zipped}
 use Rattle.flow_opening.proofs.Fits.{make_a_share}
 use Rattle.flow_opening.proofs.dealing.deal.Goals as goal

@@ -1,4 +1,4 @@
-use Rattle.std.proofs.Common.{◌≡◌, ◌++◌, map}
+use Rattle.std.proofs.Common.{◌≡◌, ◌++◌}
 use Rattle.std.specs.List.{AllZip}
 use Rattle.flow_deal.specs.Deals.{lists_in}
 use Rattle.flow_opening.specs.Deals.{MakeAShare, nodes_in, ends_in, AreNew}

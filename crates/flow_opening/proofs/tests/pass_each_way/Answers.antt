@@ -1,5 +1,4 @@
-use Rattle.std.proofs.Common.{◌≡◌, ℕ, zero, suc, ◌<◌, [], ◌∷◌, length, get_or, arith}
-use Rattle.flow_meetings.specs.declared.everywhere.Wire.{Wire}
+use Rattle.std.proofs.Common.{ℕ, zero, suc, ◌<◌, [], ◌∷◌, get_or, arith}
 use Rattle.flow_opening.proofs.tests.pass_each_way.Goals as goal
 
 below_two : (P : ℕ → Type 0) → P 0 → P 1 → (e : ℕ) → e < 2 → P e
@@ -10,8 +9,8 @@ below_two P first second (suc (suc e)) low = absurd (omega (arith, low))
 pub put_at-requires-clause-writes : goal.put_at-requires-clause-writes
 put_at-requires-clause-writes g c d = (g.met.E.Meeting.join_ends _ _ 0 (c.requires.there d)).0
 
-pub put_at-2-requires-clause-writes : goal.put_at-2-requires-clause-writes
-put_at-2-requires-clause-writes g c d =
+pub put_at-requires-2-clause-writes : goal.put_at-requires-2-clause-writes
+put_at-requires-2-clause-writes g c d =
     let old = c.args.ends.now in
     let new = c.put_at.new.ends in
     let same = c.put_at.ensures in
