@@ -28,4 +28,4 @@ capacity_in (Shared boxes) = boxes.capacity
 -- Both ends of each of these edges are there, and have met.
 pub record AreThere (edges : List Edge) (lines : Lines) : Type 0 where
   pub whole : (table : Table) → lines ≡ Whole table → HasAllEnds (length edges) (ends_of table)
-  pub shared : (boxes : SharedLines) → lines ≡ Shared boxes → HaveMet boxes.share.items edges (seen_in boxes) boxes.capacity
+  pub shared : (boxes : SharedLines) → lines ≡ Shared boxes → ∥ HaveMet boxes.share.items edges (seen_in boxes) boxes.capacity ∥₁
