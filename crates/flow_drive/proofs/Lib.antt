@@ -4,3 +4,4 @@ pub mod Passes
 pub mod Rests
 pub mod Texts
 pub mod Holding
+pub mod Gathered

@@ -28,6 +28,20 @@ pub struct SharedLines {
 }
 
 impl SharedLines {
+    /// The boxes of shares among which this list deals the nodes.
+    pub fn new(share: Vec<u8>, boxes: Vec<Boxes>, capacity: usize) -> SharedLines
+        requires { 0 < length share.items }
+        ensures share { result.share ≡ share }
+        ensures boxes { result.boxes ≡ boxes }
+        ensures capacity { result.capacity ≡ capacity }
+    {
+        SharedLines {
+            share,
+            boxes,
+            capacity,
+        }
+    }
+
     /// The boxes of the share that has this node.
     pub fn of_node(&self, node: usize) -> &Boxes
         requires { share_of self.now.share.items node < length self.now.boxes.items }

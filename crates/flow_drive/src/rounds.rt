@@ -49,7 +49,7 @@ pub fn drive_rounds<
 {
     let given = Snapshot::of(&graph);
     let nodes = graph.nodes();
-    let share = config.sharing.share.clone()?;
+    let share = config.sharing.share.to_vec(alloc)?;
     let dealt = deal(alloc, graph, config.sharing.threads, &share, config.capacity)?;
     let graph = Given {
         graph: given,
@@ -103,10 +103,9 @@ fn run_dealt<
     } = dealt;
     let shares = run_rounds(rt, alloc, shares, &wires, chunk, IDLE_TURNS, gate)?;
     let (graph, boxes) = gather_graph(alloc, shares, layout, given.nodes, &given.share)?;
-    let lines = Lines::Shared(SharedLines {
-        share: given.share,
-        boxes,
-        capacity: given.capacity,
-    });
-    Ok(Rested { graph, lines })
+    let shared = SharedLines::new(given.share, boxes, given.capacity);
+    Ok(Rested {
+        graph,
+        lines: Lines::Shared(shared),
+    })
 }

@@ -1,8 +1,10 @@
 use Rattle.std.proofs.Common.{◌≡◌, length, ap, subst, sym, ◌∙◌}
 use Rattle.flow_edges.specs.Tables.{ends_of, capacity_of}
 use Rattle.flow_graph.specs.Graphs.{states_of, edges_of}
+use Rattle.flow_graph.specs.Visits.{HasAllEnds}
 use Rattle.flow_graph.proofs.Nets.{graph_wired}
 use Rattle.flow_drive.specs.Drives.{EndsMaximalRun}
+use Rattle.flow_drive.specs.Edges.{traffic_in}
 use Rattle.flow_drive.proofs.Graphs.{all_ends_still, fresh_all_ends}
 use Rattle.flow_drive.proofs.Rests.{run_sound, run_rests}
 use Rattle.flow_drive.proofs.driver.drive_serial.Goals as goal
@@ -22,7 +24,11 @@ invariant_of-result g c =
     let count : length edges ≡ length edges' = ap length (sym shape.network.same_edges) in
     let run : EndsMaximalRun b (capacity_of ends') states edges states' view = subst (λ n. EndsMaximalRun b n states edges states' view) (sym shape.same) c.in_ok-run_serial.ensures.run in
     record {
-      there = all_ends_still c.edges.result (length edges') (ends_of table) view (sym (c.edges.ensures ∙ count)) shape.ends (fresh_all_ends c.edges.result (ends_of table) c.in_ok-ends.ensures.fresh);
+      there = record {
+        whole = λ t is. subst (λ lines. HasAllEnds (length edges') (traffic_in edges' lines)) is
+            (all_ends_still c.edges.result (length edges') (ends_of table) view (sym (c.edges.ensures ∙ count)) shape.ends (fresh_all_ends c.edges.result (ends_of table) c.in_ok-ends.ensures.fresh));
+        shared = λ boxes is. absurd (cc is);
+      };
       sound = run_sound b (capacity_of ends') states edges states' edges' view shape.network run (graph_wired graph);
       rest = run_rests b (capacity_of ends') states edges states' edges' view shape.network run;
     }
