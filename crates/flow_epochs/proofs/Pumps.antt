@@ -1,7 +1,6 @@
 -- What pumps of all shares at once make of their graph.
 use Rattle.std.proofs.Common.{◌≡◌, ℕ, ◌+◌, ◌<◌, ◌≤◌, Bool, true, false, List, length, get_or, inl, inr, refl, sym, ◌∙◌, ap, subst, arith}
 use Rattle.kahn.specs.Processes.{Does}
-use Rattle.kahn.proofs.Search.{total_less}
 use Rattle.flow_edges.specs.Ends.{View, SameTraffic}
 use Rattle.flow_edges.specs.declared.ends.Ends.{Ghosts as EndsGhosts}
 use Rattle.flow_base.specs.Transducers.{BehaviourLaws}
@@ -108,9 +107,6 @@ module _ {X : Type 0} {t : Ghosts X} {u : EndsGhosts Rings} (same_is : (a b : Ri
           ap length (received_at setting.share setting.edges (view_at back) e l),
           begins_length _ _ ((grows (reader setting shares graph e) (reader_is_share setting shares graph e l)).received e),
         )
-
-    pub moves_more : moved_in setting shares ≤ moved_in setting back
-    moves_more = total_less (moved_on shares) (moved_on back) (length setting.edges) (λ e l. omega (arith, sent_grows e l, received_grows e l))
 
     -- Where no more messages were sent and received in all, none were in any share.
     module _ (no_more_moved : moved_in setting back ≤ moved_in setting shares) where
