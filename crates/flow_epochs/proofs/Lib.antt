@@ -2,3 +2,4 @@ pub mod Lists
 pub mod Meets
 pub mod Pumps
 pub mod Whole
+pub mod Bare

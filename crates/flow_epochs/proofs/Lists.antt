@@ -6,10 +6,8 @@ use Rattle.std.specs.Prelude.{Result, Ok, Err, IfOk}
 use Rattle.std.specs.List.{AllZip}
 use Rattle.kahn.specs.Basics.{total}
 use Rattle.kahn.proofs.Search.{total_less}
-use Rattle.flow_edges.specs.Ends.{View}
 use Rattle.flow_edges.specs.declared.ends.Ends.{Ghosts as EndsGhosts}
 use Rattle.flow_base.specs.declared.transducer.Transducer.{Ghosts}
-use Rattle.flow_graph.specs.declared.placed.Placed.{Placed}
 use Rattle.flow_shares.specs.declared.share.Share.{Share}
 use Rattle.flow_shares.specs.Lending.{Body, body_of}
 use Rattle.flow_round_laws.specs.Joints.{no_ends, nodes_at}

@@ -1,5 +1,5 @@
 -- The ends of every edge meet: what is known of the shares before and after.
-use Rattle.std.proofs.Common.{◌≡◌, ℕ, ◌<◌, List, length, map, get_or, refl, sym, ◌∙◌, ap, subst, arith}
+use Rattle.std.proofs.Common.{◌≡◌, ℕ, ◌<◌, List, length, map, get_or, sym, ◌∙◌, ap, subst, arith}
 use Rattle.std.proofs.lemmas.List.{get_or-map, length-map}
 use Rattle.std.specs.List.{AllZip}
 use Rattle.flow_edges.specs.Ends.{View, SameTraffic}
@@ -17,7 +17,7 @@ use Rattle.flow_shares.specs.Lending.{body_of}
 use Rattle.flow_round_laws.proofs.Parts.{any_of}
 use Rattle.flow_round_laws.proofs.Seats.{reader_inside, writer_inside}
 use Rattle.flow_epochs.specs.Dealt.{Setting, AreWires, all_ends, view_at}
-use Rattle.flow_epochs.specs.Epochs.{writer_rings, reader_rings, AreOfOneGraph, HaveMetAll, AreMet}
+use Rattle.flow_epochs.specs.Epochs.{writer_rings, AreOfOneGraph, HaveMetAll, AreMet}
 use Rattle.flow_epochs.proofs.Lists.{all_zipped, count_dealt, count_ends, view_of_ends, same_count, same_nodes}
 
 -- ends that lost no certainty did not, whatever they were part of

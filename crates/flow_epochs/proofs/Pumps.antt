@@ -1,9 +1,6 @@
 -- What pumps of all shares at once make of their graph.
-use Rattle.std.proofs.Common.{◌≡◌, ℕ, ◌+◌, ◌<◌, ◌≤◌, Bool, true, false, List, [], ◌++◌, length, get_or, Some, ◌⊎◌, inl, inr, refl, sym, ◌∙◌, ap, subst, arith}
-use Rattle.std.specs.List.{All}
+use Rattle.std.proofs.Common.{◌≡◌, ℕ, ◌+◌, ◌<◌, ◌≤◌, Bool, true, false, List, length, get_or, inl, inr, refl, sym, ◌∙◌, ap, subst, arith}
 use Rattle.kahn.specs.Processes.{Does}
-use Rattle.kahn.specs.Runs.{AtRest}
-use Rattle.kahn.proofs.Search.{total_less}
 use Rattle.flow_edges.specs.Ends.{View, SameTraffic}
 use Rattle.flow_edges.specs.declared.ends.Ends.{Ghosts as EndsGhosts}
 use Rattle.flow_base.specs.Transducers.{BehaviourLaws}
@@ -21,7 +18,7 @@ use Rattle.flow_shares.specs.Pumps.{IsPumped}
 use Rattle.flow_shares.proofs.Between.{Grows, moved_grows, find_node, begins_length, no_more}
 use Rattle.flow_shares.proofs.Busy.{quiet}
 use Rattle.flow_deal.specs.Deals.{AreDealt}
-use Rattle.flow_round_laws.specs.Joints.{nodes_at, writer_view, reader_view, joined_view}
+use Rattle.flow_round_laws.specs.Joints.{nodes_at, joined_view}
 use Rattle.flow_round_laws.specs.JoinedTheorems.{AllAreStuck}
 use Rattle.flow_round_laws.proofs.Parts.{any_of}
 use Rattle.flow_round_laws.proofs.Seats.{port_reads, port_writes, dealt_later}
@@ -95,16 +92,21 @@ module _ {X : Type 0} {t : Ghosts X} {u : EndsGhosts Rings} (same_is : (a b : Ri
 
     sent_grows : (e : ℕ) → e < length setting.edges → length ((joined_view setting.share setting.edges (view_at shares)).sent e) ≤ length ((joined_view setting.share setting.edges (view_at back)).sent e)
     sent_grows e l =
-        omega (arith, ap length (sent_at setting.share setting.edges (view_at shares) e l), ap length (sent_at setting.share setting.edges (view_at back) e l),
-          begins_length _ _ ((grows (writer setting shares graph e) (writer_is_share setting shares graph e l)).sent e))
+        omega (
+          arith,
+          ap length (sent_at setting.share setting.edges (view_at shares) e l),
+          ap length (sent_at setting.share setting.edges (view_at back) e l),
+          begins_length _ _ ((grows (writer setting shares graph e) (writer_is_share setting shares graph e l)).sent e),
+        )
 
     received_grows : (e : ℕ) → e < length setting.edges → length ((joined_view setting.share setting.edges (view_at shares)).received e) ≤ length ((joined_view setting.share setting.edges (view_at back)).received e)
     received_grows e l =
-        omega (arith, ap length (received_at setting.share setting.edges (view_at shares) e l), ap length (received_at setting.share setting.edges (view_at back) e l),
-          begins_length _ _ ((grows (reader setting shares graph e) (reader_is_share setting shares graph e l)).received e))
-
-    pub moves_more : moved_in setting shares ≤ moved_in setting back
-    moves_more = total_less (moved_on shares) (moved_on back) (length setting.edges) (λ e l. omega (arith, sent_grows e l, received_grows e l))
+        omega (
+          arith,
+          ap length (received_at setting.share setting.edges (view_at shares) e l),
+          ap length (received_at setting.share setting.edges (view_at back) e l),
+          begins_length _ _ ((grows (reader setting shares graph e) (reader_is_share setting shares graph e l)).received e),
+        )
 
     -- Where no more messages were sent and received in all, none were in any share.
     module _ (no_more_moved : moved_in setting back ≤ moved_in setting shares) where

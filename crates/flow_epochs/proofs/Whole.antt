@@ -1,5 +1,5 @@
 -- A whole epoch: the ends of every edge meet, all shares are pumped, and the ends meet again.
-use Rattle.std.proofs.Common.{◌≡◌, ℕ, ◌+◌, ◌-◌, ◌<◌, ◌≤◌, false, List, [], length, get_or, Some, ◌⊎◌, inl, inr, refl, sym, ◌∙◌, ap, subst, arith}
+use Rattle.std.proofs.Common.{◌≡◌, ℕ, ◌+◌, ◌-◌, ◌<◌, ◌≤◌, List, [], length, get_or, Some, ◌⊎◌, inl, inr, refl, sym, ◌∙◌, ap, subst, arith}
 use Rattle.std.proofs.lemmas.Bool.{cases_lt}
 use Rattle.std.specs.List.{All}
 use native.Mathlib.Bridge.{le_prop}
@@ -14,7 +14,6 @@ use Rattle.flow_edges.specs.Ends.{View, SameTraffic}
 use Rattle.flow_edges.specs.declared.ends.Ends.{Ghosts as EndsGhosts}
 use Rattle.flow_base.specs.Transducers.{BehaviourLaws}
 use Rattle.flow_base.specs.declared.transducer.Transducer.{Ghosts}
-use Rattle.flow_graph.specs.declared.placed.Placed.{Placed}
 use Rattle.flow_graph.specs.Places.{placed_state, states_in}
 use Rattle.flow_graph.specs.Layouts.{AreSamePlaces}
 use Rattle.flow_graph.proofs.Nets.{lawful_net}
@@ -35,10 +34,10 @@ use Rattle.flow_round_laws.proofs.Carried.{same_joined}
 use Rattle.flow_round_laws.proofs.Meetings.{own_shares_are_sound}
 use Rattle.flow_round_laws.proofs.Calm.{stuck_shares_rest}
 use Rattle.flow_epochs.specs.Dealt.{Setting, dealt_of, all_ends, view_at, AreFed, AreCalm, moved_in}
-use Rattle.flow_epochs.specs.Epochs.{IsLater, AreLater, AreOfOneGraph, HaveMetAll, joint_of, StandSound, StandAtRest, AreMet, IsEpoch}
+use Rattle.flow_epochs.specs.Epochs.{IsLater, AreLater, AreOfOneGraph, HaveMetAll, joint_of, StandSound, AreMet, IsEpoch}
 use Rattle.flow_epochs.proofs.Lists.{count_dealt, nodes_are, view_is, ends_are, same_count, same_nodes, same_body}
 use Rattle.flow_epochs.proofs.Meets.{writer_is_share, reader_is_share}
-use Rattle.flow_epochs.proofs.Pumps.{pumped_ends, pumped_places, moves_more, none_moved, none_says, calm_moves_none, all_stuck, states_stayed}
+use Rattle.flow_epochs.proofs.Pumps.{pumped_ends, pumped_places, none_moved, none_says, calm_moves_none, all_stuck, states_stayed}
 
 same_then : (a b c : View) → SameTraffic a b → SameTraffic b c → SameTraffic a c
 same_then a b c p q = record { sent = λ e. q.sent e ∙ p.sent e; received = λ e. q.received e ∙ p.received e }
@@ -123,8 +122,8 @@ module _ {X : Type 0} {t : Ghosts X} {u : EndsGhosts Rings} (setting : Setting t
           at (inl less) = less
           at (inr most) =
               absurd (some (λ s d l.
-                let h : s < length pumped = omega (arith, l, back_count) in
-                ap (λ (x : Body t). x.moved) (same_body pumped back second.bodies s d h) ∙ none_says same_is setting mid pumped count each first.graph fed_pumped (no_more most) s d h))
+              let h : s < length pumped = omega (arith, l, back_count) in
+              ap (λ (x : Body t). x.moved) (same_body pumped back second.bodies s d h) ∙ none_says same_is setting mid pumped count each first.graph fed_pumped (no_more most) s d h))
 
       module _ (same : moved_in setting back ≡ moved_in setting shares) (back_graph : AreOfOneGraph setting back) where
         none : (s : ℕ) → s < length mid → SameTraffic (view_at mid s) (view_at pumped s)

@@ -1,5 +1,5 @@
 -- A graph whose nodes were dealt out to shares.
-use Rattle.std.specs.Prelude.{◌≡◌, ℕ, ◌+◌, ◌<◌, false, List, [], length, map, slice_index_or}
+use Rattle.std.specs.Prelude.{◌≡◌, ℕ, ◌+◌, ◌<◌, false, List, length, map, slice_index_or}
 use Rattle.std.specs.List.{All}
 use Rattle.kahn.specs.Basics.{total}
 use Rattle.flow_edges.specs.Ends.{View}

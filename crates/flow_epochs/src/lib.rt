@@ -11,5 +11,7 @@
 mod epochs;
 mod meet;
 mod parts;
+#[cfg(test)]
+mod tests;
 
 pub use epochs::{epoch, run_epochs};

@@ -1,4 +1,4 @@
-use Rattle.std.proofs.Common.{◌≡◌, true, false, sym, ◌∙◌, subst, arith}
+use Rattle.std.proofs.Common.{sym, ◌∙◌, subst, arith}
 use Rattle.std.specs.Prelude.{◌↔◌, IsTrue}
 use Rattle.flow_epochs.specs.Dealt.{AreFed, AreCalm}
 use Rattle.flow_epochs.proofs.Whole.{left_falls, later_then}
