@@ -1,7 +1,7 @@
 // Programs by each drive: over edges of the same capacity, the drives of several threads end as that of one thread does.
 
 use crate::running::{Done, ran};
-use flow_drive::{Config, Drive, Outcome, Sharing};
+use flow_drive::{Config, Drive, Sharing};
 use snesl_console::split;
 use std::alloc::{AllocError, Global};
 use std::fmt;
@@ -20,26 +20,18 @@ const SHARES: [(usize, &[u8]); 5] = [
     (16, &[0, 1, 2, 3, 4, 5, 6, 7, 8, 9, 10, 11, 12, 13, 14, 15]),
 ];
 
-/// How many programs were run by several threads, how often, and how the runs ended.
+/// How many programs were run by several threads, and how many of the runs ended otherwise than that of one thread.
 #[derive(Clone, Copy, Debug)]
 pub struct Drives {
     programs: usize,
-    runs: usize,
-    values: usize,
-    faults: usize,
-    stalled: usize,
-    /// How many runs ended otherwise than that of one thread.
+    /// How many runs ended otherwise.
     pub differing: usize,
 }
 
 impl fmt::Display for Drives {
     fn fmt<W: fmt::Write>(&self, f: &mut fmt::Formatter<W>) -> fmt::Result {
-        let (programs, runs, values) = (self.programs, self.runs, self.values);
-        let (faults, stalled, differing) = (self.faults, self.stalled, self.differing);
-        write!(
-            f,
-            "{programs} programs in {runs} runs of several threads: {values} values, {faults} faults, {stalled} stalled, {differing} differ"
-        )
+        let (programs, differing) = (self.programs, self.differing);
+        write!(f, "{programs} programs by every drive, {differing} runs differ")
     }
 }
 
@@ -48,16 +40,12 @@ impl Drives {
     pub fn none() -> Drives {
         Drives {
             programs: 0,
-            runs: 0,
-            values: 0,
-            faults: 0,
-            stalled: 0,
             differing: 0,
         }
     }
 
-    /// Runs the program of a job by the drive of one thread, and by those of several, over edges of each capacity, and
-    /// counts the latter. The error is that memory was refused.
+    /// Runs the program of a job by the drive of one thread, and by those of several, over edges of each capacity. The
+    /// error is that memory was refused.
     pub fn add(&mut self, rt: &impl Threads, alloc: Global, job: &[u8]) -> Result<(), AllocError> {
         let (program, input) = split(job);
         self.programs = self.programs.saturating_add(1);
@@ -65,24 +53,12 @@ impl Drives {
             let alone = ran(rt, alloc, program, input, &serial(alloc, capacity)?)?;
             for config in &threaded(alloc, capacity, alone.nodes)? {
                 let done = ran(rt, alloc, program, input, config)?;
-                self.count(&alone, &done);
+                if done.ending.is_err() || done != alone {
+                    self.differing = self.differing.saturating_add(1);
+                }
             }
         }
         Ok(())
-    }
-
-    // Counts a run, beside that of one thread.
-    fn count(&mut self, alone: &Done, done: &Done) {
-        self.runs = self.runs.saturating_add(1);
-        match done.ending {
-            Ok(Outcome::Value) => self.values = self.values.saturating_add(1),
-            Ok(Outcome::Fault(_)) => self.faults = self.faults.saturating_add(1),
-            Ok(Outcome::Stalled { .. }) => self.stalled = self.stalled.saturating_add(1),
-            Err(_) => {}
-        }
-        if done.ending.is_err() || done != alone {
-            self.differing = self.differing.saturating_add(1);
-        }
     }
 }
 

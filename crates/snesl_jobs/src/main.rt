@@ -23,7 +23,7 @@ use table::{Row, rows_of};
 use trial::{Trial, job_of, tried};
 
 // The table of worked rows, whose programs are run by every drive.
-const WORKED: &str = "worked.jobs";
+const WORKED: &str = "worked.programs";
 
 fn main(rt: HostRuntime) -> Result<()> {
     let names = table_names(&rt)?;
