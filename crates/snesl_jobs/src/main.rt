@@ -14,6 +14,7 @@ mod trial;
 use anyhow::{Context, Result, ensure};
 use beside::Totals;
 use std::rt::Files;
+use std::thread::Threads;
 use std::{fs, io};
 use table::{Row, rows_of};
 use trial::{Trial, job_of, tried};
@@ -52,7 +53,10 @@ fn table_names(rt: &HostRuntime) -> io::Result<Vec<String>> {
 }
 
 // How many jobs a table has, and how many of them differ. Says which.
-fn try_table(rt: &HostRuntime, name: &str) -> Result<(usize, usize)> {
+fn try_table<R: Files + Print + AllocGlobal + Threads>(
+    rt: &R,
+    name: &str,
+) -> Result<(usize, usize)> {
     let text = fs::read_to_string(rt, name).context(format_args!("reading {name}"))?;
     let rows = rows_of(rt.alloc(), text.as_str()).context(format_args!("in {name}"))?;
     let mut differing = 0usize;
@@ -67,7 +71,11 @@ fn try_table(rt: &HostRuntime, name: &str) -> Result<(usize, usize)> {
 }
 
 // Runs the programs of a table's jobs that have no words, beside their evaluation. Says in which job a run differs.
-fn run_table(rt: &HostRuntime, name: &str, totals: &mut Totals) -> Result<()> {
+fn run_table<R: Files + Print + AllocGlobal + Threads>(
+    rt: &R,
+    name: &str,
+    totals: &mut Totals,
+) -> Result<()> {
     let text = fs::read_to_string(rt, name).context(format_args!("reading {name}"))?;
     let rows = rows_of(rt.alloc(), text.as_str()).context(format_args!("in {name}"))?;
     for row in &rows {
@@ -86,7 +94,7 @@ fn run_table(rt: &HostRuntime, name: &str, totals: &mut Totals) -> Result<()> {
 }
 
 // Prints what a job was answered, and what was told.
-fn say(rt: &HostRuntime, name: &str, row: &Row<'_>, trial: &Trial) -> io::Result<()> {
+fn say(rt: &impl Print, name: &str, row: &Row<'_>, trial: &Trial) -> io::Result<()> {
     let line = row.line;
     println!(rt;
         "{name}, line {line}: got {}, where the table has {}",
