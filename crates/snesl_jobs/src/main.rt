@@ -18,6 +18,7 @@ use anyhow::{Context, Result, ensure};
 use beside::Totals;
 use drives::Drives;
 use std::rt::Files;
+use std::thread::Threads;
 use std::{fs, io};
 use table::{Row, rows_of};
 use trial::{Trial, job_of, tried};
@@ -62,7 +63,10 @@ fn table_names(rt: &HostRuntime) -> io::Result<Vec<String>> {
 }
 
 // How many jobs a table has, and how many of them differ. Says which.
-fn try_table(rt: &HostRuntime, name: &str) -> Result<(usize, usize)> {
+fn try_table<R: Files + Print + AllocGlobal + Threads>(
+    rt: &R,
+    name: &str,
+) -> Result<(usize, usize)> {
     let text = fs::read_to_string(rt, name).context(format_args!("reading {name}"))?;
     let rows = rows_of(rt.alloc(), text.as_str()).context(format_args!("in {name}"))?;
     let mut differing = 0usize;
@@ -77,7 +81,11 @@ fn try_table(rt: &HostRuntime, name: &str) -> Result<(usize, usize)> {
 }
 
 // Runs the programs of a table's jobs that have no words, beside their evaluation. Says in which job a run differs.
-fn run_table(rt: &HostRuntime, name: &str, totals: &mut Totals) -> Result<()> {
+fn run_table<R: Files + Print + AllocGlobal + Threads>(
+    rt: &R,
+    name: &str,
+    totals: &mut Totals,
+) -> Result<()> {
     let text = fs::read_to_string(rt, name).context(format_args!("reading {name}"))?;
     let rows = rows_of(rt.alloc(), text.as_str()).context(format_args!("in {name}"))?;
     for row in &rows {
@@ -113,7 +121,7 @@ fn drive_table(rt: &HostRuntime, name: &str) -> Result<Drives> {
 }
 
 // Prints what a job was answered, and what was told.
-fn say(rt: &HostRuntime, name: &str, row: &Row<'_>, trial: &Trial) -> io::Result<()> {
+fn say(rt: &impl Print, name: &str, row: &Row<'_>, trial: &Trial) -> io::Result<()> {
     let line = row.line;
     println!(rt;
         "{name}, line {line}: got {}, where the table has {}",
