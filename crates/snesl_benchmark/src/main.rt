@@ -16,8 +16,9 @@ use snesl_run::run;
 use snesl_values::Counted;
 use std::alloc::Global;
 use std::env;
-use std::rt::Env;
+use std::rt::{Clock, Env};
 use std::sync::Arc;
+use std::thread::Threads;
 use std::time::{Duration, Instant};
 
 fn main(rt: HostRuntime) -> Result<()> {
@@ -67,7 +68,12 @@ fn config(alloc: Global, drive: Drive, threads: usize, capacity: usize) -> Resul
 }
 
 // Runs a program once, says what it took, and gives the line that it wrote.
-fn measured(rt: &HostRuntime, program: &Program, count: u64, config: &Config) -> Result<Vec<u8>> {
+fn measured<R: Eprint + Clock + AllocGlobal + Threads>(
+    rt: &R,
+    program: &Program,
+    count: u64,
+    config: &Config,
+) -> Result<Vec<u8>> {
     let alloc = rt.alloc();
     let gate = Arc::new(alloc, Count::new())?;
     let counting = Arc::try_clone(&gate)?;
@@ -81,8 +87,8 @@ fn measured(rt: &HostRuntime, program: &Program, count: u64, config: &Config) ->
 }
 
 // Says what a run took.
-fn report(
-    rt: &HostRuntime,
+fn report<R: Eprint + Clock + AllocGlobal + Threads>(
+    rt: &R,
     program: &Program,
     count: u64,
     config: &Config,

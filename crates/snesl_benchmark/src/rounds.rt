@@ -6,8 +6,10 @@ use flow_drive::{Gate, NoGate};
 use flow_scalar::Source;
 use flow_shares::Share;
 use flow_workers::run_all;
+use std::rt::Clock;
 use std::sync::Arc;
 use std::sync::atomic::{AtomicU64, Ordering};
+use std::thread::Threads;
 use std::time::{Duration, Instant};
 
 /// Counts the first turns of share 0, of which a round has one.
@@ -39,7 +41,11 @@ impl Gate for Count {
 }
 
 /// How long so many rounds take of so many shares without nodes.
-pub fn idle_rounds(rt: &HostRuntime, threads: usize, rounds: u64) -> Result<Duration> {
+pub fn idle_rounds<R: Clock + AllocGlobal + Threads>(
+    rt: &R,
+    threads: usize,
+    rounds: u64,
+) -> Result<Duration> {
     let alloc = rt.alloc();
     let gate = Arc::new(alloc, NoGate)?;
     let mut shares: Vec<Share<Source, Boxes>> = Vec::new(alloc);

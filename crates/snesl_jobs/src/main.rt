@@ -104,7 +104,7 @@ fn run_table<R: Files + Print + AllocGlobal + Threads>(
 }
 
 // Runs the programs of a table by every drive. Says in which job a run differs from that of one thread.
-fn drive_table(rt: &HostRuntime, name: &str) -> Result<Drives> {
+fn drive_table<R: Files + Print + AllocGlobal + Threads>(rt: &R, name: &str) -> Result<Drives> {
     let text = fs::read_to_string(rt, name).context(format_args!("reading {name}"))?;
     let rows = rows_of(rt.alloc(), text.as_str()).context(format_args!("in {name}"))?;
     let mut drives = Drives::none();

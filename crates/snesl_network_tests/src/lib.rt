@@ -10,4 +10,6 @@ mod running;
 #[cfg(test)]
 mod sizes;
 #[cfg(test)]
+mod threads;
+#[cfg(test)]
 mod writing;
