@@ -1,7 +1,5 @@
 -- That a node of any kind may go to another thread, which a drive asks of its nodes. No search finds it by itself, since a node has too many kinds.
-use Prim.Native.Nat.{ℕ}
-use denote.Param.{param}
-use denote.Param.Send.{IsSend, param_send, sendable}
+use denote.Param.Send.{IsSend, arg_send, param_send, sendable}
 use denote.Param.SendFields.{variants_send}
 use Rattle.std.proofs.Crossing.{crosses}
 use Rattle.snesl_values.proofs.datum.Datum.TheLaws.TheKnot as datum_knot
@@ -23,6 +21,5 @@ ruleset parts = (ty_sends, datum_sends, crosses, sendable)
 pub stream_node_sends : IsSend stream_node.the_row
 stream_node_sends = variants_send stream_node.enum ((search parts depth 60 fits 20000, tt), ((search parts depth 60 fits 20000, tt), ((search parts depth 60 fits 20000, tt), ((search parts depth 60 fits 20000, tt), ((search parts depth 60 fits 20000, tt), ((search parts depth 60 fits 20000, tt), ((search parts depth 60 fits 20000, tt), ((search parts depth 60 fits 20000, tt), ((search parts depth 60 fits 20000, tt), ((search parts depth 60 fits 20000, tt), ((search parts depth 60 fits 20000, tt), ((search parts depth 60 fits 20000, tt), ((search parts depth 60 fits 20000, tt), ((search parts depth 60 fits 20000, tt), ((search parts depth 60 fits 20000, tt), ((search parts depth 60 fits 20000, tt), ((search parts depth 60 fits 20000, tt), ((search parts depth 60 fits 20000, tt), ((search parts depth 60 fits 20000, tt), ((search parts depth 60 fits 20000, tt), ((search parts depth 60 fits 20000, tt), ((search parts depth 60 fits 20000, tt), ((search parts depth 60 fits 20000, tt), ((search parts depth 60 fits 20000, tt), ((search parts depth 60 fits 20000, tt), ((search parts depth 60 fits 20000, tt), tt))))))))))))))))))))))))))
 
--- as a caller that is generic over other types is asked it
-pub stream_node_sends_at : (i : ℕ) → IsSend (param i stream_node.the_row)
-stream_node_sends_at i = param_send i stream_node.the_row stream_node_sends
+-- the same as a caller of a generic function is asked it
+pub ruleset nodes_cross = (stream_node_sends, param_send, arg_send)
