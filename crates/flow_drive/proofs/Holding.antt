@@ -50,8 +50,16 @@ module _ (share : List ℕ) (edges : List Edge) (boxes : List Contents) (most : 
       let w = writer_boxes share edges boxes e in
       let r = reader_boxes share edges boxes e in
       let link = met.linked e l in
-      omega (arith, ap length (sent_at share edges (views_of boxes) e l), ap length (received_at share edges (views_of boxes) e l), ap length link.in_order, link.bound, met.capacity e l,
-          length-append (r.ends.received e ++ r.ends.coming e) (w.leaving e), length-append (r.ends.received e) (r.ends.coming e))
+      omega (
+        arith,
+        ap length (sent_at share edges (views_of boxes) e l),
+        ap length (received_at share edges (views_of boxes) e l),
+        ap length link.in_order,
+        link.bound,
+        met.capacity e l,
+        length-append (r.ends.received e ++ r.ends.coming e) (w.leaving e),
+        length-append (r.ends.received e) (r.ends.coming e),
+      )
   boxes_fit (inr above) = omega (arith, ap length (none_sent share edges (views_of boxes) e above))
 
 -- no edge holds more than the capacity

@@ -30,6 +30,12 @@ pub fn deal<T: Transducer + Drop, E: Opening + Drop>(
         return Err(DriveError::BadConfig);
     }
     let sharing = &config.sharing;
-    let dealt = flow_opening::deal(alloc, graph, sharing.threads, &sharing.share, config.capacity)?;
+    let dealt = flow_opening::deal(
+        alloc,
+        graph,
+        sharing.threads,
+        &sharing.share,
+        config.capacity,
+    )?;
     Ok(dealt)
 }

@@ -50,7 +50,13 @@ pub fn drive_rounds<
     let given = Snapshot::of(&graph);
     let nodes = graph.nodes();
     let share = config.sharing.share.to_vec(alloc)?;
-    let dealt = deal(alloc, graph, config.sharing.threads, &share, config.capacity)?;
+    let dealt = deal(
+        alloc,
+        graph,
+        config.sharing.threads,
+        &share,
+        config.capacity,
+    )?;
     let graph = Given {
         graph: given,
         nodes,

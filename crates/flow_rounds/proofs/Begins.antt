@@ -137,7 +137,7 @@ module _ {X : Type 0} {t : Ghosts X} {u : EndsGhosts Boxes} (sees : u.view ≡ v
       at_both : IsLinked (writer_boxes share edges (seen boxes) e) (reader_boxes share edges (seen boxes) e) e → ((contents (get_or boxes (writer e) (some e l))).ends.sent e ≡ []) × ((contents (get_or boxes (reader e) (some e l))).ends.received e ≡ [])
       at_both link = (
         fresh_writer (ap (λ (a : Contents). a.ends.writes e) (sym (seen_at boxes (writer e) (some e l) (writes e l))) ∙ link.writes),
-        fresh_reader (ap (λ (a : Contents). a.ends.reads e) (sym (seen_at boxes (reader e) (some e l) (reads e l))) ∙ link.reads)
+        fresh_reader (ap (λ (a : Contents). a.ends.reads e) (sym (seen_at boxes (reader e) (some e l) (reads e l))) ∙ link.reads),
       )
 
   fed : AreFed shares

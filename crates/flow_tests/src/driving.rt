@@ -85,13 +85,7 @@ fn all_counts(rt: &impl Abort, rested: &Rested<StreamNode>) -> (u64, u64) {
 fn nineteen_messages(rt: HostRuntime) -> Result<(), Fail> {
     for capacity in [1, 2, 256] {
         for way in WAYS {
-            let rested = driven(
-                &rt,
-                rt.alloc(),
-                sum_of_five(rt.alloc())?,
-                capacity,
-                way,
-            )?;
+            let rested = driven(&rt, rt.alloc(), sum_of_five(rt.alloc())?, capacity, way)?;
             assert_eq!(rt; rested.outcome(), Outcome::Value);
             assert_eq!(rt; (rested.nodes(), rested.edges()), (5, 5));
             assert_eq!(rt; all_counts(&rt, &rested), (19, 19));
@@ -110,13 +104,7 @@ fn a_fault_at_seven(rt: HostRuntime) -> Result<(), Fail> {
     };
     for capacity in [1, 4] {
         for way in WAYS {
-            let rested = driven(
-                &rt,
-                rt.alloc(),
-                sum_of_unlike(rt.alloc())?,
-                capacity,
-                way,
-            )?;
+            let rested = driven(&rt, rt.alloc(), sum_of_unlike(rt.alloc())?, capacity, way)?;
             assert_eq!(rt; rested.outcome(), Outcome::Fault(shape));
             // The numbers and the end from the left; the number and the end from the right; the sum.
             assert_eq!(rt; counts(&rt, &rested, 0).1, 2);
@@ -169,13 +157,7 @@ fn waits_for_its_length(alloc: Global) -> Result<Graph<StreamNode>, Fail>
 #[test]
 fn stalls_at_capacity_one(rt: HostRuntime) -> Result<(), Fail> {
     for way in WAYS {
-        let rested = driven(
-            &rt,
-            rt.alloc(),
-            waits_for_its_length(rt.alloc())?,
-            1,
-            way,
-        )?;
+        let rested = driven(&rt, rt.alloc(), waits_for_its_length(rt.alloc())?, 1, way)?;
         // The fork has the end of the segment for an edge that holds its second flag.
         assert_eq!(rt; rested.outcome(), Outcome::Stalled { edge: 1 });
         assert_eq!(rt; counts(&rt, &rested, 0), (4, 3));
@@ -189,13 +171,7 @@ fn stalls_at_capacity_one(rt: HostRuntime) -> Result<(), Fail> {
 #[test]
 fn runs_at_capacity_two(rt: HostRuntime) -> Result<(), Fail> {
     for way in WAYS {
-        let rested = driven(
-            &rt,
-            rt.alloc(),
-            waits_for_its_length(rt.alloc())?,
-            2,
-            way,
-        )?;
+        let rested = driven(&rt, rt.alloc(), waits_for_its_length(rt.alloc())?, 2, way)?;
         assert_eq!(rt; rested.outcome(), Outcome::Value);
         assert_eq!(rt; all_counts(&rt, &rested), (23, 23));
     }

@@ -24,7 +24,11 @@ use std::time::{Duration, Instant};
 fn main(rt: HostRuntime) -> Result<()> {
     let alloc = rt.alloc();
     let count = count_of(&rt)?;
-    for program in [squares(alloc, count)?, wide(alloc, count)?, deep(alloc, count)?] {
+    for program in [
+        squares(alloc, count)?,
+        wide(alloc, count)?,
+        deep(alloc, count)?,
+    ] {
         for capacity in [256, 4_096] {
             let alone = config(alloc, Drive::Serial, 1, capacity)?;
             let line = measured(&rt, &program, count, &alone)?;
@@ -33,7 +37,11 @@ fn main(rt: HostRuntime) -> Result<()> {
                 let same = measured(&rt, &program, count, &shared)?;
                 ensure!(same == line, "drives differ");
             }
-            print!(rt; "{}, capacity {capacity}: {}", program.name, line.escape_ascii())?;
+            print!(rt;
+                "{}, capacity {capacity}: {}",
+                program.name,
+                line.escape_ascii()
+            )?;
             println!(rt; "")?;
         }
     }
@@ -79,7 +87,15 @@ fn measured<R: Eprint + Clock + AllocGlobal + Threads>(
     let counting = Arc::try_clone(&gate)?;
     let mut out = Counted::new(Vec::new(alloc));
     let start = Instant::now(rt)?;
-    let answer = run(rt, alloc, program.text.as_bytes(), b"", config, gate, &mut out);
+    let answer = run(
+        rt,
+        alloc,
+        program.text.as_bytes(),
+        b"",
+        config,
+        gate,
+        &mut out,
+    );
     let time = start.elapsed(rt)?;
     ensure!(answer.is_ok(), "a program is refused");
     report(rt, program, count, config, time, counting.rounds())?;

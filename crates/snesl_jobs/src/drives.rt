@@ -31,7 +31,10 @@ pub struct Drives {
 impl fmt::Display for Drives {
     fn fmt<W: fmt::Write>(&self, f: &mut fmt::Formatter<W>) -> fmt::Result {
         let (programs, differing) = (self.programs, self.differing);
-        write!(f, "{programs} programs by every drive, {differing} runs differ")
+        write!(
+            f,
+            "{programs} programs by every drive, {differing} runs differ"
+        )
     }
 }
 
@@ -81,7 +84,13 @@ fn threaded(alloc: Global, capacity: usize, nodes: usize) -> Result<Vec<Config>,
     }
     if nodes <= 5 {
         for bits in 0..32u8 {
-            let share = [bits & 1, bits >> 1 & 1, bits >> 2 & 1, bits >> 3 & 1, bits >> 4];
+            let share = [
+                bits & 1,
+                bits >> 1 & 1,
+                bits >> 2 & 1,
+                bits >> 3 & 1,
+                bits >> 4,
+            ];
             configs.push(config(alloc, Drive::Rounds, capacity, 1, 1, (2, &share))?)?;
         }
     }

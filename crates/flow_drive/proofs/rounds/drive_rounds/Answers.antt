@@ -19,10 +19,32 @@ run_dealt-requires g c κs within =
     let dealt = c.in_ok-dealt.dealt in
     let whole : given ≡ c.args.graph = c.of-given.ensures in
     let is : IsDealt BoxesJoin box_places given config.sharing.threads share config.capacity dealt =
-        subst (λ graph. IsDealt BoxesJoin box_places graph config.sharing.threads share config.capacity dealt) (sym whole)
-        (subst (λ s. IsDealt BoxesJoin box_places c.args.graph config.sharing.threads s config.capacity dealt) c.deref-2.ensures.value c.in_ok-dealt.ensures) in
+    subst (λ graph. IsDealt BoxesJoin box_places graph config.sharing.threads share config.capacity dealt) (sym whole)
+    (subst (λ s. IsDealt BoxesJoin box_places c.args.graph config.sharing.threads s config.capacity dealt) c.deref-2.ensures.value c.in_ok-dealt.ensures) in
     let nodes = c.nodes-nodes.ensures ∙ ap (λ graph. length (states_of graph)) (sym whole) ∙ length-map (nodes_of given) placed_state in
     let opened = subst (λ graph. AreOpened g.T.Transducer.behaviour (states_of graph)) (sym whole) c.requires.opened in
-    let named : 0 < length share = omega (arith, lawful.sharing.entries.some, c.in_ok-share.ensures.len, ap length c.deref.ensures.value) in
-    (within.0, (within.1.0, (within.1.1, (bounds.static-T, (bounds.static-G, (bounds.send-T, (bounds.send-G, (bounds.sync-G,
-    (lawful.chunk.some, (named, (nodes, (refl, (refl, (is.wires, (is.layout, dealt_stand refl given config.sharing.threads share config.capacity dealt is opened)))))))))))))))
+    let named : 0 < length share = omega (arith, lawful.sharing.entries.some, c.in_ok-share.ensures.len, ap length c.deref.ensures.value) in (
+      within.0,
+      (
+        within.1.0,
+        (
+          within.1.1,
+          (
+            bounds.static-T,
+            (
+              bounds.static-G,
+              (
+                bounds.send-T,
+                (
+                  bounds.send-G,
+                  (
+                    bounds.sync-G,
+                    (lawful.chunk.some, (named, (nodes, (refl, (refl, (is.wires, (is.layout, dealt_stand refl given config.sharing.threads share config.capacity dealt is opened))))))),
+                  ),
+                ),
+              ),
+            ),
+          ),
+        ),
+      ),
+    )

@@ -41,7 +41,7 @@ returns-in-Shared-clause-sent g c =
     let shared = c.in-Shared.shared in
     let edges = edges_of rested.graph in
     let is = sent_is shared edges (rested.there.shared shared c.in-Shared.is) c.args.edge c.requires c.of_node.result.now
-        (λ d. c.of_node.ensures d ∙ ap (λ edge. get_or shared.boxes.items (share_of shared.share.items edge.writer) d) c.edge-writer.ensures) in
+    (λ d. c.of_node.ensures d ∙ ap (λ edge. get_or shared.boxes.items (share_of shared.share.items edge.writer) d) c.edge-writer.ensures) in
     c.sent_count-in-Shared.ensures ∙ ap (λ (l : List Signal). u64_saturate (length l)) (sym (ap (λ lines. (traffic_in edges lines).sent c.args.edge) c.in-Shared.is ∙ is))
 
 pub returns-in-Shared-clause-received : goal.returns-in-Shared-clause-received
@@ -50,5 +50,5 @@ returns-in-Shared-clause-received g c =
     let shared = c.in-Shared.shared in
     let edges = edges_of rested.graph in
     let is = received_is shared edges (rested.there.shared shared c.in-Shared.is) c.args.edge c.requires c.of_node-in-Shared.result.now
-        (λ d. c.of_node-in-Shared.ensures d ∙ ap (λ edge. get_or shared.boxes.items (share_of shared.share.items edge.reader) d) c.edge-writer.ensures) in
+    (λ d. c.of_node-in-Shared.ensures d ∙ ap (λ edge. get_or shared.boxes.items (share_of shared.share.items edge.reader) d) c.edge-writer.ensures) in
     c.received_count-in-Shared.ensures ∙ ap (λ (l : List Signal). u64_saturate (length l)) (sym (ap (λ lines. (traffic_in edges lines).received c.args.edge) c.in-Shared.is ∙ is))
