@@ -13,10 +13,11 @@ fn graph_comes_back(rt: HostRuntime) -> Result<(), Fail> {
     let (nodes, layout) = sum_of_five(alloc)?.take_apart();
     let count = nodes.len();
     let dealt = deal_nodes(alloc, nodes, 3, &share)?;
-    assert_eq!(rt; dealt.len(), 3);
-    assert_eq!(rt; dealt[0].len(), 2);
-    assert!(rt; dealt[1].is_empty());
-    assert_eq!(rt; dealt[2][1].number(), 2);
+    let mut counts = Vec::new(alloc);
+    for nodes in &dealt {
+        counts.push(nodes.len())?;
+    }
+    assert_eq!(rt; counts.as_slice(), [2, 0, 3].as_slice());
     let nodes = gather(alloc, dealt, count, &share)?;
     let graph = layout.put_together(nodes);
     assert_eq!(rt; (graph.nodes(), graph.edges()), (5, 5));
