@@ -20,4 +20,5 @@ pub use driver::{DriveError, drive};
 pub use flow_shares::{Gate, NoGate};
 pub use kahn::Outcome;
 pub use rested::Rested;
+pub use rounds::drive_rounds;
 pub use theorems::rested_is_sound;

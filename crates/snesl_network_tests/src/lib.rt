@@ -10,6 +10,4 @@ mod running;
 #[cfg(test)]
 mod sizes;
 #[cfg(test)]
-mod threads;
-#[cfg(test)]
 mod writing;

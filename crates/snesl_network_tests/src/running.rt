@@ -6,7 +6,6 @@ use snesl_values::{Counted, Refusal};
 use std::alloc::{AllocError, Global};
 use std::process::Abort;
 use std::sync::Arc;
-use std::thread::Threads;
 
 /// What a run wrote, and what it answered.
 #[derive(Drop)]
@@ -32,7 +31,6 @@ pub fn config(alloc: Global, capacity: usize, chunk: usize) -> Result<Config, Al
 
 /// Runs a program for an input text, over memory.
 pub fn ran(
-    rt: &impl Threads,
     alloc: Global,
     program: &[u8],
     input: &[u8],
@@ -42,7 +40,7 @@ pub fn ran(
     let config = config(alloc, capacity, chunk)?;
     let gate = Arc::new(alloc, NoGate)?;
     let mut out = Counted::new(Vec::new(alloc));
-    let answer = run(rt, alloc, program, input, &config, gate, &mut out);
+    let answer = run(alloc, program, input, &config, gate, &mut out);
     Ok(Done {
         written: out.into_inner(),
         answer,
