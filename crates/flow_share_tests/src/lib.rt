@@ -1,7 +1,9 @@
-// Tests of shares with nodes that move messages: dealt out, pumped, gathered, and put together again.
+// Tests of shares with nodes that move messages: pumped by themselves, and driven in rounds.
 #![tactic(auto)]
 
 #[cfg(test)]
-mod gathering;
+mod graphs;
 #[cfg(test)]
 mod pumping;
+#[cfg(test)]
+mod rounds;
