@@ -12,6 +12,8 @@ mod queries;
 mod rested;
 mod rounds;
 mod serial;
+#[cfg(test)]
+mod tests;
 mod theorems;
 
 pub use config::{Config, Drive, MAX_CHUNK, MAX_IDLE_TURNS, MAX_SHARE, MAX_THREADS, Sharing};
