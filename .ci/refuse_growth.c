@@ -21,8 +21,7 @@ static long number_in(const char *name) {
 static int is_refused(void) {
     if (refused_at < 0)
         refused_at = number_in("REFUSE_GROWTH");
-    growths += 1;
-    if (growths != refused_at)
+    if (__sync_add_and_fetch(&growths, 1) != refused_at)
         return 0;
     write((int)number_in("REFUSE_TOLD"), "x", 1);
     return 1;

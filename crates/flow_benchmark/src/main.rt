@@ -10,8 +10,9 @@ use flow_drive::{Config, Drive, MAX_CHUNK, NoGate, Outcome, Rested, Sharing, dri
 use flow_nodes::StreamNode;
 use plan::squares;
 use std::env;
-use std::rt::Env;
+use std::rt::{Clock, Env};
 use std::sync::Arc;
+use std::thread::Threads;
 use std::time::{Duration, Instant};
 
 // The capacity of the edges.
@@ -34,7 +35,11 @@ fn count_of<R: Env + AllocGlobal>(rt: &R) -> Result<i64> {
 }
 
 // Drives the network once with this chunk.
-fn measure(rt: &HostRuntime, count: i64, chunk: usize) -> Result<()> {
+fn measure<R: Print + Eprint + Clock + AllocGlobal + Threads>(
+    rt: &R,
+    count: i64,
+    chunk: usize,
+) -> Result<()> {
     let alloc = rt.alloc();
     let graph = squares(alloc, count)?;
     let config = Config {
@@ -49,14 +54,14 @@ fn measure(rt: &HostRuntime, count: i64, chunk: usize) -> Result<()> {
     };
     let gate = Arc::new(alloc, NoGate)?;
     let start = Instant::now(rt)?;
-    let rested = drive(alloc, graph, &config, gate)?;
+    let rested = drive(rt, alloc, graph, &config, gate)?;
     let time = start.elapsed(rt)?;
     report(rt, &rested, count, chunk, time)
 }
 
 // Prints the outcome and the messages, and the times.
-fn report(
-    rt: &HostRuntime,
+fn report<R: Print + Eprint>(
+    rt: &R,
     rested: &Rested<StreamNode>,
     count: i64,
     chunk: usize,

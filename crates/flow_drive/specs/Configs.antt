@@ -3,6 +3,8 @@ use Rattle.std.specs.Prelude.{ℕ, ◌<◌, ◌≤◌, length}
 use Rattle.std.specs.List.{All}
 use Rattle.flow_edges.specs.Limits.{greatest_capacity}
 use Rattle.flow_drive.specs.declared.config.Config.{Config}
+use Rattle.flow_drive.specs.declared.config.Drive.{Drive}
+use Rattle.flow_drive.specs.declared.config.Drive.TheVariants.{Serial, Rounds}
 use Rattle.flow_drive.specs.declared.config.Sharing.{Sharing}
 use Rattle.flow_drive.specs.Limits.{greatest_chunk, most_threads, most_idle_turns, most_entries}
 
@@ -23,3 +25,8 @@ pub record IsLawful (config : Config) : Type 0 where
   pub capacity : IsWithin greatest_capacity config.capacity
   pub chunk : IsWithin greatest_chunk config.chunk
   pub sharing : IsLawfulSharing config.sharing
+
+-- the drive starts threads
+abbrev pub StartsThreads : Drive → Type 0
+StartsThreads Serial = ⊥
+StartsThreads Rounds = Unit {0}

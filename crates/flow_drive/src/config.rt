@@ -22,6 +22,8 @@ pub const MAX_SHARE: usize = 4_096;
 pub enum Drive {
     /// All nodes in the caller's thread, in ascending order, until a whole pass moves nothing.
     Serial,
+    /// Shares of the nodes in threads of their own, all side by side, round after round; messages pass between the rounds.
+    Rounds,
 }
 
 /// How a graph is to be driven.

@@ -3,21 +3,25 @@ ghost use Rattle.std.specs.Prelude.{◌≡◌, ◌↔◌, Err, IfOk};
 ghost use Rattle.flow_graph.specs.Graphs.{states_of, edges_of};
 ghost use Rattle.flow_graph.specs.Networks.{AreOpened};
 ghost use Rattle.flow_graph.specs.Shapes.{IsSameNetwork};
-ghost use Rattle.flow_drive.specs.Configs.{IsLawful};
+ghost use Rattle.flow_drive.specs.Configs.{IsLawful, StartsThreads};
 ghost use Rattle.flow_drive.specs.Drives.{EndsMaximalRun};
+ghost use Rattle.flow_drive.specs.Refusals.{refused_work};
 ghost use Rattle.flow_drive.specs.Resteds.{rested_states, rested_edges, rested_capacity, traffic_of};
-ghost use Rattle.flow_drive.specs.declared.driver.DriveError.TheVariants.{BadConfig, NoMemory};
+ghost use Rattle.flow_drive.specs.declared.driver.DriveError.TheVariants.{BadConfig, NoMemory, NoThread};
 
 use crate::config::{Config, Drive};
 use crate::lines::Lines;
 use crate::rested::Rested;
+use crate::rounds::drive_rounds;
 use crate::serial::run_serial;
 use flow_base::Transducer;
 use flow_edges::Table;
 use flow_graph::Graph;
 use flow_shares::Gate;
+use flow_workers::WorkError;
 use std::alloc::{AllocError, Global};
 use std::sync::Arc;
+use std::thread::Threads;
 use thiserror::Error;
 
 /// Why a graph was not driven.
@@ -29,6 +33,9 @@ pub enum DriveError {
     /// Memory was refused.
     #[error("out of memory")]
     NoMemory,
+    /// A thread could not be started.
+    #[error("no thread could be started")]
+    NoThread,
 }
 
 impl From<AllocError> for DriveError {
@@ -39,12 +46,28 @@ impl From<AllocError> for DriveError {
     }
 }
 
+impl From<WorkError> for DriveError {
+    ghost from_gives = { λ refused error. error ≡ refused_work refused };
+
+    fn from(refused: WorkError) -> Self {
+        match refused {
+            WorkError::NoMemory => DriveError::NoMemory,
+            WorkError::NoThread => DriveError::NoThread,
+        }
+    }
+}
+
 /// Drives a graph, as it was built, until no node can step: a maximal run of its network at the capacity of the
 /// configuration.
 ///
-/// It is refused as `BadConfig` exactly where the configuration is not lawful, and else only as `NoMemory`. The gate is
-/// for drives of several threads.
-pub fn drive<T: Transducer + Drop, G: Gate + Drop>(
+/// It is refused as `BadConfig` exactly where the configuration is not lawful, as `NoThread` only where the drive starts
+/// threads, which `Serial` does not, and else as `NoMemory`. Only drives of several threads call the gate.
+pub fn drive<
+    R: Threads,
+    T: Transducer + Send + Drop + 'static,
+    G: Gate + Send + Sync + Drop + 'static,
+>(
+    rt: &R,
     alloc: Global,
     graph: Graph<T>,
     config: &Config,
@@ -52,6 +75,7 @@ pub fn drive<T: Transducer + Drop, G: Gate + Drop>(
 ) -> Result<Rested<T>, DriveError>
     requires { AreOpened T.behaviour (states_of graph) }
     ensures config { (result ≡ Err BadConfig) ↔ (IsLawful config.now → ⊥) }
+    ensures threads { result ≡ Err NoThread → StartsThreads config.now.drive }
     ensures network { IfOk result (λ rested. IsSameNetwork T.behaviour (states_of graph) (edges_of graph) (rested_states rested) (rested_edges rested)) }
     ensures capacity { IfOk result (λ rested. rested_capacity rested ≡ config.now.capacity) }
     ensures run { IfOk result (λ rested. EndsMaximalRun T.behaviour config.now.capacity (states_of graph) (edges_of graph) (rested_states rested) (traffic_of rested)) }
@@ -61,6 +85,7 @@ pub fn drive<T: Transducer + Drop, G: Gate + Drop>(
     }
     match config.drive {
         Drive::Serial => Ok(drive_serial(alloc, graph, config)?),
+        Drive::Rounds => Ok(drive_rounds(rt, alloc, graph, config, &gate)?),
     }
 }
 

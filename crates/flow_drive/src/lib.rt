@@ -12,8 +12,6 @@ mod queries;
 mod rested;
 mod rounds;
 mod serial;
-#[cfg(test)]
-mod tests;
 mod theorems;
 
 pub use config::{Config, Drive, MAX_CHUNK, MAX_IDLE_TURNS, MAX_SHARE, MAX_THREADS, Sharing};
@@ -22,5 +20,4 @@ pub use driver::{DriveError, drive};
 pub use flow_shares::{Gate, NoGate};
 pub use kahn::Outcome;
 pub use rested::Rested;
-pub use rounds::drive_rounds;
 pub use theorems::rested_is_sound;

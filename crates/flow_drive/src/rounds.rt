@@ -29,12 +29,7 @@ use std::thread::Threads;
 // Nothing comes to a box within a round, so a share is at rest after one turn that moves nothing.
 const IDLE_TURNS: usize = 1;
 
-/// Drives a graph, as it was built, in shares of its nodes, each in a thread of its own, round after round, until no node
-/// can step: a maximal run of its network at the capacity of the configuration, whatever the threads did at what time.
-///
-/// The nodes go to the shares that the configuration names. It is refused as `NoThread` where a thread could not be
-/// started, and as `NoMemory` where memory was refused, to a node too; the graph is then let go. The gate is called before
-/// each turn of a share, in its thread.
+/// Drives a graph in shares, each in a thread of its own, round after round.
 pub fn drive_rounds<
     R: Threads,
     T: Transducer + Send + Drop + 'static,

@@ -3,3 +3,4 @@ pub mod Ports
 pub mod Layouts
 pub mod PlanFlows
 pub mod Views
+pub mod Settings

@@ -5,8 +5,8 @@ ghost use Rattle.flow_graph.specs.Graphs.{states_of};
 ghost use Rattle.flow_graph.specs.Networks.{AreOpened};
 ghost use Rattle.flow_nodes.specs.StreamNodes.{node_behaviour};
 
-use crate::building::{add, empty};
-use crate::graphs::{built, join, sum_of_five, sum_of_unlike};
+use crate::building::{add, built, empty, join, sum_of_five};
+use crate::graphs::sum_of_unlike;
 use flow_base::Node;
 use flow_drive::{Config, Drive, DriveError, NoGate, Outcome, Rested, Sharing, drive};
 use flow_edges::Kind;
@@ -20,9 +20,24 @@ use std::alloc::{AllocError, Global};
 use std::process::Abort;
 use std::sync::Arc;
 use std::test::Fail;
+use std::thread::Threads;
+
+/// Drives, and how many steps a visit has. What one makes of a graph, each makes of it.
+pub const WAYS: [(Drive, usize); 6] = [
+    (Drive::Serial, 1),
+    (Drive::Serial, 2),
+    (Drive::Serial, 16),
+    (Drive::Serial, 1_024),
+    (Drive::Rounds, 1),
+    (Drive::Rounds, 1_024),
+];
 
 // A lawful configuration.
-fn config(alloc: Global, capacity: usize, chunk: usize) -> Result<Config, AllocError> {
+fn config(
+    alloc: Global,
+    capacity: usize,
+    (drive, chunk): (Drive, usize),
+) -> Result<Config, AllocError> {
     Ok(Config {
         capacity,
         chunk,
@@ -31,21 +46,22 @@ fn config(alloc: Global, capacity: usize, chunk: usize) -> Result<Config, AllocE
             idle_turns: 64,
             share: vec![in alloc; 0u8, 1]?,
         },
-        drive: Drive::Serial,
+        drive,
     })
 }
 
 /// Drives the graph with ample memory.
 pub fn driven(
+    rt: &impl Threads,
     alloc: Global,
     graph: Graph<StreamNode>,
     capacity: usize,
-    chunk: usize,
+    way: (Drive, usize),
 ) -> Result<Rested<StreamNode>, Fail>
     requires { AreOpened node_behaviour (states_of graph) }
 {
-    let config = config(alloc, capacity, chunk)?;
-    Ok(drive(alloc, graph, &config, Arc::new(alloc, NoGate)?)?)
+    let config = config(alloc, capacity, way)?;
+    Ok(drive(rt, alloc, graph, &config, Arc::new(alloc, NoGate)?)?)
 }
 
 // How many messages were sent and how many received on this edge.
@@ -68,8 +84,8 @@ fn all_counts(rt: &impl Abort, rested: &Rested<StreamNode>) -> (u64, u64) {
 #[test]
 fn nineteen_messages(rt: HostRuntime) -> Result<(), Fail> {
     for capacity in [1, 2, 256] {
-        for chunk in [1, 2, 16, 1_024] {
-            let rested = driven(rt.alloc(), sum_of_five(&rt, rt.alloc())?, capacity, chunk)?;
+        for way in WAYS {
+            let rested = driven(&rt, rt.alloc(), sum_of_five(rt.alloc())?, capacity, way)?;
             assert_eq!(rt; rested.outcome(), Outcome::Value);
             assert_eq!(rt; (rested.nodes(), rested.edges()), (5, 5));
             assert_eq!(rt; all_counts(&rt, &rested), (19, 19));
@@ -87,8 +103,8 @@ fn a_fault_at_seven(rt: HostRuntime) -> Result<(), Fail> {
         at: 7,
     };
     for capacity in [1, 4] {
-        for chunk in [1, 1_024] {
-            let rested = driven(rt.alloc(), sum_of_unlike(&rt, rt.alloc())?, capacity, chunk)?;
+        for way in WAYS {
+            let rested = driven(&rt, rt.alloc(), sum_of_unlike(rt.alloc())?, capacity, way)?;
             assert_eq!(rt; rested.outcome(), Outcome::Fault(shape));
             // The numbers and the end from the left; the number and the end from the right; the sum.
             assert_eq!(rt; counts(&rt, &rested, 0).1, 2);
@@ -101,7 +117,7 @@ fn a_fault_at_seven(rt: HostRuntime) -> Result<(), Fail> {
 
 // The flags of one segment of two elements, of which one copy waits for numbers that come from the other: its
 // length, and the numbers below it.
-fn waits_for_its_length(rt: &impl Abort, alloc: Global) -> Result<Graph<StreamNode>, Fail>
+fn waits_for_its_length(alloc: Global) -> Result<Graph<StreamNode>, Fail>
     ensures { IfOk result (λ graph. AreOpened node_behaviour (states_of graph)) }
 {
     let flags = Stream::Bools([false, false, true].to_vec(alloc)?);
@@ -128,20 +144,20 @@ fn waits_for_its_length(rt: &impl Abort, alloc: Global) -> Result<Graph<StreamNo
         &mut builder,
         StreamNode::Sink(Node::new(Sink::new(Kind::Int), 6)),
     )?;
-    join(rt, &mut builder, (0, 0), (1, 0))?;
-    join(rt, &mut builder, (1, 0), (4, 0))?;
-    join(rt, &mut builder, (1, 1), (2, 0))?;
-    join(rt, &mut builder, (2, 0), (3, 0))?;
-    join(rt, &mut builder, (3, 0), (5, 0))?;
-    join(rt, &mut builder, (3, 1), (4, 1))?;
-    join(rt, &mut builder, (4, 0), (6, 0))?;
-    Ok(built(rt, builder))
+    join(&mut builder, (0, 0), (1, 0))?;
+    join(&mut builder, (1, 0), (4, 0))?;
+    join(&mut builder, (1, 1), (2, 0))?;
+    join(&mut builder, (2, 0), (3, 0))?;
+    join(&mut builder, (3, 0), (5, 0))?;
+    join(&mut builder, (3, 1), (4, 1))?;
+    join(&mut builder, (4, 0), (6, 0))?;
+    built(builder)
 }
 
 #[test]
 fn stalls_at_capacity_one(rt: HostRuntime) -> Result<(), Fail> {
-    for chunk in [1, 2, 1_024] {
-        let rested = driven(rt.alloc(), waits_for_its_length(&rt, rt.alloc())?, 1, chunk)?;
+    for way in WAYS {
+        let rested = driven(&rt, rt.alloc(), waits_for_its_length(rt.alloc())?, 1, way)?;
         // The fork has the end of the segment for an edge that holds its second flag.
         assert_eq!(rt; rested.outcome(), Outcome::Stalled { edge: 1 });
         assert_eq!(rt; counts(&rt, &rested, 0), (4, 3));
@@ -154,8 +170,8 @@ fn stalls_at_capacity_one(rt: HostRuntime) -> Result<(), Fail> {
 
 #[test]
 fn runs_at_capacity_two(rt: HostRuntime) -> Result<(), Fail> {
-    for chunk in [1, 2, 1_024] {
-        let rested = driven(rt.alloc(), waits_for_its_length(&rt, rt.alloc())?, 2, chunk)?;
+    for way in WAYS {
+        let rested = driven(&rt, rt.alloc(), waits_for_its_length(rt.alloc())?, 2, way)?;
         assert_eq!(rt; rested.outcome(), Outcome::Value);
         assert_eq!(rt; all_counts(&rt, &rested), (23, 23));
     }
@@ -163,7 +179,7 @@ fn runs_at_capacity_two(rt: HostRuntime) -> Result<(), Fail> {
 }
 
 // Prints the sequence of the numbers below five: Source, Const 5, Iota, Print.
-fn prints_below_five(rt: &impl Abort, alloc: Global) -> Result<Graph<StreamNode>, Fail>
+fn prints_below_five(alloc: Global) -> Result<Graph<StreamNode>, Fail>
     ensures { IfOk result (λ graph. AreOpened node_behaviour (states_of graph)) }
 {
     let mut builder = empty(alloc);
@@ -178,28 +194,29 @@ fn prints_below_five(rt: &impl Abort, alloc: Global) -> Result<Graph<StreamNode>
     add(&mut builder, StreamNode::Iota(Node::new(Iota::new(), 2)))?;
     let ty = Ty::Seq(Box::new(alloc, Ty::Int)?);
     add(&mut builder, StreamNode::Print(Print::new(alloc, ty, 3)?))?;
-    join(rt, &mut builder, (0, 0), (1, 0))?;
-    join(rt, &mut builder, (1, 0), (2, 0))?;
-    join(rt, &mut builder, (2, 0), (3, 0))?;
-    join(rt, &mut builder, (2, 1), (3, 1))?;
-    Ok(built(rt, builder))
+    join(&mut builder, (0, 0), (1, 0))?;
+    join(&mut builder, (1, 0), (2, 0))?;
+    join(&mut builder, (2, 0), (3, 0))?;
+    join(&mut builder, (2, 1), (3, 1))?;
+    built(builder)
 }
 
 #[test]
 fn text_of_the_value(rt: HostRuntime) -> Result<(), Fail> {
     for capacity in [1, 256] {
-        for chunk in [1, 1_024] {
+        for way in WAYS {
             let rested = driven(
+                &rt,
                 rt.alloc(),
-                prints_below_five(&rt, rt.alloc())?,
+                prints_below_five(rt.alloc())?,
                 capacity,
-                chunk,
+                way,
             )?;
             assert_eq!(rt; rested.outcome(), Outcome::Value);
             assert_eq!(rt; rested.text(), b"{0,1,2,3,4}".as_slice());
         }
     }
-    let rested = driven(rt.alloc(), sum_of_five(&rt, rt.alloc())?, 1, 1)?;
+    let rested = driven(&rt, rt.alloc(), sum_of_five(rt.alloc())?, 1, WAYS[0])?;
     assert!(rt; rested.text().is_empty());
     Ok(())
 }
@@ -225,27 +242,24 @@ fn limits_of_configurations(rt: HostRuntime) -> Result<(), Fail> {
         (1, 1, 16, 1, 1, 16, false),
     ];
     for &(capacity, chunk, threads, idle_turns, entries, entry, lawful) in &cases {
-        let sharing = Sharing {
-            threads,
-            idle_turns,
-            share: vec![in alloc; entry; entries]?,
-        };
-        let config = Config {
-            capacity,
-            chunk,
-            sharing,
-            drive: Drive::Serial,
-        };
-        assert_eq!(rt; config.lawful(), lawful);
-        let answer = drive(
-            alloc,
-            sum_of_five(&rt, alloc)?,
-            &config,
-            Arc::new(alloc, NoGate)?,
-        );
-        match answer {
-            Ok(rested) => assert!(rt; lawful && rested.outcome() == Outcome::Value),
-            Err(error) => assert!(rt; !lawful && error == DriveError::BadConfig),
+        for way in [Drive::Serial, Drive::Rounds] {
+            let sharing = Sharing {
+                threads,
+                idle_turns,
+                share: vec![in alloc; entry; entries]?,
+            };
+            let config = Config {
+                capacity,
+                chunk,
+                sharing,
+                drive: way,
+            };
+            assert_eq!(rt; config.lawful(), lawful);
+            let gate = Arc::new(alloc, NoGate)?;
+            match drive(&rt, alloc, sum_of_five(alloc)?, &config, gate) {
+                Ok(rested) => assert!(rt; lawful && rested.outcome() == Outcome::Value),
+                Err(error) => assert!(rt; !lawful && error == DriveError::BadConfig),
+            }
         }
     }
     Ok(())

@@ -1,11 +1,11 @@
 // Graphs built by hand, and their single steps.
 
 ghost use Rattle.std.specs.Prelude.{IfOk};
-ghost use Rattle.flow_graph.specs.Graphs.{states_of, states_so_far};
+ghost use Rattle.flow_graph.specs.Graphs.{states_of};
 ghost use Rattle.flow_graph.specs.Networks.{AreOpened};
 ghost use Rattle.flow_nodes.specs.StreamNodes.{node_behaviour};
 
-use crate::building::{add, empty};
+use crate::building::{add, built, empty, join, sum_of_five};
 use flow_base::{Node, Transducer};
 use flow_edges::{Ends, Item, Kind, Msg, Table};
 use flow_graph::{Edge, Graph, GraphBuilder, Moved, step_once};
@@ -17,66 +17,6 @@ use snesl_values::{Dialect, Fault, FaultKind};
 use std::alloc::Global;
 use std::process::Abort;
 use std::test::Fail;
-
-/// Adds an edge that may join.
-pub fn join(
-    rt: &impl Abort,
-    builder: &mut GraphBuilder<StreamNode>,
-    writer: (usize, usize),
-    reader: (usize, usize),
-) -> Result<(), Fail>
-    requires { AreOpened node_behaviour (states_so_far builder.old) }
-    ensures { AreOpened node_behaviour (states_so_far builder.new) }
-{
-    let edge = Edge {
-        writer: writer.0,
-        writer_port: writer.1,
-        reader: reader.0,
-        reader_port: reader.1,
-    };
-    assert!(rt; builder.may_join(edge));
-    builder.edge(edge)?;
-    Ok(())
-}
-
-/// The graph, in which each port has its edge.
-pub fn built(rt: &impl Abort, builder: GraphBuilder<StreamNode>) -> Graph<StreamNode>
-    requires { AreOpened node_behaviour (states_so_far builder) }
-    ensures { AreOpened node_behaviour (states_of result) }
-{
-    assert!(rt; builder.complete());
-    builder.build()
-}
-
-/// The sum of the numbers below five: Source, Const 5, Iota, Reduce, Sink.
-pub fn sum_of_five(rt: &impl Abort, alloc: Global) -> Result<Graph<StreamNode>, Fail>
-    ensures { IfOk result (λ graph. AreOpened node_behaviour (states_of graph)) }
-{
-    let mut builder = empty(alloc);
-    add(
-        &mut builder,
-        StreamNode::Source(Source::new(alloc, Stream::Units(1))),
-    )?;
-    add(
-        &mut builder,
-        StreamNode::Const(Node::new(Const::new(Scalar::Int(5)), 1)),
-    )?;
-    add(&mut builder, StreamNode::Iota(Node::new(Iota::new(), 2)))?;
-    add(
-        &mut builder,
-        StreamNode::Reduce(Node::new(Reduce::new(Dialect::One, Reduction::Sum), 3)),
-    )?;
-    add(
-        &mut builder,
-        StreamNode::Sink(Node::new(Sink::new(Kind::Int), 4)),
-    )?;
-    join(rt, &mut builder, (0, 0), (1, 0))?;
-    join(rt, &mut builder, (1, 0), (2, 0))?;
-    join(rt, &mut builder, (2, 0), (3, 0))?;
-    join(rt, &mut builder, (2, 1), (3, 1))?;
-    join(rt, &mut builder, (3, 0), (4, 0))?;
-    Ok(built(rt, builder))
-}
 
 // One step of the node, if it can make one.
 fn step(
@@ -140,7 +80,7 @@ fn nineteen_messages_in_any_order(rt: HostRuntime) -> Result<(), Fail> {
         [0, 4, 1, 3, 2],
     ];
     for order in &orders {
-        let mut graph = sum_of_five(&rt, rt.alloc())?;
+        let mut graph = sum_of_five(rt.alloc())?;
         let mut table = Table::new(rt.alloc(), graph.edges(), 1)?;
         let counts = run_in_order(&rt, &mut graph, &mut table, order)?;
         assert_eq!(rt; counts, (19, 19));
@@ -152,7 +92,7 @@ fn nineteen_messages_in_any_order(rt: HostRuntime) -> Result<(), Fail> {
 }
 
 /// Sources of `1, 2` and of `1` into an addition at offset 7, and a sink.
-pub fn sum_of_unlike(rt: &impl Abort, alloc: Global) -> Result<Graph<StreamNode>, Fail>
+pub fn sum_of_unlike(alloc: Global) -> Result<Graph<StreamNode>, Fail>
     ensures { IfOk result (λ graph. AreOpened node_behaviour (states_of graph)) }
 {
     let left = Stream::Ints([1, 2].to_vec(alloc)?);
@@ -168,15 +108,15 @@ pub fn sum_of_unlike(rt: &impl Abort, alloc: Global) -> Result<Graph<StreamNode>
         &mut builder,
         StreamNode::Sink(Node::new(Sink::new(Kind::Int), 0)),
     )?;
-    join(rt, &mut builder, (0, 0), (2, 0))?;
-    join(rt, &mut builder, (1, 0), (2, 1))?;
-    join(rt, &mut builder, (2, 0), (3, 0))?;
-    Ok(built(rt, builder))
+    join(&mut builder, (0, 0), (2, 0))?;
+    join(&mut builder, (1, 0), (2, 1))?;
+    join(&mut builder, (2, 0), (3, 0))?;
+    built(builder)
 }
 
 #[test]
 fn streams_that_end_unlike(rt: HostRuntime) -> Result<(), Fail> {
-    let mut graph = sum_of_unlike(&rt, rt.alloc())?;
+    let mut graph = sum_of_unlike(rt.alloc())?;
     let mut table = Table::new(rt.alloc(), graph.edges(), 4)?;
     run_in_order(&rt, &mut graph, &mut table, &[0, 1, 2])?;
     let shape = Fault {
@@ -221,10 +161,10 @@ fn edges_that_may_not_join(rt: HostRuntime) -> Result<(), Fail> {
     assert!(rt; !builder.may_join(edge(1, 1)));
     assert!(rt; !builder.may_join(edge(1, 3)));
     assert!(rt; !builder.complete());
-    join(&rt, &mut builder, (0, 0), (1, 0))?;
+    join(&mut builder, (0, 0), (1, 0))?;
     // Both ports are taken.
     assert!(rt; !builder.may_join(edge(0, 1)));
-    join(&rt, &mut builder, (1, 0), (2, 0))?;
+    join(&mut builder, (1, 0), (2, 0))?;
     assert!(rt; builder.complete());
     Ok(())
 }

@@ -6,9 +6,8 @@ ghost use Rattle.flow_graph.specs.Graphs.{states_of};
 ghost use Rattle.flow_graph.specs.Networks.{AreOpened};
 ghost use Rattle.flow_nodes.specs.StreamNodes.{node_behaviour};
 
-use crate::building::{add, empty};
-use crate::driving::driven;
-use crate::graphs::{built, join};
+use crate::building::{add, built, empty, join};
+use crate::driving::{WAYS, driven};
 use flow_base::Node;
 use flow_drive::Outcome;
 use flow_edges::Kind;
@@ -18,11 +17,10 @@ use flow_scalar::{Binary, ScanAdd, Sink, Source, Stream};
 use snesl_operators::BinaryOperator;
 use snesl_values::{Dialect, Fault, FaultKind};
 use std::alloc::Global;
-use std::process::Abort;
 use std::test::Fail;
 
 // The sums at offset 0 of the quotients at offset 35, of which the third has no value, and its sum neither.
-fn scan_of_quotients(rt: &impl Abort, alloc: Global) -> Result<Graph<StreamNode>, Fail>
+fn scan_of_quotients(alloc: Global) -> Result<Graph<StreamNode>, Fail>
     ensures { IfOk result (λ graph. AreOpened node_behaviour (states_of graph)) }
 {
     let flags = Stream::Bools([false, false, false, true].to_vec(alloc)?);
@@ -44,12 +42,12 @@ fn scan_of_quotients(rt: &impl Abort, alloc: Global) -> Result<Graph<StreamNode>
         &mut builder,
         StreamNode::Sink(Node::new(Sink::new(Kind::Int), 0)),
     )?;
-    join(rt, &mut builder, (0, 0), (4, 0))?;
-    join(rt, &mut builder, (1, 0), (3, 0))?;
-    join(rt, &mut builder, (2, 0), (3, 1))?;
-    join(rt, &mut builder, (3, 0), (4, 1))?;
-    join(rt, &mut builder, (4, 0), (5, 0))?;
-    Ok(built(rt, builder))
+    join(&mut builder, (0, 0), (4, 0))?;
+    join(&mut builder, (1, 0), (3, 0))?;
+    join(&mut builder, (2, 0), (3, 1))?;
+    join(&mut builder, (3, 0), (4, 1))?;
+    join(&mut builder, (4, 0), (5, 0))?;
+    built(builder)
 }
 
 #[test]
@@ -59,9 +57,9 @@ fn names_the_fault_of_the_element(rt: HostRuntime) -> Result<(), Fail> {
         at: 35,
     };
     for capacity in [1, 4] {
-        for chunk in [1, 1_024] {
-            let graph = scan_of_quotients(&rt, rt.alloc())?;
-            let rested = driven(rt.alloc(), graph, capacity, chunk)?;
+        for way in WAYS {
+            let graph = scan_of_quotients(rt.alloc())?;
+            let rested = driven(&rt, rt.alloc(), graph, capacity, way)?;
             assert_eq!(rt; rested.outcome(), Outcome::Fault(divide));
         }
     }

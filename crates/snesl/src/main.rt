@@ -6,14 +6,16 @@ use snesl_run::answer;
 use snesl_values::{Counted, Refusal};
 use std::alloc::{AllocError, Global};
 use std::env::{self, FillError};
-use std::io::{self, ErrorKind, Write};
+use std::io::{self, ErrorKind, Read, Write};
 use std::process::ExitCode;
 use std::rt::Env;
+use std::thread::Threads;
 
 fn main(rt: HostRuntime) -> ExitCode {
+    let mut job = Counted::new(rt.stdin());
     let mut out = Counted::new(rt.stdout());
     let mut err = Counted::new(rt.stderr());
-    let status = match answered(&rt, &mut out, &mut err) {
+    let status = match answered(&rt, &mut job, &mut out, &mut err) {
         Ok(status) => status,
         Err(_) => complain(Refusal::NoMemory, &mut err),
     };
@@ -23,16 +25,16 @@ fn main(rt: HostRuntime) -> ExitCode {
     ExitCode::from(status)
 }
 
-// Answers the job on standard input. The error is that memory was refused to the words.
-fn answered<W: Write, E: Write>(
-    rt: &HostRuntime,
+// Answers the job, under the words of the command line. The error is that memory was refused to the words.
+fn answered<H: Env + AllocGlobal + Threads, R: Read, W: Write, E: Write>(
+    rt: &H,
+    job: &mut Counted<R>,
     out: &mut Counted<W>,
     err: &mut Counted<E>,
 ) -> io::Result<u8> {
-    let mut job = Counted::new(rt.stdin());
     let args = args_of(rt)?;
     let words = words_of(rt.alloc(), &args)?;
-    Ok(answer(rt.alloc(), &words, &mut job, out, err))
+    Ok(answer(rt, rt.alloc(), &words, job, out, err))
 }
 
 // The words of the command line. Where one of them is no UTF-8, the name and one word are given, each as `?`.

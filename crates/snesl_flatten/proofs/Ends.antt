@@ -16,7 +16,7 @@ use Rattle.flow_graph.specs.Replacements.{MayReplace}
 use Rattle.flow_plans.specs.Plans.{Step, print}
 use Rattle.flow_plans.specs.Ports.{kinds_written}
 use Rattle.flow_plans.specs.Layouts.{Placed, all_behind, layout_from, layout, numbered}
-use Rattle.flow_layout.proofs.Places.{get_right}
+use Rattle.flow_plans.proofs.Places.{get_right}
 use Rattle.flow_assembly.specs.Openings.{AllOpen}
 use Rattle.snesl_translation.specs.Wires.{Wires, type_of_wires, numbers_of}
 use Rattle.snesl_translation.specs.Programs.{first_offset, program_plan, not_set}

@@ -34,7 +34,7 @@ use Rattle.flow_graph.specs.FlowTheorems.{EndedIsLawful}
 use Rattle.flow_plans.specs.Plans.{Step, streams_at, run}
 use Rattle.flow_plans.specs.Layouts.{Placed, layout, stream_to, AreCarried}
 use Rattle.flow_plans.specs.PlanFlows.{PlanIsFlow, FlowIsPlan}
-use Rattle.flow_layout.proofs.Places.{each_place, columns_place}
+use Rattle.flow_plans.proofs.Places.{each_place, columns_place}
 use Rattle.flow_drive.specs.Texts.{last_text}
 use Rattle.flow_texts.specs.PrintedTexts.{PrintsAtTheEnd, PrintTells}
 use Rattle.snesl_translation.specs.Wires.{Wires, type_of_wires, numbers_of}

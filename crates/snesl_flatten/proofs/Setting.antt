@@ -18,7 +18,7 @@ use Rattle.flow_graph.specs.Replacements.{MayReplace}
 use Rattle.flow_plans.specs.Plans.{Step, source}
 use Rattle.flow_plans.specs.Ports.{kinds_written}
 use Rattle.flow_plans.specs.Layouts.{all_behind, places, places_from, IsNetworkOf}
-use Rattle.flow_layout.specs.Settings.{with_source, SourceIsSet}
+use Rattle.flow_plans.specs.Settings.{with_source, SourceIsSet}
 use Rattle.flow_assembly.specs.Openings.{OpeningsPerform}
 use Rattle.snesl_translation.specs.Wires.{type_of_wires}
 use Rattle.snesl_translation.specs.Programs.{first_offset, program_plan, not_set}

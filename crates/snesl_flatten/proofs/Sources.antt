@@ -13,8 +13,8 @@ use Rattle.flow_base.specs.Columns.{Columns}
 use Rattle.flow_values.specs.Shapes.{kinds_of}
 use Rattle.flow_values.specs.Flats.{width}
 use Rattle.flow_plans.specs.Plans.{Step, source, print}
-use Rattle.flow_layout.specs.Settings.{with_source}
-use Rattle.flow_layout.proofs.Places.{get_left}
+use Rattle.flow_plans.specs.Settings.{with_source}
+use Rattle.flow_plans.proofs.Places.{get_left}
 use Rattle.snesl_translation.specs.Wires.{Wires, type_of_wires, numbers_of, wires_from, Bound}
 use Rattle.snesl_translation.specs.Makings.{Making, and_then}
 use Rattle.snesl_translation.specs.Translation.{tr}

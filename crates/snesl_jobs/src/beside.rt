@@ -1,15 +1,15 @@
 // Programs as networks beside their plain evaluation: whatever the edges hold, a run ends in the value that evaluation
 // gives, in some fault where evaluation gives one, or in no answer.
 
-use flow_drive::{Config, Drive, NoGate, Outcome, Sharing};
+use crate::running::{Done, ran};
+use flow_drive::{Config, Drive, Outcome, Sharing};
 use snesl_console::split;
-use snesl_run::{Report, RunError, run};
 use snesl_syntax::parse;
 use snesl_types::{check, plain};
-use snesl_values::{Counted, Datum, Fault, Refusal, read_inputs, text_of};
+use snesl_values::{Datum, Fault, Refusal, read_inputs, text_of};
 use std::alloc::{AllocError, Global};
 use std::fmt;
-use std::sync::Arc;
+use std::thread::Threads;
 
 // No longer job is run here. Such a job is about the limits of a text, which no edge changes, and would be read again for
 // each configuration.
@@ -59,7 +59,7 @@ impl Totals {
     /// Runs the program of a job over edges of several capacities, and counts the runs; a program that is refused, or
     /// whose input text is, counts for nothing, and so does a job of over 100,000 bytes. A network of over 500 nodes is
     /// run once, over the largest edges. The error is that memory was refused.
-    pub fn add(&mut self, alloc: Global, job: &[u8]) -> Result<(), AllocError> {
+    pub fn add(&mut self, rt: &impl Threads, alloc: Global, job: &[u8]) -> Result<(), AllocError> {
         if job.len() > LONGEST {
             return Ok(());
         }
@@ -74,9 +74,9 @@ impl Totals {
         for capacity in [256, 4, 2, 1] {
             for chunk in [16, 1] {
                 let config = config_of(alloc, capacity, chunk)?;
-                let done = ran(alloc, program, input, &config)?;
+                let done = ran(rt, alloc, program, input, &config)?;
                 self.count(&expected, &done);
-                if done.is_large {
+                if done.nodes > MOST_NODES || done.ending == Err(Refusal::TooBig) {
                     return Ok(());
                 }
             }
@@ -134,43 +134,6 @@ fn line_of(alloc: Global, datum: &Datum) -> Result<Vec<u8>, AllocError> {
     let mut line = text_of(alloc, datum)?;
     line.push(b'\n')?;
     Ok(line)
-}
-
-// What a run wrote, how it ended, and whether the network is too large to be run again.
-#[derive(Drop)]
-struct Done {
-    written: Vec<u8>,
-    ending: Result<Outcome, Refusal>,
-    is_large: bool,
-}
-
-// Runs a program for an input text.
-fn ran(alloc: Global, program: &[u8], input: &[u8], config: &Config) -> Result<Done, AllocError> {
-    let gate = Arc::new(alloc, NoGate)?;
-    let mut out = Counted::new(Vec::new(alloc));
-    let answer = run(alloc, program, input, config, gate, &mut out);
-    Ok(Done {
-        written: out.into_inner(),
-        is_large: is_large(&answer),
-        ending: ending(&answer),
-    })
-}
-
-// How a run ended.
-fn ending(answer: &Result<Report, RunError>) -> Result<Outcome, Refusal> {
-    match answer {
-        Ok(report) => Ok(report.outcome()),
-        Err(error) => Err(error.refusal()),
-    }
-}
-
-// Whether the network of a run is not to be run again. Where it is greater than a graph may be, it is so whatever the edges
-// hold.
-fn is_large(answer: &Result<Report, RunError>) -> bool {
-    match answer {
-        Ok(report) => report.rested().nodes() > MOST_NODES,
-        Err(error) => error.refusal() == Refusal::TooBig,
-    }
 }
 
 // Edges of this capacity, and visits of so many steps, in one thread.

@@ -2,21 +2,29 @@
 //
 // Each file whose name ends in `.jobs` is a table (`table.rt` has its form). A line is printed for each job that is
 // answered otherwise, and then how many jobs there are and how many differ. At last stands how the programs of the jobs
-// ended as networks beside their plain evaluation (`beside.rt`). The status is 1 where something differs, where there is
-// no table, and where a table cannot be read or has no row.
+// ended as networks beside their plain evaluation (`beside.rt`), and how those of the worked rows ended by the drives of
+// several threads (`drives.rt`). The status is 1 where something differs, where there is no table, and where a table cannot
+// be read or has no row.
 #![tactic(auto)]
 
 mod beside;
+mod drives;
+mod running;
 mod spelling;
 mod table;
 mod trial;
 
 use anyhow::{Context, Result, ensure};
 use beside::Totals;
+use drives::Drives;
 use std::rt::Files;
+use std::thread::Threads;
 use std::{fs, io};
 use table::{Row, rows_of};
 use trial::{Trial, job_of, tried};
+
+// The table of worked rows, whose programs are run by every drive.
+const WORKED: &str = "worked.programs";
 
 fn main(rt: HostRuntime) -> Result<()> {
     let names = table_names(&rt)?;
@@ -33,8 +41,11 @@ fn main(rt: HostRuntime) -> Result<()> {
         run_table(&rt, name.as_str(), &mut totals)?;
     }
     println!(rt; "{totals}")?;
+    let drives = drive_table(&rt, WORKED)?;
+    println!(rt; "{drives}")?;
     ensure!(differing == 0, "{differing} jobs are answered otherwise");
     ensure!(totals.differing == 0, "networks and evaluation differ");
+    ensure!(drives.differing == 0, "drives differ");
     Ok(())
 }
 
@@ -52,12 +63,15 @@ fn table_names(rt: &HostRuntime) -> io::Result<Vec<String>> {
 }
 
 // How many jobs a table has, and how many of them differ. Says which.
-fn try_table(rt: &HostRuntime, name: &str) -> Result<(usize, usize)> {
+fn try_table<R: Files + Print + AllocGlobal + Threads>(
+    rt: &R,
+    name: &str,
+) -> Result<(usize, usize)> {
     let text = fs::read_to_string(rt, name).context(format_args!("reading {name}"))?;
     let rows = rows_of(rt.alloc(), text.as_str()).context(format_args!("in {name}"))?;
     let mut differing = 0usize;
     for row in &rows {
-        let trial = tried(rt.alloc(), row).context(format_args!("in {name}"))?;
+        let trial = tried(rt, rt.alloc(), row).context(format_args!("in {name}"))?;
         if !trial.holds() {
             differing = differing.saturating_add(1);
             say(rt, name, row, &trial)?;
@@ -67,7 +81,11 @@ fn try_table(rt: &HostRuntime, name: &str) -> Result<(usize, usize)> {
 }
 
 // Runs the programs of a table's jobs that have no words, beside their evaluation. Says in which job a run differs.
-fn run_table(rt: &HostRuntime, name: &str, totals: &mut Totals) -> Result<()> {
+fn run_table<R: Files + Print + AllocGlobal + Threads>(
+    rt: &R,
+    name: &str,
+    totals: &mut Totals,
+) -> Result<()> {
     let text = fs::read_to_string(rt, name).context(format_args!("reading {name}"))?;
     let rows = rows_of(rt.alloc(), text.as_str()).context(format_args!("in {name}"))?;
     for row in &rows {
@@ -76,7 +94,7 @@ fn run_table(rt: &HostRuntime, name: &str, totals: &mut Totals) -> Result<()> {
         }
         let before = totals.differing;
         let job = job_of(rt.alloc(), row).context(format_args!("in {name}"))?;
-        totals.add(rt.alloc(), &job)?;
+        totals.add(rt, rt.alloc(), &job)?;
         let line = row.line;
         if totals.differing != before {
             println!(rt; "{name}, line {line}: its network differs from its evaluation")?;
@@ -85,8 +103,25 @@ fn run_table(rt: &HostRuntime, name: &str, totals: &mut Totals) -> Result<()> {
     Ok(())
 }
 
+// Runs the programs of a table by every drive. Says in which job a run differs from that of one thread.
+fn drive_table<R: Files + Print + AllocGlobal + Threads>(rt: &R, name: &str) -> Result<Drives> {
+    let text = fs::read_to_string(rt, name).context(format_args!("reading {name}"))?;
+    let rows = rows_of(rt.alloc(), text.as_str()).context(format_args!("in {name}"))?;
+    let mut drives = Drives::none();
+    for row in &rows {
+        let before = drives.differing;
+        let job = job_of(rt.alloc(), row).context(format_args!("in {name}"))?;
+        drives.add(rt, rt.alloc(), &job)?;
+        let line = row.line;
+        if drives.differing != before {
+            println!(rt; "{name}, line {line}: a drive differs from that of one thread")?;
+        }
+    }
+    Ok(drives)
+}
+
 // Prints what a job was answered, and what was told.
-fn say(rt: &HostRuntime, name: &str, row: &Row<'_>, trial: &Trial) -> io::Result<()> {
+fn say(rt: &impl Print, name: &str, row: &Row<'_>, trial: &Trial) -> io::Result<()> {
     let line = row.line;
     println!(rt;
         "{name}, line {line}: got {}, where the table has {}",

@@ -6,6 +6,7 @@ use snesl_run::answer;
 use snesl_values::Counted;
 use std::alloc::{AllocError, Global};
 use std::fmt;
+use std::thread::Threads;
 
 /// What a job is answered.
 #[derive(Drop, PartialEq)]
@@ -44,14 +45,14 @@ impl Trial {
 }
 
 /// Answers the job of a row. The error is that a text of the row spells no bytes.
-pub fn tried(alloc: Global, row: &Row<'_>) -> Result<Trial, SpellingError> {
+pub fn tried(rt: &impl Threads, alloc: Global, row: &Row<'_>) -> Result<Trial, SpellingError> {
     let told = Reply {
         printed: line_of(alloc, row.prints)?,
         said: line_of(alloc, row.says)?,
         status: row.status.unwrap_or(0),
     };
     let job = job_of(alloc, row)?;
-    let got = answered(alloc, &row.words, &job)?;
+    let got = answered(rt, alloc, &row.words, &job)?;
     Ok(Trial { got, told })
 }
 
@@ -80,14 +81,19 @@ pub fn job_of(alloc: Global, row: &Row<'_>) -> Result<Vec<u8>, SpellingError> {
 }
 
 // Answers a job with these words behind the program's name.
-fn answered(alloc: Global, words: &[&str], job: &[u8]) -> Result<Reply, AllocError> {
+fn answered(
+    rt: &impl Threads,
+    alloc: Global,
+    words: &[&str],
+    job: &[u8],
+) -> Result<Reply, AllocError> {
     let mut all = Vec::new(alloc);
     all.push("snesl")?;
     all.extend_from_slice(words)?;
     let mut reader = Counted::new(job);
     let mut printed = Counted::new(Vec::new(alloc));
     let mut said = Counted::new(Vec::new(alloc));
-    let status = answer(alloc, &all, &mut reader, &mut printed, &mut said);
+    let status = answer(rt, alloc, &all, &mut reader, &mut printed, &mut said);
     Ok(Reply {
         printed: printed.into_inner(),
         said: said.into_inner(),

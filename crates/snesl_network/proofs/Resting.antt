@@ -1,5 +1,8 @@
 -- How the network of a program comes to rest.
-use Rattle.std.proofs.Common.{◌≡◌, ℕ, ◌<◌, ◌≤◌, List, length, Some, refl, sym, subst}
+use Rattle.std.proofs.Common.{◌≡◌, ℕ, ◌<◌, ◌≤◌, List, length, Some, refl, sym, subst, ◌∙◌}
+use Rattle.std.proofs.Math.Logic.{∥∥₁_elim}
+use Rattle.std.proofs.Props.{props}
+use mathlib.Core.Sum.{⊎_set}
 use Rattle.snesl_values.specs.declared.fault.Fault.{Fault}
 use Rattle.snesl_values.specs.declared.fault.FaultKind.{FaultKind}
 use Rattle.snesl_values.specs.Values.{Value}
@@ -10,8 +13,8 @@ use Rattle.snesl_meaning.specs.Meaning.{Means, evaluated, meaning_of, has_value,
 use Rattle.kahn.specs.Networks.{Network}
 use Rattle.kahn.specs.Processes.{Process}
 use Rattle.kahn.specs.Configurations.{Configuration, AllEnded, IsSound}
+use Rattle.kahn.specs.Runs.{AtRest}
 use Rattle.kahn.specs.Outcomes.{HasFault}
-use Rattle.kahn.proofs.Conclusions.{runs_are_sound}
 use Rattle.flow_edges.specs.Cells.{Cell}
 use Rattle.flow_edges.specs.Signals.{Signal}
 use Rattle.flow_base.specs.Transducers.{closed}
@@ -19,10 +22,9 @@ use Rattle.flow_nodes.specs.StreamNodes.{node_behaviour, text_in}
 use Rattle.flow_graph.specs.declared.edge.Edge.{Edge}
 use Rattle.flow_graph.specs.Networks.{network_of, configuration_of}
 use Rattle.flow_graph.specs.Flows.{IsLawfulFlow}
-use Rattle.flow_graph.specs.FlowTheorems.{FlowIsBegun, FlowRunsToEnd}
-use Rattle.flow_graph.specs.Laws.{IsNetwork}
+use Rattle.flow_graph.specs.FlowTheorems.{FlowIsBegun, FlowNeverStalls}
 use Rattle.flow_graph.specs.Shapes.{IsSameNetwork}
-use Rattle.flow_drive.specs.Drives.{EndsMaximalRun}
+use Rattle.flow_drive.specs.Drives.{IsSoundAt, RestsAt}
 use Rattle.flow_drive.specs.Texts.{last_text}
 use Rattle.snesl_flatten.specs.Networks.{NodeState}
 use Rattle.snesl_network.specs.NodesAtRest.{Rest}
@@ -47,9 +49,9 @@ module _ (text input : List ℕ) (states : List NodeState) (edges : List Edge) (
       by_answer (faults kind at) is =
           let same : has_fault kind at ≡ has_value v = one text input (has_fault kind at) (has_value v) (means_as (faults kind at) is) has in absurd (cc)
 
-  module _ (capacity : ℕ) (rest : Rest NodeState) (same : IsSameNetwork node_behaviour states edges rest.states rest.edges)
-      (run : EndsMaximalRun node_behaviour capacity states edges rest.states rest.traffic) (graph : IsNetwork node_behaviour states edges)
-      (begun : FlowIsBegun node_behaviour states edges) (to_end : FlowRunsToEnd node_behaviour states edges) where
+  module _ (capacity : ℕ) (rest : Rest NodeState) (same : IsSameNetwork node_behaviour states edges rest.states rest.edges) (capacity_is : rest.capacity ≡ capacity)
+      (sound : IsSoundAt node_behaviour rest.states rest.edges rest.traffic) (rests : RestsAt node_behaviour rest.states rest.edges rest.capacity rest.traffic)
+      (begun : FlowIsBegun node_behaviour states edges) (never_stalls : FlowNeverStalls node_behaviour states edges) where
     abbrev P : Process NodeState Signal
     P = node_behaviour.process
 
@@ -59,13 +61,27 @@ module _ (text input : List ℕ) (states : List NodeState) (edges : List Edge) (
     abbrev at_rest : Configuration NodeState Signal
     at_rest = configuration_of node_behaviour rest.states rest.traffic
 
-    sound : IsSound P net at_rest
-    sound = runs_are_sound P net graph.wired (Some capacity) run.0 at_rest run.1.run
+    -- what rests is sound, and no node can step, in the network as it was at its start
+    started_sound : ∥ IsSound P net at_rest ∥₁
+    started_sound = subst (λ n. ∥ IsSound P n at_rest ∥₁) same.network sound
+
+    started_rests : AtRest P net (Some capacity) at_rest
+    started_rests = subst (λ n. AtRest P n (Some capacity) at_rest) same.network (subst (λ many. RestsAt node_behaviour rest.states rest.edges many rest.traffic) capacity_is rests)
 
     value_printed : HaveEnded rest → (v : Value) × Means text input (has_value v) × (last_text text_in rest.states ≡ text_of_value v)
-    value_printed ended =
-        let printed = meant.means.prints rest.states rest.traffic same.nodes (record { sound = sound; ended = subst (λ n. AllEnded P n at_rest) same.network ended }) in
-        (printed.0, means_as (gives printed.0) printed.1, printed.2)
+    value_printed ended = by_answer answer refl
+      where
+        printed : IsSound P net at_rest → (v : Value) × (answer ≡ gives v) × (last_text text_in rest.states ≡ text_of_value v)
+        printed s = meant.means.prints rest.states rest.traffic same.nodes (record { sound = s; ended = subst (λ n. AllEnded P n at_rest) same.network ended })
+
+        by_answer : (a : Answer Value) → answer ≡ a → (v : Value) × Means text input (has_value v) × (last_text text_in rest.states ≡ text_of_value v)
+        by_answer (gives v) is = (
+          v,
+          means_as (gives v) is,
+          ∥∥₁_elim started_sound (hlevel props) (λ s. let print = printed s in let both : gives print.0 ≡ gives v = sym print.1 ∙ is in let prints = print.2 in cc),
+        )
+        by_answer (faults kind at) is =
+            absurd (∥∥₁_elim started_sound (λ x y. absurd x) (λ s. let print = printed s in let both : gives print.0 ≡ faults kind at = sym print.1 ∙ is in cc))
 
     -- where a node has faulted, the network has no lawful flow, so the program has no value
     fault_meant : (f : Fault) → IsNamed rest f → (kind : FaultKind) × (at : ℕ) × Means text input (has_fault kind at)
@@ -76,17 +92,21 @@ module _ (text input : List ℕ) (states : List NodeState) (edges : List Edge) (
         by_answer (gives v) is =
             let flow = meant.means.flows v is in
             let at : HasFault P net at_rest f = subst (λ n. HasFault P n at_rest f) same.network named.stands in
-            absurd ((begun flow.0 flow.1 at_rest sound).1 at.0 at.1 f at.2)
+            absurd (∥∥₁_elim started_sound (λ x y. absurd x) (λ s. (begun flow.0 flow.1 at_rest s).1 at.0 at.1 f at.2))
 
     all_end : (v : Value) → Means text input (has_value v)
         → (bodies : ℕ → List Cell) × IsLawfulFlow node_behaviour states edges bodies
         × (((e : ℕ) → e < length edges → length (closed (bodies e)) ≤ capacity) → HaveEnded rest)
     all_end v has =
-        let flow = meant.means.flows v (gives_value v has) in
-        (flow.0, flow.1, λ fits. subst (λ n. AllEnded P n at_rest) (sym same.network) (to_end flow.0 flow.1 capacity fits run.0 at_rest run.1).0)
+        let flow = meant.means.flows v (gives_value v has) in (
+          flow.0,
+          flow.1,
+          λ fits. subst (λ n. AllEnded P n at_rest) (sym same.network)
+              (∥∥₁_elim started_sound (hlevel (props, ⊎_set)) (λ s. never_stalls flow.0 flow.1 capacity fits at_rest s started_rests)),
+        )
 
-    pub comes_to_rest : rest.capacity ≡ capacity → CameToRest text input capacity rest
-    comes_to_rest capacity_is =
+    pub comes_to_rest : CameToRest text input capacity rest
+    comes_to_rest =
         record {
           states = states;
           edges = edges;

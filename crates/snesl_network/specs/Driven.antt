@@ -3,7 +3,7 @@ use Rattle.std.specs.Prelude.{◌≡◌, ℕ, ◌<◌, ◌≤◌, ◌⊎◌, Lis
 use Rattle.snesl_values.specs.declared.fault.Fault.{Fault}
 use Rattle.snesl_values.specs.declared.fault.FaultKind.{FaultKind}
 use Rattle.snesl_values.specs.declared.refusal.Refusal.{Refusal}
-use Rattle.snesl_values.specs.declared.refusal.Refusal.TheVariants.{TooBig, BadConfig, NoMemory, Output}
+use Rattle.snesl_values.specs.declared.refusal.Refusal.TheVariants.{TooBig, BadConfig, NoMemory, NoThread, Output}
 use Rattle.snesl_values.specs.Inputs.{Environment, InputMeans, spells}
 use Rattle.snesl_values.specs.Types.{Ty}
 use Rattle.snesl_values.specs.Values.{Value}
@@ -25,7 +25,7 @@ use Rattle.flow_graph.specs.Shapes.{IsSameNetwork}
 use Rattle.flow_plans.specs.Layouts.{layout, edges_needed, IsNetworkOf}
 use Rattle.snesl_translation.specs.Programs.{cells_of, not_set}
 use Rattle.flow_drive.specs.declared.config.Config.{Config}
-use Rattle.flow_drive.specs.Configs.{IsLawful}
+use Rattle.flow_drive.specs.Configs.{IsLawful, StartsThreads}
 use Rattle.flow_drive.specs.Texts.{last_text}
 use Rattle.snesl_flatten.specs.Networks.{NodeState, program_steps}
 use Rattle.snesl_network.specs.NodesAtRest.{Rest}
@@ -82,11 +82,13 @@ module _ (text input : List ℕ) where
         let nodes = layout (program_steps text program declared.inputs not_set) in
         (most_nodes < length nodes) ⊎ (most_edges < edges_needed nodes)
 
-  -- Why a program was not driven: the configuration is not lawful; memory was refused; the network is too great, or the typing
-  -- of the program says so; or else what the program and its input text mean.
+  -- Why a program was not driven: the configuration is not lawful; memory was refused; a thread could not be started, by a
+  -- drive that starts threads; the network is too great, or the typing of the program says so; or else what the program and its
+  -- input text mean.
   abbrev pub WasRefused : Config → Refusal → Type 0
   WasRefused config BadConfig = IsLawful config → ⊥
   WasRefused config NoMemory = Unit {0}
+  WasRefused config NoThread = StartsThreads config.drive
   WasRefused config TooBig = IsTooGreat ⊎ Means text input (is_refused TooBig)
   WasRefused config Output = ⊥
   WasRefused config refusal = Means text input (is_refused refusal)

@@ -1,17 +1,17 @@
 // From the text of a program and its input to the network at rest.
 
 ghost use Rattle.std.specs.Prelude.{◌≡◌, ℕ, List, Err, IfOk, IfErr};
-ghost use Rattle.snesl_values.specs.declared.refusal.Refusal.TheVariants.{BadConfig, NoMemory};
+ghost use Rattle.snesl_values.specs.declared.refusal.Refusal.TheVariants.{BadConfig};
 ghost use Rattle.flow_nodes.specs.StreamNodes.{node_behaviour};
 ghost use Rattle.flow_graph.specs.Graphs.{states_of, edges_of};
 ghost use Rattle.flow_graph.specs.Networks.{AreOpened};
 ghost use Rattle.flow_drive.specs.Configs.{IsLawful};
-ghost use Rattle.snesl_network.specs.Driven.{CameToRest, WasDriven};
+ghost use Rattle.snesl_network.specs.Driven.{WasDriven};
 ghost use Rattle.snesl_network.specs.Meant.{IsMeantFor, HasNoNetwork};
 ghost use Rattle.snesl_network.specs.NodesAtRest.{rest_of};
 
-use flow_drive::{Config, DriveError, Gate, Rested, drive};
-use flow_graph::{Graph, flow_is_carried, flow_runs_to_end, graph_is_a_network};
+use flow_drive::{Config, DriveError, Gate, Rested, drive, rested_is_sound};
+use flow_graph::{Graph, flow_is_carried, flow_runs_to_end};
 use flow_nodes::StreamNode;
 use snesl_flatten::flatten;
 use snesl_meaning::one_meaning;
@@ -20,6 +20,7 @@ use snesl_types::check;
 use snesl_values::{Refusal, read_inputs};
 use std::alloc::Global;
 use std::sync::Arc;
+use std::thread::Threads;
 
 /// Drives the network of a program with its input text until no node can step.
 ///
@@ -30,9 +31,10 @@ use std::sync::Arc;
 /// # Errors
 ///
 /// In this order: `BadConfig` exactly where the configuration is not lawful; the refusals of the program text, of its
-/// typing and of the input text; `TooBig` where the network is greater than a graph may be. `NoMemory` may come at any
-/// time behind the first where memory is refused.
-pub fn drive_program<G: Gate + Drop>(
+/// typing and of the input text; `TooBig` where the network is greater than a graph may be; `NoThread` only where the
+/// drive starts threads. `NoMemory` may come at any time behind the first where memory is refused.
+pub fn drive_program<R: Threads, G: Gate + Send + Sync + Drop + 'static>(
+    rt: &R,
     alloc: Global,
     program: &[u8],
     input: &[u8],
@@ -46,7 +48,7 @@ pub fn drive_program<G: Gate + Drop>(
         return Err(Refusal::BadConfig);
     }
     let graph = network(alloc, program, input)?;
-    driven(alloc, graph, config, gate)
+    driven(rt, alloc, graph, config, gate)
 }
 
 // The network of a program with its input text, before any step.
@@ -62,8 +64,9 @@ fn network(alloc: Global, program: &[u8], input: &[u8]) -> Result<Graph<StreamNo
     Ok(graph)
 }
 
-// Drives a network until no node can step. It comes to rest as each program says of which it is the network.
-fn driven<G: Gate + Drop>(
+// Drives a network until no node can step, as each program says of which it is the network.
+fn driven<R: Threads, G: Gate + Send + Sync + Drop + 'static>(
+    rt: &R,
     alloc: Global,
     graph: Graph<StreamNode>,
     config: &Config,
@@ -71,16 +74,18 @@ fn driven<G: Gate + Drop>(
 ) -> Result<Rested<StreamNode>, Refusal>
     requires lawful { IsLawful config.now }
     requires opened { AreOpened node_behaviour (states_of graph) }
-    ensures rest { IfOk result (λ rested. (text input : List ℕ) → IsMeantFor text input (states_of graph) (edges_of graph) → CameToRest text input config.now.capacity (rest_of rested)) }
-    ensures memory { IfErr result (λ refusal. refusal ≡ NoMemory) }
+    ensures { (text input : List ℕ) → IsMeantFor text input (states_of graph) (edges_of graph) → WasDriven text input config.now rest_of result }
 {
-    graph_is_a_network(&graph);
     flow_is_carried(&graph);
     flow_runs_to_end(&graph);
     one_meaning();
-    match drive(alloc, graph, config, gate) {
-        Ok(rested) => Ok(rested),
+    match drive(rt, alloc, graph, config, gate) {
+        Ok(rested) => {
+            rested_is_sound(&rested);
+            Ok(rested)
+        }
         Err(DriveError::BadConfig) => Err(Refusal::BadConfig),
         Err(DriveError::NoMemory) => Err(Refusal::NoMemory),
+        Err(DriveError::NoThread) => Err(Refusal::NoThread),
     }
 }

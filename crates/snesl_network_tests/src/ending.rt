@@ -38,13 +38,13 @@ fn held_by_full_edge(rt: &impl Abort, report: &Report) -> Option<u64> {
 #[test]
 fn stalls_where_edges_are_small(rt: HostRuntime) -> Result<(), Fail> {
     for chunk in [1, 16] {
-        let small = ran(rt.alloc(), TWICE, b"", 4, chunk)?;
+        let small = ran(&rt, rt.alloc(), TWICE, b"", 4, chunk)?;
         assert!(rt; small.written.is_empty());
         match &small.answer {
             Ok(report) => assert_eq!(rt; held_by_full_edge(&rt, report), Some(4)),
             Err(error) => assert!(rt; false, "{error}"),
         }
-        let ample = ran(rt.alloc(), TWICE, b"", 256, chunk)?;
+        let ample = ran(&rt, rt.alloc(), TWICE, b"", 256, chunk)?;
         let line = hundred_twice(rt.alloc())?;
         assert_value(&rt, &ample, line.as_bytes());
     }
@@ -61,7 +61,7 @@ fn least_fault_is_named(rt: HostRuntime) -> Result<(), Fail> {
     };
     for capacity in [1, 2, 4, 256] {
         for chunk in [1, 16] {
-            let faulted = ran(rt.alloc(), program, b"", capacity, chunk)?;
+            let faulted = ran(&rt, rt.alloc(), program, b"", capacity, chunk)?;
             assert_silent(&rt, &faulted, Ok(Outcome::Fault(division)));
         }
     }
@@ -87,7 +87,7 @@ fn doubling(alloc: Global, others: &str) -> Result<String, AllocError> {
 #[test]
 fn functions_that_double(rt: HostRuntime) -> Result<(), Fail> {
     let eleven = doubling(rt.alloc(), "bcdefghijk")?;
-    let value = ran(rt.alloc(), eleven.as_bytes(), b"", 256, 16)?;
+    let value = ran(&rt, rt.alloc(), eleven.as_bytes(), b"", 256, 16)?;
     assert_value(&rt, &value, b"2048\n");
     // 2,047 sums, and beside them Source, Const, a Fork and Print.
     match &value.answer {
@@ -96,7 +96,7 @@ fn functions_that_double(rt: HostRuntime) -> Result<(), Fail> {
     }
     // The network would have 4,099 nodes, where 4,096 are allowed.
     let twelve = doubling(rt.alloc(), "bcdefghijkl")?;
-    let refused = ran(rt.alloc(), twelve.as_bytes(), b"", 256, 16)?;
+    let refused = ran(&rt, rt.alloc(), twelve.as_bytes(), b"", 256, 16)?;
     assert_silent(&rt, &refused, Err(Refusal::TooBig));
     Ok(())
 }
@@ -115,7 +115,7 @@ fn unlawful_configurations(rt: HostRuntime) -> Result<(), Fail> {
     ];
     for program in programs {
         for (capacity, chunk) in [(0, 16), (65_537, 16), (256, 0), (256, 1_025)] {
-            let refused = ran(rt.alloc(), program, b"", capacity, chunk)?;
+            let refused = ran(&rt, rt.alloc(), program, b"", capacity, chunk)?;
             assert_silent(&rt, &refused, Err(Refusal::BadConfig));
         }
     }

@@ -1,6 +1,7 @@
 // Networks of programs with inputs.
 
-use crate::running::{assert_silent, assert_value, config, ran};
+use crate::configuration::config;
+use crate::running::{assert_silent, assert_value, ran};
 use flow_drive::{NoGate, Outcome, drive};
 use snesl_flatten::flatten;
 use snesl_syntax::parse;
@@ -13,7 +14,14 @@ use std::test::Fail;
 fn lengths_of_sequences(rt: HostRuntime) -> Result<(), Fail> {
     let program = b"input xs : {{int}}; {length(x) : x in xs}".as_slice();
     for capacity in [1, 4, 256] {
-        let value = ran(rt.alloc(), program, b"xs = {{},{1,2,3},{4}}", capacity, 16)?;
+        let value = ran(
+            &rt,
+            rt.alloc(),
+            program,
+            b"xs = {{},{1,2,3},{4}}",
+            capacity,
+            16,
+        )?;
         assert_value(&rt, &value, b"{0,3,1}\n");
     }
     Ok(())
@@ -27,9 +35,23 @@ fn sequences_of_unlike_lengths(rt: HostRuntime) -> Result<(), Fail> {
         at: 34,
     };
     for capacity in [1, 4, 256] {
-        let faulted = ran(rt.alloc(), program, b"a = {1,2}; b = {1}", capacity, 16)?;
+        let faulted = ran(
+            &rt,
+            rt.alloc(),
+            program,
+            b"a = {1,2}; b = {1}",
+            capacity,
+            16,
+        )?;
         assert_silent(&rt, &faulted, Ok(Outcome::Fault(unlike)));
-        let value = ran(rt.alloc(), program, b"a = {1,2}; b = {1,3}", capacity, 16)?;
+        let value = ran(
+            &rt,
+            rt.alloc(),
+            program,
+            b"a = {1,2}; b = {1,3}",
+            capacity,
+            16,
+        )?;
         assert_value(&rt, &value, b"{2,5}\n");
     }
     Ok(())
@@ -39,7 +61,7 @@ fn sequences_of_unlike_lengths(rt: HostRuntime) -> Result<(), Fail> {
 fn refused_input_texts(rt: HostRuntime) -> Result<(), Fail> {
     let rows: [(&[u8], usize); 2] = [(b"n == 5", 3), (b"n = ", 4)];
     for (text, at) in rows {
-        let refused = ran(rt.alloc(), b"input n : int; n", text, 256, 16)?;
+        let refused = ran(&rt, rt.alloc(), b"input n : int; n", text, 256, 16)?;
         assert_silent(&rt, &refused, Err(Refusal::BadInput(at)));
     }
     Ok(())
@@ -60,7 +82,7 @@ fn one_program_and_two_inputs(rt: HostRuntime) -> Result<(), Fail> {
         let plan = flatten(alloc, &typed)?;
         assert!(rt; plan.fits(&inputs));
         let graph = plan.with(inputs)?;
-        let rested = drive(alloc, graph, &config, Arc::new(alloc, NoGate)?)?;
+        let rested = drive(&rt, alloc, graph, &config, Arc::new(alloc, NoGate)?)?;
         assert_eq!(rt; rested.outcome(), Outcome::Value);
         assert_eq!(rt; rested.text(), sum);
     }

@@ -1,11 +1,13 @@
 // Runs under a configuration of two numbers, and what is asserted of each.
 
-use flow_drive::{Config, Drive, NoGate, Outcome, Sharing};
+use crate::configuration::config;
+use flow_drive::{NoGate, Outcome};
 use snesl_run::{Report, RunError, run};
 use snesl_values::{Counted, Refusal};
 use std::alloc::{AllocError, Global};
 use std::process::Abort;
 use std::sync::Arc;
+use std::thread::Threads;
 
 /// What a run wrote, and what it answered.
 #[derive(Drop)]
@@ -14,23 +16,9 @@ pub struct Done {
     pub answer: Result<Report, RunError>,
 }
 
-/// Edges that hold so many messages, and visits of so many steps, in one thread.
-pub fn config(alloc: Global, capacity: usize, chunk: usize) -> Result<Config, AllocError> {
-    let sharing = Sharing {
-        threads: 1,
-        idle_turns: 1,
-        share: vec![in alloc; 0u8]?,
-    };
-    Ok(Config {
-        capacity,
-        chunk,
-        sharing,
-        drive: Drive::Serial,
-    })
-}
-
 /// Runs a program for an input text, over memory.
 pub fn ran(
+    rt: &impl Threads,
     alloc: Global,
     program: &[u8],
     input: &[u8],
@@ -40,7 +28,7 @@ pub fn ran(
     let config = config(alloc, capacity, chunk)?;
     let gate = Arc::new(alloc, NoGate)?;
     let mut out = Counted::new(Vec::new(alloc));
-    let answer = run(alloc, program, input, &config, gate, &mut out);
+    let answer = run(rt, alloc, program, input, &config, gate, &mut out);
     Ok(Done {
         written: out.into_inner(),
         answer,

@@ -49,7 +49,14 @@ fn nineteen_messages(rt: HostRuntime) -> Result<(), Fail> {
     };
     for capacity in [1, 2, 4, 256] {
         for chunk in [1, 16] {
-            let sum = ran(rt.alloc(), b"reduce_add(iota(5))", b"", capacity, chunk)?;
+            let sum = ran(
+                &rt,
+                rt.alloc(),
+                b"reduce_add(iota(5))",
+                b"",
+                capacity,
+                chunk,
+            )?;
             assert_value(&rt, &sum, b"10\n");
             assert_size(&rt, &sum, size);
         }
@@ -70,7 +77,7 @@ fn sum_of_squares(rt: HostRuntime) -> Result<(), Fail> {
     let program = b"reduce_add({x * x : x in iota(5)})".as_slice();
     for capacity in [1, 2, 4, 256] {
         for chunk in [1, 16] {
-            let sum = ran(rt.alloc(), program, b"", capacity, chunk)?;
+            let sum = ran(&rt, rt.alloc(), program, b"", capacity, chunk)?;
             assert_value(&rt, &sum, b"30\n");
             assert_size(&rt, &sum, size);
         }

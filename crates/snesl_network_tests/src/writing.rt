@@ -1,6 +1,7 @@
 // Runs over writers that stop working.
 
-use crate::running::{config, ending};
+use crate::configuration::config;
+use crate::running::ending;
 use flow_drive::{NoGate, Outcome};
 use snesl_run::run;
 use snesl_tests::stopping::{Stop, StoppingWriter};
@@ -8,6 +9,7 @@ use snesl_values::{Counted, Fault, FaultKind, Refusal};
 use std::alloc::{AllocError, Global};
 use std::sync::Arc;
 use std::test::Fail;
+use std::thread::Threads;
 
 // What was taken by a writer, how many of its calls failed, and how the run ended.
 #[derive(Drop)]
@@ -19,6 +21,7 @@ struct Written {
 
 // Runs a program over edges of four messages, and a writer that takes so many bytes and then stops.
 fn run_over(
+    rt: &impl Threads,
     alloc: Global,
     program: &[u8],
     bytes: usize,
@@ -27,7 +30,7 @@ fn run_over(
     let config = config(alloc, 4, 16)?;
     let gate = Arc::new(alloc, NoGate)?;
     let mut out = Counted::new(StoppingWriter::new(Vec::new(alloc), bytes, stop));
-    let answer = run(alloc, program, b"", &config, gate, &mut out);
+    let answer = run(rt, alloc, program, b"", &config, gate, &mut out);
     Ok(Written {
         failures: out.failures(),
         taken: out.into_inner().into_taken(),
@@ -41,13 +44,13 @@ fn writers_that_stop(rt: HostRuntime) -> Result<(), Fail> {
     let line = b"{0,1,2,3}\n".as_slice();
     for bytes in 0..line.len() {
         for stop in [Stop::Fails, Stop::TakesNothing] {
-            let cut = run_over(rt.alloc(), b"iota(4)", bytes, stop)?;
+            let cut = run_over(&rt, rt.alloc(), b"iota(4)", bytes, stop)?;
             assert_eq!(rt; cut.ending, Err(Refusal::Output));
             assert_eq!(rt; cut.taken.as_slice(), &line[..bytes]);
             assert_eq!(rt; cut.failures, 1);
         }
     }
-    let whole = run_over(rt.alloc(), b"iota(4)", line.len(), Stop::Fails)?;
+    let whole = run_over(&rt, rt.alloc(), b"iota(4)", line.len(), Stop::Fails)?;
     assert_eq!(rt; whole.ending, Ok(Outcome::Value));
     assert_eq!(rt; whole.taken.as_slice(), line);
     assert_eq!(rt; whole.failures, 0);
@@ -57,14 +60,20 @@ fn writers_that_stop(rt: HostRuntime) -> Result<(), Fail> {
 // Where there is no value, a writer that works at no call is not called.
 #[test]
 fn nothing_to_write(rt: HostRuntime) -> Result<(), Fail> {
-    let faulted = run_over(rt.alloc(), b"1 / 0", 0, Stop::Fails)?;
+    let faulted = run_over(&rt, rt.alloc(), b"1 / 0", 0, Stop::Fails)?;
     let division = Fault {
         kind: FaultKind::Divide,
         at: 2,
     };
     assert_eq!(rt; faulted.ending, Ok(Outcome::Fault(division)));
     assert_eq!(rt; faulted.failures, 0);
-    let stalled = run_over(rt.alloc(), b"let s = iota(100) in s ++ s", 0, Stop::Fails)?;
+    let stalled = run_over(
+        &rt,
+        rt.alloc(),
+        b"let s = iota(100) in s ++ s",
+        0,
+        Stop::Fails,
+    )?;
     assert!(rt; matches!(stalled.ending, Ok(Outcome::Stalled { .. })));
     assert_eq!(rt; stalled.failures, 0);
     Ok(())

@@ -6,13 +6,15 @@ use snesl_values::Refusal;
 use std::process::Abort;
 use std::test::Fail;
 
+// The drive where no word names one.
+const USUAL: Drive = Drive::Rounds;
+
 fn assert_config(rt: &impl Abort, config: &Config, numbers: [usize; 4], share: &[u8]) {
     assert_eq!(rt; config.capacity, numbers[0]);
     assert_eq!(rt; config.chunk, numbers[1]);
     assert_eq!(rt; config.sharing.threads, numbers[2]);
     assert_eq!(rt; config.sharing.idle_turns, numbers[3]);
     assert_eq!(rt; config.sharing.share.as_slice(), share);
-    assert!(rt; config.drive == Drive::Serial);
 }
 
 #[test]
@@ -20,6 +22,7 @@ fn lawful_lines(rt: HostRuntime) -> Result<(), Fail> {
     let alloc = rt.alloc();
     let config = settings(alloc, &["snesl"]).map_err(|_| "1")?;
     assert_config(&rt, &config, [256, 16, 2, 64], &[0, 1]);
+    assert!(rt; config.drive == USUAL);
     let none: [&str; 0] = [];
     let config = settings(alloc, &none).map_err(|_| "2")?;
     assert_config(&rt, &config, [256, 16, 2, 64], &[0, 1]);
@@ -60,6 +63,9 @@ fn lawful_lines(rt: HostRuntime) -> Result<(), Fail> {
         |_| "5",
     )?;
     assert_config(&rt, &config, [256, 16, 2, 64], &[0, 1, 1, 0]);
+    assert!(rt; config.drive == Drive::Serial);
+    let config = settings(alloc, &["snesl", "--drive=rounds"]).map_err(|_| "9")?;
+    assert!(rt; config.drive == Drive::Rounds);
     let config = settings(alloc, &["snesl", "--deal", "09af", "--threads", "16"]).map_err(|_| "6")?;
     assert_config(&rt, &config, [256, 16, 16, 64], &[0, 9, 10, 15]);
     let config = settings(alloc, &["snesl", "--idle", "+7", "--chunk", "0008"]).map_err(|_| "7")?;
@@ -130,8 +136,8 @@ fn refused_lines(rt: HostRuntime) {
     assert_refused(&rt, settings(alloc, &["snesl", "--version"]), 27);
     assert_refused(&rt, settings(alloc, &["snesl", "-V"]), 28);
     assert_refused(&rt, settings(alloc, &["snesl", "help"]), 29);
-    assert_refused(&rt, settings(alloc, &["snesl", "--drive", "rounds"]), 30);
-    assert_refused(&rt, settings(alloc, &["snesl", "--drive", "rings"]), 31);
+    assert_refused(&rt, settings(alloc, &["snesl", "--drive", "Rounds"]), 30);
+    assert_refused(&rt, settings(alloc, &["snesl", "--drive", "ring"]), 31);
     assert_refused(&rt, settings(alloc, &["snesl", "--drive", "Serial"]), 32);
     assert_refused(&rt, settings(alloc, &["snesl", "--drive="]), 33);
     assert_refused(&rt, settings(alloc, &["snesl", "--deal", "2"]), 34);

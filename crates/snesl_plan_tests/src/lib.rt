@@ -5,3 +5,4 @@
 mod command_lines;
 #[cfg(test)]
 mod plans;
+pub mod types;

@@ -1,5 +1,6 @@
 // Plans, and what networks are made of, with ample memory.
 
+use crate::types::pair_type;
 use flow_assembly::assemble;
 use flow_inputs::streams_of;
 use flow_plans::{Operation, Step};
@@ -78,8 +79,7 @@ fn nothing_to_assemble(rt: HostRuntime) -> Result<(), Fail> {
 #[test]
 fn streams(rt: HostRuntime) -> Result<(), Fail> {
     let alloc = rt.alloc();
-    let item = Box::new(alloc, Ty::Bool)?;
-    let ty = Ty::Pair(Box::new(alloc, Ty::Int)?, Box::new(alloc, Ty::Seq(item))?);
+    let ty = pair_type(alloc)?;
     let mut truths = Vec::new(alloc);
     truths.push(Datum::Bool(true))?;
     truths.push(Datum::Bool(false))?;

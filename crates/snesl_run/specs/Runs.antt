@@ -58,7 +58,8 @@ pub record IsReported (program input : List ℕ) (config : Config) (out : Taken)
   pub wrote : WroteFor program input out (outcome_of report)
 
 -- want of memory leaves the writer untouched; a failed writer has taken a beginning of the value's line; any other refusal is
--- that of the configuration, or of the program and its input, and leaves the writer untouched
+-- that of the configuration, of a thread that could not be started, or of the program and its input, and leaves the writer
+-- untouched
 abbrev pub HasError : (program input : List ℕ) → Config → Taken → Refusal → Type 0
 HasError program input config out NoMemory = out.nothing
 HasError program input config out Output = (v : Value) × Means program input (has_value v) × IsCutOff out (value_line v)

@@ -19,6 +19,7 @@ use snesl_values::{Counted, Refusal};
 use std::alloc::{AllocError, Global};
 use std::io::{Read, Write};
 use std::sync::Arc;
+use std::thread::Threads;
 
 /// Answers the job that a reader gives, and returns the exit status. `words` are those of a command
 /// line, the first of which is the program's name; `settings` tells what they set.
@@ -29,13 +30,15 @@ use std::sync::Arc;
 /// then the job is not read.
 ///
 /// A refusal of the system goes to `err` as `refused N`, where that can be written, with status 4:
-/// memory was refused (11), `out` could not be written (12) or `job` could not be read (14). No call
-/// of a reader or a writer that failed is tried again: of each of the three at most one call failed,
-/// of `job` only where 14 is said, and of `out` only where 12 is.
+/// memory was refused (11), `out` could not be written (12), a thread could not be started (13, only by
+/// drives that start threads) or `job` could not be read (14). No call of a reader or a writer that
+/// failed is tried again: of each of the three at most one call failed, of `job` only where 14 is said,
+/// and of `out` only where 12 is.
 ///
 /// At most 65,536 + 5 + 16,777,217 bytes of the job are read, since no more decides the answer: a
 /// program at its limit, the longest separator's line, and one byte over the input text's limit.
 pub fn answer<R: Read, W: Write, E: Write>(
+    rt: &impl Threads,
     alloc: Global,
     words: &[&str],
     job: &mut Counted<R>,
@@ -46,7 +49,7 @@ pub fn answer<R: Read, W: Write, E: Write>(
         (taken W.contents out.old out.new) (taken E.contents err.old err.new) result }
 {
     match settings(alloc, words) {
-        Ok(config) => answer_job(alloc, &config, job, out, err),
+        Ok(config) => answer_job(rt, alloc, &config, job, out, err),
         Err(refusal) => refuse_words(refusal, out, err),
     }
 }
@@ -69,6 +72,7 @@ fn refuse_words<W: Write, E: Write>(
 
 // Reads the job and prints its answer.
 fn answer_job<R: Read, W: Write, E: Write>(
+    rt: &impl Threads,
     alloc: Global,
     config: &Config,
     job: &mut Counted<R>,
@@ -79,13 +83,14 @@ fn answer_job<R: Read, W: Write, E: Write>(
         (taken W.contents out.old out.new) (taken E.contents err.old err.new) result }
 {
     match read_job(alloc, job) {
-        Ok(job) => print_answer(alloc, config, &job, out, err),
+        Ok(job) => print_answer(rt, alloc, config, &job, out, err),
         Err(refusal) => complain(refusal, err),
     }
 }
 
 // Prints the answer of a job.
 fn print_answer<W: Write, E: Write>(
+    rt: &impl Threads,
     alloc: Global,
     config: &Config,
     job: &[u8],
@@ -95,7 +100,7 @@ fn print_answer<W: Write, E: Write>(
     ensures { Printed config.now job.now (taken W.contents out.old out.new) (taken E.contents err.old err.new) result }
 {
     let (program, input) = split(job);
-    match run_alone(alloc, program, input, config, out) {
+    match run_alone(rt, alloc, program, input, config, out) {
         Ok(report) => match report.outcome() {
             Outcome::Value => 0,
             Outcome::Fault(fault) => print_made(fault_line(alloc, fault), 2, out, err),
@@ -114,6 +119,7 @@ fn print_answer<W: Write, E: Write>(
 
 // Runs a program with a gate that does nothing.
 fn run_alone<W: Write>(
+    rt: &impl Threads,
     alloc: Global,
     program: &[u8],
     input: &[u8],
@@ -123,7 +129,7 @@ fn run_alone<W: Write>(
     ensures { HasRun program.now input.now config.now (taken W.contents out.old out.new) result }
 {
     match Arc::new(alloc, NoGate) {
-        Ok(gate) => run(alloc, program, input, config, gate, out),
+        Ok(gate) => run(rt, alloc, program, input, config, gate, out),
         Err(_) => Err(RunError {
             refusal: Refusal::NoMemory,
         }),

@@ -14,6 +14,7 @@ use snesl_values::{Counted, Refusal};
 use std::alloc::Global;
 use std::io::Write;
 use std::sync::Arc;
+use std::thread::Threads;
 
 /// Runs a program for an input text as a network of transducers, in the small fixed buffers of the configuration, and
 /// writes its value to `out`, as one line, where all nodes of the network have ended.
@@ -29,9 +30,12 @@ use std::sync::Arc;
 ///   the network is greater than a graph may be.
 /// - `NoMemory`: memory was refused. Nothing was written, since memory is taken before the first
 ///   write.
+/// - `NoThread`: a thread could not be started, which may be for want of memory, by a drive that starts threads. Nothing
+///   was written.
 /// - `Output`: a write failed or took no byte, and no other call failed. The writer has taken a
 ///   beginning of the line, and no second try was made, at an interrupted call either.
-pub fn run<W: Write, G: Gate + Drop>(
+pub fn run<R: Threads, W: Write, G: Gate + Send + Sync + Drop + 'static>(
+    rt: &R,
     alloc: Global,
     program: &[u8],
     input: &[u8],
@@ -42,7 +46,7 @@ pub fn run<W: Write, G: Gate + Drop>(
     ensures ran { HasRun program.now input.now config.now (taken W.contents out.old out.new) result }
     ensures config { (IsLawful config.now → ⊥) → IsRefusedWith BadConfig result }
 {
-    let rested = drive_program(alloc, program, input, config, gate)?;
+    let rested = drive_program(rt, alloc, program, input, config, gate)?;
     let outcome = rested.outcome();
     match outcome {
         Outcome::Value => {

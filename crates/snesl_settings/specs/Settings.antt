@@ -11,7 +11,7 @@ use Rattle.snesl_values.specs.declared.refusal.Refusal.TheVariants.{BadConfig, N
 use Rattle.flow_drive.specs.Configs.{IsLawful, IsWithin}
 use Rattle.flow_drive.specs.declared.config.Config.{Config}
 use Rattle.flow_drive.specs.declared.config.Drive.{Drive}
-use Rattle.flow_drive.specs.declared.config.Drive.TheVariants.{Serial}
+use Rattle.flow_drive.specs.declared.config.Drive.TheVariants.{Serial, Rounds}
 
 -- ---- the options
 
@@ -50,10 +50,11 @@ SaysNumber (Some text) default number = SpellsNumber text number
 -- the word for a drive
 abbrev pub drive_word : Drive → Text
 drive_word Serial = codes "serial"
+drive_word Rounds = codes "rounds"
 
--- the value is the word for the drive; where there is no value, the drive is `Serial`
+-- the value is the word for the drive; where there is no value, the drive is `Rounds`
 abbrev pub SaysDrive : Option Text → Drive → Type 0
-SaysDrive None drive = drive ≡ Serial
+SaysDrive None drive = drive ≡ Rounds
 SaysDrive (Some text) drive = text ≡ drive_word drive
 
 -- one of 0..9 (48 to 57) and a..f (97 to 102)

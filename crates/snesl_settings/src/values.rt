@@ -6,7 +6,7 @@ ghost use Rattle.std.specs.List.{range_with_len};
 ghost use Rattle.flow_drive.specs.Configs.{IsWithin};
 ghost use Rattle.flow_drive.specs.Limits.{most_threads};
 ghost use Rattle.snesl_values.specs.declared.refusal.Refusal.TheVariants.{BadConfig};
-ghost use Rattle.snesl_settings.specs.Settings.{IsShareDigit, RefusesBut, SaysDrive, SaysNumber, SaysShare, SpellsNumber, SpellsShare};
+ghost use Rattle.snesl_settings.specs.Settings.{IsShareDigit, RefusesBut, drive_word, SaysDrive, SaysNumber, SaysShare, SpellsNumber, SpellsShare};
 
 use flow_drive::Drive;
 use snesl_values::Refusal;
@@ -45,21 +45,30 @@ fn number_spelled(text: &str) -> Result<usize, Refusal>
     }
 }
 
-// The drive of which the value is the word, or `Serial` where there is no value.
+// The drive of which the value is the word, or `Rounds` where there is no value.
 pub(crate) fn drive_said(said: Option<&str>) -> Result<Drive, Refusal>
     ensures said { IfOk result (λ drive. SaysDrive (option_map (λ text. text.now) said.entry) drive) }
     ensures refused { IfErr result (λ refusal. refusal ≡ BadConfig) }
     ensures unsaid { IfErr result (λ _. (drive : _) → ¬ (SaysDrive (option_map (λ text. text.now) said.entry) drive)) }
 {
     match said {
-        None => Ok(Drive::Serial),
-        Some(text) => {
-            if text == "serial" {
-                Ok(Drive::Serial)
-            } else {
-                Err(Refusal::BadConfig)
-            }
-        }
+        None => Ok(Drive::Rounds),
+        Some(text) => drive_spelled(text),
+    }
+}
+
+// The drive of which the text is the word.
+fn drive_spelled(text: &str) -> Result<Drive, Refusal>
+    ensures word { IfOk result (λ drive. text.now ≡ drive_word drive) }
+    ensures refused { IfErr result (λ refusal. refusal ≡ BadConfig) }
+    ensures none { IfErr result (λ _. (drive : _) → ¬ (text.now ≡ drive_word drive)) }
+{
+    if text == "serial" {
+        Ok(Drive::Serial)
+    } else if text == "rounds" {
+        Ok(Drive::Rounds)
+    } else {
+        Err(Refusal::BadConfig)
     }
 }
 

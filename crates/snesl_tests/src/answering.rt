@@ -5,6 +5,7 @@ use snesl_values::Counted;
 use std::alloc::Global;
 use std::io::{Read, Write};
 use std::process::Abort;
+use std::thread::Threads;
 
 /// What a job was answered: the exit status, and the reader and the writers as they were left.
 #[derive(Drop)]
@@ -17,6 +18,7 @@ pub struct Answer<R, W, E> {
 
 /// Answers a job with these words of the command line.
 pub fn answered<R: Read, W: Write, E: Write>(
+    rt: &impl Threads,
     alloc: Global,
     words: &[&str],
     job: R,
@@ -26,7 +28,7 @@ pub fn answered<R: Read, W: Write, E: Write>(
     let mut job = Counted::new(job);
     let mut printed = Counted::new(printed);
     let mut complaint = Counted::new(complaint);
-    let status = answer(alloc, words, &mut job, &mut printed, &mut complaint);
+    let status = answer(rt, alloc, words, &mut job, &mut printed, &mut complaint);
     Answer {
         status,
         job,

@@ -16,6 +16,7 @@ use std::io::{Read, Write};
 use std::process::Abort;
 use std::sync::Arc;
 use std::test::Fail;
+use std::thread::Threads;
 
 // The pair of a truth value and a vector of sequences, `(true,[{1,-2},{}])`.
 fn nested_datum(alloc: Global) -> Result<Datum, AllocError> {
@@ -231,6 +232,7 @@ fn values(rt: HostRuntime) -> Result<(), Fail> {
 
 // What a run wrote, and how it ended, under the configuration that no words say.
 fn ran(
+    rt: &impl Threads,
     alloc: Global,
     program: &[u8],
     input: &[u8],
@@ -238,7 +240,7 @@ fn ran(
     let config = settings(alloc, &["snesl"])?;
     let gate = Arc::new(alloc, NoGate)?;
     let mut out = Counted::new(Vec::new(alloc));
-    let ending = match run(alloc, program, input, &config, gate, &mut out) {
+    let ending = match run(rt, alloc, program, input, &config, gate, &mut out) {
         Ok(report) => Ok(report.outcome()),
         Err(error) => Err(error.refusal()),
     };
@@ -257,7 +259,7 @@ fn runs(rt: HostRuntime) -> Result<(), Fail> {
         (b"1", b"1", b"", Err(Refusal::BadInput(0))),
     ];
     for (program, input, wanted, wanted_ending) in rows {
-        let (written, ending) = ran(rt.alloc(), program, input)?;
+        let (written, ending) = ran(&rt, rt.alloc(), program, input)?;
         assert_eq!(rt; ending, wanted_ending);
         assert_eq!(rt; written.as_slice(), wanted);
     }

@@ -5,6 +5,7 @@ use crate::stopping::{Stop, StoppingReader, StoppingWriter};
 use std::alloc::Global;
 use std::process::Abort;
 use std::test::Fail;
+use std::thread::Threads;
 
 // A job is not read where the words are refused; what each word is answered stands in the tables of `snesl_jobs`.
 #[test]
@@ -12,6 +13,7 @@ fn words(rt: HostRuntime) -> Result<(), Fail> {
     for word in ["--help", "--capacity", "1", ""] {
         let (printed, complaint) = (Vec::new(rt.alloc()), Vec::new(rt.alloc()));
         let answer = answered(
+            &rt,
             rt.alloc(),
             &["snesl", word],
             b"1".as_slice(),
@@ -26,6 +28,7 @@ fn words(rt: HostRuntime) -> Result<(), Fail> {
 
 // Answers the job over writers that stop behind so many bytes.
 fn over_stopping_writers(
+    rt: &impl Threads,
     alloc: Global,
     job: &[u8],
     printed: (usize, Stop),
@@ -33,7 +36,7 @@ fn over_stopping_writers(
 ) -> Reply {
     let printed = StoppingWriter::new(Vec::new(alloc), printed.0, printed.1);
     let complaint = StoppingWriter::new(Vec::new(alloc), complaint.0, complaint.1);
-    let answer = answered(alloc, &["snesl"], job, printed, complaint);
+    let answer = answered(rt, alloc, &["snesl"], job, printed, complaint);
     Reply {
         printed: answer.printed.into_inner().into_taken(),
         complaint: answer.complaint.into_inner().into_taken(),
@@ -42,10 +45,10 @@ fn over_stopping_writers(
 }
 
 // Asserts that a writer is called no more once it has stopped, wherever in the line.
-fn assert_stops(rt: &impl Abort, alloc: Global, job: &[u8], line: &[u8]) {
+fn assert_stops<R: Abort + Threads>(rt: &R, alloc: Global, job: &[u8], line: &[u8]) {
     for writes in 0..line.len() {
         for stop in [Stop::Fails, Stop::TakesNothing] {
-            let reply = over_stopping_writers(alloc, job, (writes, stop), (100, Stop::Fails));
+            let reply = over_stopping_writers(rt, alloc, job, (writes, stop), (100, Stop::Fails));
             assert_reply(rt, &reply, &line[..writes], b"refused 12\n", 4);
         }
     }
@@ -61,16 +64,23 @@ fn writers_that_stop(rt: HostRuntime) -> Result<(), Fail> {
     for (job, line, status) in rows {
         assert_stops(&rt, rt.alloc(), job, line);
         let just_enough = (line.len(), Stop::Fails);
-        let reply = over_stopping_writers(rt.alloc(), job, just_enough, (0, Stop::Fails));
+        let reply = over_stopping_writers(&rt, rt.alloc(), job, just_enough, (0, Stop::Fails));
         assert_reply(&rt, &reply, line, b"", status);
     }
     Ok(())
 }
 
 // Answers the job over a reader that fails behind so many reads.
-fn over_stopping_reader(alloc: Global, job: &[u8], reads: usize) -> Reply {
+fn over_stopping_reader(rt: &impl Threads, alloc: Global, job: &[u8], reads: usize) -> Reply {
     let reader = StoppingReader::new(job, reads);
-    let answer = answered(alloc, &["snesl"], reader, Vec::new(alloc), Vec::new(alloc));
+    let answer = answered(
+        rt,
+        alloc,
+        &["snesl"],
+        reader,
+        Vec::new(alloc),
+        Vec::new(alloc),
+    );
     Reply {
         printed: answer.printed.into_inner(),
         complaint: answer.complaint.into_inner(),
@@ -83,10 +93,10 @@ fn readers_that_stop(rt: HostRuntime) -> Result<(), Fail> {
     let job = b"reduce_add(iota(5))\n---\n ".as_slice();
     // The last read is the one that finds the end.
     for reads in 0..=job.len() {
-        let reply = over_stopping_reader(rt.alloc(), job, reads);
+        let reply = over_stopping_reader(&rt, rt.alloc(), job, reads);
         assert_reply(&rt, &reply, b"", b"refused 14\n", 4);
     }
-    let reply = over_stopping_reader(rt.alloc(), job, job.len() + 1);
+    let reply = over_stopping_reader(&rt, rt.alloc(), job, job.len() + 1);
     assert_reply(&rt, &reply, b"10\n", b"", 0);
     Ok(())
 }
@@ -95,7 +105,7 @@ fn readers_that_stop(rt: HostRuntime) -> Result<(), Fail> {
 fn no_writer_works(rt: HostRuntime) -> Result<(), Fail> {
     for writes in 0..12usize {
         let complaint = (writes, Stop::TakesNothing);
-        let reply = over_stopping_writers(rt.alloc(), b"1", (0, Stop::Fails), complaint);
+        let reply = over_stopping_writers(&rt, rt.alloc(), b"1", (0, Stop::Fails), complaint);
         assert_reply(&rt, &reply, b"", &b"refused 12\n"[..writes.min(11)], 4);
     }
     Ok(())

@@ -1,8 +1,8 @@
 use Rattle.flow_graph.specs.Graphs.{states_of, edges_of}
 use Rattle.flow_graph.proofs.Nets.{graph_network}
-use Rattle.flow_layout.proofs.PlansOfFlows.{flow_is_plan}
-use Rattle.flow_layout.proofs.FlowsOfPlans.{plan_is_flow}
-use Rattle.flow_layout.proofs.laws.plan_is_its_flow.Goals as goal
+use Rattle.flow_plans.proofs.PlansOfFlows.{flow_is_plan}
+use Rattle.flow_plans.proofs.FlowsOfPlans.{plan_is_flow}
+use Rattle.flow_plans.proofs.laws.plan_is_its_flow.Goals as goal
 
 pub returns : goal.returns
 returns g c =

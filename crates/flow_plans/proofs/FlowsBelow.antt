@@ -13,9 +13,9 @@ use Rattle.flow_graph.specs.declared.edge.Edge.{Edge}
 use Rattle.flow_graph.specs.Edges.{edge_at, in_edge}
 use Rattle.flow_plans.specs.Plans.{Step}
 use Rattle.flow_plans.specs.Layouts.{Placed, layout}
-use Rattle.flow_layout.proofs.Places.{get_left, get_right, replicate_place}
-use Rattle.flow_layout.proofs.Behind.{IsCopy, AreCopies}
-use Rattle.flow_layout.proofs.Nodes.{IsPlanned, stream_on, stream_in, stream_out, port_out, edge_to, writer_before}
+use Rattle.flow_plans.proofs.Places.{get_left, get_right, replicate_place}
+use Rattle.flow_plans.proofs.Behind.{IsCopy, AreCopies}
+use Rattle.flow_plans.proofs.Nodes.{IsPlanned, stream_on, stream_in, stream_out, port_out, edge_to, writer_before}
 
 -- the edge carries the stream that it joins
 abbrev pub IsCarried : List Step → List Edge → (ℕ → List Cell) → Columns → ℕ → Type 0

@@ -19,10 +19,10 @@ use Rattle.flow_plans.specs.Plans.{Step, made_by, streams_at, run}
 use Rattle.flow_plans.specs.Ports.{kinds_written}
 use Rattle.flow_plans.specs.Layouts.{Placed, layout, layout_from, all_behind, AreCarried}
 use Rattle.flow_plans.specs.PlanFlows.{FlowIsPlan}
-use Rattle.flow_layout.proofs.Places.{get_right, columns_place, columns_replicate, each_columns, numbered_place}
-use Rattle.flow_layout.proofs.Behind.{node_of, IsCopy, all_behind_copies}
-use Rattle.flow_layout.proofs.Nodes.{IsPlanned, stream_out, port_out, edge_out, node_inside, made_of_row, writer_there}
-use Rattle.flow_layout.proofs.FlowsBelow.{AreCarriedBelow, carried_next, carried_more, read_at, copied, behind_all}
+use Rattle.flow_plans.proofs.Places.{get_right, columns_place, columns_replicate, each_columns, numbered_place}
+use Rattle.flow_plans.proofs.Behind.{node_of, IsCopy, all_behind_copies}
+use Rattle.flow_plans.proofs.Nodes.{IsPlanned, stream_out, port_out, edge_out, node_inside, made_of_row, writer_there}
+use Rattle.flow_plans.proofs.FlowsBelow.{AreCarriedBelow, carried_next, carried_more, read_at, copied, behind_all}
 
 module _ {S : Type 0} {b : Behaviour S} {plan : List Step} {states : List S} {edges : List Edge} (given : IsPlanned b plan states edges) (bodies : ℕ → List Cell) (flow : IsLawfulFlow b states edges bodies) where
   made_at : (k : ℕ) (placed : Placed) → slice_get (layout plan) k ≡ Some placed

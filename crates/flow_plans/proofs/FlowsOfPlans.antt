@@ -21,11 +21,11 @@ use Rattle.flow_plans.specs.Plans.{Step, made_by, streams_at, run}
 use Rattle.flow_plans.specs.Ports.{kinds_written}
 use Rattle.flow_plans.specs.Layouts.{Placed, layout, layout_from, all_behind, AreCarried}
 use Rattle.flow_plans.specs.PlanFlows.{PlanIsFlow}
-use Rattle.flow_layout.proofs.Places.{get_left, get_right, get_there, columns_are, replicate_columns, each_length, each_place, each_more, numbered_place}
-use Rattle.flow_layout.proofs.Written.{written_length}
-use Rattle.flow_layout.proofs.Behind.{node_of, IsCopy, all_behind_copies}
-use Rattle.flow_layout.proofs.Nodes.{IsPlanned, stream_on, stream_out, port_out, edge_from, edge_out, edge_to, writer_before, writer_there, same_kind, performs, row_of_made, out_of_kind}
-use Rattle.flow_layout.proofs.FlowsBelow.{IsCarried, AreCarriedBelow, carried_next, read_at, one_read, copied, behind_all}
+use Rattle.flow_plans.proofs.Places.{get_left, get_right, get_there, columns_are, replicate_columns, each_length, each_place, each_more, numbered_place}
+use Rattle.flow_plans.proofs.Written.{written_length}
+use Rattle.flow_plans.proofs.Behind.{node_of, IsCopy, all_behind_copies}
+use Rattle.flow_plans.proofs.Nodes.{IsPlanned, stream_on, stream_out, port_out, edge_from, edge_out, edge_to, writer_before, writer_there, same_kind, performs, row_of_made, out_of_kind}
+use Rattle.flow_plans.proofs.FlowsBelow.{IsCarried, AreCarriedBelow, carried_next, read_at, one_read, copied, behind_all}
 
 -- what a run ends with begins with what it began with
 run_keeps : (steps : List Step) (streams all : Columns) → run steps streams ≡ Some all → (more : Columns) × (all ≡ streams ++ more)

@@ -1,6 +1,6 @@
 use Rattle.flow_graph.specs.Graphs.{states_of, edges_of}
-use Rattle.flow_layout.proofs.Sources.{source_is_set}
-use Rattle.flow_layout.proofs.laws.source_is_set.Goals as goal
+use Rattle.flow_plans.proofs.Sources.{source_is_set}
+use Rattle.flow_plans.proofs.laws.source_is_set.Goals as goal
 
 pub returns : goal.returns
 returns g c = source_is_set g.T.Transducer.behaviour (states_of c.args.graph.now) (edges_of c.args.graph.now)

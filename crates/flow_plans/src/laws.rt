@@ -2,7 +2,7 @@
 
 ghost use Rattle.flow_graph.specs.Graphs.{states_of, edges_of};
 ghost use Rattle.flow_plans.specs.PlanFlows.{PlanIsFlow, FlowIsPlan};
-ghost use Rattle.flow_layout.specs.Settings.{SourceIsSet};
+ghost use Rattle.flow_plans.specs.Settings.{SourceIsSet};
 
 use flow_base::Transducer;
 use flow_graph::Graph;

@@ -19,9 +19,9 @@ use Rattle.flow_graph.specs.Replacements.{MayReplace}
 use Rattle.flow_plans.specs.Plans.{Operation, Step, source}
 use Rattle.flow_plans.specs.Ports.{kinds_read, kinds_written}
 use Rattle.flow_plans.specs.Layouts.{Placed, times, uses, behind, numbered, all_behind, layout_from, places_from, layout, places, stream_from, stream_to, Performs, IsNetworkOf}
-use Rattle.flow_layout.specs.Settings.{with_source, SourceIsSet}
-use Rattle.flow_layout.proofs.Places.{get_right}
-use Rattle.flow_layout.proofs.Behind.{node_of}
+use Rattle.flow_plans.specs.Settings.{with_source, SourceIsSet}
+use Rattle.flow_plans.proofs.Places.{get_right}
+use Rattle.flow_plans.proofs.Behind.{node_of}
 
 -- lists with one item set
 

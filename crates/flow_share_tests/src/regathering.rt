@@ -1,0 +1,44 @@
+// Dealing out and gathering again. It stands outside of what is compiled for tests alone, so that its contract and its edit are
+// checked.
+
+ghost use Rattle.std.specs.Prelude.{◌≡◌, ◌<◌, length, IfOk};
+ghost use Rattle.std.specs.List.{All};
+ghost use Rattle.flow_graph.specs.Graphs.{states_of, edges_of};
+
+use flow_base::Transducer;
+use flow_deal::{deal_nodes, gather};
+use flow_graph::{Graph, Placed};
+use std::alloc::{AllocError, Global};
+
+// How many nodes each share has.
+fn counts_in<T: Transducer>(
+    alloc: Global,
+    dealt: &[Vec<Placed<T>>],
+) -> Result<Vec<usize>, AllocError> {
+    let mut counts = Vec::new(alloc);
+    for nodes in dealt {
+        counts.push(nodes.len())?;
+    }
+    Ok(counts)
+}
+
+/// The graph, whose nodes were dealt out to so many shares and gathered again, and how many each share had. Its only error is
+/// that memory was refused.
+pub fn dealt_and_gathered<T: Transducer + Drop>(
+    alloc: Global,
+    graph: Graph<T>,
+    threads: usize,
+    share: &[u8],
+) -> Result<(Graph<T>, Vec<usize>), AllocError>
+    requires named { 0 < length share.now }
+    requires shares { All (λ s. s < threads) share.now }
+    ensures states { IfOk result (λ made. states_of made.0 ≡ states_of graph) }
+    ensures edges { IfOk result (λ made. edges_of made.0 ≡ edges_of graph) }
+{
+    let (nodes, layout) = graph.take_apart();
+    let count = nodes.len();
+    let dealt = deal_nodes(alloc, nodes, threads, share)?;
+    let counts = counts_in(alloc, &dealt)?;
+    let nodes = gather(alloc, dealt, count, share)?;
+    Ok((layout.put_together(nodes), counts))
+}

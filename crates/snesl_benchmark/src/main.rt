@@ -1,0 +1,126 @@
+// Times programs by each drive, at several numbers of threads and capacities, all in one run.
+//
+// The first word of the command line is how many elements a program goes over, a thousand where there is none. A line for
+// each run goes to standard error: what a run takes in all, what an element takes, how many rounds it had, and how long
+// the threads of so many rounds take that have nothing to do. What the programs print goes to standard output.
+#![tactic(auto)]
+
+mod programs;
+mod rounds;
+
+use anyhow::{Context, Result, ensure};
+use flow_drive::{Config, Drive, Sharing};
+use programs::{Program, deep, squares, wide};
+use rounds::{Count, idle_rounds};
+use snesl_run::run;
+use snesl_values::Counted;
+use std::alloc::Global;
+use std::env;
+use std::rt::{Clock, Env};
+use std::sync::Arc;
+use std::thread::Threads;
+use std::time::{Duration, Instant};
+
+fn main(rt: HostRuntime) -> Result<()> {
+    let alloc = rt.alloc();
+    let count = count_of(&rt)?;
+    for program in [
+        squares(alloc, count)?,
+        wide(alloc, count)?,
+        deep(alloc, count)?,
+    ] {
+        for capacity in [256, 4_096] {
+            let alone = config(alloc, Drive::Serial, 1, capacity)?;
+            let line = measured(&rt, &program, count, &alone)?;
+            for threads in [1, 2, 4] {
+                let shared = config(alloc, Drive::Rounds, threads, capacity)?;
+                let same = measured(&rt, &program, count, &shared)?;
+                ensure!(same == line, "drives differ");
+            }
+            print!(rt;
+                "{}, capacity {capacity}: {}",
+                program.name,
+                line.escape_ascii()
+            )?;
+            println!(rt; "")?;
+        }
+    }
+    Ok(())
+}
+
+// The number on the command line, or a thousand where there is no word.
+fn count_of<R: Env + AllocGlobal>(rt: &R) -> Result<u64> {
+    match env::args(rt)?.nth(1) {
+        Some(word) => word.as_str().parse::<u64>().context("n is no number"),
+        None => Ok(1_000),
+    }
+}
+
+// Neighbours go to different shares, as without an option.
+fn config(alloc: Global, drive: Drive, threads: usize, capacity: usize) -> Result<Config> {
+    let mut share = Vec::new(alloc);
+    for thread in 0..threads {
+        share.push(thread as u8)?;
+    }
+    let sharing = Sharing {
+        threads,
+        idle_turns: 64,
+        share,
+    };
+    Ok(Config {
+        capacity,
+        chunk: 256,
+        sharing,
+        drive,
+    })
+}
+
+// Runs a program once, says what it took, and gives the line that it wrote.
+fn measured<R: Eprint + Clock + AllocGlobal + Threads>(
+    rt: &R,
+    program: &Program,
+    count: u64,
+    config: &Config,
+) -> Result<Vec<u8>> {
+    let alloc = rt.alloc();
+    let gate = Arc::new(alloc, Count::new())?;
+    let counting = Arc::try_clone(&gate)?;
+    let mut out = Counted::new(Vec::new(alloc));
+    let start = Instant::now(rt)?;
+    let answer = run(
+        rt,
+        alloc,
+        program.text.as_bytes(),
+        b"",
+        config,
+        gate,
+        &mut out,
+    );
+    let time = start.elapsed(rt)?;
+    ensure!(answer.is_ok(), "a program is refused");
+    report(rt, program, count, config, time, counting.rounds())?;
+    Ok(out.into_inner())
+}
+
+// Says what a run took.
+fn report<R: Eprint + Clock + AllocGlobal + Threads>(
+    rt: &R,
+    program: &Program,
+    count: u64,
+    config: &Config,
+    time: Duration,
+    rounds: u64,
+) -> Result<()> {
+    let (name, capacity, threads) = (program.name, config.capacity, config.sharing.threads);
+    let drive = match config.drive {
+        Drive::Serial => "serial",
+        Drive::Rounds => "rounds",
+    };
+    let nanos = time.as_nanos();
+    let per_element = nanos / u128::from(count.max(1));
+    let idle = idle_rounds(rt, threads, rounds)?.as_nanos() / u128::from(count.max(1));
+    eprintln!(rt;
+        "{name}, capacity {capacity}, {drive}, {threads} threads: {per_element} ns an element, {rounds} rounds, of which threads alone take {idle} ns an element"
+    )?;
+    Ok(())
+}

@@ -1,0 +1,119 @@
+// Programs by each drive: over edges of the same capacity, the drives of several threads end as that of one thread does.
+
+use crate::running::{Done, ran};
+use flow_drive::{Config, Drive, Sharing};
+use snesl_console::split;
+use std::alloc::{AllocError, Global};
+use std::fmt;
+use std::thread::Threads;
+
+// How many messages an edge holds.
+const CAPACITIES: [usize; 4] = [256, 4, 2, 1];
+
+// How many threads there are, and the lists that name a share for each node: all nodes in one share, neighbours apart in
+// two, three and sixteen, and pairs of neighbours together.
+const SHARES: [(usize, &[u8]); 5] = [
+    (1, &[0]),
+    (2, &[0, 1]),
+    (2, &[1, 1, 0, 0]),
+    (3, &[2, 0, 1]),
+    (16, &[0, 1, 2, 3, 4, 5, 6, 7, 8, 9, 10, 11, 12, 13, 14, 15]),
+];
+
+/// How many programs were run by several threads, and how many of the runs ended otherwise than that of one thread.
+#[derive(Clone, Copy, Debug)]
+pub struct Drives {
+    programs: usize,
+    /// How many runs ended otherwise.
+    pub differing: usize,
+}
+
+impl fmt::Display for Drives {
+    fn fmt<W: fmt::Write>(&self, f: &mut fmt::Formatter<W>) -> fmt::Result {
+        let (programs, differing) = (self.programs, self.differing);
+        write!(
+            f,
+            "{programs} programs by every drive, {differing} runs differ"
+        )
+    }
+}
+
+impl Drives {
+    /// No run.
+    pub fn none() -> Drives {
+        Drives {
+            programs: 0,
+            differing: 0,
+        }
+    }
+
+    /// Runs the program of a job by the drive of one thread, and by those of several, over edges of each capacity. The
+    /// error is that memory was refused.
+    pub fn add(&mut self, rt: &impl Threads, alloc: Global, job: &[u8]) -> Result<(), AllocError> {
+        let (program, input) = split(job);
+        self.programs = self.programs.saturating_add(1);
+        for capacity in CAPACITIES {
+            let alone = ran(rt, alloc, program, input, &serial(alloc, capacity)?)?;
+            for config in &threaded(alloc, capacity, alone.nodes)? {
+                let done = ran(rt, alloc, program, input, config)?;
+                if done.ending.is_err() || done != alone {
+                    self.differing = self.differing.saturating_add(1);
+                }
+            }
+        }
+        Ok(())
+    }
+}
+
+// The drive of one thread, over edges of this capacity.
+fn serial(alloc: Global, capacity: usize) -> Result<Config, AllocError> {
+    config(alloc, Drive::Serial, capacity, 16, 64, (1, &[0]))
+}
+
+// The drives of several threads, over edges of this capacity: chunks of 1 and of 16, threads that end after one turn
+// without a step and after 64, and each of the lists of shares. A network of at most five nodes is run with each list of
+// five entries 0 or 1 besides.
+fn threaded(alloc: Global, capacity: usize, nodes: usize) -> Result<Vec<Config>, AllocError> {
+    let mut configs = Vec::new(alloc);
+    for chunk in [1, 16] {
+        for idle_turns in [1, 64] {
+            for &shares in &SHARES {
+                configs.push(config(alloc, Drive::Rounds, capacity, chunk, idle_turns, shares)?)?;
+            }
+        }
+    }
+    if nodes <= 5 {
+        for bits in 0..32u8 {
+            let share = [
+                bits & 1,
+                bits >> 1 & 1,
+                bits >> 2 & 1,
+                bits >> 3 & 1,
+                bits >> 4,
+            ];
+            configs.push(config(alloc, Drive::Rounds, capacity, 1, 1, (2, &share))?)?;
+        }
+    }
+    Ok(configs)
+}
+
+fn config(
+    alloc: Global,
+    drive: Drive,
+    capacity: usize,
+    chunk: usize,
+    idle_turns: usize,
+    (threads, share): (usize, &[u8]),
+) -> Result<Config, AllocError> {
+    let sharing = Sharing {
+        threads,
+        idle_turns,
+        share: share.to_vec(alloc)?,
+    };
+    Ok(Config {
+        capacity,
+        chunk,
+        sharing,
+        drive,
+    })
+}

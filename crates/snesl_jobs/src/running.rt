@@ -1,0 +1,56 @@
+// Runs of a program over memory.
+
+use flow_drive::{Config, NoGate, Outcome, Rested};
+use flow_nodes::StreamNode;
+use snesl_run::run;
+use snesl_values::{Counted, Refusal};
+use std::alloc::{AllocError, Global};
+use std::sync::Arc;
+use std::thread::Threads;
+
+/// What a run wrote, how it ended, how many nodes its network has, and how many messages were sent and received on each
+/// edge. Where the run was refused, no node and no edge is counted.
+#[derive(Drop, PartialEq)]
+pub struct Done {
+    pub written: Vec<u8>,
+    pub ending: Result<Outcome, Refusal>,
+    pub nodes: usize,
+    pub counts: Vec<(u64, u64)>,
+}
+
+/// Runs a program for an input text.
+pub fn ran(
+    rt: &impl Threads,
+    alloc: Global,
+    program: &[u8],
+    input: &[u8],
+    config: &Config,
+) -> Result<Done, AllocError> {
+    let gate = Arc::new(alloc, NoGate)?;
+    let mut out = Counted::new(Vec::new(alloc));
+    let answer = run(rt, alloc, program, input, config, gate, &mut out);
+    let written = out.into_inner();
+    match answer {
+        Ok(report) => Ok(Done {
+            written,
+            ending: Ok(report.outcome()),
+            nodes: report.rested().nodes(),
+            counts: counts(alloc, report.rested())?,
+        }),
+        Err(error) => Ok(Done {
+            written,
+            ending: Err(error.refusal()),
+            nodes: 0,
+            counts: Vec::new(alloc),
+        }),
+    }
+}
+
+// How many messages were sent and how many received, of each edge.
+fn counts(alloc: Global, rested: &Rested<StreamNode>) -> Result<Vec<(u64, u64)>, AllocError> {
+    let mut counts = Vec::new(alloc);
+    for edge in 0..rested.edges() {
+        counts.push(rested.counts(edge))?;
+    }
+    Ok(counts)
+}

@@ -1,0 +1,51 @@
+// Configurations for the tests. They stand outside of what is compiled for tests alone, so that their contract and
+// its edit are checked.
+
+ghost use Rattle.std.specs.Prelude.{◌≡◌, IfOk};
+ghost use Rattle.flow_drive.specs.declared.config.Drive.TheVariants.{Rounds};
+
+use flow_drive::{Config, Drive, Sharing};
+use std::alloc::{AllocError, Global};
+
+/// Edges that hold so many messages, and visits of so many steps, in one thread. Its only error is that memory was refused.
+pub fn config(alloc: Global, capacity: usize, chunk: usize) -> Result<Config, AllocError>
+    ensures capacity { IfOk result (λ config. config.capacity ≡ capacity) }
+    ensures chunk { IfOk result (λ config. config.chunk ≡ chunk) }
+{
+    let sharing = Sharing {
+        threads: 1,
+        idle_turns: 1,
+        share: vec![in alloc; 0u8]?,
+    };
+    Ok(Config {
+        capacity,
+        chunk,
+        sharing,
+        drive: Drive::Serial,
+    })
+}
+
+/// Edges that hold so many messages, and shares in so many threads, round after round. Its only error is that memory was
+/// refused.
+pub fn in_rounds(
+    alloc: Global,
+    capacity: usize,
+    threads: usize,
+    share: &[u8],
+) -> Result<Config, AllocError>
+    ensures capacity { IfOk result (λ config. config.capacity ≡ capacity) }
+    ensures threads { IfOk result (λ config. config.sharing.threads ≡ threads) }
+    ensures drive { IfOk result (λ config. config.drive ≡ Rounds) }
+{
+    let sharing = Sharing {
+        threads,
+        idle_turns: 1,
+        share: share.to_vec(alloc)?,
+    };
+    Ok(Config {
+        capacity,
+        chunk: 16,
+        sharing,
+        drive: Drive::Rounds,
+    })
+}
