@@ -10,8 +10,9 @@ use Rattle.flow_graph.specs.Shapes.{IsSameNetwork}
 use Rattle.flow_boxes.specs.declared.boxes.Boxes.{Boxes}
 use Rattle.flow_boxes.specs.Contents.{Contents}
 use Rattle.flow_round_laws.specs.Joints.{joint_view, HaveMet}
-use Rattle.flow_rounds.specs.Standing.{Setting}
-use Rattle.flow_rounds.specs.Gathered.{seen, HaveComeToRest}
+use Rattle.flow_opening.specs.Settings.{Setting}
+use Rattle.flow_rounds.specs.Standing.{seen}
+use Rattle.flow_rounds.proofs.Gathers.{HaveComeToRest}
 use Rattle.flow_drive.specs.declared.lines.SharedLines.{SharedLines}
 use Rattle.flow_drive.specs.declared.lines.Lines.{Lines}
 use Rattle.flow_drive.specs.declared.lines.Lines.TheVariants.{Whole, Shared}

@@ -18,8 +18,7 @@ use Rattle.flow_round_laws.specs.Joints.{no_contents, boxes_at, writer_boxes, re
 use Rattle.flow_round_laws.specs.RoundTheorems.{NothingMoved}
 use Rattle.flow_round_laws.proofs.Parts.{any_of, no_length}
 use Rattle.flow_opening.specs.Open.{AreWires}
-use Rattle.flow_rounds.specs.Standing.{AreLinked}
-use Rattle.flow_rounds.specs.Gathered.{seen}
+use Rattle.flow_rounds.specs.Standing.{seen, AreLinked}
 
 drop_all : {X : Type 0} (xs ys : List X) → drop (length xs) (xs ++ ys) ≡ ys
 drop_all [] ys = refl

@@ -1,4 +1,4 @@
-use Rattle.flow_rounds.specs.Standing.{setting_of}
+use Rattle.flow_opening.specs.Settings.{setting_of}
 use Rattle.flow_drive.proofs.rounds.drive_rounds.Given as goal
 
 abbrev pub ghost-run_dealt : goal.ghost-run_dealt

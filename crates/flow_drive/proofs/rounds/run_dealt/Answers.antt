@@ -1,7 +1,8 @@
 use Rattle.std.proofs.Common.{sym, ◌∙◌, ap, subst, arith}
 use Rattle.flow_opening.specs.Open.{AreWires}
 use Rattle.flow_graph.specs.Graphs.{states_of, edges_of}
-use Rattle.flow_rounds.specs.Gathered.{seen, HaveComeToRest}
+use Rattle.flow_rounds.specs.Standing.{seen}
+use Rattle.flow_rounds.proofs.Gathers.{HaveComeToRest}
 use Rattle.flow_drive.proofs.Gathered.{HaveMetIn, in_no_table, have_met, run, sound, rests}
 use Rattle.flow_drive.proofs.rounds.run_dealt.Goals as goal
 

@@ -4,8 +4,10 @@ use Rattle.flow_graph.specs.Graphs.{states_of, edges_of}
 use Rattle.flow_graph.specs.Layouts.{FitTogether}
 use Rattle.flow_graph.specs.Shapes.{IsSameNetwork}
 use Rattle.flow_deal.specs.Deals.{lists_in}
-use Rattle.flow_rounds.proofs.Gathers.{they_fit, openings, come_to_rest}
-use Rattle.flow_rounds.proofs.gathering.gather_graph.Goals as goal
+use Rattle.flow_round_laws.specs.Joints.{AreStates}
+use Rattle.flow_opening.specs.Deals.{nodes_in}
+use Rattle.flow_opening.proofs.Gathers.{they_fit, openings, are}
+use Rattle.flow_opening.proofs.gathering.gather_graph.Goals as goal
 
 pub put_together-requires : goal.put_together-requires
 put_together-requires g c =
@@ -22,9 +24,9 @@ returns-clause-network g c =
     (c.put_together.ensures.network (states_in g.setting.nodes)
     (openings g.setting c.args.shares.items c.requires.1.1.1.1.1 c.args.share.now c.requires.1.1.1.0 (lists_in lists.lists.items) lists.ensures.nodes nodes.nodes.items nodes.ensures.nodes nodes.ensures.places))
 
-pub returns-clause-rest : goal.returns-clause-rest
-returns-clause-rest g c =
+pub returns-clause-states : goal.returns-clause-states
+returns-clause-states g c deals =
     let lists = c.in_ok-lists in
     let nodes = c.in_ok-nodes in
-    come_to_rest g.setting c.args.shares.items c.requires.1.1.1.1.1 c.args.share.now c.requires.1.1.1.0 (lists_in lists.lists.items) lists.ensures.nodes nodes.nodes.items nodes.ensures.nodes nodes.ensures.places
-    lists.boxes.items lists.ensures.boxes (states_of c.put_together.result) c.put_together.ensures.nodes
+    subst (λ states. AreStates g.setting.share g.setting.nodes (nodes_in c.args.shares.items) deals states) (sym c.put_together.ensures.nodes)
+    (are g.setting c.args.shares.items deals c.args.share.now c.requires.1.1.1.0 (lists_in lists.lists.items) lists.ensures.nodes nodes.nodes.items nodes.ensures.nodes nodes.ensures.places)
