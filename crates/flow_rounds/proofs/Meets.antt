@@ -16,9 +16,9 @@ use Rattle.flow_round_laws.specs.RoundTheorems.{NothingMoved}
 use Rattle.flow_opening.specs.Open.{AreWires}
 use Rattle.flow_opening.specs.Deals.{nodes_in}
 use Rattle.flow_opening.specs.Settings.{Setting, numbers_of, AreFed}
+use Rattle.flow_opening.proofs.Lists.{mapped_twice, all_zipped}
 use Rattle.flow_rounds.specs.Standing.{seen, AreLinked, boxes_of, AreMet}
-use Rattle.flow_opening.proofs.Lists.{mapped_twice}
-use Rattle.flow_rounds.proofs.Levels.{all_zipped, have_met, nothing_moved}
+use Rattle.flow_rounds.proofs.Levels.{have_met, nothing_moved}
 
 -- what lost no certainty did not, whatever the boxes were part of
 pub zip_kept : {A : Type 0} (ends_of : A → Boxes) (parts : List A) (boxes now : List Boxes) → boxes ≡ map ends_of parts → length now ≡ length boxes
