@@ -1,9 +1,8 @@
 -- Lists of shares, and of what each share has.
-use Rattle.std.proofs.Common.{◌≡◌, ℕ, zero, suc, ◌<◌, ◌≤◌, ◌⊎◌, inl, inr, List, [], ◌∷◌, ◌++◌, length, map, take, drop, get_or, refl, sym, ◌∙◌, ap, subst, arith}
+use Rattle.std.proofs.Common.{◌≡◌, ℕ, zero, suc, ◌<◌, ◌≤◌, ◌⊎◌, inl, inr, List, [], length, map, get_or, refl, sym, ◌∙◌, ap, subst, arith}
 use Rattle.std.proofs.lemmas.Bool.{cases_eq}
 use Rattle.std.proofs.lemmas.List.{get_or-map, length-map}
 use Rattle.std.specs.Prelude.{Result, Ok, Err, IfOk}
-use Rattle.std.specs.List.{AllZip}
 use Rattle.kahn.specs.Basics.{total}
 use Rattle.kahn.proofs.Search.{total_less}
 use Rattle.flow_edges.specs.declared.ends.Ends.{Ghosts as EndsGhosts}
@@ -13,13 +12,7 @@ use Rattle.flow_shares.specs.Lending.{Body, body_of}
 use Rattle.flow_round_laws.specs.Joints.{no_ends, nodes_at}
 use Rattle.flow_opening.specs.Deals.{nodes_in, ends_in}
 use Rattle.flow_opening.specs.Settings.{view_at, AreFed}
-
--- what holds place by place holds of two lists of one length
-pub all_zipped : {A B : Type 0} (R : A → B → Type 0) (xs : List A) (ys : List B) → length ys ≡ length xs → ((k : ℕ) (x : A) (y : B) → k < length xs → R (get_or xs k x) (get_or ys k y)) → AllZip R xs ys
-all_zipped R [] [] long each = tt
-all_zipped R [] (y ∷ ys) long each = absurd (omega (arith, long))
-all_zipped R (x ∷ xs) [] long each = absurd (omega (arith, long))
-all_zipped R (x ∷ xs) (y ∷ ys) long each = (each 0 x y (omega arith), all_zipped R xs ys (omega (arith, long)) (λ k a b l. each (suc k) a b (omega (arith, l))))
+use Rattle.flow_opening.proofs.Lists.{mapped_twice}
 
 -- parts that are no less, and not more in all, are the same
 pub parts_same : (f g : ℕ → ℕ) (n : ℕ) → ((e : ℕ) → e < n → f e ≤ g e) → total g n ≤ total f n → (e : ℕ) → e < n → g e ≤ f e

@@ -19,8 +19,9 @@ use Rattle.flow_round_laws.proofs.Seats.{reader_inside, writer_inside}
 use Rattle.flow_opening.specs.Open.{AreWires}
 use Rattle.flow_opening.specs.Deals.{ends_in}
 use Rattle.flow_opening.specs.Settings.{Setting, view_at}
+use Rattle.flow_opening.proofs.Lists.{all_zipped}
 use Rattle.flow_epochs.specs.Epochs.{writer_rings, AreOfOneGraph, HaveMetAll, AreMet}
-use Rattle.flow_epochs.proofs.Lists.{all_zipped, count_dealt, count_ends, view_of_ends, same_count, same_nodes}
+use Rattle.flow_epochs.proofs.Lists.{count_dealt, count_ends, view_of_ends, same_count, same_nodes}
 
 -- ends that lost no certainty did not, whatever they were part of
 pub zip_kept : {A : Type 0} (own : A → Rings) (parts : List A) (ends now : List Rings) → ends ≡ map own parts → length now ≡ length ends
