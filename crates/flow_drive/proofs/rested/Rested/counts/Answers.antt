@@ -12,13 +12,15 @@ pub counts-requires : goal.counts-requires
 counts-requires g c =
     let rested = c.args.self.now in
     let shared = c.in-Shared.shared in
-    ends_there view_of BoxesJoin boxes_join_ends shared.share.items (edges_of rested.graph) shared.ends.items shared.capacity (rested.there.shared shared c.in-Shared.is) c.args.edge c.requires c.edge-ends.result c.edge-ends.ensures
+    let there = ends_there view_of BoxesJoin boxes_join_ends shared.share.items (edges_of rested.graph) shared.ends.items shared.capacity (rested.there.shared shared c.in-Shared.is) c.args.edge c.requires c.edge-ends.result c.edge-ends.ensures in
+    record { writer = there.0; reader = there.1; writes = there.2; reads = there.3 }
 
 pub counts-requires-in-Joined : goal.counts-requires-in-Joined
 counts-requires-in-Joined g c =
     let rested = c.args.self.now in
     let joined = c.in-Joined.joined in
-    ends_there ends_of RingsJoin rings_join_ends joined.share.items (edges_of rested.graph) joined.ends.items joined.capacity (rested.there.joined joined c.in-Joined.is) c.args.edge c.requires c.edge-ends.result c.edge-ends.ensures
+    let there = ends_there ends_of RingsJoin rings_join_ends joined.share.items (edges_of rested.graph) joined.ends.items joined.capacity (rested.there.joined joined c.in-Joined.is) c.args.edge c.requires c.edge-ends.result c.edge-ends.ensures in
+    record { writer = there.0; reader = there.1; writes = there.2; reads = there.3 }
 
 pub returns-in-Shared-clause-sent : goal.returns-in-Shared-clause-sent
 returns-in-Shared-clause-sent g c =
