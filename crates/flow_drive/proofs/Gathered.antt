@@ -1,13 +1,12 @@
 -- A graph that was gathered of shares at rest is sound, and no node can step there. Over boxes it is where a maximal run
 -- of its network ends.
-use Rattle.std.proofs.Common.{◌≡◌, ℕ, zero, suc, ◌<◌, ◌≤◌, ◌⊎◌, inl, inr, true, List, [], ◌∷◌, length, length-append, ◌++◌, map, get_or, Some, refl, sym, ◌∙◌, ap, subst, arith}
+use Rattle.std.proofs.Common.{◌≡◌, ℕ, zero, suc, ◌<◌, ◌≤◌, ◌⊎◌, inl, inr, true, List, [], ◌∷◌, length, length-append, map, get_or, Some, refl, sym, ap, subst, arith}
 use Rattle.std.proofs.Math.Path.{fun_ext}
 use Rattle.std.proofs.lemmas.Bool.{cases_lt}
 use Rattle.std.proofs.lemmas.List.{get_or_past, length-map, get_or-map}
 use Rattle.kahn.specs.Configurations.{IsSound}
 use Rattle.kahn.specs.Runs.{AtRest}
 use Rattle.flow_edges.specs.Ends.{View}
-use Rattle.flow_edges.specs.declared.table.Table.{Table}
 use Rattle.flow_base.specs.declared.transducer.Transducer.{Ghosts}
 use Rattle.flow_graph.specs.declared.edge.Edge.{Edge}
 use Rattle.flow_graph.specs.declared.graph.Graph.{Graph}
@@ -24,7 +23,7 @@ use Rattle.flow_rings.specs.Rings.{ends_of}
 use Rattle.flow_meetings.specs.BoxMeetings.{BoxesJoin}
 use Rattle.flow_meetings.specs.RingMeetings.{RingsJoin}
 use Rattle.flow_deal.specs.Deals.{share_of}
-use Rattle.flow_round_laws.specs.Joints.{no_ends, no_contents, boxes_at, views_of, writer_boxes, reader_boxes, joined_view, joint_view, HaveMet}
+use Rattle.flow_round_laws.specs.Joints.{no_contents, boxes_at, views_of, writer_boxes, reader_boxes, joined_view, HaveMet}
 use Rattle.flow_round_laws.specs.JoinedTheorems.{AllMet}
 use Rattle.flow_round_laws.specs.RoundTheorems.{net_of}
 use Rattle.flow_opening.specs.Settings.{Setting, moved_by}

@@ -1,4 +1,4 @@
-use Rattle.std.proofs.Common.{◌≡◌, ◌<◌, length, refl, sym, ◌∙◌, ap, subst, arith}
+use Rattle.std.proofs.Common.{length, refl, sym, ◌∙◌, ap, subst, arith}
 use Rattle.std.proofs.lemmas.List.{length-map}
 use Rattle.flow_graph.specs.Graphs.{states_of}
 use Rattle.flow_graph.specs.Layouts.{nodes_of}
