@@ -37,12 +37,12 @@ fn main(rt: HostRuntime) -> Result<()> {
                 let same = measured(&rt, &program, count, &shared)?;
                 ensure!(same == line, "drives differ");
             }
-            print!(rt;
+            let value = line.as_slice().trim_ascii_end();
+            println!(rt;
                 "{}, capacity {capacity}: {}",
                 program.name,
-                line.escape_ascii()
+                value.escape_ascii()
             )?;
-            println!(rt; "")?;
         }
     }
     Ok(())
