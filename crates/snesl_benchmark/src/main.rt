@@ -57,13 +57,13 @@ fn count_of<R: Env + AllocGlobal>(rt: &R) -> Result<u64> {
 }
 
 // Neighbours go to different shares, as without an option.
-fn config(alloc: Global, drive: Drive, threads: usize, capacity: usize) -> Result<Config> {
+fn config(alloc: Global, drive: Drive, threads: u8, capacity: usize) -> Result<Config> {
     let mut share = Vec::new(alloc);
     for thread in 0..threads {
-        share.push(thread as u8)?;
+        share.push(thread)?;
     }
     let sharing = Sharing {
-        threads,
+        threads: usize::from(threads),
         idle_turns: 64,
         share,
     };
