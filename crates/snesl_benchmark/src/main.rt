@@ -39,12 +39,12 @@ fn main(rt: HostRuntime) -> Result<()> {
                     ensure!(same == line, "drives differ");
                 }
             }
-            print!(rt;
+            let value = line.as_slice().trim_ascii_end();
+            println!(rt;
                 "{}, capacity {capacity}: {}",
                 program.name,
-                line.escape_ascii()
+                value.escape_ascii()
             )?;
-            println!(rt; "")?;
         }
     }
     Ok(())
@@ -59,13 +59,13 @@ fn count_of<R: Env + AllocGlobal>(rt: &R) -> Result<u64> {
 }
 
 // Neighbours go to different shares, as without an option.
-fn config(alloc: Global, drive: Drive, threads: usize, capacity: usize) -> Result<Config> {
+fn config(alloc: Global, drive: Drive, threads: u8, capacity: usize) -> Result<Config> {
     let mut share = Vec::new(alloc);
     for thread in 0..threads {
-        share.push(thread as u8)?;
+        share.push(thread)?;
     }
     let sharing = Sharing {
-        threads,
+        threads: usize::from(threads),
         idle_turns: 64,
         share,
     };

@@ -1,11 +1,15 @@
 // How many rounds a run has, and how long rounds take in which nothing is to do.
 
+ghost use Rattle.std.specs.Prelude.{◌≡◌, false, IfOk};
+ghost use Rattle.std.specs.List.{All};
+
 use anyhow::Result;
 use flow_boxes::Boxes;
 use flow_drive::{Gate, NoGate};
 use flow_scalar::Source;
 use flow_shares::Share;
 use flow_workers::run_all;
+use std::alloc::{AllocError, Global};
 use std::rt::Clock;
 use std::sync::Arc;
 use std::sync::atomic::{AtomicU64, Ordering};
@@ -48,13 +52,21 @@ pub fn idle_rounds<R: Clock + AllocGlobal + Threads>(
 ) -> Result<Duration> {
     let alloc = rt.alloc();
     let gate = Arc::new(alloc, NoGate)?;
-    let mut shares: Vec<Share<Source, Boxes>> = Vec::new(alloc);
-    for number in 0..threads {
-        shares.push(Share::new(number, Vec::new(alloc), Boxes::new(alloc, 0, 1)?))?;
-    }
     let start = Instant::now(rt)?;
     for _ in 0..rounds {
-        shares = run_all(rt, alloc, shares, 1, 1, &gate)?;
+        run_all(rt, alloc, bare_shares(alloc, threads)?, 1, 1, &gate)?;
     }
     Ok(start.elapsed(rt)?)
+}
+
+// So many shares without nodes.
+fn bare_shares(alloc: Global, count: usize) -> Result<Vec<Share<Source, Boxes>>, AllocError>
+    ensures { IfOk result (λ shares. All (λ share. share.starved ≡ false) shares.items) }
+{
+    let mut shares = Vec::new(alloc);
+    for number in 0..count {
+        let none = Boxes::new(alloc, 0, 1)?;
+        shares.push(Share::new(number, Vec::new(alloc), none))?;
+    }
+    Ok(shares)
 }
