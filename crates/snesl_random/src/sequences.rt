@@ -19,13 +19,7 @@ impl Generator {
         match self.dice.below(14) {
             0 => self.listed(kind, element, depth),
             1 | 2 => self.filtered(element, depth),
-            3 => self.then(&[
-                Piece::Word("("),
-                Piece::Expression(kind, depth),
-                Piece::Word(" ++ "),
-                Piece::Expression(kind, depth),
-                Piece::Word(")"),
-            ]),
+            3 => self.joined(kind, depth),
             4 if self.kinds.size(kind) <= LARGE => {
                 let nested = self.kinds.place(Shape::Sequence(kind))?;
                 self.of("concat(", nested, depth)
@@ -38,7 +32,7 @@ impl Generator {
     /// One to three elements, or numbers from 0 on.
     pub fn listed(&mut self, kind: usize, element: usize, depth: usize) -> Result<(), AllocError> {
         if element == INT && self.dice.once_in(2) {
-            let count = self.dice.below(7);
+            let count = self.some_count();
             return self.counted(count);
         }
         if self.dice.once_in(8) {
@@ -55,6 +49,37 @@ impl Generator {
         let mut pieces = Vec::new(self.alloc);
         elements(&mut pieces, count, element, depth)?;
         self.then(&pieces)
+    }
+
+    // A sequence behind another, or behind itself, which edges that are too small cannot hold back.
+    fn joined(&mut self, kind: usize, depth: usize) -> Result<(), AllocError> {
+        if self.dice.once_in(2) {
+            return self.then(&[
+                Piece::Word("("),
+                Piece::Expression(kind, depth),
+                Piece::Word(" ++ "),
+                Piece::Expression(kind, depth),
+                Piece::Word(")"),
+            ]);
+        }
+        let name = self.new_name(kind);
+        self.then(&[
+            Piece::Word("(let "),
+            Piece::Name(name.number),
+            Piece::Word(" = "),
+            Piece::Expression(kind, depth),
+            Piece::Word(" in "),
+            Piece::Name(name.number),
+            Piece::Word(" ++ "),
+            Piece::Name(name.number),
+            Piece::Word(")"),
+        ])
+    }
+
+    // How many numbers there are: mostly at most 6.
+    fn some_count(&mut self) -> usize {
+        let end = if self.dice.once_in(8) { 25 } else { 7 };
+        self.dice.below(end)
     }
 
     // The numbers below another.
@@ -155,7 +180,7 @@ impl Generator {
 
     // Bodies over the numbers below another, and over as many again.
     fn over_numbers(&mut self, element: usize, depth: usize) -> Result<(), AllocError> {
-        let count = self.dice.below(7);
+        let count = self.some_count();
         let (first, second) = (self.new_binder(INT), self.second_binder(INT));
         let source = [Piece::Word("iota("), Piece::Digits(count), Piece::Word(")")];
         self.over(
@@ -185,7 +210,6 @@ impl Generator {
 
     /// Bodies over the sequence of a name, and over that again, its sums, or an element for each of its elements.
     pub fn twice(&mut self, element: usize, depth: usize, name: Name) -> Result<(), AllocError> {
-        let here = self.scope();
         let Shape::Sequence(kind) = self.kinds.shape(name.kind) else {
             return Ok(());
         };
@@ -212,6 +236,18 @@ impl Generator {
                 &[(first, again.as_slice()), (second, again.as_slice())],
             );
         }
+        self.over_mapped(element, depth, (name, kind))
+    }
+
+    // Bodies over an element for each element of the sequence of a name, and over that sequence.
+    fn over_mapped(
+        &mut self,
+        element: usize,
+        depth: usize,
+        (name, kind): (Name, usize),
+    ) -> Result<(), AllocError> {
+        let here = self.scope();
+        let first = self.new_binder(kind);
         let other = any_kind(&mut self.dice);
         let each = self.new_binder(kind);
         let mapped = [
@@ -225,6 +261,7 @@ impl Generator {
             Piece::Name(name.number),
             Piece::Word("}"),
         ];
+        let again = [Piece::Name(name.number)];
         let second = self.second_binder(other);
         self.over(
             element,
