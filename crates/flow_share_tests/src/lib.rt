@@ -2,6 +2,8 @@
 #![tactic(auto)]
 
 #[cfg(test)]
+mod epochs;
+#[cfg(test)]
 mod gathering;
 #[cfg(test)]
 mod pumping;

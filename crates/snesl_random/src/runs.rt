@@ -10,7 +10,7 @@ use std::fmt;
 use std::thread::Threads;
 
 // The drives that are compared.
-const DRIVES: [Drive; 1] = [Drive::Rounds];
+const DRIVES: [Drive; 2] = [Drive::Rounds, Drive::Rings];
 
 // How many configurations a program is run under, by each drive.
 const CONFIGS: usize = 3;
