@@ -2,8 +2,6 @@
 #![tactic(auto)]
 
 #[cfg(test)]
-mod epochs;
-#[cfg(test)]
 mod gathering;
 #[cfg(test)]
 mod pumping;
