@@ -1,54 +1,188 @@
--- A graph that was gathered of shares at rest is where a maximal run of its network ends.
-use Rattle.std.proofs.Common.{◌≡◌, ℕ, List, sym, subst}
-use Rattle.flow_edges.specs.declared.table.Table.{Table}
+-- A graph that was gathered of shares at rest is sound, and no node can step there. Over boxes it is where a maximal run
+-- of its network ends.
+use Rattle.std.proofs.Common.{◌≡◌, ℕ, zero, suc, ◌<◌, ◌≤◌, ◌⊎◌, inl, inr, true, List, [], ◌∷◌, length, length-append, map, get_or, Some, refl, sym, ap, subst, arith}
+use Rattle.std.proofs.Math.Path.{fun_ext}
+use Rattle.std.proofs.lemmas.Bool.{cases_lt}
+use Rattle.std.proofs.lemmas.List.{get_or_past, length-map, get_or-map}
+use Rattle.kahn.specs.Configurations.{IsSound}
+use Rattle.kahn.specs.Runs.{AtRest}
+use Rattle.flow_edges.specs.Ends.{View}
 use Rattle.flow_base.specs.declared.transducer.Transducer.{Ghosts}
 use Rattle.flow_graph.specs.declared.edge.Edge.{Edge}
 use Rattle.flow_graph.specs.declared.graph.Graph.{Graph}
+use Rattle.flow_graph.specs.Edges.{edge_at}
 use Rattle.flow_graph.specs.Graphs.{states_of, edges_of}
+use Rattle.flow_graph.specs.Networks.{configuration_of}
 use Rattle.flow_graph.specs.Places.{states_in}
 use Rattle.flow_graph.specs.Shapes.{IsSameNetwork}
 use Rattle.flow_boxes.specs.declared.boxes.Boxes.{Boxes}
-use Rattle.flow_boxes.specs.Contents.{Contents}
-use Rattle.flow_round_laws.specs.Joints.{joint_view, HaveMet}
-use Rattle.flow_rounds.specs.Standing.{Setting}
-use Rattle.flow_rounds.specs.Gathered.{seen, HaveComeToRest}
+use Rattle.flow_boxes.specs.Contents.{Contents, contents, view_of}
+use Rattle.flow_boxes.specs.Rounds.{IsLinked}
+use Rattle.flow_rings.specs.declared.rings.Rings.{Rings}
+use Rattle.flow_rings.specs.Rings.{ends_of}
+use Rattle.flow_meetings.specs.BoxMeetings.{BoxesJoin}
+use Rattle.flow_meetings.specs.RingMeetings.{RingsJoin}
+use Rattle.flow_deal.specs.Deals.{share_of}
+use Rattle.flow_round_laws.specs.Joints.{no_contents, boxes_at, views_of, writer_boxes, reader_boxes, joined_view, HaveMet}
+use Rattle.flow_round_laws.specs.JoinedTheorems.{AllMet}
+use Rattle.flow_round_laws.specs.RoundTheorems.{net_of}
+use Rattle.flow_opening.specs.Settings.{Setting, moved_by}
+use Rattle.flow_rounds.specs.Standing.{seen}
+use Rattle.flow_rounds.proofs.Gathers.{HaveComeToRest}
+use Rattle.flow_epochs.proofs.Gathers.{HaveRested}
 use Rattle.flow_drive.specs.declared.lines.SharedLines.{SharedLines}
 use Rattle.flow_drive.specs.declared.lines.Lines.{Lines}
-use Rattle.flow_drive.specs.declared.lines.Lines.TheVariants.{Whole, Shared}
+use Rattle.flow_drive.specs.declared.lines.Lines.TheVariants.{Whole, Shared, Joined}
 use Rattle.flow_drive.specs.Drives.{EndsMaximalRun, IsSoundAt, RestsAt}
-use Rattle.flow_drive.specs.Edges.{seen_in, traffic_in}
+use Rattle.flow_drive.specs.Edges.{seen_by, traffic_by, AreJoined, traffic_in, moved_on, AreThere}
 use Rattle.flow_drive.proofs.Rests.{run_sound, run_rests}
 
--- the ends of these edges have met, where they are in boxes
-abbrev pub HaveMetIn : List Edge → Lines → Type 0
-HaveMetIn edges (Whole table) = Unit {0}
-HaveMetIn edges (Shared shared) = HaveMet shared.share.items edges (seen_in shared) shared.capacity
+-- what is seen of boxes is what is seen of their ends
+seen_of : (boxes : List Boxes) (s : ℕ) → views_of (map contents boxes) s ≡ seen_by view_of boxes s
+seen_of [] s = refl
+seen_of (b ∷ boxes) zero = refl
+seen_of (b ∷ boxes) (suc s) = seen_of boxes s
 
--- edges in boxes are in no table
-pub in_no_table : (shared : SharedLines) (table : Table) → Shared shared ≡ Whole table → ⊥
-in_no_table shared table is = cc is
+all_seen : (boxes : List Boxes) → views_of (map contents boxes) ≡ seen_by view_of boxes
+all_seen boxes = fun_ext (seen_of boxes)
 
-module _ {X : Type 0} {t : Ghosts X} (setting : Setting t) (graph : Graph X t) (shared : SharedLines)
+-- boxes that have met are joined
+module _ (share : List ℕ) (edges : List Edge) (boxes : List Boxes) (most : ℕ) (met : HaveMet share edges (seen boxes) most) where
+  abbrev writer : ℕ → ℕ
+  writer e = share_of share (edge_at edges e).writer
+
+  abbrev reader : ℕ → ℕ
+  reader e = share_of share (edge_at edges e).reader
+
+  -- a share that has an end of an edge is among the shares
+  there : (s e : ℕ) → ((boxes_at (seen boxes) s).ends.writes e ≡ true) ⊎ ((boxes_at (seen boxes) s).ends.reads e ≡ true) → s < length boxes
+  there s e has = at has (cases_lt s (length (seen boxes)))
+    where
+      at : ((boxes_at (seen boxes) s).ends.writes e ≡ true) ⊎ ((boxes_at (seen boxes) s).ends.reads e ≡ true) → (s < length (seen boxes)) ⊎ (length (seen boxes) ≤ s) → s < length boxes
+      at has (inl l) = omega (arith, l, length-map boxes contents)
+      at (inl writes) (inr above) = absurd (cc (ap (λ (b : Contents). b.ends.writes e) (get_or_past (seen boxes) s no_contents above), writes))
+      at (inr reads) (inr above) = absurd (cc (ap (λ (b : Contents). b.ends.reads e) (get_or_past (seen boxes) s no_contents above), reads))
+
+  module _ (e : ℕ) (l : e < length edges) where
+    writer_there : writer e < length boxes
+    writer_there = there (writer e) e (inl (met.linked e l).writes)
+
+    reader_there : reader e < length boxes
+    reader_there = there (reader e) e (inr (met.linked e l).reads)
+
+    joined_at : (d : Boxes) → BoxesJoin (get_or boxes (writer e) d) (get_or boxes (reader e) d) e
+    joined_at d =
+        subst (λ (a : Contents). IsLinked a (contents (get_or boxes (reader e) d)) e) (get_or-map contents boxes (writer e) d no_contents writer_there)
+        (subst (λ (b : Contents). IsLinked (writer_boxes share edges (seen boxes) e) b e) (get_or-map contents boxes (reader e) d no_contents reader_there) (met.linked e l))
+
+  boxes_met : AllMet share edges (views_of (seen boxes)) most
+  boxes_met e l =
+      let w = (writer_boxes share edges (seen boxes) e).ends in
+      let r = (reader_boxes share edges (seen boxes) e).ends in
+      let arrived = ap length (met.carried e l).arrived in
+      let both = length-append (r.received e) (r.coming e) in
+      record {
+        begins = (r.coming e, (met.carried e l).arrived);
+        held = omega (arith, arrived, both);
+        room = omega (arith, arrived, both, (met.carried e l).room, met.capacity e l);
+        fits = omega (arith, arrived, both, (met.carried e l).room, met.capacity e l);
+      }
+
+  boxes_joined : AreJoined view_of share edges boxes BoxesJoin most
+  boxes_joined = record {
+    writers = writer_there;
+    readers = reader_there;
+    joined = λ e d l. joined_at e l d;
+    met = subst (λ v. AllMet share edges v most) (all_seen boxes) boxes_met;
+  }
+
+-- the ends of these edges are joined, where they are in boxes
+abbrev BoxesThere : List Edge → Lines → Type 0
+BoxesThere edges (Whole table) = Unit {0}
+BoxesThere edges (Shared boxes) = AreJoined view_of boxes.share.items edges boxes.ends.items BoxesJoin boxes.capacity
+BoxesThere edges (Joined rings) = Unit {0}
+
+-- and where they are those of rings
+abbrev RingsThere : List Edge → Lines → Type 0
+RingsThere edges (Whole table) = Unit {0}
+RingsThere edges (Shared boxes) = Unit {0}
+RingsThere edges (Joined rings) = AreJoined ends_of rings.share.items edges rings.ends.items RingsJoin rings.capacity
+
+-- what holds of the ends in a setting holds of the edges that a graph gathered there has
+module _ {X : Type 0} {t : Ghosts X} (setting : Setting t) (share : List ℕ) (edges : List Edge) (capacity : ℕ) (same_share : share ≡ setting.share) (same_edges : edges ≡ setting.edges) (same_capacity : capacity ≡ setting.capacity) where
+  of_lines : (Q : List ℕ → List Edge → ℕ → Type 0) → Q setting.share setting.edges setting.capacity → Q share edges capacity
+  of_lines Q q = subst (λ s. Q s edges capacity) (sym same_share) (subst (λ e. Q setting.share e capacity) (sym same_edges) (subst (λ n. Q setting.share setting.edges n) (sym same_capacity) q))
+
+-- over boxes
+module _ {X : Type 0} {t : Ghosts X} (setting : Setting t) (graph : Graph X t) (shared : SharedLines Boxes)
     (same : IsSameNetwork t.behaviour (states_in setting.nodes) setting.edges (states_of graph) (edges_of graph))
-    (rested : HaveComeToRest setting (states_of graph) (seen_in shared))
+    (rested : HaveComeToRest setting (states_of graph) (seen shared.ends.items))
     (share : shared.share.items ≡ setting.share) (capacity : shared.capacity ≡ setting.capacity) where
-  -- what holds of the setting holds of the graph and its boxes
-  of_lines : (Q : List ℕ → List Edge → ℕ → Type 0) → Q setting.share setting.edges setting.capacity → Q shared.share.items (edges_of graph) shared.capacity
-  of_lines Q q =
-      subst (λ s. Q s (edges_of graph) shared.capacity) (sym share)
-      (subst (λ e. Q setting.share e shared.capacity) (sym same.same_edges)
-      (subst (λ n. Q setting.share setting.edges n) (sym capacity) q))
+  abbrev boxes : List Boxes
+  boxes = shared.ends.items
 
-  pub have_met : HaveMet shared.share.items (edges_of graph) (seen_in shared) shared.capacity
-  have_met = of_lines (λ s e n. HaveMet s e (seen_in shared) n) rested.met
+  abbrev traffic : View
+  traffic = traffic_in (edges_of graph) (Shared shared)
 
-  pub run : EndsMaximalRun t.behaviour setting.capacity (states_in setting.nodes) setting.edges (states_of graph) (traffic_in (edges_of graph) (Shared shared))
-  run = of_lines (λ s e n. EndsMaximalRun t.behaviour setting.capacity (states_in setting.nodes) setting.edges (states_of graph) (joint_view s e (seen_in shared)))
-      (rested.reaches.0, record { run = rested.reaches.1; rest = rested.rest })
+  boxes_there : AreJoined view_of shared.share.items (edges_of graph) boxes BoxesJoin shared.capacity
+  boxes_there =
+      of_lines setting shared.share.items (edges_of graph) shared.capacity share same.same_edges capacity (λ s e n. AreJoined view_of s e boxes BoxesJoin n)
+      (boxes_joined setting.share setting.edges boxes setting.capacity rested.met)
 
-  pub sound : IsSoundAt t.behaviour (states_of graph) (edges_of graph) (traffic_in (edges_of graph) (Shared shared))
-  sound = run_sound t.behaviour setting.capacity (states_in setting.nodes) setting.edges (states_of graph) (edges_of graph) (traffic_in (edges_of graph) (Shared shared)) same run setting.fit.built.wired
+  pub are_there : AreThere (edges_of graph) (Shared shared)
+  are_there = record {
+    whole = λ table is. absurd (cc is);
+    shared = λ other is. ∣ subst (λ lines. BoxesThere (edges_of graph) lines) is boxes_there ∣₁;
+    joined = λ rings is. absurd (cc is);
+  }
 
-  pub rests : RestsAt t.behaviour (states_of graph) (edges_of graph) shared.capacity (traffic_in (edges_of graph) (Shared shared))
-  rests = subst (λ n. RestsAt t.behaviour (states_of graph) (edges_of graph) n (traffic_in (edges_of graph) (Shared shared))) (sym capacity)
-      (run_rests t.behaviour setting.capacity (states_in setting.nodes) setting.edges (states_of graph) (edges_of graph) (traffic_in (edges_of graph) (Shared shared)) same run)
+  pub run : EndsMaximalRun t.behaviour setting.capacity (states_in setting.nodes) setting.edges (states_of graph) traffic
+  run = of_lines setting shared.share.items (edges_of graph) shared.capacity share same.same_edges capacity
+      (λ s e n. EndsMaximalRun t.behaviour setting.capacity (states_in setting.nodes) setting.edges (states_of graph) (traffic_by view_of s e boxes))
+      (subst (λ v. EndsMaximalRun t.behaviour setting.capacity (states_in setting.nodes) setting.edges (states_of graph) (joined_view setting.share setting.edges v)) (all_seen boxes)
+      (rested.reaches.0, record { run = rested.reaches.1; rest = rested.rest }))
+
+  pub sound : IsSoundAt t.behaviour (states_of graph) (edges_of graph) traffic
+  sound = run_sound t.behaviour setting.capacity (states_in setting.nodes) setting.edges (states_of graph) (edges_of graph) traffic same run setting.fit.built.wired
+
+  pub rests : RestsAt t.behaviour (states_of graph) (edges_of graph) shared.capacity traffic
+  rests = subst (λ n. RestsAt t.behaviour (states_of graph) (edges_of graph) n traffic) (sym capacity)
+      (run_rests t.behaviour setting.capacity (states_in setting.nodes) setting.edges (states_of graph) (edges_of graph) traffic same run)
+
+-- over rings
+module _ {X : Type 0} {t : Ghosts X} (setting : Setting t) (graph : Graph X t) (shared : SharedLines Rings)
+    (same : IsSameNetwork t.behaviour (states_in setting.nodes) setting.edges (states_of graph) (edges_of graph))
+    (rested : HaveRested setting (states_of graph) shared.ends.items)
+    (share : shared.share.items ≡ setting.share) (capacity : shared.capacity ≡ setting.capacity) where
+  abbrev rings : List Rings
+  rings = shared.ends.items
+
+  abbrev ring_traffic : View
+  ring_traffic = traffic_in (edges_of graph) (Joined shared)
+
+  of_shared : (Q : List ℕ → List Edge → ℕ → Type 0) → Q setting.share setting.edges setting.capacity → Q shared.share.items (edges_of graph) shared.capacity
+  of_shared = of_lines setting shared.share.items (edges_of graph) shared.capacity share same.same_edges capacity
+
+  rings_there : AreJoined ends_of shared.share.items (edges_of graph) rings RingsJoin shared.capacity
+  rings_there = of_shared (λ s e n. AreJoined ends_of s e rings RingsJoin n) (record { writers = rested.writers; readers = rested.readers; joined = rested.joined; met = rested.met })
+
+  pub are_joined : AreThere (edges_of graph) (Joined shared)
+  are_joined = record {
+    whole = λ table is. absurd (cc is);
+    shared = λ boxes is. absurd (cc is);
+    joined = λ other is. ∣ subst (λ lines. RingsThere (edges_of graph) lines) is rings_there ∣₁;
+  }
+
+  pub rings_sound : IsSoundAt t.behaviour (states_of graph) (edges_of graph) ring_traffic
+  rings_sound =
+      subst (λ net. ∥ IsSound t.behaviour.process net (configuration_of t.behaviour (states_of graph) ring_traffic) ∥₁) (sym same.network)
+      (of_shared (λ s e n. ∥ IsSound t.behaviour.process (net_of setting.nodes setting.edges) (configuration_of t.behaviour (states_of graph) (traffic_by ends_of s e rings)) ∥₁) rested.sound)
+
+  pub rings_rest : RestsAt t.behaviour (states_of graph) (edges_of graph) shared.capacity ring_traffic
+  rings_rest =
+      subst (λ net. AtRest t.behaviour.process net (Some shared.capacity) (configuration_of t.behaviour (states_of graph) ring_traffic)) (sym same.network)
+      (of_shared (λ s e n. AtRest t.behaviour.process (net_of setting.nodes setting.edges) (Some n) (configuration_of t.behaviour (states_of graph) (traffic_by ends_of s e rings))) rested.rest)
+
+  -- as many messages went over the edges of the graph
+  pub moved_is : (Q : ℕ → Type 0) → Q (moved_by setting (seen_by ends_of rings)) → Q (moved_on (edges_of graph) ring_traffic)
+  moved_is Q q = of_shared (λ s e n. Q (moved_on e (traffic_by ends_of s e rings))) q

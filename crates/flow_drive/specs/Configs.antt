@@ -4,7 +4,7 @@ use Rattle.std.specs.List.{All}
 use Rattle.flow_edges.specs.Limits.{greatest_capacity}
 use Rattle.flow_drive.specs.declared.config.Config.{Config}
 use Rattle.flow_drive.specs.declared.config.Drive.{Drive}
-use Rattle.flow_drive.specs.declared.config.Drive.TheVariants.{Serial, Rounds}
+use Rattle.flow_drive.specs.declared.config.Drive.TheVariants.{Serial, Rounds, Rings}
 use Rattle.flow_drive.specs.declared.config.Sharing.{Sharing}
 use Rattle.flow_drive.specs.Limits.{greatest_chunk, most_threads, most_idle_turns, most_entries}
 
@@ -30,3 +30,10 @@ pub record IsLawful (config : Config) : Type 0 where
 abbrev pub StartsThreads : Drive → Type 0
 StartsThreads Serial = ⊥
 StartsThreads Rounds = Unit {0}
+StartsThreads Rings = Unit {0}
+
+-- what the drive makes is a run, whose steps come one after another
+abbrev pub IsInSteps : Drive → Type 0
+IsInSteps Serial = Unit {0}
+IsInSteps Rounds = Unit {0}
+IsInSteps Rings = ⊥

@@ -2,7 +2,9 @@ pub mod Limits
 pub mod Configs
 pub mod Over
 pub mod Drives
+pub mod Epochs
 pub mod Edges
 pub mod Refusals
 pub mod Resteds
+pub mod Givens
 pub mod Texts

@@ -24,6 +24,8 @@ pub enum Drive {
     Serial,
     /// Shares of the nodes in threads of their own, all side by side, round after round; messages pass between the rounds.
     Rounds,
+    /// Shares of the nodes in threads of their own, all side by side, over rings; messages pass between them at any time.
+    Rings,
 }
 
 /// How a graph is to be driven.

@@ -3,13 +3,16 @@ ghost use Rattle.std.specs.Prelude.{◌≡◌, ◌↔◌, Err, IfOk};
 ghost use Rattle.flow_graph.specs.Graphs.{states_of, edges_of};
 ghost use Rattle.flow_graph.specs.Networks.{AreOpened};
 ghost use Rattle.flow_graph.specs.Shapes.{IsSameNetwork};
-ghost use Rattle.flow_drive.specs.Configs.{IsLawful, StartsThreads};
+ghost use Rattle.flow_drive.specs.Configs.{IsLawful, StartsThreads, IsInSteps};
 ghost use Rattle.flow_drive.specs.Drives.{EndsMaximalRun};
+ghost use Rattle.flow_drive.specs.Epochs.{TookEpochs};
 ghost use Rattle.flow_drive.specs.Refusals.{refused_work};
-ghost use Rattle.flow_drive.specs.Resteds.{rested_states, rested_edges, rested_capacity, traffic_of};
-ghost use Rattle.flow_drive.specs.declared.driver.DriveError.TheVariants.{BadConfig, NoMemory, NoThread};
+ghost use Rattle.flow_drive.specs.Resteds.{rested_states, rested_edges, rested_capacity, rested_epochs, moved_of, traffic_of, IsOverRings};
+ghost use Rattle.flow_drive.specs.declared.config.Drive.TheVariants.{Rings};
+ghost use Rattle.flow_drive.specs.declared.driver.DriveError.TheVariants.{BadConfig, NoMemory, NoThread, Short};
 
 use crate::config::{Config, Drive};
+use crate::joined::drive_rings;
 use crate::lines::Lines;
 use crate::rested::Rested;
 use crate::rounds::drive_rounds;
@@ -36,6 +39,11 @@ pub enum DriveError {
     /// A thread could not be started.
     #[error("no thread could be started")]
     NoThread,
+    /// No node can step by what a last meeting tells, but the messages of some edge and its room are not together its
+    /// capacity. No drive answers it, since that they are is proved of the rings. It stands for callers who know the
+    /// number.
+    #[error("an edge holds less than its capacity")]
+    Short,
 }
 
 impl From<AllocError> for DriveError {
@@ -57,11 +65,15 @@ impl From<WorkError> for DriveError {
     }
 }
 
-/// Drives a graph, as it was built, until no node can step: a maximal run of its network at the capacity of the
-/// configuration.
+/// Drives a graph, as it was built, until no node can step.
+///
+/// `Serial` and `Rounds` make a maximal run of its network at the capacity of the configuration. What `Rings` makes need
+/// not be a run, whose steps come one after another; like every graph at rest it is sound, and no node can step (see
+/// [`rested_is_sound`](crate::rested_is_sound)).
 ///
 /// It is refused as `BadConfig` exactly where the configuration is not lawful, as `NoThread` only where the drive starts
-/// threads, which `Serial` does not, and else as `NoMemory`. Only drives of several threads call the gate.
+/// threads, which `Serial` does not, and else as `NoMemory`; never as `Short`. Only drives of several threads call the
+/// gate.
 pub fn drive<
     R: Threads,
     T: Transducer + Send + Drop + 'static,
@@ -76,9 +88,12 @@ pub fn drive<
     requires { AreOpened T.behaviour (states_of graph) }
     ensures config { (result ≡ Err BadConfig) ↔ (IsLawful config.now → ⊥) }
     ensures threads { result ≡ Err NoThread → StartsThreads config.now.drive }
+    ensures whole { result ≡ Err Short → ⊥ }
     ensures network { IfOk result (λ rested. IsSameNetwork T.behaviour (states_of graph) (edges_of graph) (rested_states rested) (rested_edges rested)) }
     ensures capacity { IfOk result (λ rested. rested_capacity rested ≡ config.now.capacity) }
-    ensures run { IfOk result (λ rested. EndsMaximalRun T.behaviour config.now.capacity (states_of graph) (edges_of graph) (rested_states rested) (traffic_of rested)) }
+    ensures run { IsInSteps config.now.drive → IfOk result (λ rested. EndsMaximalRun T.behaviour config.now.capacity (states_of graph) (edges_of graph) (rested_states rested) (traffic_of rested)) }
+    ensures epochs { IfOk result (λ rested. TookEpochs config.now.drive (rested_epochs rested) (moved_of rested)) }
+    ensures rings { IfOk result (λ rested. config.now.drive ≡ Rings → IsOverRings rested) }
 {
     if !config.lawful() {
         return Err(DriveError::BadConfig);
@@ -86,6 +101,7 @@ pub fn drive<
     match config.drive {
         Drive::Serial => Ok(drive_serial(alloc, graph, config)?),
         Drive::Rounds => Ok(drive_rounds(rt, alloc, graph, config, &gate)?),
+        Drive::Rings => Ok(drive_rings(rt, alloc, graph, config, &gate)?),
     }
 }
 
@@ -100,6 +116,7 @@ fn drive_serial<T: Transducer + Drop>(
     ensures network { IfOk result (λ rested. IsSameNetwork T.behaviour (states_of graph) (edges_of graph) (rested_states rested) (rested_edges rested)) }
     ensures capacity { IfOk result (λ rested. rested_capacity rested ≡ config.now.capacity) }
     ensures run { IfOk result (λ rested. EndsMaximalRun T.behaviour config.now.capacity (states_of graph) (edges_of graph) (rested_states rested) (traffic_of rested)) }
+    ensures epochs { IfOk result (λ rested. rested_epochs rested ≡ 0) }
 {
     let mut ends = Table::new(alloc, graph.edges(), config.capacity)?;
     let mut graph = graph;
@@ -107,5 +124,6 @@ fn drive_serial<T: Transducer + Drop>(
     Ok(Rested {
         graph,
         lines: Lines::Whole(ends),
+        epochs: 0,
     })
 }

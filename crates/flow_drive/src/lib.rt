@@ -4,6 +4,8 @@
 mod config;
 mod dealing;
 mod driver;
+mod given;
+mod joined;
 mod lines;
 mod outcome;
 mod over;

@@ -1,10 +1,13 @@
 // The edges of graphs at rest.
-ghost use Rattle.std.specs.Prelude.{◌≡◌, ◌<◌, length, slice_index_or};
+ghost use Rattle.std.specs.Prelude.{◌≡◌, ◌<◌, true, length, slice_index_or};
+ghost use Rattle.std.specs.Io.Iter.{u64_saturate};
 ghost use Rattle.flow_deal.specs.Deals.{share_of};
 
 use flow_boxes::Boxes;
 use flow_deal::share_of;
-use flow_edges::Table;
+use flow_edges::{CountedEnds, Table};
+use flow_graph::Edge;
+use flow_rings::Rings;
 
 /// The edges of a graph at rest: what was sent and received on them, and what they hold.
 #[derive(Drop)]
@@ -12,41 +15,61 @@ pub enum Lines {
     /// Both ends of every edge are in one table.
     Whole(Table),
     /// The ends are in the boxes of shares.
-    Shared(SharedLines),
+    Shared(SharedLines<Boxes>),
+    /// The ends are those of rings, in shares.
+    Joined(SharedLines<Rings>),
 }
 
-/// The boxes of the shares of a graph, by the shares' numbers.
+/// The ends that the shares of a graph have, by the shares' numbers.
 #[derive(Drop)]
-pub struct SharedLines {
+pub struct SharedLines<E> {
     /// Which share has each node: node `k` has the entry at `k` modulo the length.
     pub share: Vec<u8>,
-    /// The boxes of each share.
-    pub boxes: Vec<Boxes>,
+    /// The ends of each share.
+    pub ends: Vec<E>,
     /// How many messages an edge holds at most.
     pub capacity: usize,
     ghost named: { 0 < length share.items },
 }
 
-impl SharedLines {
-    /// The boxes of shares among which this list deals the nodes.
-    pub fn new(share: Vec<u8>, boxes: Vec<Boxes>, capacity: usize) -> SharedLines
+impl<E> SharedLines<E> {
+    /// The ends of shares among which this list deals the nodes.
+    pub fn new(share: Vec<u8>, ends: Vec<E>, capacity: usize) -> SharedLines<E>
         requires { 0 < length share.items }
         ensures share { result.share ≡ share }
-        ensures boxes { result.boxes ≡ boxes }
+        ensures ends { result.ends ≡ ends }
         ensures capacity { result.capacity ≡ capacity }
     {
         SharedLines {
             share,
-            boxes,
+            ends,
             capacity,
         }
     }
 
-    /// The boxes of the share that has this node.
-    pub fn of_node(&self, node: usize) -> &Boxes
-        requires { share_of self.now.share.items node < length self.now.boxes.items }
-        ensures { (d : _) → result.now ≡ slice_index_or self.now.boxes.items (share_of self.now.share.items node) d }
+    /// The ends of the share that has this node.
+    pub fn of_node(&self, node: usize) -> &E
+        requires { share_of self.now.share.items node < length self.now.ends.items }
+        ensures { (d : _) → result.now ≡ slice_index_or self.now.ends.items (share_of self.now.share.items node) d }
     {
-        &self.boxes[share_of(&self.share, node)]
+        &self.ends[share_of(&self.share, node)]
+    }
+}
+
+impl<E: CountedEnds> SharedLines<E> {
+    /// How many messages were sent on the edge that has this number, and how many were received from it, as the shares of
+    /// its two nodes count.
+    pub fn counts(&self, edge: Edge, number: usize) -> (u64, u64)
+        requires writer { share_of self.now.share.items edge.writer < length self.now.ends.items }
+        requires reader { share_of self.now.share.items edge.reader < length self.now.ends.items }
+        requires writes { (d : _) → (E.view (slice_index_or self.now.ends.items (share_of self.now.share.items edge.writer) d)).writes number ≡ true }
+        requires reads { (d : _) → (E.view (slice_index_or self.now.ends.items (share_of self.now.share.items edge.reader) d)).reads number ≡ true }
+        ensures sent { (d : _) → result.0 ≡ u64_saturate (length ((E.view (slice_index_or self.now.ends.items (share_of self.now.share.items edge.writer) d)).sent number)) }
+        ensures received { (d : _) → result.1 ≡ u64_saturate (length ((E.view (slice_index_or self.now.ends.items (share_of self.now.share.items edge.reader) d)).received number)) }
+    {
+        (
+            self.of_node(edge.writer).sent_count(number),
+            self.of_node(edge.reader).received_count(number),
+        )
     }
 }

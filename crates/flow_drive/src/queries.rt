@@ -1,8 +1,8 @@
 // What can be asked of a graph at rest.
-ghost use Rattle.std.specs.Prelude.{◌≡◌, ◌<◌, ℕ, List, Option, length};
+ghost use Rattle.std.specs.Prelude.{◌≡◌, ◌<◌, ℕ, List, Option, length, MatchOption};
 ghost use Rattle.std.specs.Io.Iter.{u64_saturate};
 ghost use Rattle.flow_drive.specs.Drives.{ComesOut};
-ghost use Rattle.flow_drive.specs.Resteds.{rested_states, rested_edges, rested_capacity, traffic_of};
+ghost use Rattle.flow_drive.specs.Resteds.{rested_states, rested_edges, rested_capacity, rested_epochs, traffic_of, IsOverRings, AreTheRings};
 ghost use Rattle.flow_drive.specs.Texts.{last_text, IsTold};
 
 use crate::lines::Lines;
@@ -10,7 +10,7 @@ use crate::outcome::{first_to_write, standing_fault};
 use crate::rested::Rested;
 use flow_base::{Printing, Transducer};
 use flow_edges::CountedEnds;
-use flow_graph::Edge;
+use flow_rings::Rings;
 use kahn::Outcome;
 
 impl<T: Transducer> Rested<T> {
@@ -48,21 +48,30 @@ impl<T: Transducer> Rested<T> {
         ensures sent { result.0 ≡ u64_saturate (length ((traffic_of self.now).sent edge)) }
         ensures received { result.1 ≡ u64_saturate (length ((traffic_of self.now).received edge)) }
     {
-        let Edge { writer, reader, .. } = self.graph.edge(edge);
+        let ends = self.graph.edge(edge);
         match &self.lines {
             Lines::Whole(table) => (table.sent_count(edge), table.received_count(edge)),
-            Lines::Shared(shared) => (
-                shared.of_node(writer).sent_count(edge),
-                shared.of_node(reader).received_count(edge),
-            ),
+            Lines::Shared(shared) => shared.counts(ends, edge),
+            Lines::Joined(joined) => joined.counts(ends, edge),
         }
     }
 
-    /// How many epochs the run took, in each of which the ends of all edges met over rings: none, in one thread and in rounds.
+    /// How many epochs it took, in each of which the ends of all edges met over rings: none, in one thread and in rounds.
+    /// The count stays at `u64::MAX`.
     pub fn epochs(&self) -> u64
-        ensures { result ≡ 0 }
+        ensures { result ≡ rested_epochs self.now }
     {
-        0
+        self.epochs
+    }
+
+    /// The ring ends of each share, by the shares' numbers: of a graph that was driven over rings, and of no other.
+    pub fn rings(&self) -> Option<&[Rings]>
+        ensures { MatchOption result (IsOverRings self.now → ⊥) (λ rings. AreTheRings self.now rings.now) }
+    {
+        match &self.lines {
+            Lines::Joined(joined) => Some(&joined.ends),
+            _ => None,
+        }
     }
 }
 

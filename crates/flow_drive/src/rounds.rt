@@ -1,28 +1,30 @@
 // The drive of several threads by rounds.
-ghost use Rattle.std.specs.Prelude.{◌≡◌, ◌<◌, length, IfOk};
+ghost use Rattle.std.specs.Prelude.{◌≡◌, ◌<◌, IfOk};
 ghost use Rattle.flow_graph.specs.Graphs.{states_of, edges_of};
 ghost use Rattle.flow_graph.specs.Layouts.{edges_in};
 ghost use Rattle.flow_graph.specs.Networks.{AreOpened};
 ghost use Rattle.flow_graph.specs.Places.{states_in};
 ghost use Rattle.flow_graph.specs.Shapes.{IsSameNetwork};
 ghost use Rattle.flow_opening.specs.Open.{AreWires};
-ghost use Rattle.flow_rounds.specs.Standing.{Setting, StandBetweenRounds};
+ghost use Rattle.flow_opening.specs.Settings.{Setting};
+ghost use Rattle.flow_rounds.specs.Standing.{StandBetweenRounds};
 ghost use Rattle.flow_drive.specs.Configs.{IsLawful};
 ghost use Rattle.flow_drive.specs.Drives.{EndsMaximalRun};
-ghost use Rattle.flow_drive.specs.Resteds.{rested_states, rested_edges, rested_capacity, traffic_of};
+ghost use Rattle.flow_drive.specs.Givens.{IsOfSetting};
+ghost use Rattle.flow_drive.specs.Resteds.{rested_states, rested_edges, rested_capacity, rested_epochs, traffic_of};
 
 use crate::config::Config;
+use crate::given::{Given, deal_out};
 use crate::lines::{Lines, SharedLines};
 use crate::rested::Rested;
 use flow_base::Transducer;
 use flow_boxes::Boxes;
 use flow_graph::Graph;
-use flow_opening::{Dealt, deal};
-use flow_rounds::{gather_graph, run_rounds};
+use flow_opening::{Dealt, gather_graph};
+use flow_rounds::run_rounds;
 use flow_shares::Gate;
 use flow_workers::WorkError;
 use std::alloc::Global;
-use std::snapshot::Snapshot;
 use std::sync::Arc;
 use std::thread::Threads;
 
@@ -46,34 +48,10 @@ pub fn drive_rounds<
     ensures network { IfOk result (λ rested. IsSameNetwork T.behaviour (states_of graph) (edges_of graph) (rested_states rested) (rested_edges rested)) }
     ensures capacity { IfOk result (λ rested. rested_capacity rested ≡ config.now.capacity) }
     ensures run { IfOk result (λ rested. EndsMaximalRun T.behaviour config.now.capacity (states_of graph) (edges_of graph) (rested_states rested) (traffic_of rested)) }
+    ensures epochs { IfOk result (λ rested. rested_epochs rested ≡ 0) }
 {
-    let given = Snapshot::of(&graph);
-    let nodes = graph.nodes();
-    let share = config.sharing.share.to_vec(alloc)?;
-    let dealt = deal(
-        alloc,
-        graph,
-        config.sharing.threads,
-        &share,
-        config.capacity,
-    )?;
-    let graph = Given {
-        graph: given,
-        nodes,
-        share,
-        capacity: config.capacity,
-    };
-    run_dealt(rt, alloc, graph, dealt, config.chunk, gate)
-}
-
-// What is known of a graph that was dealt out: how many nodes it has, to which share each went, and how many messages an
-// edge holds at most.
-#[derive(Drop)]
-struct Given<T: Transducer> {
-    graph: Snapshot<Graph<T>>,
-    nodes: usize,
-    share: Vec<u8>,
-    capacity: usize,
+    let (given, dealt) = deal_out(alloc, graph, config)?;
+    run_dealt(rt, alloc, given, dealt, config.chunk, gate)
 }
 
 // Runs the shares of a graph that was just dealt out, and gathers them.
@@ -91,16 +69,14 @@ fn run_dealt<
 ) -> Result<Rested<T>, WorkError>
     ghost setting: { Setting ⟦<T as Transducer>⟧ }
     requires some { 0 < chunk }
-    requires named { 0 < length given.share.items }
-    requires nodes { given.nodes ≡ length setting.nodes }
-    requires share { given.share.items ≡ setting.share }
-    requires capacity { given.capacity ≡ setting.capacity }
+    requires given { IsOfSetting setting given }
     requires wires { AreWires setting.share setting.edges dealt.wires.items }
     requires layout { edges_in dealt.layout ≡ setting.edges }
     requires stand { StandBetweenRounds setting dealt.shares.items }
     ensures network { IfOk result (λ rested. IsSameNetwork T.behaviour (states_in setting.nodes) setting.edges (rested_states rested) (rested_edges rested)) }
     ensures capacity { IfOk result (λ rested. rested_capacity rested ≡ setting.capacity) }
     ensures run { IfOk result (λ rested. EndsMaximalRun T.behaviour setting.capacity (states_in setting.nodes) setting.edges (rested_states rested) (traffic_of rested)) }
+    ensures epochs { IfOk result (λ rested. rested_epochs rested ≡ 0) }
 {
     let Dealt {
         shares,
@@ -113,5 +89,6 @@ fn run_dealt<
     Ok(Rested {
         graph,
         lines: Lines::Shared(shared),
+        epochs: 0,
     })
 }

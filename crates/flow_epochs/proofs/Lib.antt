@@ -3,3 +3,5 @@ pub mod Meets
 pub mod Pumps
 pub mod Whole
 pub mod Bare
+pub mod Begins
+pub mod Gathers

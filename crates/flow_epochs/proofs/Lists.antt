@@ -1,9 +1,8 @@
 -- Lists of shares, and of what each share has.
-use Rattle.std.proofs.Common.{◌≡◌, ℕ, zero, suc, ◌<◌, ◌≤◌, ◌⊎◌, inl, inr, List, [], ◌∷◌, ◌++◌, length, map, take, drop, get_or, refl, sym, ◌∙◌, ap, subst, arith}
+use Rattle.std.proofs.Common.{◌≡◌, ℕ, zero, suc, ◌<◌, ◌≤◌, ◌⊎◌, inl, inr, List, [], length, map, get_or, refl, sym, ◌∙◌, ap, subst, arith}
 use Rattle.std.proofs.lemmas.Bool.{cases_eq}
 use Rattle.std.proofs.lemmas.List.{get_or-map, length-map}
 use Rattle.std.specs.Prelude.{Result, Ok, Err, IfOk}
-use Rattle.std.specs.List.{AllZip}
 use Rattle.kahn.specs.Basics.{total}
 use Rattle.kahn.proofs.Search.{total_less}
 use Rattle.flow_edges.specs.declared.ends.Ends.{Ghosts as EndsGhosts}
@@ -11,19 +10,9 @@ use Rattle.flow_base.specs.declared.transducer.Transducer.{Ghosts}
 use Rattle.flow_shares.specs.declared.share.Share.{Share}
 use Rattle.flow_shares.specs.Lending.{Body, body_of}
 use Rattle.flow_round_laws.specs.Joints.{no_ends, nodes_at}
-use Rattle.flow_epochs.specs.Dealt.{dealt_of, all_ends, view_at, AreFed}
-
--- a list that is mapped twice
-pub mapped_twice : {A B C : Type 0} (g : B → C) (f : A → B) (xs : List A) → map g (map f xs) ≡ map (λ x. g (f x)) xs
-mapped_twice g f [] = refl
-mapped_twice g f (x ∷ xs) = ap (λ ys. g (f x) ∷ ys) (mapped_twice g f xs)
-
--- what holds place by place holds of two lists of one length
-pub all_zipped : {A B : Type 0} (R : A → B → Type 0) (xs : List A) (ys : List B) → length ys ≡ length xs → ((k : ℕ) (x : A) (y : B) → k < length xs → R (get_or xs k x) (get_or ys k y)) → AllZip R xs ys
-all_zipped R [] [] long each = tt
-all_zipped R [] (y ∷ ys) long each = absurd (omega (arith, long))
-all_zipped R (x ∷ xs) [] long each = absurd (omega (arith, long))
-all_zipped R (x ∷ xs) (y ∷ ys) long each = (each 0 x y (omega arith), all_zipped R xs ys (omega (arith, long)) (λ k a b l. each (suc k) a b (omega (arith, l))))
+use Rattle.flow_opening.specs.Deals.{nodes_in, ends_in}
+use Rattle.flow_opening.specs.Settings.{view_at, AreFed}
+use Rattle.flow_opening.proofs.Lists.{mapped_twice}
 
 -- parts that are no less, and not more in all, are the same
 pub parts_same : (f g : ℕ → ℕ) (n : ℕ) → ((e : ℕ) → e < n → f e ≤ g e) → total g n ≤ total f n → (e : ℕ) → e < n → g e ≤ f e
@@ -37,42 +26,33 @@ parts_same f g (suc n) each most e l = at (cases_eq e n) (λ before. parts_same 
     at (inl last) rest = subst (λ i. g i ≤ f i) (sym last) (omega (arith, less, most))
     at (inr before) rest = rest before
 
--- a list that was written over one of its length
-pub written_back : {A : Type 0} (now old : List A) (n : ℕ) → length now ≡ length old → n ≡ length old → take n (now ++ drop (length now) old) ≡ now
-written_back [] [] zero even long = refl
-written_back [] [] (suc n) even long = absurd (omega (arith, long))
-written_back [] (y ∷ old) n even long = absurd (omega (arith, even))
-written_back (x ∷ now) [] n even long = absurd (omega (arith, even))
-written_back (x ∷ now) (y ∷ old) zero even long = absurd (omega (arith, long))
-written_back (x ∷ now) (y ∷ old) (suc n) even long = ap (λ zs. x ∷ zs) (written_back now old n (omega (arith, even)) (omega (arith, long)))
-
 -- what two facts of a result say together
 pub two_of_ok : {A E : Type 0} (r : Result A E) {P Q Z : A → Type 0} → IfOk r P → IfOk r Q → ((a : A) → P a → Q a → Z a) → IfOk r Z
 two_of_ok (Ok a) p q all = all a p q
 two_of_ok (Err e) p q all = tt
 
 module _ {X Y : Type 0} {t : Ghosts X} {u : EndsGhosts Y} (shares : List (Share X Y t u)) where
-  pub count_dealt : length (dealt_of shares) ≡ length shares
+  pub count_dealt : length (nodes_in shares) ≡ length shares
   count_dealt = length-map shares (λ (share : Share X Y t u). share.nodes.items)
 
-  pub count_ends : length (all_ends shares) ≡ length shares
+  pub count_ends : length (ends_in shares) ≡ length shares
   count_ends = length-map shares (λ (share : Share X Y t u). share.ends)
 
   module _ (s : ℕ) (d : Share X Y t u) (l : s < length shares) where
-    pub nodes_are : nodes_at (dealt_of shares) s ≡ (get_or shares s d).nodes.items
+    pub nodes_are : nodes_at (nodes_in shares) s ≡ (get_or shares s d).nodes.items
     nodes_are = get_or-map (λ (share : Share X Y t u). share.nodes.items) shares s d [] l
 
     pub view_is : view_at shares s ≡ u.view (get_or shares s d).ends
     view_is = get_or-map (λ (share : Share X Y t u). u.view share.ends) shares s d no_ends l
 
-    pub ends_are : (b : Y) → get_or (all_ends shares) s b ≡ (get_or shares s d).ends
+    pub ends_are : (b : Y) → get_or (ends_in shares) s b ≡ (get_or shares s d).ends
     ends_are b = get_or-map (λ (share : Share X Y t u). share.ends) shares s d b l
 
   -- what share s sees is what is seen of its ends
-  pub view_of_ends : (s : ℕ) (b : Y) → s < length shares → view_at shares s ≡ u.view (get_or (all_ends shares) s b)
+  pub view_of_ends : (s : ℕ) (b : Y) → s < length shares → view_at shares s ≡ u.view (get_or (ends_in shares) s b)
   view_of_ends s b l =
       ap (λ vs. get_or vs s no_ends) (sym (mapped_twice u.view (λ (share : Share X Y t u). share.ends) shares))
-      ∙ get_or-map u.view (all_ends shares) s b no_ends (omega (arith, l, count_ends))
+      ∙ get_or-map u.view (ends_in shares) s b no_ends (omega (arith, l, count_ends))
 
   -- shares with the same bodies have the same nodes, and as many starved and moved
   module _ (others : List (Share X Y t u)) (bodies : map body_of others ≡ map body_of shares) where
@@ -83,7 +63,7 @@ module _ {X Y : Type 0} {t : Ghosts X} {u : EndsGhosts Y} (shares : List (Share 
     same_of_bodies f =
         sym (mapped_twice f (λ (share : Share X Y t u). body_of share) others) ∙ ap (map f) bodies ∙ mapped_twice f (λ (share : Share X Y t u). body_of share) shares
 
-    pub same_nodes : dealt_of others ≡ dealt_of shares
+    pub same_nodes : nodes_in others ≡ nodes_in shares
     same_nodes = same_of_bodies (λ (b : Body t). b.nodes)
 
     pub same_body : (s : ℕ) (d : Share X Y t u) → s < length shares → body_of (get_or others s d) ≡ body_of (get_or shares s d)

@@ -16,9 +16,12 @@ use Rattle.flow_shares.specs.declared.share.Share.{Share}
 use Rattle.flow_shares.specs.Lending.{body_of}
 use Rattle.flow_round_laws.proofs.Parts.{any_of}
 use Rattle.flow_round_laws.proofs.Seats.{reader_inside, writer_inside}
-use Rattle.flow_epochs.specs.Dealt.{Setting, AreWires, all_ends, view_at}
+use Rattle.flow_opening.specs.Open.{AreWires}
+use Rattle.flow_opening.specs.Deals.{ends_in}
+use Rattle.flow_opening.specs.Settings.{Setting, view_at}
+use Rattle.flow_opening.proofs.Lists.{all_zipped}
 use Rattle.flow_epochs.specs.Epochs.{writer_rings, AreOfOneGraph, HaveMetAll, AreMet}
-use Rattle.flow_epochs.proofs.Lists.{all_zipped, count_dealt, count_ends, view_of_ends, same_count, same_nodes}
+use Rattle.flow_epochs.proofs.Lists.{count_dealt, count_ends, view_of_ends, same_count, same_nodes}
 
 -- ends that lost no certainty did not, whatever they were part of
 pub zip_kept : {A : Type 0} (own : A → Rings) (parts : List A) (ends now : List Rings) → ends ≡ map own parts → length now ≡ length ends
@@ -46,7 +49,7 @@ module _ {X : Type 0} {t : Ghosts X} {u : EndsGhosts Rings} (setting : Setting t
   pub reader_is_share : (e : ℕ) → e < length setting.edges → reader e < length shares
   reader_is_share e l = omega (arith, (graph.deals.inside (edge_at setting.edges e).reader (reader_inside setting.edges setting.nodes setting.fit e l)).0, count_dealt shares)
 
-  module _ (wires : List Wire) (are : AreWires setting.share setting.edges wires) (ends : List Rings) (taken : ends ≡ all_ends shares) where
+  module _ (wires : List Wire) (are : AreWires setting.share setting.edges wires) (ends : List Rings) (taken : ends ≡ ends_in shares) where
     inside : (e : ℕ) → e < length wires → e < length setting.edges
     inside e l = omega (arith, l, are.count)
 
@@ -62,8 +65,8 @@ module _ {X : Type 0} {t : Ghosts X} {u : EndsGhosts Rings} (setting : Setting t
     pub all_join : (e : ℕ) (w : Wire) (d : Rings) → e < length wires → RingsJoin (get_or ends (get_or wires e w).writer d) (get_or ends (get_or wires e w).reader d) e
     all_join e w d l =
         subst (λ es. RingsJoin (get_or es (get_or wires e w).writer d) (get_or es (get_or wires e w).reader d) e) (sym taken)
-        (subst (λ i. RingsJoin (get_or (all_ends shares) i d) (get_or (all_ends shares) (get_or wires e w).reader d) e) (sym (are.writers e w (inside e l)))
-        (subst (λ j. RingsJoin (writer_rings setting shares e d) (get_or (all_ends shares) j d) e) (sym (are.readers e w (inside e l))) (graph.joined e d (inside e l))))
+        (subst (λ i. RingsJoin (get_or (ends_in shares) i d) (get_or (ends_in shares) (get_or wires e w).reader d) e) (sym (are.writers e w (inside e l)))
+        (subst (λ j. RingsJoin (writer_rings setting shares e d) (get_or (ends_in shares) j d) e) (sym (are.readers e w (inside e l))) (graph.joined e d (inside e l))))
 
     -- these are the ends after all have met
     module _ (now : List Rings) (same : length now ≡ length ends)
@@ -72,7 +75,7 @@ module _ {X : Type 0} {t : Ghosts X} {u : EndsGhosts Rings} (setting : Setting t
         (places : (k e : ℕ) (d : Rings) → k < length ends → ring_places (get_or now k d) e ≡ ring_places (get_or ends k d) e)
         (joined : (e : ℕ) (w : Wire) (d : Rings) → e < length wires → RingsJoin (get_or now (get_or wires e w).writer d) (get_or now (get_or wires e w).reader d) e)
         (met : (e : ℕ) (w : Wire) (d : Rings) → e < length wires → Met (ends_of (get_or now (get_or wires e w).writer d)) (ends_of (get_or now (get_or wires e w).reader d)) (ring_places (get_or now (get_or wires e w).writer d) e) e)
-        (sees : u.view ≡ ends_of) (after : List (Share X Rings t u)) (bodies : map body_of after ≡ map body_of shares) (put : all_ends after ≡ now) where
+        (sees : u.view ≡ ends_of) (after : List (Share X Rings t u)) (bodies : map body_of after ≡ map body_of shares) (put : ends_in after ≡ now) where
       none : Wire
       none = record { writer = 0; reader = 0 }
 
@@ -106,13 +109,13 @@ module _ {X : Type 0} {t : Ghosts X} {u : EndsGhosts Rings} (setting : Setting t
       now_sees : (s : ℕ) (d : Rings) → s < length shares → view_at after s ≡ ends_of (get_or now s d)
       now_sees s d l =
           view_of_ends after s d (omega (arith, l, same_count shares after bodies))
-          ∙ ap (λ (v : Rings → View). v (get_or (all_ends after) s d)) sees
+          ∙ ap (λ (v : Rings → View). v (get_or (ends_in after) s d)) sees
           ∙ ap (λ es. ends_of (get_or es s d)) put
 
       saw : (s : ℕ) (d : Rings) → s < length shares → view_at shares s ≡ ends_of (get_or ends s d)
       saw s d l =
           view_of_ends shares s d l
-          ∙ ap (λ (v : Rings → View). v (get_or (all_ends shares) s d)) sees
+          ∙ ap (λ (v : Rings → View). v (get_or (ends_in shares) s d)) sees
           ∙ ap (λ es. ends_of (get_or es s d)) (sym taken)
 
       met_all : HaveMetAll setting after
@@ -134,7 +137,7 @@ module _ {X : Type 0} {t : Ghosts X} {u : EndsGhosts Rings} (setting : Setting t
       are_met = record {
         bodies = bodies;
         ends = λ s d l.
-            subst (λ es. SameRings (get_or es s d) (get_or (all_ends after) s d)) taken
+            subst (λ es. SameRings (get_or es s d) (get_or (ends_in after) s d)) taken
             (subst (λ es. SameRings (get_or ends s d) (get_or es s d)) (sym put) (stay s d (omega (arith, l, count))));
         traffic = traffic_at;
         graph = met_graph;

@@ -23,43 +23,44 @@ use Rattle.flow_round_laws.specs.JoinedTheorems.{AllAreStuck}
 use Rattle.flow_round_laws.proofs.Parts.{any_of}
 use Rattle.flow_round_laws.proofs.Seats.{port_reads, port_writes, dealt_later}
 use Rattle.flow_round_laws.proofs.Views.{sent_at, received_at}
-use Rattle.flow_epochs.specs.Dealt.{Setting, dealt_of, all_ends, view_at, AreFed, AreCalm, moved_in}
-use Rattle.flow_epochs.specs.Epochs.{AreOfOneGraph}
+use Rattle.flow_opening.specs.Deals.{nodes_in, ends_in}
+use Rattle.flow_opening.specs.Settings.{Setting, view_at, AreFed, AreCalm}
+use Rattle.flow_epochs.specs.Epochs.{moved_in, AreOfOneGraph}
 use Rattle.flow_epochs.proofs.Lists.{parts_same, count_dealt, nodes_are, view_is, ends_are}
 use Rattle.flow_epochs.proofs.Meets.{writer, reader, writer_is_share, reader_is_share}
 
 module _ {X : Type 0} {t : Ghosts X} {u : EndsGhosts Rings} (same_is : (a b : Rings) → u.same a b → SameRings a b) (setting : Setting t) (shares back : List (Share X Rings t u)) (count : length back ≡ length shares)
     (each : (s : ℕ) (d : Share X Rings t u) → s < length shares → IsPumped (get_or shares s d) (get_or back s d)) (graph : AreOfOneGraph setting shares) where
-  there : (s : ℕ) → s < length (dealt_of shares) → s < length shares
+  there : (s : ℕ) → s < length (nodes_in shares) → s < length shares
   there s l = omega (arith, l, count_dealt shares)
 
   low : (s : ℕ) → s < length shares → s < length back
   low s l = omega (arith, l, count)
 
-  pub pumped_ends : (s : ℕ) (b : Rings) → s < length shares → SameRings (get_or (all_ends shares) s b) (get_or (all_ends back) s b)
+  pub pumped_ends : (s : ℕ) (b : Rings) → s < length shares → SameRings (get_or (ends_in shares) s b) (get_or (ends_in back) s b)
   pumped_ends s b l =
       let d = any_of shares s l in
-      subst (λ a. SameRings a (get_or (all_ends back) s b)) (sym (ends_are shares s d l b))
+      subst (λ a. SameRings a (get_or (ends_in back) s b)) (sym (ends_are shares s d l b))
       (subst (λ c. SameRings (get_or shares s d).ends c) (sym (ends_are back s d (low s l) b)) (same_is _ _ (each s d l).same))
 
-  pub pumped_places : (s : ℕ) → s < length (dealt_of shares) → AreSamePlaces (nodes_at (dealt_of shares) s) (nodes_at (dealt_of back) s)
+  pub pumped_places : (s : ℕ) → s < length (nodes_in shares) → AreSamePlaces (nodes_at (nodes_in shares) s) (nodes_at (nodes_in back) s)
   pumped_places s h =
       let l = there s h in
       let d = any_of shares s l in
-      subst (λ n. AreSamePlaces n (nodes_at (dealt_of back) s)) (sym (nodes_are shares s d l))
+      subst (λ n. AreSamePlaces n (nodes_at (nodes_in back) s)) (sym (nodes_are shares s d l))
       (subst (λ m. AreSamePlaces (get_or shares s d).nodes.items m) (sym (nodes_are back s d (low s l))) (each s d l).places)
 
-  count_both : length (dealt_of back) ≡ length (dealt_of shares)
+  count_both : length (nodes_in back) ≡ length (nodes_in shares)
   count_both = count_dealt back ∙ count ∙ sym (count_dealt shares)
 
-  pub pumped_deals : AreDealt setting.share setting.nodes (dealt_of back)
-  pumped_deals = dealt_later setting.share setting.nodes (dealt_of shares) (dealt_of back) graph.deals count_both pumped_places
+  pub pumped_deals : AreDealt setting.share setting.nodes (nodes_in back)
+  pumped_deals = dealt_later setting.share setting.nodes (nodes_in shares) (nodes_in back) graph.deals count_both pumped_places
 
   pub pumped_graph : AreOfOneGraph setting back
   pumped_graph = record {
     deals = pumped_deals;
     joined = λ e b l.
-        joins-kept (get_or (all_ends shares) (writer setting shares graph e) b) (get_or (all_ends back) (writer setting shares graph e) b) (get_or (all_ends shares) (reader setting shares graph e) b) (get_or (all_ends back) (reader setting shares graph e) b) e
+        joins-kept (get_or (ends_in shares) (writer setting shares graph e) b) (get_or (ends_in back) (writer setting shares graph e) b) (get_or (ends_in shares) (reader setting shares graph e) b) (get_or (ends_in back) (reader setting shares graph e) b) e
         (graph.joined e b l) (pumped_ends _ b (writer_is_share setting shares graph e l)) (pumped_ends _ b (reader_is_share setting shares graph e l));
     capacity = λ e b l. rings_keep_places _ _ (pumped_ends _ b (writer_is_share setting shares graph e l)) e ∙ graph.capacity e b l;
   }
@@ -123,15 +124,15 @@ module _ {X : Type 0} {t : Ghosts X} {u : EndsGhosts Rings} (same_is : (a b : Ri
           no_more _ _ ((grows (reader setting shares graph e) (reader_is_share setting shares graph e l)).received e)
           (omega (arith, ap length (received_at setting.share setting.edges (view_at shares) e l), ap length (received_at setting.share setting.edges (view_at back) e l), no_more_on e l, sent_grows e l))
 
-      module _ (s : ℕ) (h : s < length (dealt_of shares)) where
+      module _ (s : ℕ) (h : s < length (nodes_in shares)) where
         abbrev nodes : List (Placed X t)
-        nodes = nodes_at (dealt_of shares) s
+        nodes = nodes_at (nodes_in shares) s
 
-        share_moved : HaveMoved nodes (nodes_at (dealt_of back) s) (view_at shares s) (view_at back s)
+        share_moved : HaveMoved nodes (nodes_at (nodes_in back) s) (view_at shares s) (view_at back s)
         share_moved =
             let l = there s h in
             let d = some s l in
-            subst (λ n. HaveMoved n (nodes_at (dealt_of back) s) (view_at shares s) (view_at back s)) (sym (nodes_are shares s d l))
+            subst (λ n. HaveMoved n (nodes_at (nodes_in back) s) (view_at shares s) (view_at back s)) (sym (nodes_are shares s d l))
             (subst (λ m. HaveMoved (get_or shares s d).nodes.items m (view_at shares s) (view_at back s)) (sym (nodes_are back s d (low s l)))
             (of_views (HaveMoved (get_or shares s d).nodes.items (get_or back s d).nodes.items) s l (moved_at s d l)))
 
@@ -143,7 +144,7 @@ module _ {X : Type 0} {t : Ghosts X} {u : EndsGhosts Rings} (same_is : (a b : Ri
           where
             edge_of_is : (k p : ℕ) (d : Placed X t) (l : k < length nodes) → p < length (inputs_of (get_or nodes k d)) → e ≡ get_or (inputs_of (get_or nodes k d)) p 0 → (e < length setting.edges) × (reader setting shares graph e ≡ s)
             edge_of_is k p d l port is =
-                subst (λ f. (f < length setting.edges) × (reader setting shares graph f ≡ s)) (sym is) (port_reads setting.edges setting.nodes setting.fit setting.share (dealt_of shares) graph.deals s k d h l p port)
+                subst (λ f. (f < length setting.edges) × (reader setting shares graph f ≡ s)) (sym is) (port_reads setting.edges setting.nodes setting.fit setting.share (nodes_in shares) graph.deals s k d h l p port)
 
             at_port : (e < length setting.edges) × (reader setting shares graph e ≡ s) → (view_at back s).received e ≡ (view_at shares s).received e
             at_port (inside, is) = subst (λ r. (view_at back r).received e ≡ (view_at shares r).received e) is (same_received e inside)
@@ -156,13 +157,13 @@ module _ {X : Type 0} {t : Ghosts X} {u : EndsGhosts Rings} (same_is : (a b : Ri
           where
             edge_of_is : (k q : ℕ) (d : Placed X t) (l : k < length nodes) → q < length (outputs_of (get_or nodes k d)) → e ≡ get_or (outputs_of (get_or nodes k d)) q 0 → (e < length setting.edges) × (writer setting shares graph e ≡ s)
             edge_of_is k q d l port is =
-                subst (λ f. (f < length setting.edges) × (writer setting shares graph f ≡ s)) (sym is) (port_writes setting.edges setting.nodes setting.fit setting.share (dealt_of shares) graph.deals s k d h l q port)
+                subst (λ f. (f < length setting.edges) × (writer setting shares graph f ≡ s)) (sym is) (port_writes setting.edges setting.nodes setting.fit setting.share (nodes_in shares) graph.deals s k d h l q port)
 
             at_port : (e < length setting.edges) × (writer setting shares graph e ≡ s) → (view_at back s).sent e ≡ (view_at shares s).sent e
             at_port (inside, is) = subst (λ r. (view_at back r).sent e ≡ (view_at shares r).sent e) is (same_sent e inside)
 
       pub none_moved : (s : ℕ) → s < length shares → SameTraffic (view_at shares s) (view_at back s)
-      none_moved s l = let h : s < length (dealt_of shares) = omega (arith, l, count_dealt shares) in record { sent = sent_same s h; received = received_same s h }
+      none_moved s l = let h : s < length (nodes_in shares) = omega (arith, l, count_dealt shares) in record { sent = sent_same s h; received = received_same s h }
 
       -- then no share says that it moved any
       pub none_says : AreCalm back
@@ -181,7 +182,7 @@ module _ {X : Type 0} {t : Ghosts X} {u : EndsGhosts Rings} (same_is : (a b : Ri
 
     -- Where none was sent or received, no node could step, and all stand where they stood.
     module _ (none : (s : ℕ) → s < length shares → SameTraffic (view_at shares s) (view_at back s)) where
-      pub all_stuck : AllAreStuck (dealt_of shares) (view_at shares)
+      pub all_stuck : AllAreStuck (nodes_in shares) (view_at shares)
       all_stuck s h =
           let l = there s h in
           let d = some s l in
@@ -189,7 +190,7 @@ module _ {X : Type 0} {t : Ghosts X} {u : EndsGhosts Rings} (same_is : (a b : Ri
           (subst (λ v. AreStuck v (get_or shares s d).nodes.items) (sym (view_is shares s d l)) ((each s d l).progress (fed_at s d l) (of_ends SameTraffic s d l (none s l))))
 
       module _ (laws : BehaviourLaws t.behaviour) where
-        pub states_stayed : (s i : ℕ) (d : Placed X t) → s < length (dealt_of shares) → i < length (nodes_at (dealt_of shares) s) → placed_state (get_or (nodes_at (dealt_of back) s) i d) ≡ placed_state (get_or (nodes_at (dealt_of shares) s) i d)
+        pub states_stayed : (s i : ℕ) (d : Placed X t) → s < length (nodes_in shares) → i < length (nodes_at (nodes_in shares) s) → placed_state (get_or (nodes_at (nodes_in back) s) i d) ≡ placed_state (get_or (nodes_at (nodes_in shares) s) i d)
         states_stayed s i d h inside =
             let l = there s h in
             let b = some s l in

@@ -33,8 +33,9 @@ use Rattle.flow_round_laws.proofs.States.{are_states, states_stay}
 use Rattle.flow_round_laws.proofs.Carried.{same_joined}
 use Rattle.flow_round_laws.proofs.Meetings.{own_shares_are_sound}
 use Rattle.flow_round_laws.proofs.Calm.{stuck_shares_rest}
-use Rattle.flow_epochs.specs.Dealt.{Setting, dealt_of, all_ends, view_at, AreFed, AreCalm, moved_in}
-use Rattle.flow_epochs.specs.Epochs.{IsLater, AreLater, AreOfOneGraph, HaveMetAll, joint_of, StandSound, AreMet, IsEpoch}
+use Rattle.flow_opening.specs.Deals.{nodes_in, ends_in}
+use Rattle.flow_opening.specs.Settings.{Setting, view_at, AreFed, AreCalm}
+use Rattle.flow_epochs.specs.Epochs.{moved_in, IsLater, AreLater, AreOfOneGraph, HaveMetAll, joint_of, StandSound, AreMet, IsEpoch}
 use Rattle.flow_epochs.proofs.Lists.{count_dealt, nodes_are, view_is, ends_are, same_count, same_nodes, same_body}
 use Rattle.flow_epochs.proofs.Meets.{writer_is_share, reader_is_share}
 use Rattle.flow_epochs.proofs.Pumps.{pumped_ends, pumped_places, none_moved, none_says, calm_moves_none, all_stuck, states_stayed}
@@ -46,10 +47,10 @@ module _ {X : Type 0} {t : Ghosts X} {u : EndsGhosts Rings} (setting : Setting t
   -- shares whose ends have met are sound, where memory was refused to none
   pub stands_sound : (shares : List (Share X Rings t u)) → HaveMetAll setting shares → AreFed shares → StandSound setting shares
   stands_sound shares met fed graph =
-      own_shares_are_sound t setting.share setting.edges setting.nodes setting.fit (dealt_of shares) graph.deals (states_in_shares setting.share setting.nodes (dealt_of shares) graph.deals)
-      (are_states setting.share setting.edges setting.nodes setting.fit (dealt_of shares) graph.deals) (view_at shares) (λ e l. (met e l).begins) own
+      own_shares_are_sound t setting.share setting.edges setting.nodes setting.fit (nodes_in shares) graph.deals (states_in_shares setting.share setting.nodes (nodes_in shares) graph.deals)
+      (are_states setting.share setting.edges setting.nodes setting.fit (nodes_in shares) graph.deals) (view_at shares) (λ e l. (met e l).begins) own
     where
-      own : (s : ℕ) → s < length (dealt_of shares) → All (IsOwn (view_at shares s)) (nodes_at (dealt_of shares) s)
+      own : (s : ℕ) → s < length (nodes_in shares) → All (IsOwn (view_at shares s)) (nodes_at (nodes_in shares) s)
       own s h =
           let l : s < length shares = omega (arith, h, count_dealt shares) in
           let d = any_of shares s l in
@@ -88,7 +89,7 @@ module _ {X : Type 0} {t : Ghosts X} {u : EndsGhosts Rings} (setting : Setting t
           number = ap (λ (x : Body t). x.number) after ∙ went.number ∙ ap (λ (x : Body t). x.number) before;
           places = subst (λ n. AreSamePlaces n (get_or back s d).nodes.items) (ap (λ (x : Body t). x.nodes) before) (subst (λ m. AreSamePlaces (get_or mid s d).nodes.items m) (sym (ap (λ (x : Body t). x.nodes) after)) went.places);
           ends = subst (λ r. SameRings r (get_or back s d).ends) (ends_are shares s d l b)
-              (subst (λ r. SameRings (get_or (all_ends shares) s b) r) (ends_are back s d at_back b)
+              (subst (λ r. SameRings (get_or (ends_in shares) s b) r) (ends_are back s d at_back b)
               (same_rings_trans _ _ _ (first.ends s b l) (same_rings_trans _ _ _ (pumped_ends same_is setting mid pumped count each first.graph s b at_mid) (second.ends s b at_pumped))));
         }
 
@@ -133,21 +134,21 @@ module _ {X : Type 0} {t : Ghosts X} {u : EndsGhosts Rings} (setting : Setting t
         none_at_all s l = same_then (view_at mid s) (view_at pumped s) (view_at back s) (none s l) (second.traffic s (omega (arith, l, count)))
 
         abbrev mid_states : List t.State
-        mid_states = states_in_shares setting.share setting.nodes (dealt_of mid) first.graph.deals
+        mid_states = states_in_shares setting.share setting.nodes (nodes_in mid) first.graph.deals
 
-        mid_are : AreStates setting.share setting.nodes (dealt_of mid) first.graph.deals mid_states
-        mid_are = are_states setting.share setting.edges setting.nodes setting.fit (dealt_of mid) first.graph.deals
+        mid_are : AreStates setting.share setting.nodes (nodes_in mid) first.graph.deals mid_states
+        mid_are = are_states setting.share setting.edges setting.nodes setting.fit (nodes_in mid) first.graph.deals
 
-        back_nodes : dealt_of back ≡ dealt_of pumped
+        back_nodes : nodes_in back ≡ nodes_in pumped
         back_nodes = same_nodes pumped back second.bodies
 
-        same_states : states_in_shares setting.share setting.nodes (dealt_of back) back_graph.deals ≡ mid_states
+        same_states : states_in_shares setting.share setting.nodes (nodes_in back) back_graph.deals ≡ mid_states
         same_states =
-            states_stay setting.share setting.edges setting.nodes setting.fit (dealt_of mid) first.graph.deals (dealt_of back)
-            (λ s l. subst (λ later. AreSamePlaces (nodes_at (dealt_of mid) s) (nodes_at later s)) (sym back_nodes) (pumped_places same_is setting mid pumped count each first.graph s l))
+            states_stay setting.share setting.edges setting.nodes setting.fit (nodes_in mid) first.graph.deals (nodes_in back)
+            (λ s l. subst (λ later. AreSamePlaces (nodes_at (nodes_in mid) s) (nodes_at later s)) (sym back_nodes) (pumped_places same_is setting mid pumped count each first.graph s l))
             back_graph.deals
             (λ s i d l low. ap (λ later. placed_state (get_or (nodes_at later s) i d)) back_nodes ∙ states_stayed same_is setting mid pumped count each first.graph fed_pumped none laws s i d l low)
-            mid_states (states_in_shares setting.share setting.nodes (dealt_of back) back_graph.deals) mid_are (are_states setting.share setting.edges setting.nodes setting.fit (dealt_of back) back_graph.deals)
+            mid_states (states_in_shares setting.share setting.nodes (nodes_in back) back_graph.deals) mid_are (are_states setting.share setting.edges setting.nodes setting.fit (nodes_in back) back_graph.deals)
 
         stood : joint_of setting back back_graph ≡ joint_of setting mid first.graph
         stood = ap (λ states. joined t setting.share setting.edges states (view_at back)) same_states ∙ stays mid back first.graph none_at_all mid_states
@@ -155,7 +156,7 @@ module _ {X : Type 0} {t : Ghosts X} {u : EndsGhosts Rings} (setting : Setting t
         rest : AtRest t.behaviour.process (net_of setting.nodes setting.edges) (Some setting.capacity) (joint_of setting back back_graph)
         rest =
             subst (AtRest t.behaviour.process (net_of setting.nodes setting.edges) (Some setting.capacity)) (sym stood)
-            (stuck_shares_rest t setting.capacity setting.share setting.edges setting.nodes setting.fit (dealt_of mid) first.graph.deals mid_states mid_are (view_at mid) first.met
+            (stuck_shares_rest t setting.capacity setting.share setting.edges setting.nodes setting.fit (nodes_in mid) first.graph.deals mid_states mid_are (view_at mid) first.met
             (all_stuck same_is setting mid pumped count each first.graph fed_pumped none))
 
     pub is_epoch : IsEpoch setting shares back

@@ -17,9 +17,14 @@ use Rattle.flow_shares.specs.Lending.{body_of}
 use Rattle.flow_round_laws.specs.Joints.{states_in_shares}
 use Rattle.flow_round_laws.specs.RoundTheorems.{net_of}
 use Rattle.flow_round_laws.specs.JoinedTheorems.{AllMet, joined}
-use Rattle.flow_epochs.specs.Dealt.{Setting, dealt_of, all_ends, view_at, AreFed, AreCalm, moved_in}
+use Rattle.flow_opening.specs.Deals.{nodes_in, ends_in}
+use Rattle.flow_opening.specs.Settings.{Setting, view_at, moved_by, AreFed, AreCalm}
 
 module _ {X : Type 0} {t : Ghosts X} {u : EndsGhosts Rings} where
+  -- how many messages were sent and received on all edges
+  abbrev pub moved_in : Setting t → List (Share X Rings t u) → ℕ
+  moved_in setting shares = moved_by setting (view_at shares)
+
   -- A share later: it has its number, its nodes in their places, and its ends.
   pub record IsLater (share later : Share X Rings t u) : Type 0 where
     pub number : later.number ≡ share.number
@@ -34,14 +39,14 @@ module _ {X : Type 0} {t : Ghosts X} {u : EndsGhosts Rings} where
   module _ (setting : Setting t) (shares : List (Share X Rings t u)) where
     -- the ends of the share that writes edge e, and of the share that reads it; d where there is none
     abbrev pub writer_rings : ℕ → Rings → Rings
-    writer_rings e d = slice_index_or (all_ends shares) (share_of setting.share (edge_at setting.edges e).writer) d
+    writer_rings e d = slice_index_or (ends_in shares) (share_of setting.share (edge_at setting.edges e).writer) d
 
     abbrev pub reader_rings : ℕ → Rings → Rings
-    reader_rings e d = slice_index_or (all_ends shares) (share_of setting.share (edge_at setting.edges e).reader) d
+    reader_rings e d = slice_index_or (ends_in shares) (share_of setting.share (edge_at setting.edges e).reader) d
 
     -- All nodes are dealt out to these shares, with both ends of every edge, each of which holds at most the capacity.
     pub record AreOfOneGraph : Type 0 where
-      pub deals : AreDealt setting.share setting.nodes (dealt_of shares)
+      pub deals : AreDealt setting.share setting.nodes (nodes_in shares)
       pub joined : (e : ℕ) (d : Rings) → e < length setting.edges → RingsJoin (writer_rings e d) (reader_rings e d) e
       pub capacity : (e : ℕ) (d : Rings) → e < length setting.edges → ring_places (writer_rings e d) e ≡ setting.capacity
 
@@ -51,7 +56,7 @@ module _ {X : Type 0} {t : Ghosts X} {u : EndsGhosts Rings} where
 
     -- where the nodes of these shares stand, with what their ends say
     abbrev pub joint_of : AreOfOneGraph → Configuration t.State Signal
-    joint_of graph = joined t setting.share setting.edges (states_in_shares setting.share setting.nodes (dealt_of shares) graph.deals) (view_at shares)
+    joint_of graph = joined t setting.share setting.edges (states_in_shares setting.share setting.nodes (nodes_in shares) graph.deals) (view_at shares)
 
     -- that is a sound configuration of the graph's network
     abbrev pub StandSound : Type 0
@@ -65,7 +70,7 @@ module _ {X : Type 0} {t : Ghosts X} {u : EndsGhosts Rings} where
     -- The ends of every edge have met since: the shares are as they were, but that their ends may be certain of more.
     pub record AreMet (after : List (Share X Rings t u)) : Type 0 where
       pub bodies : map body_of after ≡ map body_of shares
-      pub ends : (s : ℕ) (d : Rings) → s < length shares → SameRings (slice_index_or (all_ends shares) s d) (slice_index_or (all_ends after) s d)
+      pub ends : (s : ℕ) (d : Rings) → s < length shares → SameRings (slice_index_or (ends_in shares) s d) (slice_index_or (ends_in after) s d)
       pub traffic : (s : ℕ) → s < length shares → SameTraffic (view_at shares s) (view_at after s)
       pub graph : AreOfOneGraph setting after
       pub met : HaveMetAll setting after

@@ -1,2 +1,1 @@
-pub mod Dealt
 pub mod Epochs

@@ -1,7 +1,8 @@
 // Epochs.
 ghost use Rattle.std.specs.Prelude.{◌+◌, ◌<◌, ◌≤◌, ◌↔◌, IfOk, IsTrue};
-ghost use Rattle.flow_epochs.specs.Dealt.{Setting, AreWires, AreFed, AreCalm, moved_in};
-ghost use Rattle.flow_epochs.specs.Epochs.{AreLater, AreOfOneGraph, HaveMetAll, StandSound, StandAtRest, IsEpoch};
+ghost use Rattle.flow_opening.specs.Open.{AreWires};
+ghost use Rattle.flow_opening.specs.Settings.{Setting, AreFed, AreCalm};
+ghost use Rattle.flow_epochs.specs.Epochs.{moved_in, AreLater, AreOfOneGraph, HaveMetAll, StandSound, StandAtRest, IsEpoch};
 
 use crate::meet::meet;
 use flow_base::Transducer;

@@ -3,7 +3,7 @@ ghost use Rattle.std.specs.Prelude.{◌≡◌, map, IfOk};
 ghost use Rattle.std.specs.List.{AllZip};
 ghost use Rattle.flow_rings.specs.Rings.{Kept, ends_of};
 ghost use Rattle.flow_shares.specs.Lending.{body_of};
-ghost use Rattle.flow_epochs.specs.Dealt.{all_ends};
+ghost use Rattle.flow_opening.specs.Deals.{ends_in};
 
 use flow_base::Transducer;
 use flow_rings::Rings;
@@ -16,7 +16,7 @@ pub(crate) fn take_apart<T: Transducer + Drop>(
     shares: Vec<Share<T, Rings>>,
 ) -> Result<(Vec<Lender<T, Rings>>, Vec<Rings>), AllocError>
     ensures lenders { IfOk result (λ made. map (λ lender. lender.share.value) made.0.items ≡ shares.items) }
-    ensures ends { IfOk result (λ made. made.1.items ≡ all_ends shares.items) }
+    ensures ends { IfOk result (λ made. made.1.items ≡ ends_in shares.items) }
 {
     let mut lenders = Vec::with_capacity(alloc, shares.len())?;
     let mut ends = Vec::with_capacity(alloc, shares.len())?;
@@ -36,7 +36,7 @@ pub(crate) fn put_together<T: Transducer + Drop>(
 ) -> Result<Vec<Share<T, Rings>>, AllocError>
     requires kept { AllZip (λ lender own. Kept (ends_of lender.share.value.ends) (ends_of own)) lenders.items ends.items }
     ensures bodies { IfOk result (λ shares. map (λ share. body_of share) shares.items ≡ map (λ lender. body_of lender.share.value) lenders.items) }
-    ensures ends { IfOk result (λ shares. all_ends shares.items ≡ ends.items) }
+    ensures ends { IfOk result (λ shares. ends_in shares.items ≡ ends.items) }
 {
     let mut shares = Vec::with_capacity(alloc, lenders.len())?;
     let mut ends = ends.into_iter();

@@ -13,6 +13,8 @@ pub record Met (a b : View) (places e : ℕ) : Type 0 where
   pub held : length (a.sent e) ≤ length (b.received e) + held b e
   -- all places that hold no message are room to the writer
   pub room : places + length (b.received e) ≤ a.room e + length (a.sent e)
+  -- it holds no more than its places
+  pub fits : length (a.sent e) ≤ length (b.received e) + places
 
 -- what is known of an edge stays known where nothing is sent or received
 pub met_kept : (a a' b b' : View) (places e : ℕ) → Met a b places e → Kept a a' → Kept b b' → Met a' b' places e
@@ -25,6 +27,7 @@ met_kept a a' b b' places e m p q =
       begins = (m.begins.0, ap (λ (x : List Signal). x ++ m.begins.0) (q.traffic.received e) ∙ m.begins.1 ∙ sym (p.traffic.sent e));
       held = omega (arith, m.held, longer, sent, received);
       room = omega (arith, m.room, p.room e, sent, received);
+      fits = omega (arith, m.fits, sent, received);
     }
 
 prefix_trans : (xs ys zs : List Signal) → IsPrefix xs ys → IsPrefix ys zs → IsPrefix xs zs

@@ -1,3 +1,5 @@
+pub mod Lists
+pub mod Gathers
 pub mod Opened
 pub mod More
 pub mod Parted

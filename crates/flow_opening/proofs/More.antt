@@ -48,6 +48,7 @@ fresh_met a b capacity e sent room received coming = record {
   begins = (a.sent e, ap (λ (x : List Signal). x ++ a.sent e) received);
   held = omega (arith, ap length sent);
   room = omega (arith, room, ap length received);
+  fits = omega (arith, ap length sent);
 }
 
 -- The edge n is opened, of which the writer's end comes where x.

@@ -1,26 +1,12 @@
 -- One end in the front and one in the back of a list that was split.
-use Rattle.std.proofs.Common.{◌≡◌, ◌≢◌, ◌==◌, ℕ, ◌-◌, ◌<◌, Bool, true, false, suc, List, [], ◌∷◌, length, ◌++◌, take, drop, append-nil, get_or, set, refl, sym, ap, ◌∙◌, subst, arith, length-set, get_or-set_same, get_or-set_other}
+use Rattle.std.proofs.Common.{◌≡◌, ◌≢◌, ◌==◌, ℕ, ◌-◌, ◌<◌, Bool, true, false, suc, List, [], ◌∷◌, length, ◌++◌, get_or, set, refl, sym, ap, ◌∙◌, subst, arith, length-set, get_or-set_same, get_or-set_other}
 use Rattle.std.specs.Prelude.{Result, Ok, Err, OnOk}
 use Rattle.std.proofs.lemmas.Bool.{eq-eqb, ne_eqb}
-use Rattle.std.proofs.lemmas.List.{get_or_default, get_or_append_left, get_or-append-add, set-append_left, set-append_right, length-append, take_all, drop_all}
-use Rattle.std.specs.List.{AllZip}
+use Rattle.std.proofs.lemmas.List.{get_or_default, get_or_append_left, get_or-append-add, set-append_left, set-append_right, length-append}
 use Rattle.flow_edges.specs.Ends.{View}
 use Rattle.flow_boxes.proofs.Changed.{everywhere}
 use Rattle.flow_meetings.specs.declared.everywhere.Wire.{Wire}
 use Rattle.flow_opening.specs.Opens.{OpensAt, OpensEdge}
-
--- what was written to all of a list is there
-pub written_back : {X : Type 0} (new items : List X) (n : ℕ) → length new ≡ length items → n ≡ length items → take n (new ++ drop (length new) items) ≡ new
-written_back new items n even all =
-    ap (λ l. take n (new ++ l)) (ap (λ m. drop m items) even ∙ drop_all (length items) items (omega arith))
-    ∙ ap (take n) (append-nil new) ∙ take_all n new (omega (arith, even, all))
-
--- what holds place by place holds of two lists of one length
-pub all_zipped : {A B : Type 0} (R : A → B → Type 0) (xs : List A) (ys : List B) → length ys ≡ length xs → ((k : ℕ) (x : A) (y : B) → k < length xs → R (get_or xs k x) (get_or ys k y)) → AllZip R xs ys
-all_zipped R [] [] long each = tt
-all_zipped R [] (y ∷ ys) long each = absurd (omega (arith, long))
-all_zipped R (x ∷ xs) [] long each = absurd (omega (arith, long))
-all_zipped R (x ∷ xs) (y ∷ ys) long each = (each 0 x y (omega arith), all_zipped R xs ys (omega (arith, long)) (λ k a b l. each (suc k) a b (omega (arith, l))))
 
 -- where no end was opened
 none_opened : (e capacity : ℕ) (w r : Bool) (a : View) → w ≡ false → r ≡ false → OpensAt e capacity w r a a

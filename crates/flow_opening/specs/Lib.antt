@@ -3,3 +3,4 @@ pub mod BoxOpenings
 pub mod RingOpenings
 pub mod Open
 pub mod Deals
+pub mod Settings

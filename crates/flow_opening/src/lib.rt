@@ -2,13 +2,15 @@
 //!
 //! [`deal`] takes a graph apart. Each of its nodes goes to one share, with the ends of the edges at its ports, and the
 //! [`Wire`](flow_meetings::Wire) of each edge says in which shares its ends are. [`Opening`] is what sets of ends offer
-//! that can be opened: boxes, and rings. [`open_all`] opens the ends of every edge, wherever they are to be.
+//! that can be opened: boxes, and rings. [`open_all`] opens the ends of every edge, wherever they are to be. When all is
+//! done, [`gather_graph`] makes a graph of the shares again.
 #![tactic(auto)]
 
 mod boxes;
 mod dealing;
 mod dealt;
 mod everywhere;
+mod gathering;
 mod opening;
 mod rings;
 #[cfg(test)]
@@ -18,5 +20,6 @@ mod wires;
 pub use dealing::deal;
 pub use dealt::Dealt;
 pub use everywhere::open_all;
+pub use gathering::gather_graph;
 pub use opening::Opening;
 pub use wires::wires_of;

@@ -1,13 +1,20 @@
-// Edges that were opened carry messages, and a graph without nodes is dealt out.
-ghost use Rattle.std.specs.Prelude.{◌≡◌, ◌<◌, ℕ, true, [], ◌∷◌, length, slice_index_or};
+// Edges that were opened carry messages, and a graph without nodes is dealt out and gathered again.
+ghost use Rattle.std.specs.Prelude.{◌≡◌, ◌<◌, ◌≤◌, ℕ, true, [], ◌∷◌, length, slice_index_or};
+ghost use Rattle.std.specs.List.{All};
+ghost use Rattle.flow_edges.specs.Limits.{greatest_capacity};
+ghost use Rattle.flow_graph.specs.Graphs.{states_of};
+ghost use Rattle.flow_graph.specs.Networks.{AreOpened};
+ghost use Rattle.flow_opening.specs.Settings.{Setting, setting_of};
 
 use crate::dealing::deal;
 use crate::dealt::Dealt;
 use crate::everywhere::open_all;
+use crate::gathering::gather_graph;
 use crate::opening::Opening;
+use flow_base::Transducer;
 use flow_boxes::Boxes;
 use flow_edges::{Item, Msg};
-use flow_graph::GraphBuilder;
+use flow_graph::{Graph, GraphBuilder};
 use flow_meetings::{Wire, meet_all};
 use flow_rings::Rings;
 use flow_scalar::Source;
@@ -74,6 +81,32 @@ fn are_unit_and_end(messages: &(Option<Msg>, Option<Msg>)) -> bool {
     matches!(messages, (Some(Msg::Item(Item::Unit)), Some(Msg::End)))
 }
 
+// Deals a graph out, and gathers it again, with the ends of its shares.
+fn deal_and_gather<T: Transducer + Drop, E: Opening + Drop>(
+    alloc: Global,
+    graph: Graph<T>,
+    threads: usize,
+    share: &[u8],
+    capacity: usize,
+) -> Result<(Graph<T>, Vec<E>), AllocError>
+    ghost setting: { Setting ⟦<T as Transducer>⟧ }
+    requires setting { setting ≡ setting_of graph share.now capacity }
+    requires opened { AreOpened T.behaviour (states_of graph) }
+    requires named { 0 < length share.now }
+    requires shares { All (λ s. s < threads) share.now }
+    requires some { 0 < capacity }
+    requires limit { capacity ≤ greatest_capacity }
+{
+    let nodes = graph.nodes();
+    let dealt: Dealt<T, E> = deal(alloc, graph, threads, share, capacity)?;
+    let Dealt {
+        shares,
+        wires: _,
+        layout,
+    } = dealt;
+    gather_graph(alloc, shares, layout, nodes, share)
+}
+
 #[test]
 fn boxes_that_were_opened_carry(rt: HostRuntime) -> Result<(), Fail> {
     let messages = open_and_pass::<Boxes>(rt.alloc())?;
@@ -96,5 +129,21 @@ fn graph_without_nodes_is_dealt_to_each_share(rt: HostRuntime) -> Result<(), Fai
     assert_eq!(rt; dealt.shares[2].number(), 2);
     assert!(rt; dealt.wires.is_empty());
     assert!(rt; dealt.layout.edges().is_empty());
+    Ok(())
+}
+
+#[test]
+fn graph_without_nodes_is_gathered_again(rt: HostRuntime) -> Result<(), Fail> {
+    let builder: GraphBuilder<Source> = GraphBuilder::new(rt.alloc());
+    let graph = builder.build();
+    let (graph, ends): (Graph<Source>, Vec<Rings>) = deal_and_gather(
+        rt.alloc(),
+        graph,
+        3,
+        &[0u8, 2],
+        4,
+    )?;
+    assert_eq!(rt; graph.nodes(), 0);
+    assert_eq!(rt; ends.len(), 3);
     Ok(())
 }

@@ -83,6 +83,7 @@ all_met capacity share edges boxes met e l =
       begins = (r.coming e, (met.carried e l).arrived);
       held = omega (arith, arrived, both);
       room = omega (arith, arrived, both, (met.carried e l).room, met.capacity e l);
+      fits = omega (arith, arrived, both, (met.carried e l).room, met.capacity e l);
     }
 
 pub calm_rounds_rest : {X : Type 0} (t : Ghosts X) → CalmRoundsRest t

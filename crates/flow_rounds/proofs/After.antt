@@ -11,14 +11,16 @@ use Rattle.flow_boxes.specs.Rounds.{KeepsRound}
 use Rattle.flow_shares.specs.declared.share.Share.{Share}
 use Rattle.flow_shares.specs.Pumps.{IsPumped}
 use Rattle.flow_round_laws.specs.RoundTheorems.{HaveGoneOn}
-use Rattle.flow_rounds.specs.Standing.{Setting, dealt_of, boxes_of, moved_in, AreFed, AreCalm, AreMet, StandBetweenRounds, RestBetweenRounds}
+use Rattle.flow_opening.specs.Deals.{nodes_in}
+use Rattle.flow_opening.specs.Settings.{Setting, AreFed, AreCalm}
+use Rattle.flow_rounds.specs.Standing.{boxes_of, moved_in, AreMet, StandBetweenRounds, RestBetweenRounds}
 use Rattle.flow_rounds.proofs.Shares.{gone_on, all_stuck, calm_moves_nothing, nothing_is_calm}
 use Rattle.flow_rounds.proofs.Rounds.{stands, rests, moves}
 
 module _ {X : Type 0} {t : Ghosts X} {u : EndsGhosts Boxes} (laws : BehaviourLaws t.behaviour) (setting : Setting t) (sees : u.view ≡ view_of) (keeps : (a b : Boxes) → u.same a b → KeepsRound (contents a) (contents b))
     (shares back new : List (Share X Boxes t u)) (stand : StandBetweenRounds setting shares) (count : length back ≡ length shares)
     (each : (k : ℕ) (d : Share X Boxes t u) → k < length shares → IsPumped (get_or shares k d) (get_or back k d)) (fed : AreFed back) (met : AreMet setting back new) where
-  went : HaveGoneOn (dealt_of shares) (dealt_of back) (boxes_of shares) (boxes_of back)
+  went : HaveGoneOn (nodes_in shares) (nodes_in back) (boxes_of shares) (boxes_of back)
   went = gone_on sees keeps shares back count each fed
 
   pub stands_after : StandBetweenRounds setting new

@@ -31,8 +31,8 @@ use Rattle.flow_round_laws.specs.RoundTheorems.{net_of, joint}
 use Rattle.flow_round_laws.proofs.Parts.{any_of}
 use Rattle.flow_round_laws.proofs.Seats.{reader_inside, writer_inside}
 use Rattle.flow_round_laws.proofs.Meetings.{fresh_shares_start}
-use Rattle.flow_rounds.specs.Gathered.{seen}
-use Rattle.flow_rounds.specs.Standing.{Setting, setting_of, AreLinked, dealt_of, boxes_of, AreFed, StandBetweenRounds}
+use Rattle.flow_opening.specs.Settings.{Setting, setting_of, AreFed}
+use Rattle.flow_rounds.specs.Standing.{seen, AreLinked, boxes_of, StandBetweenRounds}
 use Rattle.flow_rounds.proofs.Levels.{seen_at, have_met}
 use Rattle.flow_rounds.proofs.Meets.{seen_is}
 
@@ -65,7 +65,7 @@ module _ {X : Type 0} {t : Ghosts X} {u : EndsGhosts Boxes} (sees : u.view ≡ v
   fit : FitTogether nodes edges
   fit = record { built = graph.built; seated = graph.seated }
 
-  as_many : length boxes ≡ length (dealt_of shares)
+  as_many : length boxes ≡ length (nodes_in shares)
   as_many = length-map shares (λ (s : Share X Boxes t u). s.ends) ∙ sym (length-map shares (λ (s : Share X Boxes t u). s.nodes.items))
 
   writes : (e : ℕ) → e < length edges → writer e < length boxes
@@ -111,10 +111,10 @@ module _ {X : Type 0} {t : Ghosts X} {u : EndsGhosts Boxes} (sees : u.view ≡ v
       subst (λ b. HaveMet share edges b capacity) (seen_is shares boxes refl)
       (have_met share edges wires is.wires boxes capacity linked boxes refl (λ k d l. kept_refl _) (λ k e d l. refl) is.ends.joined met_at)
 
-  deals : AreDealt share nodes (dealt_of shares)
-  deals = as_given share nodes (dealt_of shares) is.nodes
+  deals : AreDealt share nodes (nodes_in shares)
+  deals = as_given share nodes (nodes_in shares) is.nodes
 
-  are_states : AreStates share nodes (dealt_of shares) deals (states_in nodes)
+  are_states : AreStates share nodes (nodes_in shares) deals (states_in nodes)
   unfolding deals
   are_states = record {
     count = length-map nodes placed_state;

@@ -1,80 +1,37 @@
 -- Nodes that are gathered again stand where the run of their shares came to rest.
-use Rattle.std.proofs.Common.{◌≡◌, ℕ, ◌<◌, List, length, map, get_or, sym, ◌∙◌, ap, subst, arith, ext_get_or}
-use Rattle.std.proofs.lemmas.List.{get_or-map, length-map}
+use Rattle.std.proofs.Common.{◌≡◌, List, sym, subst}
+use Rattle.std.specs.Prelude.{Some}
+use Rattle.kahn.specs.Configurations.{start}
+use Rattle.kahn.specs.Runs.{Reaches, AtRest}
 use Rattle.flow_edges.specs.declared.ends.Ends.{Ghosts as EndsGhosts}
-use Rattle.flow_base.specs.Transducers.{BehaviourLaws}
 use Rattle.flow_base.specs.declared.transducer.Transducer.{Ghosts}
-use Rattle.flow_graph.specs.declared.placed.Placed.{Placed}
-use Rattle.flow_graph.specs.Places.{placed_state, states_in}
-use Rattle.flow_graph.specs.Layouts.{FitTogether, AreSamePlaces}
-use Rattle.flow_graph.proofs.Layouts.{later_fit}
 use Rattle.flow_boxes.specs.declared.boxes.Boxes.{Boxes}
-use Rattle.flow_deal.specs.Deals.{share_of, node_at, AreJustDealt, AreSameAsDealt}
+use Rattle.flow_boxes.specs.Contents.{Contents}
+use Rattle.flow_deal.specs.Deals.{AreDealt}
 use Rattle.flow_shares.specs.declared.share.Share.{Share}
-use Rattle.flow_round_laws.specs.Joints.{AreStates}
-use Rattle.flow_round_laws.proofs.Parts.{any_of}
-use Rattle.flow_round_laws.proofs.Seats.{number_is}
+use Rattle.flow_opening.specs.Deals.{nodes_in, ends_in}
+use Rattle.flow_opening.specs.Settings.{Setting}
+use Rattle.flow_round_laws.specs.Joints.{HaveMet, AreStates}
+use Rattle.flow_round_laws.specs.RoundTheorems.{net_of, joint}
 use Rattle.flow_round_laws.proofs.States.{states_are_one}
-use Rattle.flow_rounds.specs.Standing.{Setting, dealt_of, boxes_of, RestBetweenRounds}
-use Rattle.flow_rounds.specs.Gathered.{seen, HaveComeToRest}
-use Rattle.flow_rounds.proofs.Lists.{mapped_twice}
+use Rattle.flow_rounds.specs.Standing.{seen, boxes_of, RestBetweenRounds}
 use Rattle.flow_rounds.proofs.Meets.{seen_is}
 
+-- A run of the network led to where the nodes have these states and the boxes say this, no node can step there, and all
+-- edges have met.
+pub record HaveComeToRest {X : Type 0} {t : Ghosts X} (setting : Setting t) (states : List t.State) (boxes : List Contents) : Type 0 where
+  pub met : HaveMet setting.share setting.edges boxes setting.capacity
+  pub reaches : Reaches t.behaviour.process (net_of setting.nodes setting.edges) (Some setting.capacity) (start (net_of setting.nodes setting.edges)) (joint t setting.share setting.edges states boxes)
+  pub rest : AtRest t.behaviour.process (net_of setting.nodes setting.edges) (Some setting.capacity) (joint t setting.share setting.edges states boxes)
+
 module _ {X : Type 0} {t : Ghosts X} {u : EndsGhosts Boxes} (setting : Setting t) (shares : List (Share X Boxes t u)) (rest : RestBetweenRounds setting shares)
-    (share : List ℕ) (named : share ≡ setting.share) (lists : List (List (Placed X t))) (taken : lists ≡ dealt_of shares) (gathered : List (Placed X t)) (gives : AreJustDealt share gathered lists) (keeps : AreSameAsDealt share lists gathered) where
-  just : AreJustDealt setting.share gathered (dealt_of shares)
-  just = subst (λ l. AreJustDealt setting.share gathered l) taken (subst (λ s. AreJustDealt s gathered lists) named gives)
-
-  places : AreSameAsDealt setting.share (dealt_of shares) gathered
-  places = subst (λ l. AreSameAsDealt setting.share l gathered) taken (subst (λ s. AreSameAsDealt s lists gathered) named keeps)
-
-  same : AreSamePlaces setting.nodes gathered
-  same = places setting.nodes rest.stand.deals
-
-  pub they_fit : BehaviourLaws t.behaviour → FitTogether gathered setting.edges
-  they_fit laws = later_fit laws setting.nodes gathered setting.edges setting.fit same
-
-  -- each lies where it was dealt out to
-  same_place : (k : ℕ) → k < length setting.nodes → just.place k ≡ rest.stand.deals.place k
-  same_place k l =
-      let d = any_of setting.nodes k l in
-      let low : k < length gathered = omega (arith, l, same.count) in
-      let inside = just.inside k low in
-      let number : (node_at (dealt_of shares) (share_of setting.share k) (just.place k) d).number ≡ k =
-      ap (λ (n : Placed X t). n.number) (sym (just.here k d low)) ∙ (same.each k d l).number ∙ number_is setting.edges setting.nodes setting.fit k d l in
-      sym (rest.stand.deals.back (share_of setting.share k) (just.place k) d inside.0 inside.1).2 ∙ ap rest.stand.deals.place number
-
-  are : AreStates setting.share setting.nodes (dealt_of shares) rest.stand.deals (states_in gathered)
-  are = record {
-    count = length-map gathered placed_state ∙ same.count;
-    each = λ k d l.
-        let low : k < length gathered = omega (arith, l, same.count) in
-        get_or-map placed_state gathered k d t.behaviour.sample low
-        ∙ ap placed_state (just.here k d low ∙ ap (λ i. node_at (dealt_of shares) (share_of setting.share k) i d) (same_place k l));
-  }
-
+    (states : List t.State) (are : (deals : AreDealt setting.share setting.nodes (nodes_in shares)) → AreStates setting.share setting.nodes (nodes_in shares) deals states) where
   -- they have the states in which the run ended
-  are_the_states : rest.stand.states ≡ states_in gathered
-  are_the_states = states_are_one setting.share setting.edges setting.nodes setting.fit (dealt_of shares) rest.stand.deals rest.stand.deals rest.stand.states (states_in gathered) rest.stand.are_states are
+  are_the_states : rest.stand.states ≡ states
+  are_the_states = states_are_one setting.share setting.edges setting.nodes setting.fit (nodes_in shares) rest.stand.deals rest.stand.deals rest.stand.states states rest.stand.are_states (are rest.stand.deals)
 
-  pub openings : map t.behaviour.opening (states_in gathered) ≡ map t.behaviour.opening (states_in setting.nodes)
-  openings =
-      mapped_twice t.behaviour.opening placed_state gathered
-      ∙ ext_get_or t.behaviour.sample (map opens gathered) (map opens setting.nodes) (length-map gathered opens ∙ same.count ∙ sym (length-map setting.nodes opens)) alike
-      ∙ sym (mapped_twice t.behaviour.opening placed_state setting.nodes)
-    where
-      opens : Placed X t → t.State
-      opens placed = t.behaviour.opening (placed_state placed)
-
-      alike : (k : ℕ) → k < length (map opens gathered) → get_or (map opens gathered) k t.behaviour.sample ≡ get_or (map opens setting.nodes) k t.behaviour.sample
-      alike k l =
-          let low : k < length gathered = omega (arith, l, length-map gathered opens) in
-          let there : k < length setting.nodes = omega (arith, low, same.count) in
-          let d = any_of gathered k low in
-          get_or-map opens gathered k d t.behaviour.sample low ∙ (same.each k d there).opening ∙ sym (get_or-map opens setting.nodes k d t.behaviour.sample there)
-
-  pub come_to_rest : (boxes : List Boxes) → boxes ≡ map (λ share. share.ends) shares → (states : List t.State) → states ≡ states_in gathered → HaveComeToRest setting states (seen boxes)
-  come_to_rest boxes taken states are_theirs =
+  pub come_to_rest : (boxes : List Boxes) → boxes ≡ ends_in shares → HaveComeToRest setting states (seen boxes)
+  come_to_rest boxes taken =
       subst (λ b. HaveComeToRest setting states b) (sym (seen_is shares boxes taken))
-      (subst (λ s. HaveComeToRest setting s (boxes_of shares)) (are_the_states ∙ sym are_theirs)
+      (subst (λ s. HaveComeToRest setting s (boxes_of shares)) are_the_states
       (record { met = rest.stand.met; reaches = rest.stand.reaches; rest = rest.rest }))

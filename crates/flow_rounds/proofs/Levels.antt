@@ -1,7 +1,7 @@
 -- What is known of all edges where their ends have met.
-use Rattle.std.proofs.Common.{◌≡◌, ℕ, suc, ◌<◌, List, [], ◌∷◌, ◌++◌, drop, length, get_or, refl, sym, ◌∙◌, ap, subst, arith, append-nil, length-append}
+use Rattle.std.proofs.Common.{◌≡◌, ℕ, ◌<◌, List, [], ◌++◌, drop, length, get_or, refl, sym, ◌∙◌, ap, subst, arith, append-nil, length-append}
+use Rattle.std.proofs.Math.Seq.{drop-append_seam}
 use Rattle.std.proofs.lemmas.List.{get_or-map, length-map}
-use Rattle.std.specs.List.{AllZip}
 use Rattle.flow_edges.specs.Signals.{Signal}
 use Rattle.flow_edges.specs.Ends.{SameTraffic}
 use Rattle.flow_graph.specs.declared.edge.Edge.{Edge}
@@ -18,19 +18,7 @@ use Rattle.flow_round_laws.specs.Joints.{no_contents, boxes_at, writer_boxes, re
 use Rattle.flow_round_laws.specs.RoundTheorems.{NothingMoved}
 use Rattle.flow_round_laws.proofs.Parts.{any_of, no_length}
 use Rattle.flow_opening.specs.Open.{AreWires}
-use Rattle.flow_rounds.specs.Standing.{AreLinked}
-use Rattle.flow_rounds.specs.Gathered.{seen}
-
-drop_all : {X : Type 0} (xs ys : List X) → drop (length xs) (xs ++ ys) ≡ ys
-drop_all [] ys = refl
-drop_all (x ∷ xs) ys = drop_all xs ys
-
--- what holds place by place holds of two lists of one length
-pub all_zipped : {A B : Type 0} (R : A → B → Type 0) (xs : List A) (ys : List B) → length ys ≡ length xs → ((k : ℕ) (x : A) (y : B) → k < length xs → R (get_or xs k x) (get_or ys k y)) → AllZip R xs ys
-all_zipped R [] [] long each = tt
-all_zipped R [] (y ∷ ys) long each = absurd (omega (arith, long))
-all_zipped R (x ∷ xs) [] long each = absurd (omega (arith, long))
-all_zipped R (x ∷ xs) (y ∷ ys) long each = (each 0 x y (omega arith), all_zipped R xs ys (omega (arith, long)) (λ k a b l. each (suc k) a b (omega (arith, l))))
+use Rattle.flow_rounds.specs.Standing.{seen, AreLinked}
 
 -- boxes that are linked and have met are carried
 are_carried : (w r : Contents) (e : ℕ) → IsLinked w r e → Met w.ends r.ends w.capacity e → IsCarried w r e
@@ -41,7 +29,7 @@ are_carried w r e linked met =
     sym (append-nil (r.ends.received e ++ r.ends.coming e)) ∙ ap (λ (x : List Signal). (r.ends.received e ++ r.ends.coming e) ++ x) (sym none) ∙ linked.in_order in
     record {
       arrived = arrived;
-      coming = sym (drop_all (r.ends.received e) (r.ends.coming e)) ∙ ap (drop (length (r.ends.received e))) arrived;
+      coming = sym (drop-append_seam (r.ends.received e) (r.ends.coming e)) ∙ ap (drop (length (r.ends.received e))) arrived;
       leaving = none;
       room = omega (arith, linked.bound, met.room, ap length none, ap length arrived, came);
     }

@@ -3,11 +3,6 @@ use Rattle.std.proofs.Common.{◌≡◌, ℕ, zero, suc, List, [], ◌∷◌, �
 use Rattle.std.specs.Prelude.{Result, Ok, Err, IfOk}
 use Rattle.std.specs.List.{All, AllZip}
 
--- a list that is mapped twice
-pub mapped_twice : {A B C : Type 0} (g : B → C) (f : A → B) (xs : List A) → map g (map f xs) ≡ map (λ x. g (f x)) xs
-mapped_twice g f [] = refl
-mapped_twice g f (x ∷ xs) = ap (λ ys. g (f x) ∷ ys) (mapped_twice g f xs)
-
 pushed : {A : Type 0} (made rest : List A) (y : A) → (made ++ y ∷ []) ++ rest ≡ made ++ y ∷ rest
 pushed [] rest y = refl
 pushed (x ∷ made) rest y = ap (λ ys. x ∷ ys) (pushed made rest y)
@@ -49,15 +44,6 @@ module _ {A : Type 0} (P : A → Type 0) where
   -- what holds of all that were made, and of the next, holds of all
   pub all_more : (made now : List A) (y : A) → now ≡ made ++ y ∷ [] → All P made → P y → All P now
   all_more made now y longer each last = subst (λ (l : List A). All P l) (sym longer) (all_pushed made y each last)
-
--- a list that was written over one of its length
-pub written_back : {A : Type 0} (now old : List A) (n : ℕ) → length now ≡ length old → n ≡ length old → take n (now ++ drop (length now) old) ≡ now
-written_back [] [] zero even long = refl
-written_back [] [] (suc n) even long = absurd (omega (arith, long))
-written_back [] (y ∷ old) n even long = absurd (omega (arith, even))
-written_back (x ∷ now) [] n even long = absurd (omega (arith, even))
-written_back (x ∷ now) (y ∷ old) zero even long = absurd (omega (arith, long))
-written_back (x ∷ now) (y ∷ old) (suc n) even long = ap (λ zs. x ∷ zs) (written_back now old n (omega (arith, even)) (omega (arith, long)))
 
 -- what four facts of a result say together
 pub four_of_ok : {A E : Type 0} (r : Result A E) {P Q R S Z : A → Type 0} → IfOk r P → IfOk r Q → IfOk r R → IfOk r S → ((a : A) → P a → Q a → R a → S a → Z a) → IfOk r Z

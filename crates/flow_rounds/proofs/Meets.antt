@@ -14,10 +14,11 @@ use Rattle.flow_shares.specs.declared.share.Share.{Share}
 use Rattle.flow_round_laws.specs.Joints.{HaveMet}
 use Rattle.flow_round_laws.specs.RoundTheorems.{NothingMoved}
 use Rattle.flow_opening.specs.Open.{AreWires}
-use Rattle.flow_rounds.specs.Standing.{Setting, AreLinked, dealt_of, boxes_of, numbers_of, AreFed, AreMet}
-use Rattle.flow_rounds.specs.Gathered.{seen}
-use Rattle.flow_rounds.proofs.Lists.{mapped_twice}
-use Rattle.flow_rounds.proofs.Levels.{all_zipped, have_met, nothing_moved}
+use Rattle.flow_opening.specs.Deals.{nodes_in}
+use Rattle.flow_opening.specs.Settings.{Setting, numbers_of, AreFed}
+use Rattle.flow_opening.proofs.Lists.{mapped_twice, all_zipped}
+use Rattle.flow_rounds.specs.Standing.{seen, AreLinked, boxes_of, AreMet}
+use Rattle.flow_rounds.proofs.Levels.{have_met, nothing_moved}
 
 -- what lost no certainty did not, whatever the boxes were part of
 pub zip_kept : {A : Type 0} (ends_of : A → Boxes) (parts : List A) (boxes now : List Boxes) → boxes ≡ map ends_of parts → length now ≡ length boxes
@@ -45,7 +46,7 @@ module _ {X : Type 0} {t : Ghosts X} {u : EndsGhosts Boxes} where
         → ((k e : ℕ) (d : Boxes) → k < length boxes → (contents (get_or now k d)).capacity ≡ (contents (get_or boxes k d)).capacity)
         → ((e : ℕ) (w : Wire) (d : Boxes) → e < length wires → BoxesJoin (get_or now (get_or wires e w).writer d) (get_or now (get_or wires e w).reader d) e)
         → ((e : ℕ) (w : Wire) (d : Boxes) → e < length wires → Met (view_of (get_or now (get_or wires e w).writer d)) (view_of (get_or now (get_or wires e w).reader d)) (contents (get_or now (get_or wires e w).writer d)).capacity e)
-        → (after : List (Share X Boxes t u)) → numbers_of after ≡ numbers_of shares → dealt_of after ≡ dealt_of shares → map (λ share. share.ends) after ≡ now → AreFed after → AreMet setting shares after
+        → (after : List (Share X Boxes t u)) → numbers_of after ≡ numbers_of shares → nodes_in after ≡ nodes_in shares → map (λ share. share.ends) after ≡ now → AreFed after → AreMet setting shares after
     are_met now same kept places joined met after numbers nodes ends fed =
         let is : seen now ≡ boxes_of after = seen_is after now (sym ends) in
         record {

@@ -24,7 +24,9 @@ use Rattle.flow_round_laws.proofs.States.{states_of_shares, are_states}
 use Rattle.flow_round_laws.proofs.Rounds.{a_round_is_a_run}
 use Rattle.flow_round_laws.proofs.Carried.{carrying_keeps_the_configuration}
 use Rattle.flow_round_laws.proofs.Calm.{calm_rounds_rest}
-use Rattle.flow_rounds.specs.Standing.{Setting, dealt_of, boxes_of, moved_in, joint_of, AreMet, StandBetweenRounds, RestBetweenRounds}
+use Rattle.flow_opening.specs.Deals.{nodes_in}
+use Rattle.flow_opening.specs.Settings.{Setting}
+use Rattle.flow_rounds.specs.Standing.{boxes_of, moved_in, joint_of, AreMet, StandBetweenRounds, RestBetweenRounds}
 
 -- a run from where no node can step has no step
 stays : {S M : Type 0} (P : Process S M) (net : Network S) (limit : Option ℕ) (events : List (Event M)) (c d : Configuration S M) → AtRest P net limit c → Run P net limit events c d → c ≡ d
@@ -46,18 +48,18 @@ module _ {X : Type 0} {t : Ghosts X} (laws : BehaviourLaws t.behaviour) (setting
   most_moved = most_events P net setting.fit.built.wired laws.settles first (λ e inside. ([], refl)) + moved net first
 
   module _ {u : EndsGhosts Boxes} where
-    module _ (shares back new : List (Share X Boxes t u)) (stand : StandBetweenRounds setting shares) (went : HaveGoneOn (dealt_of shares) (dealt_of back) (boxes_of shares) (boxes_of back)) (met : AreMet setting back new) where
-      gone : HaveGoneOn (dealt_of shares) (dealt_of new) (boxes_of shares) (boxes_of back)
-      gone = subst (λ later. HaveGoneOn (dealt_of shares) later (boxes_of shares) (boxes_of back)) (sym met.nodes) went
+    module _ (shares back new : List (Share X Boxes t u)) (stand : StandBetweenRounds setting shares) (went : HaveGoneOn (nodes_in shares) (nodes_in back) (boxes_of shares) (boxes_of back)) (met : AreMet setting back new) where
+      gone : HaveGoneOn (nodes_in shares) (nodes_in new) (boxes_of shares) (boxes_of back)
+      gone = subst (λ later. HaveGoneOn (nodes_in shares) later (boxes_of shares) (boxes_of back)) (sym met.nodes) went
 
-      abbrev deals : AreDealt setting.share setting.nodes (dealt_of new)
-      deals = dealt_later setting.share setting.nodes (dealt_of shares) (dealt_of new) stand.deals gone.count gone.places
+      abbrev deals : AreDealt setting.share setting.nodes (nodes_in new)
+      deals = dealt_later setting.share setting.nodes (nodes_in shares) (nodes_in new) stand.deals gone.count gone.places
 
       abbrev states : List t.State
-      states = states_of_shares setting.share setting.edges setting.nodes setting.fit (dealt_of new) deals
+      states = states_of_shares setting.share setting.edges setting.nodes setting.fit (nodes_in new) deals
 
-      are : AreStates setting.share setting.nodes (dealt_of new) deals states
-      are = are_states setting.share setting.edges setting.nodes setting.fit (dealt_of new) deals
+      are : AreStates setting.share setting.nodes (nodes_in new) deals states
+      are = are_states setting.share setting.edges setting.nodes setting.fit (nodes_in new) deals
 
       -- where the network stood before the round, after the pumps, and now
       abbrev c : Configuration t.State Signal
@@ -72,9 +74,9 @@ module _ {X : Type 0} {t : Ghosts X} (laws : BehaviourLaws t.behaviour) (setting
       sound : IsSound P net c
       sound = sound_run P net setting.fit.built.wired (Some setting.capacity) stand.reaches.0 first c (sound_start P net) stand.reaches.1
 
-      run : Reaches P net (Some setting.capacity) c d × ((NothingMoved (length (dealt_of shares)) (boxes_of shares) (boxes_of back) → ⊥) → moved net c < moved net d)
+      run : Reaches P net (Some setting.capacity) c d × ((NothingMoved (length (nodes_in shares)) (boxes_of shares) (boxes_of back) → ⊥) → moved net c < moved net d)
       run =
-          a_round_is_a_run t laws setting.capacity setting.share setting.edges setting.nodes setting.fit (dealt_of shares) (dealt_of new) stand.deals deals stand.states states stand.are_states are
+          a_round_is_a_run t laws setting.capacity setting.share setting.edges setting.nodes setting.fit (nodes_in shares) (nodes_in new) stand.deals deals stand.states states stand.are_states are
           (boxes_of shares) (boxes_of back) stand.met sound gone
 
       even : length (boxes_of new) ≡ length (boxes_of back)
@@ -95,15 +97,15 @@ module _ {X : Type 0} {t : Ghosts X} (laws : BehaviourLaws t.behaviour) (setting
         reaches = reaches_then P net (Some setting.capacity) first c e stand.reaches (subst (λ x. Reaches P net (Some setting.capacity) c x) (sym carried) run.0);
       }
 
-      pub rests : AllStuck (dealt_of shares) (boxes_of shares) → RestBetweenRounds setting new
+      pub rests : AllStuck (nodes_in shares) (boxes_of shares) → RestBetweenRounds setting new
       unfolding stands
       rests stuck =
           let rest : AtRest P net (Some setting.capacity) c =
-          calm_rounds_rest t setting.capacity setting.share setting.edges setting.nodes setting.fit (dealt_of shares) stand.deals stand.states stand.are_states (boxes_of shares) stand.met stuck in
+          calm_rounds_rest t setting.capacity setting.share setting.edges setting.nodes setting.fit (nodes_in shares) stand.deals stand.states stand.are_states (boxes_of shares) stand.met stuck in
           let same : c ≡ e = stays P net (Some setting.capacity) run.0.0 c d rest run.0.1 ∙ sym carried in
           record { stand = stands; rest = subst (λ x. AtRest P net (Some setting.capacity) x) same rest }
 
-      pub moves : (NothingMoved (length (dealt_of shares)) (boxes_of shares) (boxes_of back) → ⊥) → moved_in setting (boxes_of shares) < moved_in setting (boxes_of new)
+      pub moves : (NothingMoved (length (nodes_in shares)) (boxes_of shares) (boxes_of back) → ⊥) → moved_in setting (boxes_of shares) < moved_in setting (boxes_of new)
       moves some = subst (λ x. moved net c < moved net x) (sym carried) (run.1 some)
 
     pub within_most : (shares : List (Share X Boxes t u)) → StandBetweenRounds setting shares → moved_in setting (boxes_of shares) < most_moved + 1

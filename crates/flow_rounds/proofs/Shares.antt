@@ -20,10 +20,12 @@ use Rattle.flow_round_laws.specs.Joints.{no_contents, nodes_at, boxes_at, writer
 use Rattle.flow_round_laws.specs.RoundTheorems.{NothingMoved, HaveGoneOn, AllStuck}
 use Rattle.flow_round_laws.proofs.Parts.{any_of}
 use Rattle.flow_round_laws.proofs.Seats.{reader_inside, writer_inside}
-use Rattle.flow_rounds.specs.Standing.{AreLinked, dealt_of, boxes_of, AreFed, AreCalm}
+use Rattle.flow_opening.specs.Deals.{nodes_in}
+use Rattle.flow_opening.specs.Settings.{AreFed, AreCalm}
+use Rattle.flow_rounds.specs.Standing.{AreLinked, boxes_of}
 
 module _ {X : Type 0} {t : Ghosts X} {u : EndsGhosts Boxes} where
-  pub nodes_are : (shares : List (Share X Boxes t u)) (s : ℕ) (d : Share X Boxes t u) → s < length shares → nodes_at (dealt_of shares) s ≡ (get_or shares s d).nodes.items
+  pub nodes_are : (shares : List (Share X Boxes t u)) (s : ℕ) (d : Share X Boxes t u) → s < length shares → nodes_at (nodes_in shares) s ≡ (get_or shares s d).nodes.items
   nodes_are shares s d l = get_or-map (λ (share : Share X Boxes t u). share.nodes.items) shares s d [] l
 
   pub boxes_are : (shares : List (Share X Boxes t u)) (s : ℕ) (d : Share X Boxes t u) → s < length shares → boxes_at (boxes_of shares) s ≡ contents (get_or shares s d).ends
@@ -31,7 +33,7 @@ module _ {X : Type 0} {t : Ghosts X} {u : EndsGhosts Boxes} where
 
   module _ (sees : u.view ≡ view_of) (keeps : (a b : Boxes) → u.same a b → KeepsRound (contents a) (contents b)) (shares back : List (Share X Boxes t u)) (count : length back ≡ length shares)
       (each : (k : ℕ) (d : Share X Boxes t u) → k < length shares → IsPumped (get_or shares k d) (get_or back k d)) (fed : AreFed back) where
-    there : (s : ℕ) → s < length (dealt_of shares) → s < length shares
+    there : (s : ℕ) → s < length (nodes_in shares) → s < length shares
     there s l = omega (arith, l, length-map shares (λ (share : Share X Boxes t u). share.nodes.items))
 
     module _ (s : ℕ) (l : s < length shares) where
@@ -57,9 +59,9 @@ module _ {X : Type 0} {t : Ghosts X} {u : EndsGhosts Boxes} where
 
       -- what holds of the share holds of what the lists have of it
       of_lists : (Q : List (Placed X t) → List (Placed X t) → Contents → Contents → Type 0) → Q old.nodes.items new.nodes.items (contents old.ends) (contents new.ends)
-          → Q (nodes_at (dealt_of shares) s) (nodes_at (dealt_of back) s) (boxes_at (boxes_of shares) s) (boxes_at (boxes_of back) s)
+          → Q (nodes_at (nodes_in shares) s) (nodes_at (nodes_in back) s) (boxes_at (boxes_of shares) s) (boxes_at (boxes_of back) s)
       of_lists Q q =
-          subst (λ n. Q n (nodes_at (dealt_of back) s) (boxes_at (boxes_of shares) s) (boxes_at (boxes_of back) s)) (sym (nodes_are shares s any l))
+          subst (λ n. Q n (nodes_at (nodes_in back) s) (boxes_at (boxes_of shares) s) (boxes_at (boxes_of back) s)) (sym (nodes_are shares s any l))
           (subst (λ m. Q old.nodes.items m (boxes_at (boxes_of shares) s) (boxes_at (boxes_of back) s)) (sym (nodes_are back s any low))
           (subst (λ a. Q old.nodes.items new.nodes.items a (boxes_at (boxes_of back) s)) (sym (boxes_are shares s any l))
           (subst (λ b. Q old.nodes.items new.nodes.items (contents old.ends) b) (sym (boxes_are back s any low)) q)))
@@ -73,7 +75,7 @@ module _ {X : Type 0} {t : Ghosts X} {u : EndsGhosts Boxes} where
       kept : KeepsRound (boxes_at (boxes_of shares) s) (boxes_at (boxes_of back) s)
       kept = of_lists (λ n m a b. KeepsRound a b) (keeps old.ends new.ends pumped.same)
 
-    pub gone_on : HaveGoneOn (dealt_of shares) (dealt_of back) (boxes_of shares) (boxes_of back)
+    pub gone_on : HaveGoneOn (nodes_in shares) (nodes_in back) (boxes_of shares) (boxes_of back)
     gone_on = record {
       count = length-map back (λ (share : Share X Boxes t u). share.nodes.items) ∙ count ∙ sym (length-map shares (λ (share : Share X Boxes t u). share.nodes.items));
       places = λ s l. of_lists s (there s l) (λ n m a b. AreSamePlaces n m) (pumped s (there s l)).places;
@@ -85,19 +87,19 @@ module _ {X : Type 0} {t : Ghosts X} {u : EndsGhosts Boxes} where
     }
 
     -- where nothing moved, no node could step
-    pub all_stuck : NothingMoved (length (dealt_of shares)) (boxes_of shares) (boxes_of back) → AllStuck (dealt_of shares) (boxes_of shares)
+    pub all_stuck : NothingMoved (length (nodes_in shares)) (boxes_of shares) (boxes_of back) → AllStuck (nodes_in shares) (boxes_of shares)
     all_stuck nothing s l =
         let h = there s l in
         of_lists s h (λ n m a b. AreStuck a.ends n)
         (subst (λ (v : Boxes → View). AreStuck (v (old s h).ends) (old s h).nodes.items) sees ((pumped s h).progress (is_fed s h) (traffic_of s h (nothing s l))))
 
-    pub calm_moves_nothing : AreCalm back → NothingMoved (length (dealt_of shares)) (boxes_of shares) (boxes_of back)
+    pub calm_moves_nothing : AreCalm back → NothingMoved (length (nodes_in shares)) (boxes_of shares) (boxes_of back)
     calm_moves_nothing calm s l =
         let h = there s l in
         of_lists s h (λ n m a b. SameTraffic a.ends b.ends)
         (subst (λ (v : Boxes → View). SameTraffic (v (old s h).ends) (v (new s h).ends)) sees ((pumped s h).calm (is_fed s h) (calm s (any s h) (low s h))))
 
-    pub nothing_is_calm : NothingMoved (length (dealt_of shares)) (boxes_of shares) (boxes_of back) → AreCalm back
+    pub nothing_is_calm : NothingMoved (length (nodes_in shares)) (boxes_of shares) (boxes_of back) → AreCalm back
     nothing_is_calm nothing s d l = at (get_or back s d).moved refl
       where
         h : s < length shares
@@ -114,7 +116,7 @@ module _ {X : Type 0} {t : Ghosts X} {u : EndsGhosts Boxes} where
                 (subst (λ (a : Contents). SameTraffic a.ends (boxes_at (boxes_of back) s).ends) (boxes_are shares s d h) (nothing s (omega (arith, h, length-map shares (λ (share : Share X Boxes t u). share.nodes.items))))))
 
     -- boxes that were linked still are
-    pub still_linked : (share : List ℕ) (edges : List Edge) (nodes : List (Placed X t)) (capacity : ℕ) → FitTogether nodes edges → AreDealt share nodes (dealt_of shares) → HaveMet share edges (boxes_of shares) capacity → AreLinked share edges (boxes_of back) capacity
+    pub still_linked : (share : List ℕ) (edges : List Edge) (nodes : List (Placed X t)) (capacity : ℕ) → FitTogether nodes edges → AreDealt share nodes (nodes_in shares) → HaveMet share edges (boxes_of shares) capacity → AreLinked share edges (boxes_of back) capacity
     still_linked share edges nodes capacity fit deals met = record {
       writers = λ e l. omega (arith, writes e l, long);
       readers = λ e l. omega (arith, reads e l, long);
@@ -125,11 +127,11 @@ module _ {X : Type 0} {t : Ghosts X} {u : EndsGhosts Boxes} where
       capacity = λ e l. (kept (share_of share (edge_at edges e).writer) (there _ (writes e l))).boxes.capacity ∙ met.capacity e l;
     }
       where
-        long : length (boxes_of back) ≡ length (dealt_of shares)
+        long : length (boxes_of back) ≡ length (nodes_in shares)
         long = length-map back (λ (share : Share X Boxes t u). contents share.ends) ∙ count ∙ sym (length-map shares (λ (share : Share X Boxes t u). share.nodes.items))
 
-        writes : (e : ℕ) → e < length edges → share_of share (edge_at edges e).writer < length (dealt_of shares)
+        writes : (e : ℕ) → e < length edges → share_of share (edge_at edges e).writer < length (nodes_in shares)
         writes e l = (deals.inside (edge_at edges e).writer (writer_inside edges nodes fit e l)).0
 
-        reads : (e : ℕ) → e < length edges → share_of share (edge_at edges e).reader < length (dealt_of shares)
+        reads : (e : ℕ) → e < length edges → share_of share (edge_at edges e).reader < length (nodes_in shares)
         reads e l = (deals.inside (edge_at edges e).reader (reader_inside edges nodes fit e l)).0

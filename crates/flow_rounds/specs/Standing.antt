@@ -1,25 +1,21 @@
 -- Shares of a graph between two rounds.
-use Rattle.std.specs.Prelude.{◌≡◌, ℕ, ◌+◌, ◌<◌, false, List, length, map, slice_index_or, Some}
-use Rattle.std.specs.List.{All}
-use Rattle.kahn.specs.Basics.{total}
+use Rattle.std.specs.Prelude.{◌≡◌, ℕ, ◌<◌, List, length, map, Some}
 use Rattle.kahn.specs.Configurations.{Configuration, start}
 use Rattle.kahn.specs.Runs.{Reaches, AtRest}
 use Rattle.flow_edges.specs.Signals.{Signal}
 use Rattle.flow_edges.specs.declared.ends.Ends.{Ghosts as EndsGhosts}
 use Rattle.flow_base.specs.declared.transducer.Transducer.{Ghosts}
 use Rattle.flow_graph.specs.declared.edge.Edge.{Edge}
-use Rattle.flow_graph.specs.declared.placed.Placed.{Placed}
-use Rattle.flow_graph.specs.declared.graph.Graph.{Graph}
 use Rattle.flow_graph.specs.Edges.{edge_at}
-use Rattle.flow_graph.specs.Graphs.{edges_of}
-use Rattle.flow_graph.specs.Layouts.{nodes_of, FitTogether}
 use Rattle.flow_boxes.specs.Contents.{Contents, contents}
 use Rattle.flow_boxes.specs.Rounds.{IsLinked}
 use Rattle.flow_boxes.specs.declared.boxes.Boxes.{Boxes}
 use Rattle.flow_deal.specs.Deals.{share_of, AreDealt}
 use Rattle.flow_shares.specs.declared.share.Share.{Share}
-use Rattle.flow_round_laws.specs.Joints.{writer_boxes, reader_boxes, joint_view, HaveMet, AreStates}
+use Rattle.flow_round_laws.specs.Joints.{views_of, writer_boxes, reader_boxes, HaveMet, AreStates}
 use Rattle.flow_round_laws.specs.RoundTheorems.{NothingMoved, net_of, joint}
+use Rattle.flow_opening.specs.Deals.{nodes_in}
+use Rattle.flow_opening.specs.Settings.{Setting, moved_by, numbers_of, AreFed}
 
 -- The two boxes of each edge are among these, and hold at most so many messages.
 pub record AreLinked (share : List ℕ) (edges : List Edge) (boxes : List Contents) (most : ℕ) : Type 0 where
@@ -28,48 +24,18 @@ pub record AreLinked (share : List ℕ) (edges : List Edge) (boxes : List Conten
   pub linked : (e : ℕ) → e < length edges → IsLinked (writer_boxes share edges boxes e) (reader_boxes share edges boxes e) e
   pub capacity : (e : ℕ) → e < length edges → (writer_boxes share edges boxes e).capacity ≡ most
 
--- What was dealt out, and to whom: the nodes and edges of a graph, the list that names a share for each node, and how
--- many messages an edge holds at most.
-pub record Setting {X : Type 0} (t : Ghosts X) : Type 0 where
-  pub nodes : List (Placed X t)
-  pub edges : List Edge
-  pub fit : FitTogether nodes edges
-  pub share : List ℕ
-  pub capacity : ℕ
-
--- a graph as it was built, dealt out so
-abbrev pub setting_of : {X : Type 0} {t : Ghosts X} → Graph X t → List ℕ → ℕ → Setting t
-setting_of graph share capacity = record {
-  nodes = nodes_of graph;
-  edges = edges_of graph;
-  fit = record { built = graph.built; seated = graph.seated };
-  share = share;
-  capacity = capacity;
-}
+-- what is seen of each of these boxes
+abbrev pub seen : List Boxes → List Contents
+seen boxes = map contents boxes
 
 module _ {X : Type 0} {t : Ghosts X} {u : EndsGhosts Boxes} where
-  -- the nodes of each share
-  abbrev pub dealt_of : List (Share X Boxes t u) → List (List (Placed X t))
-  dealt_of shares = map (λ share. share.nodes.items) shares
-
   -- what is seen of the boxes of each share
   abbrev pub boxes_of : List (Share X Boxes t u) → List Contents
   boxes_of shares = map (λ share. contents share.ends) shares
 
-  abbrev pub numbers_of : List (Share X Boxes t u) → List ℕ
-  numbers_of shares = map (λ share. share.number) shares
-
-  -- memory was refused to none of them
-  abbrev pub AreFed : List (Share X Boxes t u) → Type 0
-  AreFed shares = All (λ share. share.starved ≡ false) shares
-
-  -- the last pumps moved no message
-  abbrev pub AreCalm : List (Share X Boxes t u) → Type 0
-  AreCalm shares = All (λ share. share.moved ≡ false) shares
-
 -- how many messages were sent and received on all edges
 abbrev pub moved_in : {X : Type 0} {t : Ghosts X} → Setting t → List Contents → ℕ
-moved_in setting boxes = let view = joint_view setting.share setting.edges boxes in total (λ e. length (view.sent e) + length (view.received e)) (length setting.edges)
+moved_in setting boxes = moved_by setting (views_of boxes)
 
 module _ {X : Type 0} {t : Ghosts X} {u : EndsGhosts Boxes} (setting : Setting t) where
   -- where the nodes of these shares stand, with what their boxes say
@@ -79,18 +45,18 @@ module _ {X : Type 0} {t : Ghosts X} {u : EndsGhosts Boxes} (setting : Setting t
   -- All edges have met since: nothing was sent or received, and the shares have the same nodes.
   pub record AreMet (shares after : List (Share X Boxes t u)) : Type 0 where
     pub numbers : numbers_of after ≡ numbers_of shares
-    pub nodes : dealt_of after ≡ dealt_of shares
+    pub nodes : nodes_in after ≡ nodes_in shares
     pub fed : AreFed after
     pub traffic : NothingMoved (length (boxes_of shares)) (boxes_of shares) (boxes_of after)
     pub met : HaveMet setting.share setting.edges (boxes_of after) setting.capacity
 
   -- The shares of the graph, with all its nodes and over boxes that have met, stand where a run of its network led.
   pub record StandBetweenRounds (shares : List (Share X Boxes t u)) : Type 0 where
-    pub deals : AreDealt setting.share setting.nodes (dealt_of shares)
+    pub deals : AreDealt setting.share setting.nodes (nodes_in shares)
     pub fed : AreFed shares
     pub met : HaveMet setting.share setting.edges (boxes_of shares) setting.capacity
     pub states : List t.State
-    pub are_states : AreStates setting.share setting.nodes (dealt_of shares) deals states
+    pub are_states : AreStates setting.share setting.nodes (nodes_in shares) deals states
     pub reaches : Reaches t.behaviour.process (net_of setting.nodes setting.edges) (Some setting.capacity) (start (net_of setting.nodes setting.edges)) (joint_of states shares)
 
   -- And no node can step.

@@ -3,13 +3,11 @@
 //! The nodes of a graph are dealt out to shares, each over boxes of its own. In a round each share is pumped in a
 //! worker, all workers side by side; then all are joined, and the messages are carried from the writers' boxes to the
 //! readers'. [`run_rounds`] makes rounds until one moves nothing: then no node can step. What all shares did is one run of
-//! the graph's network, whatever the threads did at what time. [`gather_graph`] then makes the graph of the shares again.
+//! the graph's network, whatever the threads did at what time.
 #![tactic(auto)]
 
-mod gathering;
 mod meet;
 mod parts;
 mod round;
 
-pub use gathering::gather_graph;
 pub use round::run_rounds;

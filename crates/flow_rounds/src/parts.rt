@@ -3,7 +3,6 @@ ghost use Rattle.std.specs.Prelude.{◌≡◌, false, map, IfOk};
 ghost use Rattle.std.specs.List.{All, AllZip};
 ghost use Rattle.flow_rings.specs.Rings.{Kept};
 ghost use Rattle.flow_boxes.specs.Contents.{view_of};
-ghost use Rattle.flow_deal.specs.Deals.{lists_in};
 
 use flow_base::Transducer;
 use flow_boxes::Boxes;
@@ -69,22 +68,4 @@ pub(crate) fn put_together<T: Transducer + Drop>(
         }
     }
     Ok(shares)
-}
-
-/// The nodes of each share, and its boxes, in order.
-pub(crate) fn split<T: Transducer + Drop>(
-    alloc: Global,
-    shares: Vec<Share<T, Boxes>>,
-) -> Result<(Vec<Vec<Placed<T>>>, Vec<Boxes>), AllocError>
-    ensures nodes { IfOk result (λ made. lists_in made.0.items ≡ map (λ share. share.nodes.items) shares.items) }
-    ensures boxes { IfOk result (λ made. made.1.items ≡ map (λ share. share.ends) shares.items) }
-{
-    let mut lists = Vec::with_capacity(alloc, shares.len())?;
-    let mut boxes = Vec::with_capacity(alloc, shares.len())?;
-    for share in shares {
-        let (nodes, ends) = share.into_parts();
-        lists.push_reserved(nodes);
-        boxes.push_reserved(ends);
-    }
-    Ok((lists, boxes))
 }

@@ -1,7 +1,8 @@
 // Rounds.
 ghost use Rattle.std.specs.Prelude.{◌≡◌, ◌<◌, ◌↔◌, true, false, length, IfOk, IsTrue};
 ghost use Rattle.flow_opening.specs.Open.{AreWires};
-ghost use Rattle.flow_rounds.specs.Standing.{Setting, AreFed, AreCalm, boxes_of, moved_in, StandBetweenRounds, RestBetweenRounds};
+ghost use Rattle.flow_opening.specs.Settings.{Setting, AreFed, AreCalm};
+ghost use Rattle.flow_rounds.specs.Standing.{boxes_of, moved_in, StandBetweenRounds, RestBetweenRounds};
 
 use crate::meet::meet;
 use flow_base::Transducer;

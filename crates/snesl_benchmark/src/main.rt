@@ -33,9 +33,11 @@ fn main(rt: HostRuntime) -> Result<()> {
             let alone = config(alloc, Drive::Serial, 1, capacity)?;
             let line = measured(&rt, &program, count, &alone)?;
             for threads in [1, 2, 4] {
-                let shared = config(alloc, Drive::Rounds, threads, capacity)?;
-                let same = measured(&rt, &program, count, &shared)?;
-                ensure!(same == line, "drives differ");
+                for drive in [Drive::Rounds, Drive::Rings] {
+                    let shared = config(alloc, drive, threads, capacity)?;
+                    let same = measured(&rt, &program, count, &shared)?;
+                    ensure!(same == line, "drives differ");
+                }
             }
             let value = line.as_slice().trim_ascii_end();
             println!(rt;
@@ -115,6 +117,7 @@ fn report<R: Eprint + Clock + AllocGlobal + Threads>(
     let drive = match config.drive {
         Drive::Serial => "serial",
         Drive::Rounds => "rounds",
+        Drive::Rings => "rings",
     };
     let nanos = time.as_nanos();
     let per_element = nanos / u128::from(count.max(1));

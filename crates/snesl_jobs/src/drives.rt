@@ -75,10 +75,24 @@ fn serial(alloc: Global, capacity: usize) -> Result<Config, AllocError> {
 // five entries 0 or 1 besides.
 fn threaded(alloc: Global, capacity: usize, nodes: usize) -> Result<Vec<Config>, AllocError> {
     let mut configs = Vec::new(alloc);
+    for drive in [Drive::Rounds, Drive::Rings] {
+        add_threaded(alloc, &mut configs, drive, capacity, nodes)?;
+    }
+    Ok(configs)
+}
+
+// Those of one of these drives.
+fn add_threaded(
+    alloc: Global,
+    configs: &mut Vec<Config>,
+    drive: Drive,
+    capacity: usize,
+    nodes: usize,
+) -> Result<(), AllocError> {
     for chunk in [1, 16] {
         for idle_turns in [1, 64] {
             for &shares in &SHARES {
-                configs.push(config(alloc, Drive::Rounds, capacity, chunk, idle_turns, shares)?)?;
+                configs.push(config(alloc, drive, capacity, chunk, idle_turns, shares)?)?;
             }
         }
     }
@@ -91,10 +105,10 @@ fn threaded(alloc: Global, capacity: usize, nodes: usize) -> Result<Vec<Config>,
                 bits >> 3 & 1,
                 bits >> 4,
             ];
-            configs.push(config(alloc, Drive::Rounds, capacity, 1, 1, (2, &share))?)?;
+            configs.push(config(alloc, drive, capacity, 1, 1, (2, &share))?)?;
         }
     }
-    Ok(configs)
+    Ok(())
 }
 
 fn config(

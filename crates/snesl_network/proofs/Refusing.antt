@@ -3,7 +3,7 @@ use Rattle.std.proofs.Common.{◌≡◌, ℕ, List, Result, Ok, Err, inr, sym, s
 use Rattle.std.specs.Result.{IsErrAnd}
 use Rattle.std.specs.Prelude.{IfErr}
 use Rattle.snesl_values.specs.declared.refusal.Refusal.{Refusal}
-use Rattle.snesl_values.specs.declared.refusal.Refusal.TheVariants.{TooBig, BadConfig, NoMemory, NoThread, Output}
+use Rattle.snesl_values.specs.declared.refusal.Refusal.TheVariants.{TooBig, BadConfig, NoMemory, NoThread, Output, Short}
 use Rattle.snesl_tree.specs.Tree.{ProgramTree}
 use Rattle.snesl_syntax.specs.Parse.{Parses, IsOfText, IsRight}
 use Rattle.snesl_types.specs.Programs.{IsFirstViolation}
@@ -19,6 +19,7 @@ module _ (text input : List ℕ) where
   pub parse_refused : (refusal : Refusal) → IsOfText refusal → IsRight (Parses text) (Err refusal) → HasNoNetwork text input refusal
   parse_refused NoMemory of_text right config = tt
   parse_refused Output of_text right config = of_text
+  parse_refused Short of_text right config = of_text
   parse_refused NoThread of_text right config = absurd of_text
   parse_refused BadConfig of_text right config = absurd of_text
   parse_refused TooBig of_text right config = absurd of_text
@@ -28,6 +29,7 @@ module _ (text input : List ℕ) where
       → HasNoNetwork text input refusal
   check_refused program NoMemory parsed first config = tt
   check_refused program Output parsed first config = program_of_typing first
+  check_refused program Short parsed first config = program_of_typing first
   check_refused program NoThread parsed first config = absurd (program_of_typing first)
   check_refused program BadConfig parsed first config = absurd (program_of_typing first)
   check_refused program TooBig parsed first config = inr (ill_typed parsed first)

@@ -3,7 +3,7 @@ use Rattle.std.specs.Prelude.{◌≡◌, ℕ, ◌<◌, ◌≤◌, ◌⊎◌, Lis
 use Rattle.snesl_values.specs.declared.fault.Fault.{Fault}
 use Rattle.snesl_values.specs.declared.fault.FaultKind.{FaultKind}
 use Rattle.snesl_values.specs.declared.refusal.Refusal.{Refusal}
-use Rattle.snesl_values.specs.declared.refusal.Refusal.TheVariants.{TooBig, BadConfig, NoMemory, NoThread, Output}
+use Rattle.snesl_values.specs.declared.refusal.Refusal.TheVariants.{TooBig, BadConfig, NoMemory, NoThread, Output, Short}
 use Rattle.snesl_values.specs.Inputs.{Environment, InputMeans, spells}
 use Rattle.snesl_values.specs.Types.{Ty}
 use Rattle.snesl_values.specs.Values.{Value}
@@ -84,13 +84,14 @@ module _ (text input : List ℕ) where
 
   -- Why a program was not driven: the configuration is not lawful; memory was refused; a thread could not be started, by a
   -- drive that starts threads; the network is too great, or the typing of the program says so; or else what the program and its
-  -- input text mean.
+  -- input text mean. Never because an edge held less than its capacity.
   abbrev pub WasRefused : Config → Refusal → Type 0
   WasRefused config BadConfig = IsLawful config → ⊥
   WasRefused config NoMemory = Unit {0}
   WasRefused config NoThread = StartsThreads config.drive
   WasRefused config TooBig = IsTooGreat ⊎ Means text input (is_refused TooBig)
   WasRefused config Output = ⊥
+  WasRefused config Short = ⊥
   WasRefused config refusal = Means text input (is_refused refusal)
 
   -- what comes of it, where a result is seen so: a network at rest, where the configuration is lawful, or a refusal

@@ -87,5 +87,6 @@ fn driven<R: Threads, G: Gate + Send + Sync + Drop + 'static>(
         Err(DriveError::BadConfig) => Err(Refusal::BadConfig),
         Err(DriveError::NoMemory) => Err(Refusal::NoMemory),
         Err(DriveError::NoThread) => Err(Refusal::NoThread),
+        Err(DriveError::Short) => Err(Refusal::Short),
     }
 }

@@ -2,7 +2,6 @@
 // its edit are checked.
 
 ghost use Rattle.std.specs.Prelude.{◌≡◌, IfOk};
-ghost use Rattle.flow_drive.specs.declared.config.Drive.TheVariants.{Rounds};
 
 use flow_drive::{Config, Drive, Sharing};
 use std::alloc::{AllocError, Global};
@@ -25,17 +24,18 @@ pub fn config(alloc: Global, capacity: usize, chunk: usize) -> Result<Config, Al
     })
 }
 
-/// Edges that hold so many messages, and shares in so many threads, round after round. Its only error is that memory was
-/// refused.
-pub fn in_rounds(
+/// Edges that hold so many messages, and shares in so many threads, each of which ends after one turn without a step. Its
+/// only error is that memory was refused.
+pub fn in_threads(
     alloc: Global,
+    drive: Drive,
     capacity: usize,
     threads: usize,
     share: &[u8],
 ) -> Result<Config, AllocError>
     ensures capacity { IfOk result (λ config. config.capacity ≡ capacity) }
     ensures threads { IfOk result (λ config. config.sharing.threads ≡ threads) }
-    ensures drive { IfOk result (λ config. config.drive ≡ Rounds) }
+    ensures drive { IfOk result (λ config. config.drive ≡ drive) }
 {
     let sharing = Sharing {
         threads,
@@ -46,6 +46,6 @@ pub fn in_rounds(
         capacity,
         chunk: 16,
         sharing,
-        drive: Drive::Rounds,
+        drive,
     })
 }

@@ -1,8 +1,8 @@
 // Runs in threads of their own: workers side by side, and what several threads make of programs.
 
-use crate::configuration::in_rounds;
+use crate::configuration::in_threads;
 use crate::running::{Done, assert_silent, assert_value, ending};
-use flow_drive::{Config, Gate, NoGate, Outcome};
+use flow_drive::{Config, Drive, Gate, NoGate, Outcome};
 use snesl_run::run;
 use snesl_values::{Counted, Fault, FaultKind};
 use std::alloc::{AllocError, Global};
@@ -67,6 +67,38 @@ impl Gate for SideBySide {
     }
 }
 
+// Counts the first turns of share 0, of which an epoch has one. Share 1 yields so often before each first turn of its own.
+#[derive(Drop)]
+struct Epochs {
+    count: AtomicU64,
+    yields: usize,
+}
+
+impl Epochs {
+    fn new(yields: usize) -> Epochs {
+        Epochs {
+            count: AtomicU64::new(0),
+            yields,
+        }
+    }
+}
+
+impl Gate for Epochs {
+    fn turn(&self, share: usize, turn: usize) {
+        if turn == 0 && share == 0 {
+            self.count.fetch_add(1, Ordering::SeqCst);
+        }
+        if turn == 0 && share == 1 {
+            for _ in 0..self.yields {
+                thread::yield_now();
+            }
+        }
+    }
+}
+
+// The drives of several threads.
+const THREADED: [Drive; 2] = [Drive::Rounds, Drive::Rings];
+
 // Runs a program without inputs, over memory.
 fn ran<G: Gate + Send + Sync + Drop + 'static>(
     rt: &impl Threads,
@@ -86,19 +118,59 @@ fn ran<G: Gate + Send + Sync + Drop + 'static>(
 #[test]
 fn workers_run_side_by_side(rt: HostRuntime) -> Result<(), Fail> {
     let alloc = rt.alloc();
-    let gate = Arc::new(
-        alloc,
-        SideBySide {
+    let program = b"{reduce_add({x + y : y in iota(x)}) : x in iota(4)}";
+    for drive in THREADED {
+        let gate = SideBySide {
             first: Mark::new(),
             second: Mark::new(),
-        },
-    )?;
-    let program = b"{reduce_add({x + y : y in iota(x)}) : x in iota(4)}";
-    let config = in_rounds(alloc, 256, 2, &[0, 1])?;
+        };
+        let gate = Arc::new(alloc, gate)?;
+        let config = in_threads(alloc, drive, 256, 2, &[0, 1])?;
+        let done = ran(&rt, alloc, program, &config, Arc::try_clone(&gate)?)?;
+        assert_value(&rt, &done, b"{0,1,5,12}\n");
+        // On one thread the share that is pumped first never sees the other.
+        assert!(rt; gate.first.saw() && gate.second.saw());
+    }
+    Ok(())
+}
+
+// A run that took as many epochs as its gate has counted, if it was not refused.
+fn assert_epochs(rt: &impl Abort, done: &Done, gate: &Epochs, least: u64, most: u64) {
+    match &done.answer {
+        Ok(report) => {
+            let epochs = report.rested().epochs();
+            assert_eq!(rt; epochs, gate.count.load(Ordering::SeqCst));
+            assert!(rt; epochs >= least && epochs <= most);
+        }
+        Err(error) => assert!(rt; false, "{error}"),
+    }
+}
+
+// A share that waits for messages of one that comes late ends its epoch, and has another.
+#[test]
+fn a_late_share_is_waited_for(rt: HostRuntime) -> Result<(), Fail> {
+    let alloc = rt.alloc();
+    let gate = Arc::new(alloc, Epochs::new(100_000))?;
+    let config = in_threads(alloc, Drive::Rings, 256, 2, &[0, 1])?;
+    let program = b"let s = iota(100) in s ++ s";
     let done = ran(&rt, alloc, program, &config, Arc::try_clone(&gate)?)?;
-    assert_value(&rt, &done, b"{0,1,5,12}\n");
-    // On one thread the share that is pumped first never sees the other.
-    assert!(rt; gate.first.saw() && gate.second.saw());
+    assert_eq!(rt; ending(&done.answer), Ok(Outcome::Value));
+    assert_eq!(rt; done.written.len(), 582);
+    assert_epochs(&rt, &done, &gate, 2, u64::MAX);
+    Ok(())
+}
+
+// Each epoch but the last moves a message at least, of nineteen that are sent and received.
+#[test]
+fn epochs_are_counted(rt: HostRuntime) -> Result<(), Fail> {
+    let alloc = rt.alloc();
+    let share = [0u8, 1, 2, 3, 4, 5, 6, 7, 8, 9, 10, 11, 12, 13, 14, 15];
+    let gate = Arc::new(alloc, Epochs::new(0))?;
+    let config = in_threads(alloc, Drive::Rings, 1, 16, &share)?;
+    let program = b"reduce_add(iota(5))";
+    let done = ran(&rt, alloc, program, &config, Arc::try_clone(&gate)?)?;
+    assert_value(&rt, &done, b"10\n");
+    assert_epochs(&rt, &done, &gate, 1, 39);
     Ok(())
 }
 
@@ -106,44 +178,52 @@ fn workers_run_side_by_side(rt: HostRuntime) -> Result<(), Fail> {
 fn more_shares_than_nodes(rt: HostRuntime) -> Result<(), Fail> {
     let alloc = rt.alloc();
     let share = [0u8, 1, 2, 3, 4, 5, 6, 7, 8, 9, 10, 11, 12, 13, 14, 15];
-    let config = in_rounds(alloc, 1, 16, &share)?;
-    let gate = Arc::new(alloc, NoGate)?;
-    let done = ran(&rt, alloc, b"reduce_add(iota(5))", &config, gate)?;
-    assert_value(&rt, &done, b"10\n");
+    for drive in THREADED {
+        let config = in_threads(alloc, drive, 1, 16, &share)?;
+        let gate = Arc::new(alloc, NoGate)?;
+        let done = ran(&rt, alloc, b"reduce_add(iota(5))", &config, gate)?;
+        assert_value(&rt, &done, b"10\n");
+    }
     Ok(())
 }
 
 #[test]
 fn shares_without_nodes(rt: HostRuntime) -> Result<(), Fail> {
     let alloc = rt.alloc();
-    let gate = Arc::new(alloc, NoGate)?;
-    let config = in_rounds(alloc, 65_536, 4, &[2])?;
-    let done = ran(&rt, alloc, b"{x * x : x in iota(4)}", &config, gate)?;
-    assert_value(&rt, &done, b"{0,1,4,9}\n");
+    for drive in THREADED {
+        let gate = Arc::new(alloc, NoGate)?;
+        let config = in_threads(alloc, drive, 65_536, 4, &[2])?;
+        let done = ran(&rt, alloc, b"{x * x : x in iota(4)}", &config, gate)?;
+        assert_value(&rt, &done, b"{0,1,4,9}\n");
+    }
     Ok(())
 }
 
 #[test]
 fn fault_inside_a_share(rt: HostRuntime) -> Result<(), Fail> {
     let alloc = rt.alloc();
-    let gate = Arc::new(alloc, NoGate)?;
-    let config = in_rounds(alloc, 256, 2, &[0, 1])?;
-    let done = ran(&rt, alloc, b"{100 / x : x in {5,0,2}}", &config, gate)?;
     let divide = Fault {
         kind: FaultKind::Divide,
         at: 5,
     };
-    assert_silent(&rt, &done, Ok(Outcome::Fault(divide)));
+    for drive in THREADED {
+        let gate = Arc::new(alloc, NoGate)?;
+        let config = in_threads(alloc, drive, 256, 2, &[0, 1])?;
+        let done = ran(&rt, alloc, b"{100 / x : x in {5,0,2}}", &config, gate)?;
+        assert_silent(&rt, &done, Ok(Outcome::Fault(divide)));
+    }
     Ok(())
 }
 
 #[test]
-fn edges_that_are_too_small_in_rounds(rt: HostRuntime) -> Result<(), Fail> {
+fn edges_that_are_too_small(rt: HostRuntime) -> Result<(), Fail> {
     let alloc = rt.alloc();
-    let gate = Arc::new(alloc, NoGate)?;
-    let config = in_rounds(alloc, 4, 2, &[0, 1])?;
-    let done = ran(&rt, alloc, b"let s = iota(100) in s ++ s", &config, gate)?;
-    assert!(rt; matches!(ending(&done.answer), Ok(Outcome::Stalled { .. })));
-    assert!(rt; done.written.is_empty());
+    for drive in THREADED {
+        let gate = Arc::new(alloc, NoGate)?;
+        let config = in_threads(alloc, drive, 4, 2, &[0, 1])?;
+        let done = ran(&rt, alloc, b"let s = iota(100) in s ++ s", &config, gate)?;
+        assert!(rt; matches!(ending(&done.answer), Ok(Outcome::Stalled { .. })));
+        assert!(rt; done.written.is_empty());
+    }
     Ok(())
 }

@@ -7,7 +7,7 @@ use std::process::Abort;
 use std::test::Fail;
 
 // The drive where no word names one.
-const USUAL: Drive = Drive::Rounds;
+const USUAL: Drive = Drive::Rings;
 
 fn assert_config(rt: &impl Abort, config: &Config, numbers: [usize; 4], share: &[u8]) {
     assert_eq!(rt; config.capacity, numbers[0]);
@@ -66,6 +66,8 @@ fn lawful_lines(rt: HostRuntime) -> Result<(), Fail> {
     assert!(rt; config.drive == Drive::Serial);
     let config = settings(alloc, &["snesl", "--drive=rounds"]).map_err(|_| "9")?;
     assert!(rt; config.drive == Drive::Rounds);
+    let config = settings(alloc, &["snesl", "--drive=rings"]).map_err(|_| "12")?;
+    assert!(rt; config.drive == Drive::Rings);
     let config = settings(alloc, &["snesl", "--deal", "09af", "--threads", "16"]).map_err(|_| "6")?;
     assert_config(&rt, &config, [256, 16, 16, 64], &[0, 9, 10, 15]);
     let config = settings(alloc, &["snesl", "--idle", "+7", "--chunk", "0008"]).map_err(|_| "7")?;

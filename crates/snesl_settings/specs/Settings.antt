@@ -11,7 +11,7 @@ use Rattle.snesl_values.specs.declared.refusal.Refusal.TheVariants.{BadConfig, N
 use Rattle.flow_drive.specs.Configs.{IsLawful, IsWithin}
 use Rattle.flow_drive.specs.declared.config.Config.{Config}
 use Rattle.flow_drive.specs.declared.config.Drive.{Drive}
-use Rattle.flow_drive.specs.declared.config.Drive.TheVariants.{Serial, Rounds}
+use Rattle.flow_drive.specs.declared.config.Drive.TheVariants.{Serial, Rounds, Rings}
 
 -- ---- the options
 
@@ -51,10 +51,11 @@ SaysNumber (Some text) default number = SpellsNumber text number
 abbrev pub drive_word : Drive → Text
 drive_word Serial = codes "serial"
 drive_word Rounds = codes "rounds"
+drive_word Rings = codes "rings"
 
--- the value is the word for the drive; where there is no value, the drive is `Rounds`
+-- the value is the word for the drive; where there is no value, the drive is `Rings`
 abbrev pub SaysDrive : Option Text → Drive → Type 0
-SaysDrive None drive = drive ≡ Rounds
+SaysDrive None drive = drive ≡ Rings
 SaysDrive (Some text) drive = text ≡ drive_word drive
 
 -- one of 0..9 (48 to 57) and a..f (97 to 102)

@@ -25,7 +25,7 @@ use std::alloc::Global;
 /// | `--chunk` | how many steps a node makes at a visit, 1 to 1,024 | 16 |
 /// | `--threads` | how many threads there are, 1 to 16 | 2 |
 /// | `--idle` | how many turns without a step end a thread, 1 to 1,000,000 | 64 |
-/// | `--drive` | the drive: `serial`, `rounds` | `rounds` |
+/// | `--drive` | the drive: `serial`, `rounds`, `rings` | `rings` |
 /// | `--deal` | the entries of `share`: 1 to 64 digits of 0 to 9 and a to f, each below the number of threads | the numbers below the number of threads |
 ///
 /// A number is what `str::parse` reads: decimal digits, before which one plus may stand. The refusal is

@@ -45,14 +45,14 @@ fn number_spelled(text: &str) -> Result<usize, Refusal>
     }
 }
 
-// The drive of which the value is the word, or `Rounds` where there is no value.
+// The drive of which the value is the word, or `Rings` where there is no value.
 pub(crate) fn drive_said(said: Option<&str>) -> Result<Drive, Refusal>
     ensures said { IfOk result (λ drive. SaysDrive (option_map (λ text. text.now) said.entry) drive) }
     ensures refused { IfErr result (λ refusal. refusal ≡ BadConfig) }
     ensures unsaid { IfErr result (λ _. (drive : _) → ¬ (SaysDrive (option_map (λ text. text.now) said.entry) drive)) }
 {
     match said {
-        None => Ok(Drive::Rounds),
+        None => Ok(Drive::Rings),
         Some(text) => drive_spelled(text),
     }
 }
@@ -67,6 +67,8 @@ fn drive_spelled(text: &str) -> Result<Drive, Refusal>
         Ok(Drive::Serial)
     } else if text == "rounds" {
         Ok(Drive::Rounds)
+    } else if text == "rings" {
+        Ok(Drive::Rings)
     } else {
         Err(Refusal::BadConfig)
     }

@@ -28,6 +28,7 @@ invariant_of-result g c =
         whole = λ t is. subst (λ lines. HasAllEnds (length edges') (traffic_in edges' lines)) is
             (all_ends_still c.edges.result (length edges') (ends_of table) view (sym (c.edges.ensures ∙ count)) shape.ends (fresh_all_ends c.edges.result (ends_of table) c.in_ok-ends.ensures.fresh));
         shared = λ boxes is. absurd (cc is);
+        joined = λ rings is. absurd (cc is);
       };
       sound = run_sound b (capacity_of ends') states edges states' edges' view shape.network run (graph_wired graph);
       rest = run_rests b (capacity_of ends') states edges states' edges' view shape.network run;

@@ -1,50 +1,25 @@
-use Rattle.std.proofs.Common.{◌≡◌, ◌<◌, length, refl, sym, ◌∙◌, ap, subst, arith}
-use Rattle.std.proofs.lemmas.List.{length-map}
-use Rattle.flow_graph.specs.Graphs.{states_of}
-use Rattle.flow_graph.specs.Layouts.{nodes_of}
+use Rattle.std.proofs.Common.{refl, sym, subst}
+use Rattle.std.specs.Prelude.{IfOk}
+use Rattle.flow_graph.specs.Graphs.{states_of, edges_of}
 use Rattle.flow_graph.specs.Networks.{AreOpened}
-use Rattle.flow_graph.specs.Places.{placed_state}
-use Rattle.flow_meetings.specs.BoxMeetings.{BoxesJoin, box_places}
-use Rattle.flow_opening.specs.Deals.{IsDealt}
 use Rattle.flow_rounds.proofs.Begins.{dealt_stand}
+use Rattle.flow_drive.specs.Drives.{EndsMaximalRun}
+use Rattle.flow_drive.specs.Resteds.{rested_states, traffic_of}
 use Rattle.flow_drive.proofs.rounds.drive_rounds.Goals as goal
 
 pub run_dealt-requires : goal.run_dealt-requires
 run_dealt-requires g c κs within =
     let bounds = c.type_bounds in
     let lawful = c.requires.lawful in
-    let config = c.args.config.now in
-    let given = c.of-given.result.value in
-    let share = c.in_ok-share.share.items in
-    let dealt = c.in_ok-dealt.dealt in
-    let whole : given ≡ c.args.graph = c.of-given.ensures in
-    let is : IsDealt BoxesJoin box_places given config.sharing.threads share config.capacity dealt =
-    subst (λ graph. IsDealt BoxesJoin box_places graph config.sharing.threads share config.capacity dealt) (sym whole)
-    (subst (λ s. IsDealt BoxesJoin box_places c.args.graph config.sharing.threads s config.capacity dealt) c.deref-2.ensures.value c.in_ok-dealt.ensures) in
-    let nodes = c.nodes-nodes.ensures ∙ ap (λ graph. length (states_of graph)) (sym whole) ∙ length-map (nodes_of given) placed_state in
-    let opened = subst (λ graph. AreOpened g.T.Transducer.behaviour (states_of graph)) (sym whole) c.requires.opened in
-    let named : 0 < length share = omega (arith, lawful.sharing.entries.some, c.in_ok-share.ensures.len, ap length c.deref.ensures.value) in (
-      within.0,
-      (
-        within.1.0,
-        (
-          within.1.1,
-          (
-            bounds.static-T,
-            (
-              bounds.static-G,
-              (
-                bounds.send-T,
-                (
-                  bounds.send-G,
-                  (
-                    bounds.sync-G,
-                    (lawful.chunk.some, (named, (nodes, (refl, (refl, (is.wires, (is.layout, dealt_stand refl given config.sharing.threads share config.capacity dealt is opened))))))),
-                  ),
-                ),
-              ),
-            ),
-          ),
-        ),
-      ),
-    )
+    let given = c.in_ok-given.given in
+    let made = c.in_ok-given.ensures in
+    let opened = subst (λ graph. AreOpened g.T.Transducer.behaviour (states_of graph)) (sym made.graph) c.requires.opened in
+    let stand = dealt_stand refl given.graph.value c.args.config.now.sharing.threads given.share.items given.capacity c.in_ok-given.dealt made.dealt opened in
+    (within.0, (within.1.0, (within.1.1, (bounds.static-T, (bounds.static-G, (bounds.send-T, (bounds.send-G, (bounds.sync-G, (lawful.chunk.some, (made.given, (made.dealt.wires, (made.dealt.layout, stand))))))))))))
+
+pub returns-clause-run : goal.returns-clause-run
+returns-clause-run g c =
+    let b = g.T.Transducer.behaviour in
+    let made = c.in_ok-given.ensures in
+    subst (λ n. IfOk c.run_dealt.result (λ rested. EndsMaximalRun b n (states_of c.args.graph) (edges_of c.args.graph) (rested_states rested) (traffic_of rested))) made.capacity
+    (subst (λ graph. IfOk c.run_dealt.result (λ rested. EndsMaximalRun b c.in_ok-given.given.capacity (states_of graph) (edges_of graph) (rested_states rested) (traffic_of rested))) made.graph c.run_dealt.ensures.run)

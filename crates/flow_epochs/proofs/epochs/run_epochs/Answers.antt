@@ -1,6 +1,6 @@
 use Rattle.std.proofs.Common.{sym, ◌∙◌, subst, arith}
 use Rattle.std.specs.Prelude.{◌↔◌, IsTrue}
-use Rattle.flow_epochs.specs.Dealt.{AreFed, AreCalm}
+use Rattle.flow_opening.specs.Settings.{AreFed, AreCalm}
 use Rattle.flow_epochs.proofs.Whole.{left_falls, later_then}
 use Rattle.flow_epochs.proofs.epochs.run_epochs.Goals as goal
 

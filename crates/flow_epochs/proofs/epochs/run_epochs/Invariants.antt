@@ -1,6 +1,6 @@
 use Rattle.std.specs.Prelude.{◌+◌, ◌-◌, ◌<◌, ◌≤◌}
-use Rattle.flow_epochs.specs.Dealt.{AreFed, moved_in}
-use Rattle.flow_epochs.specs.Epochs.{AreLater, AreOfOneGraph}
+use Rattle.flow_opening.specs.Settings.{AreFed}
+use Rattle.flow_epochs.specs.Epochs.{moved_in, AreLater, AreOfOneGraph}
 use Rattle.flow_epochs.proofs.Whole.{most_moved}
 use Rattle.flow_epochs.proofs.epochs.run_epochs.Given as goal
 

@@ -3,7 +3,7 @@ use Rattle.std.specs.List.{AllZip}
 use Rattle.std.specs.Vec.{vec_capacity}
 use Rattle.flow_rings.specs.Rings.{Kept, ends_of}
 use Rattle.flow_shares.specs.Lending.{body_of}
-use Rattle.flow_epochs.specs.Dealt.{all_ends}
+use Rattle.flow_opening.specs.Deals.{ends_in}
 use Rattle.flow_epochs.proofs.parts.put_together.Given as goal
 
 abbrev pub invariant-loop-lender : goal.invariant-loop-lender
@@ -14,6 +14,6 @@ invariant-loop-lender g l =
     record {
       kept : AllZip (λ lender ends. Kept (ends_of lender.share.value.ends) (ends_of ends)) left own;
       bodies : map (λ share. body_of share) made ++ map (λ lender. body_of lender.share.value) left ≡ map (λ lender. body_of lender.share.value) l.fn.lenders.items;
-      ends : all_ends made ++ own ≡ l.fn.ends.items;
+      ends : ends_in made ++ own ≡ l.fn.ends.items;
       room : length made + length left ≤ vec_capacity l.shares;
     }

@@ -6,7 +6,7 @@ use Rattle.flow_graph.specs.Networks.{AreOpened}
 use Rattle.flow_deal.specs.Deals.{lists_in, AreJustDealt}
 use Rattle.flow_opening.specs.Open.{AreWires, AreFreshEnds}
 use Rattle.flow_opening.specs.Deals.{MakeAShare, nodes_in}
-use Rattle.flow_opening.proofs.Parted.{all_zipped}
+use Rattle.flow_opening.proofs.Lists.{all_zipped}
 use Rattle.flow_opening.proofs.Fits.{make_a_share}
 use Rattle.flow_opening.proofs.dealing.deal.Goals as goal
 

@@ -5,8 +5,8 @@ use Rattle.std.proofs.lemmas.List.Elements.{All-take}
 use Rattle.flow_meetings.specs.declared.everywhere.Wire.{Wire}
 use Rattle.flow_opening.specs.Opens.{OpensAt}
 use Rattle.flow_opening.specs.Open.{AreFreshEnds}
+use Rattle.flow_opening.proofs.Lists.{written_back}
 use Rattle.flow_opening.proofs.More.{open_more}
-use Rattle.flow_opening.proofs.Parted.{written_back}
 use Rattle.flow_opening.proofs.everywhere.open_all.Goals as goal
 
 pub loop-edge-preserved : goal.loop-edge-preserved

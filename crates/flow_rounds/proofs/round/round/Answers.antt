@@ -1,7 +1,8 @@
 use Rattle.std.proofs.Common.{refl, subst, rules}
 use Rattle.std.specs.Prelude.{◌↔◌, IsTrue}
 use Rattle.flow_opening.specs.Open.{AreWires}
-use Rattle.flow_rounds.specs.Standing.{AreFed, AreCalm, StandBetweenRounds}
+use Rattle.flow_opening.specs.Settings.{AreFed, AreCalm}
+use Rattle.flow_rounds.specs.Standing.{StandBetweenRounds}
 use Rattle.flow_rounds.proofs.Shares.{still_linked}
 use Rattle.flow_rounds.proofs.After.{stands_after, rests_after, moves_after}
 use Rattle.flow_rounds.proofs.round.round.Goals as goal

@@ -1,54 +1,55 @@
-use Rattle.std.proofs.Common.{◌<◌, List, length, get_or, sym, ◌∙◌, ap, subst}
-use Rattle.std.specs.Io.Iter.{u64_saturate}
-use Rattle.flow_edges.specs.Signals.{Signal}
+use Rattle.std.proofs.Common.{ap}
 use Rattle.flow_graph.specs.Graphs.{edges_of}
-use Rattle.flow_deal.specs.Deals.{share_of}
+use Rattle.flow_boxes.specs.Contents.{view_of}
+use Rattle.flow_rings.specs.Rings.{ends_of}
+use Rattle.flow_meetings.specs.BoxMeetings.{BoxesJoin, boxes_join_ends}
+use Rattle.flow_meetings.specs.RingMeetings.{RingsJoin, rings_join_ends}
 use Rattle.flow_drive.specs.Edges.{traffic_in}
-use Rattle.flow_drive.proofs.Holding.{writer_below, reader_below, writes, reads, sent_is, received_is}
+use Rattle.flow_drive.proofs.Holding.{ends_there, sent_counted, received_counted}
 use Rattle.flow_drive.proofs.rested.Rested.counts.Goals as goal
 
-pub of_node-requires : goal.of_node-requires
-of_node-requires g c =
+pub counts-requires : goal.counts-requires
+counts-requires g c =
     let rested = c.args.self.now in
     let shared = c.in-Shared.shared in
-    subst (λ w. share_of shared.share.items w < length shared.boxes.items) (ap (λ edge. edge.writer) (sym c.edge-writer.ensures))
-    (writer_below shared (edges_of rested.graph) (rested.there.shared shared c.in-Shared.is) c.args.edge c.requires)
+    let there = ends_there view_of BoxesJoin boxes_join_ends shared.share.items (edges_of rested.graph) shared.ends.items shared.capacity (rested.there.shared shared c.in-Shared.is) c.args.edge c.requires c.edge-ends.result c.edge-ends.ensures in
+    record { writer = there.0; reader = there.1; writes = there.2; reads = there.3 }
 
-pub of_node-requires-in-Shared : goal.of_node-requires-in-Shared
-of_node-requires-in-Shared g c =
+pub counts-requires-in-Joined : goal.counts-requires-in-Joined
+counts-requires-in-Joined g c =
     let rested = c.args.self.now in
-    let shared = c.in-Shared.shared in
-    subst (λ r. share_of shared.share.items r < length shared.boxes.items) (ap (λ edge. edge.reader) (sym c.edge-writer.ensures))
-    (reader_below shared (edges_of rested.graph) (rested.there.shared shared c.in-Shared.is) c.args.edge c.requires)
-
-pub sent_count-requires-in-Shared : goal.sent_count-requires-in-Shared
-sent_count-requires-in-Shared g c =
-    let rested = c.args.self.now in
-    let shared = c.in-Shared.shared in
-    writes shared (edges_of rested.graph) (rested.there.shared shared c.in-Shared.is) c.args.edge c.requires c.of_node.result.now
-    (λ d. c.of_node.ensures d ∙ ap (λ edge. get_or shared.boxes.items (share_of shared.share.items edge.writer) d) c.edge-writer.ensures)
-
-pub received_count-requires-in-Shared : goal.received_count-requires-in-Shared
-received_count-requires-in-Shared g c =
-    let rested = c.args.self.now in
-    let shared = c.in-Shared.shared in
-    reads shared (edges_of rested.graph) (rested.there.shared shared c.in-Shared.is) c.args.edge c.requires c.of_node-in-Shared.result.now
-    (λ d. c.of_node-in-Shared.ensures d ∙ ap (λ edge. get_or shared.boxes.items (share_of shared.share.items edge.reader) d) c.edge-writer.ensures)
+    let joined = c.in-Joined.joined in
+    let there = ends_there ends_of RingsJoin rings_join_ends joined.share.items (edges_of rested.graph) joined.ends.items joined.capacity (rested.there.joined joined c.in-Joined.is) c.args.edge c.requires c.edge-ends.result c.edge-ends.ensures in
+    record { writer = there.0; reader = there.1; writes = there.2; reads = there.3 }
 
 pub returns-in-Shared-clause-sent : goal.returns-in-Shared-clause-sent
 returns-in-Shared-clause-sent g c =
     let rested = c.args.self.now in
     let shared = c.in-Shared.shared in
     let edges = edges_of rested.graph in
-    let is = sent_is shared edges (rested.there.shared shared c.in-Shared.is) c.args.edge c.requires c.of_node.result.now
-    (λ d. c.of_node.ensures d ∙ ap (λ edge. get_or shared.boxes.items (share_of shared.share.items edge.writer) d) c.edge-writer.ensures) in
-    c.sent_count-in-Shared.ensures ∙ ap (λ (l : List Signal). u64_saturate (length l)) (sym (ap (λ lines. (traffic_in edges lines).sent c.args.edge) c.in-Shared.is ∙ is))
+    sent_counted view_of BoxesJoin boxes_join_ends shared.share.items edges shared.ends.items shared.capacity (rested.there.shared shared c.in-Shared.is) c.args.edge c.requires c.edge-ends.result c.edge-ends.ensures
+    (traffic_in edges rested.lines) (ap (traffic_in edges) c.in-Shared.is) c.counts.result.0 c.counts.ensures.sent
 
 pub returns-in-Shared-clause-received : goal.returns-in-Shared-clause-received
 returns-in-Shared-clause-received g c =
     let rested = c.args.self.now in
     let shared = c.in-Shared.shared in
     let edges = edges_of rested.graph in
-    let is = received_is shared edges (rested.there.shared shared c.in-Shared.is) c.args.edge c.requires c.of_node-in-Shared.result.now
-    (λ d. c.of_node-in-Shared.ensures d ∙ ap (λ edge. get_or shared.boxes.items (share_of shared.share.items edge.reader) d) c.edge-writer.ensures) in
-    c.received_count-in-Shared.ensures ∙ ap (λ (l : List Signal). u64_saturate (length l)) (sym (ap (λ lines. (traffic_in edges lines).received c.args.edge) c.in-Shared.is ∙ is))
+    received_counted view_of BoxesJoin boxes_join_ends shared.share.items edges shared.ends.items shared.capacity (rested.there.shared shared c.in-Shared.is) c.args.edge c.requires c.edge-ends.result c.edge-ends.ensures
+    (traffic_in edges rested.lines) (ap (traffic_in edges) c.in-Shared.is) c.counts.result.1 c.counts.ensures.received
+
+pub returns-in-Joined-clause-sent : goal.returns-in-Joined-clause-sent
+returns-in-Joined-clause-sent g c =
+    let rested = c.args.self.now in
+    let joined = c.in-Joined.joined in
+    let edges = edges_of rested.graph in
+    sent_counted ends_of RingsJoin rings_join_ends joined.share.items edges joined.ends.items joined.capacity (rested.there.joined joined c.in-Joined.is) c.args.edge c.requires c.edge-ends.result c.edge-ends.ensures
+    (traffic_in edges rested.lines) (ap (traffic_in edges) c.in-Joined.is) c.counts-in-Joined.result.0 c.counts-in-Joined.ensures.sent
+
+pub returns-in-Joined-clause-received : goal.returns-in-Joined-clause-received
+returns-in-Joined-clause-received g c =
+    let rested = c.args.self.now in
+    let joined = c.in-Joined.joined in
+    let edges = edges_of rested.graph in
+    received_counted ends_of RingsJoin rings_join_ends joined.share.items edges joined.ends.items joined.capacity (rested.there.joined joined c.in-Joined.is) c.args.edge c.requires c.edge-ends.result c.edge-ends.ensures
+    (traffic_in edges rested.lines) (ap (traffic_in edges) c.in-Joined.is) c.counts-in-Joined.result.1 c.counts-in-Joined.ensures.received

@@ -1,0 +1,27 @@
+use Rattle.std.proofs.Common.{length, refl, sym, ◌∙◌, ap, subst, arith}
+use Rattle.std.proofs.lemmas.List.{length-map}
+use Rattle.flow_graph.specs.Graphs.{states_of}
+use Rattle.flow_graph.specs.Layouts.{nodes_of}
+use Rattle.flow_graph.specs.Places.{placed_state}
+use Rattle.flow_opening.specs.Deals.{IsDealt}
+use Rattle.flow_drive.proofs.given.deal_out.Goals as goal
+
+pub returns-clause-given : goal.returns-clause-given
+returns-clause-given g c =
+    let given = c.of-given.result.value in
+    record {
+      named = omega (arith, c.requires.lawful.sharing.entries.some, c.in_ok-share.ensures.len, ap length c.deref.ensures.value);
+      nodes = c.nodes-nodes.ensures ∙ ap (λ graph. length (states_of graph)) (sym c.of-given.ensures) ∙ length-map (nodes_of given) placed_state;
+      share = refl;
+      capacity = refl;
+    }
+
+pub returns-clause-dealt : goal.returns-clause-dealt
+returns-clause-dealt g c =
+    let joins = g.E.Meeting.joins in
+    let places = g.E.Meeting.places in
+    let config = c.args.config.now in
+    let share = c.in_ok-share.share.items in
+    let dealt = c.in_ok-dealt.dealt in
+    subst (λ graph. IsDealt joins places graph config.sharing.threads share config.capacity dealt) (sym c.of-given.ensures)
+    (subst (λ s. IsDealt joins places c.args.graph config.sharing.threads s config.capacity dealt) c.deref-2.ensures.value c.in_ok-dealt.ensures)

@@ -1,0 +1,14 @@
+use Rattle.flow_epochs.proofs.Begins.{dealt_graph, dealt_fed}
+use Rattle.flow_drive.proofs.joined.drive_rings.Goals as goal
+
+pub run_dealt-requires : goal.run_dealt-requires
+run_dealt-requires g c κs within =
+    let bounds = c.type_bounds in
+    let lawful = c.requires.lawful in
+    let given = c.in_ok-given.given in
+    let dealt = c.in_ok-given.dealt in
+    let made = c.in_ok-given.ensures in
+    let threads = c.args.config.now.sharing.threads in
+    let graph = dealt_graph given.graph.value threads given.share.items given.capacity dealt made.dealt in
+    let fed = dealt_fed given.graph.value threads given.share.items given.capacity dealt made.dealt in
+    (within.0, (within.1.0, (within.1.1, (bounds.static-T, (bounds.static-G, (bounds.send-T, (bounds.send-G, (bounds.sync-G, (lawful.chunk.some, (lawful.sharing.idle_turns.some, (made.given, (made.dealt.wires, (made.dealt.layout, (graph, fed))))))))))))))

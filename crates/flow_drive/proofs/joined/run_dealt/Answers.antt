@@ -1,0 +1,60 @@
+use Rattle.std.proofs.Common.{ℕ, ◌≡◌, ◌+◌, ◌≤◌, ◌∙◌, List, map, get_or, refl, sym, ap, subst, arith}
+use Rattle.flow_edges.specs.Ends.{View}
+use Rattle.flow_edges.specs.declared.ends.Ends.{Ghosts as EndsGhosts}
+use Rattle.flow_base.specs.declared.transducer.Transducer.{Ghosts}
+use Rattle.flow_graph.specs.Graphs.{states_of}
+use Rattle.flow_rings.specs.declared.rings.Rings.{Rings}
+use Rattle.flow_rings.specs.Rings.{ends_of}
+use Rattle.flow_shares.specs.declared.share.Share.{Share}
+use Rattle.flow_round_laws.specs.Joints.{no_ends}
+use Rattle.flow_opening.specs.Open.{AreWires}
+use Rattle.flow_opening.specs.Deals.{ends_in}
+use Rattle.flow_opening.specs.Settings.{view_at, moved_by}
+use Rattle.flow_opening.proofs.Lists.{mapped_twice}
+use Rattle.flow_epochs.proofs.Gathers.{have_rested}
+use Rattle.flow_drive.specs.Edges.{seen_by}
+use Rattle.flow_drive.proofs.Gathered.{are_joined, rings_sound, rings_rest, moved_is}
+use Rattle.flow_drive.proofs.joined.run_dealt.Goals as goal
+
+-- what the shares see is what is seen of their rings
+rings_seen : {X : Type 0} {t : Ghosts X} {u : EndsGhosts Rings} (shares : List (Share X Rings t u)) (rings : List Rings) → rings ≡ ends_in shares → u.view ≡ ends_of → view_at shares ≡ seen_by ends_of rings
+rings_seen {X} {t} {u} shares rings taken sees =
+    ap {B = ℕ → View} (λ (vs : List View) (s : ℕ). get_or vs s no_ends)
+    (sym (mapped_twice u.view (λ (share : Share X Rings t u). share.ends) shares) ∙ ap (λ (v : Rings → View). map v (ends_in shares)) sees ∙ ap (map ends_of) (sym taken))
+
+pub run_epochs-requires : goal.run_epochs-requires
+run_epochs-requires g c κs within =
+    let bounds = c.requires.1.1.1 in
+    let clauses = bounds.1.1.1.1.1 in
+    let wires = subst (λ w. AreWires g.setting.share g.setting.edges w) (sym c.deref.ensures.value) clauses.1.1.1.0 in
+    (within.0, (within.1.0, (within.1.1, (bounds.0, (bounds.1.0, (bounds.1.1.0, (bounds.1.1.1.0, (bounds.1.1.1.1.0, (clauses.0, (clauses.1.0, (wires, clauses.1.1.1.1.1)))))))))))
+
+pub invariant_of-result : goal.invariant_of-result
+invariant_of-result g c =
+    let given = c.requires.1.1.1.1.1.1.1.1.1.1.0 in
+    let graph = c.in_ok-graph.graph in
+    let joined = c.new-joined.result in
+    let network = c.in_ok-graph.ensures.network in
+    let taken = ap (λ ends. ends.items) c.new-joined.ensures.ends ∙ c.in_ok-graph.ensures.ends in
+    let made = c.in_ok-shares.ensures in
+    let rest = have_rested g.setting c.in_ok-shares.shares.items made.graph made.sound made.rest made.met (states_of graph) c.in_ok-graph.ensures.states joined.ends.items taken refl in
+    let share = ap (λ share. share.items) c.new-joined.ensures.share ∙ given.share in
+    let capacity = c.new-joined.ensures.capacity ∙ given.capacity in
+    record {
+      there = are_joined g.setting graph joined network rest share capacity;
+      sound = rings_sound g.setting graph joined network rest share capacity;
+      rest = rings_rest g.setting graph joined network rest share capacity;
+    }
+
+pub returns-clause-most : goal.returns-clause-most
+returns-clause-most g c =
+    let given = c.requires.1.1.1.1.1.1.1.1.1.1.0 in
+    let graph = c.in_ok-graph.graph in
+    let joined = c.new-joined.result in
+    let network = c.in_ok-graph.ensures.network in
+    let taken = ap (λ ends. ends.items) c.new-joined.ensures.ends ∙ c.in_ok-graph.ensures.ends in
+    let made = c.in_ok-shares.ensures in
+    let count = c.in_ok-shares.count in
+    let rest = have_rested g.setting c.in_ok-shares.shares.items made.graph made.sound made.rest made.met (states_of graph) c.in_ok-graph.ensures.states joined.ends.items taken refl in
+    moved_is g.setting graph joined network rest (ap (λ share. share.items) c.new-joined.ensures.share ∙ given.share) (c.new-joined.ensures.capacity ∙ given.capacity) (λ n. count ≤ n + 1)
+    (subst (λ v. count ≤ moved_by g.setting v + 1) (rings_seen c.in_ok-shares.shares.items joined.ends.items taken refl) (omega (arith, made.most)))

@@ -1,0 +1,106 @@
+// The drive of several threads over rings.
+ghost use Rattle.std.specs.Prelude.{◌≡◌, ◌+◌, ◌<◌, ◌≤◌, IfOk};
+ghost use Rattle.flow_graph.specs.Graphs.{states_of, edges_of};
+ghost use Rattle.flow_graph.specs.Layouts.{edges_in};
+ghost use Rattle.flow_graph.specs.Networks.{AreOpened};
+ghost use Rattle.flow_graph.specs.Places.{states_in};
+ghost use Rattle.flow_graph.specs.Shapes.{IsSameNetwork};
+ghost use Rattle.flow_opening.specs.Open.{AreWires};
+ghost use Rattle.flow_opening.specs.Settings.{Setting, AreFed};
+ghost use Rattle.flow_epochs.specs.Epochs.{AreOfOneGraph};
+ghost use Rattle.flow_drive.specs.Configs.{IsLawful};
+ghost use Rattle.flow_drive.specs.Givens.{IsOfSetting};
+ghost use Rattle.flow_drive.specs.Resteds.{rested_states, rested_edges, rested_capacity, rested_epochs, moved_of, IsOverRings};
+
+use crate::config::Config;
+use crate::given::{Given, deal_out};
+use crate::lines::{Lines, SharedLines};
+use crate::rested::Rested;
+use flow_base::Transducer;
+use flow_epochs::run_epochs;
+use flow_graph::Graph;
+use flow_opening::{Dealt, gather_graph};
+use flow_rings::Rings;
+use flow_shares::Gate;
+use flow_workers::WorkError;
+use std::alloc::Global;
+use std::sync::Arc;
+use std::thread::Threads;
+
+/// Drives a graph in shares, each in a thread of its own, over rings, until no node can step.
+///
+/// What all shares do need not be a run whose steps come one after another; but where they rest is a sound configuration
+/// of the graph's network, as each [`Rested`] is, and no node can step there.
+pub fn drive_rings<
+    R: Threads,
+    T: Transducer + Send + Drop + 'static,
+    G: Gate + Send + Sync + Drop + 'static,
+>(
+    rt: &R,
+    alloc: Global,
+    graph: Graph<T>,
+    config: &Config,
+    gate: &Arc<G, Global>,
+) -> Result<Rested<T>, WorkError>
+    requires opened { AreOpened T.behaviour (states_of graph) }
+    requires lawful { IsLawful config.now }
+    ensures network { IfOk result (λ rested. IsSameNetwork T.behaviour (states_of graph) (edges_of graph) (rested_states rested) (rested_edges rested)) }
+    ensures capacity { IfOk result (λ rested. rested_capacity rested ≡ config.now.capacity) }
+    ensures some { IfOk result (λ rested. 0 < rested_epochs rested) }
+    ensures most { IfOk result (λ rested. rested_epochs rested ≤ moved_of rested + 1) }
+    ensures rings { IfOk result (λ rested. IsOverRings rested) }
+{
+    let (given, dealt) = deal_out(alloc, graph, config)?;
+    run_dealt(
+        rt,
+        alloc,
+        given,
+        dealt,
+        config.chunk,
+        config.sharing.idle_turns,
+        gate,
+    )
+}
+
+// Runs the shares of a graph that was just dealt out, and gathers them.
+fn run_dealt<
+    R: Threads,
+    T: Transducer + Send + Drop + 'static,
+    G: Gate + Send + Sync + Drop + 'static,
+>(
+    rt: &R,
+    alloc: Global,
+    given: Given<T>,
+    dealt: Dealt<T, Rings>,
+    chunk: usize,
+    idle_turns: usize,
+    gate: &Arc<G, Global>,
+) -> Result<Rested<T>, WorkError>
+    ghost setting: { Setting ⟦<T as Transducer>⟧ }
+    requires some { 0 < chunk }
+    requires idle { 0 < idle_turns }
+    requires given { IsOfSetting setting given }
+    requires wires { AreWires setting.share setting.edges dealt.wires.items }
+    requires layout { edges_in dealt.layout ≡ setting.edges }
+    requires graph { AreOfOneGraph setting dealt.shares.items }
+    requires fed { AreFed dealt.shares.items }
+    ensures network { IfOk result (λ rested. IsSameNetwork T.behaviour (states_in setting.nodes) setting.edges (rested_states rested) (rested_edges rested)) }
+    ensures capacity { IfOk result (λ rested. rested_capacity rested ≡ setting.capacity) }
+    ensures some { IfOk result (λ rested. 0 < rested_epochs rested) }
+    ensures most { IfOk result (λ rested. rested_epochs rested ≤ moved_of rested + 1) }
+    ensures rings { IfOk result (λ rested. IsOverRings rested) }
+{
+    let Dealt {
+        shares,
+        wires,
+        layout,
+    } = dealt;
+    let (shares, count) = run_epochs(rt, alloc, shares, &wires, chunk, idle_turns, gate)?;
+    let (graph, rings) = gather_graph(alloc, shares, layout, given.nodes, &given.share)?;
+    let joined = SharedLines::new(given.share, rings, given.capacity);
+    Ok(Rested {
+        graph,
+        lines: Lines::Joined(joined),
+        epochs: count,
+    })
+}
