@@ -142,6 +142,12 @@ module _ {X : Type 0} {t : Ghosts X} (setting : Setting t) (graph : Graph X t) (
       (subst (λ v. EndsMaximalRun t.behaviour setting.capacity (states_in setting.nodes) setting.edges (states_of graph) (joined_view setting.share setting.edges v)) (all_seen boxes)
       (rested.reaches.0, record { run = rested.reaches.1; rest = rested.rest }))
 
+  -- as many messages went over the edges of the graph
+  pub boxes_moved : (Q : ℕ → Type 0) → Q (moved_by setting (views_of (seen boxes))) → Q (moved_on (edges_of graph) traffic)
+  boxes_moved Q q =
+      of_lines setting shared.share.items (edges_of graph) shared.capacity share same.same_edges capacity (λ s e n. Q (moved_on e (traffic_by view_of s e boxes)))
+      (subst (λ v. Q (moved_by setting v)) (all_seen boxes) q)
+
   pub sound : IsSoundAt t.behaviour (states_of graph) (edges_of graph) traffic
   sound = run_sound t.behaviour setting.capacity (states_in setting.nodes) setting.edges (states_of graph) (edges_of graph) traffic same run setting.fit.built.wired
 
@@ -184,5 +190,5 @@ module _ {X : Type 0} {t : Ghosts X} (setting : Setting t) (graph : Graph X t) (
       (of_shared (λ s e n. AtRest t.behaviour.process (net_of setting.nodes setting.edges) (Some n) (configuration_of t.behaviour (states_of graph) (traffic_by ends_of s e rings))) rested.rest)
 
   -- as many messages went over the edges of the graph
-  pub moved_is : (Q : ℕ → Type 0) → Q (moved_by setting (seen_by ends_of rings)) → Q (moved_on (edges_of graph) ring_traffic)
-  moved_is Q q = of_shared (λ s e n. Q (moved_on e (traffic_by ends_of s e rings))) q
+  pub rings_moved : (Q : ℕ → Type 0) → Q (moved_by setting (seen_by ends_of rings)) → Q (moved_on (edges_of graph) ring_traffic)
+  rings_moved Q q = of_shared (λ s e n. Q (moved_on e (traffic_by ends_of s e rings))) q

@@ -1,10 +1,20 @@
--- How many epochs drives take.
+-- How many rounds and epochs drives take.
 use Rattle.std.specs.Prelude.{◌≡◌, ℕ, ◌+◌, ◌<◌, ◌≤◌}
 use Rattle.flow_drive.specs.declared.config.Drive.{Drive}
 use Rattle.flow_drive.specs.declared.config.Drive.TheVariants.{Serial, Rounds, Rings}
 
--- the drive took so many epochs while so many messages were sent and received: over rings each but the last moved one
+-- each of so many rounds or epochs but the last moved one of so many messages at least
+abbrev pub MovedEach : ℕ → ℕ → Type 0
+MovedEach count moved = (0 < count) × (count ≤ moved + 1)
+
+-- the drive took so many rounds while so many messages were sent and received
+abbrev pub TookRounds : Drive → ℕ → ℕ → Type 0
+TookRounds Serial count moved = count ≡ 0
+TookRounds Rounds count moved = MovedEach count moved
+TookRounds Rings count moved = count ≡ 0
+
+-- the drive took so many epochs while so many messages were sent and received
 abbrev pub TookEpochs : Drive → ℕ → ℕ → Type 0
 TookEpochs Serial count moved = count ≡ 0
 TookEpochs Rounds count moved = count ≡ 0
-TookEpochs Rings count moved = (0 < count) × (count ≤ moved + 1)
+TookEpochs Rings count moved = MovedEach count moved

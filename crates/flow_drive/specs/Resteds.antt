@@ -27,6 +27,10 @@ module _ {X : Type 0} {t : Ghosts X} where
   abbrev pub rested_capacity : Rested X t → ℕ
   rested_capacity rested = capacity_in rested.lines
 
+  -- how many rounds it took
+  abbrev pub rested_rounds : Rested X t → ℕ
+  rested_rounds rested = rested.rounds
+
   -- how many epochs it took
   abbrev pub rested_epochs : Rested X t → ℕ
   rested_epochs rested = rested.epochs

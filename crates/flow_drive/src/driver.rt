@@ -5,9 +5,9 @@ ghost use Rattle.flow_graph.specs.Networks.{AreOpened};
 ghost use Rattle.flow_graph.specs.Shapes.{IsSameNetwork};
 ghost use Rattle.flow_drive.specs.Configs.{IsLawful, StartsThreads, IsInSteps};
 ghost use Rattle.flow_drive.specs.Drives.{EndsMaximalRun};
-ghost use Rattle.flow_drive.specs.Epochs.{TookEpochs};
+ghost use Rattle.flow_drive.specs.Epochs.{TookRounds, TookEpochs};
 ghost use Rattle.flow_drive.specs.Refusals.{refused_work};
-ghost use Rattle.flow_drive.specs.Resteds.{rested_states, rested_edges, rested_capacity, rested_epochs, moved_of, traffic_of, IsOverRings};
+ghost use Rattle.flow_drive.specs.Resteds.{rested_states, rested_edges, rested_capacity, rested_rounds, rested_epochs, moved_of, traffic_of, IsOverRings};
 ghost use Rattle.flow_drive.specs.declared.config.Drive.TheVariants.{Rings};
 ghost use Rattle.flow_drive.specs.declared.driver.DriveError.TheVariants.{BadConfig, NoMemory, NoThread, Short};
 
@@ -92,6 +92,7 @@ pub fn drive<
     ensures network { IfOk result (λ rested. IsSameNetwork T.behaviour (states_of graph) (edges_of graph) (rested_states rested) (rested_edges rested)) }
     ensures capacity { IfOk result (λ rested. rested_capacity rested ≡ config.now.capacity) }
     ensures run { IsInSteps config.now.drive → IfOk result (λ rested. EndsMaximalRun T.behaviour config.now.capacity (states_of graph) (edges_of graph) (rested_states rested) (traffic_of rested)) }
+    ensures rounds { IfOk result (λ rested. TookRounds config.now.drive (rested_rounds rested) (moved_of rested)) }
     ensures epochs { IfOk result (λ rested. TookEpochs config.now.drive (rested_epochs rested) (moved_of rested)) }
     ensures rings { IfOk result (λ rested. config.now.drive ≡ Rings → IsOverRings rested) }
 {
@@ -116,6 +117,7 @@ fn drive_serial<T: Transducer + Drop>(
     ensures network { IfOk result (λ rested. IsSameNetwork T.behaviour (states_of graph) (edges_of graph) (rested_states rested) (rested_edges rested)) }
     ensures capacity { IfOk result (λ rested. rested_capacity rested ≡ config.now.capacity) }
     ensures run { IfOk result (λ rested. EndsMaximalRun T.behaviour config.now.capacity (states_of graph) (edges_of graph) (rested_states rested) (traffic_of rested)) }
+    ensures rounds { IfOk result (λ rested. rested_rounds rested ≡ 0) }
     ensures epochs { IfOk result (λ rested. rested_epochs rested ≡ 0) }
 {
     let mut ends = Table::new(alloc, graph.edges(), config.capacity)?;
@@ -124,6 +126,7 @@ fn drive_serial<T: Transducer + Drop>(
     Ok(Rested {
         graph,
         lines: Lines::Whole(ends),
+        rounds: 0,
         epochs: 0,
     })
 }

@@ -10,7 +10,7 @@ ghost use Rattle.flow_opening.specs.Settings.{Setting, AreFed};
 ghost use Rattle.flow_epochs.specs.Epochs.{AreOfOneGraph};
 ghost use Rattle.flow_drive.specs.Configs.{IsLawful};
 ghost use Rattle.flow_drive.specs.Givens.{IsOfSetting};
-ghost use Rattle.flow_drive.specs.Resteds.{rested_states, rested_edges, rested_capacity, rested_epochs, moved_of, IsOverRings};
+ghost use Rattle.flow_drive.specs.Resteds.{rested_states, rested_edges, rested_capacity, rested_rounds, rested_epochs, moved_of, IsOverRings};
 
 use crate::config::Config;
 use crate::given::{Given, deal_out};
@@ -46,6 +46,7 @@ pub fn drive_rings<
     requires lawful { IsLawful config.now }
     ensures network { IfOk result (λ rested. IsSameNetwork T.behaviour (states_of graph) (edges_of graph) (rested_states rested) (rested_edges rested)) }
     ensures capacity { IfOk result (λ rested. rested_capacity rested ≡ config.now.capacity) }
+    ensures rounds { IfOk result (λ rested. rested_rounds rested ≡ 0) }
     ensures some { IfOk result (λ rested. 0 < rested_epochs rested) }
     ensures most { IfOk result (λ rested. rested_epochs rested ≤ moved_of rested + 1) }
     ensures rings { IfOk result (λ rested. IsOverRings rested) }
@@ -86,6 +87,7 @@ fn run_dealt<
     requires fed { AreFed dealt.shares.items }
     ensures network { IfOk result (λ rested. IsSameNetwork T.behaviour (states_in setting.nodes) setting.edges (rested_states rested) (rested_edges rested)) }
     ensures capacity { IfOk result (λ rested. rested_capacity rested ≡ setting.capacity) }
+    ensures rounds { IfOk result (λ rested. rested_rounds rested ≡ 0) }
     ensures some { IfOk result (λ rested. 0 < rested_epochs rested) }
     ensures most { IfOk result (λ rested. rested_epochs rested ≤ moved_of rested + 1) }
     ensures rings { IfOk result (λ rested. IsOverRings rested) }
@@ -101,6 +103,7 @@ fn run_dealt<
     Ok(Rested {
         graph,
         lines: Lines::Joined(joined),
+        rounds: 0,
         epochs: count,
     })
 }

@@ -2,7 +2,7 @@
 ghost use Rattle.std.specs.Prelude.{◌≡◌, ◌<◌, ℕ, List, Option, length, MatchOption};
 ghost use Rattle.std.specs.Io.Iter.{u64_saturate};
 ghost use Rattle.flow_drive.specs.Drives.{ComesOut};
-ghost use Rattle.flow_drive.specs.Resteds.{rested_states, rested_edges, rested_capacity, rested_epochs, traffic_of, IsOverRings, AreTheRings};
+ghost use Rattle.flow_drive.specs.Resteds.{rested_states, rested_edges, rested_capacity, rested_rounds, rested_epochs, traffic_of, IsOverRings, AreTheRings};
 ghost use Rattle.flow_drive.specs.Texts.{last_text, IsTold};
 
 use crate::lines::Lines;
@@ -54,6 +54,14 @@ impl<T: Transducer> Rested<T> {
             Lines::Shared(shared) => shared.counts(ends, edge),
             Lines::Joined(joined) => joined.counts(ends, edge),
         }
+    }
+
+    /// How many rounds it took, after each of which the threads were joined and the messages carried over: none, in one
+    /// thread and over rings. The count stays at `u64::MAX`.
+    pub fn rounds(&self) -> u64
+        ensures { result ≡ rested_rounds self.now }
+    {
+        self.rounds
     }
 
     /// How many epochs it took, in each of which the ends of all edges met over rings: none, in one thread and in rounds.

@@ -14,6 +14,7 @@ use flow_graph::Graph;
 pub struct Rested<T: Transducer> {
     pub(crate) graph: Graph<T>,
     pub(crate) lines: Lines,
+    pub(crate) rounds: u64,
     pub(crate) epochs: u64,
     ghost there: { AreThere (edges_of graph) lines },
     ghost sound: { IsSoundAt T.behaviour (states_of graph) (edges_of graph) (traffic_in (edges_of graph) lines) },

@@ -1,5 +1,5 @@
 // The drive of several threads by rounds.
-ghost use Rattle.std.specs.Prelude.{◌≡◌, ◌<◌, IfOk};
+ghost use Rattle.std.specs.Prelude.{◌≡◌, ◌+◌, ◌<◌, ◌≤◌, IfOk};
 ghost use Rattle.flow_graph.specs.Graphs.{states_of, edges_of};
 ghost use Rattle.flow_graph.specs.Layouts.{edges_in};
 ghost use Rattle.flow_graph.specs.Networks.{AreOpened};
@@ -11,7 +11,7 @@ ghost use Rattle.flow_rounds.specs.Standing.{StandBetweenRounds};
 ghost use Rattle.flow_drive.specs.Configs.{IsLawful};
 ghost use Rattle.flow_drive.specs.Drives.{EndsMaximalRun};
 ghost use Rattle.flow_drive.specs.Givens.{IsOfSetting};
-ghost use Rattle.flow_drive.specs.Resteds.{rested_states, rested_edges, rested_capacity, rested_epochs, traffic_of};
+ghost use Rattle.flow_drive.specs.Resteds.{rested_states, rested_edges, rested_capacity, rested_rounds, rested_epochs, moved_of, traffic_of};
 
 use crate::config::Config;
 use crate::given::{Given, deal_out};
@@ -48,6 +48,8 @@ pub fn drive_rounds<
     ensures network { IfOk result (λ rested. IsSameNetwork T.behaviour (states_of graph) (edges_of graph) (rested_states rested) (rested_edges rested)) }
     ensures capacity { IfOk result (λ rested. rested_capacity rested ≡ config.now.capacity) }
     ensures run { IfOk result (λ rested. EndsMaximalRun T.behaviour config.now.capacity (states_of graph) (edges_of graph) (rested_states rested) (traffic_of rested)) }
+    ensures some { IfOk result (λ rested. 0 < rested_rounds rested) }
+    ensures most { IfOk result (λ rested. rested_rounds rested ≤ moved_of rested + 1) }
     ensures epochs { IfOk result (λ rested. rested_epochs rested ≡ 0) }
 {
     let (given, dealt) = deal_out(alloc, graph, config)?;
@@ -76,6 +78,8 @@ fn run_dealt<
     ensures network { IfOk result (λ rested. IsSameNetwork T.behaviour (states_in setting.nodes) setting.edges (rested_states rested) (rested_edges rested)) }
     ensures capacity { IfOk result (λ rested. rested_capacity rested ≡ setting.capacity) }
     ensures run { IfOk result (λ rested. EndsMaximalRun T.behaviour setting.capacity (states_in setting.nodes) setting.edges (rested_states rested) (traffic_of rested)) }
+    ensures some { IfOk result (λ rested. 0 < rested_rounds rested) }
+    ensures most { IfOk result (λ rested. rested_rounds rested ≤ moved_of rested + 1) }
     ensures epochs { IfOk result (λ rested. rested_epochs rested ≡ 0) }
 {
     let Dealt {
@@ -83,12 +87,13 @@ fn run_dealt<
         wires,
         layout,
     } = dealt;
-    let shares = run_rounds(rt, alloc, shares, &wires, chunk, IDLE_TURNS, gate)?;
+    let (shares, count) = run_rounds(rt, alloc, shares, &wires, chunk, IDLE_TURNS, gate)?;
     let (graph, boxes) = gather_graph(alloc, shares, layout, given.nodes, &given.share)?;
     let shared = SharedLines::new(given.share, boxes, given.capacity);
     Ok(Rested {
         graph,
         lines: Lines::Shared(shared),
+        rounds: count,
         epochs: 0,
     })
 }

@@ -1,12 +1,13 @@
 // Epochs.
-ghost use Rattle.std.specs.Prelude.{◌+◌, ◌<◌, ◌≤◌, ◌↔◌, IfOk, IsTrue};
+ghost use Rattle.std.specs.Prelude.{◌+◌, ◌<◌, ◌≤◌, IfOk};
 ghost use Rattle.flow_opening.specs.Open.{AreWires};
-ghost use Rattle.flow_opening.specs.Settings.{Setting, AreFed, AreCalm};
+ghost use Rattle.flow_opening.specs.Settings.{Setting, AreFed};
 ghost use Rattle.flow_epochs.specs.Epochs.{moved_in, AreLater, AreOfOneGraph, HaveMetAll, StandSound, StandAtRest, IsEpoch};
 
 use crate::meet::meet;
 use flow_base::Transducer;
 use flow_meetings::Wire;
+use flow_opening::{are_calm, are_fed};
 use flow_rings::Rings;
 use flow_shares::{Gate, Share};
 use flow_workers::{WorkError, run_all};
@@ -92,28 +93,4 @@ pub fn run_epochs<
         }
         shares = back;
     }
-}
-
-// Whether memory was refused to none of the shares.
-fn are_fed<T: Transducer>(shares: &[Share<T, Rings>]) -> bool
-    ensures { IsTrue result ↔ AreFed shares.now }
-{
-    for share in shares {
-        if share.starved() {
-            return false;
-        }
-    }
-    true
-}
-
-// Whether the last pumps moved no message.
-fn are_calm<T: Transducer>(shares: &[Share<T, Rings>]) -> bool
-    ensures { IsTrue result ↔ AreCalm shares.now }
-{
-    for share in shares {
-        if share.moved() {
-            return false;
-        }
-    }
-    true
 }

@@ -11,6 +11,7 @@ use crate::dealt::Dealt;
 use crate::everywhere::open_all;
 use crate::gathering::gather_graph;
 use crate::opening::Opening;
+use crate::standing::{are_calm, are_fed};
 use flow_base::Transducer;
 use flow_boxes::Boxes;
 use flow_edges::{Item, Msg};
@@ -129,6 +130,8 @@ fn graph_without_nodes_is_dealt_to_each_share(rt: HostRuntime) -> Result<(), Fai
     assert_eq!(rt; dealt.shares[2].number(), 2);
     assert!(rt; dealt.wires.is_empty());
     assert!(rt; dealt.layout.edges().is_empty());
+    // No pump yet.
+    assert!(rt; are_fed(&dealt.shares) && are_calm(&dealt.shares));
     Ok(())
 }
 

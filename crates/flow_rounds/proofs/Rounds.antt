@@ -97,13 +97,19 @@ module _ {X : Type 0} {t : Ghosts X} (laws : BehaviourLaws t.behaviour) (setting
         reaches = reaches_then P net (Some setting.capacity) first c e stand.reaches (subst (λ x. Reaches P net (Some setting.capacity) c x) (sym carried) run.0);
       }
 
-      pub rests : AllStuck (nodes_in shares) (boxes_of shares) → RestBetweenRounds setting new
-      unfolding stands
-      rests stuck =
-          let rest : AtRest P net (Some setting.capacity) c =
-          calm_rounds_rest t setting.capacity setting.share setting.edges setting.nodes setting.fit (nodes_in shares) stand.deals stand.states stand.are_states (boxes_of shares) stand.met stuck in
-          let same : c ≡ e = stays P net (Some setting.capacity) run.0.0 c d rest run.0.1 ∙ sym carried in
-          record { stand = stands; rest = subst (λ x. AtRest P net (Some setting.capacity) x) same rest }
+      module _ (stuck : AllStuck (nodes_in shares) (boxes_of shares)) where
+        rest : AtRest P net (Some setting.capacity) c
+        rest = calm_rounds_rest t setting.capacity setting.share setting.edges setting.nodes setting.fit (nodes_in shares) stand.deals stand.states stand.are_states (boxes_of shares) stand.met stuck
+
+        same : c ≡ e
+        same = stays P net (Some setting.capacity) run.0.0 c d rest run.0.1 ∙ sym carried
+
+        pub rests : RestBetweenRounds setting new
+        unfolding stands
+        rests = record { stand = stands; rest = subst (λ x. AtRest P net (Some setting.capacity) x) same rest }
+
+        pub moves_nothing : moved_in setting (boxes_of new) ≡ moved_in setting (boxes_of shares)
+        moves_nothing = ap (moved net) (sym same)
 
       pub moves : (NothingMoved (length (nodes_in shares)) (boxes_of shares) (boxes_of back) → ⊥) → moved_in setting (boxes_of shares) < moved_in setting (boxes_of new)
       moves some = subst (λ x. moved net c < moved net x) (sym carried) (run.1 some)

@@ -1,6 +1,8 @@
-// Tests of shares with nodes that move messages: dealt out, pumped, gathered, and put together again.
+// Tests of shares with nodes that move messages: dealt out, pumped, run in epochs, gathered, and put together again.
 #![tactic(auto)]
 
+#[cfg(test)]
+mod epochs;
 #[cfg(test)]
 mod gathering;
 #[cfg(test)]

@@ -1,17 +1,17 @@
 // Times programs by each drive, at several numbers of threads and capacities, all in one run.
 //
 // The first word of the command line is how many elements a program goes over, a thousand where there is none. A line for
-// each run goes to standard error: what a run takes in all, what an element takes, how many rounds it had, and how long
-// the threads of so many rounds take that have nothing to do. What the programs print goes to standard output.
+// each run goes to standard error: what an element takes, how many rounds or epochs the run had, and how long the threads of
+// so many take that have nothing to do. What the programs print goes to standard output.
 #![tactic(auto)]
 
 mod programs;
 mod rounds;
 
-use anyhow::{Context, Result, ensure};
-use flow_drive::{Config, Drive, Sharing};
+use anyhow::{Context, Result, bail, ensure};
+use flow_drive::{Config, Drive, NoGate, Sharing};
 use programs::{Program, deep, squares, wide};
-use rounds::{Count, idle_rounds};
+use rounds::idle_rounds;
 use snesl_run::run;
 use snesl_values::Counted;
 use std::alloc::Global;
@@ -85,8 +85,7 @@ fn measured<R: Eprint + Clock + AllocGlobal + Threads>(
     config: &Config,
 ) -> Result<Vec<u8>> {
     let alloc = rt.alloc();
-    let gate = Arc::new(alloc, Count::new())?;
-    let counting = Arc::try_clone(&gate)?;
+    let gate = Arc::new(alloc, NoGate)?;
     let mut out = Counted::new(Vec::new(alloc));
     let start = Instant::now(rt)?;
     let answer = run(
@@ -99,8 +98,11 @@ fn measured<R: Eprint + Clock + AllocGlobal + Threads>(
         &mut out,
     );
     let time = start.elapsed(rt)?;
-    ensure!(answer.is_ok(), "a program is refused");
-    report(rt, program, count, config, time, counting.rounds())?;
+    let turns = match &answer {
+        Ok(done) => done.rested().rounds().max(done.rested().epochs()),
+        Err(_) => bail!("a program is refused"),
+    };
+    report(rt, program, count, config, time, turns)?;
     Ok(out.into_inner())
 }
 
@@ -111,19 +113,19 @@ fn report<R: Eprint + Clock + AllocGlobal + Threads>(
     count: u64,
     config: &Config,
     time: Duration,
-    rounds: u64,
+    turns: u64,
 ) -> Result<()> {
     let (name, capacity, threads) = (program.name, config.capacity, config.sharing.threads);
-    let drive = match config.drive {
-        Drive::Serial => "serial",
-        Drive::Rounds => "rounds",
-        Drive::Rings => "rings",
+    let (drive, each) = match config.drive {
+        Drive::Serial => ("serial", "rounds"),
+        Drive::Rounds => ("rounds", "rounds"),
+        Drive::Rings => ("rings", "epochs"),
     };
     let nanos = time.as_nanos();
     let per_element = nanos / u128::from(count.max(1));
-    let idle = idle_rounds(rt, threads, rounds)?.as_nanos() / u128::from(count.max(1));
+    let idle = idle_rounds(rt, threads, turns)?.as_nanos() / u128::from(count.max(1));
     eprintln!(rt;
-        "{name}, capacity {capacity}, {drive}, {threads} threads: {per_element} ns an element, {rounds} rounds, of which threads alone take {idle} ns an element"
+        "{name}, capacity {capacity}, {drive}, {threads} threads: {per_element} ns an element, {turns} {each}, of which threads alone take {idle} ns an element"
     )?;
     Ok(())
 }

@@ -67,23 +67,23 @@ impl Gate for SideBySide {
     }
 }
 
-// Counts the first turns of share 0, of which an epoch has one. Share 1 yields so often before each first turn of its own.
+// Counts the first turns of share 0, of which a round or an epoch has one. Share 1 yields so often before each first turn of its own.
 #[derive(Drop)]
-struct Epochs {
+struct Counting {
     count: AtomicU64,
     yields: usize,
 }
 
-impl Epochs {
-    fn new(yields: usize) -> Epochs {
-        Epochs {
+impl Counting {
+    fn new(yields: usize) -> Counting {
+        Counting {
             count: AtomicU64::new(0),
             yields,
         }
     }
 }
 
-impl Gate for Epochs {
+impl Gate for Counting {
     fn turn(&self, share: usize, turn: usize) {
         if turn == 0 && share == 0 {
             self.count.fetch_add(1, Ordering::SeqCst);
@@ -134,13 +134,15 @@ fn workers_run_side_by_side(rt: HostRuntime) -> Result<(), Fail> {
     Ok(())
 }
 
-// A run that took as many epochs as its gate has counted, if it was not refused.
-fn assert_epochs(rt: &impl Abort, done: &Done, gate: &Epochs, least: u64, most: u64) {
+// A run that took as many rounds, or else epochs, as its gate has counted, if it was not refused.
+fn assert_counted(rt: &impl Abort, done: &Done, gate: &Counting, (least, most): (u64, u64)) {
     match &done.answer {
         Ok(report) => {
-            let epochs = report.rested().epochs();
-            assert_eq!(rt; epochs, gate.count.load(Ordering::SeqCst));
-            assert!(rt; epochs >= least && epochs <= most);
+            let (rounds, epochs) = (report.rested().rounds(), report.rested().epochs());
+            let took = rounds.max(epochs);
+            assert!(rt; rounds == 0 || epochs == 0);
+            assert_eq!(rt; took, gate.count.load(Ordering::SeqCst));
+            assert!(rt; took >= least && took <= most);
         }
         Err(error) => assert!(rt; false, "{error}"),
     }
@@ -150,27 +152,29 @@ fn assert_epochs(rt: &impl Abort, done: &Done, gate: &Epochs, least: u64, most: 
 #[test]
 fn a_late_share_is_waited_for(rt: HostRuntime) -> Result<(), Fail> {
     let alloc = rt.alloc();
-    let gate = Arc::new(alloc, Epochs::new(100_000))?;
+    let gate = Arc::new(alloc, Counting::new(100_000))?;
     let config = in_threads(alloc, Drive::Rings, 256, 2, &[0, 1])?;
     let program = b"let s = iota(100) in s ++ s";
     let done = ran(&rt, alloc, program, &config, Arc::try_clone(&gate)?)?;
     assert_eq!(rt; ending(&done.answer), Ok(Outcome::Value));
     assert_eq!(rt; done.written.len(), 582);
-    assert_epochs(&rt, &done, &gate, 2, u64::MAX);
+    assert_counted(&rt, &done, &gate, (2, u64::MAX));
     Ok(())
 }
 
-// Each epoch but the last moves a message at least, of nineteen that are sent and received.
+// Each round or epoch but the last moves a message at least, of nineteen that are sent and received.
 #[test]
-fn epochs_are_counted(rt: HostRuntime) -> Result<(), Fail> {
+fn rounds_and_epochs_are_counted(rt: HostRuntime) -> Result<(), Fail> {
     let alloc = rt.alloc();
     let share = [0u8, 1, 2, 3, 4, 5, 6, 7, 8, 9, 10, 11, 12, 13, 14, 15];
-    let gate = Arc::new(alloc, Epochs::new(0))?;
-    let config = in_threads(alloc, Drive::Rings, 1, 16, &share)?;
     let program = b"reduce_add(iota(5))";
-    let done = ran(&rt, alloc, program, &config, Arc::try_clone(&gate)?)?;
-    assert_value(&rt, &done, b"10\n");
-    assert_epochs(&rt, &done, &gate, 1, 39);
+    for drive in THREADED {
+        let gate = Arc::new(alloc, Counting::new(0))?;
+        let config = in_threads(alloc, drive, 1, 16, &share)?;
+        let done = ran(&rt, alloc, program, &config, Arc::try_clone(&gate)?)?;
+        assert_value(&rt, &done, b"10\n");
+        assert_counted(&rt, &done, &gate, (1, 39));
+    }
     Ok(())
 }
 

@@ -13,7 +13,7 @@ use Rattle.flow_opening.specs.Settings.{view_at, moved_by}
 use Rattle.flow_opening.proofs.Lists.{mapped_twice}
 use Rattle.flow_epochs.proofs.Gathers.{have_rested}
 use Rattle.flow_drive.specs.Edges.{seen_by}
-use Rattle.flow_drive.proofs.Gathered.{are_joined, rings_sound, rings_rest, moved_is}
+use Rattle.flow_drive.proofs.Gathered.{are_joined, rings_sound, rings_rest, rings_moved}
 use Rattle.flow_drive.proofs.joined.run_dealt.Goals as goal
 
 -- what the shares see is what is seen of their rings
@@ -56,5 +56,5 @@ returns-clause-most g c =
     let made = c.in_ok-shares.ensures in
     let count = c.in_ok-shares.count in
     let rest = have_rested g.setting c.in_ok-shares.shares.items made.graph made.sound made.rest made.met (states_of graph) c.in_ok-graph.ensures.states joined.ends.items taken refl in
-    moved_is g.setting graph joined network rest (ap (λ share. share.items) c.new-joined.ensures.share ∙ given.share) (c.new-joined.ensures.capacity ∙ given.capacity) (λ n. count ≤ n + 1)
+    rings_moved g.setting graph joined network rest (ap (λ share. share.items) c.new-joined.ensures.share ∙ given.share) (c.new-joined.ensures.capacity ∙ given.capacity) (λ n. count ≤ n + 1)
     (subst (λ v. count ≤ moved_by g.setting v + 1) (rings_seen c.in_ok-shares.shares.items joined.ends.items taken refl) (omega (arith, made.most)))

@@ -1,8 +1,11 @@
-use Rattle.std.proofs.Common.{◌∙◌, sym, ap, subst, arith}
+use Rattle.std.proofs.Common.{◌+◌, ◌≤◌, ◌∙◌, sym, ap, subst, arith}
 use Rattle.flow_graph.specs.Graphs.{states_of}
 use Rattle.flow_opening.specs.Open.{AreWires}
+use Rattle.flow_round_laws.specs.Joints.{views_of}
+use Rattle.flow_opening.specs.Settings.{moved_by}
+use Rattle.flow_rounds.proofs.Meets.{seen_is}
 use Rattle.flow_rounds.proofs.Gathers.{come_to_rest}
-use Rattle.flow_drive.proofs.Gathered.{are_there, run, sound, rests}
+use Rattle.flow_drive.proofs.Gathered.{are_there, run, boxes_moved, sound, rests}
 use Rattle.flow_drive.proofs.rounds.run_dealt.Goals as goal
 
 pub run_rounds-requires : goal.run_rounds-requires
@@ -36,3 +39,15 @@ returns-clause-run g c =
     let taken = ap (λ ends. ends.items) c.new-shared.ensures.ends ∙ c.in_ok-graph.ensures.ends in
     let rest = come_to_rest g.setting c.in_ok-shares.shares.items c.in_ok-shares.ensures.rest (states_of graph) c.in_ok-graph.ensures.states shared.ends.items taken in
     run g.setting graph shared c.in_ok-graph.ensures.network rest (ap (λ share. share.items) c.new-shared.ensures.share ∙ given.share) (c.new-shared.ensures.capacity ∙ given.capacity)
+
+pub returns-clause-most : goal.returns-clause-most
+returns-clause-most g c =
+    let given = c.requires.1.1.1.1.1.1.1.1.1.0 in
+    let graph = c.in_ok-graph.graph in
+    let shared = c.new-shared.result in
+    let shares = c.in_ok-shares.shares.items in
+    let count = c.in_ok-shares.count in
+    let taken = ap (λ ends. ends.items) c.new-shared.ensures.ends ∙ c.in_ok-graph.ensures.ends in
+    let rest = come_to_rest g.setting shares c.in_ok-shares.ensures.rest (states_of graph) c.in_ok-graph.ensures.states shared.ends.items taken in
+    boxes_moved g.setting graph shared c.in_ok-graph.ensures.network rest (ap (λ share. share.items) c.new-shared.ensures.share ∙ given.share) (c.new-shared.ensures.capacity ∙ given.capacity) (λ n. count ≤ n + 1)
+    (subst (λ v. count ≤ moved_by g.setting (views_of v) + 1) (sym (seen_is shares shared.ends.items taken)) (omega (arith, c.in_ok-shares.ensures.most)))

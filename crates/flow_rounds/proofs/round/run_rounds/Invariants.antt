@@ -1,4 +1,4 @@
-use Rattle.std.specs.Prelude.{◌≡◌, ◌-◌, length}
+use Rattle.std.specs.Prelude.{◌≡◌, ◌+◌, ◌-◌, ◌<◌, ◌≤◌, length}
 use Rattle.flow_rounds.specs.Standing.{StandBetweenRounds, boxes_of, moved_in}
 use Rattle.flow_rounds.proofs.Rounds.{most_moved}
 use Rattle.flow_rounds.proofs.round.run_rounds.Given as goal
@@ -6,11 +6,13 @@ use Rattle.flow_rounds.proofs.round.run_rounds.Given as goal
 abbrev pub ghost-round : goal.ghost-round
 ghost-round g a = g.setting
 
--- the shares stand where a run led, all of them
+-- the shares stand where a run led, all of them, and each round so far moved a message
 abbrev pub invariant-rounds : goal.invariant-rounds
 invariant-rounds g l = record {
   stand : StandBetweenRounds g.setting l.shares.items;
   count : length l.shares.items ≡ length l.fn.shares.items;
+  least : moved_in g.setting (boxes_of l.fn.shares.items) < moved_in g.setting (boxes_of l.shares.items) → 0 < l.count;
+  most : l.count + moved_in g.setting (boxes_of l.fn.shares.items) ≤ moved_in g.setting (boxes_of l.shares.items);
 }
 
 -- how many messages are still to be sent and received
