@@ -19,8 +19,8 @@ use std::test::Fail;
 use std::thread::Threads;
 
 // Deals a graph out, and makes two epochs of its shares. How many came back, if memory was refused to none.
-fn two_epochs<T: Transducer + Send + Drop + 'static>(
-    rt: &impl Threads,
+fn two_epochs<R: Threads, T: Transducer + Send + Drop + 'static>(
+    rt: &R,
     alloc: Global,
     graph: Graph<T>,
     config: &Config,
