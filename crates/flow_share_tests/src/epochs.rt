@@ -25,6 +25,18 @@ fn two_epochs<R: Threads, T: Transducer + Send + Drop + 'static>(
     graph: Graph<T>,
     config: &Config,
 ) -> Result<Option<usize>, Fail>
+    requires { AreOpened T.behaviour (states_of graph) }
+{
+    two_epochs_in(rt, alloc, graph, config)
+}
+
+// The same, in the setting in which the graph is dealt out.
+fn two_epochs_in<R: Threads, T: Transducer + Send + Drop + 'static>(
+    rt: &R,
+    alloc: Global,
+    graph: Graph<T>,
+    config: &Config,
+) -> Result<Option<usize>, Fail>
     ghost setting: { Setting ⟦<T as Transducer>⟧ }
     requires opened { AreOpened T.behaviour (states_of graph) }
     requires setting { setting ≡ setting_of graph config.now.sharing.share.items config.now.capacity }

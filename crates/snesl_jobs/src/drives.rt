@@ -10,15 +10,16 @@ use std::thread::Threads;
 // How many messages an edge holds.
 const CAPACITIES: [usize; 4] = [256, 4, 2, 1];
 
-// How many threads there are, and the lists that name a share for each node: all nodes in one share, neighbours apart in
-// two, three and sixteen, and pairs of neighbours together.
-const SHARES: [(usize, &[u8]); 5] = [
+// How many threads there are, and the lists that name a share for each node: all nodes in one share, and neighbours apart
+// in two and in sixteen.
+const SHARES: [(usize, &[u8]); 3] = [
     (1, &[0]),
     (2, &[0, 1]),
-    (2, &[1, 1, 0, 0]),
-    (3, &[2, 0, 1]),
     (16, &[0, 1, 2, 3, 4, 5, 6, 7, 8, 9, 10, 11, 12, 13, 14, 15]),
 ];
+
+// Pairs of neighbours together, and neighbours apart in three, in another order than that of the shares.
+const OTHER_SHARES: [(usize, &[u8]); 2] = [(2, &[1, 1, 0, 0]), (3, &[2, 0, 1])];
 
 /// How many programs were run by several threads, and how many of the runs ended otherwise than that of one thread.
 #[derive(Clone, Copy, Debug)]
@@ -70,14 +71,13 @@ fn serial(alloc: Global, capacity: usize) -> Result<Config, AllocError> {
     config(alloc, Drive::Serial, capacity, 16, 64, (1, &[0]))
 }
 
-// The drives of several threads, over edges of this capacity: chunks of 1 and of 16, threads that end after one turn
-// without a step and after 64, and each of the lists of shares. A network of at most five nodes is run with each list of
-// five entries 0 or 1 besides.
+// The drives of several threads, over edges of this capacity: chunks of 1 and of 16, each of the lists of shares, and over
+// rings threads that end after one turn without a step and after 64, which rounds do not read. A network of at most five
+// nodes is run with each list of five entries 0 or 1 besides.
 fn threaded(alloc: Global, capacity: usize, nodes: usize) -> Result<Vec<Config>, AllocError> {
     let mut configs = Vec::new(alloc);
-    for drive in [Drive::Rounds, Drive::Rings] {
-        add_threaded(alloc, &mut configs, drive, capacity, nodes)?;
-    }
+    add_threaded(alloc, &mut configs, Drive::Rounds, &[1], capacity, nodes)?;
+    add_threaded(alloc, &mut configs, Drive::Rings, &[1, 64], capacity, nodes)?;
     Ok(configs)
 }
 
@@ -86,15 +86,19 @@ fn add_threaded(
     alloc: Global,
     configs: &mut Vec<Config>,
     drive: Drive,
+    idle: &[usize],
     capacity: usize,
     nodes: usize,
 ) -> Result<(), AllocError> {
     for chunk in [1, 16] {
-        for idle_turns in [1, 64] {
+        for &idle_turns in idle {
             for &shares in &SHARES {
                 configs.push(config(alloc, drive, capacity, chunk, idle_turns, shares)?)?;
             }
         }
+    }
+    for &shares in &OTHER_SHARES {
+        configs.push(config(alloc, drive, capacity, 1, 1, shares)?)?;
     }
     if nodes <= 5 {
         for bits in 0..32u8 {

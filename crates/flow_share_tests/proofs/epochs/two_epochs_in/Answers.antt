@@ -3,7 +3,7 @@ use Rattle.flow_opening.specs.Open.{AreWires}
 use Rattle.flow_opening.specs.Settings.{setting_of, AreFed}
 use Rattle.flow_epochs.specs.Epochs.{AreOfOneGraph}
 use Rattle.flow_epochs.proofs.Begins.{dealt_graph, dealt_fed}
-use Rattle.flow_share_tests.proofs.epochs.two_epochs.Goals as goal
+use Rattle.flow_share_tests.proofs.epochs.two_epochs_in.Goals as goal
 
 pub epoch-requires : goal.epoch-requires
 epoch-requires g c κs within =
