@@ -10,6 +10,7 @@ use flow_edges::{Msg, Refused, Why};
 use flow_history::History;
 use std::alloc::{AllocError, Global};
 use std::collections::VecDeque;
+use std::mem;
 
 /// The messages that the writer put since the last carrying, the oldest first, and how many more it
 /// may put before the next one.
@@ -85,13 +86,32 @@ impl Outbox {
         requires outbox { capacity ≤ deque_capacity self.old.queue }
         requires inbox { capacity ≤ deque_capacity inbox.old.queue }
         requires bound { length inbox.old.queue.items + length self.old.queue.items ≤ capacity }
+        ensures outbox_reserved { capacity ≤ deque_capacity self.new.queue }
+        ensures inbox_reserved { capacity ≤ deque_capacity inbox.new.queue }
+        ensures sent { self.new.sent.items ≡ self.old.sent.items }
+        ensures received { inbox.new.received.items ≡ inbox.old.received.items }
+        ensures moved { inbox.new.queue.items ≡ inbox.old.queue.items ++ self.old.queue.items }
+        ensures emptied { self.new.queue.items ≡ [] }
+        ensures room { self.new.room + length inbox.new.queue.items ≡ capacity }
+    {
+        // Where the reader has taken all, the queues change places, and no message is moved by itself.
+        if inbox.queue.is_empty() {
+            mem::swap(&mut self.queue, &mut inbox.queue);
+        } else {
+            self.append_to(inbox);
+        }
+        self.room = capacity - inbox.queue.len();
+    }
+
+    // Moves all messages behind those of the reader's box.
+    fn append_to(&mut self, inbox: &mut Inbox)
+        requires { length inbox.old.queue.items + length self.old.queue.items ≤ deque_capacity inbox.old.queue }
         ensures outbox_reserved { deque_capacity self.new.queue ≡ deque_capacity self.old.queue }
         ensures inbox_reserved { deque_capacity inbox.new.queue ≡ deque_capacity inbox.old.queue }
         ensures sent { self.new.sent.items ≡ self.old.sent.items }
         ensures received { inbox.new.received.items ≡ inbox.old.received.items }
         ensures moved { inbox.new.queue.items ≡ inbox.old.queue.items ++ self.old.queue.items }
         ensures emptied { self.new.queue.items ≡ [] }
-        ensures room { self.new.room + length inbox.new.queue.items ≡ capacity }
     {
         while let Some(message) = self.queue.pop_front() {
             match inbox.queue.push_back(message) {
@@ -99,6 +119,5 @@ impl Outbox {
                 Err(_) => unreachable!(),
             }
         }
-        self.room = capacity - inbox.queue.len();
     }
 }

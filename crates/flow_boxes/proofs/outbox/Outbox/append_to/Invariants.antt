@@ -1,6 +1,6 @@
 use Rattle.std.proofs.Common.{◌≡◌, ◌+◌, ◌≤◌, ◌++◌}
 use Rattle.std.specs.VecDeque.{deque_len, deque_capacity}
-use Rattle.flow_boxes.proofs.outbox.Outbox.carry_into.Given as goal
+use Rattle.flow_boxes.proofs.outbox.Outbox.append_to.Given as goal
 
 abbrev pub invariant-loop-message : goal.invariant-loop-message
 invariant-loop-message l = record {
