@@ -1,12 +1,10 @@
 // Programs as networks beside their plain evaluation: whatever the edges hold, a run ends in the value that evaluation
 // gives, in some fault where evaluation gives one, or in no answer.
 
-use crate::running::{Done, ran};
-use flow_drive::{Config, Drive, Outcome, Sharing};
+use flow_drive::Outcome;
 use snesl_console::split;
-use snesl_syntax::parse;
-use snesl_types::{check, plain};
-use snesl_values::{Datum, Fault, Refusal, read_inputs, text_of};
+use snesl_trials::{Done, Expected, alone, ran};
+use snesl_values::Refusal;
 use std::alloc::{AllocError, Global};
 use std::fmt;
 use std::thread::Threads;
@@ -64,16 +62,15 @@ impl Totals {
             return Ok(());
         }
         let (program, input) = split(job);
-        let expected = match evaluated(alloc, program, input) {
-            Ok(Ok(datum)) => Some(line_of(alloc, &datum)?),
-            Ok(Err(_)) => None,
+        let expected = match Expected::of(alloc, program, input) {
+            Ok(expected) => expected,
             Err(Refusal::NoMemory) => return Err(AllocError),
             Err(_) => return Ok(()),
         };
         self.programs = self.programs.saturating_add(1);
         for capacity in [256, 4, 2, 1] {
             for chunk in [16, 1] {
-                let config = config_of(alloc, capacity, chunk)?;
+                let config = alone(alloc, capacity, chunk)?;
                 let done = ran(rt, alloc, program, input, &config)?;
                 self.count(&expected, &done);
                 if done.nodes > MOST_NODES || done.ending == Err(Refusal::TooBig) {
@@ -84,69 +81,17 @@ impl Totals {
         Ok(())
     }
 
-    // Counts a run, where evaluation gives a value of this line or a fault.
-    fn count(&mut self, expected: &Option<Vec<u8>>, done: &Done) {
+    // Counts a run, beside what evaluation gives.
+    fn count(&mut self, expected: &Expected, done: &Done) {
         self.runs = self.runs.saturating_add(1);
-        let silent = done.written.is_empty();
-        let allowed = match done.ending {
-            Ok(Outcome::Value) => {
-                self.values = self.values.saturating_add(1);
-                is_line(expected, &done.written)
-            }
-            Ok(Outcome::Fault(_)) => {
-                self.faults = self.faults.saturating_add(1);
-                silent && expected.is_none()
-            }
-            Ok(Outcome::Stalled { .. }) => {
-                self.stalled = self.stalled.saturating_add(1);
-                silent
-            }
-            Err(Refusal::TooBig) => {
-                self.refused = self.refused.saturating_add(1);
-                silent
-            }
-            Err(_) => false,
-        };
-        if !allowed {
+        match done.ending {
+            Ok(Outcome::Value) => self.values = self.values.saturating_add(1),
+            Ok(Outcome::Fault(_)) => self.faults = self.faults.saturating_add(1),
+            Ok(Outcome::Stalled { .. }) => self.stalled = self.stalled.saturating_add(1),
+            Err(_) => self.refused = self.refused.saturating_add(1),
+        }
+        if !expected.allows(done) {
             self.differing = self.differing.saturating_add(1);
         }
     }
-}
-
-// Whether these bytes are the line of the value that is expected.
-fn is_line(expected: &Option<Vec<u8>>, written: &[u8]) -> bool {
-    match expected {
-        Some(line) => line.as_slice() == written,
-        None => false,
-    }
-}
-
-// What a program evaluates to for an input text.
-fn evaluated(alloc: Global, text: &[u8], input: &[u8]) -> Result<Result<Datum, Fault>, Refusal> {
-    let program = parse(alloc, text)?;
-    let typed = check(alloc, &program)?;
-    let inputs = read_inputs(typed.dialect(), alloc, typed.decls(), input)?;
-    Ok(plain(alloc, &typed, &inputs)?)
-}
-
-// The text of a value, and one line feed.
-fn line_of(alloc: Global, datum: &Datum) -> Result<Vec<u8>, AllocError> {
-    let mut line = text_of(alloc, datum)?;
-    line.push(b'\n')?;
-    Ok(line)
-}
-
-// Edges of this capacity, and visits of so many steps, in one thread.
-fn config_of(alloc: Global, capacity: usize, chunk: usize) -> Result<Config, AllocError> {
-    let sharing = Sharing {
-        threads: 1,
-        idle_turns: 1,
-        share: vec![in alloc; 0u8]?,
-    };
-    Ok(Config {
-        capacity,
-        chunk,
-        sharing,
-        drive: Drive::Serial,
-    })
 }

@@ -1,8 +1,8 @@
 // Programs by each drive: over edges of the same capacity, the drives of several threads end as that of one thread does.
 
-use crate::running::{Done, ran};
 use flow_drive::{Config, Drive, Sharing};
 use snesl_console::split;
+use snesl_trials::{alone, ran};
 use std::alloc::{AllocError, Global};
 use std::fmt;
 use std::thread::Threads;
@@ -54,21 +54,16 @@ impl Drives {
         let (program, input) = split(job);
         self.programs = self.programs.saturating_add(1);
         for capacity in CAPACITIES {
-            let alone = ran(rt, alloc, program, input, &serial(alloc, capacity)?)?;
-            for config in &threaded(alloc, capacity, alone.nodes)? {
+            let serial = ran(rt, alloc, program, input, &alone(alloc, capacity, 16)?)?;
+            for config in &threaded(alloc, capacity, serial.nodes)? {
                 let done = ran(rt, alloc, program, input, config)?;
-                if done.ending.is_err() || done != alone {
+                if done.ending.is_err() || done != serial {
                     self.differing = self.differing.saturating_add(1);
                 }
             }
         }
         Ok(())
     }
-}
-
-// The drive of one thread, over edges of this capacity.
-fn serial(alloc: Global, capacity: usize) -> Result<Config, AllocError> {
-    config(alloc, Drive::Serial, capacity, 16, 64, (1, &[0]))
 }
 
 // The drives of several threads, over edges of this capacity: chunks of 1 and of 16, each of the lists of shares, and over

@@ -9,18 +9,15 @@
 
 mod beside;
 mod drives;
-mod running;
-mod spelling;
-mod table;
 mod trial;
 
 use anyhow::{Context, Result, ensure};
 use beside::Totals;
 use drives::Drives;
+use snesl_tables::{Row, rows_of};
 use std::rt::Files;
 use std::thread::Threads;
 use std::{fs, io};
-use table::{Row, rows_of};
 use trial::{Trial, job_of, tried};
 
 // The table of worked rows, whose programs are run by every drive.

@@ -1,8 +1,7 @@
 // One job of a table, answered over memory.
 
-use crate::spelling::{SpellingError, spelled};
-use crate::table::Row;
 use snesl_run::answer;
+use snesl_tables::{Row, SpellingError, spelled};
 use snesl_values::Counted;
 use std::alloc::{AllocError, Global};
 use std::fmt;

@@ -6,7 +6,6 @@
 // a seed S is the first of the seed S + k.
 #![tactic(auto)]
 
-mod running;
 mod runs;
 
 use anyhow::{Context, Result, bail};

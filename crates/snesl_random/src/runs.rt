@@ -1,9 +1,9 @@
 // Programs by plain evaluation and by the drives of several threads.
 
-use crate::running::{Done, evaluated, line_of, ran};
 use flow_drive::{Config, Drive, Outcome, Sharing};
 use snesl_console::split;
 use snesl_generator::Dice;
+use snesl_trials::{Done, Expected, alone, ran};
 use snesl_values::Refusal;
 use std::alloc::{AllocError, Global};
 use std::fmt;
@@ -17,6 +17,9 @@ const CONFIGS: usize = 3;
 
 // How many messages the widest edges hold, which most programs do not fill.
 const WIDE: usize = 256;
+
+// The most steps of a visit in one thread.
+const CHUNK: usize = 16;
 
 // A program that sends more messages in all is run no further.
 const MANY: u64 = 3_000;
@@ -45,12 +48,12 @@ impl fmt::Display for Totals {
     }
 }
 
-// A program, what it evaluates to (a line, or none for a fault), and how it ran over wide edges.
+// A program, what it evaluates to, and how it ran over wide edges.
 #[derive(Drop)]
 struct Trial<'a> {
     program: &'a [u8],
     input: &'a [u8],
-    expected: Option<Vec<u8>>,
+    expected: Expected,
     wide: Done,
 }
 
@@ -80,12 +83,12 @@ impl Totals {
     ) -> Result<Option<String>, AllocError> {
         let (program, input) = split(job);
         self.programs = self.programs.saturating_add(1);
-        let expected = match evaluated(alloc, program, input) {
-            Ok(Ok(datum)) => Some(line_of(alloc, &datum)?),
-            Ok(Err(_)) => None,
+        let expected = match Expected::of(alloc, program, input) {
+            Ok(expected) => expected,
             Err(refusal) => return Ok(Some(format!(in alloc; "refused: {refusal:?}")?)),
         };
-        let wide = ran(rt, alloc, program, input, &serial(alloc, WIDE)?)?;
+        let over_wide = alone(alloc, WIDE, CHUNK)?;
+        let wide = ran(rt, alloc, program, input, &over_wide)?;
         let trial = Trial {
             program,
             input,
@@ -97,7 +100,7 @@ impl Totals {
             return Ok(None);
         }
         if !trial.allows(&trial.wide, WIDE) {
-            return Ok(Some(trial.difference(alloc, &serial(alloc, WIDE)?, &trial.wide)?));
+            return Ok(Some(trial.difference(alloc, &over_wide, &trial.wide)?));
         }
         if trial.wide.messages() > MANY {
             self.long = self.long.saturating_add(1);
@@ -116,11 +119,11 @@ impl Totals {
     ) -> Result<Option<String>, AllocError> {
         for _ in 0..CONFIGS {
             let capacity = random_capacity(dice);
-            let alone = serial(alloc, capacity)?;
-            let first = ran(rt, alloc, trial.program, trial.input, &alone)?;
+            let serial = alone(alloc, capacity, CHUNK)?;
+            let first = ran(rt, alloc, trial.program, trial.input, &serial)?;
             self.count(&first);
             if !trial.allows(&first, capacity) {
-                return Ok(Some(trial.difference(alloc, &alone, &first)?));
+                return Ok(Some(trial.difference(alloc, &serial, &first)?));
             }
             for drive in &DRIVES {
                 let config = random_config(alloc, dice, *drive, capacity)?;
@@ -147,19 +150,15 @@ impl Totals {
 }
 
 impl Trial<'_> {
-    // Whether evaluation allows how a run over edges of this capacity ended: in the value of evaluation, in a fault where
-    // that has one, or in a stall where some edge cannot hold all.
+    // Whether a run over edges of this capacity may end so: as evaluation allows, and in a stall only where some edge cannot
+    // hold all.
     fn allows(&self, done: &Done, capacity: usize) -> bool {
-        let silent = done.written.is_empty();
-        match done.ending {
-            Ok(Outcome::Value) => match &self.expected {
-                Some(line) => line.as_slice() == done.written.as_slice(),
-                None => false,
-            },
-            Ok(Outcome::Fault(_)) => silent && self.expected.is_none(),
-            Ok(Outcome::Stalled { .. }) => silent && self.may_stall(capacity),
+        let answered = match done.ending {
+            Ok(Outcome::Stalled { .. }) => self.may_stall(capacity),
+            Ok(_) => true,
             Err(_) => false,
-        }
+        };
+        answered && self.expected.allows(done)
     }
 
     // Whether more goes over some edge than it can hold. Over the widest edges no more is seen than these hold.
@@ -176,10 +175,7 @@ impl Trial<'_> {
         done: &Done,
     ) -> Result<String, AllocError> {
         let wide = &self.wide;
-        let expected = match &self.expected {
-            Some(line) => format!(in alloc; "`{}`", line.escape_ascii())?,
-            None => format!(in alloc; "a fault")?,
-        };
+        let expected = &self.expected;
         format!(in alloc;
             "evaluation gives {expected}\none thread over edges of {WIDE} gives {wide}\n{config:?}\ngives {done}"
         )
@@ -192,21 +188,6 @@ fn random_capacity(dice: &mut Dice) -> usize {
         0 => WIDE,
         small => small,
     }
-}
-
-// The drive of one thread, over edges of this capacity.
-fn serial(alloc: Global, capacity: usize) -> Result<Config, AllocError> {
-    let sharing = Sharing {
-        threads: 1,
-        idle_turns: 1,
-        share: vec![in alloc; 0u8]?,
-    };
-    Ok(Config {
-        capacity,
-        chunk: 16,
-        sharing,
-        drive: Drive::Serial,
-    })
 }
 
 // A drive of one to four threads over edges of this capacity, with a random list of one to eight shares.

@@ -1,10 +1,11 @@
 // Runs of a program over memory.
 
-use flow_drive::{Config, NoGate, Outcome, Rested};
+use flow_drive::{Config, Drive, NoGate, Outcome, Rested, Sharing};
 use flow_nodes::StreamNode;
 use snesl_run::run;
 use snesl_values::{Counted, Refusal};
 use std::alloc::{AllocError, Global};
+use std::fmt;
 use std::sync::Arc;
 use std::thread::Threads;
 
@@ -16,6 +17,34 @@ pub struct Done {
     pub ending: Result<Outcome, Refusal>,
     pub nodes: usize,
     pub counts: Vec<(u64, u64)>,
+}
+
+impl Done {
+    /// How many messages were sent in all.
+    pub fn messages(&self) -> u64 {
+        let mut messages = 0u64;
+        for &(sent, _) in &self.counts {
+            messages = messages.saturating_add(sent);
+        }
+        messages
+    }
+
+    /// The most messages that were sent on one edge.
+    pub fn most(&self) -> u64 {
+        let mut most = 0u64;
+        for &(sent, _) in &self.counts {
+            most = most.max(sent);
+        }
+        most
+    }
+}
+
+impl fmt::Display for Done {
+    fn fmt<W: fmt::Write>(&self, f: &mut fmt::Formatter<W>) -> fmt::Result {
+        let (written, ending) = (self.written.escape_ascii(), &self.ending);
+        let messages = self.messages();
+        write!(f, "{ending:?}, `{written}` written, {messages} messages")
+    }
 }
 
 /// Runs a program for an input text.
@@ -53,4 +82,19 @@ fn counts(alloc: Global, rested: &Rested<StreamNode>) -> Result<Vec<(u64, u64)>,
         counts.push(rested.counts(edge))?;
     }
     Ok(counts)
+}
+
+/// One thread, over edges of this capacity, with visits of at most so many steps.
+pub fn alone(alloc: Global, capacity: usize, chunk: usize) -> Result<Config, AllocError> {
+    let sharing = Sharing {
+        threads: 1,
+        idle_turns: 1,
+        share: vec![in alloc; 0u8]?,
+    };
+    Ok(Config {
+        capacity,
+        chunk,
+        sharing,
+        drive: Drive::Serial,
+    })
 }

@@ -1,0 +1,8 @@
+//! Tables of jobs: their rows, and the bytes that a row spells.
+#![tactic(auto)]
+
+mod spelling;
+mod table;
+
+pub use spelling::{SpellingError, spelled};
+pub use table::{Row, TableError, rows_of};

@@ -1,0 +1,61 @@
+// What plain evaluation gives, and allows.
+
+use crate::running::Done;
+use flow_drive::Outcome;
+use snesl_syntax::parse;
+use snesl_types::{check, plain};
+use snesl_values::{Datum, Refusal, read_inputs, text_of};
+use std::alloc::{AllocError, Global};
+use std::fmt;
+
+/// What a program evaluates to for an input text: the line of its value, or no line where it ends in a fault.
+#[derive(Drop)]
+pub struct Expected {
+    line: Option<Vec<u8>>,
+}
+
+impl Expected {
+    /// By plain evaluation. Refused as the program or the input text is, or where memory was refused.
+    pub fn of(alloc: Global, program: &[u8], input: &[u8]) -> Result<Expected, Refusal> {
+        let program = parse(alloc, program)?;
+        let typed = check(alloc, &program)?;
+        let inputs = read_inputs(typed.dialect(), alloc, typed.decls(), input)?;
+        let line = match plain(alloc, &typed, &inputs)? {
+            Ok(datum) => Some(line_of(alloc, &datum)?),
+            Err(_) => None,
+        };
+        Ok(Expected { line })
+    }
+
+    /// Whether a run may end so: in the value of evaluation, in a fault where that has one, or with nothing written where
+    /// it has stalled or the network is too big.
+    pub fn allows(&self, done: &Done) -> bool {
+        let silent = done.written.is_empty();
+        match done.ending {
+            Ok(Outcome::Value) => match &self.line {
+                Some(line) => line.as_slice() == done.written.as_slice(),
+                None => false,
+            },
+            Ok(Outcome::Fault(_)) => silent && self.line.is_none(),
+            Ok(Outcome::Stalled { .. }) => silent,
+            Err(Refusal::TooBig) => silent,
+            Err(_) => false,
+        }
+    }
+}
+
+impl fmt::Display for Expected {
+    fn fmt<W: fmt::Write>(&self, f: &mut fmt::Formatter<W>) -> fmt::Result {
+        match &self.line {
+            Some(line) => write!(f, "`{}`", line.escape_ascii()),
+            None => write!(f, "a fault"),
+        }
+    }
+}
+
+// The text of a value, and one line feed.
+fn line_of(alloc: Global, datum: &Datum) -> Result<Vec<u8>, AllocError> {
+    let mut line = text_of(alloc, datum)?;
+    line.push(b'\n')?;
+    Ok(line)
+}
