@@ -1,4 +1,5 @@
 // Random numbers that are the same in each build.
+ghost use Rattle.std.specs.Prelude.{◌<◌};
 
 use rand_core::{Rng, SeedableRng};
 use rand_xoshiro::Xoshiro256PlusPlus;
@@ -18,7 +19,9 @@ impl Dice {
     }
 
     /// A number below `end`; 0 where nothing is.
-    pub fn below(&mut self, end: usize) -> usize {
+    pub fn below(&mut self, end: usize) -> usize
+        ensures { 0 < end → result < end }
+    {
         let word = self.rng.next_u64() as usize;
         word.checked_rem(end).unwrap_or(0)
     }

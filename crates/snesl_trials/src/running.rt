@@ -1,4 +1,6 @@
 // Runs of a program over memory.
+ghost use Rattle.std.specs.Prelude.{◌≡◌, IfOk};
+ghost use Rattle.flow_drive.specs.declared.config.Drive.TheVariants.{Serial};
 
 use flow_drive::{Config, Drive, NoGate, Outcome, Rested, Sharing};
 use flow_nodes::StreamNode;
@@ -85,7 +87,11 @@ fn counts(alloc: Global, rested: &Rested<StreamNode>) -> Result<Vec<(u64, u64)>,
 }
 
 /// One thread, over edges of this capacity, with visits of at most so many steps.
-pub fn alone(alloc: Global, capacity: usize, chunk: usize) -> Result<Config, AllocError> {
+pub fn alone(alloc: Global, capacity: usize, chunk: usize) -> Result<Config, AllocError>
+    ensures capacity { IfOk result (λ config. config.capacity ≡ capacity) }
+    ensures chunk { IfOk result (λ config. config.chunk ≡ chunk) }
+    ensures drive { IfOk result (λ config. config.drive ≡ Serial) }
+{
     let sharing = Sharing {
         threads: 1,
         idle_turns: 1,
