@@ -32,6 +32,19 @@ pub fn add(builder: &mut GraphBuilder<StreamNode>, node: StreamNode) -> Result<(
     Ok(())
 }
 
+/// Adds a source of these integers.
+pub fn add_source(
+    alloc: Global,
+    builder: &mut GraphBuilder<StreamNode>,
+    integers: &[i128],
+) -> Result<(), Fail>
+    requires { AreOpened node_behaviour (states_so_far builder.old) }
+    ensures { AreOpened node_behaviour (states_so_far builder.new) }
+{
+    let stream = Stream::Ints(integers.to_vec(alloc)?);
+    add(builder, StreamNode::Source(Source::new(alloc, stream)))
+}
+
 /// Adds an edge that may join.
 pub fn join(
     builder: &mut GraphBuilder<StreamNode>,
@@ -51,6 +64,20 @@ pub fn join(
         return Err(Fail::new("an edge that may not join"));
     }
     builder.edge(edge)?;
+    Ok(())
+}
+
+/// Adds edges that may join, in this order: each from a node and its port to a node and its port.
+pub fn join_all(
+    builder: &mut GraphBuilder<StreamNode>,
+    edges: &[((usize, usize), (usize, usize))],
+) -> Result<(), Fail>
+    requires { AreOpened node_behaviour (states_so_far builder.old) }
+    ensures { AreOpened node_behaviour (states_so_far builder.new) }
+{
+    for &(writer, reader) in edges {
+        join(builder, writer, reader)?;
+    }
     Ok(())
 }
 
@@ -87,10 +114,13 @@ pub fn sum_of_five(alloc: Global) -> Result<Graph<StreamNode>, Fail>
         &mut builder,
         StreamNode::Sink(Node::new(Sink::new(Kind::Int), 4)),
     )?;
-    join(&mut builder, (0, 0), (1, 0))?;
-    join(&mut builder, (1, 0), (2, 0))?;
-    join(&mut builder, (2, 0), (3, 0))?;
-    join(&mut builder, (2, 1), (3, 1))?;
-    join(&mut builder, (3, 0), (4, 0))?;
+    let edges = [
+        ((0, 0), (1, 0)),
+        ((1, 0), (2, 0)),
+        ((2, 0), (3, 0)),
+        ((2, 1), (3, 1)),
+        ((3, 0), (4, 0)),
+    ];
+    join_all(&mut builder, &edges)?;
     built(builder)
 }

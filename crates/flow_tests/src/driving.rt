@@ -5,7 +5,7 @@ ghost use Rattle.flow_graph.specs.Graphs.{states_of};
 ghost use Rattle.flow_graph.specs.Networks.{AreOpened};
 ghost use Rattle.flow_nodes.specs.StreamNodes.{node_behaviour};
 
-use crate::building::{add, built, empty, join, sum_of_five};
+use crate::building::{add, built, empty, join_all, sum_of_five};
 use crate::graphs::sum_of_unlike;
 use flow_base::Node;
 use flow_drive::{Config, Drive, DriveError, NoGate, Outcome, Rested, Sharing, drive};
@@ -83,22 +83,31 @@ fn all_counts(rt: &impl Abort, rested: &Rested<StreamNode>) -> (u64, u64) {
     (sent, received)
 }
 
+// Asserts what the sum of the numbers below five left, by whatever drive.
+fn assert_nineteen(rt: &impl Abort, rested: &Rested<StreamNode>) {
+    assert_eq!(rt; rested.outcome(), Outcome::Value);
+    assert_eq!(rt; (rested.nodes(), rested.edges()), (5, 5));
+    assert_eq!(rt; all_counts(rt, rested), (19, 19));
+    assert_eq!(rt; counts(rt, rested, 2), (7, 7));
+}
+
+// Asserts that each round or epoch but the last moved a message, of which there are nineteen, sent and received.
+fn assert_rounds(rt: &impl Abort, rested: &Rested<StreamNode>, drive: Drive) {
+    let (rounds, epochs) = (rested.rounds(), rested.epochs());
+    match drive {
+        Drive::Serial => assert_eq!(rt; (rounds, epochs), (0, 0)),
+        Drive::Rounds => assert!(rt; rounds > 0 && rounds <= 39 && epochs == 0),
+        Drive::Rings => assert!(rt; epochs > 0 && epochs <= 39 && rounds == 0),
+    }
+}
+
 #[test]
 fn nineteen_messages(rt: HostRuntime) -> Result<(), Fail> {
     for capacity in [1, 2, 256] {
         for way in WAYS {
             let rested = driven(&rt, rt.alloc(), sum_of_five(rt.alloc())?, capacity, way)?;
-            assert_eq!(rt; rested.outcome(), Outcome::Value);
-            assert_eq!(rt; (rested.nodes(), rested.edges()), (5, 5));
-            assert_eq!(rt; all_counts(&rt, &rested), (19, 19));
-            assert_eq!(rt; counts(&rt, &rested, 2), (7, 7));
-            // Each round or epoch but the last moves a message, of which there are nineteen, sent and received.
-            let (rounds, epochs) = (rested.rounds(), rested.epochs());
-            match way.0 {
-                Drive::Serial => assert_eq!(rt; (rounds, epochs), (0, 0)),
-                Drive::Rounds => assert!(rt; rounds > 0 && rounds <= 39 && epochs == 0),
-                Drive::Rings => assert!(rt; epochs > 0 && epochs <= 39 && rounds == 0),
-            }
+            assert_nineteen(&rt, &rested);
+            assert_rounds(&rt, &rested, way.0);
         }
     }
     Ok(())
@@ -152,13 +161,16 @@ fn waits_for_its_length(alloc: Global) -> Result<Graph<StreamNode>, Fail>
         &mut builder,
         StreamNode::Sink(Node::new(Sink::new(Kind::Int), 6)),
     )?;
-    join(&mut builder, (0, 0), (1, 0))?;
-    join(&mut builder, (1, 0), (4, 0))?;
-    join(&mut builder, (1, 1), (2, 0))?;
-    join(&mut builder, (2, 0), (3, 0))?;
-    join(&mut builder, (3, 0), (5, 0))?;
-    join(&mut builder, (3, 1), (4, 1))?;
-    join(&mut builder, (4, 0), (6, 0))?;
+    let edges = [
+        ((0, 0), (1, 0)),
+        ((1, 0), (4, 0)),
+        ((1, 1), (2, 0)),
+        ((2, 0), (3, 0)),
+        ((3, 0), (5, 0)),
+        ((3, 1), (4, 1)),
+        ((4, 0), (6, 0)),
+    ];
+    join_all(&mut builder, &edges)?;
     built(builder)
 }
 
@@ -202,10 +214,13 @@ fn prints_below_five(alloc: Global) -> Result<Graph<StreamNode>, Fail>
     add(&mut builder, StreamNode::Iota(Node::new(Iota::new(), 2)))?;
     let ty = Ty::Seq(Box::new(alloc, Ty::Int)?);
     add(&mut builder, StreamNode::Print(Print::new(alloc, ty, 3)?))?;
-    join(&mut builder, (0, 0), (1, 0))?;
-    join(&mut builder, (1, 0), (2, 0))?;
-    join(&mut builder, (2, 0), (3, 0))?;
-    join(&mut builder, (2, 1), (3, 1))?;
+    let edges = [
+        ((0, 0), (1, 0)),
+        ((1, 0), (2, 0)),
+        ((2, 0), (3, 0)),
+        ((2, 1), (3, 1)),
+    ];
+    join_all(&mut builder, &edges)?;
     built(builder)
 }
 

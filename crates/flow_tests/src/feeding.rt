@@ -3,7 +3,6 @@
 use crate::rows::Row;
 use flow_base::{Printing, Transducer};
 use flow_edges::{Item, Msg};
-use flow_nodes::StreamNode;
 use kahn::Want;
 use snesl_values::{Datum, text_of};
 use std::alloc::{AllocError, Global};
@@ -31,31 +30,29 @@ fn append(alloc: Global, text: &mut Vec<u8>, message: &Msg) -> Result<(), AllocE
     }
 }
 
-/// Feeds a node with these streams, one for each input, until it wants a message that is not there, or has ended or
-/// faulted, or has read and written this often. Gives what it wrote, for each of its outputs.
-pub fn fed(
-    alloc: Global,
-    node: &mut StreamNode,
-    ins: &mut [std::vec::IntoIter<Msg>],
-    steps: usize,
-) -> Result<Vec<Vec<u8>>, AllocError> {
+// More steps than any row takes.
+const MOST_STEPS: usize = 1_000;
+
+// Feeds the node of a row with the streams that come in, until it wants a message that is not there, or has ended or
+// faulted, or has read and written as often as the row tells. Gives what it wrote, for each of its outputs.
+fn fed(alloc: Global, row: &mut Row<'_>) -> Result<Vec<Vec<u8>>, AllocError> {
     let mut written = Vec::new(alloc);
-    for _ in 0..node.outputs() {
+    for _ in 0..row.node.outputs() {
         written.push(Vec::<u8>::new(alloc))?;
     }
-    for _ in 0..steps {
-        match node.want() {
+    for _ in 0..row.steps.unwrap_or(MOST_STEPS) {
+        match row.node.want() {
             Want::Read(port) => {
-                let Some(stream) = ins.get_mut(port) else {
+                let Some(stream) = row.ins.get_mut(port) else {
                     break;
                 };
                 let Some(message) = stream.next() else {
                     break;
                 };
-                node.give(port, message)?;
+                row.node.give(port, message)?;
             }
             Want::Write(port) => {
-                let message = node.emit()?;
+                let message = row.node.emit()?;
                 let Some(text) = written.get_mut(port) else {
                     break;
                 };
@@ -67,24 +64,35 @@ pub fn fed(
     Ok(written)
 }
 
-/// Asserts that the node of a row has the inputs and the outputs that the row tells, and carries what it tells.
-pub fn assert_carries(rt: &impl Abort, alloc: Global, row: Row<'_>) -> Result<(), Fail> {
-    let Row {
-        line,
-        mut node,
-        mut ins,
-        outs,
-        prints,
-        end,
-    } = row;
-    assert_eq!(rt; node.inputs(), ins.len(), "inputs, line {line}");
-    assert_eq!(rt; node.outputs(), outs.len(), "outputs, line {line}");
-    let written = fed(alloc, &mut node, &mut ins, 1_000)?;
-    assert_eq!(rt; Some(node.want()), end, "line {line}");
-    let printed = prints.map(|text| text.as_bytes());
-    assert_eq!(rt; node.printed(), printed, "prints, line {line}");
-    for (text, wanted) in written.iter().zip(&outs) {
+/// Asserts that the node of a row has the inputs and the outputs that the row tells, and carries what it tells. (In parts,
+/// each of which has less to let go where it ends.)
+pub fn assert_carries(rt: &impl Abort, alloc: Global, mut row: Row<'_>) -> Result<(), Fail> {
+    assert_ports(rt, &row);
+    let written = fed(alloc, &mut row)?;
+    assert_rests(rt, &row);
+    assert_written(rt, &row, &written);
+    Ok(())
+}
+
+// Asserts that the node has as many inputs and outputs as its row tells.
+fn assert_ports(rt: &impl Abort, row: &Row<'_>) {
+    let line = row.line;
+    assert_eq!(rt; row.node.inputs(), row.ins.len(), "inputs, line {line}");
+    assert_eq!(rt; row.node.outputs(), row.outs.len(), "outputs, line {line}");
+}
+
+// Asserts that the node wants at last what its row tells, and has printed what it tells.
+fn assert_rests(rt: &impl Abort, row: &Row<'_>) {
+    let line = row.line;
+    assert_eq!(rt; Some(row.node.want()), row.end, "line {line}");
+    let printed = row.prints.map(|text| text.as_bytes());
+    assert_eq!(rt; row.node.printed(), printed, "prints, line {line}");
+}
+
+// Asserts that a node wrote what its row tells.
+fn assert_written(rt: &impl Abort, row: &Row<'_>, written: &[Vec<u8>]) {
+    let line = row.line;
+    for (text, wanted) in written.iter().zip(&row.outs) {
         assert_eq!(rt; text.as_slice(), wanted.as_bytes(), "outputs, line {line}");
     }
-    Ok(())
 }

@@ -5,7 +5,7 @@ ghost use Rattle.flow_graph.specs.Graphs.{states_of};
 ghost use Rattle.flow_graph.specs.Networks.{AreOpened};
 ghost use Rattle.flow_nodes.specs.StreamNodes.{node_behaviour};
 
-use crate::building::{add, built, empty, join, sum_of_five};
+use crate::building::{add, add_source, built, empty, join, join_all, sum_of_five};
 use flow_base::{Node, Transducer};
 use flow_edges::{Ends, Item, Kind, Msg, Table};
 use flow_graph::{Edge, Graph, GraphBuilder, Moved, step_once};
@@ -95,11 +95,9 @@ fn nineteen_messages_in_any_order(rt: HostRuntime) -> Result<(), Fail> {
 pub fn sum_of_unlike(alloc: Global) -> Result<Graph<StreamNode>, Fail>
     ensures { IfOk result (λ graph. AreOpened node_behaviour (states_of graph)) }
 {
-    let left = Stream::Ints([1, 2].to_vec(alloc)?);
-    let right = Stream::Ints([1].to_vec(alloc)?);
     let mut builder = empty(alloc);
-    add(&mut builder, StreamNode::Source(Source::new(alloc, left)))?;
-    add(&mut builder, StreamNode::Source(Source::new(alloc, right)))?;
+    add_source(alloc, &mut builder, &[1, 2])?;
+    add_source(alloc, &mut builder, &[1])?;
     add(
         &mut builder,
         StreamNode::Binary(Node::new(Binary::new(Dialect::One, BinaryOperator::Add), 7)),
@@ -108,9 +106,8 @@ pub fn sum_of_unlike(alloc: Global) -> Result<Graph<StreamNode>, Fail>
         &mut builder,
         StreamNode::Sink(Node::new(Sink::new(Kind::Int), 0)),
     )?;
-    join(&mut builder, (0, 0), (2, 0))?;
-    join(&mut builder, (1, 0), (2, 1))?;
-    join(&mut builder, (2, 0), (3, 0))?;
+    let edges = [((0, 0), (2, 0)), ((1, 0), (2, 1)), ((2, 0), (3, 0))];
+    join_all(&mut builder, &edges)?;
     built(builder)
 }
 

@@ -35,28 +35,44 @@ fn is_ready(rt: &impl Abort, table: &mut Table) -> bool {
     table.ready(0)
 }
 
+// Puts an integer on the first edge, and says why it is refused, where it is. It comes back then.
+fn put_integer(rt: &impl Abort, table: &mut Table, integer: i128) -> Option<Why> {
+    match put(rt, table, Msg::Item(Item::Int(integer))) {
+        Ok(()) => None,
+        Err(refused) => {
+            assert!(rt; matches!(refused.message, Msg::Item(Item::Int(back)) if back == integer));
+            Some(refused.why)
+        }
+    }
+}
+
+// Asserts that the next message of the first edge is this integer.
+fn assert_takes(rt: &impl Abort, table: &mut Table, integer: i128) {
+    assert!(rt; matches!(take(rt, table), Some(Msg::Item(Item::Int(taken))) if taken == integer));
+}
+
 #[test]
-fn an_edge_of_two(rt: HostRuntime) -> Result<(), Fail> {
-    let mut table = Table::new(rt.alloc(), 3, 2)?;
+fn three_edges(rt: HostRuntime) -> Result<(), Fail> {
+    let table = Table::new(rt.alloc(), 3, 2)?;
     assert!(rt; table.has_writer(2) && table.has_reader(2));
     assert!(rt; !table.has_writer(3) && !table.has_reader(3));
     assert_eq!(rt; table.capacity(), 2);
+    Ok(())
+}
+
+#[test]
+fn an_edge_of_two(rt: HostRuntime) -> Result<(), Fail> {
+    let mut table = Table::new(rt.alloc(), 1, 2)?;
     assert_eq!(rt; looks(&rt, &mut table), (true, false));
     assert!(rt; take(&rt, &mut table).is_none());
-    assert!(rt; put(&rt, &mut table, Msg::Item(Item::Int(1))).is_ok());
+    assert_eq!(rt; put_integer(&rt, &mut table, 1), None);
     assert_eq!(rt; looks(&rt, &mut table), (true, true));
-    assert!(rt; put(&rt, &mut table, Msg::Item(Item::Int(2))).is_ok());
+    assert_eq!(rt; put_integer(&rt, &mut table, 2), None);
     assert_eq!(rt; looks(&rt, &mut table), (false, true));
     assert_eq!(rt; held(&rt, &table), 2);
-    match put(&rt, &mut table, Msg::Item(Item::Int(3))) {
-        Ok(()) => assert!(rt; false, "a put into a full edge"),
-        Err(refused) => {
-            assert_eq!(rt; refused.why, Why::Full);
-            assert!(rt; matches!(refused.message, Msg::Item(Item::Int(3))));
-        }
-    }
-    assert!(rt; matches!(take(&rt, &mut table), Some(Msg::Item(Item::Int(1)))));
-    assert!(rt; matches!(take(&rt, &mut table), Some(Msg::Item(Item::Int(2)))));
+    assert_eq!(rt; put_integer(&rt, &mut table, 3), Some(Why::Full));
+    assert_takes(&rt, &mut table, 1);
+    assert_takes(&rt, &mut table, 2);
     assert!(rt; take(&rt, &mut table).is_none());
     assert_eq!(rt; held(&rt, &table), 0);
     Ok(())

@@ -8,7 +8,9 @@
 //   prints TEXT         the text that a Print has at last; no other node has one
 //   ends                at last the node has ended,
 //   faults KIND OFFSET  or met this fault,
-//   reads PORT          or wants a message that is not there. Each row has one of these three
+//   reads PORT          or wants a message that is not there,
+//   writes PORT         or has one to write. Each row has one of these four
+//   steps NUMBER        how often the node reads or writes; where no line tells, it goes on until it rests
 //
 // Between the rows empty lines and lines that begin with `#` are passed over. Any other line is refused, and so is a
 // table with no row.
@@ -57,6 +59,8 @@ pub struct Row<'a> {
     pub prints: Option<&'a str>,
     /// What the node wants at last.
     pub end: Option<Want>,
+    /// How many steps it makes, where it does not go on until it rests.
+    pub steps: Option<usize>,
 }
 
 /// The rows of a table, of which there is at least one.
@@ -105,6 +109,7 @@ fn read_line<'a>(
         }
         "out" => row.outs.push(text).map_err(AllocError::from)?,
         "prints" if row.prints.is_none() => row.prints = Some(text),
+        "steps" if row.steps.is_none() => row.steps = Some(number_of(text)?),
         _ if row.end.is_none() => row.end = Some(end_of(field, text)?),
         _ => return Err(WordError::Unread),
     }
@@ -120,6 +125,7 @@ fn begun<'a>(alloc: Global, line: usize, node: StreamNode) -> Row<'a> {
         outs: Vec::new(alloc),
         prints: None,
         end: None,
+        steps: None,
     }
 }
 
@@ -139,6 +145,7 @@ fn end_of(field: &str, text: &str) -> Result<Want, WordError> {
     match field {
         "ends" if text.is_empty() => Ok(Want::Ended),
         "reads" => Ok(Want::Read(number_of(text)?)),
+        "writes" => Ok(Want::Write(number_of(text)?)),
         "faults" => {
             let (kind, at) = text.split_once(' ').ok_or(WordError::Unread)?;
             Ok(Want::Faulted(Fault {

@@ -6,7 +6,7 @@ ghost use Rattle.flow_graph.specs.Graphs.{states_of};
 ghost use Rattle.flow_graph.specs.Networks.{AreOpened};
 ghost use Rattle.flow_nodes.specs.StreamNodes.{node_behaviour};
 
-use crate::building::{add, built, empty, join};
+use crate::building::{add, add_source, built, empty, join_all};
 use crate::driving::{WAYS, driven};
 use flow_base::Node;
 use flow_drive::Outcome;
@@ -23,13 +23,11 @@ use std::test::Fail;
 fn scan_of_quotients(alloc: Global) -> Result<Graph<StreamNode>, Fail>
     ensures { IfOk result (λ graph. AreOpened node_behaviour (states_of graph)) }
 {
-    let flags = Stream::Bools([false, false, false, true].to_vec(alloc)?);
-    let over = Stream::Ints([9_223_372_036_854_775_807, 1, 1].to_vec(alloc)?);
-    let under = Stream::Ints([1, 1, 0].to_vec(alloc)?);
     let mut builder = empty(alloc);
+    let flags = Stream::Bools([false, false, false, true].to_vec(alloc)?);
     add(&mut builder, StreamNode::Source(Source::new(alloc, flags)))?;
-    add(&mut builder, StreamNode::Source(Source::new(alloc, over)))?;
-    add(&mut builder, StreamNode::Source(Source::new(alloc, under)))?;
+    add_source(alloc, &mut builder, &[9_223_372_036_854_775_807, 1, 1])?;
+    add_source(alloc, &mut builder, &[1, 1, 0])?;
     add(
         &mut builder,
         StreamNode::Binary(Node::new(Binary::new(Dialect::One, BinaryOperator::Divide), 35)),
@@ -42,11 +40,14 @@ fn scan_of_quotients(alloc: Global) -> Result<Graph<StreamNode>, Fail>
         &mut builder,
         StreamNode::Sink(Node::new(Sink::new(Kind::Int), 0)),
     )?;
-    join(&mut builder, (0, 0), (4, 0))?;
-    join(&mut builder, (1, 0), (3, 0))?;
-    join(&mut builder, (2, 0), (3, 1))?;
-    join(&mut builder, (3, 0), (4, 1))?;
-    join(&mut builder, (4, 0), (5, 0))?;
+    let edges = [
+        ((0, 0), (4, 0)),
+        ((1, 0), (3, 0)),
+        ((2, 0), (3, 1)),
+        ((3, 0), (4, 1)),
+        ((4, 0), (5, 0)),
+    ];
+    join_all(&mut builder, &edges)?;
     built(builder)
 }
 

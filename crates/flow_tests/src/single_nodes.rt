@@ -1,13 +1,8 @@
 // Each transducer by itself, through its trait: the rows of the tables in `tables/`, as `rows.rt` reads them.
 
-use crate::feeding::{assert_carries, fed};
+use crate::feeding::assert_carries;
 use crate::rows::{TableError, rows_of};
 use crate::tables::{PRINT, SCALARS, SEGMENTS, VALUES};
-use flow_base::{Node, Transducer};
-use flow_edges::{Item, Msg};
-use flow_nodes::StreamNode;
-use flow_scalar::Iota;
-use kahn::Want;
 use std::alloc::Global;
 use std::process::Abort;
 use std::test::Fail;
@@ -38,25 +33,6 @@ fn values(rt: HostRuntime) -> Result<(), Fail> {
 #[test]
 fn print(rt: HostRuntime) -> Result<(), Fail> {
     assert_rows(&rt, rt.alloc(), PRINT)
-}
-
-// More numbers than 64 bits count: the first of them.
-#[test]
-fn iota_of_more_than_64_bits(rt: HostRuntime) -> Result<(), Fail> {
-    let alloc = rt.alloc();
-    for count in [9_223_372_036_854_775_808, i128::MAX] {
-        let mut stream = Vec::new(alloc);
-        stream.push(Msg::Item(Item::Int(count)))?;
-        let mut ins = Vec::new(alloc);
-        ins.push(stream.into_iter())?;
-        let mut node = StreamNode::Iota(Node::new(Iota::new(), 0));
-        let written = fed(alloc, &mut node, &mut ins, 6)?;
-        assert_eq!(rt; node.want(), Want::Write(1));
-        for (text, wanted) in written.iter().zip(["F F F", "0 1"]) {
-            assert_eq!(rt; text.as_slice(), wanted.as_bytes());
-        }
-    }
-    Ok(())
 }
 
 #[test]

@@ -1,12 +1,21 @@
 // Networks of programs with inputs.
 
+ghost use Rattle.std.specs.Prelude.{IfOk};
+ghost use Rattle.flow_graph.specs.Graphs.{states_of};
+ghost use Rattle.flow_graph.specs.Networks.{AreOpened};
+ghost use Rattle.flow_nodes.specs.StreamNodes.{node_behaviour};
+
 use crate::configuration::config;
 use crate::running::{assert_silent, assert_value, ran};
-use flow_drive::{NoGate, Outcome, drive};
+use flow_drive::{NoGate, Outcome, Rested, drive};
+use flow_graph::Graph;
+use flow_nodes::StreamNode;
 use snesl_flatten::flatten;
 use snesl_syntax::parse;
-use snesl_types::check;
+use snesl_types::{Typed, check};
 use snesl_values::{Fault, FaultKind, Refusal, read_inputs};
+use std::alloc::Global;
+use std::process::Abort;
 use std::sync::Arc;
 use std::test::Fail;
 
@@ -67,6 +76,26 @@ fn refused_input_texts(rt: HostRuntime) -> Result<(), Fail> {
     Ok(())
 }
 
+// The network of the plan of a program, for these inputs.
+fn network_for(
+    rt: &impl Abort,
+    alloc: Global,
+    typed: &Typed<'_>,
+    text: &[u8],
+) -> Result<Graph<StreamNode>, Fail>
+    ensures { IfOk result (λ graph. AreOpened node_behaviour (states_of graph)) }
+{
+    let inputs = read_inputs(typed.dialect(), alloc, typed.decls(), text).map_err(Refusal::from)?;
+    let plan = flatten(alloc, typed)?;
+    assert!(rt; plan.fits(&inputs));
+    Ok(plan.with(inputs)?)
+}
+
+fn assert_text(rt: &impl Abort, rested: &Rested<StreamNode>, text: &[u8]) {
+    assert_eq!(rt; rested.outcome(), Outcome::Value);
+    assert_eq!(rt; rested.text(), text);
+}
+
 // Step by step what a run does: the plan of one program, for one input and for another.
 #[test]
 fn one_program_and_two_inputs(rt: HostRuntime) -> Result<(), Fail> {
@@ -76,15 +105,9 @@ fn one_program_and_two_inputs(rt: HostRuntime) -> Result<(), Fail> {
     let config = config(alloc, 1, 1)?;
     let rows: [(&[u8], &[u8]); 2] = [(b"n = 5", b"10"), (b"n = 7", b"21")];
     for (text, sum) in rows {
-        let inputs = read_inputs(typed.dialect(), alloc, typed.decls(), text).map_err(
-            Refusal::from,
-        )?;
-        let plan = flatten(alloc, &typed)?;
-        assert!(rt; plan.fits(&inputs));
-        let graph = plan.with(inputs)?;
+        let graph = network_for(&rt, alloc, &typed, text)?;
         let rested = drive(&rt, alloc, graph, &config, Arc::new(alloc, NoGate)?)?;
-        assert_eq!(rt; rested.outcome(), Outcome::Value);
-        assert_eq!(rt; rested.text(), sum);
+        assert_text(&rt, &rested, sum);
     }
     Ok(())
 }

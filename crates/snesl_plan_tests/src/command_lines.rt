@@ -17,16 +17,69 @@ fn assert_config(rt: &impl Abort, config: &Config, numbers: [usize; 4], share: &
     assert_eq!(rt; config.sharing.share.as_slice(), share);
 }
 
+// Asserts that a command line is lawful, and says this drive, these numbers and this share.
+fn assert_says(
+    rt: &impl Abort,
+    answer: Result<Config, Refusal>,
+    line: usize,
+    (drive, numbers, share): (Drive, [usize; 4], &[u8]),
+) {
+    match answer {
+        Ok(config) => {
+            assert!(rt; config.drive == drive, "line {line}");
+            assert_config(rt, &config, numbers, share);
+        }
+        Err(_) => assert!(rt; false, "line {line} is refused"),
+    }
+}
+
 #[test]
-fn lawful_lines(rt: HostRuntime) -> Result<(), Fail> {
+fn lawful_lines(rt: HostRuntime) {
     let alloc = rt.alloc();
-    let config = settings(alloc, &["snesl"]).map_err(|_| "1")?;
-    assert_config(&rt, &config, [256, 16, 2, 64], &[0, 1]);
-    assert!(rt; config.drive == USUAL);
+    let usual = (USUAL, [256, 16, 2, 64], [0u8, 1].as_slice());
     let none: [&str; 0] = [];
-    let config = settings(alloc, &none).map_err(|_| "2")?;
-    assert_config(&rt, &config, [256, 16, 2, 64], &[0, 1]);
-    let config = settings(
+    assert_says(&rt, settings(alloc, &["snesl"]), 1, usual);
+    assert_says(&rt, settings(alloc, &none), 2, usual);
+    assert_says(&rt, settings(alloc, &["snesl", "--"]), 3, usual);
+    assert_says(&rt, settings(alloc, &["--help"]), 4, usual);
+    assert_says(&rt, settings(alloc, &["snesl", "--drive=rings"]), 5, usual);
+    let (_, numbers, share) = usual;
+    assert_says(
+        &rt,
+        settings(alloc, &["snesl", "--drive=rounds"]),
+        6,
+        (Drive::Rounds, numbers, share),
+    );
+    assert_says(
+        &rt,
+        settings(alloc, &["snesl", "--drive", "serial", "--deal", "0110"]),
+        7,
+        (Drive::Serial, numbers, &[0, 1, 1, 0]),
+    );
+    assert_says(
+        &rt,
+        settings(alloc, &["snesl", "--deal", "09af", "--threads", "16"]),
+        8,
+        (USUAL, [256, 16, 16, 64], &[0, 9, 10, 15]),
+    );
+    assert_says(
+        &rt,
+        settings(alloc, &["snesl", "--idle", "+7", "--chunk", "0008"]),
+        9,
+        (USUAL, [256, 8, 2, 7], share),
+    );
+    assert_says(
+        &rt,
+        settings(alloc, &["", "--threads", "3"]),
+        10,
+        (USUAL, [256, 16, 3, 64], &[0, 1, 2]),
+    );
+}
+
+#[test]
+fn least_and_greatest_lines(rt: HostRuntime) {
+    let alloc = rt.alloc();
+    let least = settings(
         alloc,
         &[
             "snesl",
@@ -39,10 +92,9 @@ fn lawful_lines(rt: HostRuntime) -> Result<(), Fail> {
             "--idle",
             "1",
         ],
-    )
-    .map_err(|_| "3")?;
-    assert_config(&rt, &config, [1, 1, 1, 1], &[0]);
-    let config = settings(
+    );
+    assert_says(&rt, least, 1, (USUAL, [1, 1, 1, 1], &[0]));
+    let greatest = settings(
         alloc,
         &[
             "x",
@@ -51,43 +103,21 @@ fn lawful_lines(rt: HostRuntime) -> Result<(), Fail> {
             "--threads=16",
             "--idle=1000000",
         ],
-    )
-    .map_err(|_| "4")?;
-    assert_config(
-        &rt,
-        &config,
-        [65536, 1024, 16, 1000000],
-        &[0, 1, 2, 3, 4, 5, 6, 7, 8, 9, 10, 11, 12, 13, 14, 15],
     );
-    let config = settings(alloc, &["snesl", "--drive", "serial", "--deal", "0110"]).map_err(
-        |_| "5",
-    )?;
-    assert_config(&rt, &config, [256, 16, 2, 64], &[0, 1, 1, 0]);
-    assert!(rt; config.drive == Drive::Serial);
-    let config = settings(alloc, &["snesl", "--drive=rounds"]).map_err(|_| "9")?;
-    assert!(rt; config.drive == Drive::Rounds);
-    let config = settings(alloc, &["snesl", "--drive=rings"]).map_err(|_| "12")?;
-    assert!(rt; config.drive == Drive::Rings);
-    let config = settings(alloc, &["snesl", "--deal", "09af", "--threads", "16"]).map_err(|_| "6")?;
-    assert_config(&rt, &config, [256, 16, 16, 64], &[0, 9, 10, 15]);
-    let config = settings(alloc, &["snesl", "--idle", "+7", "--chunk", "0008"]).map_err(|_| "7")?;
-    assert_config(&rt, &config, [256, 8, 2, 7], &[0, 1]);
-    let config = settings(
-        alloc,
-        &[
-            "snesl",
-            "--deal",
-            "0101010101010101010101010101010101010101010101010101010101010101",
-        ],
-    )
-    .map_err(|_| "8")?;
+    let share = [0, 1, 2, 3, 4, 5, 6, 7, 8, 9, 10, 11, 12, 13, 14, 15];
+    assert_says(
+        &rt,
+        greatest,
+        2,
+        (USUAL, [65536, 1024, 16, 1000000], &share),
+    );
+}
+
+#[test]
+fn a_share_of_64_entries(rt: HostRuntime) -> Result<(), Fail> {
+    let entries = "0101010101010101010101010101010101010101010101010101010101010101";
+    let config = settings(rt.alloc(), &["snesl", "--deal", entries])?;
     assert_eq!(rt; config.sharing.share.len(), 64);
-    let config = settings(alloc, &["snesl", "--"]).map_err(|_| "9")?;
-    assert_config(&rt, &config, [256, 16, 2, 64], &[0, 1]);
-    let config = settings(alloc, &["--help"]).map_err(|_| "10")?;
-    assert_config(&rt, &config, [256, 16, 2, 64], &[0, 1]);
-    let config = settings(alloc, &["", "--threads", "3"]).map_err(|_| "11")?;
-    assert_config(&rt, &config, [256, 16, 3, 64], &[0, 1, 2]);
     Ok(())
 }
 

@@ -295,6 +295,21 @@ out
 out
 faults negative_count 7
 
+# More numbers than 64 bits count: the first of them.
+node iota
+in 9223372036854775808
+out F F F
+out 0 1
+steps 6
+writes 1
+
+node iota
+in 170141183460469231731687303715884105727
+out F F F
+out 0 1
+steps 6
+writes 1
+
 node binary one less
 in 9223372036854775808 -170141183460469231731687303715884105728 .
 in 9223372036854775807 170141183460469231731687303715884105727 .
