@@ -13,8 +13,6 @@ mod boxes;
 mod carrying;
 mod inbox;
 mod outbox;
-#[cfg(test)]
-mod tests;
 mod theorems;
 
 pub use boxes::Boxes;

@@ -7,8 +7,6 @@
 mod deal;
 mod entry;
 mod gathering;
-#[cfg(test)]
-mod tests;
 mod theorems;
 
 pub use deal::deal_nodes;

@@ -11,7 +11,5 @@
 mod epochs;
 mod meet;
 mod parts;
-#[cfg(test)]
-mod tests;
 
 pub use epochs::{epoch, run_epochs};

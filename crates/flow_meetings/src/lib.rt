@@ -9,8 +9,6 @@ mod boxes;
 mod everywhere;
 mod meeting;
 mod rings;
-#[cfg(test)]
-mod tests;
 mod theorems;
 
 pub use everywhere::{Wire, meet_all};

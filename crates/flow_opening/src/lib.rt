@@ -14,8 +14,6 @@ mod gathering;
 mod opening;
 mod rings;
 mod standing;
-#[cfg(test)]
-mod tests;
 mod wires;
 
 pub use dealing::deal;

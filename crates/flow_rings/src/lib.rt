@@ -26,8 +26,6 @@ mod making;
 mod reader;
 mod ring;
 mod rings;
-#[cfg(test)]
-mod tests;
 mod theorems;
 mod writer;
 

@@ -11,8 +11,6 @@ mod gate;
 mod lender;
 mod pass;
 mod share;
-#[cfg(test)]
-mod tests;
 mod turns;
 
 pub use gate::{Gate, NoGate};

@@ -5,8 +5,6 @@
 #![tactic(auto)]
 
 mod error;
-#[cfg(test)]
-mod tests;
 mod workers;
 
 pub use error::WorkError;

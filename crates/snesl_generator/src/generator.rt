@@ -1,8 +1,8 @@
 // Writing a random program, by pieces: a piece is written as the pieces that it is made of, the first of them next.
 
-use crate::dice::Dice;
 use crate::kinds::{Kinds, Shape, any_kind};
 use crate::pieces::{Function, Name, Piece, Scope};
+use snesl_dice::Dice;
 use std::alloc::{AllocError, Global};
 
 // Where a program is longer, each expression still to come is written in its shortest form.

@@ -1,6 +1,6 @@
 // Types, each of which stands once in a table and is named by its place there.
 
-use crate::dice::Dice;
+use snesl_dice::Dice;
 use std::alloc::{AllocError, Global};
 
 /// The place of `int`.

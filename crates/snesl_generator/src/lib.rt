@@ -2,12 +2,10 @@
 #![tactic(auto)]
 
 mod declarations;
-mod dice;
 mod forms;
 mod generator;
 mod kinds;
 mod pieces;
 mod sequences;
 
-pub use dice::Dice;
 pub use generator::random_job;

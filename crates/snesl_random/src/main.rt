@@ -10,7 +10,8 @@ mod runs;
 
 use anyhow::{Context, Result, bail};
 use runs::Totals;
-use snesl_generator::{Dice, random_job};
+use snesl_dice::Dice;
+use snesl_generator::random_job;
 use std::env;
 use std::rt::{Clock, Env};
 use std::thread::Threads;

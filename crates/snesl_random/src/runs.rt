@@ -2,7 +2,7 @@
 
 use flow_drive::{Config, Drive, Outcome, Sharing};
 use snesl_console::split;
-use snesl_generator::Dice;
+use snesl_dice::Dice;
 use snesl_trials::{Done, Expected, alone, ran};
 use snesl_values::Refusal;
 use std::alloc::{AllocError, Global};

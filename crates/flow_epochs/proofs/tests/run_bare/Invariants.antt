@@ -1,5 +1,0 @@
-use Rattle.flow_epochs.proofs.Bare.{bare_setting}
-use Rattle.flow_epochs.proofs.tests.run_bare.Given as goal
-
-abbrev pub ghost-run_epochs : goal.ghost-run_epochs
-ghost-run_epochs g a = bare_setting g.T.Transducer

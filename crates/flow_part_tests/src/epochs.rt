@@ -1,0 +1,47 @@
+// Shares without nodes that are run in epochs.
+ghost use Rattle.std.specs.Prelude.{◌≡◌, false, length, IfOk};
+ghost use Rattle.std.specs.List.{All};
+
+use crate::shares::bare;
+use flow_base::Transducer;
+use flow_epochs::run_epochs;
+use flow_rings::Rings;
+use flow_shares::{Gate, NoGate, Share};
+use flow_workers::WorkError;
+use std::alloc::Global;
+use std::sync::Arc;
+use std::test::Fail;
+use std::thread::Threads;
+
+// Shares of the graph without nodes.
+fn run_bare<
+    R: Threads,
+    T: Transducer + Send + Drop + 'static,
+    G: Gate + Send + Sync + Drop + 'static,
+>(
+    rt: &R,
+    alloc: Global,
+    shares: Vec<Share<T, Rings>>,
+    gate: &Arc<G, Global>,
+) -> Result<(Vec<Share<T, Rings>>, u64), WorkError>
+    requires none { All (λ share. length share.nodes.items ≡ 0) shares.items }
+    requires fed { All (λ share. share.starved ≡ false) shares.items }
+    ensures { IfOk result (λ made. length made.0.items ≡ length shares.items) }
+{
+    run_epochs(rt, alloc, shares, &[], 1, 1, gate)
+}
+
+#[test]
+fn shares_without_nodes_rest_after_one_epoch(rt: HostRuntime) -> Result<(), Fail> {
+    let alloc = rt.alloc();
+    let gate = Arc::new(alloc, NoGate)?;
+    let mut shares = Vec::with_capacity(alloc, 2)?;
+    shares.push(bare(alloc, 7)?)?;
+    shares.push(bare(alloc, 3)?)?;
+    let (back, count) = run_bare(&rt, alloc, shares, &gate)?;
+    assert_eq!(rt; count, 1);
+    assert_eq!(rt; back.len(), 2);
+    assert_eq!(rt; back[0].number(), 7);
+    assert_eq!(rt; back[1].number(), 3);
+    Ok(())
+}

@@ -1,0 +1,19 @@
+// Tests of the parts of which the drives are made: boxes, rings, meetings, dealing, shares, workers, openings and epochs.
+#![tactic(auto)]
+
+#[cfg(test)]
+mod boxes;
+#[cfg(test)]
+mod deal;
+#[cfg(test)]
+mod epochs;
+#[cfg(test)]
+mod meetings;
+#[cfg(test)]
+mod opening;
+#[cfg(test)]
+mod rings;
+#[cfg(test)]
+mod shares;
+#[cfg(test)]
+mod workers;

@@ -1,0 +1,53 @@
+// Shares without nodes.
+ghost use Rattle.std.specs.Prelude.{◌≡◌, false, length, IfOk};
+
+use flow_edges::Table;
+use flow_graph::Placed;
+use flow_rings::Rings;
+use flow_scalar::Source;
+use flow_shares::{Gate, NoGate, Share, pump};
+use std::alloc::{AllocError, Global};
+use std::cell::Cell;
+use std::test::Fail;
+
+/// A share over rings.
+pub fn bare(alloc: Global, number: usize) -> Result<Share<Source, Rings>, AllocError>
+    ensures fed { IfOk result (λ share. share.starved ≡ false) }
+    ensures none { IfOk result (λ share. length share.nodes.items ≡ 0) }
+{
+    Ok(Share::new(number, Vec::new(alloc), Rings::none(alloc, 0)?))
+}
+
+/// Counts the turns of the share with number 3.
+#[derive(Drop)]
+struct Count {
+    turns: Cell<usize>,
+}
+
+impl Gate for Count {
+    fn turn(&self, share: usize, turn: usize) {
+        if share == 3 && turn == self.turns.get() {
+            self.turns.set(turn.wrapping_add(1));
+        }
+    }
+}
+
+#[test]
+fn a_share_without_nodes_calls_no_gate(rt: HostRuntime) -> Result<(), Fail> {
+    let nodes: Vec<Placed<Source>> = Vec::new(rt.alloc());
+    let share = Share::new(3, nodes, Table::new(rt.alloc(), 0, 1)?);
+    let gate = Count {
+        turns: Cell::new(0),
+    };
+    let share = pump(share, 8, 2, &gate);
+    assert_eq!(rt; gate.turns.get(), 0);
+    assert_eq!(rt; share.number(), 3);
+    assert!(rt; !share.spent());
+    assert!(rt; !share.starved());
+    assert!(rt; !share.moved());
+    let share = pump(share, 8, 1, &NoGate);
+    assert_eq!(rt; share.nodes().len(), 0);
+    let (nodes, _) = share.into_parts();
+    assert!(rt; nodes.is_empty());
+    Ok(())
+}
