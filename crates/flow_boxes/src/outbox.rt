@@ -69,16 +69,12 @@ impl Outbox {
         }
         let closes = message.is_end();
         let sent = self.sent.with(&message);
-        match self.queue.push_back(message) {
-            Ok(()) => {
-                self.room -= 1;
-                self.closed = closes;
-                self.put = self.put.saturating_add(1);
-                self.sent = sent;
-                Ok(())
-            }
-            Err(_) => unreachable!(),
-        }
+        self.queue.push_back_reserved(message);
+        self.room -= 1;
+        self.closed = closes;
+        self.put = self.put.saturating_add(1);
+        self.sent = sent;
+        Ok(())
     }
 
     /// Moves all messages to the reader's box, in order. What that box does not hold is then room.
@@ -114,10 +110,7 @@ impl Outbox {
         ensures emptied { self.new.queue.items ≡ [] }
     {
         while let Some(message) = self.queue.pop_front() {
-            match inbox.queue.push_back(message) {
-                Ok(()) => {}
-                Err(_) => unreachable!(),
-            }
+            inbox.queue.push_back_reserved(message);
         }
     }
 }
