@@ -1,8 +1,10 @@
-// Tests of the parts of which the drives are made: boxes, rings, meetings, dealing, shares, workers, openings and epochs.
+// Tests of the parts of which the drives are made: boxes, rings, meetings, dealing, shares, workers, openings and epochs; and both ends
+// of an edge in threads of their own.
 #![tactic(auto)]
 
 #[cfg(test)]
 mod boxes;
+pub mod crossing;
 #[cfg(test)]
 mod deal;
 #[cfg(test)]

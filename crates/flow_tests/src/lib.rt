@@ -18,6 +18,7 @@ mod operators;
 mod rows;
 #[cfg(test)]
 mod scan_order;
+pub mod shares;
 #[cfg(test)]
 mod single_nodes;
 #[cfg(test)]

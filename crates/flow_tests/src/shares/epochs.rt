@@ -1,0 +1,70 @@
+// Shares over rings, run in two epochs one after the other.
+
+ghost use Rattle.std.specs.Prelude.{◌≡◌};
+ghost use Rattle.flow_graph.specs.Graphs.{states_of};
+ghost use Rattle.flow_graph.specs.Networks.{AreOpened};
+ghost use Rattle.flow_opening.specs.Settings.{Setting, setting_of};
+
+use crate::building::sum_of_five;
+use flow_base::Transducer;
+use flow_drive::{Config, Drive, NoGate, Sharing, deal};
+use flow_epochs::epoch;
+use flow_graph::Graph;
+use flow_opening::{Dealt, are_fed};
+use flow_rings::Rings;
+use std::alloc::Global;
+use std::process::Abort;
+use std::sync::Arc;
+use std::test::Fail;
+use std::thread::Threads;
+
+// Deals a graph out, and makes two epochs of its shares. How many came back, if memory was refused to none.
+fn two_epochs<R: Threads, T: Transducer + Send + Drop + 'static>(
+    rt: &R,
+    alloc: Global,
+    graph: Graph<T>,
+    config: &Config,
+) -> Result<Option<usize>, Fail>
+    requires { AreOpened T.behaviour (states_of graph) }
+{
+    two_epochs_in(rt, alloc, graph, config)
+}
+
+// The same, in the setting in which the graph is dealt out.
+fn two_epochs_in<R: Threads, T: Transducer + Send + Drop + 'static>(
+    rt: &R,
+    alloc: Global,
+    graph: Graph<T>,
+    config: &Config,
+) -> Result<Option<usize>, Fail>
+    ghost setting: { Setting ⟦<T as Transducer>⟧ }
+    requires opened { AreOpened T.behaviour (states_of graph) }
+    requires setting { setting ≡ setting_of graph config.now.sharing.share.items config.now.capacity }
+{
+    let gate = Arc::new(alloc, NoGate)?;
+    let Dealt { shares, wires, .. } = deal::<T, Rings>(alloc, graph, config)?;
+    let once = epoch(rt, alloc, shares, &wires, 1, 1, &gate)?;
+    if !are_fed(&once) {
+        return Ok(None);
+    }
+    let twice = epoch(rt, alloc, once, &wires, 1, 1, &gate)?;
+    Ok(Some(twice.len()))
+}
+
+#[test]
+fn two_epochs_of_three_shares(rt: HostRuntime) -> Result<(), Fail> {
+    let alloc = rt.alloc();
+    let config = Config {
+        capacity: 1,
+        chunk: 1,
+        sharing: Sharing {
+            threads: 3,
+            idle_turns: 1,
+            share: vec![in alloc; 0u8, 1, 2]?,
+        },
+        drive: Drive::Rings,
+    };
+    let back = two_epochs(&rt, alloc, sum_of_five(alloc)?, &config)?;
+    assert_eq!(rt; back, Some(3));
+    Ok(())
+}
