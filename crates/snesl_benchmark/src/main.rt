@@ -1,131 +1,40 @@
-// Times programs by each drive, at several numbers of threads and capacities, all in one run.
+// Times what the figures of docs/PROMISES.md set beside one another.
 //
-// The first word of the command line is how many elements a program goes over, a thousand where there is none. A line for
-// each run goes to standard error: what an element takes, how many rounds or epochs the run had, and how long the threads of
-// so many take that have nothing to do. What the programs print goes to standard output.
+// The first word of the command line says what is timed, and the second over how many elements, a thousand where there is none:
+// `drives` are programs by each drive (`drives.rt`), `graph` is a network built by hand, in one thread (`graph.rt`). `plain` evaluates
+// the job on standard input without a network (`plain.rt`). With no word all three are done. What comes out goes to standard output,
+// and what it took to standard error.
 #![tactic(auto)]
 
+mod drives;
+mod graph;
+mod plain;
+mod plan;
 mod programs;
 mod rounds;
 
-use anyhow::{Context, Result, bail, ensure};
-use flow_drive::{Config, Drive, NoGate, Sharing};
-use programs::{Program, deep, squares, wide};
-use rounds::idle_rounds;
-use snesl_run::run;
-use snesl_values::Counted;
-use std::alloc::Global;
+use anyhow::{Context, Result, bail};
+use drives::time_drives;
+use graph::time_graph;
+use plain::print_plainly;
 use std::env;
-use std::rt::{Clock, Env};
-use std::sync::Arc;
-use std::thread::Threads;
-use std::time::{Duration, Instant};
 
 fn main(rt: HostRuntime) -> Result<()> {
-    let alloc = rt.alloc();
-    let count = count_of(&rt)?;
-    for program in [
-        squares(alloc, count)?,
-        wide(alloc, count)?,
-        deep(alloc, count)?,
-    ] {
-        for capacity in [256, 4_096] {
-            let alone = config(alloc, Drive::Serial, 1, capacity)?;
-            let line = measured(&rt, &program, count, &alone)?;
-            for threads in [1, 2, 4] {
-                for drive in [Drive::Rounds, Drive::Rings] {
-                    let shared = config(alloc, drive, threads, capacity)?;
-                    let same = measured(&rt, &program, count, &shared)?;
-                    ensure!(same == line, "drives differ");
-                }
-            }
-            let value = line.as_slice().trim_ascii_end();
-            println!(rt;
-                "{}, capacity {capacity}: {}",
-                program.name,
-                value.escape_ascii()
-            )?;
-        }
-    }
-    Ok(())
-}
-
-// The number on the command line, or a thousand where there is no word.
-fn count_of<R: Env + AllocGlobal>(rt: &R) -> Result<u64> {
-    match env::args(rt)?.nth(1) {
-        Some(word) => word.as_str().parse::<u64>().context("n is no number"),
-        None => Ok(1_000),
-    }
-}
-
-// Neighbours go to different shares, as without an option.
-fn config(alloc: Global, drive: Drive, threads: u8, capacity: usize) -> Result<Config> {
-    let mut share = Vec::new(alloc);
-    for thread in 0..threads {
-        share.push(thread)?;
-    }
-    let sharing = Sharing {
-        threads: usize::from(threads),
-        idle_turns: 64,
-        share,
+    let mut words = env::args(&rt)?;
+    let what = words.nth(1);
+    let count = match words.next() {
+        Some(word) => word.as_str().parse::<u64>().context("no number")?,
+        None => 1_000,
     };
-    Ok(Config {
-        capacity,
-        chunk: 256,
-        sharing,
-        drive,
-    })
-}
-
-// Runs a program once, says what it took, and gives the line that it wrote.
-fn measured<R: Eprint + Clock + AllocGlobal + Threads>(
-    rt: &R,
-    program: &Program,
-    count: u64,
-    config: &Config,
-) -> Result<Vec<u8>> {
-    let alloc = rt.alloc();
-    let gate = Arc::new(alloc, NoGate)?;
-    let mut out = Counted::new(Vec::new(alloc));
-    let start = Instant::now(rt)?;
-    let answer = run(
-        rt,
-        alloc,
-        program.text.as_bytes(),
-        b"",
-        config,
-        gate,
-        &mut out,
-    );
-    let time = start.elapsed(rt)?;
-    let turns = match &answer {
-        Ok(done) => done.rested().rounds().max(done.rested().epochs()),
-        Err(_) => bail!("a program is refused"),
+    let Some(what) = what else {
+        time_drives(&rt, count)?;
+        time_graph(&rt, count)?;
+        return print_plainly(&rt);
     };
-    report(rt, program, count, config, time, turns)?;
-    Ok(out.into_inner())
-}
-
-// Says what a run took.
-fn report<R: Eprint + Clock + AllocGlobal + Threads>(
-    rt: &R,
-    program: &Program,
-    count: u64,
-    config: &Config,
-    time: Duration,
-    turns: u64,
-) -> Result<()> {
-    let (name, capacity, threads) = (program.name, config.capacity, config.sharing.threads);
-    let (drive, each) = match config.drive {
-        Drive::Serial => ("serial", "rounds"),
-        Drive::Rounds => ("rounds", "rounds"),
-        Drive::Rings => ("rings", "epochs"),
-    };
-    let nanos = time.as_nanos();
-    let per_element = nanos / u128::from(count.max(1));
-    let idle = idle_rounds(rt, threads, turns)?.as_nanos() / u128::from(count.max(1));
-    eprintln!(rt;
-        "{name}, capacity {capacity}, {drive}, {threads} threads: {per_element} ns an element, {turns} {each}, of which threads alone take {idle} ns an element"
-    )?;
-    Ok(())
+    match what.as_str() {
+        "drives" => time_drives(&rt, count),
+        "graph" => time_graph(&rt, count),
+        "plain" => print_plainly(&rt),
+        _ => bail!("the first word is drives, graph or plain"),
+    }
 }

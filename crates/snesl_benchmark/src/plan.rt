@@ -31,7 +31,7 @@ const EDGES: [((usize, usize), (usize, usize)); 11] = [
 
 /// The network: one Unit becomes n, of which `Iota` makes flags and elements; the elements are copied, multiplied
 /// and added up. The flags go also to `UnitsOf`, whose units nothing uses.
-pub fn squares(alloc: Global, count: i64) -> io::Result<Graph<StreamNode>>
+pub fn squares(alloc: Global, count: u64) -> io::Result<Graph<StreamNode>>
     ensures { IfOk result (λ graph. AreOpened node_behaviour (states_of graph)) }
 {
     let mut builder = empty(alloc);

@@ -1,7 +1,7 @@
 use Rattle.flow_nodes.specs.StreamNodes.{node_behaviour}
 use Rattle.flow_graph.specs.Graphs.{states_so_far}
 use Rattle.flow_graph.specs.Networks.{AreOpened}
-use Rattle.flow_benchmark.proofs.plan.squares.Given as goal
+use Rattle.snesl_benchmark.proofs.plan.squares.Given as goal
 
 -- each node is in its opening state
 abbrev pub invariant-loop-writer : goal.invariant-loop-writer

@@ -1,16 +1,11 @@
-// Times the serial drive on the network of `reduce_add({x * x : x in iota(n)})`. The outcome and the number of
-// messages go to standard output, the times to standard error. The first word of the command line is n, a thousand where
-// there is none.
-#![tactic(auto)]
+// The drive of one thread on the network of `reduce_add({x * x : x in iota(n)})`. The outcome and the number of messages go to standard
+// output, the times to standard error.
 
-mod plan;
-
-use anyhow::{Context, Result};
+use crate::plan::squares;
+use anyhow::Result;
 use flow_drive::{Config, Drive, MAX_CHUNK, NoGate, Outcome, Rested, Sharing, drive};
 use flow_nodes::StreamNode;
-use plan::squares;
-use std::env;
-use std::rt::{Clock, Env};
+use std::rt::Clock;
 use std::sync::Arc;
 use std::thread::Threads;
 use std::time::{Duration, Instant};
@@ -18,26 +13,21 @@ use std::time::{Duration, Instant};
 // The capacity of the edges.
 const CAPACITY: usize = 256;
 
-fn main(rt: HostRuntime) -> Result<()> {
-    let count = count_of(&rt)?;
+/// Drives the network over so many elements, at several chunks.
+pub fn time_graph<R: Print + Eprint + Clock + AllocGlobal + Threads>(
+    rt: &R,
+    count: u64,
+) -> Result<()> {
     for chunk in [16, 256, MAX_CHUNK] {
-        measure(&rt, count, chunk)?;
+        measure(rt, count, chunk)?;
     }
     Ok(())
-}
-
-// The number on the command line, or a thousand where there is no word.
-fn count_of<R: Env + AllocGlobal>(rt: &R) -> Result<i64> {
-    match env::args(rt)?.nth(1) {
-        Some(word) => word.as_str().parse::<i64>().context("n is no number"),
-        None => Ok(1_000),
-    }
 }
 
 // Drives the network once with this chunk.
 fn measure<R: Print + Eprint + Clock + AllocGlobal + Threads>(
     rt: &R,
-    count: i64,
+    count: u64,
     chunk: usize,
 ) -> Result<()> {
     let alloc = rt.alloc();
@@ -63,7 +53,7 @@ fn measure<R: Print + Eprint + Clock + AllocGlobal + Threads>(
 fn report<R: Print + Eprint>(
     rt: &R,
     rested: &Rested<StreamNode>,
-    count: i64,
+    count: u64,
     chunk: usize,
     time: Duration,
 ) -> Result<()> {
@@ -75,7 +65,7 @@ fn report<R: Print + Eprint>(
     };
     println!(rt; "chunk {chunk}: {end}, {sent} messages")?;
     let nanos = time.as_nanos();
-    let per_element = nanos / u128::from(count.unsigned_abs().max(1));
+    let per_element = nanos / u128::from(count.max(1));
     let per_message = nanos / u128::from(sent.max(1));
     eprintln!(rt; "chunk {chunk}: {per_element} ns an element, {per_message} ns a message")?;
     Ok(())
