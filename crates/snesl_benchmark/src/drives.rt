@@ -19,31 +19,44 @@ pub fn time_drives<R: Print + Eprint + Clock + AllocGlobal + Threads>(
     rt: &R,
     count: u64,
 ) -> Result<()> {
-    let alloc = rt.alloc();
-    for program in [
-        squares(alloc, count)?,
-        wide(alloc, count)?,
-        deep(alloc, count)?,
-    ] {
-        for capacity in [256, 4_096] {
-            let alone = config(alloc, Drive::Serial, 1, capacity)?;
-            let line = measured(rt, &program, count, &alone)?;
-            for threads in [1, 2, 4] {
-                for drive in [Drive::Rounds, Drive::Rings] {
-                    let shared = config(alloc, drive, threads, capacity)?;
-                    let same = measured(rt, &program, count, &shared)?;
-                    ensure!(same == line, "drives differ");
-                }
-            }
-            let value = line.as_slice().trim_ascii_end();
-            println!(rt;
-                "{}, capacity {capacity}: {}",
-                program.name,
-                value.escape_ascii()
-            )?;
-        }
+    time_program(rt, squares(rt.alloc(), count)?, count)?;
+    time_program(rt, wide(rt.alloc(), count)?, count)?;
+    time_program(rt, deep(rt.alloc(), count)?, count)
+}
+
+// Runs a program by each drive, and prints what it wrote.
+fn time_program<R: Print + Eprint + Clock + AllocGlobal + Threads>(
+    rt: &R,
+    program: Program,
+    count: u64,
+) -> Result<()> {
+    for capacity in [256, 4_096] {
+        let line = line_at(rt, &program, count, capacity)?;
+        let value = line.as_slice().trim_ascii_end();
+        println!(rt;
+            "{}, capacity {capacity}: {}",
+            program.name,
+            value.escape_ascii()
+        )?;
     }
     Ok(())
+}
+
+// Runs a program by each drive over edges of this capacity. The line that it wrote, which is to be the same each time.
+fn line_at<R: Eprint + Clock + AllocGlobal + Threads>(
+    rt: &R,
+    program: &Program,
+    count: u64,
+    capacity: usize,
+) -> Result<Vec<u8>> {
+    let line = measured(rt, program, count, Drive::Serial, 1, capacity)?;
+    for threads in [1, 2, 4] {
+        for drive in [Drive::Rounds, Drive::Rings] {
+            let same = measured(rt, program, count, drive, threads, capacity)?;
+            ensure!(same == line, "drives differ");
+        }
+    }
+    Ok(line)
 }
 
 // Neighbours go to different shares, as without an option.
@@ -70,9 +83,12 @@ fn measured<R: Eprint + Clock + AllocGlobal + Threads>(
     rt: &R,
     program: &Program,
     count: u64,
-    config: &Config,
+    drive: Drive,
+    threads: u8,
+    capacity: usize,
 ) -> Result<Vec<u8>> {
     let alloc = rt.alloc();
+    let config = config(alloc, drive, threads, capacity)?;
     let gate = Arc::new(alloc, NoGate)?;
     let mut out = Counted::new(Vec::new(alloc));
     let start = Instant::now(rt)?;
@@ -81,7 +97,7 @@ fn measured<R: Eprint + Clock + AllocGlobal + Threads>(
         alloc,
         program.text.as_bytes(),
         b"",
-        config,
+        &config,
         gate,
         &mut out,
     );
@@ -90,7 +106,7 @@ fn measured<R: Eprint + Clock + AllocGlobal + Threads>(
         Ok(done) => done.rested().rounds().max(done.rested().epochs()),
         Err(_) => bail!("a program is refused"),
     };
-    report(rt, program, count, config, time, turns)?;
+    report(rt, program, count, &config, time, turns)?;
     Ok(out.into_inner())
 }
 
