@@ -46,6 +46,9 @@ invariant_of-result g c =
       rest = rings_rest g.setting graph joined network rest share capacity;
     }
 
+pub returns-clause-some : goal.returns-clause-some
+returns-clause-some g c = c.in_ok-shares.ensures.some
+
 pub returns-clause-most : goal.returns-clause-most
 returns-clause-most g c =
     let given = c.requires.1.1.1.1.1.1.1.1.1.1.0 in

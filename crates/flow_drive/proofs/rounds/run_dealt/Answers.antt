@@ -40,6 +40,9 @@ returns-clause-run g c =
     let rest = come_to_rest g.setting c.in_ok-shares.shares.items c.in_ok-shares.ensures.rest (states_of graph) c.in_ok-graph.ensures.states shared.ends.items taken in
     run g.setting graph shared c.in_ok-graph.ensures.network rest (ap (λ share. share.items) c.new-shared.ensures.share ∙ given.share) (c.new-shared.ensures.capacity ∙ given.capacity)
 
+pub returns-clause-some : goal.returns-clause-some
+returns-clause-some g c = c.in_ok-shares.ensures.some
+
 pub returns-clause-most : goal.returns-clause-most
 returns-clause-most g c =
     let given = c.requires.1.1.1.1.1.1.1.1.1.0 in
