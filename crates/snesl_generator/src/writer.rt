@@ -141,8 +141,11 @@ impl Writer {
         };
         form.mark = None;
         if form.rest.first() == Some(&b'[') {
-            for sign in form.rest {
-                form.rest = form.rest.get(1..).unwrap_or(&[]);
+            for _ in 0..form.rest.len() {
+                let Some((sign, rest)) = form.rest.split_first() else {
+                    break;
+                };
+                form.rest = rest;
                 match *sign {
                     b']' => break,
                     b'[' => {}
@@ -286,8 +289,8 @@ impl Writer {
     // comprehensions.
     fn usable(&self, place: usize) -> Option<Name> {
         let name = *self.names.get(place)?;
-        for later in self.names.get(place.saturating_add(1)..)? {
-            if later.number == name.number {
+        for (other, later) in self.names.iter().enumerate() {
+            if other > place && later.number == name.number {
                 return None;
             }
         }
