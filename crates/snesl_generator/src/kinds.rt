@@ -1,6 +1,5 @@
 // Types, each of which stands once in a table and is named by its place there.
 
-use snesl_dice::Dice;
 use std::alloc::{AllocError, Global};
 
 /// The place of `int`.
@@ -10,7 +9,7 @@ pub const INT: usize = 0;
 pub const BOOL: usize = 1;
 
 /// The form of a type, with the places of its parts.
-#[derive(Clone, Copy, Debug, PartialEq, Eq)]
+#[derive(Clone, Copy, PartialEq, Eq)]
 pub enum Shape {
     Int,
     Bool,
@@ -19,8 +18,8 @@ pub enum Shape {
     Sequence(usize),
 }
 
-// The types that are drawn, at the places from 0 on. More types come in as the forms around an expression ask for them.
-const FIRST: [Shape; 18] = [
+/// The types that are drawn, at the places from 0 on. More types come in as the forms around an expression ask for them.
+pub const FIRST: [Shape; 18] = [
     Shape::Int,
     Shape::Bool,
     Shape::Pair(0, 0),
@@ -41,17 +40,24 @@ const FIRST: [Shape; 18] = [
     Shape::Pair(11, 6),
 ];
 
+/// What is known of a type: its form, whether no sequence occurs in it, and how many types it is made of, itself included.
 #[derive(Clone, Copy)]
-struct Row {
-    shape: Shape,
-    concrete: bool,
-    size: usize,
+pub struct Kind {
+    pub shape: Shape,
+    pub concrete: bool,
+    pub size: usize,
 }
+
+const INTEGER: Kind = Kind {
+    shape: Shape::Int,
+    concrete: true,
+    size: 1,
+};
 
 /// A table of types.
 #[derive(Drop)]
 pub struct Kinds {
-    rows: Vec<Row>,
+    rows: Vec<Kind>,
 }
 
 impl Kinds {
@@ -73,60 +79,42 @@ impl Kinds {
                 return Ok(place);
             }
         }
+        let (concrete, parts) = match shape {
+            Shape::Int | Shape::Bool => (true, 0),
+            Shape::Pair(first, second) => {
+                let (first, second) = (self.at(first), self.at(second));
+                (
+                    first.concrete && second.concrete,
+                    first.size.saturating_add(second.size),
+                )
+            }
+            Shape::Vector(element) => (true, self.at(element).size),
+            Shape::Sequence(element) => (false, self.at(element).size),
+        };
+        let size = parts.saturating_add(1);
         let place = self.rows.len();
-        let row = self.row_of(shape);
-        self.rows.push(row)?;
+        self.rows.push(Kind {
+            shape,
+            concrete,
+            size,
+        })?;
         Ok(place)
     }
 
-    /// The form of the type at a place.
-    pub fn shape(&self, place: usize) -> Shape {
+    /// The type at a place.
+    pub fn at(&self, place: usize) -> Kind {
         match self.rows.get(place) {
-            Some(row) => row.shape,
-            None => Shape::Int,
+            Some(row) => *row,
+            None => INTEGER,
         }
     }
 
-    /// Whether no sequence occurs in the type.
-    pub fn is_concrete(&self, place: usize) -> bool {
-        match self.rows.get(place) {
-            Some(row) => row.concrete,
-            None => true,
+    /// The places of the element of a sequence or vector, or of the parts of a pair.
+    pub fn parts(&self, place: usize) -> (usize, usize) {
+        match self.at(place).shape {
+            Shape::Int | Shape::Bool => (place, place),
+            Shape::Pair(first, second) => (first, second),
+            Shape::Vector(element) | Shape::Sequence(element) => (element, element),
         }
-    }
-
-    /// How many types the type is made of, itself included.
-    pub fn size(&self, place: usize) -> usize {
-        match self.rows.get(place) {
-            Some(row) => row.size,
-            None => 1,
-        }
-    }
-
-    // The row of a type whose parts have theirs.
-    fn row_of(&self, shape: Shape) -> Row {
-        let (concrete, parts) = match shape {
-            Shape::Int | Shape::Bool => (true, 0),
-            Shape::Pair(first, second) => (
-                self.is_concrete(first) && self.is_concrete(second),
-                self.size(first).saturating_add(self.size(second)),
-            ),
-            Shape::Vector(element) => (true, self.size(element)),
-            Shape::Sequence(element) => (false, self.size(element)),
-        };
-        Row {
-            shape,
-            concrete,
-            size: parts.saturating_add(1),
-        }
-    }
-}
-
-/// One of the types that are drawn, often `int`.
-pub fn any_kind(dice: &mut Dice) -> usize {
-    if dice.once_in(3) {
-        INT
-    } else {
-        dice.below(FIRST.len())
     }
 }
