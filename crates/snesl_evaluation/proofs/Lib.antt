@@ -3,6 +3,7 @@ pub mod Begun
 pub mod Rows
 pub mod Declared
 pub mod Scans
+pub mod Reading
 pub mod Steps
 pub mod Passed
 pub mod Meanings
