@@ -4,6 +4,7 @@ pub mod Rows
 pub mod Declared
 pub mod Scans
 pub mod Reading
+pub mod Arguments
 pub mod Steps
 pub mod Passed
 pub mod Meanings

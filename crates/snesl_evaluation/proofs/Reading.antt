@@ -7,7 +7,7 @@ use Rattle.snesl_evaluation.specs.Answer.{Answer, gives, faults, go, go_all, go_
 abbrev pub behind : {B : Type 0} → List B → Answer (List B) → Answer (List B)
 behind done answer = go answer (λ later. gives (done ++ later))
 
-one_more : {B : Type 0} (done : List B) (y : B) (answer : Answer (List B)) → behind done (go answer (λ ys. gives (y ∷ ys))) ≡ behind (done ++ y ∷ []) answer
+pub one_more : {B : Type 0} (done : List B) (y : B) (answer : Answer (List B)) → behind done (go answer (λ ys. gives (y ∷ ys))) ≡ behind (done ++ y ∷ []) answer
 one_more done y (gives ys) = ap gives (sym (append_assoc done (y ∷ []) ys))
 one_more done y (faults kind at) = refl
 
@@ -15,7 +15,7 @@ some_more : {B : Type 0} (done ys : List B) (answer : Answer (List B)) → behin
 some_more done ys (gives zs) = ap gives (sym (append_assoc done ys zs))
 some_more done ys (faults kind at) = refl
 
-append_nothing : {B : Type 0} (ys : List B) → ys ++ [] ≡ ys
+pub append_nothing : {B : Type 0} (ys : List B) → ys ++ [] ≡ ys
 append_nothing [] = refl
 append_nothing (y ∷ ys) = ap (λ zs. y ∷ zs) (append_nothing ys)
 
