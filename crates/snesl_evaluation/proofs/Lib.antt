@@ -3,6 +3,8 @@ pub mod Begun
 pub mod Rows
 pub mod Declared
 pub mod Scans
+pub mod Reading
+pub mod Arguments
 pub mod Steps
 pub mod Passed
 pub mod Meanings

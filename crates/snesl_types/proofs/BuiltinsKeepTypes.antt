@@ -29,6 +29,10 @@ use Rattle.snesl_values.proofs.SameTypes.{same_eq}
 use Rattle.snesl_types.specs.Forms.{operator_result, prefix_result, result_of}
 use Rattle.snesl_types.specs.Soundness.{HaveTypes, Safe}
 
+-- where the table of types has nothing, nothing is left to show
+no_result : {A P : Type 0} {x : A} → None ≡ Some x → P
+no_result e = cc
+
 pub go_safe : {A B : Type 0} (P : A → Type 0) (Q : B → Type 0) (answer : Answer A) (next : A → Answer B)
     → Safe P answer → ((x : A) → P x → Safe Q (next x)) → Safe Q (go answer next)
 go_safe P Q (gives x) next h k = k x h
@@ -210,7 +214,7 @@ module _ (dialect : Dialect) where
   binary_safe at Index (vec t) int r v w e hv hw =
       let same : t ≡ r = cc in
       subst (λ s. Safe (λ x. HasType dialect x s) (binary_answer dialect at Index v w)) same (index_safe at v w t hv hw)
-  binary_safe at _ _ _ r v w e hv hw = cc
+  binary_safe at _ _ _ r v w e hv hw = no_result e
 
   pub prefix_safe : (at : ℕ) (operator : Prefix) (t r : Ty) (v : Value) → prefix_result operator t ≡ Some r → HasType dialect v t
       → Safe (λ x. HasType dialect x r) (prefix_answer dialect at operator v)
@@ -218,7 +222,7 @@ module _ (dialect : Dialect) where
       rw (let same : int ≡ r = cc in sym same) (int_is (λ v. Safe (λ x. HasType dialect x int) (prefix_answer dialect at Negate v)) v hv (λ n hn. integer_safe at (ranged dialect (neg_ℤ n)) (ranged_proper (neg_ℤ n))))
   prefix_safe at Not bool r v e hv =
       rw (let same : bool ≡ r = cc in sym same) (bool_is (λ v. Safe (λ x. HasType dialect x bool) (prefix_answer dialect at Not v)) v hv (λ b. tt))
-  prefix_safe at _ _ r v e hv = cc
+  prefix_safe at _ _ r v e hv = no_result e
 
   -- integers in range, all of them
   abbrev AllIntegers : List ℤ → Type 0
@@ -441,27 +445,27 @@ module _ (dialect : Dialect) where
       (go_safe (λ vs. AllOf vs t) (λ x. HasType dialect x (seq t)) (elements_at at v) (λ vs. gives (sequence vs)) (elements_safe at v t h) (λ vs hvs. unlisted vs t hvs))
   one_safe at Fst (pair t u) r v e h = subst (λ s. Safe (λ x. HasType dialect x s) (applied dialect at Fst (v ∷ []))) (let same : t ≡ r = cc in same) (fst_safe at v t u h)
   one_safe at Snd (pair t u) r v e h = subst (λ s. Safe (λ x. HasType dialect x s) (applied dialect at Snd (v ∷ []))) (let same : u ≡ r = cc in same) (snd_safe at v t u h)
-  one_safe at Part (seq t) r v e h = cc
-  one_safe at _ _ r v e h = cc
+  one_safe at Part (seq t) r v e h = no_result e
+  one_safe at _ _ r v e h = no_result e
 
   two_safe : (at : ℕ) (function : Builtin) (t u r : Ty) (v w : Value) → result_of function (t ∷ u ∷ []) ≡ Some r → HasType dialect v t → HasType dialect w u
       → Safe (λ x. HasType dialect x r) (applied dialect at function (v ∷ w ∷ []))
   two_safe at Part (seq t) (seq bool) r v w e hv hw =
       subst (λ s. Safe (λ x. HasType dialect x s) (applied dialect at Part (v ∷ w ∷ []))) (let same : seq (seq t) ≡ r = cc in same) (part_safe at v w t hv hw)
-  two_safe at Iota int u r v w e hv hw = cc
-  two_safe at ScanAdd (seq int) u r v w e hv hw = cc
-  two_safe at ReduceAdd (seq int) u r v w e hv hw = cc
-  two_safe at ReduceMax (seq int) u r v w e hv hw = cc
-  two_safe at ReduceAnd (seq bool) u r v w e hv hw = cc
-  two_safe at ReduceOr (seq bool) u r v w e hv hw = cc
-  two_safe at Length (seq t) u r v w e hv hw = cc
-  two_safe at Concat (seq (seq t)) u r v w e hv hw = cc
-  two_safe at The (seq t) u r v w e hv hw = cc
-  two_safe at Tab (seq t) u r v w e hv hw = cc
-  two_safe at Seq (vec t) u r v w e hv hw = cc
-  two_safe at Fst (pair t t') u r v w e hv hw = cc
-  two_safe at Snd (pair t t') u r v w e hv hw = cc
-  two_safe at _ _ _ r v w e hv hw = cc
+  two_safe at Iota int u r v w e hv hw = no_result e
+  two_safe at ScanAdd (seq int) u r v w e hv hw = no_result e
+  two_safe at ReduceAdd (seq int) u r v w e hv hw = no_result e
+  two_safe at ReduceMax (seq int) u r v w e hv hw = no_result e
+  two_safe at ReduceAnd (seq bool) u r v w e hv hw = no_result e
+  two_safe at ReduceOr (seq bool) u r v w e hv hw = no_result e
+  two_safe at Length (seq t) u r v w e hv hw = no_result e
+  two_safe at Concat (seq (seq t)) u r v w e hv hw = no_result e
+  two_safe at The (seq t) u r v w e hv hw = no_result e
+  two_safe at Tab (seq t) u r v w e hv hw = no_result e
+  two_safe at Seq (vec t) u r v w e hv hw = no_result e
+  two_safe at Fst (pair t t') u r v w e hv hw = no_result e
+  two_safe at Snd (pair t t') u r v w e hv hw = no_result e
+  two_safe at _ _ _ r v w e hv hw = no_result e
 
   -- where the table has a result for the arguments' types, the built-in gives a value of that type
   pub applied_safe : (at : ℕ) (function : Builtin) (ts : List Ty) (r : Ty) (vs : List Value) → result_of function ts ≡ Some r → HaveTypes dialect vs ts
@@ -471,26 +475,26 @@ module _ (dialect : Dialect) where
   applied_safe at function [] r vs e h = none function e
     where
       none : (f : Builtin) → result_of f [] ≡ Some r → Safe (λ x. HasType dialect x r) (applied dialect at function vs)
-      none Iota e' = cc
-      none _ e' = cc
+      none Iota e' = no_result e'
+      none _ e' = no_result e'
   applied_safe at function (t ∷ u ∷ s ∷ ts) r vs e h = none function t u e
     where
       none : (f : Builtin) (t u : Ty) → result_of f (t ∷ u ∷ s ∷ ts) ≡ Some r → Safe (λ x. HasType dialect x r) (applied dialect at function vs)
-      none Iota int u e' = cc
-      none ScanAdd (seq int) u e' = cc
-      none ReduceAdd (seq int) u e' = cc
-      none ReduceMax (seq int) u e' = cc
-      none ReduceAnd (seq bool) u e' = cc
-      none ReduceOr (seq bool) u e' = cc
-      none Length (seq t) u e' = cc
-      none Concat (seq (seq t)) u e' = cc
-      none The (seq t) u e' = cc
-      none Tab (seq t) u e' = cc
-      none Seq (vec t) u e' = cc
-      none Fst (pair t t') u e' = cc
-      none Snd (pair t t') u e' = cc
-      none Part (seq t) (seq bool) e' = cc
-      none _ _ _ e' = cc
+      none Iota int u e' = no_result e'
+      none ScanAdd (seq int) u e' = no_result e'
+      none ReduceAdd (seq int) u e' = no_result e'
+      none ReduceMax (seq int) u e' = no_result e'
+      none ReduceAnd (seq bool) u e' = no_result e'
+      none ReduceOr (seq bool) u e' = no_result e'
+      none Length (seq t) u e' = no_result e'
+      none Concat (seq (seq t)) u e' = no_result e'
+      none The (seq t) u e' = no_result e'
+      none Tab (seq t) u e' = no_result e'
+      none Seq (vec t) u e' = no_result e'
+      none Fst (pair t t') u e' = no_result e'
+      none Snd (pair t t') u e' = no_result e'
+      none Part (seq t) (seq bool) e' = no_result e'
+      none _ _ _ e' = no_result e'
   applied_safe at function (t ∷ []) r [] e h = absurd h
   applied_safe at function (t ∷ []) r (v ∷ w ∷ vs) e h = absurd h.1
   applied_safe at function (t ∷ u ∷ []) r [] e h = absurd h

@@ -4,9 +4,10 @@ ghost use Rattle.std.specs.Prelude.{[], map};
 ghost use Rattle.snesl_values.specs.Types.{ty_of};
 ghost use Rattle.snesl_values.specs.Inputs.{declared};
 ghost use Rattle.snesl_tree.specs.Spelling.{spelling};
+ghost use Rattle.snesl_tree.specs.Tree.{binding, choice};
 ghost use Rattle.snesl_tree.specs.View.{tree_of, trees_of, binders_of};
 ghost use Rattle.snesl_types.specs.Contexts.{found, function_named as function_among};
-ghost use Rattle.snesl_types.specs.Verdicts.{IsAnswer, of_binding, of_function, of_binder};
+ghost use Rattle.snesl_types.specs.Verdicts.{IsAnswer, both_of, of_binding, of_function, of_binder};
 ghost use Rattle.snesl_types.specs.Names.{context_of, signatures_in, typed_in, ruled_in, all_typed_in, binders_typed_in, condition_typed_in, condition_in};
 
 use crate::builtins::builtin_type;
@@ -50,8 +51,7 @@ fn type_by_rule(alloc: Global, scope: &Scope<'_>, expr: &Expr) -> Result<Ty, Ref
             left,
             right,
         } => {
-            let left = type_of(alloc, scope, left)?;
-            let right = type_of(alloc, scope, right)?;
+            let (left, right) = both_types(alloc, scope, left, right)?;
             operator_type(alloc, *at, *operator, &left, &right)
         }
         Expr::Prefix {
@@ -79,8 +79,7 @@ fn type_by_rule(alloc: Global, scope: &Scope<'_>, expr: &Expr) -> Result<Ty, Ref
         }
         Expr::Group { inner, .. } => type_of(alloc, scope, inner),
         Expr::Pair { first, second, .. } => {
-            let first = type_of(alloc, scope, first)?;
-            let second = type_of(alloc, scope, second)?;
+            let (first, second) = both_types(alloc, scope, first, second)?;
             pair_of(alloc, first, second)
         }
         Expr::Let {
@@ -88,26 +87,13 @@ fn type_by_rule(alloc: Global, scope: &Scope<'_>, expr: &Expr) -> Result<Ty, Ref
             value,
             body,
             ..
-        } => {
-            let value = type_of(alloc, scope, value)?;
-            let names = Names::Bound {
-                name: *name,
-                ty: &value,
-                outer: &*scope.names,
-            };
-            type_of(alloc, &(&*scope).with_names(&names), body)
-        }
+        } => let_type(alloc, scope, *name, value, body),
         Expr::If {
             at,
             condition,
             positive,
             negative,
-        } => {
-            let condition = type_of(alloc, scope, condition)?;
-            let positive = type_of(alloc, scope, positive)?;
-            let negative = type_of(alloc, scope, negative)?;
-            choice_type(*at, &condition, positive, &negative)
-        }
+        } => if_type(alloc, scope, *at, condition, positive, negative),
         Expr::Literal { at, items } => {
             let types = types_of(alloc, scope, items)?;
             literal_type(alloc, *at, &types)
@@ -117,8 +103,7 @@ fn type_by_rule(alloc: Global, scope: &Scope<'_>, expr: &Expr) -> Result<Ty, Ref
             item,
             condition,
         } => {
-            let item = type_of(alloc, scope, item)?;
-            let condition = type_of(alloc, scope, condition)?;
+            let (item, condition) = both_types(alloc, scope, item, condition)?;
             filter_type(alloc, *at, item, &condition)
         }
         Expr::Each {
@@ -138,6 +123,58 @@ fn type_by_rule(alloc: Global, scope: &Scope<'_>, expr: &Expr) -> Result<Ty, Ref
             each_type(alloc, *at, binders, body, &condition)
         }
     }
+}
+
+// The types of two expressions, the first before the second.
+#[cycle(typing)]
+fn both_types(
+    alloc: Global,
+    scope: &Scope<'_>,
+    first: &Expr,
+    second: &Expr,
+) -> Result<(Ty, Ty), Refusal>
+    ensures { IsAnswer (λ types. (ty_of types.0, ty_of types.1)) (both_of (typed_in scope.now (tree_of first.now)) (typed_in scope.now (tree_of second.now))) result }
+{
+    let first = type_of(alloc, scope, first)?;
+    let second = type_of(alloc, scope, second)?;
+    Ok((first, second))
+}
+
+// The type of a body where a name has the type of another expression.
+#[cycle(typing)]
+fn let_type(
+    alloc: Global,
+    scope: &Scope<'_>,
+    name: Span,
+    value: &Expr,
+    body: &Expr,
+) -> Result<Ty, Refusal>
+    ensures { IsAnswer ty_of (ruled_in scope.now (binding name.at name (tree_of value.now) (tree_of body.now))) result }
+{
+    let value = type_of(alloc, scope, value)?;
+    let names = Names::Bound {
+        name,
+        ty: &value,
+        outer: &*scope.names,
+    };
+    type_of(alloc, &(&*scope).with_names(&names), body)
+}
+
+// The type of one of two expressions, as a condition says.
+#[cycle(typing)]
+fn if_type(
+    alloc: Global,
+    scope: &Scope<'_>,
+    at: usize,
+    condition: &Expr,
+    positive: &Expr,
+    negative: &Expr,
+) -> Result<Ty, Refusal>
+    ensures { IsAnswer ty_of (ruled_in scope.now (choice at (tree_of condition.now) (tree_of positive.now) (tree_of negative.now))) result }
+{
+    let condition = type_of(alloc, scope, condition)?;
+    let (positive, negative) = both_types(alloc, scope, positive, negative)?;
+    choice_type(at, &condition, positive, &negative)
 }
 
 // The type of a condition, and that of a truth value where there is none.

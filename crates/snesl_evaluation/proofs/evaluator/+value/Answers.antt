@@ -8,11 +8,14 @@ use Rattle.snesl_tree.specs.declared.expr.Expr.{Expr, Each}
 use Rattle.snesl_tree.specs.Tree.{Binders}
 use Rattle.snesl_tree.proofs.Arguments.{tree_of-Call, tree_of-Apply, tree_of-Literal, binders_row}
 use Rattle.snesl_evaluation.specs.Answer.{go, go_all, go_join, gives}
-use Rattle.snesl_evaluation.specs.Builtins.{applied, binary_answer, seq_answer, truth_at}
+use Rattle.snesl_evaluation.specs.declared.scope.Column.{Column}
+use Rattle.snesl_evaluation.specs.Builtins.{applied, binary_answer, items_at, seq_answer, truth_at}
 use Rattle.snesl_evaluation.specs.Eval.{calls_of, eval, in_step, kept, rows_of}
 use Rattle.snesl_evaluation.specs.Results.{Answers}
 use Rattle.snesl_evaluation.specs.Scopes.{all_in, binders_in, calls_in, column_of, each_in, entered, environment_in, eval_in, kept_at, kept_in, names_of, row_at, where_in}
+use Rattle.snesl_evaluation.proofs.Arguments.{values_given, values_faults, values_all, columns_given, columns_faults, columns_all}
 use Rattle.snesl_evaluation.proofs.Passed.{halt_passes, parameters_seen, parameters_differ, filter_seen}
+use Rattle.snesl_evaluation.proofs.Reading.{behind}
 use Rattle.snesl_evaluation.proofs.Rows.{level_seen}
 use Rattle.snesl_evaluation.proofs.Steps.{after, row_given, row_faults, rows_end, kept_given, kept_faults, kept_end}
 use Rattle.snesl_evaluation.proofs.evaluator.+value.Goals as goal
@@ -54,6 +57,66 @@ enter-returns t c =
     ap (λ answer. go answer body) (parameters_seen c.args.at text parameters.items c.args.values.now (omega (arith, same, c.len.ensures, c.if-len-values.false)))
     ∙ ap (λ l. body (zip (names_of text l) (map value_of c.args.values.now))) (sym c.deref.ensures.value)
     ∙ c.in_ok-result.ensures
+
+pub all_values-returns-in_err-value : goal.all_values-returns-in_err-value
+all_values-returns-in_err-value t c =
+    let setting = c.args.setting.now in
+    let scope = c.args.scope.now in
+    let exprs = c.args.exprs.now in
+    let expr = c.expr-item.result in
+    halt_passes value_of (λ (values : Vec Datum Global). map value_of values.items) c.from_residual.result c.in_err-value.field-0.0 (eval_in setting scope (tree_of expr)) (all_in setting scope (trees_of exprs)) c.from_residual.ensures.1 c.in_err-value.ensures
+    (λ kind at e. c.loop-expr.invariant ∙ values_faults setting scope (map value_of c.loop-expr.values.items) exprs c.loop-expr.expr-index expr kind at c.loop-expr-test.true c.expr-item.is e)
+
+pub all_values-loop-expr-preserved : goal.all_values-loop-expr-preserved
+all_values-loop-expr-preserved t c =
+    let setting = c.args.setting.now in
+    let scope = c.args.scope.now in
+    let exprs = c.args.exprs.now in
+    let i = c.loop-expr.expr-index in
+    c.loop-expr.invariant
+    ∙ values_given setting scope (map value_of c.loop-expr.values.items) exprs i c.expr-item.result (value_of c.in_ok-value.value) c.loop-expr-test.true c.expr-item.is c.in_ok-value.ensures
+    ∙ ap (λ done. behind done (all_in setting scope (trees_of (drop (i + 1) exprs)))) (sym c.in_ok-add.ensures)
+
+pub all_values-returns : goal.all_values-returns
+all_values-returns t c =
+    c.loop-expr.invariant ∙ values_all c.args.setting.now c.args.scope.now (map value_of c.loop-expr.values.items) c.args.exprs.now c.loop-expr.expr-index (omega arith)
+
+pub all_columns-returns-in_err-sequence : goal.all_columns-returns-in_err-sequence
+all_columns-returns-in_err-sequence t c =
+    let setting = c.args.setting.now in
+    let scope = c.args.scope.now in
+    let columns = λ (all : Vec Column Global). map (column_of setting.text.now) all.items in
+    let binders = c.args.binders.now in
+    let binder = c.binder-item.result in
+    halt_passes value_of columns c.from_residual.result c.in_err-sequence.field-0.0 (eval_in setting scope (tree_of binder.source)) (binders_in setting scope (binders_of binders)) c.from_residual.ensures.1 c.in_err-sequence.ensures
+    (λ kind at e. c.loop-binder.invariant ∙ columns_faults setting scope (columns c.loop-binder.columns) binders c.loop-binder.binder-index binder kind at c.loop-binder-test.true c.binder-item.is
+    (ap (λ answer. go answer (items_at binder.name.at)) e))
+
+pub all_columns-returns-in_err-items : goal.all_columns-returns-in_err-items
+all_columns-returns-in_err-items t c =
+    let setting = c.args.setting.now in
+    let scope = c.args.scope.now in
+    let columns = λ (all : Vec Column Global). map (column_of setting.text.now) all.items in
+    let binders = c.args.binders.now in
+    let binder = c.binder-item.result in
+    halt_passes (λ (all : Vec Datum Global). map value_of all.items) columns c.from_residual-in_err-items.result c.in_err-items.field-0.0 (items_at binder.name.at (value_of c.in_ok-sequence.sequence)) (binders_in setting scope (binders_of binders)) c.from_residual-in_err-items.ensures.1 c.in_err-items.ensures
+    (λ kind at e. c.loop-binder.invariant ∙ columns_faults setting scope (columns c.loop-binder.columns) binders c.loop-binder.binder-index binder kind at c.loop-binder-test.true c.binder-item.is
+    (ap (λ answer. go answer (items_at binder.name.at)) c.in_ok-sequence.ensures ∙ e))
+
+pub all_columns-loop-binder-preserved : goal.all_columns-loop-binder-preserved
+all_columns-loop-binder-preserved t c =
+    let setting = c.args.setting.now in
+    let scope = c.args.scope.now in
+    let binders = c.args.binders.now in
+    let i = c.loop-binder.binder-index in
+    c.loop-binder.invariant
+    ∙ columns_given setting scope (map (column_of setting.text.now) c.loop-binder.columns.items) binders i c.binder-item.result (value_of c.in_ok-sequence.sequence) (map value_of c.in_ok-items.items.items) c.loop-binder-test.true c.binder-item.is c.in_ok-sequence.ensures c.in_ok-items.ensures
+    ∙ ap (λ done. behind done (binders_in setting scope (binders_of (drop (i + 1) binders)))) (sym (c.in_ok-add_column.ensures setting.text.now))
+
+pub all_columns-returns : goal.all_columns-returns
+all_columns-returns t c =
+    let setting = c.args.setting.now in
+    c.loop-binder.invariant ∙ columns_all setting c.args.scope.now (map (column_of setting.text.now) c.loop-binder.columns.items) c.args.binders.now c.loop-binder.binder-index (omega arith)
 
 pub rows-returns-in_err-value : goal.rows-returns-in_err-value
 rows-returns-in_err-value t c =

@@ -1,13 +1,30 @@
-use Rattle.std.proofs.Common.{rules, ◌≡◌, ◌≢◌, ◌+◌, ◌+ℤ◌, suc, length, drop, map, get_or, pos, sym, ap, ◌∙◌, arith}
+use Rattle.std.proofs.Common.{rules, ◌≡◌, ◌≢◌, ◌+◌, ◌+ℤ◌, ℤ, suc, length, drop, map, get_or, pos, Vec, Global, sym, ap, ◌∙◌, arith}
 use Rattle.std.proofs.lemmas.Bool.{eqb-false}
 use mir.Val.{to_z, of_z}
 use mir.Syntax.{w128}
-use Rattle.snesl_values.specs.Values.{value_of}
+use Rattle.snesl_values.specs.declared.datum.Datum.{Datum}
+use Rattle.snesl_values.specs.Values.{an_int, value_of}
 use Rattle.snesl_operators.specs.Operators.{ranged}
-use Rattle.snesl_operators.specs.Reductions.{scanned_from}
-use Rattle.snesl_evaluation.specs.Answer.{answer_at, gives}
-use Rattle.snesl_evaluation.proofs.Scans.{scan_step, scan_last, sums_behind}
+use Rattle.snesl_operators.specs.Reductions.{scanned, scanned_from}
+use Rattle.snesl_evaluation.specs.Answer.{answer_at, gives, go}
+use Rattle.snesl_evaluation.proofs.Passed.{halt_passes}
+use Rattle.snesl_evaluation.proofs.Scans.{scan_step, scan_fault, scan_last, sums_behind}
 use Rattle.snesl_evaluation.proofs.sequences.scan_add.Goals as goal
+
+pub returns-in_err-so_far : goal.returns-in_err-so_far
+returns-in_err-so_far c =
+    let at = c.args.at in
+    let dialect = c.args.dialect in
+    let i = c.loop-i.i in
+    let numbers = c.args.numbers.now in
+    let given = map value_of c.loop-i.sums.items in
+    let x = get_or numbers i (pos 0) in
+    let z : to_z w128 (of_z w128 x) ≡ x = search rules in
+    let so_far = to_z w128 c.loop-i.so_far-bits in
+    let total = λ (m : ℤ). answer_at at (ranged dialect (so_far +ℤ m)) in
+    halt_passes (λ (n : ℤ). n) (λ (sums : Vec Datum Global). map value_of sums.items) c.from_residual-in_err-so_far.result c.in_err-so_far.field-0.0 (total (to_z w128 (of_z w128 x)))
+    (go (answer_at at (scanned dialect numbers)) (λ sums. gives (map an_int sums))) c.from_residual-in_err-so_far.ensures.1 c.in_err-so_far.ensures
+    (λ kind place e. c.loop-i.invariant ∙ scan_fault dialect at given so_far (pos 0) numbers i kind place (omega arith) (ap total (sym z) ∙ e))
 
 pub loop-i-preserved : goal.loop-i-preserved
 loop-i-preserved c =

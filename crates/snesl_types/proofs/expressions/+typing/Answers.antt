@@ -1,4 +1,5 @@
-use Rattle.std.proofs.Common.{◌≡◌, ◌⊎◌, [], ◌++◌, map, Ok, Err, sym, ap, ◌∙◌, subst}
+use Rattle.std.proofs.Common.{◌≡◌, ◌⊎◌, ℕ, ◌+◌, [], ◌++◌, map, drop, Vec, Global, Ok, Err, sym, ap, ◌∙◌, subst, arith}
+use Rattle.snesl_values.specs.declared.ty.Ty.{Ty as TyTree}
 use Rattle.snesl_values.specs.Types.{ty_of}
 use Rattle.snesl_tree.specs.Tree.{call, apply, literal}
 use Rattle.snesl_tree.specs.View.{tree_of, trees_of, binders_of}
@@ -9,7 +10,8 @@ use Rattle.snesl_values.specs.Inputs.{declared}
 use Rattle.snesl_types.specs.Verdicts.{IsAnswer, of_each}
 use Rattle.snesl_values.specs.declared.refusal.Refusal.TheVariants.{NoMemory}
 use Rattle.snesl_types.proofs.Scopes.{tree_of-Each, Within, each_condition_refused, each_body_refused, each_answered}
-use Rattle.snesl_types.proofs.Passing.{refused_first, answered_second}
+use Rattle.snesl_types.proofs.InOrder.{refusal_passes, map_push, types_given, types_refused, types_all, binders_refused, binders_all}
+use Rattle.snesl_types.proofs.Passing.{refused_by, refused_first, answered_second}
 use Rattle.snesl_types.proofs.expressions.+typing.Goals as goal
 
 pub type_by_rule-returns-in_err-types-in-Call : goal.type_by_rule-returns-in_err-types-in-Call
@@ -129,3 +131,44 @@ type_by_rule-returns-in_ok-body-in-Each t c =
     (ty_of c.in_ok-condition-in-Each.condition) (ty_of c.in_ok-body-in-Each.body) c.each_type.result
     c.in_ok-condition-in-Each.ensures (ap (λ x. typed_in inner (tree_of x)) (sym c.deref-in-Each-3.ensures) ∙ c.in_ok-body-in-Each.ensures)
     (subst (λ l. IsAnswer ty_of (of_each c.in-Each.at (binders_of l) (ty_of c.in_ok-body-in-Each.body) (ty_of c.in_ok-condition-in-Each.condition)) c.each_type.result) c.deref-in-Each-4.ensures.value c.each_type.ensures)
+
+pub types_of-returns-in_err-ty : goal.types_of-returns-in_err-ty
+types_of-returns-in_err-ty t c =
+    let scope = c.args.scope.now in
+    let all = c.args.arguments.now in
+    let one = c.argument-item.result in
+    let whole = all_typed_in scope [] (trees_of all) in
+    let e = c.in_err-ty.field-0.0 in
+    refused_by (λ (types : Vec TyTree Global). map ty_of types.items) whole e c.from_residual.result c.from_residual.ensures
+    (refusal_passes (typed_in scope (tree_of one)) whole e c.in_err-ty.ensures (λ is.
+    c.loop-argument.invariant ∙ types_refused scope (map ty_of c.loop-argument.types.items) all c.loop-argument.argument-index one e c.loop-argument-test.true c.argument-item.is is))
+
+pub types_of-loop-argument-preserved : goal.types_of-loop-argument-preserved
+types_of-loop-argument-preserved t c =
+    let scope = c.args.scope.now in
+    let all = c.args.arguments.now in
+    let i = c.loop-argument.argument-index in
+    let types = c.loop-argument.types.items in
+    let ty = c.in_ok-ty.ty in
+    c.loop-argument.invariant
+    ∙ types_given scope (map ty_of types) all i c.argument-item.result (ty_of ty) c.loop-argument-test.true c.argument-item.is c.in_ok-ty.ensures
+    ∙ ap (λ earlier. all_typed_in scope earlier (trees_of (drop (i + 1) all))) (sym (ap (map ty_of) c.in_ok-push.ensures.items ∙ map_push ty_of types ty))
+
+pub types_of-returns : goal.types_of-returns
+types_of-returns t c =
+    c.loop-argument.invariant ∙ types_all c.args.scope.now (map ty_of c.loop-argument.types.items) c.args.arguments.now c.loop-argument.argument-index (omega arith)
+
+pub binder_types-returns-in_err-source : goal.binder_types-returns-in_err-source
+binder_types-returns-in_err-source t c =
+    let scope = c.args.scope.now in
+    let all = c.args.binders.now in
+    let one = c.binder-item.result in
+    let whole = binders_typed_in scope [] (binders_of all) in
+    let e = c.in_err-source.field-0.0 in
+    refused_by (λ (items : Vec (Vec ℕ Global × TyTree) Global). declared items.items) whole e c.from_residual.result c.from_residual.ensures
+    (refusal_passes (typed_in scope (tree_of one.source)) whole e c.in_err-source.ensures (λ is.
+    c.loop-binder.invariant ∙ binders_refused scope (declared c.loop-binder.items.items) all c.loop-binder.binder-index one e c.loop-binder-test.true c.binder-item.is is))
+
+pub binder_types-returns : goal.binder_types-returns
+binder_types-returns t c =
+    c.loop-binder.invariant ∙ binders_all c.args.scope.now (declared c.loop-binder.items.items) c.args.binders.now c.loop-binder.binder-index (omega arith)
