@@ -38,9 +38,6 @@ binder_count-binders_of [] = refl
 binder_count-binders_of (b ∷ bs) = ap suc (binder_count-binders_of bs)
 
 -- a comprehension's tree
-pub each_listed : (at : ℕ) (moved body : Expr) (binders : Vec Binder Global) (here condition : Condition) → moved ≡ body → here ≡ condition
-    → each at (tree_of moved) (binder_row (hidden-the_row-Binder-1 binders)) here ≡ each at (tree_of body) (binders_of binders.items) condition
-each_listed at moved body binders here condition p q =
-    ap (λ x. each at (tree_of x) (binder_row (hidden-the_row-Binder-1 binders)) here) p
-    ∙ ap (λ k. each at (tree_of body) (binder_row (hidden-the_row-Binder-1 binders)) k) q
-    ∙ ap (λ bs. each at (tree_of body) bs condition) (binders_row binders)
+pub each_listed : (at : ℕ) (body : Expr) (binders : Vec Binder Global) (condition : Condition)
+    → each at (tree_of body) (binder_row (hidden-the_row-Binder-1 binders)) condition ≡ each at (tree_of body) (binders_of binders.items) condition
+each_listed at body binders condition = ap (λ bs. each at (tree_of body) bs condition) (binders_row binders)

@@ -20,21 +20,21 @@ use Rattle.snesl_expressions.specs.Machine.{Frame, in_binary, in_prefix, in_call
 
 -- the frame that a form is
 abbrev pub frame_of : Form → Frame
-frame_of (forms.Binary at operator left) = in_binary at operator (tree_of left.expr)
+frame_of (forms.Binary at operator left) = in_binary at operator (tree_of left.expr.value)
 frame_of (forms.Prefix at operator) = in_prefix at operator
 frame_of (forms.Call at function given) = in_call at function (trees_of given.exprs.items)
 frame_of (forms.Apply function given) = in_apply function (trees_of given.exprs.items)
 frame_of (forms.Group at) = in_group at
-frame_of (forms.Second at first) = in_second at (tree_of first.expr)
+frame_of (forms.Second at first) = in_second at (tree_of first.expr.value)
 frame_of (forms.Value at place) = in_value at place
-frame_of (forms.LetBody at place value) = in_let_body at place (tree_of value.expr)
+frame_of (forms.LetBody at place value) = in_let_body at place (tree_of value.expr.value)
 frame_of (forms.Condition at) = in_condition at
-frame_of (forms.Positive at condition) = in_positive at (tree_of condition.expr)
-frame_of (forms.Negative at condition positive) = in_negative at (tree_of condition.expr) (tree_of positive.expr)
+frame_of (forms.Positive at condition) = in_positive at (tree_of condition.expr.value)
+frame_of (forms.Negative at condition positive) = in_negative at (tree_of condition.expr.value) (tree_of positive.expr.value)
 frame_of (forms.Braces at given) = in_braces at (trees_of given.exprs.items)
-frame_of (forms.Filter at item) = in_filter at (tree_of item.expr)
-frame_of (forms.Source at body bound place) = in_source at (tree_of body.expr) (binders_of bound.binders.items) place
-frame_of (forms.EachCondition at body bound) = in_each_condition at (tree_of body.expr) (binders_of bound.binders.items)
+frame_of (forms.Filter at item) = in_filter at (tree_of item.expr.value)
+frame_of (forms.Source at body bound place) = in_source at (tree_of body.expr.value) (binders_of bound.binders.items) place
+frame_of (forms.EachCondition at body bound) = in_each_condition at (tree_of body.expr.value) (binders_of bound.binders.items)
 
 -- forms on frames: the last of the forms becomes the first frame
 abbrev pub piled : List Form → List Frame → List Frame
@@ -48,12 +48,12 @@ frames_of all = piled all []
 -- the state with these frames at this point
 abbrev pub state_at : List Frame → Point → State
 state_at frames points.Operand = operand frames
-state_at frames (points.After last) = after frames (tree_of last.expr)
+state_at frames (points.After last) = after frames (tree_of last.expr.value)
 state_at frames (points.Opening at function) = opening frames at function
 state_at frames (points.LetName at) = let_name frames at
 state_at frames (points.LetEquals at place) = let_equals frames at place
-state_at frames (points.BinderName at body bound) = binder_name frames at (tree_of body.expr) (binders_of bound.binders.items)
-state_at frames (points.BinderIn at body bound place) = binder_in frames at (tree_of body.expr) (binders_of bound.binders.items) place
+state_at frames (points.BinderName at body bound) = binder_name frames at (tree_of body.expr.value) (binders_of bound.binders.items)
+state_at frames (points.BinderIn at body bound place) = binder_in frames at (tree_of body.expr.value) (binders_of bound.binders.items) place
 
 -- the state that a machine is in
 abbrev pub state_of : Machine → State
@@ -72,11 +72,11 @@ Gives (Err error) next = Fails error next
 
 -- the forms and the expression are these
 abbrev pub Folding : Vec Form Global → Measured → Folded → Type 0
-Folding all last folded = folded ≡ record { frames = frames_of all.items; last = tree_of last.expr }
+Folding all last folded = folded ≡ record { frames = frames_of all.items; last = tree_of last.expr.value }
 
 -- the expression, the innermost form around it and the others, or Unexpected where there is no form around it
 abbrev pub Within : Result Innermost StepError → Folded → Type 0
-Within (Ok found) folded = folded ≡ record { frames = frame_of found.form ∷ frames_of found.outer.items; last = tree_of found.whole.expr }
+Within (Ok found) folded = folded ≡ record { frames = frame_of found.form ∷ frames_of found.outer.items; last = tree_of found.whole.expr.value }
 Within (Err errors.NoMemory) folded = Unit {0}
 Within (Err errors.Unexpected) folded = folded.frames ≡ []
 Within (Err errors.TooDeep) folded = ⊥

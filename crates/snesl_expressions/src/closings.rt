@@ -38,7 +38,7 @@ pub fn after(
     last: Measured,
     token: Token,
 ) -> Result<Machine, StepError>
-    ensures { Gives result (step expressions greatest_depth (after (frames_of forms.items) (tree_of last.expr)) token) }
+    ensures { Gives result (step expressions greatest_depth (after (frames_of forms.items) (tree_of last.expr.value)) token) }
 {
     match token.kind {
         Kind::Or => infix(alloc, forms, last, Operator::Or, token.at),
@@ -80,7 +80,7 @@ fn infix(
     operator: Operator,
     at: usize,
 ) -> Result<Machine, StepError>
-    ensures { Gives result (within greatest_depth (joining operator at (frames_of forms.items) (tree_of last.expr))) }
+    ensures { Gives result (within greatest_depth (joining operator at (frames_of forms.items) (tree_of last.expr.value))) }
 {
     let (outer, left) = reduced(alloc, forms, last, left_level_of(operator))?;
     if floor_of(&outer) > level_of(operator) {
@@ -96,10 +96,11 @@ fn infix(
 
 // Where a parenthesis opens behind an operand: only behind a function's name.
 fn apply(alloc: Global, forms: Vec<Form>, last: Measured) -> Result<Machine, StepError>
-    ensures { Gives result (within greatest_depth (apply_move (frames_of forms.items) (tree_of last.expr))) }
+    ensures { Gives result (within greatest_depth (apply_move (frames_of forms.items) (tree_of last.expr.value))) }
 {
-    match last.expr {
-        Expr::Name(function) => {
+    match &*last.expr {
+        Expr::Name(name) => {
+            let function = *name;
             let_go(last);
             let given = Arguments::none(alloc);
             enter(forms, Form::Apply { function, given })
@@ -118,7 +119,7 @@ fn closing(
     last: Measured,
     ending: Ending,
 ) -> Result<Machine, StepError>
-    ensures { Gives result (within greatest_depth (closing (ending_move ending) (frames_of forms.items) (tree_of last.expr))) }
+    ensures { Gives result (within greatest_depth (closing (ending_move ending) (frames_of forms.items) (tree_of last.expr.value))) }
 {
     let Innermost { outer, form, whole } = find_innermost(alloc, forms, last)?;
     ended(alloc, outer, form, whole, ending)
@@ -132,7 +133,7 @@ fn ended(
     whole: Measured,
     ending: Ending,
 ) -> Result<Machine, StepError>
-    ensures { Gives result (within greatest_depth (ending_move ending (frame_of form ∷ frames_of outer.items) (tree_of whole.expr))) }
+    ensures { Gives result (within greatest_depth (ending_move ending (frame_of form ∷ frames_of outer.items) (tree_of whole.expr.value))) }
 {
     match ending {
         Ending::Comma => comma(outer, form, whole),
@@ -149,7 +150,7 @@ fn ended(
 
 // A comma ends an argument, the first part of a pair, or an item.
 fn comma(outer: Vec<Form>, form: Form, whole: Measured) -> Result<Machine, StepError>
-    ensures { Gives result (within greatest_depth (comma_move (frame_of form ∷ frames_of outer.items) (tree_of whole.expr))) }
+    ensures { Gives result (within greatest_depth (comma_move (frame_of form ∷ frames_of outer.items) (tree_of whole.expr.value))) }
 {
     match form {
         Form::Call {
@@ -191,16 +192,19 @@ fn right_paren(
     form: Form,
     whole: Measured,
 ) -> Result<Machine, StepError>
-    ensures { Gives result (within greatest_depth (paren_move (frame_of form ∷ frames_of outer.items) (tree_of whole.expr))) }
+    ensures { Gives result (within greatest_depth (paren_move (frame_of form ∷ frames_of outer.items) (tree_of whole.expr.value))) }
 {
     match form {
         Form::Call {
             at,
             function,
             given,
-        } => behind(outer, Measured::call(at, function, given.with(whole)?)),
+        } => behind(
+            outer,
+            Measured::call(alloc, at, function, given.with(whole)?)?,
+        ),
         Form::Apply { function, given } => {
-            behind(outer, Measured::apply(function, given.with(whole)?))
+            behind(outer, Measured::apply(alloc, function, given.with(whole)?)?)
         }
         Form::Group { at } => behind(outer, Measured::group(alloc, at, whole)?),
         Form::Second { at, first } => behind(outer, Measured::pair(alloc, at, first, whole)?),
@@ -219,10 +223,13 @@ fn right_brace(
     form: Form,
     whole: Measured,
 ) -> Result<Machine, StepError>
-    ensures { Gives result (within greatest_depth (brace_move (frame_of form ∷ frames_of outer.items) (tree_of whole.expr))) }
+    ensures { Gives result (within greatest_depth (brace_move (frame_of form ∷ frames_of outer.items) (tree_of whole.expr.value))) }
 {
     match form {
-        Form::Braces { at, given } => behind(outer, Measured::literal(at, given.with(whole)?)),
+        Form::Braces { at, given } => behind(
+            outer,
+            Measured::literal(alloc, at, given.with(whole)?)?,
+        ),
         Form::Filter { at, item } => behind(outer, Measured::filter(alloc, at, item, whole)?),
         Form::Source {
             at,
@@ -246,7 +253,7 @@ fn right_brace(
 
 // A colon ends the body of a comprehension.
 fn colon(alloc: Global, outer: Vec<Form>, form: Form, whole: Measured) -> Result<Machine, StepError>
-    ensures { Gives result (within greatest_depth (colon_move (frame_of form ∷ frames_of outer.items) (tree_of whole.expr))) }
+    ensures { Gives result (within greatest_depth (colon_move (frame_of form ∷ frames_of outer.items) (tree_of whole.expr.value))) }
 {
     match form {
         Form::Braces { at, given } => begin_binders(alloc, outer, at, given, whole),
@@ -266,7 +273,7 @@ fn begin_binders(
     given: Arguments,
     body: Measured,
 ) -> Result<Machine, StepError>
-    ensures { Gives result (within greatest_depth (colon_move (in_braces at (trees_of given.exprs.items) ∷ frames_of outer.items) (tree_of body.expr))) }
+    ensures { Gives result (within greatest_depth (colon_move (in_braces at (trees_of given.exprs.items) ∷ frames_of outer.items) (tree_of body.expr.value))) }
 {
     if !given.exprs.is_empty() {
         let_go(body);
@@ -281,7 +288,7 @@ fn begin_binders(
 
 // A bar ends an item with a condition, or the binders of a comprehension.
 fn bar(outer: Vec<Form>, form: Form, whole: Measured) -> Result<Machine, StepError>
-    ensures { Gives result (within greatest_depth (bar_move (frame_of form ∷ frames_of outer.items) (tree_of whole.expr))) }
+    ensures { Gives result (within greatest_depth (bar_move (frame_of form ∷ frames_of outer.items) (tree_of whole.expr.value))) }
 {
     match form {
         Form::Braces { at, given } => begin_filter(outer, at, given, whole),
@@ -309,7 +316,7 @@ fn begin_filter(
     given: Arguments,
     item: Measured,
 ) -> Result<Machine, StepError>
-    ensures { Gives result (within greatest_depth (bar_move (in_braces at (trees_of given.exprs.items) ∷ frames_of outer.items) (tree_of item.expr))) }
+    ensures { Gives result (within greatest_depth (bar_move (in_braces at (trees_of given.exprs.items) ∷ frames_of outer.items) (tree_of item.expr.value))) }
 {
     if !given.exprs.is_empty() {
         let_go(item);
@@ -320,7 +327,7 @@ fn begin_filter(
 
 // A semicolon ends a binder before the eighth.
 fn semicolon(outer: Vec<Form>, form: Form, whole: Measured) -> Result<Machine, StepError>
-    ensures { Gives result (within greatest_depth (semicolon_move (frame_of form ∷ frames_of outer.items) (tree_of whole.expr))) }
+    ensures { Gives result (within greatest_depth (semicolon_move (frame_of form ∷ frames_of outer.items) (tree_of whole.expr.value))) }
 {
     match form {
         Form::Source {
@@ -346,7 +353,7 @@ fn next_binder(
     name: Span,
     source: Measured,
 ) -> Result<Machine, StepError>
-    ensures { Gives result (within greatest_depth (semicolon_move (in_source at (tree_of body.expr) (binders_of bound.binders.items) name ∷ frames_of outer.items) (tree_of source.expr))) }
+    ensures { Gives result (within greatest_depth (semicolon_move (in_source at (tree_of body.expr.value) (binders_of bound.binders.items) name ∷ frames_of outer.items) (tree_of source.expr.value))) }
 {
     if bound.binders.len() + 1 >= GREATEST_BINDER_COUNT {
         let_go(body);
@@ -362,7 +369,7 @@ fn next_binder(
 
 // `in` ends the value of a `let`.
 fn let_in(outer: Vec<Form>, form: Form, whole: Measured) -> Result<Machine, StepError>
-    ensures { Gives result (within greatest_depth (in_move (frame_of form ∷ frames_of outer.items) (tree_of whole.expr))) }
+    ensures { Gives result (within greatest_depth (in_move (frame_of form ∷ frames_of outer.items) (tree_of whole.expr.value))) }
 {
     match form {
         Form::Value { at, name } => go_in(
@@ -383,7 +390,7 @@ fn let_in(outer: Vec<Form>, form: Form, whole: Measured) -> Result<Machine, Step
 
 // `then` ends the condition of an `if`.
 fn then(outer: Vec<Form>, form: Form, whole: Measured) -> Result<Machine, StepError>
-    ensures { Gives result (within greatest_depth (then_move (frame_of form ∷ frames_of outer.items) (tree_of whole.expr))) }
+    ensures { Gives result (within greatest_depth (then_move (frame_of form ∷ frames_of outer.items) (tree_of whole.expr.value))) }
 {
     match form {
         Form::Condition { at } => go_in(
@@ -403,7 +410,7 @@ fn then(outer: Vec<Form>, form: Form, whole: Measured) -> Result<Machine, StepEr
 
 // `else` ends the first branch of an `if`.
 fn or_else(outer: Vec<Form>, form: Form, whole: Measured) -> Result<Machine, StepError>
-    ensures { Gives result (within greatest_depth (else_move (frame_of form ∷ frames_of outer.items) (tree_of whole.expr))) }
+    ensures { Gives result (within greatest_depth (else_move (frame_of form ∷ frames_of outer.items) (tree_of whole.expr.value))) }
 {
     match form {
         Form::Positive { at, condition } => go_in(

@@ -112,7 +112,7 @@ pub fn open_at(forms: Vec<Form>, point: Point) -> Result<Machine, StepError>
 
 /// Behind an expression.
 pub fn behind(forms: Vec<Form>, last: Measured) -> Result<Machine, StepError>
-    ensures { Gives result (Ok (after (frames_of forms.items) (tree_of last.expr))) }
+    ensures { Gives result (Ok (after (frames_of forms.items) (tree_of last.expr.value))) }
 {
     Ok(Machine {
         forms,
@@ -203,7 +203,7 @@ impl Machine {
             Point::After(last) => {
                 let (outer, whole) = reduced(alloc, forms, last, 0)?;
                 if outer.is_empty() {
-                    Ok(Some(whole.expr))
+                    Ok(Some(Box::into_inner(whole.expr)))
                 } else {
                     let_go(whole);
                     Ok(None)

@@ -12,12 +12,12 @@ use crate::limits::GREATEST_DEPTH;
 use snesl_tree::{Binder, Builtin, Expr, Operator, Prefix, Span};
 use std::alloc::{AllocError, Global};
 
-/// An expression and its depth, at most one over the limit.
+/// An expression and its depth, at most one over the limit. The box keeps the forms small that hold one.
 #[derive(Drop)]
 pub struct Measured {
-    pub expr: Expr,
+    pub expr: Box<Expr>,
     pub deep: usize,
-    ghost exact: { deep ≡ min (depth (tree_of expr)) (suc greatest_depth) },
+    ghost exact: { deep ≡ min (depth (tree_of expr.value)) (suc greatest_depth) },
 }
 
 /// Arguments, or items, and the depth of the deepest, at most one over the limit.
@@ -37,31 +37,25 @@ pub struct Bound {
 }
 
 impl Measured {
-    pub fn integer(at: usize, value: i128) -> Measured
-        ensures { tree_of result.expr ≡ integer at value }
+    pub fn integer(alloc: Global, at: usize, value: i128) -> Result<Measured, AllocError>
+        ensures { IfOk result (λ whole. tree_of whole.expr.value ≡ integer at value) }
     {
-        Measured {
-            expr: Expr::Integer { at, value },
-            deep: 1,
-        }
+        let expr = Box::new(alloc, Expr::Integer { at, value })?;
+        Ok(Measured { expr, deep: 1 })
     }
 
-    pub fn truth(at: usize, value: bool) -> Measured
-        ensures { tree_of result.expr ≡ truth at value }
+    pub fn truth(alloc: Global, at: usize, value: bool) -> Result<Measured, AllocError>
+        ensures { IfOk result (λ whole. tree_of whole.expr.value ≡ truth at value) }
     {
-        Measured {
-            expr: Expr::Truth { at, value },
-            deep: 1,
-        }
+        let expr = Box::new(alloc, Expr::Truth { at, value })?;
+        Ok(Measured { expr, deep: 1 })
     }
 
-    pub fn name(place: Span) -> Measured
-        ensures { tree_of result.expr ≡ name place }
+    pub fn name(alloc: Global, place: Span) -> Result<Measured, AllocError>
+        ensures { IfOk result (λ whole. tree_of whole.expr.value ≡ name place) }
     {
-        Measured {
-            expr: Expr::Name(place),
-            deep: 1,
-        }
+        let expr = Box::new(alloc, Expr::Name(place))?;
+        Ok(Measured { expr, deep: 1 })
     }
 
     pub fn binary(
@@ -71,15 +65,16 @@ impl Measured {
         left: Measured,
         right: Measured,
     ) -> Result<Measured, AllocError>
-        ensures { IfOk result (λ whole. tree_of whole.expr ≡ binary at operator (tree_of left.expr) (tree_of right.expr)) }
+        ensures { IfOk result (λ whole. tree_of whole.expr.value ≡ binary at operator (tree_of left.expr.value) (tree_of right.expr.value)) }
     {
         let deep = one_more(left.deep.max(right.deep));
         let expr = Expr::Binary {
             at,
             operator,
-            left: Box::new(alloc, left.expr)?,
-            right: Box::new(alloc, right.expr)?,
+            left: left.expr,
+            right: right.expr,
         };
+        let expr = Box::new(alloc, expr)?;
         Ok(Measured { expr, deep })
     }
 
@@ -89,52 +84,63 @@ impl Measured {
         operator: Prefix,
         operand: Measured,
     ) -> Result<Measured, AllocError>
-        ensures { IfOk result (λ whole. tree_of whole.expr ≡ prefix at operator (tree_of operand.expr)) }
+        ensures { IfOk result (λ whole. tree_of whole.expr.value ≡ prefix at operator (tree_of operand.expr.value)) }
     {
         let deep = one_more(operand.deep);
         let expr = Expr::Prefix {
             at,
             operator,
-            operand: Box::new(alloc, operand.expr)?,
+            operand: operand.expr,
         };
+        let expr = Box::new(alloc, expr)?;
         Ok(Measured { expr, deep })
     }
 
-    pub fn call(at: usize, function: Builtin, arguments: Arguments) -> Measured
-        ensures { tree_of result.expr ≡ call at function (trees_of arguments.exprs.items) }
+    pub fn call(
+        alloc: Global,
+        at: usize,
+        function: Builtin,
+        arguments: Arguments,
+    ) -> Result<Measured, AllocError>
+        ensures { IfOk result (λ whole. tree_of whole.expr.value ≡ call at function (trees_of arguments.exprs.items)) }
     {
         let Arguments { exprs, deep } = arguments;
-        Measured {
-            expr: Expr::Call {
-                at,
-                function,
-                arguments: exprs,
-            },
-            deep: one_more(deep),
-        }
+        let deep = one_more(deep);
+        let expr = Expr::Call {
+            at,
+            function,
+            arguments: exprs,
+        };
+        let expr = Box::new(alloc, expr)?;
+        Ok(Measured { expr, deep })
     }
 
-    pub fn apply(function: Span, arguments: Arguments) -> Measured
-        ensures { tree_of result.expr ≡ apply function (trees_of arguments.exprs.items) }
+    pub fn apply(
+        alloc: Global,
+        function: Span,
+        arguments: Arguments,
+    ) -> Result<Measured, AllocError>
+        ensures { IfOk result (λ whole. tree_of whole.expr.value ≡ apply function (trees_of arguments.exprs.items)) }
     {
         let Arguments { exprs, deep } = arguments;
-        Measured {
-            expr: Expr::Apply {
-                function,
-                arguments: exprs,
-            },
-            deep: one_more(deep),
-        }
+        let deep = one_more(deep);
+        let expr = Expr::Apply {
+            function,
+            arguments: exprs,
+        };
+        let expr = Box::new(alloc, expr)?;
+        Ok(Measured { expr, deep })
     }
 
     pub fn group(alloc: Global, at: usize, inner: Measured) -> Result<Measured, AllocError>
-        ensures { IfOk result (λ whole. tree_of whole.expr ≡ group at (tree_of inner.expr)) }
+        ensures { IfOk result (λ whole. tree_of whole.expr.value ≡ group at (tree_of inner.expr.value)) }
     {
         let deep = one_more(inner.deep);
         let expr = Expr::Group {
             at,
-            inner: Box::new(alloc, inner.expr)?,
+            inner: inner.expr,
         };
+        let expr = Box::new(alloc, expr)?;
         Ok(Measured { expr, deep })
     }
 
@@ -144,14 +150,15 @@ impl Measured {
         first: Measured,
         second: Measured,
     ) -> Result<Measured, AllocError>
-        ensures { IfOk result (λ whole. tree_of whole.expr ≡ pair at (tree_of first.expr) (tree_of second.expr)) }
+        ensures { IfOk result (λ whole. tree_of whole.expr.value ≡ pair at (tree_of first.expr.value) (tree_of second.expr.value)) }
     {
         let deep = one_more(first.deep.max(second.deep));
         let expr = Expr::Pair {
             at,
-            first: Box::new(alloc, first.expr)?,
-            second: Box::new(alloc, second.expr)?,
+            first: first.expr,
+            second: second.expr,
         };
+        let expr = Box::new(alloc, expr)?;
         Ok(Measured { expr, deep })
     }
 
@@ -162,15 +169,16 @@ impl Measured {
         value: Measured,
         body: Measured,
     ) -> Result<Measured, AllocError>
-        ensures { IfOk result (λ whole. tree_of whole.expr ≡ binding at place (tree_of value.expr) (tree_of body.expr)) }
+        ensures { IfOk result (λ whole. tree_of whole.expr.value ≡ binding at place (tree_of value.expr.value) (tree_of body.expr.value)) }
     {
         let deep = one_more(value.deep.max(body.deep));
         let expr = Expr::Let {
             at,
             name: place,
-            value: Box::new(alloc, value.expr)?,
-            body: Box::new(alloc, body.expr)?,
+            value: value.expr,
+            body: body.expr,
         };
+        let expr = Box::new(alloc, expr)?;
         Ok(Measured { expr, deep })
     }
 
@@ -181,26 +189,26 @@ impl Measured {
         positive: Measured,
         negative: Measured,
     ) -> Result<Measured, AllocError>
-        ensures { IfOk result (λ whole. tree_of whole.expr ≡ choice at (tree_of condition.expr) (tree_of positive.expr) (tree_of negative.expr)) }
+        ensures { IfOk result (λ whole. tree_of whole.expr.value ≡ choice at (tree_of condition.expr.value) (tree_of positive.expr.value) (tree_of negative.expr.value)) }
     {
         let deep = one_more(condition.deep.max(positive.deep.max(negative.deep)));
         let expr = Expr::If {
             at,
-            condition: Box::new(alloc, condition.expr)?,
-            positive: Box::new(alloc, positive.expr)?,
-            negative: Box::new(alloc, negative.expr)?,
+            condition: condition.expr,
+            positive: positive.expr,
+            negative: negative.expr,
         };
+        let expr = Box::new(alloc, expr)?;
         Ok(Measured { expr, deep })
     }
 
-    pub fn literal(at: usize, items: Arguments) -> Measured
-        ensures { tree_of result.expr ≡ literal at (trees_of items.exprs.items) }
+    pub fn literal(alloc: Global, at: usize, items: Arguments) -> Result<Measured, AllocError>
+        ensures { IfOk result (λ whole. tree_of whole.expr.value ≡ literal at (trees_of items.exprs.items)) }
     {
         let Arguments { exprs, deep } = items;
-        Measured {
-            expr: Expr::Literal { at, items: exprs },
-            deep: one_more(deep),
-        }
+        let deep = one_more(deep);
+        let expr = Box::new(alloc, Expr::Literal { at, items: exprs })?;
+        Ok(Measured { expr, deep })
     }
 
     pub fn filter(
@@ -209,14 +217,15 @@ impl Measured {
         item: Measured,
         condition: Measured,
     ) -> Result<Measured, AllocError>
-        ensures { IfOk result (λ whole. tree_of whole.expr ≡ filter at (tree_of item.expr) (tree_of condition.expr)) }
+        ensures { IfOk result (λ whole. tree_of whole.expr.value ≡ filter at (tree_of item.expr.value) (tree_of condition.expr.value)) }
     {
         let deep = one_more(item.deep.max(condition.deep));
         let expr = Expr::Filter {
             at,
-            item: Box::new(alloc, item.expr)?,
-            condition: Box::new(alloc, condition.expr)?,
+            item: item.expr,
+            condition: condition.expr,
         };
+        let expr = Box::new(alloc, expr)?;
         Ok(Measured { expr, deep })
     }
 
@@ -226,16 +235,17 @@ impl Measured {
         body: Measured,
         bound: Bound,
     ) -> Result<Measured, AllocError>
-        ensures { IfOk result (λ whole. tree_of whole.expr ≡ each at (tree_of body.expr) (binders_of bound.binders.items) always) }
+        ensures { IfOk result (λ whole. tree_of whole.expr.value ≡ each at (tree_of body.expr.value) (binders_of bound.binders.items) always) }
     {
         let Bound { binders, deep } = bound;
         let deep = one_more(body.deep.max(deep));
         let expr = Expr::Each {
             at,
-            body: Box::new(alloc, body.expr)?,
+            body: body.expr,
             binders,
             condition: None,
         };
+        let expr = Box::new(alloc, expr)?;
         Ok(Measured { expr, deep })
     }
 
@@ -246,16 +256,17 @@ impl Measured {
         bound: Bound,
         condition: Measured,
     ) -> Result<Measured, AllocError>
-        ensures { IfOk result (λ whole. tree_of whole.expr ≡ each at (tree_of body.expr) (binders_of bound.binders.items) (only_where (tree_of condition.expr))) }
+        ensures { IfOk result (λ whole. tree_of whole.expr.value ≡ each at (tree_of body.expr.value) (binders_of bound.binders.items) (only_where (tree_of condition.expr.value))) }
     {
         let Bound { binders, deep } = bound;
         let deep = one_more(body.deep.max(deep.max(condition.deep)));
         let expr = Expr::Each {
             at,
-            body: Box::new(alloc, body.expr)?,
+            body: body.expr,
             binders,
-            condition: Some(Box::new(alloc, condition.expr)?),
+            condition: Some(condition.expr),
         };
+        let expr = Box::new(alloc, expr)?;
         Ok(Measured { expr, deep })
     }
 }
@@ -271,11 +282,11 @@ impl Arguments {
     }
 
     pub fn with(self, last: Measured) -> Result<Arguments, AllocError>
-        ensures { IfOk result (λ all. trees_of all.exprs.items ≡ added (trees_of self.exprs.items) (tree_of last.expr)) }
+        ensures { IfOk result (λ all. trees_of all.exprs.items ≡ added (trees_of self.exprs.items) (tree_of last.expr.value)) }
     {
         let Arguments { mut exprs, deep } = self;
         let deep = deep.max(last.deep);
-        exprs.push(last.expr)?;
+        exprs.push(Box::into_inner(last.expr))?;
         Ok(Arguments { exprs, deep })
     }
 }
@@ -291,11 +302,11 @@ impl Bound {
     }
 
     pub fn with(self, name: Span, source: Measured) -> Result<Bound, AllocError>
-        ensures { IfOk result (λ all. binders_of all.binders.items ≡ bound_also (binders_of self.binders.items) name (tree_of source.expr)) }
+        ensures { IfOk result (λ all. binders_of all.binders.items ≡ bound_also (binders_of self.binders.items) name (tree_of source.expr.value)) }
     {
         let Bound { mut binders, deep } = self;
         let deep = deep.max(source.deep);
-        let source = source.expr;
+        let source = Box::into_inner(source.expr);
         binders.push(Binder { name, source })?;
         Ok(Bound { binders, deep })
     }

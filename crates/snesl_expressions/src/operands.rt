@@ -22,10 +22,10 @@ pub fn operand(alloc: Global, forms: Vec<Form>, token: Token) -> Result<Machine,
 {
     let at = token.at;
     match token.kind {
-        Kind::Integer(value) => behind(forms, Measured::integer(at, value)),
-        Kind::True => behind(forms, Measured::truth(at, true)),
-        Kind::False => behind(forms, Measured::truth(at, false)),
-        Kind::Name(len) => behind(forms, Measured::name(Span { at, len })),
+        Kind::Integer(value) => behind(forms, Measured::integer(alloc, at, value)?),
+        Kind::True => behind(forms, Measured::truth(alloc, at, true)?),
+        Kind::False => behind(forms, Measured::truth(alloc, at, false)?),
+        Kind::Name(len) => behind(forms, Measured::name(alloc, Span { at, len })?),
         Kind::Minus => enter_prefix(forms, at, Prefix::Negate),
         Kind::Not => enter_prefix(forms, at, Prefix::Not),
         Kind::Iota => name_call(forms, at, Builtin::Iota),
@@ -147,7 +147,7 @@ pub fn binder_name(
     bound: Bound,
     token: Token,
 ) -> Result<Machine, StepError>
-    ensures { Gives result (step expressions greatest_depth (binder_name (frames_of forms.items) at (tree_of body.expr) (binders_of bound.binders.items)) token) }
+    ensures { Gives result (step expressions greatest_depth (binder_name (frames_of forms.items) at (tree_of body.expr.value) (binders_of bound.binders.items)) token) }
 {
     match token.kind {
         Kind::Name(len) => {
@@ -178,7 +178,7 @@ pub fn binder_in(
     name: Span,
     token: Token,
 ) -> Result<Machine, StepError>
-    ensures { Gives result (step expressions greatest_depth (binder_in (frames_of forms.items) at (tree_of body.expr) (binders_of bound.binders.items) name) token) }
+    ensures { Gives result (step expressions greatest_depth (binder_in (frames_of forms.items) at (tree_of body.expr.value) (binders_of bound.binders.items) name) token) }
 {
     match token.kind {
         Kind::In => go_in(

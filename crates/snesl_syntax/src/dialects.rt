@@ -74,12 +74,14 @@ fn number(token: Token) -> Result<DialectMachine, StepError>
 fn semicolon(alloc: Global, token: Token) -> Result<DialectMachine, StepError>
     ensures { Steps dialect_state result (step reader greatest_depth awaits_semicolon token) }
 {
-    let machine = ProgramMachine::new(alloc);
     match token.kind {
-        Kind::Semicolon => Ok(DialectMachine::Rest {
-            dialect: Dialect::Two,
-            machine,
-        }),
+        Kind::Semicolon => {
+            let machine = ProgramMachine::new(alloc);
+            Ok(DialectMachine::Rest {
+                dialect: Dialect::Two,
+                machine,
+            })
+        }
         _ => Err(StepError::Unexpected),
     }
 }

@@ -8,4 +8,4 @@ use Rattle.snesl_expressions.proofs.closings.bar.Goals as goal
 
 pub returns-in_default : goal.returns-in_default
 returns-in_default c =
-    ap (within greatest_depth) (no_bar c.args.form (frames_of c.args.outer.items) (tree_of c.args.whole.expr) c.in_default.not-Braces c.in_default.not-Source)
+    ap (within greatest_depth) (no_bar c.args.form (frames_of c.args.outer.items) (tree_of c.args.whole.expr.value) c.in_default.not-Braces c.in_default.not-Source)

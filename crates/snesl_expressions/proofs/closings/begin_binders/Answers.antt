@@ -9,4 +9,4 @@ use Rattle.snesl_expressions.proofs.closings.begin_binders.Goals as goal
 pub returns-then-not-is_empty : goal.returns-then-not-is_empty
 returns-then-not-is_empty c =
     let more = some_left (vec_len c.args.given.exprs) (length c.args.given.exprs.items) (sym c.if-not-is_empty.ensures) (omega (arith, c.args.given.exprs.ok.0)) in
-    ap (within greatest_depth) (given_colon c.args.given.exprs.items c.args.at (frames_of c.args.outer.items) (tree_of c.args.body.expr) more)
+    ap (within greatest_depth) (given_colon c.args.given.exprs.items c.args.at (frames_of c.args.outer.items) (tree_of c.args.body.expr.value) more)

@@ -13,7 +13,7 @@ returns-then-saturating_add-ge-GREATEST_DEPTH c =
     let folded = rw c.left_level_of.ensures at c.in_ok-outer.ensures in
     let low : floor (frames_of c.in_ok-outer.outer.items) ≤ level c.args.operator = omega (arith, ap (λ fs. floor (frames_of fs)) c.deref.ensures.value, c.floor_of.ensures, c.level_of.ensures.exact) in
     ap (λ r. within greatest_depth (infix_move c.args.operator c.args.at r)) folded
-    ∙ infix_off c.in_ok-outer.outer.items c.args.operator c.args.at (tree_of c.in_ok-outer.left.expr) low
+    ∙ infix_off c.in_ok-outer.outer.items c.args.operator c.args.at (tree_of c.in_ok-outer.left.expr.value) low
     (omega (arith, c.in_ok-outer.left.exact, c.in_ok-outer.outer.ok.0, c.len.ensures, c.saturating_add.ensures))
 
 pub returns : goal.returns
@@ -21,6 +21,6 @@ returns c =
     let folded = rw c.left_level_of.ensures at c.in_ok-outer.ensures in
     let low : floor (frames_of c.in_ok-outer.outer.items) ≤ level c.args.operator = omega (arith, ap (λ fs. floor (frames_of fs)) c.deref.ensures.value, c.floor_of.ensures, c.level_of.ensures.exact) in
     let roomy = ap (λ r. within greatest_depth (infix_move c.args.operator c.args.at r)) folded
-    ∙ infix_on c.in_ok-outer.outer.items c.args.operator c.args.at (tree_of c.in_ok-outer.left.expr) low
+    ∙ infix_on c.in_ok-outer.outer.items c.args.operator c.args.at (tree_of c.in_ok-outer.left.expr.value) low
     (omega (arith, c.in_ok-outer.left.exact, c.in_ok-outer.outer.ok.0, c.len.ensures, c.saturating_add.ensures)) in
     subst (Gives c.go_in.result) (sym roomy) c.go_in.ensures

@@ -10,5 +10,5 @@ pub returns-in_ok-each_where-in-EachCondition : goal.returns-in_ok-each_where-in
 returns-in_ok-each_where-in-EachCondition c =
     let given = c.behind-in-EachCondition.result in
     let outer = frames_of c.args.outer.items in
-    subst (λ form. Gives given (within greatest_depth (brace_move (frame_of form ∷ outer) (tree_of c.args.whole.expr)))) (sym c.in-EachCondition.is)
+    subst (λ form. Gives given (within greatest_depth (brace_move (frame_of form ∷ outer) (tree_of c.args.whole.expr.value)))) (sym c.in-EachCondition.is)
     (subst (λ tree. Gives given (Ok (after outer tree))) c.in_ok-each_where-in-EachCondition.ensures c.behind-in-EachCondition.ensures)

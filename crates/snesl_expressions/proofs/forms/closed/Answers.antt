@@ -6,4 +6,4 @@ use Rattle.snesl_expressions.proofs.forms.closed.Goals as goal
 
 pub returns-in-Binary : goal.returns-in-Binary
 returns-in-Binary c =
-    subst (λ form. IfOk c.binary.result (λ whole. tree_of whole.expr ≡ closed_with (frame_of form) (tree_of c.args.last.expr))) (sym c.in-Binary.is) c.binary.ensures
+    subst (λ form. IfOk c.binary.result (λ whole. tree_of whole.expr.value ≡ closed_with (frame_of form) (tree_of c.args.last.expr.value))) (sym c.in-Binary.is) c.binary.ensures

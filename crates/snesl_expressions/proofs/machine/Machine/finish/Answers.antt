@@ -9,5 +9,5 @@ pub returns-in-After : goal.returns-in-After
 returns-in-After c =
     ap (λ p. finished_of (state_at (frames_of c.args.self.forms.items) p)) c.in-After.is
     ∙ ap alone c.in_ok-outer-in-After.ensures
-    ∙ still_open c.in_ok-outer-in-After.outer.items (tree_of c.in_ok-outer-in-After.whole.expr)
+    ∙ still_open c.in_ok-outer-in-After.outer.items (tree_of c.in_ok-outer-in-After.whole.expr.value)
     (some_left (vec_len c.in_ok-outer-in-After.outer) (length c.in_ok-outer-in-After.outer.items) (sym c.if-is_empty.ensures) (omega (arith, c.in_ok-outer-in-After.outer.ok.0)))

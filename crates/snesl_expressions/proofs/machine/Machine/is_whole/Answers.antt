@@ -8,6 +8,6 @@ use Rattle.snesl_expressions.proofs.machine.Machine.is_whole.Goals as goal
 
 pub returns-in-After : goal.returns-in-After
 returns-in-After c =
-    all_closed c.all_close.result c.deref.result.now (tree_of c.in-After.field-0.expr) c.all_close.ensures
-    ∙ ap (λ fs. is_some (alone (reduce 0 (frames_of fs) (tree_of c.in-After.field-0.expr)))) c.deref.ensures.value
+    all_closed c.all_close.result c.deref.result.now (tree_of c.in-After.field-0.expr.value) c.all_close.ensures
+    ∙ ap (λ fs. is_some (alone (reduce 0 (frames_of fs) (tree_of c.in-After.field-0.expr.value)))) c.deref.ensures.value
     ∙ ap (λ p. is_some (finished_of (state_at (frames_of c.args.self.now.forms.items) p))) (sym c.in-After.is)

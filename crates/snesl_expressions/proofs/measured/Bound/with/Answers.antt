@@ -1,13 +1,16 @@
 use Rattle.std.proofs.Common.{arith, ap, ◌∙◌}
-use Rattle.snesl_tree.specs.View.{binders_of}
-use Rattle.snesl_tree.specs.Tree.{depth_of_binders}
+use Rattle.snesl_tree.specs.View.{tree_of, binders_of}
+use Rattle.snesl_tree.specs.Tree.{depth, depth_of_binders}
 use Rattle.snesl_expressions.proofs.Rows.{binders_of-push, depth_of_binders-push}
 use Rattle.snesl_expressions.proofs.measured.Bound.with.Goals as goal
 
 pub invariant_of-result : goal.invariant_of-result
 invariant_of-result c =
-    let grown = ap (λ bs. depth_of_binders (binders_of bs)) c.in_ok-push.ensures.items ∙ depth_of_binders-push c.args.self.binders.items (record { name = c.args.name; source = c.args.source.expr }) in
-    record { exact = omega (arith, grown, c.max-deep.ensures, c.args.self.exact, c.args.source.exact) }
+    let grown = ap (λ bs. depth_of_binders (binders_of bs)) c.in_ok-push.ensures.items ∙ depth_of_binders-push c.args.self.binders.items (record { name = c.args.name; source = c.into_inner-source.result }) in
+    let same = ap (λ e. depth (tree_of e)) c.into_inner-source.ensures in
+    record { exact = omega (arith, grown, same, c.max-deep.ensures, c.args.self.exact, c.args.source.exact) }
 
 pub returns : goal.returns
-returns c = ap binders_of c.in_ok-push.ensures.items ∙ binders_of-push c.args.self.binders.items (record { name = c.args.name; source = c.args.source.expr })
+returns c =
+    let grown = ap binders_of c.in_ok-push.ensures.items ∙ binders_of-push c.args.self.binders.items (record { name = c.args.name; source = c.into_inner-source.result }) in
+    cc (grown, c.into_inner-source.ensures)

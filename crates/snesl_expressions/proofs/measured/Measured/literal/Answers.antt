@@ -1,11 +1,13 @@
-use Rattle.std.proofs.Common.{arith, ap}
+use Rattle.std.proofs.Common.{arith, ap, ◌∙◌}
 use Rattle.snesl_tree.specs.Tree.{depth}
+use Rattle.snesl_tree.specs.View.{tree_of}
 use Rattle.snesl_tree.proofs.Arguments.{tree_of-Literal}
 use Rattle.snesl_expressions.proofs.measured.Measured.literal.Goals as goal
 
 pub invariant_of-result : goal.invariant_of-result
 invariant_of-result c =
-    record { exact = omega (arith, ap depth (tree_of-Literal c.args.at c.args.items.exprs)) }
+    let listed = ap tree_of c.in_ok-expr.ensures.ok ∙ tree_of-Literal c.args.at c.args.items.exprs in
+    record { exact = omega (arith, ap depth listed) }
 
 pub returns : goal.returns
-returns c = tree_of-Literal c.args.at c.args.items.exprs
+returns c = ap tree_of c.in_ok-expr.ensures.ok ∙ tree_of-Literal c.args.at c.args.items.exprs
