@@ -1,7 +1,7 @@
 -- A plan of which nothing is built, and one that is built whole.
-use Rattle.std.specs.Prelude.{◌≡◌, ℕ, ◌≤◌, ◌<◌, List, [], ◌++◌, length, drop, Some, refl}
+use Rattle.std.specs.Prelude.{◌≡◌, ℕ, ◌≤◌, List, [], ◌++◌, length, drop, Some, refl}
 use Rattle.std.specs.List.{slice_get}
-use Rattle.std.proofs.Common.{sym, ◌∙◌, ap, arith, inl, inr, append-nil}
+use Rattle.std.proofs.Common.{sym, ◌∙◌, ap, subst, arith, inl, inr, append-nil}
 use Rattle.std.proofs.Math.ListN.{drop_of_length-le}
 use Rattle.std.proofs.lemmas.List.{length-drop, length-map}
 use Rattle.std.proofs.lemmas.List.Elements.{All-from_get_or}
@@ -44,6 +44,13 @@ nothing_built plan = record {
     fits = λ s lt. absurd (omega arith);
   };
 }
+
+-- nor is anything of it where all is empty
+pub empty_built : (plan : List Step) (supply : List Port) (found : List ℕ) (states : List ((t : NodeKind) × (member t).State)) (edges : List Edge)
+    → supply ≡ [] → found ≡ [] → states ≡ [] → edges ≡ [] → IsBuiltTo plan 0 supply found states edges
+empty_built plan supply found states edges one two three four =
+    subst (λ x. IsBuiltTo plan 0 x found states edges) (sym one) (subst (λ x. IsBuiltTo plan 0 [] x states edges) (sym two)
+    (subst (λ x. IsBuiltTo plan 0 [] [] x edges) (sym three) (subst (λ x. IsBuiltTo plan 0 [] [] [] x) (sym four) (nothing_built plan))))
 
 -- behind its last step a plan has none
 pub plan_ended : (plan : Plan) → drop (length plan.steps.items) (plan_of plan) ≡ []

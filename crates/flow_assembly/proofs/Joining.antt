@@ -1,7 +1,7 @@
 -- One more edge, and one more node, in a network that is being built.
-use Rattle.std.specs.Prelude.{◌≡◌, ℕ, zero, suc, ◌+◌, ◌<◌, ◌≤◌, ◌^◌, ◌==◌, ◌&&◌, ◌⊎◌, List, [], ◌∷◌, ◌++◌, length, map, Option, Some, refl}
+use Rattle.std.specs.Prelude.{◌≡◌, ℕ, suc, ◌+◌, ◌<◌, ◌≤◌, ◌^◌, ◌==◌, ◌&&◌, ◌⊎◌, List, [], ◌∷◌, ◌++◌, length, map, Some, refl}
 use Rattle.std.specs.List.{slice_get}
-use Rattle.std.proofs.Common.{sym, ◌∙◌, ap, subst, arith, inl, inr, get_or, set, get_or-set_same, get_or-set_other}
+use Rattle.std.proofs.Common.{sym, ◌∙◌, ap, subst, arith, inl, inr, set, get_or-set_same, get_or-set_other}
 use Rattle.std.proofs.lemmas.Bool.{cases_eq, cases_lt}
 use Rattle.std.proofs.lemmas.List.{length_push, length-set, get_or_append_left, get_or_past, get_or-map, length-map}
 use Rattle.std.proofs.lemmas.Option.{slice_get_within}
@@ -10,7 +10,7 @@ use Rattle.flow_edges.specs.declared.message.Kind.{Kind}
 use Rattle.flow_rows.specs.Lists.{bind}
 use Rattle.flow_edges.specs.declared.message.Kind.TheVariants.{Unit as UnitKind}
 use Rattle.flow_graph.specs.declared.edge.Edge.{Edge}
-use Rattle.flow_graph.specs.Edges.{edge_at, in_edge, out_edge, IsTakenIn, IsTakenOut}
+use Rattle.flow_graph.specs.Edges.{edge_at, out_edge, IsTakenIn, IsTakenOut}
 use Rattle.flow_graph.specs.Networks.{state_at, outputs_at, inputs_at, kind_from, kind_to, MayJoin, IsJoined}
 use Rattle.flow_nodes.specs.StreamNodes.{NodeKind, member, node_behaviour}
 use Rattle.flow_plans.specs.Ports.{kinds_read, kinds_written}

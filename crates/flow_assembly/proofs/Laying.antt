@@ -1,16 +1,16 @@
 -- The transducers of the network of a wired plan read and write streams of their kinds.
-use Rattle.std.specs.Prelude.{◌≡◌, ℕ, zero, suc, ◌+◌, ◌<◌, ◌≤◌, List, [], ◌∷◌, ◌++◌, length, map, replicate, Option, Some, None, option_map, refl}
+use Rattle.std.specs.Prelude.{◌≡◌, ℕ, zero, suc, ◌+◌, List, [], ◌∷◌, ◌++◌, length, replicate, Option, Some, option_map, refl}
 use Rattle.std.specs.List.{slice_get}
-use Rattle.std.proofs.Common.{sym, ◌∙◌, ap, subst, arith, append_assoc, length-append}
+use Rattle.std.proofs.Common.{◌∙◌, ap, subst, arith, length-append}
 use Rattle.snesl_values.specs.declared.dialect.Dialect.{Dialect}
 use Rattle.flow_edges.specs.declared.message.Kind.{Kind}
 use Rattle.flow_rows.specs.Lists.{bind, each}
 use Rattle.flow_plans.specs.declared.operation.Operation.{Operation as OperationData}
 use Rattle.flow_plans.specs.declared.operation.Operation.TheVariants as held
 use Rattle.flow_plans.specs.declared.operation.Step.{Step as StepData}
-use Rattle.flow_plans.specs.Plans.{Step, fork, sink}
+use Rattle.flow_plans.specs.Plans.{Step}
 use Rattle.flow_plans.specs.Ports.{kinds_read, kinds_written, AreWired, kinds_after}
-use Rattle.flow_plans.specs.Views.{operation_of, step_of, steps_of}
+use Rattle.flow_plans.specs.Views.{operation_of, steps_of}
 use Rattle.flow_plans.specs.Layouts.{Placed, uses, behind, numbered, all_behind, layout_from}
 use Rattle.flow_assembly.specs.Openings.{IsUsable}
 use Rattle.flow_assembly.proofs.Fitting.{FitsKinds, bound, changed, some_same}

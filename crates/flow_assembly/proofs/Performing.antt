@@ -1,20 +1,14 @@
 -- A transducer in the state in which that of an operation opens does what the operation says.
-use Rattle.std.specs.Prelude.{◌≡◌, ℕ, zero, suc, ◌-◌, ◌<◌, List, [], ◌∷◌, length, replicate, Option, Some, refl}
+use Rattle.std.specs.Prelude.{◌≡◌, ℕ, zero, suc, ◌-◌, ◌<◌, List, [], ◌∷◌, length, replicate, Some, refl}
 use Rattle.std.specs.List.{slice_get}
 use Rattle.std.proofs.Common.{sym, ap, subst, arith}
 use Rattle.std.proofs.lemmas.List.{length-replicate}
-use Rattle.snesl_values.specs.declared.dialect.Dialect.{Dialect}
-use Rattle.snesl_values.specs.Types.{Ty, seq}
+use Rattle.snesl_values.specs.Types.{seq}
 use Rattle.snesl_operators.specs.Operators.{type_of, unary_operand, binary_operand, binary_result}
-use Rattle.snesl_operators.specs.declared.scalar.Scalar.{Scalar}
-use Rattle.snesl_operators.specs.declared.operator.Reduction.{Reduction}
-use Rattle.flow_edges.specs.Cells.{Cell}
 use Rattle.flow_edges.specs.declared.message.Kind.{Kind}
 use Rattle.flow_edges.specs.declared.message.Kind.TheVariants.{Unit as UnitKind, Bool as BoolKind, Int as IntKind, Vec as VecKind}
 use Rattle.flow_base.specs.Nodes.{opened}
 use Rattle.flow_scalar.specs.Scalars.{kind_of_type}
-use Rattle.flow_scalar.specs.Streams.{Items}
-use Rattle.flow_scalar.specs.SourceBehaviour.{source_opened}
 use Rattle.flow_scalar.specs.ForkMachine.{ForkPorts, fork_ports, fork_machine}
 use Rattle.flow_scalar.specs.IotaMachine.{iota_kind_out}
 use Rattle.flow_scalar.specs.ScanAddMachine.{scan_add_kind_in}
@@ -28,7 +22,7 @@ use Rattle.flow_rows.specs.RowsAreFunctions.{RowsAreFunctions}
 use Rattle.flow_nodes.specs.StreamNodes.{NodeKind, member, node_behaviour, a_fork}
 use Rattle.flow_plans.specs.Plans.{Operation, source, const, unary, binary, iota, units_of, scan_add, reduce, length_of, dist, pack, pack_groups, flag_of_bool, same_flags, concat_flags, part_flags, the_check, append_flags, interleave, interleave_groups, print, tab, seq_of, index, fork, sink}
 use Rattle.flow_plans.specs.Layouts.{Performs}
-use Rattle.flow_assembly.specs.Openings.{Opens, IsUsable, OpeningsPerform}
+use Rattle.flow_assembly.specs.Openings.{Opens, IsUsable}
 
 -- the kinds at no port, at one, and so on, by a function of the port
 none_at : (f : ℕ → Kind) (p : ℕ) → p < 0 → slice_get {X = Kind} [] p ≡ Some (f p)

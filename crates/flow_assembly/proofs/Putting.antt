@@ -1,7 +1,7 @@
 -- What is put behind a stream: a Sink, nothing, or a Fork.
-use Rattle.std.specs.Prelude.{◌≡◌, ℕ, zero, suc, ◌+◌, ◌<◌, ◌≤◌, ◌^◌, ◌==◌, ◌⊎◌, List, [], ◌∷◌, ◌++◌, length, drop, replicate, Option, Some, refl, nat_lt, if◌then◌else◌}
+use Rattle.std.specs.Prelude.{◌≡◌, ℕ, zero, suc, ◌+◌, ◌<◌, ◌≤◌, ◌^◌, ◌==◌, ◌⊎◌, List, [], ◌∷◌, ◌++◌, length, drop, replicate, Some, refl, if◌then◌else◌}
 use Rattle.std.specs.List.{slice_get}
-use Rattle.std.proofs.Common.{sym, ◌∙◌, ap, subst, arith, inl, inr, get_or, set, get_or-set_same, get_or-set_other}
+use Rattle.std.proofs.Common.{sym, ◌∙◌, ap, subst, arith, inl, inr, set, get_or-set_same, get_or-set_other}
 use Rattle.std.proofs.lemmas.Bool.{cases_eq, cases_lt}
 use Rattle.std.proofs.lemmas.Bool.Decides.{nat_tests}
 use Rattle.std.proofs.lemmas.List.{length_push, length-set}
@@ -19,10 +19,10 @@ use Rattle.flow_assembly.specs.Openings.{Opens, OpeningsPerform}
 use Rattle.flow_assembly.specs.Joined.{supplier, edge_from, port_after, IsJoinedTo}
 use Rattle.flow_assembly.specs.declared.plan.Plan.{Plan}
 use Rattle.flow_assembly.specs.Ready.{plan_of, left_before, ComeNext, IsPutTo, IsWithin, IsTooBig}
-use Rattle.flow_assembly.proofs.Fitting.{FitsKinds, bound, some_same}
+use Rattle.flow_assembly.proofs.Fitting.{FitsKinds, some_same}
 use Rattle.flow_assembly.proofs.Laying.{layout_fits, steps_usable}
 use Rattle.flow_assembly.proofs.Limiting.{node_within, edge_within, too_many_nodes, too_many_behind}
-use Rattle.flow_assembly.proofs.Joining.{added, may_join, joined, passed, relabelled, IsAmong, IsSame, IsFresh}
+use Rattle.flow_assembly.proofs.Joining.{added, may_join, joined, passed, relabelled, IsAmong, IsFresh}
 
 abbrev State : Type 0
 State = (t : NodeKind) × (member t).State

@@ -1,30 +1,26 @@
 -- One step of a plan in its network: its reads, its streams, and what stands behind them.
-use Rattle.std.specs.Prelude.{◌≡◌, ℕ, zero, suc, ◌+◌, ◌<◌, ◌≤◌, ◌^◌, ◌==◌, List, [], ◌∷◌, ◌++◌, length, map, take, drop, Option, Some, refl, nat_lt, if◌then◌else◌}
-use Rattle.std.specs.List.{slice_get, range_with_len}
-use Rattle.std.proofs.Common.{sym, ◌∙◌, ap, subst, arith, inl, inr, get_or, set, append_assoc}
-use Rattle.std.proofs.lemmas.Bool.{cases_eq, cases_lt}
+use Rattle.std.specs.Prelude.{◌≡◌, ℕ, zero, suc, ◌+◌, ◌<◌, ◌≤◌, List, [], ◌∷◌, ◌++◌, length, drop, Some, refl}
+use Rattle.std.specs.List.{slice_get}
+use Rattle.std.proofs.Common.{sym, ◌∙◌, ap, subst, arith, get_or, set}
+use Rattle.std.proofs.Math.ListN.{drop_of_length-le}
 use Rattle.std.proofs.lemmas.Bool.Decides.{nat_tests}
-use Rattle.std.proofs.lemmas.List.{length_push, length-append, get_or_append_left}
-use Rattle.std.proofs.lemmas.Option.{slice_get-get_or, slice_get_within}
-use Rattle.std.proofs.Math.Seq.{drop-cons, drop-append_seam}
+use Rattle.std.proofs.lemmas.List.{length-append}
+use Rattle.std.proofs.Math.Seq.{drop-cons}
 use Rattle.flow_edges.specs.declared.message.Kind.{Kind}
 use Rattle.flow_graph.specs.declared.edge.Edge.{Edge}
-use Rattle.flow_graph.specs.Limits.{most_nodes, most_edges}
+use Rattle.flow_graph.specs.Limits.{most_edges}
 use Rattle.flow_graph.specs.Networks.{MayJoin}
 use Rattle.flow_nodes.specs.StreamNodes.{NodeKind, member, node_behaviour}
-use Rattle.flow_rows.specs.Lists.{bind, each}
 use Rattle.flow_plans.specs.Plans.{Step}
-use Rattle.flow_plans.specs.Ports.{kinds_read, kinds_written, AreWired, kinds_after}
-use Rattle.flow_plans.specs.Layouts.{Placed, times, uses, behind, numbered, all_behind, layout, layout_from, places, places_from, stream_from, stream_to, Performs}
+use Rattle.flow_plans.specs.Layouts.{Placed, times, uses, behind, all_behind, layout, stream_to}
 use Rattle.flow_assembly.specs.declared.network.Port.{Port}
-use Rattle.flow_assembly.specs.Openings.{Opens, OpeningsPerform}
+use Rattle.flow_assembly.specs.Openings.{OpeningsPerform}
 use Rattle.flow_assembly.specs.Joined.{supplier, edge_from, port_after, IsJoinedTo}
-use Rattle.flow_assembly.specs.Ready.{left_before, ports_of, ComeNext, IsPutTo, IsWithin, IsBuiltTo, WritesKinds}
-use Rattle.flow_assembly.proofs.Fitting.{FitsKinds, bound, changed, some_same, each_at, each_length, stands_at}
+use Rattle.flow_assembly.specs.Ready.{ComeNext, IsWithin}
+use Rattle.flow_assembly.proofs.Fitting.{FitsKinds}
 use Rattle.flow_assembly.proofs.Laying.{get_front, get_back}
-use Rattle.flow_assembly.proofs.Limiting.{node_within, edge_within}
-use Rattle.flow_assembly.proofs.Putting.{left_done, left_to_come}
-use Rattle.flow_assembly.proofs.Joining.{added, may_join, joined, passed, relabelled, IsAmong, IsSame, IsFresh}
+use Rattle.flow_assembly.proofs.Limiting.{edge_within}
+use Rattle.flow_assembly.proofs.Joining.{may_join, joined, relabelled}
 
 abbrev State : Type 0
 State = (t : NodeKind) × (member t).State
@@ -66,6 +62,19 @@ module _ (plan : List Step) (rest : ℕ → ℕ) (reads : List ℕ) (p node : �
       (subst (λ x. IsJoinedTo (layout plan) (λ s. times s (drop (p + 1) reads) + rest s) (set supply (get_or reads p 0) (port_after (supplier supply (get_or reads p 0)))) node (p + 1) states x) (sym three)
       (joined (layout plan) (λ s. times s (drop p reads) + rest s) supply node p states edges is (λ s. times s (drop (p + 1) reads) + rest s) (get_or reads p 0) there to
       (omega (arith, read_one reads p lt)) (λ t ne. ap (λ n. n + rest t) (read_others reads p lt t ne)))))
+
+-- all are read
+module _ (plan : List Step) (reads : List ℕ) (p : ℕ) (states : List State) (edges : List Edge) (le : length reads ≤ p) where
+  pub read_all : (rest : ℕ → ℕ) (node : ℕ) (supply : List Port) → p ≤ length reads → IsJoinedTo (layout plan) (λ s. times s (drop p reads) + rest s) supply node p states edges
+      → IsJoinedTo (layout plan) rest supply node (length reads) states edges
+  read_all rest node supply ge is =
+      let same : p ≡ length reads = omega arith in
+      let none : drop p reads ≡ [] = drop_of_length-le reads le in
+      subst (λ q. IsJoinedTo (layout plan) rest supply node q states edges) same
+      (relabelled (layout plan) (λ s. times s (drop p reads) + rest s) rest supply node p states edges is (λ t lt. omega (arith, ap (times t) none)))
+
+  pub all_within : IsWithin plan states edges (length (drop p reads)) → IsWithin plan states edges 0
+  all_within = subst (λ l. IsWithin plan states edges (length l)) (drop_of_length-le reads le)
 
 pub read_within : (plan : List Step) (reads : List ℕ) (p : ℕ) (states states2 : List State) (edges edges2 : List Edge) (edge : Edge) → p < length reads → IsWithin plan states edges (length (drop p reads)) → (length edges ≡ most_edges → ⊥)
     → states2 ≡ states → edges2 ≡ edges ++ edge ∷ [] → IsWithin plan states2 edges2 (length (drop (p + 1) reads))

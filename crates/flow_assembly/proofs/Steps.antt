@@ -1,8 +1,8 @@
 -- One step of a plan that is built so far.
-use Rattle.std.specs.Prelude.{◌≡◌, ℕ, zero, suc, ◌+◌, ◌-◌, ◌<◌, ◌≤◌, ◌^◌, ◌==◌, ◌⊎◌, List, [], ◌∷◌, ◌++◌, length, map, take, drop, Option, Some, option_map, refl, nat_lt, if◌then◌else◌}
-use Rattle.std.specs.List.{slice_get, range_with_len}
-use Rattle.std.proofs.Common.{sym, ◌∙◌, ap, subst, arith, inl, inr, get_or, append_assoc}
-use Rattle.std.proofs.lemmas.Bool.{cases_eq, cases_lt}
+use Rattle.std.specs.Prelude.{◌≡◌, ℕ, zero, suc, ◌+◌, ◌-◌, ◌<◌, ◌≤◌, ◌^◌, ◌⊎◌, List, [], ◌∷◌, ◌++◌, length, take, drop, Some, option_map, refl}
+use Rattle.std.specs.List.{slice_get}
+use Rattle.std.proofs.Common.{sym, ◌∙◌, ap, subst, arith, inl, inr, append_assoc}
+use Rattle.std.proofs.lemmas.Bool.{cases_lt}
 use Rattle.std.proofs.lemmas.Bool.Decides.{nat_tests}
 use Rattle.std.proofs.lemmas.List.{length_push, length-append, length-drop, get_or_append_left, get_or-append-add}
 use Rattle.std.proofs.lemmas.List.FromFn.{get_or-map-range_with_len, length-map-range_with_len}
@@ -10,12 +10,12 @@ use Rattle.std.proofs.lemmas.Option.{slice_get_within}
 use Rattle.std.proofs.Math.Seq.{drop-append_seam}
 use Rattle.flow_edges.specs.declared.message.Kind.{Kind}
 use Rattle.flow_graph.specs.declared.edge.Edge.{Edge}
-use Rattle.flow_graph.specs.Limits.{most_nodes, most_edges}
+use Rattle.flow_graph.specs.Limits.{most_nodes}
 use Rattle.flow_nodes.specs.StreamNodes.{NodeKind, member, node_behaviour}
 use Rattle.flow_rows.specs.Lists.{bind, each}
 use Rattle.flow_plans.specs.Plans.{Step}
 use Rattle.flow_plans.specs.Ports.{kinds_read, kinds_written, AreWired, kinds_after}
-use Rattle.flow_plans.specs.Layouts.{Placed, times, uses, numbered, all_behind, layout, layout_from, places, places_from, stream_from, stream_to, Performs}
+use Rattle.flow_plans.specs.Layouts.{Placed, times, uses, numbered, all_behind, layout, layout_from, places_from, stream_from, stream_to, Performs}
 use Rattle.flow_assembly.specs.declared.network.Port.{Port}
 use Rattle.flow_assembly.specs.Openings.{Opens}
 use Rattle.flow_assembly.specs.Joined.{supplier, IsJoinedTo}

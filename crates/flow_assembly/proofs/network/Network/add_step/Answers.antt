@@ -1,16 +1,17 @@
-use Rattle.std.proofs.Common.{◌≡◌, ◌+◌, ◌∙◌, sym, ap, arith, length, ◌≤◌}
+use Rattle.std.proofs.Common.{◌≡◌, ◌+◌, ◌∙◌, refl, inr, sym, ap, arith, length}
 use Rattle.std.proofs.lemmas.List.{length_push, length-append}
 use Rattle.flow_graph.specs.Graphs.{states_so_far, edges_so_far}
 use Rattle.flow_nodes.specs.StreamNodes.{state_of}
 use Rattle.flow_plans.specs.Layouts.{all_behind}
 use Rattle.flow_plans.specs.Ports.{kinds_written}
 use Rattle.flow_plans.specs.Views.{operation_of, step_of}
-use Rattle.snesl_values.specs.declared.refusal.Refusal.TheVariants.{TooBig}
+use Rattle.snesl_values.specs.declared.refusal.Refusal.TheVariants.{TooBig, NoMemory}
 use Rattle.flow_assembly.specs.Ready.{plan_of, ports_of}
 use Rattle.flow_assembly.proofs.Counting.{step_now}
 use Rattle.flow_assembly.proofs.Fitting.{passed_on}
 use Rattle.flow_assembly.proofs.Limiting.{too_many_nodes}
 use Rattle.flow_assembly.proofs.Putting.{plan_fits}
+use Rattle.flow_assembly.proofs.Refused.{none_done, same_error, not_big}
 use Rattle.flow_assembly.proofs.Steps.{same_kinds, placed, placed_at, step_reads, step_there, step_within, step_joined, step_later, step_found, step_next, step_put, step_inside, step_built, ports_length}
 use Rattle.flow_assembly.proofs.network.Network.add_step.Goals as goal
 
@@ -74,3 +75,43 @@ returns-clause-built c =
     (c.in_ok-put_all_behind.ensures.nodes ∙ ap (λ n. n + length (all_behind (plan_of c.args.plan.now) c.index-step.result.now.at c.len-first.result c.deref-2.result.now)) (ap length states ∙ length_push (states_so_far c.args.self.now.builder) (state_of c.in_ok-node.node)))
     (omega (arith, c.in_ok-put_all_behind.ensures.supply, ap length c.in_ok-add_streams.ensures.supply, length-append c.read_streams.new.self.supply.items (ports_of c.in_ok-place.place c.len.result), ports_length c.in_ok-place.place c.len.result, c.in_ok-read_streams.ensures.supply, c.len.ensures, c.in_ok-kinds.kinds.ok.0, ap length kinds))
     (c.in_ok-put_all_behind.ensures.places ∙ c.in_ok-add_streams.ensures.places ∙ c.in_ok-read_streams.ensures.places ∙ c.in_ok-push.ensures.items)
+
+pub returns-in_err-node : goal.returns-in_err-node
+returns-in_err-node c =
+    let r = c.from_residual.result in
+    record { built = none_done _ r c.from_residual.ensures.0; big = not_big r c.from_residual.ensures.1; memory = same_error _ r NoMemory c.from_residual.ensures.1 (inr refl) }
+
+pub returns-in_err-kinds : goal.returns-in_err-kinds
+returns-in_err-kinds c =
+    let r = c.from_residual-in_err-kinds.result in
+    record { built = none_done _ r c.from_residual-in_err-kinds.ensures.0; big = not_big r c.from_residual-in_err-kinds.ensures.1; memory = same_error _ r NoMemory c.from_residual-in_err-kinds.ensures.1 (inr refl) }
+
+pub returns-in_err-push : goal.returns-in_err-push
+returns-in_err-push c =
+    let r = c.from_residual-in_err-push.result in
+    record { built = none_done _ r c.from_residual-in_err-push.ensures.0; big = not_big r c.from_residual-in_err-push.ensures.1; memory = same_error _ r NoMemory c.from_residual-in_err-push.ensures.1 (inr refl) }
+
+pub returns-in_err-add_streams : goal.returns-in_err-add_streams
+returns-in_err-add_streams c =
+    let r = c.from_residual-in_err-add_streams.result in
+    record { built = none_done _ r c.from_residual-in_err-add_streams.ensures.0; big = not_big r c.from_residual-in_err-add_streams.ensures.1; memory = same_error _ r NoMemory c.from_residual-in_err-add_streams.ensures.1 (inr refl) }
+
+pub returns-in_err-read_streams : goal.returns-in_err-read_streams
+returns-in_err-read_streams c =
+    let r = c.from_residual-in_err-read_streams.result in
+    let x = c.in_err-read_streams.field-0.0 in
+    record {
+      built = none_done _ r c.from_residual-in_err-read_streams.ensures.0;
+      big = λ e. c.in_err-read_streams.ensures.big (passed_on r x TooBig c.from_residual-in_err-read_streams.ensures.1 e);
+      memory = same_error _ r x c.from_residual-in_err-read_streams.ensures.1 c.in_err-read_streams.ensures.memory;
+    }
+
+pub returns-in_err-put_all_behind : goal.returns-in_err-put_all_behind
+returns-in_err-put_all_behind c =
+    let r = c.from_residual-in_err-put_all_behind.result in
+    let x = c.in_err-put_all_behind.field-0.0 in
+    record {
+      built = none_done _ r c.from_residual-in_err-put_all_behind.ensures.0;
+      big = λ e. c.in_err-put_all_behind.ensures.big (passed_on r x TooBig c.from_residual-in_err-put_all_behind.ensures.1 e);
+      memory = same_error _ r x c.from_residual-in_err-put_all_behind.ensures.1 c.in_err-put_all_behind.ensures.memory;
+    }
