@@ -1,6 +1,8 @@
 pub mod Visits
 pub mod Graphs
 pub mod Passes
+pub mod Refused
+pub mod Dropped
 pub mod Rests
 pub mod Texts
 pub mod Holding

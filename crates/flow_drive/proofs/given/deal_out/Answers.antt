@@ -4,6 +4,7 @@ use Rattle.flow_graph.specs.Graphs.{states_of}
 use Rattle.flow_graph.specs.Layouts.{nodes_of}
 use Rattle.flow_graph.specs.Places.{placed_state}
 use Rattle.flow_opening.specs.Deals.{IsDealt}
+use Rattle.flow_drive.proofs.Refused.{nothing_made}
 use Rattle.flow_drive.proofs.given.deal_out.Goals as goal
 
 pub returns-clause-given : goal.returns-clause-given
@@ -25,3 +26,25 @@ returns-clause-dealt g c =
     let dealt = c.in_ok-dealt.dealt in
     subst (λ graph. IsDealt joins places graph config.sharing.threads share config.capacity dealt) (sym c.of-given.ensures)
     (subst (λ s. IsDealt joins places c.args.graph config.sharing.threads s config.capacity dealt) c.deref-2.ensures.value c.in_ok-dealt.ensures)
+
+pub returns-in_err-share : goal.returns-in_err-share
+returns-in_err-share g c =
+    let r = c.from_residual.result in
+    let h = c.from_residual.ensures.1 in
+    record {
+      graph = nothing_made r _ _ h;
+      capacity = nothing_made r _ _ h;
+      given = nothing_made r _ _ h;
+      dealt = nothing_made r _ _ h;
+    }
+
+pub returns-in_err-dealt : goal.returns-in_err-dealt
+returns-in_err-dealt g c =
+    let r = c.from_residual-in_err-dealt.result in
+    let h = c.from_residual-in_err-dealt.ensures.1 in
+    record {
+      graph = nothing_made r _ _ h;
+      capacity = nothing_made r _ _ h;
+      given = nothing_made r _ _ h;
+      dealt = nothing_made r _ _ h;
+    }

@@ -13,6 +13,7 @@ use Rattle.flow_opening.specs.Settings.{view_at, moved_by}
 use Rattle.flow_opening.proofs.Lists.{mapped_twice}
 use Rattle.flow_epochs.proofs.Gathers.{have_rested}
 use Rattle.flow_drive.specs.Edges.{seen_by}
+use Rattle.flow_drive.proofs.Refused.{nothing_made}
 use Rattle.flow_drive.proofs.Gathered.{are_joined, rings_sound, rings_rest, rings_moved}
 use Rattle.flow_drive.proofs.joined.run_dealt.Goals as goal
 
@@ -61,3 +62,29 @@ returns-clause-most g c =
     let rest = have_rested g.setting c.in_ok-shares.shares.items made.graph made.sound made.rest made.met (states_of graph) c.in_ok-graph.ensures.states joined.ends.items taken refl in
     rings_moved g.setting graph joined network rest (ap (λ share. share.items) c.new-joined.ensures.share ∙ given.share) (c.new-joined.ensures.capacity ∙ given.capacity) (λ n. count ≤ n + 1)
     (subst (λ v. count ≤ moved_by g.setting v + 1) (rings_seen c.in_ok-shares.shares.items joined.ends.items taken refl) (omega (arith, made.most)))
+
+pub returns-in_err-shares : goal.returns-in_err-shares
+returns-in_err-shares g c =
+    let r = c.from_residual.result in
+    let h = c.from_residual.ensures.1 in
+    record {
+      network = nothing_made r _ _ h;
+      capacity = nothing_made r _ _ h;
+      rounds = nothing_made r _ _ h;
+      some = nothing_made r _ _ h;
+      most = nothing_made r _ _ h;
+      rings = nothing_made r _ _ h;
+    }
+
+pub returns-in_err-graph : goal.returns-in_err-graph
+returns-in_err-graph g c =
+    let r = c.from_residual-in_err-graph.result in
+    let h = c.from_residual-in_err-graph.ensures.1 in
+    record {
+      network = nothing_made r _ _ h;
+      capacity = nothing_made r _ _ h;
+      rounds = nothing_made r _ _ h;
+      some = nothing_made r _ _ h;
+      most = nothing_made r _ _ h;
+      rings = nothing_made r _ _ h;
+    }

@@ -5,6 +5,7 @@ use Rattle.flow_round_laws.specs.Joints.{views_of}
 use Rattle.flow_opening.specs.Settings.{moved_by}
 use Rattle.flow_rounds.proofs.Meets.{seen_is}
 use Rattle.flow_rounds.proofs.Gathers.{come_to_rest}
+use Rattle.flow_drive.proofs.Refused.{nothing_made}
 use Rattle.flow_drive.proofs.Gathered.{are_there, run, boxes_moved, sound, rests}
 use Rattle.flow_drive.proofs.rounds.run_dealt.Goals as goal
 
@@ -54,3 +55,29 @@ returns-clause-most g c =
     let rest = come_to_rest g.setting shares c.in_ok-shares.ensures.rest (states_of graph) c.in_ok-graph.ensures.states shared.ends.items taken in
     boxes_moved g.setting graph shared c.in_ok-graph.ensures.network rest (ap (λ share. share.items) c.new-shared.ensures.share ∙ given.share) (c.new-shared.ensures.capacity ∙ given.capacity) (λ n. count ≤ n + 1)
     (subst (λ v. count ≤ moved_by g.setting (views_of v) + 1) (sym (seen_is shares shared.ends.items taken)) (omega (arith, c.in_ok-shares.ensures.most)))
+
+pub returns-in_err-shares : goal.returns-in_err-shares
+returns-in_err-shares g c =
+    let r = c.from_residual.result in
+    let h = c.from_residual.ensures.1 in
+    record {
+      network = nothing_made r _ _ h;
+      capacity = nothing_made r _ _ h;
+      run = nothing_made r _ _ h;
+      some = nothing_made r _ _ h;
+      most = nothing_made r _ _ h;
+      epochs = nothing_made r _ _ h;
+    }
+
+pub returns-in_err-graph : goal.returns-in_err-graph
+returns-in_err-graph g c =
+    let r = c.from_residual-in_err-graph.result in
+    let h = c.from_residual-in_err-graph.ensures.1 in
+    record {
+      network = nothing_made r _ _ h;
+      capacity = nothing_made r _ _ h;
+      run = nothing_made r _ _ h;
+      some = nothing_made r _ _ h;
+      most = nothing_made r _ _ h;
+      epochs = nothing_made r _ _ h;
+    }
