@@ -5,3 +5,4 @@ pub mod More
 pub mod Parted
 pub mod Fits
 pub mod Shares
+pub mod Refused

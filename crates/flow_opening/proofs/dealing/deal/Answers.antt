@@ -8,6 +8,7 @@ use Rattle.flow_opening.specs.Open.{AreWires, AreFreshEnds}
 use Rattle.flow_opening.specs.Deals.{MakeAShare, nodes_in}
 use Rattle.flow_opening.proofs.Lists.{all_zipped}
 use Rattle.flow_opening.proofs.Fits.{make_a_share}
+use Rattle.flow_opening.proofs.Refused.{none_given}
 use Rattle.flow_opening.proofs.dealing.deal.Goals as goal
 
 pub make_shares-requires : goal.make_shares-requires
@@ -48,3 +49,15 @@ returns g c =
           subst (λ ws. AreFreshEnds view g.E.Meeting.joins g.E.Meeting.places ws c.args.capacity c.in_ok-ends.ends.items) c.deref.ensures.value c.in_ok-ends.ensures.opened
           );
     }
+
+pub returns-in_err-wires : goal.returns-in_err-wires
+returns-in_err-wires g c = none_given _ c.from_residual.result c.from_residual.ensures.0
+
+pub returns-in_err-ends : goal.returns-in_err-ends
+returns-in_err-ends g c = none_given _ c.from_residual-in_err-ends.result c.from_residual-in_err-ends.ensures.0
+
+pub returns-in_err-nodes : goal.returns-in_err-nodes
+returns-in_err-nodes g c = none_given _ c.from_residual-in_err-nodes.result c.from_residual-in_err-nodes.ensures.0
+
+pub returns-in_err-shares : goal.returns-in_err-shares
+returns-in_err-shares g c = none_given _ c.from_residual-in_err-shares.result c.from_residual-in_err-shares.ensures.0

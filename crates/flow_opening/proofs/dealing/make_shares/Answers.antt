@@ -1,6 +1,7 @@
 use Rattle.std.proofs.Common.{rules, ◌≡◌, ◌∷◌, ap, arith}
 use Rattle.flow_deal.specs.Deals.{lists_in}
 use Rattle.flow_opening.proofs.Shares.{one_more, new_more}
+use Rattle.flow_opening.proofs.Refused.{none_given}
 use Rattle.flow_opening.proofs.dealing.make_shares.Goals as goal
 
 pub loop-nodes-preserved : goal.loop-nodes-preserved
@@ -20,3 +21,9 @@ loop-nodes-preserved g c =
       ends = one_more (λ share. share.ends) shares later share c.loop-nodes.ends.rest.items c.next-in-loop-nodes.new.self.rest.items c.in-Some-next.ends c.args.ends.items pushed ends made.ends inv.ends;
       new = new_more shares later share pushed (omega (arith, made.number, c.len-number.ensures, c.loop-nodes.shares.ok.0)) (record { spent = made.spent; starved = made.starved; moved = made.moved }) inv.new;
     }
+
+pub returns-in_err-shares : goal.returns-in_err-shares
+returns-in_err-shares g c = record { nodes = none_given _ c.from_residual.result c.from_residual.ensures.0; ends = none_given _ c.from_residual.result c.from_residual.ensures.0; new = none_given _ c.from_residual.result c.from_residual.ensures.0 }
+
+pub returns-in_err-push-in-Some-next : goal.returns-in_err-push-in-Some-next
+returns-in_err-push-in-Some-next g c = record { nodes = none_given _ c.from_residual-in_err-push-in-Some-next.result c.from_residual-in_err-push-in-Some-next.ensures.0; ends = none_given _ c.from_residual-in_err-push-in-Some-next.result c.from_residual-in_err-push-in-Some-next.ensures.0; new = none_given _ c.from_residual-in_err-push-in-Some-next.result c.from_residual-in_err-push-in-Some-next.ensures.0 }

@@ -7,6 +7,7 @@ use Rattle.flow_opening.specs.Opens.{OpensAt}
 use Rattle.flow_opening.specs.Open.{AreFreshEnds}
 use Rattle.flow_opening.proofs.Lists.{written_back}
 use Rattle.flow_opening.proofs.More.{open_more}
+use Rattle.flow_opening.proofs.Refused.{none_given}
 use Rattle.flow_opening.proofs.everywhere.open_all.Goals as goal
 
 pub loop-edge-preserved : goal.loop-edge-preserved
@@ -50,3 +51,9 @@ loop-edge-preserved g c =
           (subst (λ l. AreFreshEnds view joins places (take n wires) capacity l) (sym value) inv.opened)
           ));
     }
+
+pub returns-in_err-ends : goal.returns-in_err-ends
+returns-in_err-ends g c = record { count = none_given _ c.from_residual.result c.from_residual.ensures.0; opened = none_given _ c.from_residual.result c.from_residual.ensures.0 }
+
+pub returns-in_err-open_edge : goal.returns-in_err-open_edge
+returns-in_err-open_edge g c = record { count = none_given _ c.from_residual-in_err-open_edge.result c.from_residual-in_err-open_edge.ensures.0; opened = none_given _ c.from_residual-in_err-open_edge.result c.from_residual-in_err-open_edge.ensures.0 }
