@@ -1,3 +1,4 @@
+pub mod Pushed
 pub mod Lists
 pub mod Meets
 pub mod Pumps
