@@ -1,10 +1,7 @@
 -- What a result says of a configuration that is lawful.
 use Rattle.std.proofs.Common.{◌≡◌, ◌↔◌, Result, Ok, Err, IfOk, IsErrAnd}
-use Rattle.flow_workers.specs.declared.error.WorkError.{WorkError}
-use Rattle.flow_workers.specs.declared.error.WorkError.TheVariants.{NoMemory as no_memory, NoThread as no_thread}
 use Rattle.flow_drive.specs.declared.driver.DriveError.{DriveError}
-use Rattle.flow_drive.specs.declared.driver.DriveError.TheVariants.{BadConfig, Short}
-use Rattle.flow_drive.specs.Refusals.{refused_work}
+use Rattle.flow_drive.specs.declared.driver.DriveError.TheVariants.{BadConfig}
 
 -- a refusal promises nothing of what is made
 pub nothing_made : {A E : Type 0} (r : Result A E) (Is : E → Type 0) (P : A → Type 0) → IsErrAnd r Is → IfOk r P
@@ -17,22 +14,14 @@ module _ {A : Type 0} where
   is_refused (Err g) e f h is = cc
 
   -- it is refused as something else
-  pub other_refusal : (r : Result A DriveError) (e f : DriveError) → IsErrAnd r (λ g. g ≡ e) → (e ≡ f → ⊥) → r ≡ Err f → ⊥
+  other_refusal : (r : Result A DriveError) (e f : DriveError) → IsErrAnd r (λ g. g ≡ e) → (e ≡ f → ⊥) → r ≡ Err f → ⊥
   other_refusal r e f h other is = other (is_refused r e f h is)
 
   pub refused_else : (r : Result A DriveError) (e : DriveError) (Lawful : Type 0) → Lawful → IsErrAnd r (λ g. g ≡ e) → (e ≡ BadConfig → ⊥) → (r ≡ Err BadConfig) ↔ (Lawful → ⊥)
   refused_else r e Lawful lawful h other = (λ is _. other_refusal r e BadConfig h other is, λ no. absurd (no lawful))
 
-  pub made_is_no_refusal : (x : A) (e : DriveError) → Ok x ≡ Err e → ⊥
+  made_is_no_refusal : (x : A) (e : DriveError) → Ok x ≡ Err e → ⊥
   made_is_no_refusal x e is = cc
 
   pub made_lawful : (x : A) (Lawful : Type 0) → Lawful → (Ok x ≡ Err BadConfig) ↔ (Lawful → ⊥)
   made_lawful x Lawful lawful = (λ is _. made_is_no_refusal x BadConfig is, λ no. absurd (no lawful))
-
-pub work_not_bad : (w : WorkError) → refused_work w ≡ BadConfig → ⊥
-work_not_bad no_memory is = cc
-work_not_bad no_thread is = cc
-
-pub work_not_short : (w : WorkError) → refused_work w ≡ Short → ⊥
-work_not_short no_memory is = cc
-work_not_short no_thread is = cc
