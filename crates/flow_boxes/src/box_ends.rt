@@ -70,6 +70,7 @@ impl Ends for Boxes {
         matches!(self.inboxes.get(edge), Some(Some(_)))
     }
 
+    #[inline(always)]
     fn room(&mut self, edge: usize) -> bool {
         match &self.outboxes[edge] {
             Some(outbox) => outbox.room > 0,
@@ -77,6 +78,7 @@ impl Ends for Boxes {
         }
     }
 
+    #[inline(always)]
     fn ready(&mut self, edge: usize) -> bool {
         match &self.inboxes[edge] {
             Some(inbox) => !inbox.queue.is_empty(),
@@ -84,6 +86,7 @@ impl Ends for Boxes {
         }
     }
 
+    #[inline(always)]
     fn put(&mut self, edge: usize, message: Msg) -> Result<(), Refused> {
         match &mut self.outboxes[edge] {
             Some(outbox) => outbox.put(message),
@@ -91,6 +94,7 @@ impl Ends for Boxes {
         }
     }
 
+    #[inline(always)]
     fn take(&mut self, edge: usize) -> Option<Msg> {
         match &mut self.inboxes[edge] {
             Some(inbox) => inbox.take(),

@@ -33,6 +33,7 @@ impl Inbox {
     }
 
     /// Takes the oldest message.
+    #[inline(always)]
     pub fn take(&mut self) -> Option<Msg>
         ensures reserved { deque_capacity self.new.queue ≡ deque_capacity self.old.queue }
         ensures some { IfSome result (λ m. (self.new.received.items ≡ self.old.received.items ++ m ∷ []) × (self.old.queue.items ≡ m ∷ self.new.queue.items)) }

@@ -46,6 +46,7 @@ impl Outbox {
     }
 
     /// Puts a message behind all others, or gives it back.
+    #[inline(always)]
     #[tactic(auto, using(flow_edges::proofs::Signals::signal_steps))]
     pub fn put(&mut self, message: Msg) -> Result<(), Refused>
         ensures reserved { deque_capacity self.new.queue ≡ deque_capacity self.old.queue }

@@ -10,6 +10,7 @@ use flow_edges::Msg;
 impl EdgeReader {
     /// Takes the oldest message that was not taken, or none where none is certain to be there.
     /// Nothing is taken behind an `End`.
+    #[inline(always)]
     pub fn take(&mut self) -> Option<Msg>
         ensures same { SameReader self.old self.new }
         ensures some { IfSome result (λ m. (received self.new ≡ received self.old ++ m ∷ []) × IsPrefix (certain_held self.old) (m ∷ certain_held self.new)) }
@@ -23,6 +24,7 @@ impl EdgeReader {
     }
 
     /// Whether the edge is certain to hold a message. Only the writer adds more.
+    #[inline(always)]
     pub fn ready(&mut self) -> bool
         ensures same { SameReader self.old self.new }
         ensures looked { (received self.new ≡ received self.old) × IsPrefix (certain_held self.old) (certain_held self.new) }

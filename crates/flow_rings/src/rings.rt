@@ -36,6 +36,7 @@ impl Ends for Rings {
         }
     }
 
+    #[inline(always)]
     fn room(&mut self, edge: usize) -> bool {
         match &mut self.writers[edge] {
             Some(writer) => writer.room(),
@@ -43,6 +44,7 @@ impl Ends for Rings {
         }
     }
 
+    #[inline(always)]
     fn ready(&mut self, edge: usize) -> bool {
         match &mut self.readers[edge] {
             Some(reader) => reader.ready(),
@@ -50,6 +52,7 @@ impl Ends for Rings {
         }
     }
 
+    #[inline(always)]
     fn put(&mut self, edge: usize, message: Msg) -> Result<(), Refused> {
         match &mut self.writers[edge] {
             Some(writer) => writer.put(message),
@@ -57,6 +60,7 @@ impl Ends for Rings {
         }
     }
 
+    #[inline(always)]
     fn take(&mut self, edge: usize) -> Option<Msg> {
         match &mut self.readers[edge] {
             Some(reader) => reader.take(),

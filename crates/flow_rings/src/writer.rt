@@ -13,6 +13,7 @@ impl EdgeWriter {
     ///
     /// It is refused as `Closed` exactly where `End` was put on the edge before, and as `Full` only
     /// where no room is certain. Then nothing was put, and the message comes back.
+    #[inline(always)]
     #[tactic(auto, using(crate::proofs::Lists::list_steps))]
     pub fn put(&mut self, message: Msg) -> Result<(), Refused>
         ensures same { SameWriter self.old self.new }
@@ -43,6 +44,7 @@ impl EdgeWriter {
     }
 
     /// Whether the edge is certain to have room for one more message. Only the reader makes more.
+    #[inline(always)]
     pub fn room(&mut self) -> bool
         ensures same { SameWriter self.old self.new }
         ensures looked { (sent self.new ≡ sent self.old) × (certain_room self.old ≤ certain_room self.new) }

@@ -31,6 +31,7 @@ enum Count {
 
 impl Count {
     // Where one element more leads after so many. A count over the range of the dialect stays over it.
+    #[inline(always)]
     fn after_element(dialect: Dialect, count: u128) -> Count
         ensures { result ≡ Count.Counting (one_more dialect count) }
     {
@@ -38,6 +39,7 @@ impl Count {
     }
 
     // Where the end of a segment leads after so many elements.
+    #[inline(always)]
     fn after_end(dialect: Dialect, count: u128) -> Result<Count, FaultKind>
         ensures { result ≡ length_ended dialect count }
     {
@@ -77,6 +79,7 @@ impl Worker for Length {
 
     ghost laws = { length_laws };
 
+    #[inline(always)]
     fn ask(&self) -> Ask {
         match self.count {
             Count::Counting(0) => Ask::Begin,
@@ -101,6 +104,7 @@ impl Worker for Length {
         Kind::Int
     }
 
+    #[inline(always)]
     fn take(&mut self, item: Item) -> Result<(), Stop> {
         self.count = match (self.count, item) {
             (Count::Counting(count), Item::Bool(false)) => Count::after_element(
@@ -113,6 +117,7 @@ impl Worker for Length {
         Ok(())
     }
 
+    #[inline(always)]
     fn give(&mut self) -> Result<Item, AllocError> {
         let number = match self.count {
             Count::Due(number) => number,

@@ -43,6 +43,7 @@ impl Stage {
     ghost use Rattle.flow_scalar.specs.ScanAddMachine.{scan_add_move};
 
     // Where the item leads.
+    #[inline(always)]
     fn next(self, dialect: Dialect, item: &Item) -> Result<Stage, FaultKind>
         ensures { result ≡ given_of (scan_add_move dialect self) (cell_of item.now) }
     {
@@ -92,6 +93,7 @@ impl Worker for ScanAdd {
 
     ghost laws = { scan_add_laws };
 
+    #[inline(always)]
     fn ask(&self) -> Ask {
         match self.stage {
             Stage::Start => Ask::Begin,
@@ -117,11 +119,13 @@ impl Worker for ScanAdd {
         Kind::Int
     }
 
+    #[inline(always)]
     fn take(&mut self, item: Item) -> Result<(), Stop> {
         self.stage = self.stage.next(self.dialect, &item)?;
         Ok(())
     }
 
+    #[inline(always)]
     fn give(&mut self) -> Result<Item, AllocError> {
         match self.stage {
             Stage::Write { before, last } => {

@@ -54,6 +54,7 @@ impl Worker for Unary {
 
     ghost laws = { unary_laws };
 
+    #[inline(always)]
     fn ask(&self) -> Ask {
         match self.value {
             None => Ask::Begin,
@@ -77,12 +78,14 @@ impl Worker for Unary {
         kind_of(self.operator.operand())
     }
 
+    #[inline(always)]
     fn take(&mut self, item: Item) -> Result<(), Stop> {
         let operand = operand_of(self.operator.operand(), &item)?;
         self.value = Some(self.operator.apply(self.dialect, operand)?);
         Ok(())
     }
 
+    #[inline(always)]
     fn give(&mut self) -> Result<Item, AllocError> {
         match self.value {
             Some(value) => {

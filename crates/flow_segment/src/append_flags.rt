@@ -40,6 +40,7 @@ impl Stage for AppendFlagsStage {
         Self::Start
     }
 
+    #[inline(always)]
     fn step(self) -> Step<AppendFlagsStage> {
         match self {
             Self::Start => Step::Begin(Ok(Self::FirstElement), Ok(Self::Second)),

@@ -38,6 +38,7 @@ impl Stage for ConcatFlagsStage {
         Self::Start
     }
 
+    #[inline(always)]
     fn step(self) -> Step<ConcatFlagsStage> {
         match self {
             Self::Start => Step::Begin(Ok(Self::Inner), Ok(Self::End)),

@@ -57,6 +57,7 @@ impl Worker for Dist {
 
     ghost laws = { dist_laws };
 
+    #[inline(always)]
     fn ask(&self) -> Ask {
         match (&self.held, self.copies) {
             (None, _) => Ask::Begin,
@@ -84,6 +85,7 @@ impl Worker for Dist {
         self.kind
     }
 
+    #[inline(always)]
     fn take(&mut self, item: Item) -> Result<(), Stop> {
         if self.held.is_none() {
             if !self.kind.fits(&item) {
@@ -101,6 +103,7 @@ impl Worker for Dist {
         Ok(())
     }
 
+    #[inline(always)]
     fn give(&mut self) -> Result<Item, AllocError> {
         let copy = match &self.held {
             Some(item) => item.copy(self.alloc)?,

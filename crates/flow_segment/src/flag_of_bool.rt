@@ -33,6 +33,7 @@ impl Stage for FlagOfBoolStage {
         Self::Start
     }
 
+    #[inline(always)]
     fn step(self) -> Step<FlagOfBoolStage> {
         match self {
             Self::Start => Step::Begin(Ok(Self::End), Ok(Self::Element)),

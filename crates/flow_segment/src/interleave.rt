@@ -84,6 +84,7 @@ impl Worker for Interleave {
 
     ghost laws = { interleave_laws };
 
+    #[inline(always)]
     fn ask(&self) -> Ask {
         match self.turn {
             Turn::Start => Ask::Begin,
@@ -114,6 +115,7 @@ impl Worker for Interleave {
         self.kind
     }
 
+    #[inline(always)]
     fn take(&mut self, item: Item) -> Result<(), Stop> {
         if let Turn::Item(side) = self.turn {
             if !self.kind.fits(&item) {
@@ -135,6 +137,7 @@ impl Worker for Interleave {
         }
     }
 
+    #[inline(always)]
     fn give(&mut self) -> Result<Item, AllocError> {
         match mem::replace(&mut self.turn, Turn::Start) {
             Turn::Copy(side, item) => {

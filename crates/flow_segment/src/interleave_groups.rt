@@ -45,6 +45,7 @@ impl Stage for InterleaveGroupsStage {
         Self::Start
     }
 
+    #[inline(always)]
     fn step(self) -> Step<InterleaveGroupsStage> {
         match self {
             Self::Start => Step::Begin(Ok(Self::LeftGroup), Ok(Self::Right)),

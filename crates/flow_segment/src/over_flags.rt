@@ -74,6 +74,7 @@ impl<S: Stage> Worker for OverFlags<S> {
 
     ghost laws = { S.laws };
 
+    #[inline(always)]
     fn ask(&self) -> Ask {
         match self.stage.step() {
             Step::Begin(_, _) => Ask::Begin,
@@ -98,6 +99,7 @@ impl<S: Stage> Worker for OverFlags<S> {
         Kind::Bool
     }
 
+    #[inline(always)]
     fn take(&mut self, item: Item) -> Result<(), Stop> {
         self.stage = match (self.stage.step(), item) {
             (Step::Begin(next, _) | Step::Take(_, next, _), Item::Bool(false)) => next?,
@@ -107,6 +109,7 @@ impl<S: Stage> Worker for OverFlags<S> {
         Ok(())
     }
 
+    #[inline(always)]
     fn give(&mut self) -> Result<Item, AllocError> {
         match self.stage.step() {
             Step::Give(_, flag, next) => {

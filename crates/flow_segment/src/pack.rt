@@ -58,6 +58,7 @@ impl Worker for Pack {
 
     ghost laws = { pack_laws };
 
+    #[inline(always)]
     fn ask(&self) -> Ask {
         match self.pair {
             Pair::Start => Ask::Begin,
@@ -85,6 +86,7 @@ impl Worker for Pack {
         self.kind
     }
 
+    #[inline(always)]
     fn take(&mut self, item: Item) -> Result<(), Stop> {
         if let Pair::Item(keep) = self.pair {
             if !self.kind.fits(&item) {
@@ -102,6 +104,7 @@ impl Worker for Pack {
         }
     }
 
+    #[inline(always)]
     fn give(&mut self) -> Result<Item, AllocError> {
         match mem::replace(&mut self.pair, Pair::Start) {
             Pair::Copy(item) => Ok(item),

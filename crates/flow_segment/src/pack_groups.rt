@@ -35,6 +35,7 @@ impl Stage for PackGroupsStage {
         Self::Start
     }
 
+    #[inline(always)]
     fn step(self) -> Step<PackGroupsStage> {
         match self {
             Self::Start => Step::Begin(Ok(Self::Flag(false)), Ok(Self::Flag(true))),

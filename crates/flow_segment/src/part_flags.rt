@@ -49,6 +49,7 @@ impl Stage for PartFlagsStage {
         Self::Start
     }
 
+    #[inline(always)]
     fn step(self) -> Step<PartFlagsStage> {
         match self {
             Self::Start => Step::Begin(Ok(Self::Test), Ok(Self::Last)),

@@ -32,6 +32,7 @@ impl Stage for SameFlagsStage {
         Self::Start
     }
 
+    #[inline(always)]
     fn step(self) -> Step<SameFlagsStage> {
         match self {
             Self::Start => Step::Begin(Ok(Self::Second(false)), Ok(Self::Second(true))),

@@ -32,6 +32,7 @@ impl Stage for TheCheckStage {
         Self::Start
     }
 
+    #[inline(always)]
     fn step(self) -> Step<TheCheckStage> {
         match self {
             Self::Start => Step::Begin(Ok(Self::Element), Err(FaultKind::The)),

@@ -13,6 +13,7 @@ use flow_base::Transducer;
 use flow_edges::Ends;
 use flow_graph::Placed;
 use std::alloc::AllocError;
+use std::thread;
 
 /// The most turns of a pump.
 pub const MAX_TURNS: usize = 65_536;
@@ -148,6 +149,8 @@ fn take_turns<T: Transducer, E: Ends, G: Gate>(
                     moved,
                 });
             }
+            // Nothing is certain here: another thread may have a message or room for it.
+            thread::yield_now();
         }
     }
     Ok(Turns { spent: true, moved })

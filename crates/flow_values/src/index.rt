@@ -85,6 +85,7 @@ impl Worker for Index {
 
     ghost laws = { index_laws };
 
+    #[inline(always)]
     fn ask(&self) -> Ask {
         match &self.stage {
             Stage::Held(_) => Ask::Take(1),
@@ -114,6 +115,7 @@ impl Worker for Index {
         kind_at(&self.kinds, port)
     }
 
+    #[inline(always)]
     fn take(&mut self, item: Item) -> Result<(), Stop> {
         match &self.stage {
             Stage::Writing(_) => {
@@ -136,6 +138,7 @@ impl Worker for Index {
         }
     }
 
+    #[inline(always)]
     fn give(&mut self) -> Result<Item, AllocError> {
         match &mut self.stage {
             Stage::Writing(dues) => match dues.pop_front() {

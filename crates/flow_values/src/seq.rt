@@ -65,6 +65,7 @@ impl Worker for Seq {
 
     ghost laws = { seq_laws };
 
+    #[inline(always)]
     fn ask(&self) -> Ask {
         match self.dues.front() {
             None => Ask::Begin,
@@ -88,6 +89,7 @@ impl Worker for Seq {
         kind_at(&self.kinds, port)
     }
 
+    #[inline(always)]
     fn take(&mut self, item: Item) -> Result<(), Stop> {
         let all = vector_in(&self.element, item)?;
         let mut dues = VecDeque::new(self.alloc);
@@ -96,6 +98,7 @@ impl Worker for Seq {
         Ok(())
     }
 
+    #[inline(always)]
     fn give(&mut self) -> Result<Item, AllocError> {
         match self.dues.pop_front() {
             Some(due) => Ok(due.item),

@@ -205,6 +205,7 @@ impl Worker for Tab {
 
     ghost laws = { tab_laws };
 
+    #[inline(always)]
     fn ask(&self) -> Ask {
         match self.stage {
             Stage::Start => Ask::Begin,
@@ -230,6 +231,7 @@ impl Worker for Tab {
         Kind::Vec
     }
 
+    #[inline(always)]
     fn take(&mut self, item: Item) -> Result<(), Stop> {
         match self.stage {
             Stage::Start => {
@@ -250,6 +252,7 @@ impl Worker for Tab {
         }
     }
 
+    #[inline(always)]
     fn give(&mut self) -> Result<Item, AllocError> {
         match self.stage {
             Stage::End => {

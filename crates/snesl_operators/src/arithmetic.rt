@@ -7,6 +7,7 @@ ghost use Rattle.snesl_operators.specs.Operators.{ranged, quotient, remainder};
 use snesl_values::{Dialect, FaultKind};
 
 // The number, where there is one and it lies in the range.
+#[inline(always)]
 fn in_range(dialect: Dialect, number: Option<i128>) -> Result<i128, FaultKind>
     ensures { MatchOption number (result ≡ Err Overflow) (λ n. result ≡ ranged dialect n) }
 {
@@ -17,6 +18,7 @@ fn in_range(dialect: Dialect, number: Option<i128>) -> Result<i128, FaultKind>
 }
 
 /// The sum. `Overflow` where it does not lie in the range.
+#[inline(always)]
 pub fn sum(dialect: Dialect, m: i128, n: i128) -> Result<i128, FaultKind>
     ensures { result ≡ ranged dialect (m +ℤ n) }
 {
@@ -24,6 +26,7 @@ pub fn sum(dialect: Dialect, m: i128, n: i128) -> Result<i128, FaultKind>
 }
 
 /// `m` less `n`. `Overflow` where it does not lie in the range.
+#[inline(always)]
 pub fn difference(dialect: Dialect, m: i128, n: i128) -> Result<i128, FaultKind>
     ensures { result ≡ ranged dialect (m -ℤ n) }
 {
@@ -31,6 +34,7 @@ pub fn difference(dialect: Dialect, m: i128, n: i128) -> Result<i128, FaultKind>
 }
 
 /// The product. `Overflow` where it does not lie in the range.
+#[inline(always)]
 pub fn product(dialect: Dialect, m: i128, n: i128) -> Result<i128, FaultKind>
     ensures { result ≡ ranged dialect (m *ℤ n) }
 {
@@ -38,6 +42,7 @@ pub fn product(dialect: Dialect, m: i128, n: i128) -> Result<i128, FaultKind>
 }
 
 /// The negative. `Overflow` where it does not lie in the range.
+#[inline(always)]
 pub fn negative(dialect: Dialect, n: i128) -> Result<i128, FaultKind>
     ensures { result ≡ ranged dialect (neg_ℤ n) }
 {
@@ -45,6 +50,7 @@ pub fn negative(dialect: Dialect, n: i128) -> Result<i128, FaultKind>
 }
 
 /// `m` over `n`, rounded towards zero. `Divide` where `n` is 0, `Overflow` where it does not lie in the range.
+#[inline(always)]
 pub fn quotient(dialect: Dialect, m: i128, n: i128) -> Result<i128, FaultKind>
     ensures { result ≡ quotient dialect m n }
 {
@@ -55,6 +61,7 @@ pub fn quotient(dialect: Dialect, m: i128, n: i128) -> Result<i128, FaultKind>
 }
 
 /// What `m` over `n`, rounded towards zero, leaves, which is no further from 0 than `m`. `Divide` where `n` is 0.
+#[inline(always)]
 pub fn remainder(m: i128, n: i128) -> Result<i128, FaultKind>
     ensures { result ≡ remainder m n }
 {

@@ -30,6 +30,7 @@ impl UnaryOperator {
     }
 
     /// The value at this operand. `Overflow` where it does not lie in the range, `Shape` for an operand of another type.
+    #[inline(always)]
     pub fn apply(self, dialect: Dialect, operand: Scalar) -> Result<Scalar, FaultKind>
         ensures { result ≡ unary_value dialect self operand }
     {
