@@ -67,7 +67,7 @@ fn parse_tokens(alloc: Global, tokens: &[Token], len: usize) -> Result<Whole, Re
 ///
 /// `int` and `bool`, an integer, a truth value and a name have depth 1; every other type and
 /// expression has 1 more than its deepest part. A program is as deep as its deepest type, function
-/// body or expression. Parsing takes time linear in the length of the text.
+/// body or expression.
 ///
 /// # Errors
 ///

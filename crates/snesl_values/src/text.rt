@@ -19,7 +19,7 @@ pub fn text_of(alloc: Global, datum: &Datum) -> Result<Vec<u8>, AllocError>
     Ok(out)
 }
 
-// One buffer takes all the text, so the time is linear in its length.
+// One buffer takes all the text.
 #[cycle(texts)]
 fn append_text(out: &mut Vec<u8>, datum: &Datum) -> Result<(), AllocError>
     ensures { OnOk result (out.new.items ≡ out.old.items ++ text (value_of datum.now)) }
