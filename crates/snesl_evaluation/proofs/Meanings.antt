@@ -9,9 +9,11 @@ use Rattle.snesl_values.proofs.Data.{list_values}
 use Rattle.snesl_tree.specs.declared.operator.Builtin.TheVariants.{Concat, The}
 use Rattle.snesl_tree.specs.declared.operator.Prefix.TheVariants.{Not}
 use Rattle.snesl_tree.specs.Spelling.{spelling}
+use Rattle.snesl_tree.specs.Tree.{Tree, Trees, none, both}
+use Rattle.snesl_grammar.specs.Expressions.{added}
 use Rattle.snesl_evaluation.specs.Answer.{Answer, gives, faults, go, go_all, go_join, or_fault}
 use Rattle.snesl_evaluation.specs.Builtins.{append_answer, applied, items_at, prefix_answer, seq_answer, sequence, truth_at}
-use Rattle.snesl_evaluation.specs.Eval.{Columns, eval, eval_all, eval_binders, in_step, kept, named}
+use Rattle.snesl_evaluation.specs.Eval.{Calls, Columns, eval, eval_all, eval_binders, in_step, kept, named}
 use Rattle.snesl_evaluation.specs.Derived.{ChoiceMeaning, ConditionMeaning, OneItemMeaning, LiteralMeaning}
 use Rattle.snesl_evaluation.proofs.Passed.{filter_seen}
 
@@ -61,13 +63,34 @@ condition_meaning at item condition binders dialect text calls environment = by_
 pub one_item_meaning : OneItemMeaning
 one_item_meaning at item dialect text calls environment = refl
 
-pub literal_meaning : LiteralMeaning
-literal_meaning at item others dialect text calls environment = by_item (eval dialect item text calls environment) (eval_all dialect others text calls environment)
+-- the values of items and of one more
+eval_added : (dialect : Dialect) (items : Trees) (last : Tree) (text : List ℕ) (calls : Calls) (environment : Environment)
+    → eval_all dialect (added items last) text calls environment
+    ≡ go (eval_all dialect items text calls environment) (λ vs. go (eval dialect last text calls environment) (λ v. gives (vs ++ v ∷ [])))
+eval_added dialect none last text calls environment = refl
+eval_added dialect (both first others) last text calls environment =
+    ap (λ answer. go (eval dialect first text calls environment) (λ v. go answer (λ vs. gives (v ∷ vs)))) (eval_added dialect others last text calls environment)
+    ∙ by_values (eval dialect first text calls environment) (eval_all dialect others text calls environment) (eval dialect last text calls environment)
   where
-    by_item : (first : Answer Value) (rest : Answer (List Value)) → seq_answer (go first (λ v. go rest (λ vs. gives (v ∷ vs)))) ≡ go (seq_answer (kept true first)) (λ v. go (seq_answer rest) (λ w. append_answer at v w))
-    by_item (faults kind place) rest = refl
-    by_item (gives v) (faults kind place) = refl
-    by_item (gives v) (gives vs) = sym (ap (λ answer. go answer (λ ws. gives (sequence (v ∷ ws)))) (seq_items at vs))
+    by_values : (one : Answer Value) (rest : Answer (List Value)) (behind : Answer Value)
+        → go one (λ v. go (go rest (λ vs. go behind (λ w. gives (vs ++ w ∷ [])))) (λ vs. gives (v ∷ vs)))
+        ≡ go (go one (λ v. go rest (λ vs. gives (v ∷ vs)))) (λ vs. go behind (λ w. gives (vs ++ w ∷ [])))
+    by_values (faults kind place) rest behind = refl
+    by_values (gives v) (faults kind place) behind = refl
+    by_values (gives v) (gives vs) (faults kind place) = refl
+    by_values (gives v) (gives vs) (gives w) = refl
+
+pub literal_meaning : LiteralMeaning
+literal_meaning at items last dialect text calls environment =
+    ap seq_answer (eval_added dialect items last text calls environment)
+    ∙ by_item (eval_all dialect items text calls environment) (eval dialect last text calls environment)
+  where
+    by_item : (before : Answer (List Value)) (behind : Answer Value)
+        → seq_answer (go before (λ vs. go behind (λ v. gives (vs ++ v ∷ []))))
+        ≡ go (seq_answer before) (λ v. go (seq_answer (kept true behind)) (λ w. append_answer at v w))
+    by_item (faults kind place) behind = refl
+    by_item (gives vs) (faults kind place) = refl
+    by_item (gives vs) (gives v) = sym (ap (λ answer. go answer (λ us. gives (sequence (us ++ v ∷ [])))) (seq_items at vs))
 
 -- what the form that `if` stands for gives, by the answers of t, of e and of f
 abbrev through : Dialect → ℕ → Answer Value → Answer Value → Answer Value → Answer Value

@@ -9,6 +9,7 @@ use Rattle.snesl_tree.specs.declared.operator.Prefix.TheVariants.{Not}
 use Rattle.snesl_tree.specs.declared.span.Span.{Span}
 use Rattle.snesl_tree.specs.Spelling.{spelling}
 use Rattle.snesl_tree.specs.Tree.{Tree, Trees, Binders, truth, name, prefix, binary, call, binding, choice, literal, filter, each, none, both, always, only_where}
+use Rattle.snesl_grammar.specs.Expressions.{added}
 use Rattle.snesl_evaluation.specs.Eval.{Calls, eval}
 
 -- two expressions that have one answer wherever they stand
@@ -28,9 +29,10 @@ ConditionMeaning = (at : ℕ) (item condition : Tree) (binders : Binders)
 abbrev pub OneItemMeaning : Type 0
 OneItemMeaning = (at : ℕ) (item : Tree) → MeanTheSame (literal at (both item none)) (filter at item (truth at true))
 
--- `{e, ..}` means `{e | true} ++ {..}`
+-- `{.., e}` means `{..} ++ {e | true}`: the items group to the left, as operands of `++` do
 abbrev pub LiteralMeaning : Type 0
-LiteralMeaning = (at : ℕ) (item : Tree) (others : Trees) → MeanTheSame (literal at (both item others)) (binary at Append (filter at item (truth at true)) (literal at others))
+LiteralMeaning = (at : ℕ) (items : Trees) (last : Tree)
+    → MeanTheSame (literal at (added items last)) (binary at Append (literal at items) (filter at last (truth at true)))
 
 -- `if b then e else f` means `let t = b in the({e | t} ++ {f | not t})`, where e and f do not use t
 abbrev pub ChoiceMeaning : Type 0
