@@ -1,0 +1,74 @@
+"""What edits change and which functions they strike, and which of them can be tried in one check."""
+
+import os
+import pathlib
+import re
+
+from kit import rt
+
+CONSTANT = re.compile(r"\s*(?:pub(?:\([a-z]+\))? )?const (\w+): \w+ = ")
+
+
+class Edit:
+    """An edit of a crate.
+
+    `why` says why it cannot be applied. `lines` are the new lines by file and number. `struck` are the functions that it strikes: those
+    whose bodies it changes, or that name the constant it changes, or else those of its lines 'strikes: FUNCTION'. Where nothing
+    tells them there are none. It is tried apart unless it changes bodies alone.
+    """
+
+    def __init__(self, crate, file, code):
+        self.file, self.label = file, f"{crate.name}/{os.path.basename(file)}"
+        self.texts, self.why = rt.read_edit(file, crate.folder)
+        self.lines, self.struck, self.is_apart = {}, [], False
+        is_known = True
+        for path, text in (self.texts or {}).items():
+            for number, begin, end, was, now in changes(pathlib.Path(crate.folder, path).read_text(encoding="utf-8"), text):
+                self.lines[path, number] = now
+                struck = code.around(path, begin, end)
+                if not struck:
+                    struck, self.is_apart = of_constant(code, was, now), True
+                is_known = is_known and bool(struck) and all(it.is_plain for it in struck)
+                self.struck += [it for it in struck if it not in self.struck]
+        if not is_known:
+            told = re.findall(r"(?m)^strikes: (\S+)$", pathlib.Path(file).read_text(encoding="utf-8"))
+            self.struck, self.is_apart = [it for it in code.functions if it.name in told], True
+            lacking = {*told} - {it.name for it in self.struck}
+            if lacking:
+                self.why = self.why or f"'strikes:' names no function with a body: {' '.join(sorted(lacking))}"
+
+    @property
+    def proofs(self):
+        """The proofs that it can spoil: one for each function, or for each cycle of functions."""
+        return {it.proved_with for it in self.struck}
+
+
+def changes(old, new):
+    """Each line that differs: its number, the bytes of the old text that are changed, and the line as it was and is."""
+    at = 0
+    for number, (was, now) in enumerate(zip(old.split("\n"), new.split("\n"), strict=True)):
+        if was != now:
+            same = len(os.path.commonprefix([was, now]))
+            after = len(os.path.commonprefix([was[same:][::-1], now[same:][::-1]]))
+            yield number, at + len(was[:same].encode()), at + len(was[: len(was) - after].encode()), was, now
+        at += len(was.encode()) + 1
+
+
+def of_constant(code, was, now):
+    """The functions whose bodies name the constant whose value changes in this line, if it is one that only bodies name."""
+    constant = CONSTANT.match(was)
+    if not constant or was[: constant.end()] != now[: constant.end()]:
+        return []
+    return code.naming(constant[1])
+
+
+def batches_of(edits):
+    """The edits in as few batches as may be: in each no two spoil one proof."""
+    made = []
+    for edit in sorted(edits, key=lambda it: -len(it.struck)):
+        free = None if edit.is_apart else next((it for it in made if not it[0] & edit.proofs and not it[1][0].is_apart), None)
+        if free is None:
+            made.append(free := (set(), []))
+        free[0].update(edit.proofs)
+        free[1].append(edit)
+    return [batch for _, batch in made]

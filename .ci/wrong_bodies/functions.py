@@ -1,0 +1,173 @@
+"""The functions of a crate that have a body: what the prover calls each, and where its body stands.
+
+They are read from the prover's own tokens of the crate's files.
+"""
+
+import collections
+import dataclasses
+import pathlib
+import re
+import subprocess
+
+from kit import rt
+
+Token = collections.namedtuple("Token", "line begin end word")
+# A block in braces: the tokens before it, from the end of the last statement or item on, and its first brace.
+Block = collections.namedtuple("Block", "head brace")
+ROW = re.compile(r'(?m)^(\d+) (\d+) (\d+) Code "(.*)"$')
+# The head of an impl whose trait takes types, which may take types in turn.
+TAKES = re.compile(r"\w+ < ((?:[^<>]|<(?:[^<>]|<[^<>]*>)*>)*) > for ")
+
+
+@dataclasses.dataclass(eq=False)
+class Function:
+    """A function with a body: its name as a check prints it, its first and last line, and the bytes of its body."""
+
+    name: str
+    file: str
+    first: int
+    last: int
+    begin: int
+    end: int
+    # the name that functions that call one another share, and with it their proof
+    cycle: str | None
+    # callers know no more of it than its contract, as of a const fn
+    is_plain: bool
+    # a proof file with a hole can stand for its proof, which no function has that calls itself or that a trait declares
+    has_stub: bool
+
+    @property
+    def proofs(self):
+        return f"proofs/{self.name.replace('::', '/')}"
+
+    @property
+    def proved_with(self):
+        return self.cycle or self.name
+
+    def holds(self, file, begin, end):
+        return self.file == file and self.begin <= begin and end <= self.end
+
+
+class Code:
+    """The tokens of a crate's files, without clauses, and its functions."""
+
+    def __init__(self, crate):
+        self.tokens = tokens_of(crate)
+        # a type's own functions are named by the module that declares it
+        self.types = collections.defaultdict(list)
+        for file, tokens in self.tokens.items():
+            for before, token in zip(tokens, tokens[1:]):
+                if before.word in ("struct", "enum"):
+                    self.types[token.word].append(file)
+        self.functions = []
+        for file, tokens in self.tokens.items():
+            for around, block, end in blocks_of(tokens):
+                if is_function(block) and not any(map(is_function, around)):
+                    self.functions.append(self.function(file, around, block, end))
+
+    def function(self, file, around, block, end):
+        heads = [words_of(it) for it in (*around, block)]
+        name = heads[-1][heads[-1].index("fn") + 1]
+        inside = (it.word for it in self.tokens[file] if block.brace.end <= it.begin < end.begin)
+        cycle = next((it[it.index("cycle") + 2] for it in heads if "cycle" in it), None)
+        is_plain = not any(word in head for head in heads for word in ("const", "unsafe"))
+        return Function(
+            name="::".join([*self.path(file, around), name]),
+            file=file,
+            first=block.head[0].line,
+            last=end.line,
+            begin=block.brace.end,
+            end=end.begin,
+            cycle=cycle,
+            is_plain=is_plain,
+            has_stub=is_plain and cycle is None and not any("trait" in it for it in heads) and name not in inside,
+        )
+
+    def path(self, file, around):
+        """The names of the modules, the types and the traits around a function."""
+        names = []
+        for words in map(words_of, around):
+            name = name_of(words)
+            names += [name] if name else []
+            homes = self.types[name] if "impl" in words and "for" not in words else []
+            if homes and file not in homes:
+                file = homes[0]
+        return [it for it in file[len("src/") : -len(".rt")].split("/") if it not in ("lib", "main", "mod")] + names
+
+    def around(self, file, begin, end):
+        """The function whose body holds these bytes, if there is one."""
+        return [it for it in self.functions if it.holds(file, begin, end)]
+
+    def naming(self, constant):
+        """The functions whose bodies name a constant, or none where something else names it too, as a contract or a type may."""
+        found = []
+        for file, tokens in self.tokens.items():
+            for at, token in enumerate(tokens):
+                if token.word == constant and tokens[at - 1].word != "const":
+                    around = self.around(file, token.begin, token.end)
+                    head = next((it.word for it in reversed(tokens[:at]) if it.word in (";", "use")), ";")
+                    if not around and head != "use":
+                        return []
+                    found += [it for it in around if it not in found]
+        return found
+
+
+def tokens_of(crate):
+    files = sorted(str(it.relative_to(crate.folder)) for it in pathlib.Path(crate.folder, "src").rglob("*.rt"))
+    words = [rt.rtlib.RATTLE, "fmt", "--tokens", *files]
+    said = subprocess.run(words, cwd=crate.folder, stdout=subprocess.PIPE, check=True).stdout.decode()
+    parts = re.split(r"(?m)^file \d+\n", said)[1:]
+    return {
+        file: [Token(*map(int, it.groups()[:3]), it[4]) for it in ROW.finditer(part)]
+        for file, part in zip(files, parts, strict=True)
+    }
+
+
+def blocks_of(tokens):
+    """Each block in braces that stands in no parentheses, with those around it and the brace that ends it."""
+    around, head, depth = [], [], 0
+    for token in tokens:
+        depth += (token.word in ("(", "[")) - (token.word in (")", "]"))
+        if depth == 0 and token.word == "{":
+            around.append(Block(head or [token], token))
+            head = []
+        elif depth == 0 and token.word == "}":
+            block = around.pop()
+            yield tuple(around), block, token
+            head = []
+        elif depth == 0 and token.word == ";":
+            head = []
+        else:
+            head.append(token)
+
+
+def words_of(block):
+    return [it.word for it in block.head]
+
+
+def is_function(block):
+    return any(it.word == "fn" for it in block.head)
+
+
+def without_types(text):
+    """The text without what types and traits take."""
+    text = text.replace("- >", "")
+    while (less := re.sub(r"<[^<>]*>", "", text)) != text:
+        text = less
+    return text
+
+
+def name_of(words):
+    """What a module, a trait or an impl adds to the names of its functions: an impl its type, its trait and what that takes."""
+    text = " ".join(words).partition(" where ")[0]
+    plain = re.findall(r"\w+", without_types(text))
+    for word in ("mod", "trait"):
+        if word in plain:
+            return plain[plain.index(word) + 1]
+    if "impl" not in plain:
+        return None
+    if "for" not in plain:
+        return plain[-1]
+    taken = TAKES.search(text)
+    types = without_types(taken[1]).split(",") if taken else []
+    return plain[-1] + plain[plain.index("for") - 1] + "".join(re.findall(r"[A-Za-z]\w*", it)[-1] for it in types)
