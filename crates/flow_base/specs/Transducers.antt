@@ -11,6 +11,8 @@ use Rattle.kahn.specs.Processes.{Process, Event, Does, reads, writes, IsLawful, 
 use Rattle.flow_edges.specs.Cells.{Cell, is_of}
 use Rattle.flow_edges.specs.Signals.{Signal, carry, stop}
 use Rattle.flow_edges.specs.declared.message.Kind.{Kind}
+use Rattle.flow_base.specs.declared.transducer.Side.{Side}
+use Rattle.flow_base.specs.declared.transducer.Side.TheVariants as sides
 use Rattle.flow_base.specs.Lists.{Lists}
 use Rattle.flow_base.specs.Ranges.{SignalsInRange, SignalsOfKind}
 
@@ -51,6 +53,16 @@ pub record Behaviour (S : Type 0) : Type 1 where
   pub in_range : Dialect → S → Type 0
   -- whether the next step from this state may take memory
   pub takes_memory : S → Bool
+
+-- how many ports it has on this side
+abbrev pub ports_on : {S : Type 0} → Behaviour S → Side → S → ℕ
+ports_on b sides.In s = b.inputs s
+ports_on b sides.Out s = b.outputs s
+
+-- the kind of the items at each port of this side
+abbrev pub kind_on : {S : Type 0} → Behaviour S → Side → S → ℕ → Kind
+kind_on b sides.In s p = b.kind_in s p
+kind_on b sides.Out s p = b.kind_out s p
 
 module _ {S : Type 0} (b : Behaviour S) where
   -- The lists are closed, and their bodies satisfy the row.

@@ -13,5 +13,5 @@ mod worker;
 
 pub use node::{Node, Phase};
 pub use printing::Printing;
-pub use transducer::{Transducer, keeps_laws};
+pub use transducer::{Port, Side, Transducer, keeps_laws};
 pub use worker::{Ask, Stop, Worker, computes_row};

@@ -9,9 +9,9 @@ ghost use Rattle.flow_base.specs.Nodes.{closing, opened, want_for};
 ghost use Rattle.flow_base.specs.Visits.{IsPlaced, Visited, BrokeOff};
 ghost use Rattle.flow_base.specs.declared.node.Phase.TheVariants.{Working};
 
-use crate::transducer::Transducer;
+use crate::transducer::{Port, Side, Transducer};
 use crate::worker::{Ask, Stop, Worker};
-use flow_edges::{Ends, Kind, Msg};
+use flow_edges::{Ends, Msg};
 use kahn::Want;
 use snesl_values::{Fault, FaultKind};
 use std::alloc::AllocError;
@@ -256,20 +256,17 @@ impl<W: Worker> Transducer for Node<W> {
         }
     }
 
-    fn inputs(&self) -> usize {
-        self.worker.inputs()
-    }
-
-    fn outputs(&self) -> usize {
-        self.worker.outputs()
-    }
-
-    fn kind_in(&self, port: usize) -> Kind {
-        self.worker.kind_in(port)
-    }
-
-    fn kind_out(&self, port: usize) -> Kind {
-        self.worker.kind_out(port)
+    fn port(&self, side: Side, number: usize) -> Port {
+        match side {
+            Side::In => Port {
+                count: self.worker.inputs(),
+                kind: self.worker.kind_in(number),
+            },
+            Side::Out => Port {
+                count: self.worker.outputs(),
+                kind: self.worker.kind_out(number),
+            },
+        }
     }
 
     #[inline(always)]

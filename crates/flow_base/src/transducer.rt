@@ -7,6 +7,24 @@ use flow_edges::{Ends, Kind, Msg};
 use kahn::Want;
 use std::alloc::AllocError;
 
+/// The two sides of a transducer.
+#[derive(Clone, Copy, Debug, PartialEq, Eq)]
+pub enum Side {
+    /// Where it reads.
+    In,
+    /// Where it writes.
+    Out,
+}
+
+/// What a transducer tells of a port.
+#[derive(Clone, Copy, Debug, PartialEq, Eq)]
+pub struct Port {
+    /// How many ports there are on its side, numbered from 0 on.
+    pub count: usize,
+    /// The kind of the items at it.
+    pub kind: Kind,
+}
+
 /// A sequential process (Kahn 1974): it wants to read one port, or to write one port, or has ended or faulted.
 ///
 /// Its laws speak of an abstract state, and of what messages say.
@@ -15,7 +33,7 @@ pub trait Transducer {
     ghost use Rattle.kahn.specs.declared.want.Want.TheVariants.{Read};
     ghost use Rattle.flow_edges.specs.Signals.{signal_of};
     ghost use Rattle.flow_edges.specs.Ends.{SameEnds};
-    ghost use Rattle.flow_base.specs.Transducers.{Behaviour, BehaviourLaws, IsWrite};
+    ghost use Rattle.flow_base.specs.Transducers.{Behaviour, BehaviourLaws, IsWrite, ports_on, kind_on};
     ghost use Rattle.flow_base.specs.Visits.{IsPlaced, Visited, BrokeOff};
 
     /// What its laws see of it.
@@ -30,21 +48,39 @@ pub trait Transducer {
     fn want(&self) -> Want
         ensures { result ≡ behaviour.process.want (state self.now) };
 
+    /// The port of this number on this side. One method for both sides, and for the count and the kind: a sum of many
+    /// transducers writes out each method for each of them.
+    fn port(&self, side: Side, number: usize) -> Port
+        ensures count { result.count ≡ ports_on behaviour side (state self.now) }
+        ensures kind { result.kind ≡ kind_on behaviour side (state self.now) number };
+
     /// The number of its input ports, from 0 on.
     fn inputs(&self) -> usize
-        ensures { result ≡ behaviour.inputs (state self.now) };
+        ensures { result ≡ behaviour.inputs (state self.now) }
+    {
+        self.port(Side::In, 0).count
+    }
 
     /// The number of its output ports, from 0 on.
     fn outputs(&self) -> usize
-        ensures { result ≡ behaviour.outputs (state self.now) };
+        ensures { result ≡ behaviour.outputs (state self.now) }
+    {
+        self.port(Side::Out, 0).count
+    }
 
     /// The kind of the items at this input port.
     fn kind_in(&self, port: usize) -> Kind
-        ensures { result ≡ behaviour.kind_in (state self.now) port };
+        ensures { result ≡ behaviour.kind_in (state self.now) port }
+    {
+        self.port(Side::In, port).kind
+    }
 
     /// The kind of the items at this output port.
     fn kind_out(&self, port: usize) -> Kind
-        ensures { result ≡ behaviour.kind_out (state self.now) port };
+        ensures { result ≡ behaviour.kind_out (state self.now) port }
+    {
+        self.port(Side::Out, port).kind
+    }
 
     /// Gives it the message that it wanted to read, of the port of this number. An error where memory was refused;
     /// then the transducer is unchanged, and the message is lost.

@@ -3,8 +3,8 @@
 ghost use Rattle.std.specs.Prelude.{◌≡◌};
 ghost use Rattle.flow_nodes.specs.StreamNodes.{node_behaviour, state_of};
 
-use flow_base::{Node, Printing, Transducer};
-use flow_edges::{Ends, Kind, Msg};
+use flow_base::{Node, Port, Printing, Side, Transducer};
+use flow_edges::{Ends, Msg};
 use flow_scalar::{
     Binary, Const, Fork, Iota, Length, Reduce, ScanAdd, Sink, Source, Unary, UnitsOf,
 };
@@ -98,20 +98,8 @@ impl Transducer for StreamNode {
         with_node!(self, node => node.want())
     }
 
-    fn inputs(&self) -> usize {
-        with_node!(self, node => node.inputs())
-    }
-
-    fn outputs(&self) -> usize {
-        with_node!(self, node => node.outputs())
-    }
-
-    fn kind_in(&self, port: usize) -> Kind {
-        with_node!(self, node => node.kind_in(port))
-    }
-
-    fn kind_out(&self, port: usize) -> Kind {
-        with_node!(self, node => node.kind_out(port))
+    fn port(&self, side: Side, number: usize) -> Port {
+        with_node!(self, node => node.port(side, number))
     }
 
     #[inline(always)]

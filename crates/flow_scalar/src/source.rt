@@ -10,7 +10,7 @@ ghost use Rattle.flow_base.specs.Transducers.{closed};
 ghost use Rattle.flow_scalar.specs.Streams.{stream_kind, stream_cells, items_of};
 ghost use Rattle.flow_scalar.specs.SourceBehaviour.{is_vector, source_opened, source_behaviour};
 
-use flow_base::Transducer;
+use flow_base::{Port, Side, Transducer};
 use flow_edges::{Item, Kind, Msg};
 use kahn::Want;
 use snesl_values::{Datum, copy_datum};
@@ -123,20 +123,15 @@ impl Transducer for Source {
         }
     }
 
-    fn inputs(&self) -> usize {
-        0
-    }
-
-    fn outputs(&self) -> usize {
-        1
-    }
-
-    fn kind_in(&self, _port: usize) -> Kind {
-        self.stream.kind()
-    }
-
-    fn kind_out(&self, _port: usize) -> Kind {
-        self.stream.kind()
+    fn port(&self, side: Side, _number: usize) -> Port {
+        let count = match side {
+            Side::In => 0,
+            Side::Out => 1,
+        };
+        Port {
+            count,
+            kind: self.stream.kind(),
+        }
     }
 
     fn give(&mut self, _port: usize, message: Msg) -> Result<(), AllocError>

@@ -12,7 +12,7 @@ ghost use Rattle.flow_values.specs.laws.Print.{PrintsText};
 use crate::ahead::Ahead;
 use crate::pending::{Pending, Place};
 use crate::shapes::{kind_at, kinds};
-use flow_base::{Stop, Transducer};
+use flow_base::{Port, Side, Stop, Transducer};
 use flow_edges::{Item, Kind, Msg};
 use kahn::Want;
 use snesl_values::{Fault, FaultKind, Ty, copy_ty};
@@ -160,20 +160,17 @@ impl Transducer for Print {
         }
     }
 
-    fn inputs(&self) -> usize {
-        self.kinds.len()
-    }
-
-    fn outputs(&self) -> usize {
-        0
-    }
-
-    fn kind_in(&self, port: usize) -> Kind {
-        kind_at(&self.kinds, port)
-    }
-
-    fn kind_out(&self, _port: usize) -> Kind {
-        Kind::Unit
+    fn port(&self, side: Side, number: usize) -> Port {
+        match side {
+            Side::In => Port {
+                count: self.kinds.len(),
+                kind: kind_at(&self.kinds, number),
+            },
+            Side::Out => Port {
+                count: 0,
+                kind: Kind::Unit,
+            },
+        }
     }
 
     fn give(&mut self, _port: usize, message: Msg) -> Result<(), AllocError> {
