@@ -1,11 +1,8 @@
 // Each public call once, with ample memory.
 
-use flow_drive::{NoGate, Outcome};
 use snesl_console::complain;
 use snesl_lexer::{Kind, Token, tokens_of};
-use snesl_run::run;
-use snesl_settings::settings;
-use snesl_syntax::{Expr, Span, parse};
+use snesl_syntax::{Expr, Program, Span, parse};
 use snesl_types::{check, plain};
 use snesl_values::{
     Counted, Datum, Dialect, Fault, FaultKind, InputError, Refusal, Ty, copy_datum, is_blank,
@@ -14,31 +11,56 @@ use snesl_values::{
 use std::alloc::{AllocError, Global};
 use std::io::{Read, Write};
 use std::process::Abort;
-use std::sync::Arc;
 use std::test::Fail;
-use std::thread::Threads;
 
 // The pair of a truth value and a vector of sequences, `(true,[{1,-2},{}])`.
 fn nested_datum(alloc: Global) -> Result<Datum, AllocError> {
-    let mut first = Vec::new(alloc);
-    first.push(Datum::Int(1))?;
-    first.push(Datum::Int(-2))?;
-    let mut items = Vec::new(alloc);
-    items.push(Datum::Seq(first))?;
-    items.push(Datum::Seq(Vec::new(alloc)))?;
+    let vector = Box::new(alloc, vector_of_sequences(alloc)?)?;
     let truth = Box::new(alloc, Datum::Bool(true))?;
-    let vector = Box::new(alloc, Datum::Vec(items))?;
     Ok(Datum::Pair(truth, vector))
+}
+
+fn vector_of_sequences(alloc: Global) -> Result<Datum, AllocError> {
+    let mut items = Vec::new(alloc);
+    items.push(sequence_of_numbers(alloc)?)?;
+    items.push(Datum::Seq(Vec::new(alloc)))?;
+    Ok(Datum::Vec(items))
+}
+
+fn sequence_of_numbers(alloc: Global) -> Result<Datum, AllocError> {
+    let mut items = Vec::new(alloc);
+    items.push(Datum::Int(1))?;
+    items.push(Datum::Int(-2))?;
+    Ok(Datum::Seq(items))
+}
+
+fn assert_text(
+    rt: &impl Abort,
+    alloc: Global,
+    datum: &Datum,
+    wanted: &[u8],
+) -> Result<(), AllocError> {
+    let text = text_of(alloc, datum)?;
+    assert_eq!(rt; text.as_slice(), wanted);
+    Ok(())
+}
+
+// Asserts the text of a copy.
+fn assert_copied(
+    rt: &impl Abort,
+    alloc: Global,
+    datum: &Datum,
+    wanted: &[u8],
+) -> Result<(), AllocError> {
+    let copy = copy_datum(alloc, datum)?;
+    assert_text(rt, alloc, &copy, wanted)
 }
 
 #[test]
 fn texts(rt: HostRuntime) -> Result<(), Fail> {
     let datum = nested_datum(rt.alloc())?;
-    let text = text_of(rt.alloc(), &datum)?;
-    assert_eq!(rt; text.as_slice(), b"(true,[{1,-2},{}])".as_slice());
-    let copy = copy_datum(rt.alloc(), &datum)?;
-    let text = text_of(rt.alloc(), &copy)?;
-    assert_eq!(rt; text.as_slice(), b"(true,[{1,-2},{}])".as_slice());
+    assert_text(&rt, rt.alloc(), &datum, b"(true,[{1,-2},{}])")?;
+    assert_copied(&rt, rt.alloc(), &datum, b"(true,[{1,-2},{}])")?;
     Ok(())
 }
 
@@ -186,6 +208,11 @@ fn reserved_words(rt: HostRuntime) -> Result<(), Fail> {
 #[test]
 fn parsed(rt: HostRuntime) -> Result<(), Fail> {
     let program = parse(rt.alloc(), b" reduce_add({x * x : x in iota(4)})")?;
+    assert_parsed(&rt, &program);
+    Ok(())
+}
+
+fn assert_parsed(rt: &impl Abort, program: &Program) {
     assert_eq!(rt; program.dialect(), Dialect::One);
     assert_eq!(rt; program.expr.at(), 1);
     if let Expr::Call { arguments, .. } = &program.expr {
@@ -195,14 +222,18 @@ fn parsed(rt: HostRuntime) -> Result<(), Fail> {
     }
     let name = Span { at: 13, len: 1 };
     assert_eq!(rt; name.spelled(&program.text), b"x".as_slice());
-    Ok(())
 }
 
 #[test]
 fn checked(rt: HostRuntime) -> Result<(), Fail> {
     let program = parse(rt.alloc(), b" input n : int; input v : [bool]; n")?;
     assert_eq!(rt; program.declarations.len(), 2);
-    let typed = check(rt.alloc(), &program)?;
+    assert_checked(&rt, rt.alloc(), &program)?;
+    Ok(())
+}
+
+fn assert_checked(rt: &impl Abort, alloc: Global, program: &Program) -> Result<(), Refusal> {
+    let typed = check(alloc, program)?;
     assert!(rt; matches!(typed.ty(), Ty::Int));
     assert_eq!(rt; typed.program().expr.at(), 34);
     assert_eq!(rt; typed.decls().len(), 2);
@@ -210,58 +241,54 @@ fn checked(rt: HostRuntime) -> Result<(), Fail> {
     Ok(())
 }
 
-// What a program evaluates to for an input text.
+// The value of a program for an input text, or its fault.
 fn evaluated(alloc: Global, text: &[u8], input: &[u8]) -> Result<Result<Datum, Fault>, Refusal> {
     let program = parse(alloc, text)?;
-    let typed = check(alloc, &program)?;
+    evaluated_for(alloc, &program, input)
+}
+
+fn evaluated_for(
+    alloc: Global,
+    program: &Program,
+    input: &[u8],
+) -> Result<Result<Datum, Fault>, Refusal> {
+    let typed = check(alloc, program)?;
     let inputs = read_inputs(typed.dialect(), alloc, typed.decls(), input)?;
     Ok(plain(alloc, &typed, &inputs)?)
 }
 
-#[test]
-fn values(rt: HostRuntime) -> Result<(), Fail> {
-    let number = evaluated(rt.alloc(), b" reduce_add({x * x : x in iota(4)})", b"")?;
-    assert!(rt; matches!(number, Ok(Datum::Int(14))));
-    let wide = evaluated(rt.alloc(), b"dialect 2; 9223372036854775807 + 1", b"")?;
-    assert!(rt; matches!(wide, Ok(Datum::Int(9_223_372_036_854_775_808))));
-    let declared = b"input n : int; input v : [bool]; (n, v)".as_slice();
-    let pair = evaluated(rt.alloc(), declared, b"n = 3; v = [true]")?;
-    assert!(rt; matches!(pair, Ok(Datum::Pair(..))));
+fn assert_value(
+    rt: &impl Abort,
+    alloc: Global,
+    (program, input): (&[u8], &[u8]),
+    wanted: &[u8],
+) -> Result<(), Refusal> {
+    match evaluated(alloc, program, input)? {
+        Ok(datum) => assert_text(rt, alloc, &datum, wanted)?,
+        Err(_) => assert!(rt; false, "a fault"),
+    }
     Ok(())
 }
 
-// What a run wrote, and how it ended, under the configuration that no words say.
-fn ran(
-    rt: &impl Threads,
-    alloc: Global,
-    program: &[u8],
-    input: &[u8],
-) -> Result<(Vec<u8>, Result<Outcome, Refusal>), Refusal> {
-    let config = settings(alloc, &["snesl"])?;
-    let gate = Arc::new(alloc, NoGate)?;
-    let mut out = Counted::new(Vec::new(alloc));
-    let ending = match run(rt, alloc, program, input, &config, gate, &mut out) {
-        Ok(report) => Ok(report.outcome()),
-        Err(error) => Err(error.refusal()),
-    };
-    Ok((out.into_inner(), ending))
-}
-
 #[test]
-fn runs(rt: HostRuntime) -> Result<(), Fail> {
-    let fault = Fault {
-        kind: FaultKind::NegativeCount,
-        at: 0,
-    };
-    let rows: [(&[u8], &[u8], &[u8], Result<Outcome, Refusal>); 3] = [
-        (b"iota(3)", b"", b"{0,1,2}\n", Ok(Outcome::Value)),
-        (b"iota(0 - 3)", b"", b"", Ok(Outcome::Fault(fault))),
-        (b"1", b"1", b"", Err(Refusal::BadInput(0))),
+fn values(rt: HostRuntime) -> Result<(), Fail> {
+    // A program with an input text, and the text of its value.
+    let rows: [((&[u8], &[u8]), &[u8]); 3] = [
+        ((b" reduce_add({x * x : x in iota(4)})", b""), b"14"),
+        (
+            (b"dialect 2; 9223372036854775807 + 1", b""),
+            b"9223372036854775808",
+        ),
+        (
+            (
+                b"input n : int; input v : [bool]; (n, v)",
+                b"n = 3; v = [true]",
+            ),
+            b"(3,[true])",
+        ),
     ];
-    for (program, input, wanted, wanted_ending) in rows {
-        let (written, ending) = ran(&rt, rt.alloc(), program, input)?;
-        assert_eq!(rt; ending, wanted_ending);
-        assert_eq!(rt; written.as_slice(), wanted);
+    for (job, wanted) in rows {
+        assert_value(&rt, rt.alloc(), job, wanted)?;
     }
     Ok(())
 }

@@ -1,22 +1,41 @@
-// Inputs, and the declarations for which they were read. What texts spell stands in the tables of `snesl_jobs`.
+// Inputs, and the declarations for which they were read. What texts spell stands in the tables of `tool_runs`.
 
-use snesl_syntax::parse;
+use snesl_syntax::{Program, parse};
 use snesl_types::check;
 use snesl_values::{Datum, Dialect, Inputs, Refusal, Ty, read_inputs};
 use std::alloc::{AllocError, Global};
+use std::process::Abort;
 use std::test::Fail;
 
 // The inputs of a program, from their text.
 fn inputs_of(alloc: Global, program: &[u8], text: &[u8]) -> Result<Inputs, Refusal> {
     let program = parse(alloc, program)?;
-    let typed = check(alloc, &program)?;
+    inputs_for(alloc, &program, text)
+}
+
+fn inputs_for(alloc: Global, program: &Program, text: &[u8]) -> Result<Inputs, Refusal> {
+    let typed = check(alloc, program)?;
     Ok(read_inputs(typed.dialect(), alloc, typed.decls(), text)?)
 }
 
 // Whether a program takes the inputs.
 fn takes(alloc: Global, program: &[u8], inputs: &Inputs) -> Result<bool, Refusal> {
     let program = parse(alloc, program)?;
-    Ok(check(alloc, &program)?.fits(inputs))
+    fits(alloc, &program, inputs)
+}
+
+fn fits(alloc: Global, program: &Program, inputs: &Inputs) -> Result<bool, Refusal> {
+    Ok(check(alloc, program)?.fits(inputs))
+}
+
+// Whether the inputs of a text for a program fit this program.
+fn inputs_fit(
+    alloc: Global,
+    (program, text): (&[u8], &[u8]),
+    other: &[u8],
+) -> Result<bool, Refusal> {
+    let inputs = inputs_of(alloc, program, text)?;
+    takes(alloc, other, &inputs)
 }
 
 #[test]
@@ -40,9 +59,8 @@ fn inputs_fit_their_program_alone(rt: HostRuntime) -> Result<(), Fail> {
         (b"dialect 2; 1", b"", b"1"),
     ];
     for (program, text, other) in rows {
-        let inputs = inputs_of(rt.alloc(), program, text)?;
-        assert!(rt; takes(rt.alloc(), program, &inputs)?);
-        assert!(rt; !takes(rt.alloc(), other, &inputs)?);
+        assert!(rt; inputs_fit(rt.alloc(), (program, text), program)?);
+        assert!(rt; !inputs_fit(rt.alloc(), (program, text), other)?);
     }
     Ok(())
 }
@@ -59,8 +77,13 @@ fn number_named(inputs: &Inputs, name: &[u8]) -> Option<i128> {
 fn names(rt: HostRuntime) -> Result<(), Fail> {
     let program = b"input nn : int; input n : int; n".as_slice();
     let inputs = inputs_of(rt.alloc(), program, b"nn = 5; n = 3")?;
-    assert_eq!(rt; number_named(&inputs, b"n"), Some(3));
-    assert_eq!(rt; number_named(&inputs, b"nn"), Some(5));
+    assert_names(&rt, &inputs);
+    Ok(())
+}
+
+fn assert_names(rt: &impl Abort, inputs: &Inputs) {
+    assert_eq!(rt; number_named(inputs, b"n"), Some(3));
+    assert_eq!(rt; number_named(inputs, b"nn"), Some(5));
     assert!(rt; inputs.named(b"m").is_none());
     assert_eq!(rt; inputs.name(1), Some(b"n".as_slice()));
     assert!(rt; matches!(inputs.value(0), Some(Datum::Int(5))));
@@ -68,23 +91,26 @@ fn names(rt: HostRuntime) -> Result<(), Fail> {
     assert_eq!(rt; inputs.len(), 2);
     assert_eq!(rt; inputs.decls().len(), 2);
     assert!(rt; !inputs.is_empty());
+}
+
+// Adds a declared integer.
+fn declare(alloc: Global, decls: &mut Vec<(Vec<u8>, Ty)>, name: &[u8]) -> Result<(), AllocError> {
+    let name = name.to_vec(alloc)?;
+    decls.push((name, Ty::Int))?;
     Ok(())
 }
 
-// Two integers of one name.
-fn twice(alloc: Global) -> Result<Vec<(Vec<u8>, Ty)>, AllocError> {
-    let mut decls = Vec::new(alloc);
-    decls.push((b"n".to_vec(alloc)?, Ty::Int))?;
-    decls.push((b"n".to_vec(alloc)?, Ty::Int))?;
-    Ok(decls)
+// The first of two inputs of one name, for these declarations.
+fn first_of_two(alloc: Global, decls: &[(Vec<u8>, Ty)]) -> Result<Option<i128>, Refusal> {
+    let inputs = read_inputs(Dialect::Two, alloc, decls, b"n = 1; n = 2")?;
+    Ok(number_named(&inputs, b"n"))
 }
 
 #[test]
 fn the_first_of_a_name_is_meant(rt: HostRuntime) -> Result<(), Fail> {
-    let decls = twice(rt.alloc())?;
-    let inputs = read_inputs(Dialect::Two, rt.alloc(), &decls, b"n = 1; n = 2").map_err(
-        Refusal::from,
-    )?;
-    assert_eq!(rt; number_named(&inputs, b"n"), Some(1));
+    let mut decls = Vec::new(rt.alloc());
+    declare(rt.alloc(), &mut decls, b"n")?;
+    declare(rt.alloc(), &mut decls, b"n")?;
+    assert_eq!(rt; first_of_two(rt.alloc(), &decls)?, Some(1));
     Ok(())
 }

@@ -7,7 +7,7 @@ use std::process::Abort;
 use std::test::Fail;
 use std::thread::Threads;
 
-// A job is not read where the words are refused; what each word is answered stands in the tables of `snesl_jobs`.
+// A job is not read where the words are refused; what each word is answered stands in the tables of `tool_runs`.
 #[test]
 fn words(rt: HostRuntime) -> Result<(), Fail> {
     for word in ["--help", "--capacity", "1", ""] {

@@ -5,4 +5,4 @@ mod expected;
 mod running;
 
 pub use expected::Expected;
-pub use running::{Done, alone, ran};
+pub use running::{Done, alone, ran, ran_alone};

@@ -77,6 +77,19 @@ pub fn ran(
     }
 }
 
+/// Runs a program for an input text in one thread, over edges of this capacity, with visits of at most so many steps.
+pub fn ran_alone(
+    rt: &impl Threads,
+    alloc: Global,
+    program: &[u8],
+    input: &[u8],
+    capacity: usize,
+    chunk: usize,
+) -> Result<Done, AllocError> {
+    let config = alone(alloc, capacity, chunk)?;
+    ran(rt, alloc, program, input, &config)
+}
+
 // How many messages were sent and how many received, of each edge.
 fn counts(alloc: Global, rested: &Rested<StreamNode>) -> Result<Vec<(u64, u64)>, AllocError> {
     let mut counts = Vec::new(alloc);

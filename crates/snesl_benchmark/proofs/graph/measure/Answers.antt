@@ -1,5 +1,0 @@
-use Rattle.flow_nodes.proofs.Sending.{nodes_cross}
-use Rattle.snesl_benchmark.proofs.graph.measure.Goals as goal
-
-pub drive-requires-send-T : goal.drive-requires-send-T
-drive-requires-send-T g c κs within = search nodes_cross

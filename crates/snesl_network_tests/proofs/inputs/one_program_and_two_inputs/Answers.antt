@@ -1,5 +1,0 @@
-use Rattle.flow_nodes.proofs.Sending.{nodes_cross}
-use Rattle.snesl_network_tests.proofs.inputs.one_program_and_two_inputs.Goals as goal
-
-pub drive-requires-send-T : goal.drive-requires-send-T
-drive-requires-send-T g c κs = search nodes_cross

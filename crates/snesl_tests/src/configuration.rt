@@ -1,0 +1,33 @@
+// Configurations of several threads. They stand outside of what is compiled for tests alone, so that their contract and
+// its edit are checked; `alone` of snesl_trials makes those of one thread.
+
+ghost use Rattle.std.specs.Prelude.{◌≡◌, IfOk};
+
+use flow_drive::{Config, Drive, Sharing};
+use std::alloc::{AllocError, Global};
+
+/// Edges that hold so many messages, and shares in so many threads, each of which ends after one turn without a step. Its
+/// only error is that memory was refused.
+pub fn in_threads(
+    alloc: Global,
+    drive: Drive,
+    capacity: usize,
+    threads: usize,
+    share: &[u8],
+) -> Result<Config, AllocError>
+    ensures capacity { IfOk result (λ config. config.capacity ≡ capacity) }
+    ensures threads { IfOk result (λ config. config.sharing.threads ≡ threads) }
+    ensures drive { IfOk result (λ config. config.drive ≡ drive) }
+{
+    let sharing = Sharing {
+        threads,
+        idle_turns: 1,
+        share: share.to_vec(alloc)?,
+    };
+    Ok(Config {
+        capacity,
+        chunk: 16,
+        sharing,
+        drive,
+    })
+}

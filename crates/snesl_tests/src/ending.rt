@@ -1,0 +1,100 @@
+// How runs end where the edges are small, where a network is great, and under configurations that are not lawful. What is printed
+// under lawful ones stands in the tables of `tool_runs`.
+
+use crate::running::{assert_refused, assert_value};
+use flow_drive::Outcome;
+use snesl_trials::{Done, ran_alone};
+use snesl_values::Refusal;
+use std::alloc::{AllocError, Global};
+use std::process::Abort;
+use std::test::Fail;
+use std::thread::Threads;
+
+// How many messages wait on the edge that is full, where the network has stalled.
+fn held_by_full_edge(done: &Done) -> Option<u64> {
+    match done.ending {
+        Ok(Outcome::Stalled { edge }) => {
+            let (sent, received) = *done.counts.get(edge)?;
+            sent.checked_sub(received)
+        }
+        _ => None,
+    }
+}
+
+// A sequence appended to itself is read twice.
+#[test]
+fn stalls_where_edges_are_small(rt: HostRuntime) -> Result<(), Fail> {
+    let twice = b"let s = iota(100) in s ++ s".as_slice();
+    for chunk in [1, 16] {
+        let small = ran_alone(&rt, rt.alloc(), twice, b"", 4, chunk)?;
+        assert!(rt; small.written.is_empty());
+        assert_eq!(rt; held_by_full_edge(&small), Some(4));
+    }
+    Ok(())
+}
+
+// A program that calls the last of its functions with 1: `a` doubles a number, and each of these others calls the one before
+// it twice.
+fn doubling(alloc: Global, others: &str) -> Result<String, AllocError> {
+    let mut text = String::from_str(alloc, "function a(x : int) : int = x + x; ")?;
+    let mut last = 'a';
+    for name in others.chars() {
+        add_function(alloc, &mut text, name, last)?;
+        last = name;
+    }
+    text.push(last)?;
+    text.push_str("(1)")?;
+    Ok(text)
+}
+
+fn add_function(
+    alloc: Global,
+    text: &mut String,
+    name: char,
+    last: char,
+) -> Result<(), AllocError> {
+    let function = format!(in alloc; "function {name}(x : int) : int = {last}(x) + {last}(x); ")?;
+    text.push_str(function.as_str())
+}
+
+// 2,047 sums, and beside them Source, Const, a Fork and Print.
+#[test]
+fn functions_that_double(rt: HostRuntime) -> Result<(), Fail> {
+    let eleven = doubling(rt.alloc(), "bcdefghijk")?;
+    let value = ran_alone(&rt, rt.alloc(), eleven.as_bytes(), b"", 256, 16)?;
+    assert_value(&rt, &value, b"2048\n");
+    assert_eq!(rt; value.nodes, 2_051);
+    Ok(())
+}
+
+// Asserts that a program is not run over edges of this capacity, with visits of so many steps.
+fn assert_unlawful<R: Abort + Threads>(
+    rt: &R,
+    alloc: Global,
+    program: &[u8],
+    (capacity, chunk): (usize, usize),
+) -> Result<(), AllocError> {
+    let done = ran_alone(rt, alloc, program, b"", capacity, chunk)?;
+    assert_refused(rt, &done, Refusal::BadConfig);
+    Ok(())
+}
+
+// The configuration is refused before the program is read: one that has a value, one that faults, three that are refused, and
+// one whose input text is.
+#[test]
+fn unlawful_configurations(rt: HostRuntime) -> Result<(), Fail> {
+    let programs: [&[u8]; 6] = [
+        b"1 + 2",
+        b"1 / 0",
+        b"1 # 2",
+        b"1 +",
+        b"1 + true",
+        b"input n : int; n",
+    ];
+    for program in programs {
+        for numbers in [(0, 16), (65_537, 16), (256, 0), (256, 1_025)] {
+            assert_unlawful(&rt, rt.alloc(), program, numbers)?;
+        }
+    }
+    Ok(())
+}

@@ -1,0 +1,85 @@
+// One network of a program, for several inputs.
+
+ghost use Rattle.std.specs.Prelude.{IfOk};
+ghost use Rattle.flow_graph.specs.Graphs.{states_of};
+ghost use Rattle.flow_graph.specs.Networks.{AreOpened};
+ghost use Rattle.flow_nodes.specs.StreamNodes.{node_behaviour};
+
+use flow_drive::{Config, NoGate, Outcome, drive};
+use flow_graph::Graph;
+use flow_nodes::StreamNode;
+use snesl_flatten::flatten;
+use snesl_syntax::{Program, parse};
+use snesl_trials::alone;
+use snesl_types::{Typed, check};
+use snesl_values::{Inputs, Refusal, read_inputs};
+use std::alloc::Global;
+use std::process::Abort;
+use std::sync::Arc;
+use std::test::Fail;
+use std::thread::Threads;
+
+// The network of the plan of a program, for the inputs of this text.
+fn network_for(
+    rt: &impl Abort,
+    alloc: Global,
+    typed: &Typed<'_>,
+    text: &[u8],
+) -> Result<Graph<StreamNode>, Refusal>
+    ensures { IfOk result (λ graph. AreOpened node_behaviour (states_of graph)) }
+{
+    let inputs = read_inputs(typed.dialect(), alloc, typed.decls(), text)?;
+    network_with(rt, alloc, typed, inputs)
+}
+
+fn network_with(
+    rt: &impl Abort,
+    alloc: Global,
+    typed: &Typed<'_>,
+    inputs: Inputs,
+) -> Result<Graph<StreamNode>, Refusal>
+    ensures { IfOk result (λ graph. AreOpened node_behaviour (states_of graph)) }
+{
+    let plan = flatten(alloc, typed)?;
+    assert!(rt; plan.fits(&inputs));
+    Ok(plan.with(inputs)?)
+}
+
+// Asserts that the network of a program ends in this text, for the inputs of this one.
+fn assert_prints<R: Abort + Threads>(
+    rt: &R,
+    alloc: Global,
+    typed: &Typed<'_>,
+    config: &Config,
+    (input, text): (&[u8], &[u8]),
+) -> Result<(), Fail> {
+    let gate = Arc::new(alloc, NoGate)?;
+    let graph = network_for(rt, alloc, typed, input)?;
+    let rested = drive(rt, alloc, graph, config, gate)?;
+    assert_eq!(rt; rested.outcome(), Outcome::Value);
+    assert_eq!(rt; rested.text(), text);
+    Ok(())
+}
+
+// Asserts what the network of a program prints for one input and for another.
+fn assert_sums<R: Abort + Threads>(
+    rt: &R,
+    alloc: Global,
+    program: &Program,
+    config: &Config,
+) -> Result<(), Fail> {
+    let typed = check(alloc, program)?;
+    let rows: [(&[u8], &[u8]); 2] = [(b"n = 5", b"10"), (b"n = 7", b"21")];
+    for row in rows {
+        assert_prints(rt, alloc, &typed, config, row)?;
+    }
+    Ok(())
+}
+
+// Step by step what a run does.
+#[test]
+fn one_program_and_two_inputs(rt: HostRuntime) -> Result<(), Fail> {
+    let config = alone(rt.alloc(), 1, 1)?;
+    let program = parse(rt.alloc(), b"input n : int; reduce_add(iota(n))")?;
+    assert_sums(&rt, rt.alloc(), &program, &config)
+}

@@ -1,0 +1,131 @@
+// Plans, and what networks are made of, with ample memory.
+
+use crate::pairs::pair_type;
+use flow_assembly::assemble;
+use flow_inputs::streams_of;
+use flow_plans::{Operation, Step};
+use flow_scalar::Stream;
+use flow_values::is_value;
+use snesl_scopes::Scope;
+use snesl_steps::{Steps, Wires};
+use snesl_syntax::{Program, parse};
+use snesl_translator::{Setting, translate};
+use snesl_types::check;
+use snesl_values::{Datum, Dialect, Refusal, Ty};
+use std::alloc::{AllocError, Global};
+use std::process::Abort;
+use std::test::Fail;
+
+// The steps of a program without inputs, and the streams of its value.
+fn translated(alloc: Global, text: &[u8]) -> Result<(Vec<Step>, Wires), Refusal> {
+    let program = parse(alloc, text)?;
+    let dialect = check(alloc, &program)?.dialect();
+    let mut steps = Steps::new(alloc, dialect);
+    let wires = translated_into(&mut steps, &program)?;
+    Ok((steps.into_steps(), wires))
+}
+
+fn translated_into(steps: &mut Steps, program: &Program) -> Result<Wires, Refusal> {
+    let control = steps.control(0)?;
+    let setting = Setting {
+        text: &program.text,
+        functions: &program.declarations,
+    };
+    translate(steps, &setting, &program.expr, &Scope::Nothing, control)
+}
+
+#[test]
+fn squares(rt: HostRuntime) -> Result<(), Fail> {
+    let (steps, wires) = translated(rt.alloc(), b"reduce_add({x * x : x in iota(4)})")?;
+    assert_squares(&rt, &steps);
+    assert_one_number(&rt, rt.alloc(), &wires)?;
+    Ok(())
+}
+
+fn assert_squares(rt: &impl Abort, steps: &[Step]) {
+    assert_eq!(rt; steps.len(), 6);
+    assert!(rt; matches!(steps[2].operation, Operation::Iota));
+    assert_eq!(rt; steps[4].reads.as_slice(), [3usize, 3].as_slice());
+    assert_eq!(rt; steps[5].reads.as_slice(), [2usize, 5].as_slice());
+}
+
+// Asserts that the value is a number, which stands on the stream 6.
+fn assert_one_number(rt: &impl Abort, alloc: Global, wires: &Wires) -> Result<(), AllocError> {
+    assert_eq!(rt; wires.stream(), 6);
+    assert!(rt; matches!(wires.ty(alloc)?, Ty::Int));
+    let numbers = wires.numbers(alloc)?;
+    assert_eq!(rt; numbers.as_slice(), [6usize].as_slice());
+    Ok(())
+}
+
+// How many steps a program has.
+fn count_of(alloc: Global, text: &[u8]) -> Result<usize, Refusal> {
+    let (steps, _wires) = translated(alloc, text)?;
+    Ok(steps.len())
+}
+
+// Each form of the language once; how many steps each has is counted by hand from the translation.
+#[test]
+fn forms(rt: HostRuntime) -> Result<(), Fail> {
+    let rows: [(&[u8], usize); 9] = [
+        (b"(1, true)", 3),
+        (b"let u = 1 in 7", 3),
+        (b"- 1 + 2", 5),
+        (b"the({1})", 6),
+        (b"{1} ++ {2}", 11),
+        (b"{5 | true}", 5),
+        (b"if true then 1 else 2", 12),
+        (b"{x : x in iota(2)}", 4),
+        (b"function f(x : int) : int = x + x; f(f(1))", 4),
+    ];
+    for (text, count) in rows {
+        assert_eq!(rt; count_of(rt.alloc(), text)?, count);
+    }
+    Ok(())
+}
+
+#[test]
+fn nothing_to_assemble(rt: HostRuntime) -> Result<(), Fail> {
+    let alloc = rt.alloc();
+    let assembled = assemble(alloc, Dialect::One, Vec::new(alloc))?;
+    assert_eq!(rt; assembled.graph.nodes(), 0);
+    assert_eq!(rt; assembled.graph.edges(), 0);
+    assert_eq!(rt; assembled.places.len(), 0);
+    Ok(())
+}
+
+// The pair of 7 and the sequence of `true` and `false`.
+fn pair_datum(alloc: Global) -> Result<Datum, AllocError> {
+    let truths = Box::new(alloc, truths(alloc)?)?;
+    let number = Box::new(alloc, Datum::Int(7))?;
+    Ok(Datum::Pair(number, truths))
+}
+
+fn truths(alloc: Global) -> Result<Datum, AllocError> {
+    let mut truths = Vec::new(alloc);
+    truths.push(Datum::Bool(true))?;
+    truths.push(Datum::Bool(false))?;
+    Ok(Datum::Seq(truths))
+}
+
+fn assert_streams(rt: &impl Abort, streams: &[Stream]) {
+    assert_eq!(rt; streams.len(), 3);
+    assert!(rt; matches!(&streams[0], Stream::Ints(all) if all.as_slice() == [7i128].as_slice()));
+    assert!(rt;
+        matches!(&streams[1], Stream::Bools(all) if all.as_slice() == [false, false, true].as_slice())
+    );
+    assert!(rt;
+        matches!(&streams[2], Stream::Bools(all) if all.as_slice() == [true, false].as_slice())
+    );
+}
+
+// The pair stands on three edges.
+#[test]
+fn streams(rt: HostRuntime) -> Result<(), Fail> {
+    let ty = pair_type(rt.alloc())?;
+    let datum = pair_datum(rt.alloc())?;
+    assert!(rt; is_value(&ty, &datum));
+    let streams = streams_of(rt.alloc(), &ty, &datum)?;
+    assert_streams(&rt, &streams);
+    Ok(())
+}

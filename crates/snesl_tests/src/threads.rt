@@ -1,0 +1,222 @@
+// Runs in threads of their own: workers side by side, and how many rounds and epochs there are. What several threads make of
+// programs stands in the tables of `tool_runs`.
+
+use crate::configuration::in_threads;
+use crate::running::ending;
+use flow_drive::{Config, Drive, Gate, Outcome};
+use snesl_run::{Report, RunError, run};
+use snesl_values::{Counted, Refusal};
+use std::alloc::Global;
+use std::process::Abort;
+use std::sync::Arc;
+use std::sync::atomic::{AtomicU64, Ordering};
+use std::test::Fail;
+use std::thread;
+use std::thread::Threads;
+
+// Two gates look for one another: each share marks its first turn, and then looks for the mark of the other.
+#[derive(Drop)]
+struct SideBySide {
+    first: Mark,
+    second: Mark,
+}
+
+// Whether a share has come to its first turn, and whether it then saw the other there.
+#[derive(Drop)]
+struct Mark {
+    came: AtomicU64,
+    saw: AtomicU64,
+}
+
+// How often a gate looks.
+const LOOKS: usize = 1_000_000;
+
+impl SideBySide {
+    fn new() -> SideBySide {
+        SideBySide {
+            first: Mark::new(),
+            second: Mark::new(),
+        }
+    }
+}
+
+impl Mark {
+    fn new() -> Mark {
+        Mark {
+            came: AtomicU64::new(0),
+            saw: AtomicU64::new(0),
+        }
+    }
+
+    // Marks the first turn, and looks for that of the other share. Where it never comes, all looks are in vain.
+    fn look_for(&self, other: &Mark) {
+        if self.came.fetch_add(1, Ordering::SeqCst) > 0 {
+            return;
+        }
+        for _ in 0..LOOKS {
+            if other.came.load(Ordering::SeqCst) > 0 {
+                self.saw.store(1, Ordering::SeqCst);
+                return;
+            }
+            thread::yield_now();
+        }
+    }
+
+    fn saw(&self) -> bool {
+        self.saw.load(Ordering::SeqCst) > 0
+    }
+}
+
+impl Gate for SideBySide {
+    fn turn(&self, share: usize, _: usize) {
+        if share == 0 {
+            self.first.look_for(&self.second);
+        } else {
+            self.second.look_for(&self.first);
+        }
+    }
+}
+
+// Counts the first turns of share 0, of which a round or an epoch has one. Share 1 yields so often before each first turn of its own.
+#[derive(Drop)]
+struct Counting {
+    count: AtomicU64,
+    yields: usize,
+}
+
+impl Counting {
+    fn new(yields: usize) -> Counting {
+        Counting {
+            count: AtomicU64::new(0),
+            yields,
+        }
+    }
+}
+
+impl Gate for Counting {
+    fn turn(&self, share: usize, turn: usize) {
+        if turn == 0 && share == 0 {
+            self.count.fetch_add(1, Ordering::SeqCst);
+        }
+        if turn == 0 && share == 1 {
+            for _ in 0..self.yields {
+                thread::yield_now();
+            }
+        }
+    }
+}
+
+// The drives of several threads.
+const THREADED: [Drive; 2] = [Drive::Rounds, Drive::Rings];
+
+// What a run wrote, how it ended, and how many rounds and epochs it had: none where it was refused.
+#[derive(Drop)]
+struct Turned {
+    written: Vec<u8>,
+    ending: Result<Outcome, Refusal>,
+    turns: (u64, u64),
+}
+
+fn turns(answer: &Result<Report, RunError>) -> (u64, u64) {
+    match answer {
+        Ok(report) => (report.rested().rounds(), report.rested().epochs()),
+        Err(_) => (0, 0),
+    }
+}
+
+// Runs a program without inputs, over memory, and keeps its gate.
+fn ran<G: Gate + Send + Sync + Drop + 'static>(
+    rt: &impl Threads,
+    alloc: Global,
+    program: &[u8],
+    config: &Config,
+    gate: &Arc<G, Global>,
+) -> Result<Turned, Fail> {
+    let gate = Arc::try_clone(gate)?;
+    let mut out = Counted::new(Vec::new(alloc));
+    let answer = run(rt, alloc, program, b"", config, gate, &mut out);
+    Ok(Turned {
+        written: out.into_inner(),
+        ending: ending(&answer),
+        turns: turns(&answer),
+    })
+}
+
+// Asserts that a run ended in a value, and wrote this line.
+fn assert_value(rt: &impl Abort, done: &Turned, line: &[u8]) {
+    assert_eq!(rt; done.ending, Ok(Outcome::Value));
+    assert_eq!(rt; done.written.as_slice(), line);
+}
+
+// Asserts that each of two workers sees the other come.
+fn assert_side_by_side<R: Abort + Threads>(
+    rt: &R,
+    alloc: Global,
+    config: &Config,
+) -> Result<(), Fail> {
+    let gate = Arc::new(alloc, SideBySide::new())?;
+    let program = b"{reduce_add({x + y : y in iota(x)}) : x in iota(4)}";
+    let done = ran(rt, alloc, program, config, &gate)?;
+    assert_value(rt, &done, b"{0,1,5,12}\n");
+    // On one thread the share that is pumped first never sees the other.
+    assert!(rt; gate.first.saw() && gate.second.saw());
+    Ok(())
+}
+
+#[test]
+fn workers_run_side_by_side(rt: HostRuntime) -> Result<(), Fail> {
+    for drive in THREADED {
+        let config = in_threads(rt.alloc(), drive, 256, 2, &[0, 1])?;
+        assert_side_by_side(&rt, rt.alloc(), &config)?;
+    }
+    Ok(())
+}
+
+// Asserts that a run took as many rounds, or else epochs, as its gate has counted; it was not refused, so it has some.
+fn assert_counted(rt: &impl Abort, done: &Turned, gate: &Counting, (least, most): (u64, u64)) {
+    let (rounds, epochs) = done.turns;
+    let took = rounds.max(epochs);
+    assert!(rt; rounds == 0 || epochs == 0);
+    assert_eq!(rt; took, gate.count.load(Ordering::SeqCst));
+    assert!(rt; took >= least && took <= most);
+}
+
+// Runs a program over a gate that counts, and asserts that there are so many rounds or epochs.
+fn counted<R: Abort + Threads>(
+    rt: &R,
+    alloc: Global,
+    program: &[u8],
+    config: &Config,
+    gate: Counting,
+    range: (u64, u64),
+) -> Result<Turned, Fail> {
+    let gate = Arc::new(alloc, gate)?;
+    let done = ran(rt, alloc, program, config, &gate)?;
+    assert_counted(rt, &done, &gate, range);
+    Ok(done)
+}
+
+// A share that waits for messages of one that comes late ends its epoch, and has another.
+#[test]
+fn a_late_share_is_waited_for(rt: HostRuntime) -> Result<(), Fail> {
+    let config = in_threads(rt.alloc(), Drive::Rings, 256, 2, &[0, 1])?;
+    let program = b"let s = iota(100) in s ++ s";
+    let late = Counting::new(100_000);
+    let done = counted(&rt, rt.alloc(), program, &config, late, (2, u64::MAX))?;
+    assert_eq!(rt; done.ending, Ok(Outcome::Value));
+    assert_eq!(rt; done.written.len(), 582);
+    Ok(())
+}
+
+// Each round or epoch but the last moves a message at least, of nineteen that are sent and received.
+#[test]
+fn rounds_and_epochs_are_counted(rt: HostRuntime) -> Result<(), Fail> {
+    let share = [0u8, 1, 2, 3, 4, 5, 6, 7, 8, 9, 10, 11, 12, 13, 14, 15];
+    let program = b"reduce_add(iota(5))";
+    for drive in THREADED {
+        let config = in_threads(rt.alloc(), drive, 1, 16, &share)?;
+        let done = counted(&rt, rt.alloc(), program, &config, Counting::new(0), (1, 39))?;
+        assert_value(&rt, &done, b"10\n");
+    }
+    Ok(())
+}

@@ -1,0 +1,96 @@
+// Runs that try the language's implementation as a whole, and that time it.
+//
+// The first word of the command line says what is done. `jobs`, or no word, answers the tables of jobs in the folder that the
+// program runs in (`jobs.rt`). `random` makes programs and runs them (`random.rt`). `drives`, `graph` and `plain` give the figures
+// of docs/PROMISES.md (`figures.rt`), the first two over as many elements as the second word says, a thousand where there is
+// none. `all` does all of this in turn. The status is 1 where something differs.
+#![tactic(auto)]
+
+mod endings;
+mod figures;
+mod jobs;
+mod random;
+
+use anyhow::{Context, Result, bail};
+use figures::{print_plainly, time_drives, time_graph};
+use jobs::{table_names, try_jobs};
+use random::{Wish, try_programs};
+use std::env::{self, Args};
+
+// Over how many elements the figures go where no word tells.
+const ELEMENTS: u64 = 1_000;
+
+// What the command line asks for.
+#[derive(Clone, Copy)]
+enum Task {
+    Jobs,
+    Random(Wish),
+    Drives(u64),
+    Graph(u64),
+    Plain,
+    All,
+}
+
+fn main(rt: HostRuntime) -> Result<()> {
+    match task_of(env::args(&rt)?)? {
+        Task::Jobs => try_jobs(&rt, &table_names(&rt)?),
+        Task::Random(wish) => try_programs(&rt, wish),
+        Task::Drives(count) => time_drives(&rt, count),
+        Task::Graph(count) => time_graph(&rt, count),
+        Task::Plain => print_plainly(&rt),
+        Task::All => {
+            try_jobs(&rt, &table_names(&rt)?)?;
+            try_programs(&rt, Wish::usual())?;
+            time_drives(&rt, ELEMENTS)?;
+            time_graph(&rt, ELEMENTS)?;
+            print_plainly(&rt)
+        }
+    }
+}
+
+// What the words ask for.
+fn task_of(mut words: Args) -> Result<Task> {
+    let _program = words.next();
+    let Some(first) = words.next() else {
+        return Ok(Task::Jobs);
+    };
+    match first.as_str() {
+        "jobs" => Ok(Task::Jobs),
+        "random" => Ok(Task::Random(wish_of(&mut words)?)),
+        "drives" => Ok(Task::Drives(count_of(&mut words)?)),
+        "graph" => Ok(Task::Graph(count_of(&mut words)?)),
+        "plain" => Ok(Task::Plain),
+        "all" => Ok(Task::All),
+        _ => bail!("the first word is jobs, random, drives, graph, plain or all"),
+    }
+}
+
+// What is asked of random programs, by at most two words, each with a number behind it.
+fn wish_of(words: &mut Args) -> Result<Wish> {
+    let mut wish = Wish::usual();
+    for _ in 0..2 {
+        let Some(word) = words.next() else {
+            break;
+        };
+        let number = number_of(words.next())?;
+        match word.as_str() {
+            "--seconds" => wish.seconds = Some(number),
+            "--seed" => wish.seed = Some(number),
+            _ => bail!("the words are --seconds N and --seed S"),
+        }
+    }
+    Ok(wish)
+}
+
+// Over how many elements the figures go.
+fn count_of(words: &mut Args) -> Result<u64> {
+    match words.next() {
+        Some(word) => number_of(Some(word)),
+        None => Ok(ELEMENTS),
+    }
+}
+
+fn number_of(word: Option<String>) -> Result<u64> {
+    let word = word.context("a word stands alone")?;
+    word.as_str().parse::<u64>().context("no number")
+}
