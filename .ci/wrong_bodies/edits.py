@@ -19,7 +19,7 @@ class Edit:
 
     def __init__(self, crate, file, code):
         self.file, self.label = file, f"{crate.name}/{os.path.basename(file)}"
-        self.texts, self.why = rt.read_edit(file, crate.folder)
+        self.texts, self.why = rt.read_edit(file, crate.folder) if file.endswith(".edit") else (None, "its name does not end in .edit")
         self.lines, self.struck, self.is_apart = {}, [], False
         is_known = True
         for path, text in (self.texts or {}).items():

@@ -15,6 +15,7 @@ Token = collections.namedtuple("Token", "line begin end word")
 # A block in braces: the tokens before it, from the end of the last statement or item on, and its first brace.
 Block = collections.namedtuple("Block", "head brace")
 ROW = re.compile(r'(?m)^(\d+) (\d+) (\d+) Code "(.*)"$')
+OF_TESTS = re.compile(r"# \[ (?:cfg \( )?test\b")
 # The head of an impl whose trait takes types, which may take types in turn.
 TAKES = re.compile(r"\w+ < ((?:[^<>]|<(?:[^<>]|<[^<>]*>)*>)*) > for ")
 
@@ -49,10 +50,12 @@ class Function:
 
 
 class Code:
-    """The tokens of a crate's files, without clauses, and its functions."""
+    """The tokens of a crate's files, without clauses, and its functions. What is compiled for tests alone is left out."""
 
     def __init__(self, crate):
-        self.tokens = tokens_of(crate)
+        tokens = tokens_of(crate)
+        of_tests = tuple(place for file, its in tokens.items() for place in places_of_tests(file, its))
+        self.tokens = {file: its for file, its in tokens.items() if not file.startswith(of_tests)}
         # a type's own functions are named by the module that declares it
         self.types = collections.defaultdict(list)
         for file, tokens in self.tokens.items():
@@ -62,7 +65,8 @@ class Code:
         self.functions = []
         for file, tokens in self.tokens.items():
             for around, block, end in blocks_of(tokens):
-                if is_function(block) and not any(map(is_function, around)):
+                of_tests = any(OF_TESTS.search(" ".join(words_of(it))) for it in (*around, block))
+                if is_function(block) and not any(map(is_function, around)) and not of_tests:
                     self.functions.append(self.function(file, around, block, end))
 
     def function(self, file, around, block, end):
@@ -121,6 +125,13 @@ def tokens_of(crate):
         file: [Token(*map(int, it.groups()[:3]), it[4]) for it in ROW.finditer(part)]
         for file, part in zip(files, parts, strict=True)
     }
+
+
+def places_of_tests(file, tokens):
+    """Where the modules lie that a file declares for tests alone: a file and a folder each."""
+    above = file.removesuffix("lib.rt").removesuffix("main.rt").removesuffix("mod.rt").removesuffix(".rt").rstrip("/")
+    for name in re.findall(r"# \[ cfg \( test \) \] (?:pub )?mod (\w+) ;", " ".join(it.word for it in tokens)):
+        yield from (f"{above}/{name}.rt", f"{above}/{name}/")
 
 
 def blocks_of(tokens):
