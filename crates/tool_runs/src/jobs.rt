@@ -6,10 +6,11 @@
 // by the drives of several threads (`drives.rt`). It is an error where something differs, where there is no table, and where
 // a table cannot be read or has no row.
 
+mod answers;
 mod beside;
 mod drives;
-mod trial;
 
+use answers::Answers;
 use anyhow::{Context, Result, ensure};
 use beside::Beside;
 use drives::Drives;
@@ -18,7 +19,6 @@ use std::alloc::Global;
 use std::rt::Files;
 use std::thread::Threads;
 use std::{fs, io};
-use trial::Answers;
 
 // The table of worked rows, whose programs are run by every drive.
 const WORKED: &str = "worked.programs";

@@ -3,7 +3,7 @@
 
 use crate::endings::Endings;
 use crate::jobs::Trial;
-use crate::jobs::trial::job_of;
+use crate::jobs::answers::job_of;
 use snesl_console::split;
 use snesl_tables::{Row, SpellingError};
 use snesl_trials::{Expected, ran_alone};

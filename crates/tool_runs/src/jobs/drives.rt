@@ -1,7 +1,7 @@
 // Programs by each drive: over edges of the same capacity, the drives of several threads end as that of one thread does.
 
 use crate::jobs::Trial;
-use crate::jobs::trial::job_of;
+use crate::jobs::answers::job_of;
 use flow_drive::{Config, Drive, Sharing};
 use snesl_console::split;
 use snesl_tables::{Row, SpellingError};

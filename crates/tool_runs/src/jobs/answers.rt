@@ -122,7 +122,7 @@ fn text_of(alloc: Global, lines: &[&str]) -> Result<String, AllocError> {
 fn answered(rt: &impl Threads, alloc: Global, row: &Row<'_>) -> Result<Reply, SpellingError> {
     let job = job_of(alloc, row)?;
     let words = words_of(alloc, row)?;
-    Ok(reply(rt, alloc, &words, &job))
+    Ok(reply_to(rt, alloc, &words, &job))
 }
 
 // The words of the command line, with the program's name before them.
@@ -134,7 +134,7 @@ fn words_of<'a>(alloc: Global, row: &Row<'a>) -> Result<Vec<&'a str>, AllocError
 }
 
 // Answers a job over memory.
-fn reply(rt: &impl Threads, alloc: Global, words: &[&str], job: &[u8]) -> Reply {
+fn reply_to(rt: &impl Threads, alloc: Global, words: &[&str], job: &[u8]) -> Reply {
     let mut reader = Counted::new(job);
     let mut printed = Counted::new(Vec::new(alloc));
     let mut said = Counted::new(Vec::new(alloc));
