@@ -1,14 +1,10 @@
 -- What a node does, one variant at a time: for the tactics, which see no further than a node whose variant is open.
-use Rattle.std.specs.Prelude.{◌≡◌, ℕ}
+use Rattle.std.specs.Prelude.{◌≡◌}
 use Rattle.std.proofs.Common.{arith}
-use Rattle.flow_edges.specs.declared.message.Kind.{Kind}
 use Rattle.flow_edges.specs.Signals.{Signal}
-use Rattle.flow_base.specs.Transducers.{ports_on, kind_on}
-use Rattle.flow_base.specs.declared.transducer.Side.{Side}
-use Rattle.flow_base.specs.declared.transducer.Side.TheVariants as sides
 use Rattle.flow_nodes.specs.declared.stream_node.StreamNode.{StreamNode}
 use Rattle.flow_nodes.specs.declared.stream_node.StreamNode.TheVariants as nodes
-use Rattle.flow_nodes.specs.StreamNodes.{member, node_behaviour, state_of, text_in}
+use Rattle.flow_nodes.specs.StreamNodes.{node_behaviour, state_of, text_in}
 
 -- the same function, by cases of the variant
 abbrev pub by_variant : {R : Type 0} → (StreamNode → R) → StreamNode → R
@@ -45,21 +41,6 @@ same_by_variant f x = grind arith
 pub want_at : (x : StreamNode) → node_behaviour.process.want (state_of x) ≡ by_variant (λ n. node_behaviour.process.want (state_of n)) x
 want_at x = same_by_variant (λ n. node_behaviour.process.want (state_of n)) x
 
--- what its kind has on a side, where no case of the side is known
-abbrev ports_of_kind : Side → StreamNode → ℕ
-ports_of_kind side x = ports_on (member (state_of x).0).behaviour side (state_of x).1
-
-abbrev kinds_of_kind : Side → ℕ → StreamNode → Kind
-kinds_of_kind side p x = kind_on (member (state_of x).0).behaviour side (state_of x).1 p
-
-pub ports_at : (side : Side) (x : StreamNode) → ports_on node_behaviour side (state_of x) ≡ by_variant (ports_of_kind side) x
-ports_at sides.In x = same_by_variant (ports_of_kind sides.In) x
-ports_at sides.Out x = same_by_variant (ports_of_kind sides.Out) x
-
-pub kinds_at : (side : Side) (x : StreamNode) (p : ℕ) → kind_on node_behaviour side (state_of x) p ≡ by_variant (kinds_of_kind side p) x
-kinds_at sides.In x p = same_by_variant (kinds_of_kind sides.In p) x
-kinds_at sides.Out x p = same_by_variant (kinds_of_kind sides.Out p) x
-
 pub read_at : (x : StreamNode) (m : Signal) → node_behaviour.process.read (state_of x) m ≡ by_variant (λ n. node_behaviour.process.read (state_of n) m) x
 read_at x m = same_by_variant (λ n. node_behaviour.process.read (state_of n) m) x
 
@@ -73,7 +54,7 @@ pub memory_at : (x : StreamNode) → node_behaviour.takes_memory (state_of x) �
 memory_at x = same_by_variant (λ n. node_behaviour.takes_memory (state_of n)) x
 
 -- each part of what a node does, by its variant
-pub ruleset node_steps = (want_at, ports_at, kinds_at, read_at, written_at, wrote_at, memory_at)
+pub ruleset node_steps = (want_at, read_at, written_at, wrote_at, memory_at)
 
 pub text_at : (x : StreamNode) → text_in (state_of x) ≡ by_variant (λ n. text_in (state_of n)) x
 text_at x = same_by_variant (λ n. text_in (state_of n)) x
