@@ -3,6 +3,7 @@ use Rattle.std.proofs.Math.Bool.{or-false}
 use Rattle.std.proofs.lemmas.Bool.{or_right}
 use Rattle.flow_base.specs.Members.{node_of}
 use Rattle.flow_base.specs.Visits.{Visited}
+use Rattle.flow_base.proofs.Carried.{same_ends_then}
 use Rattle.flow_base.proofs.Visits.{Made, made_none, made_visit, visited_on, broke_on, on_err}
 use Rattle.flow_base.proofs.node.Node.close.Goals as goal
 
@@ -39,3 +40,15 @@ returns-then-not-branch-clause-visited g c =
     subst (Visited c.args.inputs.now c.args.outputs.now node.behaviour (node.state c.args.self.now) (view c.args.ends.now) (node.state c.step.new.self) (view c.step.new.ends))
     (ap (λ any. c.loop.moved || any) c.if-not-branch.true ∙ or-false c.loop.moved)
     (visited_on node.laws c.requires.placed c.loop.invariant.made c.step.ensures.ends c.in_ok-step.ensures.visited)
+
+pub returns-in_err-step-clause-same : goal.returns-in_err-step-clause-same
+returns-in_err-step-clause-same g c = g.met.E.Ends.same_trans c.args.ends.now c.loop.ends c.step.new.ends c.loop.invariant.same c.step.ensures.same
+
+pub returns-in_err-step-clause-ends : goal.returns-in_err-step-clause-ends
+returns-in_err-step-clause-ends g c = let view = g.E.Ends.view in same_ends_then (view c.args.ends.now) (view c.loop.ends) (view c.step.new.ends) c.loop.invariant.made.ends c.step.ensures.ends
+
+pub returns-then-not-branch-clause-same : goal.returns-then-not-branch-clause-same
+returns-then-not-branch-clause-same g c = g.met.E.Ends.same_trans c.args.ends.now c.loop.ends c.step.new.ends c.loop.invariant.same c.step.ensures.same
+
+pub returns-then-not-branch-clause-ends : goal.returns-then-not-branch-clause-ends
+returns-then-not-branch-clause-ends g c = let view = g.E.Ends.view in same_ends_then (view c.args.ends.now) (view c.loop.ends) (view c.step.new.ends) c.loop.invariant.made.ends c.step.ensures.ends

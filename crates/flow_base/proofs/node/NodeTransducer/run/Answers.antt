@@ -3,6 +3,7 @@ use Rattle.std.proofs.lemmas.Bool.{or_left}
 use Rattle.flow_base.specs.declared.node.Phase.TheVariants.{Working}
 use Rattle.flow_base.specs.Members.{node_of}
 use Rattle.flow_base.specs.Visits.{Visited}
+use Rattle.flow_base.proofs.Carried.{same_ends_then}
 use Rattle.flow_base.proofs.Visits.{made_first, placed_on, visited_on, broke_on, moved, on_err}
 use Rattle.flow_base.proofs.node.NodeTransducer.run.Goals.{in-Working, in_default, in-Working-matches, in_default-matches}
 use Rattle.flow_base.proofs.node.NodeTransducer.run.Goals as goal
@@ -35,3 +36,15 @@ returns-clause-visited g c =
     subst (Visited c.args.inputs.now c.args.outputs.now node.behaviour s (view c.args.ends.now) (node.state c.close-2.new.self) (view c.close-2.new.ends))
     (or_left (nat_lt 0 c.in_ok-made.made) c.in_ok-close.field-0 some)
     (visited_on node.laws placed worked c.close-2.ensures.ends c.in_ok-close.ensures.visited)
+
+pub returns-in_err-close-clause-same : goal.returns-in_err-close-clause-same
+returns-in_err-close-clause-same g c = g.met.E.Ends.same_trans c.args.ends.now c.work.new.ends c.close-2.new.ends c.work.ensures.same c.close-2.ensures.same
+
+pub returns-in_err-close-clause-ends : goal.returns-in_err-close-clause-ends
+returns-in_err-close-clause-ends g c = let view = g.E.Ends.view in same_ends_then (view c.args.ends.now) (view c.work.new.ends) (view c.close-2.new.ends) c.work.ensures.ends c.close-2.ensures.ends
+
+pub returns-clause-same : goal.returns-clause-same
+returns-clause-same g c = g.met.E.Ends.same_trans c.args.ends.now c.work.new.ends c.close-2.new.ends c.work.ensures.same c.close-2.ensures.same
+
+pub returns-clause-ends : goal.returns-clause-ends
+returns-clause-ends g c = let view = g.E.Ends.view in same_ends_then (view c.args.ends.now) (view c.work.new.ends) (view c.close-2.new.ends) c.work.ensures.ends c.close-2.ensures.ends

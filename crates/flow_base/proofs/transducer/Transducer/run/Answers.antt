@@ -2,6 +2,7 @@ use Rattle.std.proofs.Common.{◌≡◌, ◌<◌, true, refl, sym, ◌∙◌, ap
 use Rattle.kahn.specs.declared.want.Want.TheVariants.{Read, Write}
 use Rattle.flow_edges.specs.Signals.{signal_of}
 use Rattle.flow_base.specs.Visits.{edge_of, IsStuck}
+use Rattle.flow_base.proofs.Carried.{same_ends_then}
 use Rattle.flow_base.proofs.Visits.{Made, made_none, input_there, output_there, reads_at, made_read, made_put, made_looked, made_room, visited, broke_off, broke_reading, starves_err, no_room, on_err}
 use Rattle.flow_base.proofs.transducer.Transducer.run.Goals.{in-Read+else-prove+in-Some+in_ok-give-in-Read, in-Write+else-prove-2+else-not-room+in_ok-message-in-Write+in-Err+in-Item+in-Vec-1, in-Write+else-prove-2+else-not-room+in_ok-message-in-Write+in-Err+in-Item+in-Unit-1, in-Write+else-prove-2+else-not-room+in_ok-message-in-Write+in-Err+in-End-1, in-Write+else-prove-2+else-not-room+in_ok-message-in-Write+in-Ok-1}
 use Rattle.flow_base.proofs.transducer.Transducer.run.Goals as goal
@@ -162,3 +163,39 @@ loop-preserved g c =
             first = λ h. cc;
           })
     ]
+
+pub returns-in_default-clause-same : goal.returns-in_default-clause-same
+returns-in_default-clause-same g c = g.met.E.Ends.same_trans c.args.ends.now c.loop.ends c.take.new.self c.loop.invariant.same c.take.ensures.same
+
+pub returns-in_default-clause-ends : goal.returns-in_default-clause-ends
+returns-in_default-clause-ends g c = let view = g.E.Ends.view in same_ends_then (view c.args.ends.now) (view c.loop.ends) (view c.take.new.self) c.loop.invariant.made.ends c.in_default.ensures.none.0.ends
+
+pub returns-in_err-give-in-Read-clause-same : goal.returns-in_err-give-in-Read-clause-same
+returns-in_err-give-in-Read-clause-same g c = g.met.E.Ends.same_trans c.args.ends.now c.loop.ends c.take.new.self c.loop.invariant.same c.take.ensures.same
+
+pub returns-in_err-give-in-Read-clause-ends : goal.returns-in_err-give-in-Read-clause-ends
+returns-in_err-give-in-Read-clause-ends g c = let view = g.E.Ends.view in same_ends_then (view c.args.ends.now) (view c.loop.ends) (view c.take.new.self) c.loop.invariant.made.ends c.in-Some.ensures.some.ends
+
+pub returns-then-not-room-clause-same : goal.returns-then-not-room-clause-same
+returns-then-not-room-clause-same g c = g.met.E.Ends.same_trans c.args.ends.now c.loop.ends c.room.new.self c.loop.invariant.same c.room.ensures.same
+
+pub returns-then-not-room-clause-ends : goal.returns-then-not-room-clause-ends
+returns-then-not-room-clause-ends g c = let view = g.E.Ends.view in same_ends_then (view c.args.ends.now) (view c.loop.ends) (view c.room.new.self) c.loop.invariant.made.ends c.room.ensures.looked.ends
+
+pub returns-in_err-message-in-Write-clause-same : goal.returns-in_err-message-in-Write-clause-same
+returns-in_err-message-in-Write-clause-same g c = g.met.E.Ends.same_trans c.args.ends.now c.loop.ends c.room.new.self c.loop.invariant.same c.room.ensures.same
+
+pub returns-in_err-message-in-Write-clause-ends : goal.returns-in_err-message-in-Write-clause-ends
+returns-in_err-message-in-Write-clause-ends g c = let view = g.E.Ends.view in same_ends_then (view c.args.ends.now) (view c.loop.ends) (view c.room.new.self) c.loop.invariant.made.ends c.room.ensures.looked.ends
+
+pub returns-in-Ended-clause-same : goal.returns-in-Ended-clause-same
+returns-in-Ended-clause-same g c = c.loop.invariant.same
+
+pub returns-in-Ended-clause-ends : goal.returns-in-Ended-clause-ends
+returns-in-Ended-clause-ends g c = c.loop.invariant.made.ends
+
+pub returns-clause-same : goal.returns-clause-same
+returns-clause-same g c = c.loop.invariant.same
+
+pub returns-clause-ends : goal.returns-clause-ends
+returns-clause-ends g c = c.loop.invariant.made.ends
