@@ -44,17 +44,11 @@ want_at x = same_by_variant (λ n. node_behaviour.process.want (state_of n)) x
 pub read_at : (x : StreamNode) (m : Signal) → node_behaviour.process.read (state_of x) m ≡ by_variant (λ n. node_behaviour.process.read (state_of n) m) x
 read_at x m = same_by_variant (λ n. node_behaviour.process.read (state_of n) m) x
 
-pub written_at : (x : StreamNode) → node_behaviour.process.written (state_of x) ≡ by_variant (λ n. node_behaviour.process.written (state_of n)) x
-written_at x = same_by_variant (λ n. node_behaviour.process.written (state_of n)) x
-
-pub wrote_at : (x : StreamNode) → node_behaviour.process.wrote (state_of x) ≡ by_variant (λ n. node_behaviour.process.wrote (state_of n)) x
-wrote_at x = same_by_variant (λ n. node_behaviour.process.wrote (state_of n)) x
-
 pub memory_at : (x : StreamNode) → node_behaviour.takes_memory (state_of x) ≡ by_variant (λ n. node_behaviour.takes_memory (state_of n)) x
 memory_at x = same_by_variant (λ n. node_behaviour.takes_memory (state_of n)) x
 
--- each part of what a node does, by its variant
-pub ruleset node_steps = (want_at, read_at, written_at, wrote_at, memory_at)
+-- each part of what a node does where a message is given to it, by its variant
+pub ruleset node_steps = (want_at, read_at, memory_at)
 
 pub text_at : (x : StreamNode) → text_in (state_of x) ≡ by_variant (λ n. text_in (state_of n)) x
 text_at x = same_by_variant (λ n. text_in (state_of n)) x
