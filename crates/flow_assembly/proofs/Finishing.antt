@@ -14,13 +14,14 @@ use Rattle.flow_nodes.specs.StreamNodes.{NodeKind, member, node_behaviour}
 use Rattle.flow_plans.specs.Plans.{Step}
 use Rattle.flow_plans.specs.Ports.{kinds_read}
 use Rattle.flow_plans.specs.Views.{step_of}
-use Rattle.flow_plans.specs.Layouts.{Placed, uses, layout, layout_from, places, places_from, edges_needed, Performs, IsNetworkOf}
+use Rattle.flow_plans.specs.Layouts.{Placed, uses, layout, layout_from, places, places_from, edges_needed, edges_between, Performs, IsNetworkOf}
 use Rattle.flow_assembly.specs.declared.network.Port.{Port}
 use Rattle.flow_assembly.specs.Openings.{AllOpen, OpeningsPerform}
 use Rattle.flow_assembly.specs.declared.plan.Plan.{Plan}
 use Rattle.flow_assembly.specs.Ready.{plan_of, IsBuiltTo}
 use Rattle.flow_assembly.proofs.Fitting.{FitsKinds, each_length, stands_at}
 use Rattle.flow_assembly.proofs.Joining.{finished}
+use Rattle.flow_assembly.proofs.Ordering.{nothing_ordered, all_ordered}
 
 pub nothing_built : (plan : List Step) → IsBuiltTo plan 0 [] [] [] []
 nothing_built plan = record {
@@ -42,6 +43,7 @@ nothing_built plan = record {
     stream = λ s i lt left. absurd (omega arith);
     free = λ s i lt left. absurd (omega arith);
     fits = λ s lt. absurd (omega arith);
+    order = nothing_ordered (layout plan) (λ s. uses s plan);
   };
 }
 
@@ -76,6 +78,9 @@ module _ (plan : List Step) (n : ℕ) (supply : List Port) (found : List ℕ) (s
   pub all_open : AllOpen (layout plan) states
   all_open k placed at = built.joined.opens k placed (omega (arith, slice_get_within (layout plan) k placed at, all_nodes)) at
 
+  pub all_edges : edges ≡ edges_between (layout plan)
+  all_edges = all_ordered (layout plan) (λ s. uses s (drop n plan)) supply (length states) edges built.joined.order (omega (arith, all_nodes))
+
   module _ (kinds : List Kind) (perform : OpeningsPerform) (fit : (k : ℕ) (placed : Placed) → slice_get (layout plan) k ≡ Some placed → FitsKinds kinds placed) where
     does : (k : ℕ) (placed : Placed) → slice_get (layout plan) k ≡ Some placed → Performs node_behaviour placed.operation (state_at node_behaviour states k)
     does k placed at = perform placed.at placed.operation (state_at node_behaviour states k) (fit k placed at).usable (all_open k placed at)
@@ -92,4 +97,5 @@ module _ (plan : List Step) (n : ℕ) (supply : List Port) (found : List ℕ) (s
       performs = does;
       reads = λ k placed at. sym (each_length (slice_get kinds) placed.reads (kinds_read placed.operation) (fit k placed at).reads);
       joins = built.joined.joins;
+      edges_are = all_edges;
     }

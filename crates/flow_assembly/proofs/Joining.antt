@@ -1,7 +1,7 @@
 -- One more edge, and one more node, in a network that is being built.
-use Rattle.std.specs.Prelude.{◌≡◌, ℕ, suc, ◌+◌, ◌<◌, ◌≤◌, ◌^◌, ◌==◌, ◌&&◌, ◌⊎◌, List, [], ◌∷◌, ◌++◌, length, map, Some, refl}
+use Rattle.std.specs.Prelude.{◌≡◌, ℕ, suc, ◌+◌, ◌<◌, ◌≤◌, ◌^◌, ◌==◌, ◌&&◌, ◌⊎◌, List, [], ◌∷◌, ◌++◌, length, map, drop, Some, refl}
 use Rattle.std.specs.List.{slice_get}
-use Rattle.std.proofs.Common.{sym, ◌∙◌, ap, subst, arith, inl, inr, set, get_or-set_same, get_or-set_other}
+use Rattle.std.proofs.Common.{sym, ◌∙◌, ap, subst, arith, inl, inr, set, get_or-set_same, get_or-set_other, append-nil}
 use Rattle.std.proofs.lemmas.Bool.{cases_eq, cases_lt}
 use Rattle.std.proofs.lemmas.List.{length_push, length-set, get_or_append_left, get_or_past, get_or-map, length-map}
 use Rattle.std.proofs.lemmas.Option.{slice_get_within}
@@ -14,11 +14,12 @@ use Rattle.flow_graph.specs.Edges.{edge_at, out_edge, IsTakenIn, IsTakenOut}
 use Rattle.flow_graph.specs.Networks.{state_at, outputs_at, inputs_at, kind_from, kind_to, MayJoin, IsJoined}
 use Rattle.flow_nodes.specs.StreamNodes.{NodeKind, member, node_behaviour}
 use Rattle.flow_plans.specs.Ports.{kinds_read, kinds_written}
-use Rattle.flow_plans.specs.Layouts.{Placed, stream_from, stream_to, Performs}
+use Rattle.flow_plans.specs.Layouts.{Placed, outputs_from, stream_from, stream_to, Performs}
 use Rattle.flow_assembly.specs.declared.network.Port.{Port}
 use Rattle.flow_assembly.specs.Openings.{Opens, OpeningsPerform}
-use Rattle.flow_assembly.specs.Joined.{supplier, edge_from, port_after, ComesBefore, IsJoinedTo}
+use Rattle.flow_assembly.specs.Joined.{supplier, edge_from, port_after, at_stream, run_of, ComesBefore, IsJoinedTo}
 use Rattle.flow_assembly.proofs.Pushes.{each_push, found_stays, found_last, none_stays, none_found, both_are, not_both}
+use Rattle.flow_assembly.proofs.Ordering.{Supplies, order_relabelled, order_joined, order_passed}
 use Rattle.flow_assembly.proofs.Fitting.{FitsKinds, bound, each_at, each_length, some_same, stands_at}
 
 abbrev State : Type 0
@@ -176,6 +177,9 @@ module _ (nodes : List Placed) (left : ℕ → ℕ) (supply : List Port) (r p : 
           (λ t ne lt more. is.stream t i (shorter t lt) more) t;
       free = λ t i. each_stream (λ t from n. t < length supply' → i < n → length edges' ≤ out_edge edges' from.node (from.port + i)) (λ lt. free_here i) (λ t ne. free_other t ne i) t;
       fits = each_stream (λ t from n. t < length supply' → from.port + n < 2 ^ 64) (λ lt. omega (arith, is.fits s there)) (λ t ne lt. is.fits t (shorter t lt));
+      order =
+          order_joined nodes left supply r p edges is.order left' s there to one others supply' (length-set supply s (port_after from))
+          (get_or-set_same supply s (port_after from) no_port there) (λ t ne. get_or-set_other supply s t (port_after from) no_port ne);
     }
 
   -- Passed
@@ -254,6 +258,45 @@ module _ (nodes : List Placed) (left : ℕ → ℕ) (supply : List Port) (r p : 
       | inr fresh ↦ fresh.fits
     ]
 
+    -- a stream that node r does not write
+    not_written : (t : ℕ) → IsSame left' supply' t → (q : ℕ) → stream_from nodes r q ≡ Some t → ⊥
+    not_written t same q is_from =
+        let among = (covers q t is_from).2 in
+        let before = is.node t same.there (omega (arith, same.same_left, among.1, among.2)) in
+        let e = ap (λ w. w.node) same.same_supplier in
+        omega (arith, among.0)
+
+    ports_fresh : (t : ℕ) → IsFresh left' supply' t → run_of t (record { node = r; port = (supplier supply' t).port }) (left' t) ≡ run_of t (supplier supply' t) (left' t)
+    ports_fresh t fresh = ap (λ k. run_of t (record { node = k; port = (supplier supply' t).port }) (left' t)) (sym fresh.node)
+
+    only_fresh : (t q : ℕ) → stream_from nodes r q ≡ Some t → ((supplier supply' t).port ≤ q) × (q < (supplier supply' t).port + left' t)
+    only_fresh t q is_from = let among = (covers q t is_from).2 in (among.1, among.2)
+
+    supplies : (t : ℕ) → t < length supply' → Supplies nodes left supply r p edges is.order left' supply' t
+    supplies t lt = elim (kept t lt) [
+      | inl same ↦ record {
+        before = run_of t (supplier supply t) (left t);
+        was = is.order.supplied t same.there;
+        count = 0;
+        port = 0;
+        all = λ i less. absurd (omega arith);
+        only = λ q is_from. absurd (not_written t same q is_from);
+        now = append-nil (run_of t (supplier supply t) (left t)) ∙ ap (λ n. run_of t (supplier supply t) n) (sym same.same_left) ∙ ap (λ w. run_of t w (left' t)) (sym same.same_supplier);
+      }
+      | inr fresh ↦ record {
+        before = [];
+        was = elim (cases_lt t (length supply)) [
+          | inl less ↦ is.order.supplied t less ∙ ap (λ n. run_of t (supplier supply t) n ++ at_stream t (outputs_from r (drop r nodes))) (fresh.no_use less)
+          | inr more ↦ is.order.to_come t more
+        ];
+        count = left' t;
+        port = (supplier supply' t).port;
+        all = fresh.stream;
+        only = only_fresh t;
+        now = ports_fresh t fresh;
+      }
+    ]
+
     pub passed : IsJoinedTo nodes left' supply' (suc r) 0 states edges
     passed = record {
       opens = is.opens;
@@ -267,6 +310,7 @@ module _ (nodes : List Placed) (left : ℕ → ℕ) (supply : List Port) (r p : 
       stream = stream_all;
       free = free_all;
       fits = fits_all;
+      order = order_passed nodes left supply r p edges is.order left' supply' all longer supplies (λ q t is_from. (covers q t is_from).0);
     }
 
 module _ (nodes : List Placed) (left left' : ℕ → ℕ) (supply : List Port) (r p : ℕ) (states : List State) (edges : List Edge) (is : IsJoinedTo nodes left supply r p states edges) where
@@ -284,6 +328,7 @@ module _ (nodes : List Placed) (left left' : ℕ → ℕ) (supply : List Port) (
     stream = λ t i lt uses. is.stream t i lt (omega (arith, same t lt));
     free = λ t i lt uses. is.free t i lt (omega (arith, same t lt));
     fits = λ t lt. omega (arith, same t lt, is.fits t lt);
+    order = order_relabelled nodes left supply r p edges is.order left' same;
   }
 
 module _ (nodes : List Placed) (left : ℕ → ℕ) (supply : List Port) (states : List State) (edges : List Edge) (is : IsJoinedTo nodes left supply (length states) 0 states edges) where
@@ -308,6 +353,7 @@ module _ (nodes : List Placed) (left : ℕ → ℕ) (supply : List Port) (states
     stream = is.stream;
     free = is.free;
     fits = is.fits;
+    order = is.order;
   }
 
 -- Finished

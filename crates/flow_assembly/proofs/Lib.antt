@@ -2,6 +2,7 @@ pub mod Performing
 pub mod Pushes
 pub mod Fitting
 pub mod Refused
+pub mod Ordering
 pub mod Joining
 pub mod Laying
 pub mod Putting

@@ -1,11 +1,11 @@
 -- A network while it is built: what is joined so far, and where the next reader of each stream gets it.
-use Rattle.std.specs.Prelude.{◌≡◌, ℕ, suc, ◌+◌, ◌<◌, ◌≤◌, ◌^◌, ◌⊎◌, List, length, Some, slice_index_or}
+use Rattle.std.specs.Prelude.{◌≡◌, ℕ, zero, suc, ◌+◌, ◌<◌, ◌≤◌, ◌^◌, ◌==◌, ◌⊎◌, List, [], ◌∷◌, ◌++◌, length, drop, Some, if◌then◌else◌, slice_index_or}
 use Rattle.std.specs.List.{slice_get}
 use Rattle.flow_graph.specs.declared.edge.Edge.{Edge}
 use Rattle.flow_graph.specs.Edges.{edge_at, out_edge, IsTakenIn, IsTakenOut}
 use Rattle.flow_graph.specs.Networks.{state_at}
 use Rattle.flow_nodes.specs.StreamNodes.{NodeKind, member, node_behaviour}
-use Rattle.flow_plans.specs.Layouts.{Placed, stream_from, stream_to}
+use Rattle.flow_plans.specs.Layouts.{Placed, StreamPort, ports_from, inputs_from, outputs_from, edges_from, edges_between, stream_from, stream_to}
 use Rattle.flow_assembly.specs.declared.network.Port.{Port}
 use Rattle.flow_assembly.specs.Openings.{Opens}
 
@@ -25,9 +25,34 @@ port_after from = record from { port = from.port + 1 }
 abbrev pub ComesBefore : (k q r p : ℕ) → Type 0
 ComesBefore k q r p = (k < r) ⊎ ((k ≡ r) × (q < p))
 
+-- those of these ports at which there is this stream
+abbrev pub at_stream : ℕ → List StreamPort → List StreamPort
+at_stream s [] = []
+at_stream s (port ∷ ports) = if port.stream == s then port ∷ at_stream s ports else at_stream s ports
+
+-- so many output ports for this stream, from this one on
+abbrev pub run_of : ℕ → Port → ℕ → List StreamPort
+run_of s from zero = []
+run_of s from (suc n) = record { node = from.node; port = from.port; stream = s } ∷ run_of s (port_after from) n
+
+-- the input ports of these nodes, from port p of the first of them on, which is node r
+abbrev pub inputs_behind : (r p : ℕ) → List Placed → List StreamPort
+inputs_behind r p [] = []
+inputs_behind r p (placed ∷ nodes) = ports_from r p (drop p placed.reads) ++ inputs_from (suc r) nodes
+
+-- The input ports before port p of node r have the edges that they are to have. Of the output ports that are left, those of a
+-- stream are the ones from its supplier on, for as many uses as it has left, and those of nodes from r on.
+pub record IsInOrder (nodes : List Placed) (left : ℕ → ℕ) (supply : List Port) (r p : ℕ) (edges : List Edge) : Type 0 where
+  pub ports_left : List StreamPort
+  pub edges_are : edges ++ edges_from (inputs_behind r p (drop r nodes)) ports_left ≡ edges_between nodes
+  pub supplied : (s : ℕ) → s < length supply
+      → at_stream s ports_left ≡ run_of s (supplier supply s) (left s) ++ at_stream s (outputs_from r (drop r nodes))
+  pub to_come : (s : ℕ) → length supply ≤ s → at_stream s ports_left ≡ at_stream s (outputs_from r (drop r nodes))
+
 -- Of these transducers the first stand in the network, each in the state in which it opens. The input ports before port p of
 -- node r have their edges, and each edge joins two ports of one stream. Each stream has so many uses left, and for each of
--- them an output port before node r, from its supplier on; all other output ports before node r have their edges.
+-- them an output port before node r, from its supplier on; all other output ports before node r have their edges. The edges are
+-- in the order in which they are to be.
 pub record IsJoinedTo (nodes : List Placed) (left : ℕ → ℕ) (supply : List Port) (r p : ℕ) (states : List ((t : NodeKind) × (member t).State)) (edges : List Edge) : Type 0 where
   pub opens : (k : ℕ) (placed : Placed) → k < length states → slice_get nodes k ≡ Some placed → Opens placed.at placed.operation (state_at node_behaviour states k)
   pub joins : (e : ℕ) → e < length edges → stream_from nodes (edge_at edges e).writer (edge_at edges e).writer_port ≡ stream_to nodes (edge_at edges e).reader (edge_at edges e).reader_port
@@ -41,3 +66,4 @@ pub record IsJoinedTo (nodes : List Placed) (left : ℕ → ℕ) (supply : List 
   pub stream : (s i : ℕ) → s < length supply → i < left s → stream_from nodes (supplier supply s).node ((supplier supply s).port + i) ≡ Some s
   pub free : (s i : ℕ) → s < length supply → i < left s → length edges ≤ out_edge edges (supplier supply s).node ((supplier supply s).port + i)
   pub fits : (s : ℕ) → s < length supply → (supplier supply s).port + left s < 2 ^ 64
+  pub order : IsInOrder nodes left supply r p edges

@@ -1,7 +1,6 @@
 -- The states in which the transducers of a plan open.
-use Rattle.std.specs.Prelude.{◌≡◌, ℕ, ◌≤◌, List, [], Some}
+use Rattle.std.specs.Prelude.{◌≡◌, ℕ, ◌≤◌, List, Some}
 use Rattle.std.specs.List.{slice_get}
-use Rattle.flow_edges.specs.Cells.{Cell}
 use Rattle.flow_base.specs.Nodes.{opened}
 use Rattle.flow_scalar.specs.Streams.{Items}
 use Rattle.flow_scalar.specs.SourceBehaviour.{source_opened}

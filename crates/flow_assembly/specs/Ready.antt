@@ -8,7 +8,7 @@ use Rattle.flow_nodes.specs.StreamNodes.{NodeKind, member, node_behaviour}
 use Rattle.flow_plans.specs.Plans.{Step}
 use Rattle.flow_plans.specs.Ports.{kinds_after}
 use Rattle.flow_plans.specs.Views.{steps_of}
-use Rattle.flow_plans.specs.Layouts.{Placed, times, uses, layout, layout_from, places, places_from, edges_needed}
+use Rattle.flow_plans.specs.Layouts.{Placed, uses, layout, layout_from, places, places_from, edges_needed}
 use Rattle.flow_assembly.specs.declared.network.Port.{Port}
 use Rattle.flow_assembly.specs.declared.plan.Plan.{Plan}
 use Rattle.flow_assembly.specs.Joined.{IsJoinedTo}

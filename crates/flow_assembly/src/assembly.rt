@@ -6,7 +6,7 @@ ghost use Rattle.flow_graph.specs.Graphs.{states_of, edges_of, states_so_far, ed
 ghost use Rattle.flow_graph.specs.Limits.{most_nodes, most_edges};
 ghost use Rattle.flow_graph.specs.Networks.{AreOpened};
 ghost use Rattle.flow_nodes.specs.StreamNodes.{node_behaviour};
-ghost use Rattle.flow_plans.specs.Layouts.{layout, places, edges_needed, IsNetworkOf};
+ghost use Rattle.flow_plans.specs.Layouts.{layout, places, edges_needed, edges_between, IsNetworkOf};
 ghost use Rattle.flow_plans.specs.Ports.{AreWired};
 ghost use Rattle.flow_plans.specs.Views.{steps_of};
 ghost use Rattle.flow_assembly.specs.Openings.{AllOpen};
@@ -30,7 +30,8 @@ pub struct Assembled {
 }
 
 /// The network of these steps, in a program of the dialect. Behind a stream that no step reads stands a Sink, and behind
-/// one that is read several times a Fork. The inputs are empty.
+/// one that is read several times a Fork, whose outputs go to the ports that read the stream, in the order of steps and ports.
+/// There is an edge for each input port, numbered in the order of nodes and ports. The inputs are empty.
 ///
 /// # Errors
 ///
@@ -38,6 +39,7 @@ pub struct Assembled {
 pub fn assemble(alloc: Global, dialect: Dialect, steps: Vec<Step>) -> Result<Assembled, Refusal>
     requires wired { AreWired [] (steps_of dialect steps.items) }
     ensures network { IfOk result (λ a. IsNetworkOf node_behaviour (steps_of dialect steps.items) (states_of a.graph) (edges_of a.graph)) }
+    ensures edges { IfOk result (λ a. edges_of a.graph ≡ edges_between (layout (steps_of dialect steps.items))) }
     ensures opens { IfOk result (λ a. AllOpen (layout (steps_of dialect steps.items)) (states_of a.graph)) }
     ensures opened { IfOk result (λ a. AreOpened node_behaviour (states_of a.graph)) }
     ensures places { IfOk result (λ a. a.places.items ≡ places (steps_of dialect steps.items)) }
@@ -58,6 +60,7 @@ fn finished(network: Network, plan: &Plan) -> Assembled
     requires wired { AreWired [] (plan_of plan.now) }
     requires built { IsBuiltTo (plan_of plan.now) (length plan.now.steps.items) network.supply.items network.places.items (states_so_far network.builder) (edges_so_far network.builder) }
     ensures network { IsNetworkOf node_behaviour (plan_of plan.now) (states_of result.graph) (edges_of result.graph) }
+    ensures edges { edges_of result.graph ≡ edges_between (layout (plan_of plan.now)) }
     ensures opens { AllOpen (layout (plan_of plan.now)) (states_of result.graph) }
     ensures opened { AreOpened node_behaviour (states_of result.graph) }
     ensures places { result.places.items ≡ places (plan_of plan.now) }

@@ -18,7 +18,7 @@ use Rattle.flow_graph.specs.Networks.{state_at}
 use Rattle.flow_graph.specs.Replacements.{MayReplace}
 use Rattle.flow_plans.specs.Plans.{Operation, Step, source}
 use Rattle.flow_plans.specs.Ports.{kinds_read, kinds_written}
-use Rattle.flow_plans.specs.Layouts.{Placed, times, uses, behind, numbered, all_behind, layout_from, places_from, layout, places, stream_from, stream_to, Performs, IsNetworkOf}
+use Rattle.flow_plans.specs.Layouts.{Placed, times, uses, behind, numbered, all_behind, layout_from, places_from, layout, places, stream_from, stream_to, ports_from, inputs_from, outputs_from, edges_from, edges_between, Performs, IsNetworkOf}
 use Rattle.flow_plans.specs.Settings.{with_source, SourceIsSet}
 use Rattle.flow_plans.proofs.Places.{get_right}
 use Rattle.flow_plans.proofs.Behind.{node_of}
@@ -145,6 +145,24 @@ module _ (nodes : List Placed) (j : ℕ) (placed : Placed) (operation : Operatio
     | inr other ↦ ap (λ o. bind o (λ (x : Placed). slice_get x.reads p)) (get_set_other nodes j k changed other)
   ]
 
+-- and so do the edges between them
+
+inputs_stay : (k : ℕ) (nodes : List Placed) (j : ℕ) (placed : Placed) (operation : Operation) → slice_get nodes j ≡ Some placed
+    → inputs_from k (slice_set nodes j (record placed { operation = operation })) ≡ inputs_from k nodes
+inputs_stay k [] j placed operation there = refl
+inputs_stay k (x ∷ nodes) zero placed operation there = ap (λ (y : Placed). ports_from k zero y.reads ++ inputs_from (suc k) nodes) (sym (some_same x placed there))
+inputs_stay k (x ∷ nodes) (suc j) placed operation there = ap (λ l. ports_from k zero x.reads ++ l) (inputs_stay (suc k) nodes j placed operation there)
+
+outputs_stay : (k : ℕ) (nodes : List Placed) (j : ℕ) (placed : Placed) (operation : Operation) → slice_get nodes j ≡ Some placed
+    → outputs_from k (slice_set nodes j (record placed { operation = operation })) ≡ outputs_from k nodes
+outputs_stay k [] j placed operation there = refl
+outputs_stay k (x ∷ nodes) zero placed operation there = ap (λ (y : Placed). ports_from k zero y.writes ++ outputs_from (suc k) nodes) (sym (some_same x placed there))
+outputs_stay k (x ∷ nodes) (suc j) placed operation there = ap (λ l. ports_from k zero x.writes ++ l) (outputs_stay (suc k) nodes j placed operation there)
+
+edges_stay : (nodes : List Placed) (j : ℕ) (placed : Placed) (operation : Operation) → slice_get nodes j ≡ Some placed
+    → edges_between (slice_set nodes j (record placed { operation = operation })) ≡ edges_between nodes
+edges_stay nodes j placed operation there = ap₂ edges_from (inputs_stay zero nodes j placed operation there) (outputs_stay zero nodes j placed operation there)
+
 module _ {S : Type 0} (b : Behaviour S) (states : List S) (edges : List Edge) (plan : List Step) (of : IsNetworkOf b plan states edges) (i : ℕ) (step : Step) (kind : Kind) (before cells : List Cell) (at_i : slice_get plan i ≡ Some step) (is_source : step.operation ≡ source kind before) (s : S) (does : Performs b (source kind cells) s) where
   abbrev operation : Operation
   operation = source kind cells
@@ -211,6 +229,7 @@ module _ {S : Type 0} (b : Behaviour S) (states : List S) (edges : List Edge) (p
             ap (λ nodes. stream_from nodes edge.writer edge.writer_port) laid ∙ from_same (layout plan) j placed operation there edge.writer edge.writer_port
             ∙ of.joins e l
             ∙ sym (ap (λ nodes. stream_to nodes edge.reader edge.reader_port) laid ∙ to_same (layout plan) j placed operation there edge.reader edge.reader_port);
+        edges_are = of.edges_are ∙ sym (ap edges_between laid ∙ edges_stay (layout plan) j placed operation there);
       }
 
   set : let k = slice_index_or (places plan) i 0 in

@@ -85,6 +85,52 @@ stream_from nodes k q = bind (slice_get nodes k) (λ placed. slice_get placed.wr
 abbrev pub stream_to : List Placed → (k p : ℕ) → Option ℕ
 stream_to nodes k p = bind (slice_get nodes k) (λ placed. slice_get placed.reads p)
 
+-- A port of a node, and the number of the stream at it.
+pub record StreamPort : Type 0 where
+  pub node : ℕ
+  pub port : ℕ
+  pub stream : ℕ
+
+-- the ports of node k at these streams, the first of which is port p
+abbrev pub ports_from : (k p : ℕ) → List ℕ → List StreamPort
+ports_from k p [] = []
+ports_from k p (s ∷ streams) = record { node = k; port = p; stream = s } ∷ ports_from k (suc p) streams
+
+-- the ports at which these nodes read, the first of which is node k: node by node, port by port
+abbrev pub inputs_from : ℕ → List Placed → List StreamPort
+inputs_from k [] = []
+inputs_from k (placed ∷ nodes) = ports_from k zero placed.reads ++ inputs_from (suc k) nodes
+
+-- and those at which they write
+abbrev pub outputs_from : ℕ → List Placed → List StreamPort
+outputs_from k [] = []
+outputs_from k (placed ∷ nodes) = ports_from k zero placed.writes ++ outputs_from (suc k) nodes
+
+-- the first of these ports at which there is this stream; where there is none, the other one
+abbrev pub first_at : ℕ → StreamPort → List StreamPort → StreamPort
+first_at s other [] = other
+first_at s other (port ∷ ports) = if port.stream == s then port else first_at s other ports
+
+-- all of these ports but that one
+abbrev pub without_first : ℕ → List StreamPort → List StreamPort
+without_first s [] = []
+without_first s (port ∷ ports) = if port.stream == s then ports else port ∷ without_first s ports
+
+-- the edge from an output port to an input port
+abbrev pub edge_between : (from to : StreamPort) → Edge
+edge_between from to = record { writer = from.node; writer_port = from.port; reader = to.node; reader_port = to.port }
+
+-- each of these input ports in turn is joined to the first output port of its stream that is left
+abbrev pub edges_from : (inputs outputs : List StreamPort) → List Edge
+edges_from [] outputs = []
+edges_from (input ∷ inputs) outputs = edge_between (first_at input.stream input outputs) input ∷ edges_from inputs (without_first input.stream outputs)
+
+-- The edges of a network of these transducers: one for each input port, numbered as these are, node by node and port by port.
+-- So what stands behind a stream reads it where it is written, and the outputs of a Fork go to the ports that read the
+-- stream in the order of these.
+abbrev pub edges_between : List Placed → List Edge
+edges_between nodes = edges_from (inputs_from zero nodes) (outputs_from zero nodes)
+
 -- A transducer in state s does what the operation says: it is in its opening state, its ports are of these kinds, and its row
 -- is the function of the operation.
 pub record Performs {S : Type 0} (b : Behaviour S) (operation : Operation) (s : S) : Type 0 where
@@ -95,8 +141,8 @@ pub record Performs {S : Type 0} (b : Behaviour S) (operation : Operation) (s : 
   pub kinds_out : (q : ℕ) → q < b.outputs s → slice_get (kinds_written operation) q ≡ Some (b.kind_out s q)
   pub row : IsFunction (b.row s) (made_by operation) (b.inputs s) (b.outputs s)
 
--- The nodes are those of the plan, in order, each reads as many streams as it has inputs, and each edge joins two ports of one
--- stream.
+-- The nodes are those of the plan, in order, each reads as many streams as it has inputs, each edge joins two ports of one
+-- stream, and the edges are just those between the plan's transducers.
 pub record IsNetworkOf {S : Type 0} (b : Behaviour S) (plan : List Step) (states : List S) (edges : List Edge) : Type 0 where
   pub nodes : length states ≡ length (layout plan)
   pub performs : (k : ℕ) (placed : Placed) → slice_get (layout plan) k ≡ Some placed → Performs b placed.operation (state_at b states k)
@@ -104,6 +150,7 @@ pub record IsNetworkOf {S : Type 0} (b : Behaviour S) (plan : List Step) (states
   pub joins : (e : ℕ) → e < length edges
       → stream_from (layout plan) (edge_at edges e).writer (edge_at edges e).writer_port
       ≡ stream_to (layout plan) (edge_at edges e).reader (edge_at edges e).reader_port
+  pub edges_are : edges ≡ edges_between (layout plan)
 
 -- the body of each edge is the stream that it joins
 abbrev pub AreCarried : List Step → Columns → List Edge → (ℕ → List Cell) → Type 0

@@ -42,6 +42,7 @@ returns-in_err-plan c =
     let is = c.from_residual.ensures.1 in
     record {
       network = none_given _ r no;
+      edges = none_given _ r no;
       opens = none_given _ r no;
       opened = none_given _ r no;
       places = none_given _ r no;
@@ -58,6 +59,7 @@ returns-in_err-add_step c =
     let is = c.from_residual-in_err-add_step.ensures.1 in
     record {
       network = none_given _ r no;
+      edges = none_given _ r no;
       opens = none_given _ r no;
       opened = none_given _ r no;
       places = none_given _ r no;

@@ -1,4 +1,4 @@
-use Rattle.std.proofs.Common.{length, [], sym, subst}
+use Rattle.std.proofs.Common.{length, [], sym, subst, ◌∙◌}
 use Rattle.flow_graph.specs.Graphs.{edges_of, states_so_far, edges_so_far}
 use Rattle.flow_graph.specs.Networks.{AreOpened}
 use Rattle.flow_nodes.specs.StreamNodes.{node_behaviour}
@@ -6,7 +6,7 @@ use Rattle.flow_plans.specs.Layouts.{layout, IsNetworkOf}
 use Rattle.flow_plans.specs.Ports.{kinds_after}
 use Rattle.flow_assembly.specs.Openings.{AllOpen}
 use Rattle.flow_assembly.specs.Ready.{plan_of}
-use Rattle.flow_assembly.proofs.Finishing.{plan_ended, all_places, few_nodes, few_edges, all_open, is_joined, are_opened, is_network}
+use Rattle.flow_assembly.proofs.Finishing.{plan_ended, all_places, few_nodes, few_edges, all_edges, all_open, is_joined, are_opened, is_network}
 use Rattle.flow_assembly.proofs.Putting.{plan_fits}
 use Rattle.flow_assembly.proofs.assembly.finished.Goals as goal
 
@@ -18,6 +18,9 @@ returns-clause-network c =
     subst (λ states. IsNetworkOf node_behaviour (plan_of c.args.plan.now) states (edges_of c.build.result)) (sym c.build.ensures.nodes)
     (subst (IsNetworkOf node_behaviour (plan_of c.args.plan.now) (states_so_far c.args.network.builder)) (sym c.build.ensures.edges)
     (is_network (plan_of c.args.plan.now) (length c.args.plan.now.steps.items) c.args.network.supply.items c.args.network.places.items (states_so_far c.args.network.builder) (edges_so_far c.args.network.builder) c.requires.built (plan_ended c.args.plan.now) (kinds_after [] (plan_of c.args.plan.now)) c.openings_perform.ensures (plan_fits c.args.plan.now c.requires.wired)))
+
+pub returns-clause-edges : goal.returns-clause-edges
+returns-clause-edges c = c.build.ensures.edges ∙ all_edges (plan_of c.args.plan.now) (length c.args.plan.now.steps.items) c.args.network.supply.items c.args.network.places.items (states_so_far c.args.network.builder) (edges_so_far c.args.network.builder) c.requires.built (plan_ended c.args.plan.now)
 
 pub returns-clause-opens : goal.returns-clause-opens
 returns-clause-opens c = subst (AllOpen (layout (plan_of c.args.plan.now))) (sym c.build.ensures.nodes) (all_open (plan_of c.args.plan.now) (length c.args.plan.now.steps.items) c.args.network.supply.items c.args.network.places.items (states_so_far c.args.network.builder) (edges_so_far c.args.network.builder) c.requires.built (plan_ended c.args.plan.now))
