@@ -11,3 +11,4 @@ pub mod Stepping
 pub mod Counting
 pub mod Steps
 pub mod Finishing
+pub mod OneNetwork

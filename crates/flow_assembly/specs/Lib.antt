@@ -1,3 +1,4 @@
 pub mod Openings
 pub mod Joined
 pub mod Ready
+pub mod OneNetwork

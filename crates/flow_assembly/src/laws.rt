@@ -1,5 +1,7 @@
-// What holds of the states in which transducers open. The function does nothing: its contract is the theorem.
+// What holds of the states in which transducers open, and of the networks of plans. The functions do nothing: their contracts
+// are the theorems.
 
+ghost use Rattle.flow_assembly.specs.OneNetwork.{PlansHaveOneNetwork};
 ghost use Rattle.flow_assembly.specs.Openings.{OpeningsPerform};
 
 use flow_rows::rows_are_functions;
@@ -11,3 +13,8 @@ pub fn openings_perform()
 {
     rows_are_functions();
 }
+
+/// A plan has one network: the states in which its nodes open, and how its edges join them, are determined.
+pub fn plan_has_one_network()
+    ensures { PlansHaveOneNetwork }
+{}

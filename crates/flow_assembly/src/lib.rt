@@ -9,4 +9,4 @@ mod nodes;
 mod plan;
 
 pub use assembly::{Assembled, assemble};
-pub use laws::openings_perform;
+pub use laws::{openings_perform, plan_has_one_network};
