@@ -19,7 +19,7 @@ use Rattle.flow_graph.specs.Replacements.{MayReplace}
 use Rattle.flow_plans.specs.Plans.{Operation, Step, source}
 use Rattle.flow_plans.specs.Ports.{kinds_read, kinds_written}
 use Rattle.flow_plans.specs.Layouts.{Placed, times, uses, behind, numbered, all_behind, layout_from, places_from, layout, places, stream_from, stream_to, ports_from, inputs_from, outputs_from, edges_from, edges_between, Performs, IsNetworkOf}
-use Rattle.flow_plans.specs.Settings.{with_source, SourceIsSet}
+use Rattle.flow_plans.specs.Settings.{with_source, IsLaidBut, SourceIsSet}
 use Rattle.flow_plans.proofs.Places.{get_right}
 use Rattle.flow_plans.proofs.Behind.{node_of}
 
@@ -234,6 +234,7 @@ module _ {S : Type 0} (b : Behaviour S) (states : List S) (edges : List Edge) (p
 
   set : let k = slice_index_or (places plan) i 0 in
       MayReplace b states k s × IsNetworkOf b (with_source i step kind cells plan) (slice_set states k s) edges × (places (with_source i step kind cells plan) ≡ places plan)
+      × IsLaidBut k (source kind cells) plan (with_source i step kind cells plan)
   set =
       let plan' = with_source i step kind cells plan in
       let j = stand.place in
@@ -242,8 +243,8 @@ module _ {S : Type 0} (b : Behaviour S) (states : List S) (edges : List Edge) (p
       let laid : layout plan' ≡ slice_set (layout plan) j (record stand.placed { operation = operation }) = layout_same plan' plan same 0 plan' ∙ stand.is_set in
       let stay : places plan' ≡ places plan = places_same plan' plan same 0 0 plan' ∙ places_set plan 0 0 plan i step operation at_i (sym (ap kinds_written is_source)) in
       let is : j ≡ slice_index_or (places plan) i 0 = omega (arith, stand.number) in
-      subst (λ k. MayReplace b states k s × IsNetworkOf b plan' (slice_set states k s) edges × (places plan' ≡ places plan)) is
-      (may_replace j stand.placed stand.there was, network j stand.placed stand.there was plan' laid, stay)
+      subst (λ k. MayReplace b states k s × IsNetworkOf b plan' (slice_set states k s) edges × (places plan' ≡ places plan) × IsLaidBut k operation plan plan') is
+      (may_replace j stand.placed stand.there was, network j stand.placed stand.there was plan' laid, stay, record { placed = stand.placed; there = stand.there; laid = laid })
 
 pub source_is_set : {S : Type 0} (b : Behaviour S) (states : List S) (edges : List Edge) → SourceIsSet b states edges
 source_is_set b states edges plan of i step kind before cells at_i is_source s does = set b states edges plan of i step kind before cells at_i is_source s does

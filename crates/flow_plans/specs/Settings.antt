@@ -6,15 +6,21 @@ use Rattle.flow_edges.specs.declared.message.Kind.{Kind}
 use Rattle.flow_base.specs.Transducers.{Behaviour}
 use Rattle.flow_graph.specs.declared.edge.Edge.{Edge}
 use Rattle.flow_graph.specs.Replacements.{MayReplace}
-use Rattle.flow_plans.specs.Plans.{Step, source}
-use Rattle.flow_plans.specs.Layouts.{places, Performs, IsNetworkOf}
+use Rattle.flow_plans.specs.Plans.{Operation, Step, source}
+use Rattle.flow_plans.specs.Layouts.{Placed, layout, places, Performs, IsNetworkOf}
 
 -- the plan, where its step i is a source of these cells
 abbrev pub with_source : ℕ → Step → Kind → List Cell → List Step → List Step
 with_source i step kind cells plan = slice_set plan i (record step { operation = source kind cells })
 
+-- Node k of the first plan's network is another in that of the second, with this operation, and all else is laid out as it was.
+pub record IsLaidBut (k : ℕ) (operation : Operation) (plan other : List Step) : Type 0 where
+  pub placed : Placed
+  pub there : slice_get (layout plan) k ≡ Some placed
+  pub laid : layout other ≡ slice_set (layout plan) k (record placed { operation = operation })
+
 -- Where step i of a plan is a source, another source of the same kind may stand in place of its node, and then the network is
--- that of the plan with the other source, whose steps have their nodes where they were.
+-- that of the plan with the other source, whose steps have their nodes where they were; all other nodes are laid out as before.
 abbrev pub SourceIsSet : {S : Type 0} → Behaviour S → List S → List Edge → Type 0
 SourceIsSet {S = S} b states edges =
     (plan : List Step) → IsNetworkOf b plan states edges
@@ -23,3 +29,4 @@ SourceIsSet {S = S} b states edges =
     → let k = slice_index_or (places plan) i 0 in
     MayReplace b states k s × IsNetworkOf b (with_source i step kind cells plan) (slice_set states k s) edges
     × (places (with_source i step kind cells plan) ≡ places plan)
+    × IsLaidBut k (source kind cells) plan (with_source i step kind cells plan)

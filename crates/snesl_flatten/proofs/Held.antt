@@ -21,6 +21,7 @@ module _ (text : List ℕ) (program : ProgramTree) (inputs : List Declaration) (
       let of : IsNetworkOf node_behaviour (program_steps text program inputs not_set) states edges = subst (λ plan. IsNetworkOf node_behaviour plan states edges) is network in
       record {
         network = of;
+        opens = subst (λ plan. AllOpen (layout plan) states) is opens;
         opened = opened;
         print = print_opens text program inputs not_set states of.nodes (subst (λ plan. AllOpen (layout plan) states) is opens);
         places_are = refl;

@@ -1,5 +1,6 @@
 -- Setting the next source of a network whose first sources are set.
-use Rattle.std.proofs.Common.{◌≡◌, ℕ, suc, ◌+◌, ◌<◌, List, [], ◌∷◌, ◌++◌, length, map, get_or, set, Some, refl, sym, ap, subst, ◌∙◌, arith}
+use Rattle.std.proofs.Common.{◌≡◌, ◌≢◌, ℕ, zero, suc, ◌+◌, ◌<◌, List, [], ◌∷◌, ◌++◌, length, map, get_or, set, Some, refl, sym, ap, subst, ◌∙◌, arith, inl, inr, get_or-set_same, get_or-set_other}
+use Rattle.std.proofs.lemmas.Bool.{cases_eq}
 use Rattle.std.proofs.lemmas.Option.{slice_get-map, slice_get-get_or, slice_get_within, get_or_from_slice_get}
 use Rattle.std.proofs.lemmas.List.{length-map}
 use Rattle.std.specs.List.{slice_get}
@@ -13,13 +14,13 @@ use Rattle.flow_scalar.specs.declared.source.Stream.{Stream}
 use Rattle.flow_scalar.specs.SourceBehaviour.{source_opened}
 use Rattle.flow_nodes.specs.StreamNodes.{a_source, node_behaviour}
 use Rattle.flow_graph.specs.declared.edge.Edge.{Edge}
-use Rattle.flow_graph.specs.Networks.{AreOpened}
+use Rattle.flow_graph.specs.Networks.{state_at, AreOpened}
 use Rattle.flow_graph.specs.Replacements.{MayReplace}
 use Rattle.flow_plans.specs.Plans.{Step, source}
 use Rattle.flow_plans.specs.Ports.{kinds_written}
-use Rattle.flow_plans.specs.Layouts.{all_behind, places, places_from, IsNetworkOf}
-use Rattle.flow_plans.specs.Settings.{with_source, SourceIsSet}
-use Rattle.flow_assembly.specs.Openings.{OpeningsPerform}
+use Rattle.flow_plans.specs.Layouts.{Placed, all_behind, layout, places, places_from, IsNetworkOf}
+use Rattle.flow_plans.specs.Settings.{with_source, IsLaidBut, SourceIsSet}
+use Rattle.flow_assembly.specs.Openings.{Opens, AllOpen, OpeningsPerform}
 use Rattle.snesl_translation.specs.Wires.{type_of_wires}
 use Rattle.snesl_translation.specs.Programs.{first_offset, program_plan, not_set}
 use Rattle.snesl_flatten.specs.Networks.{NodeState, program_steps}
@@ -56,6 +57,19 @@ next_within text program inputs columns states edges has kind there =
     let within = slice_get_within steps (suc (length columns)) _ (next_source text program inputs columns kind there) in
     omega (arith, within, places_length steps 0 0 steps, ap length has.places_are)
 
+-- a list with one item set
+get_set : {A : Type 0} (xs : List A) (j : ℕ) (y : A) → j < length xs → slice_get (set xs j y) j ≡ Some y
+get_set [] j y lt = absurd (omega arith)
+get_set (x ∷ xs) zero y lt = refl
+get_set (x ∷ xs) (suc j) y lt = get_set xs j y (omega arith)
+
+get_set_other : {A : Type 0} (xs : List A) (j k : ℕ) (y : A) → k ≢ j → slice_get (set xs j y) k ≡ slice_get xs k
+get_set_other [] j k y other = refl
+get_set_other (x ∷ xs) zero zero y other = absurd (other refl)
+get_set_other (x ∷ xs) zero (suc k) y other = refl
+get_set_other (x ∷ xs) (suc j) zero y other = refl
+get_set_other (x ∷ xs) (suc j) (suc k) y other = get_set_other xs j k y (λ e. other (ap suc e))
+
 module _ (text : List ℕ) (program : ProgramTree) (inputs : List Declaration) (columns : Columns) (states : List NodeState) (edges : List Edge) (has : HasSources text program inputs columns states edges)
     (set_law : SourceIsSet node_behaviour states edges) (perform : OpeningsPerform) (items : Items) (there : slice_get (all_kinds inputs) (length columns) ≡ Some items.kind)
     (k : ℕ) (place : k ≡ get_or (places (program_steps text program inputs not_set)) (suc (length columns)) 0) where
@@ -78,6 +92,7 @@ module _ (text : List ℕ) (program : ProgramTree) (inputs : List Declaration) (
 
   law : let k = get_or (places steps) i 0 in
       MayReplace node_behaviour states k s × IsNetworkOf node_behaviour steps_set (set states k s) edges × (places steps_set ≡ places steps)
+      × IsLaidBut k (source items.kind items.cells) steps steps_set
   law =
       set_law steps has.network i step items.kind (written columns i) items.cells (next_source text program inputs columns items.kind there) refl s
       (perform (first_offset program.expression) (source items.kind items.cells) s tt (items, refl, refl, refl))
@@ -89,12 +104,37 @@ module _ (text : List ℕ) (program : ProgramTree) (inputs : List Declaration) (
   pub may_set : MayReplace node_behaviour states k s
   may_set = subst (λ n. MayReplace node_behaviour states n s) at_place law.0
 
+  laid_but : IsLaidBut k (source items.kind items.cells) steps steps_set
+  laid_but = subst (λ n. IsLaidBut n (source items.kind items.cells) steps steps_set) at_place law.3
+
+  abbrev placed : Placed
+  placed = record laid_but.placed { operation = source items.kind items.cells }
+
+  at_set : (j : ℕ) (other : Placed) → slice_get (layout steps_set) j ≡ Some other → j ≡ k → placed ≡ other
+  at_set j other there same =
+      let now : slice_get (layout steps_set) j ≡ slice_get (set (layout steps) k placed) j = ap (λ l. slice_get l j) laid_but.laid in
+      let here = get_set (layout steps) k placed (slice_get_within (layout steps) k laid_but.placed laid_but.there) in
+      let both : Some placed ≡ Some other = sym here ∙ ap (slice_get (set (layout steps) k placed)) (sym same) ∙ sym now ∙ there in
+      cc
+
+  -- each node is in the state in which it opens
+  all_open : AllOpen (layout steps_set) (set states k s)
+  all_open j other there = elim (cases_eq j k) [
+    | inl same ↦
+        let state : state_at node_behaviour (set states k s) j ≡ s = ap (state_at node_behaviour (set states k s)) same ∙ get_or-set_same states k s node_behaviour.sample may_set.node in
+        subst (λ u. Opens other.at other.operation u) (sym state) (subst (λ (w : Placed). Opens w.at w.operation s) (at_set j other there same) (items, refl, refl, refl))
+    | inr ne ↦
+        let was : slice_get (layout steps) j ≡ Some other = sym (get_set_other (layout steps) k j placed ne) ∙ ap (λ l. slice_get l j) (sym laid_but.laid) ∙ there in
+        subst (λ u. Opens other.at other.operation u) (sym (get_or-set_other states k j s node_behaviour.sample ne)) (has.opens j other was)
+  ]
+
   -- and then one source more is set
   pub next_has : AreOpened node_behaviour (set states k s) → HasSources text program inputs (columns ++ items.cells ∷ []) (set states k s) edges
   next_has opened =
       let same : steps_set ≡ program_steps text program inputs (written (columns ++ items.cells ∷ [])) = next_set text program inputs columns items.kind there items.cells in
       record {
         network = subst (λ l. IsNetworkOf node_behaviour l (set states k s) edges) same (subst (λ n. IsNetworkOf node_behaviour steps_set (set states n s) edges) at_place law.1);
+        opens = subst (λ l. AllOpen (layout l) (set states k s)) same all_open;
         opened = opened;
         print = print_stays (type_of_wires (program_plan text program inputs not_set).given) (first_offset program.expression) states k items may_set has.print;
         places_are = ap places (sym same) ∙ law.2 ∙ has.places_are;

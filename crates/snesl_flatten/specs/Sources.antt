@@ -9,7 +9,8 @@ use Rattle.flow_values.specs.Shapes.{kinds_of}
 use Rattle.flow_nodes.specs.StreamNodes.{node_behaviour}
 use Rattle.flow_graph.specs.declared.edge.Edge.{Edge}
 use Rattle.flow_graph.specs.Networks.{AreOpened}
-use Rattle.flow_plans.specs.Layouts.{places, IsNetworkOf}
+use Rattle.flow_plans.specs.Layouts.{layout, places, IsNetworkOf}
+use Rattle.flow_assembly.specs.Openings.{AllOpen}
 use Rattle.snesl_translation.specs.Wires.{type_of_wires}
 use Rattle.snesl_translation.specs.Programs.{first_offset, program_plan, not_set}
 use Rattle.flow_texts.specs.PrintedTexts.{PrintsAtTheEnd}
@@ -24,10 +25,12 @@ all_kinds (declaration ∷ declarations) = kinds_of declaration.1 ++ all_kinds d
 abbrev pub written : Columns → ℕ → List Cell
 written columns number = slice_index_or columns (number - 1) []
 
--- The network is that of the program whose first sources are set to these columns, before any step. Its last node is a Print,
--- and the nodes of its steps are where they were.
+-- The network is that of the program whose first sources are set to these columns, before any step: each node is in the state
+-- in which it opens, its faults at the offset of its form. Its last node is a Print, and the nodes of its steps are where
+-- they were.
 pub record HasSources (text : List ℕ) (program : ProgramTree) (inputs : List Declaration) (columns : Columns) (states : List NodeState) (edges : List Edge) : Type 0 where
   pub network : IsNetworkOf node_behaviour (program_steps text program inputs (written columns)) states edges
+  pub opens : AllOpen (layout (program_steps text program inputs (written columns))) states
   pub opened : AreOpened node_behaviour states
   pub print : PrintsAtTheEnd (type_of_wires (program_plan text program inputs not_set).given) (first_offset program.expression) states
   pub places_are : places (program_steps text program inputs (written columns)) ≡ places (program_steps text program inputs not_set)

@@ -6,6 +6,7 @@ ghost use Rattle.snesl_types.specs.Typed.{typed_inputs, typed_text, typed_tree};
 ghost use Rattle.flow_nodes.specs.StreamNodes.{node_behaviour};
 ghost use Rattle.flow_graph.specs.Limits.{most_nodes, most_edges};
 ghost use Rattle.flow_plans.specs.Layouts.{layout, edges_needed, IsNetworkOf};
+ghost use Rattle.flow_assembly.specs.Openings.{AllOpen};
 ghost use Rattle.snesl_translation.specs.Programs.{not_set};
 ghost use Rattle.snesl_flatten.specs.Networks.{program_steps};
 ghost use Rattle.snesl_flatten.specs.PlanViews.{planned, plan_states, plan_edges, HoldsNetwork};
@@ -18,7 +19,8 @@ use snesl_values::Refusal;
 use snesl_wiring::plans_are_wired;
 use std::alloc::Global;
 
-/// The plan of a typed program: one network for all its inputs, which is that of the translation of the program.
+/// The plan of a typed program: one network for all its inputs, which is that of the translation of the program. The faults
+/// of each node are at the offset of the form that it comes from.
 ///
 /// The translation is the flattening of nested data-parallelism (Blelloch and Sabot, 1990), onto streams (Madsen and
 /// Filinski, 2013).
@@ -31,6 +33,7 @@ pub fn flatten<'a>(alloc: Global, typed: &'a Typed<'a>) -> Result<Plan<'a>, Refu
     ensures program { IfOk result (λ plan. planned plan ≡ typed.now) }
     ensures holds { IfOk result (λ plan. HoldsNetwork plan) }
     ensures network { IfOk result (λ plan. IsNetworkOf node_behaviour (program_steps (typed_text typed.now) (typed_tree typed.now) (typed_inputs typed.now) not_set) (plan_states plan) (plan_edges plan)) }
+    ensures opens { IfOk result (λ plan. AllOpen (layout (program_steps (typed_text typed.now) (typed_tree typed.now) (typed_inputs typed.now) not_set)) (plan_states plan)) }
     ensures big { let nodes = layout (program_steps (typed_text typed.now) (typed_tree typed.now) (typed_inputs typed.now) not_set) in (result ≡ Err TooBig → (most_nodes < length nodes) ⊎ (most_edges < edges_needed nodes)) }
     ensures few { let nodes = layout (program_steps (typed_text typed.now) (typed_tree typed.now) (typed_inputs typed.now) not_set) in IfOk result (λ _. (length nodes ≤ most_nodes) × (edges_needed nodes ≤ most_edges)) }
     ensures memory { IfErr result (λ refusal. (refusal ≡ TooBig) ⊎ (refusal ≡ NoMemory)) }

@@ -7,7 +7,8 @@ ghost use Rattle.flow_scalar.specs.Streams.{stream_cells, stream_kind};
 ghost use Rattle.flow_nodes.specs.StreamNodes.{node_behaviour};
 ghost use Rattle.flow_graph.specs.Graphs.{states_of, edges_of};
 ghost use Rattle.flow_graph.specs.Networks.{AreOpened};
-ghost use Rattle.flow_plans.specs.Layouts.{places, IsNetworkOf};
+ghost use Rattle.flow_plans.specs.Layouts.{layout, places, IsNetworkOf};
+ghost use Rattle.flow_assembly.specs.Openings.{AllOpen};
 ghost use Rattle.snesl_translation.specs.Programs.{cells_of, columns_of};
 ghost use Rattle.snesl_flatten.specs.Networks.{program_steps, NetworkMeans};
 ghost use Rattle.snesl_flatten.specs.PlanViews.{planned, plan_states, plan_edges, steps_planned, HoldsNetwork};
@@ -57,6 +58,7 @@ impl<'a> Plan<'a> {
         requires in_dialect { dialect_of inputs ≡ typed_dialect (planned self) }
         requires fits { declarations_of inputs ≡ typed_inputs (planned self) }
         ensures network { IfOk result (λ graph. IsNetworkOf node_behaviour (program_steps (typed_text (planned self.entry)) (typed_tree (planned self.entry)) (typed_inputs (planned self.entry)) (cells_of (typed_inputs (planned self.entry)) (environment_of inputs))) (states_of graph) (edges_of graph)) }
+        ensures opens { IfOk result (λ graph. AllOpen (layout (program_steps (typed_text (planned self.entry)) (typed_tree (planned self.entry)) (typed_inputs (planned self.entry)) (cells_of (typed_inputs (planned self.entry)) (environment_of inputs)))) (states_of graph)) }
         ensures opened { IfOk result (λ graph. AreOpened node_behaviour (states_of graph)) }
         ensures means { IfOk result (λ graph. NetworkMeans (typed_text (planned self.entry)) (typed_tree (planned self.entry)) (environment_of inputs) (states_of graph) (edges_of graph)) }
     {

@@ -7,6 +7,7 @@ use Rattle.flow_graph.specs.Limits.{most_nodes, most_edges}
 use Rattle.flow_plans.specs.Layouts.{layout, places, edges_needed, IsNetworkOf}
 use Rattle.flow_plans.specs.Ports.{AreWired}
 use Rattle.flow_plans.specs.Views.{steps_of}
+use Rattle.flow_assembly.specs.Openings.{AllOpen}
 use Rattle.snesl_translation.specs.Programs.{not_set}
 use Rattle.snesl_flatten.specs.Networks.{program_steps}
 use Rattle.snesl_flatten.proofs.Wired.{typed_wired, node_each, refused_with}
@@ -48,6 +49,12 @@ returns-clause-network c =
     let graph = c.in_ok-assembled.assembled.graph in
     subst (λ plan. IsNetworkOf node_behaviour plan (states_of graph) (edges_of graph)) (ap (λ d. steps_of d c.in_ok-steps.steps.items) c.dialect.ensures ∙ c.in_ok-steps.ensures.steps)
     c.in_ok-assembled.ensures.network
+
+pub returns-clause-opens : goal.returns-clause-opens
+returns-clause-opens c =
+    let graph = c.in_ok-assembled.assembled.graph in
+    subst (λ plan. AllOpen (layout plan) (states_of graph)) (ap (λ d. steps_of d c.in_ok-steps.steps.items) c.dialect.ensures ∙ c.in_ok-steps.ensures.steps)
+    c.in_ok-assembled.ensures.opens
 
 pub returns-clause-few : goal.returns-clause-few
 returns-clause-few c =
