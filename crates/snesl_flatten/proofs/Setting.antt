@@ -2,11 +2,12 @@
 use Rattle.std.proofs.Common.{◌≡◌, ◌≢◌, ℕ, zero, suc, ◌+◌, ◌<◌, List, [], ◌∷◌, ◌++◌, length, map, get_or, set, Some, refl, sym, ap, subst, ◌∙◌, arith, inl, inr, get_or-set_same, get_or-set_other}
 use Rattle.std.proofs.lemmas.Bool.{cases_eq}
 use Rattle.std.proofs.lemmas.Option.{slice_get-map, slice_get-get_or, slice_get_within, get_or_from_slice_get}
-use Rattle.std.proofs.lemmas.List.{length-map}
+use Rattle.std.proofs.lemmas.List.{length-map, length-set}
 use Rattle.std.specs.List.{slice_get}
 use Rattle.std.specs.Option.{option_map}
 use Rattle.snesl_values.specs.Inputs.{Declaration}
 use Rattle.snesl_tree.specs.Tree.{ProgramTree}
+use Rattle.snesl_types.specs.Typed.{typed_inputs}
 use Rattle.flow_edges.specs.declared.message.Kind.{Kind}
 use Rattle.flow_base.specs.Columns.{Columns}
 use Rattle.flow_scalar.specs.Streams.{Items, stream_cells, stream_kind}
@@ -25,6 +26,8 @@ use Rattle.snesl_translation.specs.Wires.{type_of_wires}
 use Rattle.snesl_translation.specs.Programs.{first_offset, program_plan, not_set}
 use Rattle.snesl_flatten.specs.Networks.{NodeState, program_steps}
 use Rattle.snesl_flatten.specs.Sources.{all_kinds, written, HasSources}
+use Rattle.snesl_flatten.specs.PlanViews.{planned, steps_planned, AreButSources}
+use Rattle.snesl_flatten.specs.declared.plan.Plan.{Plan}
 use Rattle.snesl_flatten.proofs.Sources.{source_step, next_source, next_set}
 use Rattle.snesl_flatten.proofs.Ends.{print_stays}
 
@@ -139,3 +142,12 @@ module _ (text : List ℕ) (program : ProgramTree) (inputs : List Declaration) (
         print = print_stays (type_of_wires (program_plan text program inputs not_set).given) (first_offset program.expression) states k items may_set has.print;
         places_are = ap places (sym same) ∙ law.2 ∙ has.places_are;
       }
+
+-- Setting a source changes no other node.
+pub others_stay : (plan : Plan) (states : List NodeState) (n k : ℕ) (s : NodeState) → AreButSources plan states → n < length (all_kinds (typed_inputs (planned plan)))
+    → k ≡ get_or (places (steps_planned plan)) (suc n) 0 → AreButSources plan (set states k s)
+others_stay plan states n k s so_far lt place = record {
+  nodes = length-set states k s ∙ so_far.nodes;
+  others = λ j not_source.
+      get_or-set_other states k j s node_behaviour.sample (λ same. not_source (n, lt, same ∙ place)) ∙ so_far.others j not_source;
+}

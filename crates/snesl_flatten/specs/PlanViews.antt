@@ -1,14 +1,16 @@
 -- What callers see of a plan.
-use Rattle.std.specs.Prelude.{◌≡◌, List, []}
+use Rattle.std.specs.Prelude.{◌≡◌, ℕ, suc, ◌<◌, List, [], length, slice_index_or}
 use Rattle.flow_graph.specs.declared.edge.Edge.{Edge}
 use Rattle.flow_graph.specs.Graphs.{states_of, edges_of}
+use Rattle.flow_graph.specs.Networks.{state_at}
+use Rattle.flow_nodes.specs.StreamNodes.{node_behaviour}
 use Rattle.flow_plans.specs.Layouts.{places}
 use Rattle.flow_plans.specs.Plans.{Step}
 use Rattle.snesl_translation.specs.Programs.{not_set}
 use Rattle.snesl_types.specs.Typed.{typed_inputs, typed_text, typed_tree}
 use Rattle.snesl_types.specs.declared.typed.Typed.{Typed}
 use Rattle.snesl_flatten.specs.Networks.{NodeState, program_steps}
-use Rattle.snesl_flatten.specs.Sources.{HasSources}
+use Rattle.snesl_flatten.specs.Sources.{all_kinds, HasSources}
 use Rattle.snesl_flatten.specs.declared.plan.Plan.{Plan}
 
 -- the program of which it is the plan
@@ -30,3 +32,13 @@ steps_planned plan = program_steps (typed_text (planned plan)) (typed_tree (plan
 pub record HoldsNetwork (plan : Plan) : Type 0 where
   pub sources : HasSources (typed_text (planned plan)) (typed_tree (planned plan)) (typed_inputs (planned plan)) [] (plan_states plan) (plan_edges plan)
   pub places_are : plan.places.items ≡ places (steps_planned plan)
+
+-- node k is the source of a stream of the inputs: those are the steps behind the first one, in order
+abbrev pub IsInputSource : Plan → ℕ → Type 0
+IsInputSource plan k =
+    (n : ℕ) × (n < length (all_kinds (typed_inputs (planned plan)))) × (k ≡ slice_index_or (places (steps_planned plan)) (suc n) 0)
+
+-- The states are those of the plan's nodes, but for the sources of its inputs.
+pub record AreButSources (plan : Plan) (states : List NodeState) : Type 0 where
+  pub nodes : length states ≡ length (plan_states plan)
+  pub others : (k : ℕ) → (IsInputSource plan k → ⊥) → state_at node_behaviour states k ≡ state_at node_behaviour (plan_states plan) k

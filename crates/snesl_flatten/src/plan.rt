@@ -11,7 +11,7 @@ ghost use Rattle.flow_plans.specs.Layouts.{layout, places, IsNetworkOf};
 ghost use Rattle.flow_assembly.specs.Openings.{AllOpen};
 ghost use Rattle.snesl_translation.specs.Programs.{cells_of, columns_of};
 ghost use Rattle.snesl_flatten.specs.Networks.{program_steps, NetworkMeans};
-ghost use Rattle.snesl_flatten.specs.PlanViews.{planned, plan_states, plan_edges, steps_planned, HoldsNetwork};
+ghost use Rattle.snesl_flatten.specs.PlanViews.{planned, plan_states, plan_edges, steps_planned, HoldsNetwork, AreButSources};
 ghost use Rattle.snesl_flatten.specs.Sources.{all_kinds, HasSources};
 
 use crate::inputs::streams_of_inputs;
@@ -44,8 +44,8 @@ impl<'a> Plan<'a> {
         self.typed.fits(inputs)
     }
 
-    /// The network of a plan that `flatten` made, with the lists of these inputs in its sources, and else as it is. It is in
-    /// its opening states.
+    /// The network of a plan that `flatten` made, with the lists of these inputs in its sources, and else as it is: the same
+    /// edges, and all other nodes in the states that they have. It is in its opening states.
     ///
     /// It has a lawful flow just where the program has a value for the inputs, and then the text that is printed is that
     /// of the value.
@@ -60,6 +60,8 @@ impl<'a> Plan<'a> {
         ensures network { IfOk result (λ graph. IsNetworkOf node_behaviour (program_steps (typed_text (planned self.entry)) (typed_tree (planned self.entry)) (typed_inputs (planned self.entry)) (cells_of (typed_inputs (planned self.entry)) (environment_of inputs))) (states_of graph) (edges_of graph)) }
         ensures opens { IfOk result (λ graph. AllOpen (layout (program_steps (typed_text (planned self.entry)) (typed_tree (planned self.entry)) (typed_inputs (planned self.entry)) (cells_of (typed_inputs (planned self.entry)) (environment_of inputs)))) (states_of graph)) }
         ensures opened { IfOk result (λ graph. AreOpened node_behaviour (states_of graph)) }
+        ensures edges { IfOk result (λ graph. edges_of graph ≡ plan_edges self.entry) }
+        ensures others { IfOk result (λ graph. AreButSources self.entry (states_of graph)) }
         ensures means { IfOk result (λ graph. NetworkMeans (typed_text (planned self.entry)) (typed_tree (planned self.entry)) (environment_of inputs) (states_of graph) (edges_of graph)) }
     {
         let mut plan = self;
@@ -77,6 +79,8 @@ impl<'a> Plan<'a> {
         requires kinds { map stream_kind streams.items ≡ all_kinds (typed_inputs (planned self.old)) }
         ensures typed { planned self.new ≡ planned self.old }
         ensures sources { HasSources (typed_text (planned self.old)) (typed_tree (planned self.old)) (typed_inputs (planned self.old)) (map stream_cells streams.items) (plan_states self.new) (plan_edges self.new) }
+        ensures edges { plan_edges self.new ≡ plan_edges self.old }
+        ensures others { AreButSources self.old (plan_states self.new) }
     {
         openings_perform();
         let mut step = 1;

@@ -1,5 +1,6 @@
-use Rattle.std.proofs.Common.{◌≡◌, suc, [], ◌∷◌, ◌++◌, List, length, map, set, sym, subst, ◌∙◌, ap, arith, length-append}
+use Rattle.std.proofs.Common.{◌≡◌, suc, [], ◌∷◌, ◌++◌, List, length, map, set, refl, sym, subst, ◌∙◌, ap, arith, length-append}
 use Rattle.std.proofs.lemmas.List.{length-map, map-append}
+use Rattle.std.proofs.lemmas.Option.{slice_get_within}
 use Rattle.std.proofs.lemmas.Iterator.Adapters.{YieldsList-from_vec}
 use Rattle.std.proofs.lemmas.Iterator.Consumers.{YieldsList-turn}
 use Rattle.snesl_types.specs.Typed.{typed_inputs, typed_text, typed_tree}
@@ -13,10 +14,20 @@ use Rattle.flow_graph.specs.declared.edge.Edge.{Edge}
 use Rattle.flow_plans.specs.Layouts.{places}
 use Rattle.flow_base.specs.Columns.{Columns}
 use Rattle.snesl_flatten.specs.Networks.{NodeState}
-use Rattle.snesl_flatten.specs.PlanViews.{planned, steps_planned}
+use Rattle.snesl_flatten.specs.PlanViews.{planned, steps_planned, AreButSources}
 use Rattle.snesl_flatten.specs.Sources.{all_kinds, HasSources}
-use Rattle.snesl_flatten.proofs.Setting.{kind_next, place_is, next_within, may_set, next_has}
+use Rattle.snesl_flatten.proofs.Setting.{kind_next, place_is, next_within, may_set, next_has, others_stay}
 use Rattle.snesl_flatten.proofs.plan.Plan.set_sources.Goals as goal
+
+pub loop-stream-init : goal.loop-stream-init
+loop-stream-init c = record {
+  typed = refl;
+  places = refl;
+  step = refl;
+  sources = c.requires.sources;
+  edges = refl;
+  others = record { nodes = refl; others = λ k not_source. refl };
+}
 
 pub index-requires : goal.index-requires
 index-requires c =
@@ -74,4 +85,9 @@ loop-stream-preserved c =
           subst (λ (l : Columns). HasSources (typed_text typed) (typed_tree typed) (typed_inputs typed) l (states_of c.replace.new.self) (edges_of c.replace.new.self)) (sym (map-append stream_cells done (s ∷ [])))
           (subst (λ (l : List NodeState). HasSources (typed_text typed) (typed_tree typed) (typed_inputs typed) (columns ++ stream_cells s ∷ []) l (edges_of c.replace.new.self)) (sym is)
           (subst (λ (l : List Edge). HasSources (typed_text typed) (typed_tree typed) (typed_inputs typed) (columns ++ stream_cells s ∷ []) (set states k (a_source, source_opened (items_of s))) l) (sym c.replace.ensures.edges) set_has));
+      edges = c.replace.ensures.edges ∙ c.loop-stream.invariant.edges;
+      others =
+          subst (AreButSources c.args.self.now) (sym is)
+          (others_stay c.args.self.now states (length columns) k (a_source, source_opened (items_of s)) c.loop-stream.invariant.others
+          (slice_get_within (all_kinds (typed_inputs typed)) (length columns) _ there) place);
     }

@@ -1,7 +1,7 @@
 use Rattle.std.proofs.Common.{◌≡◌, ◌+◌, length, map}
 use Rattle.snesl_types.specs.Typed.{typed_inputs, typed_text, typed_tree}
 use Rattle.flow_scalar.specs.Streams.{stream_cells}
-use Rattle.snesl_flatten.specs.PlanViews.{planned, plan_states, plan_edges}
+use Rattle.snesl_flatten.specs.PlanViews.{planned, plan_states, plan_edges, AreButSources}
 use Rattle.snesl_flatten.specs.Sources.{HasSources}
 use Rattle.snesl_flatten.proofs.plan.Plan.set_sources.Given as goal
 
@@ -11,4 +11,6 @@ invariant-loop-stream l = record {
   places : l.self.places.items ≡ l.fn.self.places.items;
   step : l.step ≡ length l.yielded + 1;
   sources : HasSources (typed_text (planned l.fn.self)) (typed_tree (planned l.fn.self)) (typed_inputs (planned l.fn.self)) (map stream_cells l.yielded) (plan_states l.self) (plan_edges l.self);
+  edges : plan_edges l.self ≡ plan_edges l.fn.self;
+  others : AreButSources l.fn.self (plan_states l.self);
 }
