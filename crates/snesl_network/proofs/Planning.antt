@@ -14,8 +14,10 @@ use Rattle.snesl_types.specs.declared.typed.Typed.{Typed}
 use Rattle.snesl_meaning.specs.Meaning.{bad_input}
 use Rattle.flow_nodes.specs.StreamNodes.{node_behaviour}
 use Rattle.flow_graph.specs.declared.edge.Edge.{Edge}
+use Rattle.flow_graph.specs.Laws.{IsNetwork}
 use Rattle.flow_graph.specs.Networks.{AreOpened}
-use Rattle.flow_plans.specs.Layouts.{IsNetworkOf}
+use Rattle.flow_plans.specs.Layouts.{layout, IsNetworkOf}
+use Rattle.flow_assembly.specs.Openings.{AllOpen}
 use Rattle.snesl_translation.specs.Programs.{cells_of}
 use Rattle.snesl_flatten.specs.Networks.{NodeState, program_steps, NetworkMeans}
 use Rattle.snesl_network.specs.Meant.{IsMeantFor, HasNoNetwork}
@@ -24,6 +26,10 @@ use Rattle.snesl_network.specs.Meant.{IsMeantFor, HasNoNetwork}
 abbrev pub IsItsNetwork : Environment → List NodeState → List Edge → List ℕ → ProgramTree → List Declaration → Type 0
 IsItsNetwork environment states edges text program inputs =
     IsNetworkOf node_behaviour (program_steps text program inputs (cells_of inputs environment)) states edges
+
+-- each of these nodes opens as this program says with these inputs
+abbrev pub AllOpenFor : Environment → List NodeState → List ℕ → ProgramTree → List Declaration → Type 0
+AllOpenFor environment states text program inputs = AllOpen (layout (program_steps text program inputs (cells_of inputs environment))) states
 
 module _ (text input : List ℕ) (parsed : Program) (typed : Typed) (parses : Parses text (Ok (tree_of_program parsed))) (kept : parsed.text.items ≡ text)
     (same : program_of typed ≡ parsed) (typing : HasTyping parsed.text.items (tree_of_program parsed) (typed_inputs typed) (typed_ty typed)) where
@@ -57,10 +63,12 @@ module _ (text input : List ℕ) (parsed : Program) (typed : Typed) (parses : Pa
 
     -- the network that was made is that of the text and its input, and means it
     pub is_meant : (environment : Environment) (states : List NodeState) (edges : List Edge) → InputMeans dialect inputs input (spells environment)
-        → IsItsNetwork environment states edges (typed_text typed) (typed_tree typed) (typed_inputs typed) → AreOpened node_behaviour states
+        → IsItsNetwork environment states edges (typed_text typed) (typed_tree typed) (typed_inputs typed)
+        → AllOpenFor environment states (typed_text typed) (typed_tree typed) (typed_inputs typed)
+        → AreOpened node_behaviour states → IsNetwork node_behaviour states edges
         → NetworkMeans (typed_text typed) (typed_tree typed) environment states edges
         → IsMeantFor text input states edges
-    is_meant environment states edges spelled network opened means =
+    is_meant environment states edges spelled network opens opened joined means =
         record {
           start = record {
             program = program;
@@ -71,7 +79,9 @@ module _ (text input : List ℕ) (parsed : Program) (typed : Typed) (parses : Pa
             types = of_text.1;
             inputs = for_declared (spells environment) spelled;
             network = of_program (IsItsNetwork environment states edges) network;
+            opens = of_program (AllOpenFor environment states) opens;
             opened = opened;
+            joined = joined;
           };
           means = of_program (λ bytes tree declared. NetworkMeans bytes tree environment states edges) means;
         }

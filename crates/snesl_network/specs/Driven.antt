@@ -20,9 +20,11 @@ use Rattle.flow_nodes.specs.StreamNodes.{node_behaviour, text_in}
 use Rattle.flow_graph.specs.Limits.{most_nodes, most_edges}
 use Rattle.flow_graph.specs.declared.edge.Edge.{Edge}
 use Rattle.flow_graph.specs.Networks.{AreOpened, network_of, configuration_of}
+use Rattle.flow_graph.specs.Laws.{IsNetwork}
 use Rattle.flow_graph.specs.Flows.{IsLawfulFlow}
 use Rattle.flow_graph.specs.Shapes.{IsSameNetwork}
 use Rattle.flow_plans.specs.Layouts.{layout, edges_needed, IsNetworkOf}
+use Rattle.flow_assembly.specs.Openings.{AllOpen}
 use Rattle.snesl_translation.specs.Programs.{cells_of, not_set}
 use Rattle.flow_drive.specs.declared.config.Config.{Config}
 use Rattle.flow_drive.specs.Configs.{IsLawful, StartsThreads}
@@ -40,7 +42,8 @@ IsNamed rest f = NamesFault node_behaviour.process (network_of node_behaviour re
 
 module _ (text input : List ℕ) where
   -- These nodes and edges are the network of the program with its input: that of its translation, with the values that the
-  -- input text spells in its sources, before any step.
+  -- input text spells in its sources, before any step. Each node is in the state in which it opens, its faults at the offset of
+  -- its form, and each port has its edge.
   pub record IsNetworkFor (states : List NodeState) (edges : List Edge) : Type 0 where
     pub program : ProgramTree
     pub declared : Declared
@@ -50,7 +53,9 @@ module _ (text input : List ℕ) where
     pub types : ProgramTypes text program declared ty
     pub inputs : InputMeans program.dialect declared.inputs input (spells environment)
     pub network : IsNetworkOf node_behaviour (program_steps text program declared.inputs (cells_of declared.inputs environment)) states edges
+    pub opens : AllOpen (layout (program_steps text program declared.inputs (cells_of declared.inputs environment))) states
     pub opened : AreOpened node_behaviour states
+    pub joined : IsNetwork node_behaviour states edges
 
   -- What rests is the network of the program with its input, driven over edges of this capacity; and how it came out is the
   -- program's value, or a fault where the program has one.

@@ -11,7 +11,7 @@ ghost use Rattle.snesl_network.specs.Meant.{IsMeantFor, HasNoNetwork};
 ghost use Rattle.snesl_network.specs.NodesAtRest.{rest_of};
 
 use flow_drive::{Config, DriveError, Gate, Rested, drive, rested_is_sound};
-use flow_graph::{Graph, flow_is_carried, flow_runs_to_end};
+use flow_graph::{Graph, flow_is_carried, flow_runs_to_end, graph_is_a_network};
 use flow_nodes::StreamNode;
 use snesl_flatten::flatten;
 use snesl_meaning::one_meaning;
@@ -61,6 +61,7 @@ fn network(alloc: Global, program: &[u8], input: &[u8]) -> Result<Graph<StreamNo
     let inputs = read_inputs(typed.dialect(), alloc, typed.decls(), input)?;
     let plan = flatten(alloc, &typed)?;
     let graph = plan.with(inputs)?;
+    graph_is_a_network(&graph);
     Ok(graph)
 }
 

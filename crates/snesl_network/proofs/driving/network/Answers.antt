@@ -7,7 +7,7 @@ use Rattle.snesl_types.specs.declared.typed.Typed.{Typed}
 use Rattle.flow_graph.specs.Graphs.{states_of, edges_of}
 use Rattle.snesl_flatten.specs.Networks.{NetworkMeans}
 use Rattle.snesl_network.proofs.Refusing.{parse_refused, check_refused, passed_on}
-use Rattle.snesl_network.proofs.Planning.{IsItsNetwork, inputs_refused, is_meant}
+use Rattle.snesl_network.proofs.Planning.{IsItsNetwork, AllOpenFor, inputs_refused, is_meant}
 use Rattle.snesl_network.proofs.driving.network.Goals as goal
 
 pub returns-in_err-program-clause-refused : goal.returns-in_err-program-clause-refused
@@ -45,5 +45,6 @@ returns-clause-meant c =
     c.in_ok-typed.ensures.program c.in_ok-typed.ensures.typed c.dialect.result (declared c.decls.result.now) c.dialect.ensures c.decls.ensures
     environment states edges c.in_ok-inputs.ensures.spelled
     (subst (λ (typed : Typed). IsItsNetwork environment states edges (typed_text typed) (typed_tree typed) (typed_inputs typed)) c.in_ok-plan.ensures.program c.in_ok-graph.ensures.network)
-    c.in_ok-graph.ensures.opened
+    (subst (λ (typed : Typed). AllOpenFor environment states (typed_text typed) (typed_tree typed) (typed_inputs typed)) c.in_ok-plan.ensures.program c.in_ok-graph.ensures.opens)
+    c.in_ok-graph.ensures.opened c.graph_is_a_network.ensures.network
     (subst (λ (typed : Typed). NetworkMeans (typed_text typed) (typed_tree typed) environment states edges) c.in_ok-plan.ensures.program c.in_ok-graph.ensures.means)
