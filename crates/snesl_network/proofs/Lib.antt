@@ -1,3 +1,4 @@
 mod Refusing
 mod Planning
 mod Resting
+mod OneNetwork

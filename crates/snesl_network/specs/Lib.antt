@@ -1,3 +1,4 @@
 pub mod NodesAtRest
 pub mod Driven
 pub mod Meant
+pub mod OneNetwork
