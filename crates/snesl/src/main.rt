@@ -19,7 +19,8 @@ fn main(rt: HostRuntime) -> ExitCode {
         Ok(status) => status,
         Err(_) => complain(Refusal::NoMemory, &mut err),
     };
-    if out.flush().is_err() {
+    // Where a write has failed, that was said, and no further call is made.
+    if out.failures() == 0 && out.flush().is_err() {
         return ExitCode::from(complain(Refusal::Output, &mut err));
     }
     ExitCode::from(status)
