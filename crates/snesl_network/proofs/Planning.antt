@@ -3,6 +3,8 @@ use Rattle.std.proofs.Common.{◌≡◌, ℕ, List, Ok, ◌⊎◌, inl, inr, sym
 use Rattle.snesl_values.specs.declared.dialect.Dialect.{Dialect}
 use Rattle.snesl_values.specs.declared.inputs.InputError.{InputError}
 use Rattle.snesl_values.specs.declared.inputs.InputError.TheVariants.{Bad, NoMemory as NoInputMemory}
+use Rattle.snesl_values.specs.declared.refusal.Refusal.{Refusal}
+use Rattle.snesl_values.specs.declared.refusal.Refusal.TheVariants.{TooBig, NoMemory}
 use Rattle.snesl_values.specs.Inputs.{Declaration, Environment, InputAnswer, InputMeans, spells, refused_at, refusal_of}
 use Rattle.snesl_tree.specs.Tree.{ProgramTree}
 use Rattle.snesl_grammar.specs.declared.program.Program.{Program}
@@ -20,6 +22,7 @@ use Rattle.flow_plans.specs.Layouts.{layout, IsNetworkOf}
 use Rattle.flow_assembly.specs.Openings.{AllOpen}
 use Rattle.snesl_translation.specs.Programs.{cells_of}
 use Rattle.snesl_flatten.specs.Networks.{NodeState, program_steps, NetworkMeans}
+use Rattle.snesl_network.specs.Driven.{IsWithinLimits, IsBeyondLimits, IsAccepted}
 use Rattle.snesl_network.specs.Meant.{IsMeantFor, HasNoNetwork}
 
 -- these nodes and edges are the network of this program with these inputs
@@ -61,14 +64,36 @@ module _ (text input : List ℕ) (parsed : Program) (typed : Typed) (parses : Pa
     inputs_refused error (inr (at, is, means)) =
         subst (λ e. HasNoNetwork text input (refusal_of e)) (sym is) (λ config. bad_input parses of_text.1 (for_declared (refused_at at) means))
 
+    module _ (environment : Environment) (spelled : InputMeans dialect inputs input (spells environment)) where
+      -- a program with values for its inputs
+      abbrev accepted : IsAccepted text input
+      accepted =
+          record {
+            program = program;
+            declared = of_text.0;
+            ty = typed_ty typed;
+            environment = environment;
+            parses = parses;
+            types = of_text.1;
+            inputs = for_declared (spells environment) spelled;
+          }
+
+      -- whose network is too great
+      pub plan_refused : (refusal : Refusal) → (refusal ≡ TooBig → IsBeyondLimits (typed_text typed) (typed_tree typed) (typed_inputs typed))
+          → (refusal ≡ TooBig) ⊎ (refusal ≡ NoMemory) → HasNoNetwork text input refusal
+      plan_refused refusal big (inl is) =
+          subst (HasNoNetwork text input) (sym is) (λ config. inl (record { accepted = accepted; greater = of_program IsBeyondLimits (big is) }))
+      plan_refused refusal big (inr is) = subst (HasNoNetwork text input) (sym is) (λ config. tt)
+
     -- the network that was made is that of the text and its input, and means it
     pub is_meant : (environment : Environment) (states : List NodeState) (edges : List Edge) → InputMeans dialect inputs input (spells environment)
         → IsItsNetwork environment states edges (typed_text typed) (typed_tree typed) (typed_inputs typed)
         → AllOpenFor environment states (typed_text typed) (typed_tree typed) (typed_inputs typed)
         → AreOpened node_behaviour states → IsNetwork node_behaviour states edges
+        → IsWithinLimits (typed_text typed) (typed_tree typed) (typed_inputs typed)
         → NetworkMeans (typed_text typed) (typed_tree typed) environment states edges
         → IsMeantFor text input states edges
-    is_meant environment states edges spelled network opens opened joined means =
+    is_meant environment states edges spelled network opens opened joined few means =
         record {
           start = record {
             program = program;
@@ -83,5 +108,6 @@ module _ (text input : List ℕ) (parsed : Program) (typed : Typed) (parses : Pa
             opened = opened;
             joined = joined;
           };
+          few = of_program IsWithinLimits few;
           means = of_program (λ bytes tree declared. NetworkMeans bytes tree environment states edges) means;
         }

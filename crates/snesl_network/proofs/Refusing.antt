@@ -9,11 +9,11 @@ use Rattle.snesl_syntax.specs.Parse.{Parses, IsOfText, IsRight}
 use Rattle.snesl_types.specs.Programs.{IsFirstViolation}
 use Rattle.snesl_types.proofs.TypingRefusals.{program_of_typing}
 use Rattle.snesl_meaning.specs.Meaning.{no_program, ill_typed}
+use Rattle.flow_graph.specs.declared.edge.Edge.{Edge}
 use Rattle.flow_drive.specs.declared.config.Config.{Config}
 use Rattle.snesl_flatten.specs.Networks.{NodeState}
-use Rattle.snesl_network.specs.NodesAtRest.{Rest}
-use Rattle.snesl_network.specs.Driven.{WasDriven}
-use Rattle.snesl_network.specs.Meant.{HasNoNetwork}
+use Rattle.snesl_network.specs.Driven.{HasNetwork, WasRefused}
+use Rattle.snesl_network.specs.Meant.{IsMeantFor, HasNoNetwork}
 
 module _ (text input : List ℕ) where
   pub parse_refused : (refusal : Refusal) → IsOfText refusal → IsRight (Parses text) (Err refusal) → HasNoNetwork text input refusal
@@ -35,13 +35,30 @@ module _ (text input : List ℕ) where
   check_refused program TooBig parsed first config = inr (ill_typed parsed first)
   check_refused program refusal parsed first config = ill_typed parsed first
 
+  -- what has the meaning of a program with its input is a network of it
+  pub has_network : (states : List NodeState) (edges : List Edge) → IsMeantFor text input states edges → HasNetwork text input
+  has_network states edges meant =
+      let start = meant.start in
+      record {
+        accepted = record {
+          program = start.program;
+          declared = start.declared;
+          ty = start.ty;
+          environment = start.environment;
+          parses = start.parses;
+          types = start.types;
+          inputs = start.inputs;
+        };
+        few = meant.few;
+      }
+
   -- what is answered behind a `?`
   pub passed_on : {A : Type 0} (r : Result A Refusal) (e : Refusal) → IsErrAnd r (λ x. x ≡ e) → HasNoNetwork text input e → IfErr r (HasNoNetwork text input)
   passed_on (Ok x) e is none = absurd is
   passed_on (Err x) e is none = subst (HasNoNetwork text input) (sym is) none
 
   -- and by the drive
-  pub not_driven : {A : Type 0} (config : Config) (seen : A → Rest NodeState) (r : Result A Refusal) (e : Refusal) → IsErrAnd r (λ x. x ≡ e) → HasNoNetwork text input e
-      → WasDriven text input config seen r
-  not_driven config seen (Ok x) e is none = absurd is
-  not_driven config seen (Err x) e is none = subst (HasNoNetwork text input) (sym is) none config
+  pub not_driven : {A : Type 0} (config : Config) (r : Result A Refusal) (e : Refusal) → IsErrAnd r (λ x. x ≡ e) → HasNoNetwork text input e
+      → IfErr r (WasRefused text input config)
+  not_driven config (Ok x) e is none = absurd is
+  not_driven config (Err x) e is none = subst (HasNoNetwork text input) (sym is) none config

@@ -1,5 +1,5 @@
 -- How the network of a program comes to rest.
-use Rattle.std.proofs.Common.{◌≡◌, ℕ, ◌<◌, ◌≤◌, List, length, Some, refl, sym, subst, ◌∙◌}
+use Rattle.std.proofs.Common.{◌≡◌, ℕ, ◌+◌, ◌<◌, ◌≤◌, List, length, Some, refl, sym, subst, ◌∙◌}
 use Rattle.std.proofs.Math.Logic.{∥∥₁_elim}
 use Rattle.std.proofs.Props.{props}
 use mathlib.Core.Sum.{⊎_set}
@@ -24,7 +24,9 @@ use Rattle.flow_graph.specs.Networks.{network_of, configuration_of}
 use Rattle.flow_graph.specs.Flows.{IsLawfulFlow}
 use Rattle.flow_graph.specs.FlowTheorems.{FlowIsBegun, FlowNeverStalls}
 use Rattle.flow_graph.specs.Shapes.{IsSameNetwork}
-use Rattle.flow_drive.specs.Drives.{IsSoundAt, RestsAt}
+use Rattle.flow_drive.specs.declared.config.Config.{Config}
+use Rattle.flow_drive.specs.Configs.{IsLawful, IsInSteps}
+use Rattle.flow_drive.specs.Drives.{EndsMaximalRun, IsSoundAt, RestsAt}
 use Rattle.flow_drive.specs.Texts.{last_text}
 use Rattle.snesl_flatten.specs.Networks.{NodeState}
 use Rattle.snesl_network.specs.NodesAtRest.{Rest}
@@ -49,7 +51,7 @@ module _ (text input : List ℕ) (states : List NodeState) (edges : List Edge) (
       by_answer (faults kind at) is =
           let same : has_fault kind at ≡ has_value v = one text input (has_fault kind at) (has_value v) (means_as (faults kind at) is) has in absurd (cc)
 
-  module _ (capacity : ℕ) (rest : Rest NodeState) (same : IsSameNetwork node_behaviour states edges rest.states rest.edges) (capacity_is : rest.capacity ≡ capacity)
+  module _ (config : Config) (rest : Rest NodeState) (same : IsSameNetwork node_behaviour states edges rest.states rest.edges) (capacity_is : rest.capacity ≡ config.capacity)
       (sound : IsSoundAt node_behaviour rest.states rest.edges rest.traffic) (rests : RestsAt node_behaviour rest.states rest.edges rest.capacity rest.traffic)
       (begun : FlowIsBegun node_behaviour states edges) (never_stalls : FlowNeverStalls node_behaviour states edges) where
     abbrev P : Process NodeState Signal
@@ -65,8 +67,8 @@ module _ (text input : List ℕ) (states : List NodeState) (edges : List Edge) (
     started_sound : ∥ IsSound P net at_rest ∥₁
     started_sound = subst (λ n. ∥ IsSound P n at_rest ∥₁) same.network sound
 
-    started_rests : AtRest P net (Some capacity) at_rest
-    started_rests = subst (λ n. AtRest P n (Some capacity) at_rest) same.network (subst (λ many. RestsAt node_behaviour rest.states rest.edges many rest.traffic) capacity_is rests)
+    started_rests : AtRest P net (Some config.capacity) at_rest
+    started_rests = subst (λ n. AtRest P n (Some config.capacity) at_rest) same.network (subst (λ many. RestsAt node_behaviour rest.states rest.edges many rest.traffic) capacity_is rests)
 
     value_printed : HaveEnded rest → (v : Value) × Means text input (has_value v) × (last_text text_in rest.states ≡ text_of_value v)
     value_printed ended = by_answer answer refl
@@ -96,23 +98,31 @@ module _ (text input : List ℕ) (states : List NodeState) (edges : List Edge) (
 
     all_end : (v : Value) → Means text input (has_value v)
         → (bodies : ℕ → List Cell) × IsLawfulFlow node_behaviour states edges bodies
-        × (((e : ℕ) → e < length edges → length (closed (bodies e)) ≤ capacity) → HaveEnded rest)
+        × (((e : ℕ) → e < length edges → length (closed (bodies e)) ≤ config.capacity) → HaveEnded rest)
     all_end v has =
         let flow = meant.means.flows v (gives_value v has) in (
           flow.0,
           flow.1,
           λ fits. subst (λ n. AllEnded P n at_rest) (sym same.network)
-              (∥∥₁_elim started_sound (hlevel (props, ⊎_set)) (λ s. never_stalls flow.0 flow.1 capacity fits at_rest s started_rests)),
+              (∥∥₁_elim started_sound (hlevel (props, ⊎_set)) (λ s. never_stalls flow.0 flow.1 config.capacity fits at_rest s started_rests)),
         )
 
-    pub comes_to_rest : CameToRest text input capacity rest
-    comes_to_rest =
+    pub comes_to_rest : IsLawful config → ((e : ℕ) → length (rest.traffic.sent e) ≤ length (rest.traffic.received e) + rest.capacity)
+        → (IsInSteps config.drive → EndsMaximalRun node_behaviour config.capacity states edges rest.states rest.traffic)
+        → CameToRest text input config rest
+    comes_to_rest lawful fits run =
         record {
+          lawful = lawful;
           states = states;
           edges = edges;
           start = meant.start;
+          few = meant.few;
           same = same;
           capacity_is = capacity_is;
+          sound = sound;
+          rests = rests;
+          fits = fits;
+          run = run;
           value = value_printed;
           fault = fault_meant;
           never_stalls = all_end;

@@ -1,10 +1,10 @@
 -- A program that was driven as a network.
-use Rattle.std.specs.Prelude.{◌≡◌, ℕ, ◌<◌, ◌≤◌, ◌⊎◌, List, length, Result, Ok, Err}
+use Rattle.std.specs.Prelude.{◌≡◌, ℕ, ◌+◌, ◌<◌, ◌≤◌, ◌⊎◌, List, length, Ok}
 use Rattle.snesl_values.specs.declared.fault.Fault.{Fault}
 use Rattle.snesl_values.specs.declared.fault.FaultKind.{FaultKind}
 use Rattle.snesl_values.specs.declared.refusal.Refusal.{Refusal}
 use Rattle.snesl_values.specs.declared.refusal.Refusal.TheVariants.{TooBig, BadConfig, NoMemory, NoThread, Output, Short}
-use Rattle.snesl_values.specs.Inputs.{Environment, InputMeans, spells}
+use Rattle.snesl_values.specs.Inputs.{Declaration, Environment, InputMeans, spells}
 use Rattle.snesl_values.specs.Types.{Ty}
 use Rattle.snesl_values.specs.Values.{Value}
 use Rattle.snesl_values.specs.Text.{text as text_of_value}
@@ -27,7 +27,8 @@ use Rattle.flow_plans.specs.Layouts.{layout, edges_needed, IsNetworkOf}
 use Rattle.flow_assembly.specs.Openings.{AllOpen}
 use Rattle.snesl_translation.specs.Programs.{cells_of, not_set}
 use Rattle.flow_drive.specs.declared.config.Config.{Config}
-use Rattle.flow_drive.specs.Configs.{IsLawful, StartsThreads}
+use Rattle.flow_drive.specs.Configs.{IsLawful, StartsThreads, IsInSteps}
+use Rattle.flow_drive.specs.Drives.{EndsMaximalRun, IsSoundAt, RestsAt}
 use Rattle.flow_drive.specs.Texts.{last_text}
 use Rattle.snesl_flatten.specs.Networks.{NodeState, program_steps}
 use Rattle.snesl_network.specs.NodesAtRest.{Rest}
@@ -39,6 +40,18 @@ HaveEnded rest = AllEnded node_behaviour.process (network_of node_behaviour rest
 -- this fault is the one that is named of all to which nodes have come
 abbrev pub IsNamed : Rest NodeState → Fault → Type 0
 IsNamed rest f = NamesFault node_behaviour.process (network_of node_behaviour rest.states rest.edges) (configuration_of node_behaviour rest.states rest.traffic) f
+
+-- the network of a program of these inputs has no more nodes and edges than a graph may have
+abbrev pub IsWithinLimits : List ℕ → ProgramTree → List Declaration → Type 0
+IsWithinLimits text program inputs =
+    let nodes = layout (program_steps text program inputs not_set) in
+    (length nodes ≤ most_nodes) × (edges_needed nodes ≤ most_edges)
+
+-- or it has more
+abbrev pub IsBeyondLimits : List ℕ → ProgramTree → List Declaration → Type 0
+IsBeyondLimits text program inputs =
+    let nodes = layout (program_steps text program inputs not_set) in
+    (most_nodes < length nodes) ⊎ (most_edges < edges_needed nodes)
 
 module _ (text input : List ℕ) where
   -- These nodes and edges are the network of the program with its input: that of its translation, with the values that the
@@ -57,15 +70,43 @@ module _ (text input : List ℕ) where
     pub opened : AreOpened node_behaviour states
     pub joined : IsNetwork node_behaviour states edges
 
-  -- What rests is the network of the program with its input, driven over edges of this capacity; and how it came out is the
-  -- program's value, or a fault where the program has one.
-  pub record CameToRest (capacity : ℕ) (rest : Rest NodeState) : Type 0 where
-    -- the network at its start
+  -- The text is a typed program, and the input text spells values for its inputs.
+  pub record IsAccepted : Type 0 where
+    pub program : ProgramTree
+    pub declared : Declared
+    pub ty : Ty
+    pub environment : Environment
+    pub parses : Parses text (Ok program)
+    pub types : ProgramTypes text program declared ty
+    pub inputs : InputMeans program.dialect declared.inputs input (spells environment)
+
+  -- The program with its input is accepted, and a graph may have its network.
+  pub record HasNetwork : Type 0 where
+    pub accepted : IsAccepted
+    pub few : IsWithinLimits text accepted.program accepted.declared.inputs
+
+  -- The program with its input is accepted, but its network has more nodes or edges than a graph may have.
+  pub record IsTooGreat : Type 0 where
+    pub accepted : IsAccepted
+    pub greater : IsBeyondLimits text accepted.program accepted.declared.inputs
+
+  -- What rests is the network of the program with its input, driven as the configuration says until no node can step; and how
+  -- it came out is the program's value, or a fault where the program has one.
+  pub record CameToRest (config : Config) (rest : Rest NodeState) : Type 0 where
+    pub lawful : IsLawful config
+    -- the network at its start, which a graph may have
     pub states : List NodeState
     pub edges : List Edge
     pub start : IsNetworkFor states edges
+    pub few : IsWithinLimits text start.program start.declared.inputs
     pub same : IsSameNetwork node_behaviour states edges rest.states rest.edges
-    pub capacity_is : rest.capacity ≡ capacity
+    pub capacity_is : rest.capacity ≡ config.capacity
+    -- it is sound, no node can step, and no edge holds more than its capacity
+    pub sound : IsSoundAt node_behaviour rest.states rest.edges rest.traffic
+    pub rests : RestsAt node_behaviour rest.states rest.edges rest.capacity rest.traffic
+    pub fits : (e : ℕ) → length (rest.traffic.sent e) ≤ length (rest.traffic.received e) + rest.capacity
+    -- by a drive in steps it is the end of a maximal run
+    pub run : IsInSteps config.drive → EndsMaximalRun node_behaviour config.capacity states edges rest.states rest.traffic
     -- where all nodes have ended, the program has a value, and its text was printed
     pub value : HaveEnded rest → (v : Value) × Means text input (has_value v) × (last_text text_in rest.states ≡ text_of_value v)
     -- where a fault is named, the program ends in a fault, perhaps in another one
@@ -74,32 +115,16 @@ module _ (text input : List ℕ) where
     -- capacity, all nodes have ended
     pub never_stalls : (v : Value) → Means text input (has_value v)
         → (bodies : ℕ → List Cell) × IsLawfulFlow node_behaviour states edges bodies
-        × (((e : ℕ) → e < length edges → length (closed (bodies e)) ≤ capacity) → HaveEnded rest)
+        × (((e : ℕ) → e < length edges → length (closed (bodies e)) ≤ config.capacity) → HaveEnded rest)
 
-  -- The network of the program has more nodes or edges than a graph may have.
-  pub record IsTooGreat : Type 0 where
-    pub program : ProgramTree
-    pub declared : Declared
-    pub ty : Ty
-    pub parses : Parses text (Ok program)
-    pub types : ProgramTypes text program declared ty
-    pub greater :
-        let nodes = layout (program_steps text program declared.inputs not_set) in
-        (most_nodes < length nodes) ⊎ (most_edges < edges_needed nodes)
-
-  -- Why a program was not driven: the configuration is not lawful; memory was refused; a thread could not be started, by a
-  -- drive that starts threads; the network is too great, or the typing of the program says so; or else what the program and its
-  -- input text mean. Never because an edge held less than its capacity.
+  -- Why a program was not driven, in the order in which it is asked: the configuration is not lawful; or else what the program
+  -- and its input text mean; or else its network is too great; or else a thread could not be started, by a drive that starts
+  -- threads. Memory may be refused at any time. Never because an edge held less than its capacity.
   abbrev pub WasRefused : Config → Refusal → Type 0
   WasRefused config BadConfig = IsLawful config → ⊥
   WasRefused config NoMemory = Unit {0}
-  WasRefused config NoThread = StartsThreads config.drive
+  WasRefused config NoThread = StartsThreads config.drive × HasNetwork
   WasRefused config TooBig = IsTooGreat ⊎ Means text input (is_refused TooBig)
   WasRefused config Output = ⊥
   WasRefused config Short = ⊥
   WasRefused config refusal = Means text input (is_refused refusal)
-
-  -- what comes of it, where a result is seen so: a network at rest, where the configuration is lawful, or a refusal
-  abbrev pub WasDriven : {A : Type 0} → Config → (A → Rest NodeState) → Result A Refusal → Type 0
-  WasDriven config seen (Ok rested) = IsLawful config × CameToRest config.capacity (seen rested)
-  WasDriven config seen (Err refusal) = WasRefused config refusal

@@ -4,12 +4,13 @@ use Rattle.snesl_values.specs.declared.refusal.Refusal.{Refusal}
 use Rattle.flow_graph.specs.declared.edge.Edge.{Edge}
 use Rattle.flow_drive.specs.declared.config.Config.{Config}
 use Rattle.snesl_flatten.specs.Networks.{NodeState, NetworkMeans}
-use Rattle.snesl_network.specs.Driven.{IsNetworkFor, WasRefused}
+use Rattle.snesl_network.specs.Driven.{IsNetworkFor, IsWithinLimits, WasRefused}
 
 module _ (text input : List ℕ) where
-  -- These nodes and edges are the network of the program with its input, and compute its value.
+  -- These nodes and edges are the network of the program with its input, which a graph may have, and compute its value.
   pub record IsMeantFor (states : List NodeState) (edges : List Edge) : Type 0 where
     pub start : IsNetworkFor text input states edges
+    pub few : IsWithinLimits text start.program start.declared.inputs
     pub means : NetworkMeans text start.program start.environment states edges
 
   -- there is no network of it, whatever the configuration

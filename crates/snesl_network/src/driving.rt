@@ -6,9 +6,10 @@ ghost use Rattle.flow_nodes.specs.StreamNodes.{node_behaviour};
 ghost use Rattle.flow_graph.specs.Graphs.{states_of, edges_of};
 ghost use Rattle.flow_graph.specs.Networks.{AreOpened};
 ghost use Rattle.flow_drive.specs.Configs.{IsLawful};
-ghost use Rattle.snesl_network.specs.Driven.{WasDriven};
+ghost use Rattle.snesl_network.specs.Driven.{CameToRest, WasRefused};
 ghost use Rattle.snesl_network.specs.Meant.{IsMeantFor, HasNoNetwork};
 ghost use Rattle.snesl_network.specs.NodesAtRest.{rest_of};
+ghost use Rattle.snesl_network.specs.WhichDrive.{WasDrivenBy};
 
 use flow_drive::{Config, DriveError, Gate, Rested, drive, rested_is_sound};
 use flow_graph::{Graph, flow_is_carried, flow_runs_to_end, graph_is_a_network};
@@ -24,15 +25,17 @@ use std::thread::Threads;
 
 /// Drives the network of a program with its input text until no node can step.
 ///
-/// What rests is the plan's network with the inputs. Where all its nodes have ended, its text is that of the program's value;
-/// where a fault is named, the program ends in a fault, perhaps in another one; it never stalls where the program has a
-/// value and each edge may hold all that goes over it.
+/// What rests is the plan's network with the inputs. It is sound, no node can step, and no edge holds more than its
+/// capacity. `Serial` and `Rounds` have made a maximal run of it, and `Rings` has left it over rings. Where all its nodes
+/// have ended, its text is that of the program's value; where a fault is named, the program ends in a fault, perhaps in
+/// another one; it never stalls where the program has a value and each edge may hold all that goes over it.
 ///
 /// # Errors
 ///
 /// In this order: `BadConfig` exactly where the configuration is not lawful; the refusals of the program text, of its
 /// typing and of the input text; `TooBig` where the network is greater than a graph may be; `NoThread` only where the
-/// drive starts threads. `NoMemory` may come at any time behind the first where memory is refused.
+/// drive starts threads. Each comes only where none before it does. `NoMemory` may come at any time behind the first
+/// where memory is refused.
 pub fn drive_program<R: Threads, G: Gate + Send + Sync + Drop + 'static>(
     rt: &R,
     alloc: Global,
@@ -41,7 +44,10 @@ pub fn drive_program<R: Threads, G: Gate + Send + Sync + Drop + 'static>(
     config: &Config,
     gate: Arc<G, Global>,
 ) -> Result<Rested<StreamNode>, Refusal>
-    ensures driven { WasDriven program.now input.now config.now rest_of result }
+    ensures rests { IfOk result
+        (λ rested. CameToRest program.now input.now config.now (rest_of rested)) }
+    ensures drive { IfOk result (λ rested. WasDrivenBy config.now.drive rested) }
+    ensures refused { IfErr result (WasRefused program.now input.now config.now) }
     ensures config { (IsLawful config.now → ⊥) → result ≡ Err BadConfig }
 {
     if !config.lawful() {
@@ -53,7 +59,8 @@ pub fn drive_program<R: Threads, G: Gate + Send + Sync + Drop + 'static>(
 
 // The network of a program with its input text, before any step.
 fn network(alloc: Global, program: &[u8], input: &[u8]) -> Result<Graph<StreamNode>, Refusal>
-    ensures meant { IfOk result (λ graph. IsMeantFor program.now input.now (states_of graph) (edges_of graph)) }
+    ensures meant { IfOk result
+        (λ graph. IsMeantFor program.now input.now (states_of graph) (edges_of graph)) }
     ensures refused { IfErr result (HasNoNetwork program.now input.now) }
 {
     let program = parse(alloc, program)?;
@@ -75,7 +82,13 @@ fn driven<R: Threads, G: Gate + Send + Sync + Drop + 'static>(
 ) -> Result<Rested<StreamNode>, Refusal>
     requires lawful { IsLawful config.now }
     requires opened { AreOpened node_behaviour (states_of graph) }
-    ensures { (text input : List ℕ) → IsMeantFor text input (states_of graph) (edges_of graph) → WasDriven text input config.now rest_of result }
+    ensures rests { (text input : List ℕ)
+        → IsMeantFor text input (states_of graph) (edges_of graph)
+        → IfOk result (λ rested. CameToRest text input config.now (rest_of rested)) }
+    ensures drive { IfOk result (λ rested. WasDrivenBy config.now.drive rested) }
+    ensures refused { (text input : List ℕ)
+        → IsMeantFor text input (states_of graph) (edges_of graph)
+        → IfErr result (WasRefused text input config.now) }
 {
     flow_is_carried(&graph);
     flow_runs_to_end(&graph);

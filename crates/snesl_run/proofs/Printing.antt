@@ -13,11 +13,11 @@ use Rattle.flow_drive.specs.declared.config.Config.{Config}
 use Rattle.snesl_settings.specs.Settings.{AreLawful, RefusesBut}
 use Rattle.snesl_network.specs.Driven.{WasRefused}
 use Rattle.snesl_console.specs.Job.{IsJob}
-use Rattle.snesl_run.specs.Runs.{IsReported, WroteFor, outcome_of, HasError}
+use Rattle.snesl_run.specs.Runs.{outcome_of, WroteFor, HasWritten, IsReported, HasError}
 use Rattle.snesl_console.specs.Streams.{Taken, Given, taken, WasTold}
 use Rattle.snesl_console.specs.Lines.{Prints, written, Refuses, refusal_line, fault_line, stalled_line}
 use Rattle.snesl_console.specs.Reads.{HasRead}
-use Rattle.snesl_run.specs.Prints.{PrintsOutcome, Printed, came_out, cut_off_value, refused, IsJobAnswered, unread, out_of_memory, Answered, words_refused, words_lost}
+use Rattle.snesl_run.specs.Prints.{PrintsOutcome, Printed, came_out, refused, IsJobAnswered, unread, out_of_memory, Answered, words_refused, words_lost}
 use Rattle.snesl_run.specs.declared.report.Report.{Report}
 use Rattle.snesl_console.proofs.Printing.{cut_off_line, system_refused, job_refused}
 
@@ -48,23 +48,22 @@ module _ (config : Config) (job program input : List ℕ) (split : IsJob job pro
         subst (λ w. Printed config job (taken contents w after) err status) same (memory_refused printed)
 
     pub printed_fault : (fault : Fault) (report : Report) (line : Result (Vec ℕ Global) AllocError) (status : ℕ)
-        → IsReported program input config (taken contents before mid) report → outcome_of report ≡ Failed fault
+        → IsReported program input config report → HasWritten program input (taken contents before mid) report → outcome_of report ≡ Failed fault
         → IfOk line (λ l. l.items ≡ fault_line fault.kind fault.at)
         → MatchResult line (λ l. Prints (taken contents mid after) err l.items 2 status) (λ _. Refuses (taken contents mid after) err NoMemory status)
         → Printed config job (taken contents before after) err status
-    printed_fault fault report line status has e made printed =
-        let h : WroteFor program input (taken contents before mid) (Failed fault) = subst (WroteFor program input (taken contents before mid)) e has.wrote in
+    printed_fault fault report line status has wrote e made printed =
+        let h : WroteFor program input (taken contents before mid) (Failed fault) = subst (WroteFor program input (taken contents before mid)) e wrote in
         made_line (fault_line fault.kind fault.at) line 2 status h.1
-        (λ out p. came_out program input _ (outcome_of report) split has.came has.outcome
-        (subst (λ o. PrintsOutcome program input out err o status) (sym e) (h.0, p))) made printed
+        (λ out p. came_out program input report split has (subst (λ o. PrintsOutcome program input out err o status) (sym e) (h.0, p))) made printed
 
     pub printed_stall : (edge : ℕ) (report : Report) (line : List ℕ) (status : ℕ)
-        → IsReported program input config (taken contents before mid) report → outcome_of report ≡ Stalled edge → line ≡ stalled_line
+        → IsReported program input config report → HasWritten program input (taken contents before mid) report → outcome_of report ≡ Stalled edge → line ≡ stalled_line
         → Prints (taken contents mid after) err line 3 status → Printed config job (taken contents before after) err status
-    printed_stall edge report line status has e is printed =
-        let h : WroteFor program input (taken contents before mid) (Stalled edge) = subst (WroteFor program input (taken contents before mid)) e has.wrote in
+    printed_stall edge report line status has wrote e is printed =
+        let h : WroteFor program input (taken contents before mid) (Stalled edge) = subst (WroteFor program input (taken contents before mid)) e wrote in
         subst (λ w. Printed config job (taken contents w after) err status) h
-        (came_out program input _ (outcome_of report) split has.came has.outcome
+        (came_out program input report split has
         (subst (λ o. PrintsOutcome program input (taken contents mid after) err o status) (sym e) (subst (λ l. Prints (taken contents mid after) err l 3 status) is printed)))
 
     job_error : (refusal : Refusal) → is_of_the_system refusal ≡ false → HasError program input config (taken contents before mid) refusal
@@ -89,7 +88,9 @@ module _ (config : Config) (job program input : List ℕ) (split : IsJob job pro
     system_error : (refusal : Refusal) (status : ℕ) → is_of_the_system refusal ≡ true → HasError program input config out refusal
         → WasTold err (refusal_line refusal) → status ≡ status_of_refusal refusal → Printed config job out err status
     system_error NoMemory status f has told s = memory_refused (system_refused NoMemory status f has told s)
-    system_error Output status f has told s = cut_off_value program input has.0 split has.1 (cut_off_line status has.2 told s)
+    system_error Output status f has told s =
+        came_out program input has.report split has.reported
+        (subst (λ o. PrintsOutcome program input out err o status) (sym has.ended) (has.value, has.means, cut_off_line status has.cut_off told s))
     system_error refusal status f has told s = refused program input refusal split has.0 (system_refused refusal status f has.1 told s)
 
     pub printed_system_error : (refusal error : Refusal) (status : ℕ) → HasError program input config out error → refusal ≡ error → is_of_the_system refusal ≡ true
@@ -98,11 +99,11 @@ module _ (config : Config) (job program input : List ℕ) (split : IsJob job pro
         system_error refusal status f (subst (λ r. HasError program input config out r) (sym e) has) told s
 
     -- a value's line that was written
-    pub printed_value : (report : Report) → IsReported program input config out report → outcome_of report ≡ Ended → err.nothing
-        → Printed config job out err 0
-    printed_value report has e silent =
-        let h : WroteFor program input out Ended = subst (WroteFor program input out) e has.wrote in
-        came_out program input _ (outcome_of report) split has.came has.outcome
+    pub printed_value : (report : Report) → IsReported program input config report → HasWritten program input out report → outcome_of report ≡ Ended
+        → err.nothing → Printed config job out err 0
+    printed_value report has wrote e silent =
+        let h : WroteFor program input out Ended = subst (WroteFor program input out) e wrote in
+        came_out program input report split has
         (subst (λ o. PrintsOutcome program input out err o 0) (sym e) (h.0, h.1, written h.2 silent))
 
 pub words_answered : {words : List (List ℕ)} {reader : Given} {out err : Taken} (refusal : Refusal) (status : ℕ) → RefusesBut (AreLawful words) refusal → reader.nothing

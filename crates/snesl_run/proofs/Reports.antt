@@ -1,5 +1,5 @@
 -- What a run tells, from how its network came to rest.
-use Rattle.std.proofs.Common.{◌≡◌, ℕ, List, [], ◌∷◌, ◌++◌, Bool, true, false, Result, Ok, Err, sym, ap, ◌∙◌, subst}
+use Rattle.std.proofs.Common.{◌≡◌, ℕ, List, [], ◌∷◌, ◌++◌, Bool, true, false, Result, Ok, Err, IfErr, refl, sym, ap, ◌∙◌, subst}
 use Rattle.std.specs.Result.{IsErrAnd}
 use Rattle.snesl_values.specs.declared.refusal.Refusal.{Refusal}
 use Rattle.snesl_values.specs.declared.refusal.Refusal.TheVariants.{BadConfig, TooBig, NoMemory, Output}
@@ -9,11 +9,9 @@ use Rattle.kahn.specs.declared.outcome.Outcome.TheVariants.{Value as Ended, Faul
 use Rattle.flow_nodes.specs.StreamNodes.{text_in}
 use Rattle.flow_drive.specs.declared.config.Config.{Config}
 use Rattle.flow_drive.specs.Texts.{last_text}
-use Rattle.snesl_flatten.specs.Networks.{NodeState}
 use Rattle.snesl_meaning.specs.Meaning.{Means, has_value}
-use Rattle.snesl_network.specs.NodesAtRest.{Rest}
-use Rattle.snesl_network.specs.Driven.{CameToRest, WasRefused}
-use Rattle.snesl_run.specs.Runs.{HasRun, HasError, refusal_of, value_line, CameOut, WroteFor}
+use Rattle.snesl_network.specs.Driven.{WasRefused}
+use Rattle.snesl_run.specs.Runs.{rest_in, outcome_of, refusal_of, value_line, CameOut, WroteFor, HasWritten, IsReported, IsCutShort, HasError, IsErrorOf}
 use Rattle.snesl_console.specs.Streams.{Taken, IsWhole, IsCutOff, HasSent}
 use Rattle.snesl_run.specs.declared.report.Report.{Report}
 use Rattle.snesl_run.specs.declared.report.RunError.{RunError}
@@ -26,36 +24,43 @@ module _ (program input : List ℕ) (config : Config) (out : Taken) where
 
   -- a program that was refused
   pub run_refused : (result : Result Report RunError) (refusal : Refusal) → IsErrAnd result (λ error. refusal_of error ≡ refusal)
-      → WasRefused program input config refusal → out.nothing → HasRun program input config out result
+      → WasRefused program input config refusal → out.nothing → IfErr result (IsErrorOf program input config out)
   run_refused (Ok report) refusal is was untouched = absurd is
   run_refused (Err error) refusal is was untouched = subst (HasError program input config out) (sym is) (refused_untouched refusal was untouched)
 
-module _ (program input : List ℕ) (capacity : ℕ) (rest : Rest NodeState) (came : CameToRest program input capacity rest) where
+module _ (program input : List ℕ) (config : Config) (report : Report) (reported : IsReported program input config report) where
   -- where all nodes have ended, the line of the text is that of the program's value
-  pub line_is : (outcome : Outcome) (printed line : List ℕ) → CameOut rest outcome → outcome ≡ Ended → printed ≡ last_text text_in rest.states → line ≡ printed ++ 10 ∷ []
+  line_is : (printed line : List ℕ) → outcome_of report ≡ Ended → printed ≡ last_text text_in (rest_in report).states → line ≡ printed ++ 10 ∷ []
       → (v : Value) × Means program input (has_value v) × (line ≡ value_line v)
-  line_is outcome printed line out is told made =
-      let h = came.value (subst (CameOut rest) is out) in
+  line_is printed line is told made =
+      let h = reported.came.value (subst (CameOut (rest_in report)) is reported.outcome) in
       (h.0, h.1, made ∙ ap (λ l. l ++ 10 ∷ []) (told ∙ h.2))
 
-  -- which was cut off
-  pub line_cut_off : (out : Taken) (outcome : Outcome) (printed line : List ℕ) (all : Bool) → CameOut rest outcome → outcome ≡ Ended
-      → printed ≡ last_text text_in rest.states → line ≡ printed ++ 10 ∷ [] → HasSent out line all → all ≡ false
-      → (v : Value) × Means program input (has_value v) × IsCutOff out (value_line v)
-  line_cut_off out outcome printed line all came_out is told made sent none =
-      let h = line_is outcome printed line came_out is told made in
-      (h.0, h.1, subst (IsCutOff out) h.2 (subst (HasSent out line) none sent))
+  module _ (out : Taken) where
+    -- which was cut off
+    pub line_cut_off : (printed line : List ℕ) (all : Bool) → outcome_of report ≡ Ended → printed ≡ last_text text_in (rest_in report).states
+        → line ≡ printed ++ 10 ∷ [] → HasSent out line all → all ≡ false → IsCutShort program input config out
+    line_cut_off printed line all is told made sent none =
+        let h = line_is printed line is told made in
+        record {
+          report = report;
+          reported = reported;
+          ended = is;
+          value = h.0;
+          means = h.1;
+          cut_off = subst (IsCutOff out) h.2 (subst (HasSent out line) none sent);
+        }
 
-  -- or written whole
-  pub line_written : (out : Taken) (outcome : Outcome) (printed line : List ℕ) (all : Bool) → CameOut rest outcome → outcome ≡ Ended
-      → printed ≡ last_text text_in rest.states → line ≡ printed ++ 10 ∷ [] → HasSent out line all → all ≡ true
-      → WroteFor program input out outcome
-  line_written out outcome printed line all came_out is told made sent whole =
-      let h = line_is outcome printed line came_out is told made in
-      subst (WroteFor program input out) (sym is) (h.0, h.1, subst (IsWhole out) h.2 (subst (HasSent out line) whole sent))
+    -- or written whole
+    pub line_written : (printed line : List ℕ) (all : Bool) → outcome_of report ≡ Ended → printed ≡ last_text text_in (rest_in report).states
+        → line ≡ printed ++ 10 ∷ [] → HasSent out line all → all ≡ true → HasWritten program input out report
+    line_written printed line all is told made sent whole =
+        let h = line_is printed line is told made in
+        subst (WroteFor program input out) (sym is) (h.0, h.1, subst (IsWhole out) h.2 (subst (HasSent out line) whole sent))
 
-  -- nothing was written where not all nodes have ended
-  pub nothing_written : (out : Taken) (outcome : Outcome) → CameOut rest outcome → (outcome ≡ Ended → ⊥) → out.nothing → WroteFor program input out outcome
-  nothing_written out Ended came_out not untouched = absurd (not (cc))
-  nothing_written out (Failed f) came_out not untouched = (came.fault f came_out, untouched)
-  nothing_written out (Stalled e) came_out not untouched = untouched
+    -- nothing was written where not all nodes have ended
+    pub nothing_written : (outcome : Outcome) → outcome_of report ≡ outcome → (outcome ≡ Ended → ⊥) → out.nothing → HasWritten program input out report
+    nothing_written Ended is not untouched = absurd (not refl)
+    nothing_written (Failed f) is not untouched =
+        subst (WroteFor program input out) (sym is) (reported.came.fault f (subst (CameOut (rest_in report)) is reported.outcome), untouched)
+    nothing_written (Stalled e) is not untouched = subst (WroteFor program input out) (sym is) untouched

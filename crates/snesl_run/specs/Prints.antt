@@ -7,19 +7,19 @@ use Rattle.kahn.specs.declared.outcome.Outcome.{Outcome}
 use Rattle.kahn.specs.declared.outcome.Outcome.TheVariants.{Value as Ended, Fault as Failed, Stalled}
 use Rattle.flow_drive.specs.declared.config.Config.{Config}
 use Rattle.flow_drive.specs.Configs.{IsLawful}
-use Rattle.snesl_flatten.specs.Networks.{NodeState}
 use Rattle.snesl_meaning.specs.Meaning.{Means, has_value}
 use Rattle.snesl_settings.specs.Settings.{AreLawful, SaysSo}
-use Rattle.snesl_network.specs.NodesAtRest.{Rest}
-use Rattle.snesl_network.specs.Driven.{CameToRest, WasRefused}
+use Rattle.snesl_network.specs.Driven.{WasRefused}
 use Rattle.snesl_console.specs.Job.{IsJob}
 use Rattle.snesl_console.specs.Streams.{Taken, Given}
 use Rattle.snesl_console.specs.Lines.{fault_line, stalled_line, Prints, Refuses}
 use Rattle.snesl_console.specs.Reads.{IsRead}
-use Rattle.snesl_run.specs.Runs.{value_line, CameOut, EndsInFault}
+use Rattle.snesl_run.specs.declared.report.Report.{Report}
+use Rattle.snesl_run.specs.Runs.{outcome_of, value_line, EndsInFault, IsReported}
 
--- what is printed for how a network came out, and the exit status: the program's value; a fault, which need not be that of the
--- program, where it ends in one; or that the network has stalled
+-- What is printed for how a network came out, and the exit status: the program's value; a fault, which need not be that of the
+-- program, where it ends in one; or that the network has stalled. Where the line was cut off, that is said, and the status is
+-- that of a failed output.
 abbrev pub PrintsOutcome : (program input : List ℕ) → Taken → Taken → Outcome → ℕ → Type 0
 PrintsOutcome program input out err Ended status = (v : Value) × Means program input (has_value v) × Prints out err (value_line v) 0 status
 PrintsOutcome program input out err (Failed f) status = EndsInFault program input × Prints out err (fault_line f.kind f.at) 2 status
@@ -27,13 +27,9 @@ PrintsOutcome program input out err (Stalled e) status = Prints out err stalled_
 
 -- what is printed for a job, driven so, and the exit status
 pub data Printed (config : Config) (job : List ℕ) (out err : Taken) : ℕ → Type 0 where
-  -- how the network of its program came out with its input text
-  came_out : {status : ℕ} (program input : List ℕ) (rest : Rest NodeState) (outcome : Outcome) → IsJob job program input
-      → CameToRest program input config.capacity rest → CameOut rest outcome → PrintsOutcome program input out err outcome status
-      → Printed config job out err status
-  -- the value of its program could not be written
-  cut_off_value : {status : ℕ} (program input : List ℕ) (v : Value) → IsJob job program input → Means program input (has_value v)
-      → Prints out err (value_line v) 0 status → Printed config job out err status
+  -- how the network of its program came out with its input text, as a report tells
+  came_out : {status : ℕ} (program input : List ℕ) (report : Report) → IsJob job program input → IsReported program input config report
+      → PrintsOutcome program input out err (outcome_of report) status → Printed config job out err status
   -- it was refused
   refused : {status : ℕ} (program input : List ℕ) (refusal : Refusal) → IsJob job program input → WasRefused program input config refusal
       → Refuses out err refusal status → Printed config job out err status

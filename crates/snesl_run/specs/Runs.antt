@@ -9,11 +9,11 @@ use Rattle.kahn.specs.declared.outcome.Outcome.{Outcome}
 use Rattle.kahn.specs.declared.outcome.Outcome.TheVariants.{Value as Ended, Fault as Failed, Stalled}
 use Rattle.flow_nodes.specs.StreamNodes.{node_behaviour}
 use Rattle.flow_drive.specs.declared.config.Config.{Config}
-use Rattle.flow_drive.specs.Configs.{IsLawful}
 use Rattle.flow_drive.specs.Drives.{ComesOut}
 use Rattle.snesl_flatten.specs.Networks.{NodeState}
 use Rattle.snesl_meaning.specs.Meaning.{Means, has_value, has_fault}
 use Rattle.snesl_network.specs.NodesAtRest.{Rest, rest_of}
+use Rattle.snesl_network.specs.WhichDrive.{WasDrivenBy}
 use Rattle.snesl_network.specs.Driven.{CameToRest, WasRefused}
 use Rattle.snesl_console.specs.Streams.{Taken, IsWhole, IsCutOff}
 use Rattle.snesl_run.specs.declared.report.Report.{Report}
@@ -50,25 +50,38 @@ WroteFor program input out Ended = (v : Value) × Means program input (has_value
 WroteFor program input out (Failed f) = EndsInFault program input × out.nothing
 WroteFor program input out (Stalled e) = out.nothing
 
--- What a report tells: the network of the program with its input came to rest, and this was written.
-pub record IsReported (program input : List ℕ) (config : Config) (out : Taken) (report : Report) : Type 0 where
-  pub lawful : IsLawful config
-  pub came : CameToRest program input config.capacity (rest_in report)
+-- and so for a report
+abbrev pub HasWritten : (program input : List ℕ) → Taken → Report → Type 0
+HasWritten program input out report = WroteFor program input out (outcome_of report)
+
+-- What rests in a report: the network of the program with its input, driven by the drive of the configuration; and how it came
+-- out.
+pub record IsReported (program input : List ℕ) (config : Config) (report : Report) : Type 0 where
+  pub came : CameToRest program input config (rest_in report)
+  pub drive : WasDrivenBy config.drive report.rested
   pub outcome : CameOut (rest_in report) (outcome_of report)
-  pub wrote : WroteFor program input out (outcome_of report)
+
+-- The network came to rest with all nodes ended, as this report would have told, but a failed writer has taken no more than a
+-- beginning of the value's line.
+pub record IsCutShort (program input : List ℕ) (config : Config) (out : Taken) : Type 0 where
+  pub report : Report
+  pub reported : IsReported program input config report
+  pub ended : outcome_of report ≡ Ended
+  pub value : Value
+  pub means : Means program input (has_value value)
+  pub cut_off : IsCutOff out (value_line value)
 
 -- want of memory leaves the writer untouched; a failed writer has taken a beginning of the value's line; any other refusal is
 -- that of the configuration, of a thread that could not be started, or of the program and its input, and leaves the writer
 -- untouched
 abbrev pub HasError : (program input : List ℕ) → Config → Taken → Refusal → Type 0
 HasError program input config out NoMemory = out.nothing
-HasError program input config out Output = (v : Value) × Means program input (has_value v) × IsCutOff out (value_line v)
+HasError program input config out Output = IsCutShort program input config out
 HasError program input config out refusal = WasRefused program input config refusal × out.nothing
 
--- what a run does to the writer, and answers
-abbrev pub HasRun : (program input : List ℕ) → Config → Taken → Result Report RunError → Type 0
-HasRun program input config out (Ok report) = IsReported program input config out report
-HasRun program input config out (Err error) = HasError program input config out (refusal_of error)
+-- and so for the error of a run
+abbrev pub IsErrorOf : (program input : List ℕ) → Config → Taken → RunError → Type 0
+IsErrorOf program input config out error = HasError program input config out (refusal_of error)
 
 -- it was refused, and with this refusal
 abbrev pub IsRefusedWith : Refusal → Result Report RunError → Type 0

@@ -1,11 +1,11 @@
 // Answering a job.
 
-ghost use Rattle.std.specs.Prelude.{◌≡◌, ◌⊎◌, MatchResult};
+ghost use Rattle.std.specs.Prelude.{◌≡◌, ◌⊎◌, IfOk, IfErr, MatchResult};
 ghost use Rattle.clap.specs.Walk.{texts};
 ghost use Rattle.snesl_console.specs.Streams.{given, taken};
 ghost use Rattle.snesl_console.specs.Lines.{Prints, Refuses};
 ghost use Rattle.snesl_run.specs.Prints.{Answered, Printed, IsJobAnswered};
-ghost use Rattle.snesl_run.specs.Runs.{HasRun};
+ghost use Rattle.snesl_run.specs.Runs.{IsReported, HasWritten, IsErrorOf};
 ghost use Rattle.snesl_values.specs.declared.refusal.Refusal.TheVariants.{BadConfig, NoMemory};
 
 use crate::report::{Report, RunError};
@@ -126,7 +126,11 @@ fn run_alone<W: Write>(
     config: &Config,
     out: &mut Counted<W>,
 ) -> Result<Report, RunError>
-    ensures { HasRun program.now input.now config.now (taken W.contents out.old out.new) result }
+    ensures network { IfOk result (IsReported program.now input.now config.now) }
+    ensures wrote { IfOk result
+        (HasWritten program.now input.now (taken W.contents out.old out.new)) }
+    ensures refused { IfErr result
+        (IsErrorOf program.now input.now config.now (taken W.contents out.old out.new)) }
 {
     match Arc::new(alloc, NoGate) {
         Ok(gate) => run(rt, alloc, program, input, config, gate, out),

@@ -1,8 +1,7 @@
 // What a run answers.
 
 ghost use Rattle.std.specs.Prelude.{◌≡◌};
-ghost use Rattle.snesl_network.specs.NodesAtRest.{rest_of};
-ghost use Rattle.snesl_run.specs.Runs.{outcome_of, refusal_of, rest_in};
+ghost use Rattle.snesl_run.specs.Runs.{outcome_of, refusal_of};
 
 use flow_drive::{Outcome, Rested};
 use flow_nodes::StreamNode;
@@ -19,7 +18,7 @@ pub struct Report {
 impl Report {
     /// The network of the program with its input, at rest.
     pub fn rested(&self) -> &Rested<StreamNode>
-        ensures { rest_of result.now ≡ rest_in self.now }
+        ensures { result.now ≡ self.now.rested }
     {
         &self.rested
     }

@@ -4,7 +4,7 @@ ghost use Rattle.std.specs.Prelude.{◌≡◌, ◌++◌, ◌∷◌, [], IfOk, If
 ghost use Rattle.snesl_values.specs.declared.refusal.Refusal.TheVariants.{BadConfig, NoMemory};
 ghost use Rattle.flow_drive.specs.Configs.{IsLawful};
 ghost use Rattle.snesl_console.specs.Streams.{taken};
-ghost use Rattle.snesl_run.specs.Runs.{HasRun, IsRefusedWith};
+ghost use Rattle.snesl_run.specs.Runs.{IsReported, HasWritten, IsErrorOf, IsRefusedWith};
 
 use crate::report::{Report, RunError};
 use flow_drive::{Config, Gate, Outcome};
@@ -19,21 +19,23 @@ use std::thread::Threads;
 /// Runs a program for an input text as a network of transducers, in the small fixed buffers of the configuration, and
 /// writes its value to `out`, as one line, where all nodes of the network have ended.
 ///
-/// Where a fault is named, the program ends in a fault, perhaps in another one; where the network has stalled, some edge
-/// was too small. Then nothing is written. No call of `out` failed where a report is answered. Drives of several threads
-/// call the gate before each turn of a thread.
+/// The report has this network at rest, driven by the drive of the configuration. Where a fault is named, the program ends
+/// in a fault, perhaps in another one; where the network has stalled, some edge was too small. Then nothing is written. No
+/// call of `out` failed where a report is answered. Drives of several threads call the gate before each turn of a thread.
 ///
 /// # Errors
 ///
-/// - `BadConfig`: exactly where the configuration is not lawful, before anything else.
+/// In this order, but for `NoMemory`:
+///
+/// - `BadConfig`: exactly where the configuration is not lawful.
 /// - A refusal from 1 to 9: that of the program text, else of its typing, else of the input text, else `TooBig` where
 ///   the network is greater than a graph may be.
-/// - `NoMemory`: memory was refused. Nothing was written, since memory is taken before the first
-///   write.
 /// - `NoThread`: a thread could not be started, which may be for want of memory, by a drive that starts threads. Nothing
 ///   was written.
-/// - `Output`: a write failed or took no byte, and no other call failed. The writer has taken a
+/// - `Output`: all nodes have ended, and a write failed or took no byte, and no other call failed. The writer has taken a
 ///   beginning of the line, and no second try was made, at an interrupted call either.
+/// - `NoMemory`: memory was refused, at any time behind the first. Nothing was written, since memory is taken before the
+///   first write.
 pub fn run<R: Threads, W: Write, G: Gate + Send + Sync + Drop + 'static>(
     rt: &R,
     alloc: Global,
@@ -43,7 +45,11 @@ pub fn run<R: Threads, W: Write, G: Gate + Send + Sync + Drop + 'static>(
     gate: Arc<G, Global>,
     out: &mut Counted<W>,
 ) -> Result<Report, RunError>
-    ensures ran { HasRun program.now input.now config.now (taken W.contents out.old out.new) result }
+    ensures network { IfOk result (IsReported program.now input.now config.now) }
+    ensures wrote { IfOk result
+        (HasWritten program.now input.now (taken W.contents out.old out.new)) }
+    ensures refused { IfErr result
+        (IsErrorOf program.now input.now config.now (taken W.contents out.old out.new)) }
     ensures config { (IsLawful config.now → ⊥) → IsRefusedWith BadConfig result }
 {
     let rested = drive_program(rt, alloc, program, input, config, gate)?;

@@ -1,7 +1,6 @@
-use Rattle.snesl_network.specs.NodesAtRest.{rest_of}
 use Rattle.snesl_network.proofs.Refusing.{not_driven}
 use Rattle.snesl_network.proofs.driving.drive_program.Goals as goal
 
-pub returns-in_err-graph-clause-driven : goal.returns-in_err-graph-clause-driven
-returns-in_err-graph-clause-driven g c =
-    not_driven c.args.program.now c.args.input.now c.args.config.now rest_of c.from_residual.result c.in_err-graph.field-0.0 c.from_residual.ensures.1 c.in_err-graph.ensures.refused
+pub returns-in_err-graph-clause-refused : goal.returns-in_err-graph-clause-refused
+returns-in_err-graph-clause-refused g c =
+    not_driven c.args.program.now c.args.input.now c.args.config.now c.from_residual.result c.in_err-graph.field-0.0 c.from_residual.ensures.1 c.in_err-graph.ensures.refused

@@ -1,4 +1,4 @@
-use Rattle.std.proofs.Common.{subst}
+use Rattle.std.proofs.Common.{Err, ap, subst}
 use Rattle.snesl_values.specs.Inputs.{declared, environment_of, refusal_of}
 use Rattle.snesl_grammar.specs.View.{program_of as tree_of_program}
 use Rattle.snesl_types.specs.Programs.{IsFirstViolation}
@@ -7,7 +7,7 @@ use Rattle.snesl_types.specs.declared.typed.Typed.{Typed}
 use Rattle.flow_graph.specs.Graphs.{states_of, edges_of}
 use Rattle.snesl_flatten.specs.Networks.{NetworkMeans}
 use Rattle.snesl_network.proofs.Refusing.{parse_refused, check_refused, passed_on}
-use Rattle.snesl_network.proofs.Planning.{IsItsNetwork, AllOpenFor, inputs_refused, is_meant}
+use Rattle.snesl_network.proofs.Planning.{IsItsNetwork, AllOpenFor, inputs_refused, plan_refused, is_meant}
 use Rattle.snesl_network.proofs.driving.network.Goals as goal
 
 pub returns-in_err-program-clause-refused : goal.returns-in_err-program-clause-refused
@@ -36,6 +36,16 @@ returns-in_err-inputs-clause-refused c =
     c.in_ok-typed.ensures.program c.in_ok-typed.ensures.typed c.dialect.result (declared c.decls.result.now) c.dialect.ensures c.decls.ensures
     c.in_err-inputs.field-0.0 c.in_err-inputs.ensures.refused)
 
+pub returns-in_err-plan-clause-refused : goal.returns-in_err-plan-clause-refused
+returns-in_err-plan-clause-refused c =
+    let text = c.args.program.now in
+    let input = c.args.input.now in
+    let refusal = c.in_err-plan.field-0.0 in
+    passed_on text input c.from_residual-in_err-plan.result refusal c.from_residual-in_err-plan.ensures.1
+    (plan_refused text input c.in_ok-program.program c.in_ok-typed.typed c.in_ok-program.ensures.right c.in_ok-program.ensures.keeps_text
+    c.in_ok-typed.ensures.program c.in_ok-typed.ensures.typed c.dialect.result (declared c.decls.result.now) c.dialect.ensures c.decls.ensures
+    (environment_of c.in_ok-inputs.inputs) c.in_ok-inputs.ensures.spelled refusal (λ is. c.in_err-plan.ensures.big (ap Err is)) c.in_err-plan.ensures.memory)
+
 pub returns-clause-meant : goal.returns-clause-meant
 returns-clause-meant c =
     let environment = environment_of c.in_ok-inputs.inputs in
@@ -46,5 +56,5 @@ returns-clause-meant c =
     environment states edges c.in_ok-inputs.ensures.spelled
     (subst (λ (typed : Typed). IsItsNetwork environment states edges (typed_text typed) (typed_tree typed) (typed_inputs typed)) c.in_ok-plan.ensures.program c.in_ok-graph.ensures.network)
     (subst (λ (typed : Typed). AllOpenFor environment states (typed_text typed) (typed_tree typed) (typed_inputs typed)) c.in_ok-plan.ensures.program c.in_ok-graph.ensures.opens)
-    c.in_ok-graph.ensures.opened c.graph_is_a_network.ensures.network
+    c.in_ok-graph.ensures.opened c.graph_is_a_network.ensures.network c.in_ok-plan.ensures.few
     (subst (λ (typed : Typed). NetworkMeans (typed_text typed) (typed_tree typed) environment states edges) c.in_ok-plan.ensures.program c.in_ok-graph.ensures.means)
