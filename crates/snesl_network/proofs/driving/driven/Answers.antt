@@ -1,4 +1,4 @@
-use Rattle.std.proofs.Common.{refl}
+use Rattle.std.proofs.Common.{Err, ap}
 use Rattle.flow_graph.specs.Graphs.{states_of, edges_of}
 use Rattle.snesl_network.specs.NodesAtRest.{rest_of}
 use Rattle.snesl_network.proofs.Refusing.{has_network}
@@ -16,7 +16,7 @@ pub returns-in-Ok-clause-drive : goal.returns-in-Ok-clause-drive
 returns-in-Ok-clause-drive g c = record { rings = c.in-Ok.ensures.rings; rounds = c.in-Ok.ensures.rounds; epochs = c.in-Ok.ensures.epochs }
 
 pub returns-in-Err-NoThread-clause-refused : goal.returns-in-Err-NoThread-clause-refused
-returns-in-Err-NoThread-clause-refused g c text input meant = (c.in-Err-NoThread.ensures.threads refl, has_network text input (states_of c.args.graph) (edges_of c.args.graph) meant)
+returns-in-Err-NoThread-clause-refused g c text input meant = (c.in-Err-NoThread.ensures.threads (ap Err c.in-Err-NoThread.field-0-is), has_network text input (states_of c.args.graph) (edges_of c.args.graph) meant)
 
 pub drive-requires-send-T : goal.drive-requires-send-T
 drive-requires-send-T g c κs within = search nodes_cross
