@@ -26,7 +26,7 @@ use std::thread::Threads;
 /// Drives the network of a program with its input text until no node can step.
 ///
 /// What rests is the plan's network with the inputs. It is sound, no node can step, and no edge holds more than its
-/// capacity. `Serial` and `Rounds` have made a maximal run of it, and `Rings` has left it over rings. Where all its nodes
+/// capacity. `Serial` and `Rounds` have made a maximal run of it, and `Rings` alone has left it over rings. Where all its nodes
 /// have ended, its text is that of the program's value; where a fault is named, the program ends in a fault, perhaps in
 /// another one; it never stalls where the program has a value and each edge may hold all that goes over it.
 ///
