@@ -1,11 +1,11 @@
 -- How many rounds and epochs drives take.
-use Rattle.std.specs.Prelude.{◌≡◌, ℕ, ◌+◌, ◌<◌, ◌≤◌}
+use Rattle.std.specs.Prelude.{◌≡◌, ℕ, ◌<◌, ◌≤◌}
 use Rattle.flow_drive.specs.declared.config.Drive.{Drive}
 use Rattle.flow_drive.specs.declared.config.Drive.TheVariants.{Serial, Rounds, Rings}
 
--- each of so many rounds or epochs but the last moved one of so many messages at least
+-- each of so many rounds or epochs moved one of so many messages at least, and there was one if any moved
 abbrev pub MovedEach : ℕ → ℕ → Type 0
-MovedEach count moved = (0 < count) × (count ≤ moved + 1)
+MovedEach count moved = (count ≤ moved) × (0 < moved → 0 < count)
 
 -- the drive took so many rounds while so many messages were sent and received
 abbrev pub TookRounds : Drive → ℕ → ℕ → Type 0

@@ -1,5 +1,5 @@
 // The drive of several threads over rings.
-ghost use Rattle.std.specs.Prelude.{◌≡◌, ◌+◌, ◌<◌, ◌≤◌, IfOk};
+ghost use Rattle.std.specs.Prelude.{◌≡◌, ◌<◌, ◌≤◌, IfOk};
 ghost use Rattle.flow_graph.specs.Graphs.{states_of, edges_of};
 ghost use Rattle.flow_graph.specs.Layouts.{edges_in};
 ghost use Rattle.flow_graph.specs.Networks.{AreOpened};
@@ -7,7 +7,7 @@ ghost use Rattle.flow_graph.specs.Places.{states_in};
 ghost use Rattle.flow_graph.specs.Shapes.{IsSameNetwork};
 ghost use Rattle.flow_opening.specs.Open.{AreWires};
 ghost use Rattle.flow_opening.specs.Settings.{Setting, AreFed};
-ghost use Rattle.flow_epochs.specs.Epochs.{AreOfOneGraph};
+ghost use Rattle.flow_epochs.specs.Epochs.{moved_in, AreOfOneGraph};
 ghost use Rattle.flow_drive.specs.Configs.{IsLawful};
 ghost use Rattle.flow_drive.specs.Givens.{IsOfSetting};
 ghost use Rattle.flow_drive.specs.Resteds.{rested_states, rested_edges, rested_capacity, rested_rounds, rested_epochs, moved_of, IsOverRings};
@@ -47,8 +47,8 @@ pub fn drive_rings<
     ensures network { IfOk result (λ rested. IsSameNetwork T.behaviour (states_of graph) (edges_of graph) (rested_states rested) (rested_edges rested)) }
     ensures capacity { IfOk result (λ rested. rested_capacity rested ≡ config.now.capacity) }
     ensures rounds { IfOk result (λ rested. rested_rounds rested ≡ 0) }
-    ensures some { IfOk result (λ rested. 0 < rested_epochs rested) }
-    ensures most { IfOk result (λ rested. rested_epochs rested ≤ moved_of rested + 1) }
+    ensures least { IfOk result (λ rested. 0 < moved_of rested → 0 < rested_epochs rested) }
+    ensures most { IfOk result (λ rested. rested_epochs rested ≤ moved_of rested) }
     ensures rings { IfOk result (λ rested. IsOverRings rested) }
 {
     let (given, dealt) = deal_out(alloc, graph, config)?;
@@ -85,11 +85,12 @@ fn run_dealt<
     requires layout { edges_in dealt.layout ≡ setting.edges }
     requires graph { AreOfOneGraph setting dealt.shares.items }
     requires fed { AreFed dealt.shares.items }
+    requires none { moved_in setting dealt.shares.items ≡ 0 }
     ensures network { IfOk result (λ rested. IsSameNetwork T.behaviour (states_in setting.nodes) setting.edges (rested_states rested) (rested_edges rested)) }
     ensures capacity { IfOk result (λ rested. rested_capacity rested ≡ setting.capacity) }
     ensures rounds { IfOk result (λ rested. rested_rounds rested ≡ 0) }
-    ensures some { IfOk result (λ rested. 0 < rested_epochs rested) }
-    ensures most { IfOk result (λ rested. rested_epochs rested ≤ moved_of rested + 1) }
+    ensures least { IfOk result (λ rested. 0 < moved_of rested → 0 < rested_epochs rested) }
+    ensures most { IfOk result (λ rested. rested_epochs rested ≤ moved_of rested) }
     ensures rings { IfOk result (λ rested. IsOverRings rested) }
 {
     let Dealt {

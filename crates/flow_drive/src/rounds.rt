@@ -1,5 +1,5 @@
 // The drive of several threads by rounds.
-ghost use Rattle.std.specs.Prelude.{◌≡◌, ◌+◌, ◌<◌, ◌≤◌, IfOk};
+ghost use Rattle.std.specs.Prelude.{◌≡◌, ◌<◌, ◌≤◌, IfOk};
 ghost use Rattle.flow_graph.specs.Graphs.{states_of, edges_of};
 ghost use Rattle.flow_graph.specs.Layouts.{edges_in};
 ghost use Rattle.flow_graph.specs.Networks.{AreOpened};
@@ -7,7 +7,7 @@ ghost use Rattle.flow_graph.specs.Places.{states_in};
 ghost use Rattle.flow_graph.specs.Shapes.{IsSameNetwork};
 ghost use Rattle.flow_opening.specs.Open.{AreWires};
 ghost use Rattle.flow_opening.specs.Settings.{Setting};
-ghost use Rattle.flow_rounds.specs.Standing.{StandBetweenRounds};
+ghost use Rattle.flow_rounds.specs.Standing.{boxes_of, moved_in, StandBetweenRounds};
 ghost use Rattle.flow_drive.specs.Configs.{IsLawful};
 ghost use Rattle.flow_drive.specs.Drives.{EndsMaximalRun};
 ghost use Rattle.flow_drive.specs.Givens.{IsOfSetting};
@@ -48,8 +48,8 @@ pub fn drive_rounds<
     ensures network { IfOk result (λ rested. IsSameNetwork T.behaviour (states_of graph) (edges_of graph) (rested_states rested) (rested_edges rested)) }
     ensures capacity { IfOk result (λ rested. rested_capacity rested ≡ config.now.capacity) }
     ensures run { IfOk result (λ rested. EndsMaximalRun T.behaviour config.now.capacity (states_of graph) (edges_of graph) (rested_states rested) (traffic_of rested)) }
-    ensures some { IfOk result (λ rested. 0 < rested_rounds rested) }
-    ensures most { IfOk result (λ rested. rested_rounds rested ≤ moved_of rested + 1) }
+    ensures least { IfOk result (λ rested. 0 < moved_of rested → 0 < rested_rounds rested) }
+    ensures most { IfOk result (λ rested. rested_rounds rested ≤ moved_of rested) }
     ensures epochs { IfOk result (λ rested. rested_epochs rested ≡ 0) }
 {
     let (given, dealt) = deal_out(alloc, graph, config)?;
@@ -75,11 +75,12 @@ fn run_dealt<
     requires wires { AreWires setting.share setting.edges dealt.wires.items }
     requires layout { edges_in dealt.layout ≡ setting.edges }
     requires stand { StandBetweenRounds setting dealt.shares.items }
+    requires none { moved_in setting (boxes_of dealt.shares.items) ≡ 0 }
     ensures network { IfOk result (λ rested. IsSameNetwork T.behaviour (states_in setting.nodes) setting.edges (rested_states rested) (rested_edges rested)) }
     ensures capacity { IfOk result (λ rested. rested_capacity rested ≡ setting.capacity) }
     ensures run { IfOk result (λ rested. EndsMaximalRun T.behaviour setting.capacity (states_in setting.nodes) setting.edges (rested_states rested) (traffic_of rested)) }
-    ensures some { IfOk result (λ rested. 0 < rested_rounds rested) }
-    ensures most { IfOk result (λ rested. rested_rounds rested ≤ moved_of rested + 1) }
+    ensures least { IfOk result (λ rested. 0 < moved_of rested → 0 < rested_rounds rested) }
+    ensures most { IfOk result (λ rested. rested_rounds rested ≤ moved_of rested) }
     ensures epochs { IfOk result (λ rested. rested_epochs rested ≡ 0) }
 {
     let Dealt {

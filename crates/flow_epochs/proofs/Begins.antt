@@ -1,6 +1,5 @@
 -- Shares to which a graph was just dealt out are of one graph, and nothing was sent or received on its edges.
-use Rattle.std.proofs.Common.{◌≡◌, ℕ, zero, suc, ◌+◌, ◌<◌, List, [], length, get_or, refl, sym, ◌∙◌, ap, subst, arith}
-use Rattle.kahn.specs.Basics.{total}
+use Rattle.std.proofs.Common.{◌≡◌, ℕ, ◌<◌, List, [], length, get_or, sym, ◌∙◌, ap, subst, arith}
 use Rattle.flow_edges.specs.declared.ends.Ends.{Ghosts as EndsGhosts}
 use Rattle.flow_base.specs.declared.transducer.Transducer.{Ghosts}
 use Rattle.flow_graph.specs.declared.edge.Edge.{Edge}
@@ -21,15 +20,11 @@ use Rattle.flow_opening.specs.declared.dealt.Dealt.{Dealt}
 use Rattle.flow_opening.specs.Open.{HasFreshEnds}
 use Rattle.flow_opening.specs.Deals.{nodes_in, ends_in, IsDealt}
 use Rattle.flow_opening.specs.Settings.{Setting, setting_of, view_at, AreFed}
+use Rattle.flow_opening.proofs.Lists.{total_none}
 use Rattle.flow_opening.proofs.More.{writes_there, reads_there}
 use Rattle.flow_epochs.specs.Epochs.{moved_in, AreOfOneGraph}
 use Rattle.flow_epochs.proofs.Lists.{count_ends, view_of_ends}
 use Rattle.flow_epochs.proofs.Meets.{writer_is_share, reader_is_share}
-
--- a sum without parts
-total_none : (f : ℕ → ℕ) (n : ℕ) → ((e : ℕ) → e < n → f e ≡ 0) → total f n ≡ 0
-total_none f zero none = refl
-total_none f (suc n) none = omega (arith, none n (omega arith), total_none f n (λ e l. none e (omega (arith, l))))
 
 module _ {X : Type 0} {t : Ghosts X} {u : EndsGhosts Rings} (graph : Graph X t) (threads : ℕ) (share : List ℕ) (capacity : ℕ) (dealt : Dealt X Rings t u)
     (is : IsDealt RingsJoin ring_places graph threads share capacity dealt) where

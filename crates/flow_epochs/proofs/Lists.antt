@@ -1,5 +1,5 @@
 -- Lists of shares, and of what each share has.
-use Rattle.std.proofs.Common.{◌≡◌, ℕ, zero, suc, ◌<◌, ◌≤◌, ◌⊎◌, inl, inr, List, [], length, map, get_or, refl, sym, ◌∙◌, ap, subst, arith}
+use Rattle.std.proofs.Common.{◌≡◌, ℕ, zero, suc, ◌<◌, ◌≤◌, ◌⊎◌, inl, inr, List, [], length, map, get_or, sym, ◌∙◌, ap, subst, arith}
 use Rattle.std.proofs.lemmas.Bool.{cases_eq}
 use Rattle.std.proofs.lemmas.List.{get_or-map, length-map}
 use Rattle.std.specs.Prelude.{Result, Ok, Err, IfOk}
@@ -9,9 +9,12 @@ use Rattle.flow_edges.specs.declared.ends.Ends.{Ghosts as EndsGhosts}
 use Rattle.flow_base.specs.declared.transducer.Transducer.{Ghosts}
 use Rattle.flow_shares.specs.declared.share.Share.{Share}
 use Rattle.flow_shares.specs.Lending.{Body, body_of}
+use Rattle.flow_shares.specs.Shares.{AreStuck}
 use Rattle.flow_round_laws.specs.Joints.{no_ends, nodes_at}
+use Rattle.flow_round_laws.specs.JoinedTheorems.{AllAreStuck}
+use Rattle.flow_round_laws.proofs.Parts.{any_of}
 use Rattle.flow_opening.specs.Deals.{nodes_in, ends_in}
-use Rattle.flow_opening.specs.Settings.{view_at, AreFed}
+use Rattle.flow_opening.specs.Settings.{view_at, AreFed, NoneCanStep}
 use Rattle.flow_opening.proofs.Lists.{mapped_twice}
 
 -- parts that are no less, and not more in all, are the same
@@ -47,6 +50,13 @@ module _ {X Y : Type 0} {t : Ghosts X} {u : EndsGhosts Y} (shares : List (Share 
 
     pub ends_are : (b : Y) → get_or (ends_in shares) s b ≡ (get_or shares s d).ends
     ends_are b = get_or-map (λ (share : Share X Y t u). share.ends) shares s d b l
+
+  -- where no node can step by the ends of its share, none can by what the shares see
+  pub all_are_stuck : NoneCanStep shares → AllAreStuck (nodes_in shares) (view_at shares)
+  all_are_stuck none s h =
+      let l : s < length shares = omega (arith, h, count_dealt) in
+      let d = any_of shares s l in
+      subst (λ n. AreStuck (view_at shares s) n) (sym (nodes_are s d l)) (subst (λ v. AreStuck v (get_or shares s d).nodes.items) (sym (view_is s d l)) (none s d l))
 
   -- what share s sees is what is seen of its ends
   pub view_of_ends : (s : ℕ) (b : Y) → s < length shares → view_at shares s ≡ u.view (get_or (ends_in shares) s b)

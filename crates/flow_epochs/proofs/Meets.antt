@@ -2,7 +2,7 @@
 use Rattle.std.proofs.Common.{◌≡◌, ℕ, ◌<◌, List, length, map, get_or, sym, ◌∙◌, ap, subst, arith}
 use Rattle.std.proofs.lemmas.List.{get_or-map, length-map}
 use Rattle.std.specs.List.{AllZip}
-use Rattle.flow_edges.specs.Ends.{View, SameTraffic}
+use Rattle.flow_edges.specs.Ends.{View}
 use Rattle.flow_edges.specs.declared.ends.Ends.{Ghosts as EndsGhosts}
 use Rattle.flow_base.specs.declared.transducer.Transducer.{Ghosts}
 use Rattle.flow_graph.specs.Edges.{edge_at}
@@ -127,11 +127,11 @@ module _ {X : Type 0} {t : Ghosts X} {u : EndsGhosts Rings} (setting : Setting t
           (subst (λ most. Met (ends_of (get_or now (writer e) d)) (ends_of (get_or now (reader e) d)) most e) (capacity_at e d l)
           (of_wire (λ a b. Met (ends_of a) (ends_of b) (ring_places a e) e) e d l (met e none d (wire e l)))))
 
-      traffic_at : (s : ℕ) → s < length shares → SameTraffic (view_at shares s) (view_at after s)
-      traffic_at s l =
+      kept_at : (s : ℕ) → s < length shares → Kept (view_at shares s) (view_at after s)
+      kept_at s l =
           let d = some s l in
-          subst (λ a. SameTraffic a (view_at after s)) (sym (saw s d l))
-          (subst (λ b. SameTraffic (ends_of (get_or ends s d)) b) (sym (now_sees s d l)) (kept s d (omega (arith, l, count))).traffic)
+          subst (λ a. Kept a (view_at after s)) (sym (saw s d l))
+          (subst (λ b. Kept (ends_of (get_or ends s d)) b) (sym (now_sees s d l)) (kept s d (omega (arith, l, count))))
 
       pub are_met : AreMet setting shares after
       are_met = record {
@@ -139,7 +139,7 @@ module _ {X : Type 0} {t : Ghosts X} {u : EndsGhosts Rings} (setting : Setting t
         ends = λ s d l.
             subst (λ es. SameRings (get_or es s d) (get_or (ends_in after) s d)) taken
             (subst (λ es. SameRings (get_or ends s d) (get_or es s d)) (sym put) (stay s d (omega (arith, l, count))));
-        traffic = traffic_at;
+        kept = kept_at;
         graph = met_graph;
         met = met_all;
       }

@@ -13,18 +13,17 @@ use Rattle.flow_rings.specs.Rings.{SameRings}
 use Rattle.flow_rings.proofs.Meetings.{joins-kept}
 use Rattle.flow_meetings.specs.RingMeetings.{rings_keep_places}
 use Rattle.flow_shares.specs.declared.share.Share.{Share}
-use Rattle.flow_shares.specs.Shares.{inputs_of, outputs_of, HaveMoved, AreStuck}
+use Rattle.flow_shares.specs.Shares.{inputs_of, outputs_of, Grows, HaveMoved}
 use Rattle.flow_shares.specs.Pumps.{IsPumped}
-use Rattle.flow_shares.proofs.Between.{Grows, moved_grows, find_node, begins_length, no_more}
+use Rattle.flow_shares.proofs.Between.{moved_grows, lost_grows, find_node, begins_length, no_more}
 use Rattle.flow_shares.proofs.Busy.{quiet}
 use Rattle.flow_deal.specs.Deals.{AreDealt}
 use Rattle.flow_round_laws.specs.Joints.{nodes_at, joined_view}
-use Rattle.flow_round_laws.specs.JoinedTheorems.{AllAreStuck}
 use Rattle.flow_round_laws.proofs.Parts.{any_of}
 use Rattle.flow_round_laws.proofs.Seats.{port_reads, port_writes, dealt_later}
 use Rattle.flow_round_laws.proofs.Views.{sent_at, received_at}
 use Rattle.flow_opening.specs.Deals.{nodes_in, ends_in}
-use Rattle.flow_opening.specs.Settings.{Setting, view_at, AreFed, AreCalm}
+use Rattle.flow_opening.specs.Settings.{Setting, view_at, AreFed, AreCalm, NoneCanStep}
 use Rattle.flow_epochs.specs.Epochs.{moved_in, AreOfOneGraph}
 use Rattle.flow_epochs.proofs.Lists.{parts_same, count_dealt, nodes_are, view_is, ends_are}
 use Rattle.flow_epochs.proofs.Meets.{writer, reader, writer_is_share, reader_is_share}
@@ -65,27 +64,35 @@ module _ {X : Type 0} {t : Ghosts X} {u : EndsGhosts Rings} (same_is : (a b : Ri
     capacity = λ e b l. rings_keep_places _ _ (pumped_ends _ b (writer_is_share setting shares graph e l)) e ∙ graph.capacity e b l;
   }
 
-  module _ (fed : AreFed back) where
-    abbrev some : (s : ℕ) → s < length shares → Share X Rings t u
-    some s l = any_of shares s l
+  abbrev some : (s : ℕ) → s < length shares → Share X Rings t u
+  some s l = any_of shares s l
 
+  -- what holds of what is seen of the ends of share s holds of what it sees
+  of_views : (Q : View → View → Type 0) (s : ℕ) (l : s < length shares) → Q (u.view (get_or shares s (some s l)).ends) (u.view (get_or back s (some s l)).ends) → Q (view_at shares s) (view_at back s)
+  of_views Q s l q =
+      subst (λ a. Q a (view_at back s)) (sym (view_is shares s (some s l) l)) (subst (λ b. Q (u.view (get_or shares s (some s l)).ends) b) (sym (view_is back s (some s l) (low s l))) q)
+
+  -- and of share s later, what holds of what it sees
+  of_ends : (Q : View → View → Type 0) (s : ℕ) (d : Share X Rings t u) (l : s < length shares) → Q (view_at shares s) (view_at back s) → Q (u.view (get_or shares s d).ends) (u.view (get_or back s d).ends)
+  of_ends Q s d l q = subst (λ a. Q a (u.view (get_or back s d).ends)) (view_is shares s d l) (subst (λ b. Q (view_at shares s) b) (view_is back s d (low s l)) q)
+
+  grew : (share result : Share X Rings t u) → IsPumped share result → Grows (u.view share.ends) (u.view result.ends)
+  grew share result pumped = at result.starved refl
+    where
+      at : (b : Bool) → result.starved ≡ b → Grows (u.view share.ends) (u.view result.ends)
+      at false is = moved_grows _ _ _ _ (pumped.moved is)
+      at true is = lost_grows _ _ _ _ (pumped.lost is)
+
+  -- what each share sent and received is what it had, and what came behind
+  pub grows : (s : ℕ) → s < length shares → Grows (view_at shares s) (view_at back s)
+  grows s l = of_views Grows s l (grew _ _ (each s (some s l) l))
+
+  module _ (fed : AreFed back) where
     fed_at : (s : ℕ) (d : Share X Rings t u) → s < length shares → (get_or back s d).starved ≡ false
     fed_at s d l = fed s d (low s l)
 
-    -- what holds of what is seen of the ends of share s holds of what it sees
-    of_views : (Q : View → View → Type 0) (s : ℕ) (l : s < length shares) → Q (u.view (get_or shares s (some s l)).ends) (u.view (get_or back s (some s l)).ends) → Q (view_at shares s) (view_at back s)
-    of_views Q s l q =
-        subst (λ a. Q a (view_at back s)) (sym (view_is shares s (some s l) l)) (subst (λ b. Q (u.view (get_or shares s (some s l)).ends) b) (sym (view_is back s (some s l) (low s l))) q)
-
-    -- and of share s later, what holds of what it sees
-    of_ends : (Q : View → View → Type 0) (s : ℕ) (d : Share X Rings t u) (l : s < length shares) → Q (view_at shares s) (view_at back s) → Q (u.view (get_or shares s d).ends) (u.view (get_or back s d).ends)
-    of_ends Q s d l q = subst (λ a. Q a (u.view (get_or back s d).ends)) (view_is shares s d l) (subst (λ b. Q (view_at shares s) b) (view_is back s d (low s l)) q)
-
     moved_at : (s : ℕ) (d : Share X Rings t u) → s < length shares → HaveMoved (get_or shares s d).nodes.items (get_or back s d).nodes.items (u.view (get_or shares s d).ends) (u.view (get_or back s d).ends)
     moved_at s d l = (each s d l).moved (fed_at s d l)
-
-    grows : (s : ℕ) → s < length shares → Grows (view_at shares s) (view_at back s)
-    grows s l = of_views Grows s l (moved_grows _ _ _ _ (moved_at s (some s l) l))
 
     -- how many messages were sent and received on edge e
     abbrev moved_on : List (Share X Rings t u) → ℕ → ℕ
@@ -182,12 +189,8 @@ module _ {X : Type 0} {t : Ghosts X} {u : EndsGhosts Rings} (same_is : (a b : Ri
 
     -- Where none was sent or received, no node could step, and all stand where they stood.
     module _ (none : (s : ℕ) → s < length shares → SameTraffic (view_at shares s) (view_at back s)) where
-      pub all_stuck : AllAreStuck (nodes_in shares) (view_at shares)
-      all_stuck s h =
-          let l = there s h in
-          let d = some s l in
-          subst (λ n. AreStuck (view_at shares s) n) (sym (nodes_are shares s d l))
-          (subst (λ v. AreStuck v (get_or shares s d).nodes.items) (sym (view_is shares s d l)) ((each s d l).progress (fed_at s d l) (of_ends SameTraffic s d l (none s l))))
+      pub none_could_step : NoneCanStep shares
+      none_could_step s d l = (each s d l).progress (fed_at s d l) (of_ends SameTraffic s d l (none s l))
 
       module _ (laws : BehaviourLaws t.behaviour) where
         pub states_stayed : (s i : ℕ) (d : Placed X t) → s < length (nodes_in shares) → i < length (nodes_at (nodes_in shares) s) → placed_state (get_or (nodes_at (nodes_in back) s) i d) ≡ placed_state (get_or (nodes_at (nodes_in shares) s) i d)

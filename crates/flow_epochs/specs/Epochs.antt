@@ -3,22 +3,22 @@ use Rattle.std.specs.Prelude.{◌≡◌, ℕ, ◌<◌, List, length, map, Some, 
 use Rattle.kahn.specs.Configurations.{Configuration, IsSound}
 use Rattle.kahn.specs.Runs.{AtRest}
 use Rattle.flow_edges.specs.Signals.{Signal}
-use Rattle.flow_edges.specs.Ends.{SameTraffic}
 use Rattle.flow_edges.specs.declared.ends.Ends.{Ghosts as EndsGhosts}
 use Rattle.flow_base.specs.declared.transducer.Transducer.{Ghosts}
 use Rattle.flow_graph.specs.Edges.{edge_at}
 use Rattle.flow_graph.specs.Layouts.{AreSamePlaces}
 use Rattle.flow_rings.specs.declared.rings.Rings.{Rings}
-use Rattle.flow_rings.specs.Rings.{SameRings}
+use Rattle.flow_rings.specs.Rings.{SameRings, Kept}
 use Rattle.flow_meetings.specs.RingMeetings.{RingsJoin, ring_places}
 use Rattle.flow_deal.specs.Deals.{share_of, AreDealt}
 use Rattle.flow_shares.specs.declared.share.Share.{Share}
 use Rattle.flow_shares.specs.Lending.{body_of}
+use Rattle.flow_shares.specs.Shares.{Grows}
 use Rattle.flow_round_laws.specs.Joints.{states_in_shares}
 use Rattle.flow_round_laws.specs.RoundTheorems.{net_of}
 use Rattle.flow_round_laws.specs.JoinedTheorems.{AllMet, joined}
 use Rattle.flow_opening.specs.Deals.{nodes_in, ends_in}
-use Rattle.flow_opening.specs.Settings.{Setting, view_at, moved_by, AreFed, AreCalm}
+use Rattle.flow_opening.specs.Settings.{Setting, view_at, moved_by, AreFed, AreCalm, NoneCanStep}
 
 module _ {X : Type 0} {t : Ghosts X} {u : EndsGhosts Rings} where
   -- how many messages were sent and received on all edges
@@ -67,11 +67,15 @@ module _ {X : Type 0} {t : Ghosts X} {u : EndsGhosts Rings} where
     StandAtRest = (graph : AreOfOneGraph) → AtRest t.behaviour.process (net_of setting.nodes setting.edges) (Some setting.capacity) (joint_of graph)
 
   module _ (setting : Setting t) (shares : List (Share X Rings t u)) where
+    -- those shares stand where these do
+    abbrev pub StandAsBefore : List (Share X Rings t u) → Type 0
+    StandAsBefore back = (graph : AreOfOneGraph setting shares) (later : AreOfOneGraph setting back) → joint_of setting back later ≡ joint_of setting shares graph
+
     -- The ends of every edge have met since: the shares are as they were, but that their ends may be certain of more.
     pub record AreMet (after : List (Share X Rings t u)) : Type 0 where
       pub bodies : map body_of after ≡ map body_of shares
       pub ends : (s : ℕ) (d : Rings) → s < length shares → SameRings (slice_index_or (ends_in shares) s d) (slice_index_or (ends_in after) s d)
-      pub traffic : (s : ℕ) → s < length shares → SameTraffic (view_at shares s) (view_at after s)
+      pub kept : (s : ℕ) → s < length shares → Kept (view_at shares s) (view_at after s)
       pub graph : AreOfOneGraph setting after
       pub met : HaveMetAll setting after
 
@@ -80,10 +84,15 @@ module _ {X : Type 0} {t : Ghosts X} {u : EndsGhosts Rings} where
       pub later : AreLater shares back
       pub graph : AreOfOneGraph setting back
       pub met : HaveMetAll setting back
+      -- what each share sent and received is what it had, and what came behind
+      pub grown : (s : ℕ) → s < length shares → Grows (view_at shares s) (view_at back s)
       -- where memory was refused to none, they stand sound
       pub sound : AreFed back → StandSound setting back
       -- and the pumps tell whether a message was sent or received
       pub calm : AreFed back → AreCalm back → moved_in setting back ≡ moved_in setting shares
       pub busy : AreFed back → (AreCalm back → ⊥) → moved_in setting shares < moved_in setting back
-      -- where none was, no node can step
+      -- one was where a node could step by what the ends of its share were certain of
+      pub moves : AreFed back → (NoneCanStep shares → ⊥) → moved_in setting shares < moved_in setting back
+      -- where none was, they stand where they stood, and no node can step
+      pub stood : AreFed back → moved_in setting back ≡ moved_in setting shares → StandAsBefore back
       pub rest : AreFed back → moved_in setting back ≡ moved_in setting shares → StandAtRest setting back

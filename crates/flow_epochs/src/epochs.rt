@@ -7,7 +7,7 @@ ghost use Rattle.flow_epochs.specs.Epochs.{moved_in, AreLater, AreOfOneGraph, Ha
 use crate::meet::meet;
 use flow_base::Transducer;
 use flow_meetings::Wire;
-use flow_opening::{are_calm, are_fed};
+use flow_opening::{are_fed, are_stuck};
 use flow_rings::Rings;
 use flow_shares::{Gate, Share};
 use flow_workers::{WorkError, run_all};
@@ -46,10 +46,10 @@ pub fn epoch<
     Ok(back)
 }
 
-/// Runs shares in epochs, until one moves nothing: then no node can step. The shares, and how many epochs there were; the
-/// count stays at the greatest `u64`.
+/// Runs shares in epochs, as long as a node can step where the ends of every edge have met. The shares, and how many epochs
+/// there were; the count stays at the greatest `u64`.
 ///
-/// Each epoch but the last moves a message at least. Refused as `NoThread` where a worker could not be started, and as
+/// Each epoch moves a message at least. Refused as `NoThread` where a worker could not be started, and as
 /// `NoMemory` where memory was refused, to a node too. The shares are then let go.
 pub fn run_epochs<
     R: Threads,
@@ -76,21 +76,20 @@ pub fn run_epochs<
     ensures fed { IfOk result (λ made. AreFed made.0.items) }
     ensures sound { IfOk result (λ made. StandSound setting made.0.items) }
     ensures rest { IfOk result (λ made. StandAtRest setting made.0.items) }
-    ensures some { IfOk result (λ made. 0 < made.1) }
-    ensures least { IfOk result (λ made. moved_in setting shares.items < moved_in setting made.0.items → 1 < made.1) }
-    ensures most { IfOk result (λ made. made.1 + moved_in setting shares.items ≤ moved_in setting made.0.items + 1) }
+    ensures least { IfOk result (λ made. moved_in setting shares.items < moved_in setting made.0.items → 0 < made.1) }
+    ensures most { IfOk result (λ made. made.1 + moved_in setting shares.items ≤ moved_in setting made.0.items) }
 {
-    let mut shares = shares;
+    let mut shares = meet(alloc, shares, wires)?;
     let mut count: u64 = 0;
     'epochs: loop {
+        if are_stuck(&mut shares) {
+            return Ok((shares, count));
+        }
         let back = epoch(rt, alloc, shares, wires, chunk, idle_turns, gate)?;
         if !are_fed(&back) {
             return Err(WorkError::NoMemory);
         }
         count = count.saturating_add(1);
-        if are_calm(&back) {
-            return Ok((back, count));
-        }
         shares = back;
     }
 }

@@ -5,7 +5,7 @@
 //! side, and then the ends meet again. Within an epoch messages pass between the workers as they come, so that what all
 //! shares did need not be a run whose steps came one after another; but where the ends have met, the shares stand at a
 //! sound configuration of the graph's network (G. Kahn, "The semantics of a simple language for parallel programming",
-//! 1974). [`run_epochs`] makes epochs until one moves nothing: then no node can step.
+//! 1974). [`run_epochs`] makes epochs as long as a node can step there.
 #![tactic(auto)]
 
 mod epochs;

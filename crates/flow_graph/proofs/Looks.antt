@@ -1,8 +1,10 @@
 -- One look at the ends after another, and a put after a look.
-use Rattle.std.proofs.Common.{◌≡◌, ℕ, ◌<◌, ◌↔◌, true, false, List, [], ◌∷◌, ◌++◌, Result, Ok, Err, OnOk, IfErr, IsOk, IsErrAnd, sym, ◌∙◌, ap, subst, arith}
+use Rattle.std.proofs.Common.{◌≡◌, ℕ, ◌<◌, ◌↔◌, Bool, true, false, not, IsTrue, List, [], ◌∷◌, ◌++◌, Result, Ok, Err, OnOk, IfErr, IsOk, IsErrAnd, refl, sym, ◌∙◌, ap, subst, arith}
+use Rattle.std.proofs.lemmas.Bool.{false≢true}
 use mathlib.Core.List.{IsPrefix}
 use Rattle.kahn.specs.declared.want.Want.TheVariants.{Read, Write}
 use Rattle.flow_base.specs.Transducers.{Behaviour}
+use Rattle.flow_base.proofs.Visits.{no_room}
 use Rattle.flow_edges.specs.Signals.{Signal, ended}
 use Rattle.flow_edges.specs.Ends.{View, SameEnds, LookedForRoom, Put, Taken}
 use Rattle.flow_edges.specs.declared.ends.Refused.{Refused}
@@ -61,3 +63,8 @@ moves_write b edges node s s' before after q e m wants edge message is put =
     let at_edge = subst (λ f. (ended (before.sent f) ≡ false → PutInRoom before f m after) × (ended (before.sent f) ≡ true → LookedForRoom before f after)) edge put in
     let parts : Moves b edges node s s' before after (Write q) = (is, (λ free. subst (λ n. PutInRoom before (out_edge edges node q) n after) message (at_edge.0 free)), at_edge.1) in
     subst (Moves b edges node s s' before after) (sym wants) parts
+
+-- what a node wants is not there just where its end answers so
+pub not_there : (r : Bool) (n : ℕ) → IsTrue r ↔ (0 < n) → IsTrue (not r) ↔ (n ≡ 0)
+not_there true n iff = (λ h. absurd (false≢true h), λ none. absurd (omega (arith, none, iff.0 refl)))
+not_there false n iff = (λ h. no_room false n iff refl, λ h. refl)

@@ -1,11 +1,11 @@
 // What transducers do in their places.
-ghost use Rattle.std.specs.Prelude.{◌≡◌, ◌<◌, false, true, length, replicate, slice_set, IsOk, IfOk, OnOk, OnErr};
+ghost use Rattle.std.specs.Prelude.{◌≡◌, ◌<◌, ◌↔◌, false, true, length, replicate, slice_set, IsTrue, IsOk, IfOk, OnOk, OnErr};
 ghost use Rattle.std.specs.List.{All};
 ghost use Rattle.kahn.specs.declared.want.Want.TheVariants.{Read};
 ghost use Rattle.flow_edges.specs.Signals.{signal_of};
 ghost use Rattle.flow_edges.specs.Ends.{SameEnds};
 ghost use Rattle.flow_base.specs.Transducers.{IsWrite};
-ghost use Rattle.flow_base.specs.Visits.{Visited, BrokeOff};
+ghost use Rattle.flow_base.specs.Visits.{LeavesAlone, IsStuck, Visited, BrokeOff};
 ghost use Rattle.flow_graph.specs.Places.{placed_state, IsSamePlace};
 
 use crate::placed::Placed;
@@ -129,6 +129,23 @@ impl<T: Transducer> Placed<T> {
         ensures broke { OnErr result (BrokeOff self.old.inputs.items self.old.outputs.items T.behaviour (placed_state self.old) (E.view ends.old) (placed_state self.new) (E.view ends.new)) }
     {
         self.node.run(&self.inputs, &self.outputs, ends, chunk)
+    }
+
+    /// Whether it can make no step by what the ends of its edges are certain of. It looks at the end that it wants, which
+    /// may be certain of more then; else nothing changes.
+    pub fn is_stuck<E: Ends>(&self, ends: &mut E) -> bool
+        requires reads { All (λ e. (E.view ends.old).reads e ≡ true) self.now.inputs.items }
+        requires writes { All (λ e. (E.view ends.old).writes e ≡ true) self.now.outputs.items }
+        ensures same { E.same ends.old ends.new }
+        ensures ends { SameEnds (E.view ends.old) (E.view ends.new) }
+        ensures looked { LeavesAlone self.now.inputs.items self.now.outputs.items (E.view ends.old) (E.view ends.new) }
+        ensures stuck { IsTrue result ↔ IsStuck self.now.inputs.items self.now.outputs.items (E.view ends.new) (T.behaviour.process.want (placed_state self.now)) }
+    {
+        match self.node.want() {
+            Want::Read(port) => !ends.ready(self.inputs[port]),
+            Want::Write(port) => !ends.room(self.outputs[port]),
+            Want::Ended | Want::Faulted(_) => true,
+        }
     }
 }
 

@@ -6,3 +6,4 @@ pub mod Parted
 pub mod Fits
 pub mod Shares
 pub mod Refused
+pub mod Looked

@@ -1,5 +1,5 @@
 -- A graph whose nodes were dealt out to shares, whatever the shares have done since.
-use Rattle.std.specs.Prelude.{◌≡◌, ℕ, ◌+◌, false, List, length, map, slice_index_or}
+use Rattle.std.specs.Prelude.{◌≡◌, ℕ, ◌+◌, ◌<◌, false, List, length, map, slice_index_or}
 use Rattle.std.specs.List.{All}
 use Rattle.kahn.specs.Basics.{total}
 use Rattle.flow_edges.specs.Ends.{View}
@@ -11,6 +11,8 @@ use Rattle.flow_graph.specs.declared.graph.Graph.{Graph}
 use Rattle.flow_graph.specs.Graphs.{edges_of}
 use Rattle.flow_graph.specs.Layouts.{nodes_of, FitTogether}
 use Rattle.flow_shares.specs.declared.share.Share.{Share}
+use Rattle.flow_shares.specs.Looks.{IsLookedAt}
+use Rattle.flow_shares.specs.Shares.{AreStuck}
 use Rattle.flow_round_laws.specs.Joints.{no_ends, joined_view}
 
 -- What was dealt out, and to whom: the nodes and edges of a graph, the list that names a share for each node, and how
@@ -54,3 +56,12 @@ module _ {X Y : Type 0} {t : Ghosts X} {u : EndsGhosts Y} where
   -- the last pumps moved no message
   abbrev pub AreCalm : List (Share X Y t u) → Type 0
   AreCalm shares = All (λ share. share.moved ≡ false) shares
+
+  -- no node of any of them can step by what its own ends are certain of
+  abbrev pub NoneCanStep : List (Share X Y t u) → Type 0
+  NoneCanStep shares = All (λ share. AreStuck (u.view share.ends) share.nodes.items) shares
+
+  -- They are the shares that they were, but that their ends may be certain of more.
+  pub record AreLookedAt (shares later : List (Share X Y t u)) : Type 0 where
+    pub count : length later ≡ length shares
+    pub each : (s : ℕ) (d : Share X Y t u) → s < length shares → IsLookedAt (slice_index_or shares s d) (slice_index_or later s d)

@@ -1,6 +1,6 @@
-// What the last pumps of shares came to.
+// Where shares stand: what their last pumps came to, and whether a node can step.
 ghost use Rattle.std.specs.Prelude.{◌↔◌, IsTrue};
-ghost use Rattle.flow_opening.specs.Settings.{AreFed, AreCalm};
+ghost use Rattle.flow_opening.specs.Settings.{AreFed, AreCalm, NoneCanStep, AreLookedAt};
 
 use flow_base::Transducer;
 use flow_edges::Ends;
@@ -24,6 +24,20 @@ pub fn are_calm<T: Transducer, E: Ends>(shares: &[Share<T, E>]) -> bool
 {
     for share in shares {
         if share.moved() {
+            return false;
+        }
+    }
+    true
+}
+
+/// Whether no node of any share can step by what its own ends are certain of. It looks at ends that nodes want, which may be
+/// certain of more then; else nothing changes.
+pub fn are_stuck<T: Transducer, E: Ends>(shares: &mut [Share<T, E>]) -> bool
+    ensures looked { AreLookedAt shares.old shares.new }
+    ensures stuck { IsTrue result ↔ NoneCanStep shares.new }
+{
+    for k in 0..shares.len() {
+        if !shares[k].is_stuck() {
             return false;
         }
     }

@@ -73,7 +73,7 @@ pub stuck_shares_rest : {X : Type 0} (t : Ghosts X) → StuckSharesRest t
 stuck_shares_rest t capacity share edges nodes fit dealt deals states are view_at met stuck = at_rest capacity share edges nodes fit dealt deals states are view_at met stuck
 
 -- boxes that have met are ends that have met
-all_met : (capacity : ℕ) (share : List ℕ) (edges : List Edge) (boxes : List Contents) → HaveMet share edges boxes capacity → AllMet share edges (views_of boxes) capacity
+pub all_met : (capacity : ℕ) (share : List ℕ) (edges : List Edge) (boxes : List Contents) → HaveMet share edges boxes capacity → AllMet share edges (views_of boxes) capacity
 all_met capacity share edges boxes met e l =
     let w = (writer_boxes share edges boxes e).ends in
     let r = (reader_boxes share edges boxes e).ends in

@@ -26,13 +26,15 @@ use Rattle.flow_deal.proofs.Stays.{as_given}
 use Rattle.flow_shares.specs.declared.share.Share.{Share}
 use Rattle.flow_opening.specs.declared.dealt.Dealt.{Dealt}
 use Rattle.flow_opening.specs.Deals.{nodes_in, ends_in, IsDealt}
-use Rattle.flow_round_laws.specs.Joints.{boxes_at, writer_boxes, reader_boxes, HaveMet, AreStates}
+use Rattle.flow_round_laws.specs.Joints.{boxes_at, views_of, writer_boxes, reader_boxes, HaveMet, AreStates}
 use Rattle.flow_round_laws.specs.RoundTheorems.{net_of, joint}
 use Rattle.flow_round_laws.proofs.Parts.{any_of}
 use Rattle.flow_round_laws.proofs.Seats.{reader_inside, writer_inside}
 use Rattle.flow_round_laws.proofs.Meetings.{fresh_shares_start}
+use Rattle.flow_round_laws.proofs.Views.{sent_at, received_at}
 use Rattle.flow_opening.specs.Settings.{Setting, setting_of, AreFed}
-use Rattle.flow_rounds.specs.Standing.{seen, AreLinked, boxes_of, StandBetweenRounds}
+use Rattle.flow_opening.proofs.Lists.{total_none}
+use Rattle.flow_rounds.specs.Standing.{seen, AreLinked, boxes_of, moved_in, StandBetweenRounds}
 use Rattle.flow_rounds.proofs.Levels.{seen_at, have_met}
 use Rattle.flow_rounds.proofs.Meets.{seen_is}
 
@@ -139,6 +141,10 @@ module _ {X : Type 0} {t : Ghosts X} {u : EndsGhosts Boxes} (sees : u.view ≡ v
         fresh_writer (ap (λ (a : Contents). a.ends.writes e) (sym (seen_at boxes (writer e) (some e l) (writes e l))) ∙ link.writes),
         fresh_reader (ap (λ (a : Contents). a.ends.reads e) (sym (seen_at boxes (reader e) (some e l) (reads e l))) ∙ link.reads),
       )
+
+  -- in all edges together
+  pub dealt_none : moved_in (setting_of graph share capacity) (boxes_of shares) ≡ 0
+  dealt_none = total_none _ (length edges) (λ e l. omega (arith, ap length (sent_at share edges (views_of (boxes_of shares)) e l ∙ (empty e l).0), ap length (received_at share edges (views_of (boxes_of shares)) e l ∙ (empty e l).1)))
 
   fed : AreFed shares
   fed s d l = (is.new.each s d l).starved

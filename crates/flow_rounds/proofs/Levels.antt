@@ -21,7 +21,7 @@ use Rattle.flow_opening.specs.Open.{AreWires}
 use Rattle.flow_rounds.specs.Standing.{seen, AreLinked}
 
 -- boxes that are linked and have met are carried
-are_carried : (w r : Contents) (e : ℕ) → IsLinked w r e → Met w.ends r.ends w.capacity e → IsCarried w r e
+pub are_carried : (w r : Contents) (e : ℕ) → IsLinked w r e → Met w.ends r.ends w.capacity e → IsCarried w r e
 are_carried w r e linked met =
     let came = length-append (r.ends.received e) (r.ends.coming e) in
     let none : w.leaving e ≡ [] = no_length (w.leaving e) (omega (arith, ap length linked.in_order, length-append (r.ends.received e ++ r.ends.coming e) (w.leaving e), came, met.held)) in

@@ -7,3 +7,4 @@ pub mod Kept
 pub mod Gathers
 pub mod After
 pub mod Begins
+pub mod Looked

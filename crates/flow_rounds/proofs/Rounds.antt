@@ -1,10 +1,10 @@
 -- A round is a run of the network, and where it moved nothing no node can step.
-use Rattle.std.proofs.Common.{◌≡◌, ℕ, ◌+◌, ◌-◌, ◌<◌, List, [], ◌∷◌, length, Option, Some, refl, sym, ◌∙◌, ap, subst, arith}
+use Rattle.std.proofs.Common.{◌≡◌, ℕ, ◌+◌, ◌-◌, ◌<◌, List, [], length, Some, refl, sym, ◌∙◌, ap, subst, arith}
 use Rattle.std.proofs.lemmas.List.{length-map}
-use Rattle.kahn.specs.Processes.{Process, Event}
+use Rattle.kahn.specs.Processes.{Process}
 use Rattle.kahn.specs.Networks.{Network}
 use Rattle.kahn.specs.Configurations.{Configuration, start, moved, IsSound}
-use Rattle.kahn.specs.Runs.{Run, Reaches, AtRest}
+use Rattle.kahn.specs.Runs.{Reaches}
 use Rattle.kahn.proofs.Steps.{sound_start, sound_run}
 use Rattle.kahn.proofs.Finite.{most_events, run_most}
 use Rattle.kahn.proofs.Traffic.{moved_run}
@@ -27,11 +27,6 @@ use Rattle.flow_round_laws.proofs.Calm.{calm_rounds_rest}
 use Rattle.flow_opening.specs.Deals.{nodes_in}
 use Rattle.flow_opening.specs.Settings.{Setting}
 use Rattle.flow_rounds.specs.Standing.{boxes_of, moved_in, joint_of, AreMet, StandBetweenRounds, RestBetweenRounds}
-
--- a run from where no node can step has no step
-stays : {S M : Type 0} (P : Process S M) (net : Network S) (limit : Option ℕ) (events : List (Event M)) (c d : Configuration S M) → AtRest P net limit c → Run P net limit events c d → c ≡ d
-stays P net limit [] c d rest same = same
-stays P net limit (a ∷ more) c d rest (can, run) = absurd (rest a can)
 
 module _ {X : Type 0} {t : Ghosts X} (laws : BehaviourLaws t.behaviour) (setting : Setting t) where
   abbrev P : Process t.State Signal
@@ -97,22 +92,15 @@ module _ {X : Type 0} {t : Ghosts X} (laws : BehaviourLaws t.behaviour) (setting
         reaches = reaches_then P net (Some setting.capacity) first c e stand.reaches (subst (λ x. Reaches P net (Some setting.capacity) c x) (sym carried) run.0);
       }
 
-      module _ (stuck : AllStuck (nodes_in shares) (boxes_of shares)) where
-        rest : AtRest P net (Some setting.capacity) c
-        rest = calm_rounds_rest t setting.capacity setting.share setting.edges setting.nodes setting.fit (nodes_in shares) stand.deals stand.states stand.are_states (boxes_of shares) stand.met stuck
-
-        same : c ≡ e
-        same = stays P net (Some setting.capacity) run.0.0 c d rest run.0.1 ∙ sym carried
-
-        pub rests : RestBetweenRounds setting new
-        unfolding stands
-        rests = record { stand = stands; rest = subst (λ x. AtRest P net (Some setting.capacity) x) same rest }
-
-        pub moves_nothing : moved_in setting (boxes_of new) ≡ moved_in setting (boxes_of shares)
-        moves_nothing = ap (moved net) (sym same)
-
       pub moves : (NothingMoved (length (nodes_in shares)) (boxes_of shares) (boxes_of back) → ⊥) → moved_in setting (boxes_of shares) < moved_in setting (boxes_of new)
       moves some = subst (λ x. moved net c < moved net x) (sym carried) (run.1 some)
+
+    -- where no node can step by its boxes, none can at all
+    pub rests : (shares : List (Share X Boxes t u)) → StandBetweenRounds setting shares → AllStuck (nodes_in shares) (boxes_of shares) → RestBetweenRounds setting shares
+    rests shares stand stuck = record {
+      stand = stand;
+      rest = calm_rounds_rest t setting.capacity setting.share setting.edges setting.nodes setting.fit (nodes_in shares) stand.deals stand.states stand.are_states (boxes_of shares) stand.met stuck;
+    }
 
     pub within_most : (shares : List (Share X Boxes t u)) → StandBetweenRounds setting shares → moved_in setting (boxes_of shares) < most_moved + 1
     unfolding most_moved

@@ -1,5 +1,5 @@
 -- What a round makes of the lists of all shares: of their nodes, and of what is seen of their boxes.
-use Rattle.std.proofs.Common.{◌≡◌, ℕ, ◌<◌, Bool, true, false, List, [], length, get_or, refl, sym, ◌∙◌, subst, arith}
+use Rattle.std.proofs.Common.{◌≡◌, ℕ, ◌<◌, false, List, [], length, get_or, sym, ◌∙◌, subst, arith}
 use Rattle.std.proofs.lemmas.List.{get_or-map, length-map}
 use Rattle.flow_edges.specs.Ends.{View, SameTraffic}
 use Rattle.flow_edges.specs.declared.ends.Ends.{Ghosts as EndsGhosts}
@@ -21,7 +21,7 @@ use Rattle.flow_round_laws.specs.RoundTheorems.{NothingMoved, HaveGoneOn, AllStu
 use Rattle.flow_round_laws.proofs.Parts.{any_of}
 use Rattle.flow_round_laws.proofs.Seats.{reader_inside, writer_inside}
 use Rattle.flow_opening.specs.Deals.{nodes_in}
-use Rattle.flow_opening.specs.Settings.{AreFed, AreCalm}
+use Rattle.flow_opening.specs.Settings.{AreFed, NoneCanStep}
 use Rattle.flow_rounds.specs.Standing.{AreLinked, boxes_of}
 
 module _ {X : Type 0} {t : Ghosts X} {u : EndsGhosts Boxes} where
@@ -30,6 +30,15 @@ module _ {X : Type 0} {t : Ghosts X} {u : EndsGhosts Boxes} where
 
   pub boxes_are : (shares : List (Share X Boxes t u)) (s : ℕ) (d : Share X Boxes t u) → s < length shares → boxes_at (boxes_of shares) s ≡ contents (get_or shares s d).ends
   boxes_are shares s d l = get_or-map (λ (share : Share X Boxes t u). contents share.ends) shares s d no_contents l
+
+  -- where no node can step by the ends of its share, none can by its boxes
+  pub all_stuck : u.view ≡ view_of → (shares : List (Share X Boxes t u)) → NoneCanStep shares → AllStuck (nodes_in shares) (boxes_of shares)
+  all_stuck sees shares none s l =
+      let h : s < length shares = omega (arith, l, length-map shares (λ (share : Share X Boxes t u). share.nodes.items)) in
+      let d = any_of shares s h in
+      subst (λ n. AreStuck (boxes_at (boxes_of shares) s).ends n) (sym (nodes_are shares s d h))
+      (subst (λ (b : Contents). AreStuck b.ends (get_or shares s d).nodes.items) (sym (boxes_are shares s d h))
+      (subst (λ (v : Boxes → View). AreStuck (v (get_or shares s d).ends) (get_or shares s d).nodes.items) sees (none s d h)))
 
   module _ (sees : u.view ≡ view_of) (keeps : (a b : Boxes) → u.same a b → KeepsRound (contents a) (contents b)) (shares back : List (Share X Boxes t u)) (count : length back ≡ length shares)
       (each : (k : ℕ) (d : Share X Boxes t u) → k < length shares → IsPumped (get_or shares k d) (get_or back k d)) (fed : AreFed back) where
@@ -66,12 +75,6 @@ module _ {X : Type 0} {t : Ghosts X} {u : EndsGhosts Boxes} where
           (subst (λ a. Q old.nodes.items new.nodes.items a (boxes_at (boxes_of back) s)) (sym (boxes_are shares s any l))
           (subst (λ b. Q old.nodes.items new.nodes.items (contents old.ends) b) (sym (boxes_are back s any low)) q)))
 
-      traffic_of : SameTraffic (boxes_at (boxes_of shares) s).ends (boxes_at (boxes_of back) s).ends → SameTraffic (u.view old.ends) (u.view new.ends)
-      traffic_of same =
-          subst (λ (v : Boxes → View). SameTraffic (v old.ends) (v new.ends)) (sym sees)
-          (subst (λ (b : Contents). SameTraffic (view_of old.ends) b.ends) (boxes_are back s any low)
-          (subst (λ (a : Contents). SameTraffic a.ends (boxes_at (boxes_of back) s).ends) (boxes_are shares s any l) same))
-
       kept : KeepsRound (boxes_at (boxes_of shares) s) (boxes_at (boxes_of back) s)
       kept = of_lists (λ n m a b. KeepsRound a b) (keeps old.ends new.ends pumped.same)
 
@@ -87,33 +90,14 @@ module _ {X : Type 0} {t : Ghosts X} {u : EndsGhosts Boxes} where
     }
 
     -- where nothing moved, no node could step
-    pub all_stuck : NothingMoved (length (nodes_in shares)) (boxes_of shares) (boxes_of back) → AllStuck (nodes_in shares) (boxes_of shares)
-    all_stuck nothing s l =
-        let h = there s l in
-        of_lists s h (λ n m a b. AreStuck a.ends n)
-        (subst (λ (v : Boxes → View). AreStuck (v (old s h).ends) (old s h).nodes.items) sees ((pumped s h).progress (is_fed s h) (traffic_of s h (nothing s l))))
-
-    pub calm_moves_nothing : AreCalm back → NothingMoved (length (nodes_in shares)) (boxes_of shares) (boxes_of back)
-    calm_moves_nothing calm s l =
-        let h = there s l in
-        of_lists s h (λ n m a b. SameTraffic a.ends b.ends)
-        (subst (λ (v : Boxes → View). SameTraffic (v (old s h).ends) (v (new s h).ends)) sees ((pumped s h).calm (is_fed s h) (calm s (any s h) (low s h))))
-
-    pub nothing_is_calm : NothingMoved (length (nodes_in shares)) (boxes_of shares) (boxes_of back) → AreCalm back
-    nothing_is_calm nothing s d l = at (get_or back s d).moved refl
+    pub none_could_step : NothingMoved (length (nodes_in shares)) (boxes_of shares) (boxes_of back) → NoneCanStep shares
+    none_could_step nothing s d l = (each s d l).progress (fed s d (low s l)) (same d)
       where
-        h : s < length shares
-        h = omega (arith, l, count)
-
-        at : (b : Bool) → (get_or back s d).moved ≡ b → (get_or back s d).moved ≡ false
-        at false is = is
-        at true is = absurd ((each s d h).busy (fed s d l) is (same d))
-          where
-            same : (d : Share X Boxes t u) → SameTraffic (u.view (get_or shares s d).ends) (u.view (get_or back s d).ends)
-            same d =
-                subst (λ (v : Boxes → View). SameTraffic (v (get_or shares s d).ends) (v (get_or back s d).ends)) (sym sees)
-                (subst (λ (b : Contents). SameTraffic (view_of (get_or shares s d).ends) b.ends) (boxes_are back s d l)
-                (subst (λ (a : Contents). SameTraffic a.ends (boxes_at (boxes_of back) s).ends) (boxes_are shares s d h) (nothing s (omega (arith, h, length-map shares (λ (share : Share X Boxes t u). share.nodes.items))))))
+        same : (d : Share X Boxes t u) → SameTraffic (u.view (get_or shares s d).ends) (u.view (get_or back s d).ends)
+        same d =
+            subst (λ (v : Boxes → View). SameTraffic (v (get_or shares s d).ends) (v (get_or back s d).ends)) (sym sees)
+            (subst (λ (b : Contents). SameTraffic (view_of (get_or shares s d).ends) b.ends) (boxes_are back s d (low s l))
+            (subst (λ (a : Contents). SameTraffic a.ends (boxes_at (boxes_of back) s).ends) (boxes_are shares s d l) (nothing s (omega (arith, l, length-map shares (λ (share : Share X Boxes t u). share.nodes.items))))))
 
     -- boxes that were linked still are
     pub still_linked : (share : List ℕ) (edges : List Edge) (nodes : List (Placed X t)) (capacity : ℕ) → FitTogether nodes edges → AreDealt share nodes (nodes_in shares) → HaveMet share edges (boxes_of shares) capacity → AreLinked share edges (boxes_of back) capacity

@@ -1,25 +1,25 @@
 // Rounds.
-ghost use Rattle.std.specs.Prelude.{◌≡◌, ◌+◌, ◌<◌, ◌≤◌, true, false, length, IfOk};
+ghost use Rattle.std.specs.Prelude.{◌≡◌, ◌+◌, ◌<◌, ◌≤◌, length, IfOk};
 ghost use Rattle.flow_opening.specs.Open.{AreWires};
-ghost use Rattle.flow_opening.specs.Settings.{Setting};
+ghost use Rattle.flow_opening.specs.Settings.{Setting, NoneCanStep};
 ghost use Rattle.flow_rounds.specs.Standing.{boxes_of, moved_in, StandBetweenRounds, RestBetweenRounds};
 
 use crate::meet::meet;
 use flow_base::Transducer;
 use flow_boxes::Boxes;
 use flow_meetings::Wire;
-use flow_opening::{are_calm, are_fed};
+use flow_opening::{are_fed, are_stuck};
 use flow_shares::{Gate, Share};
 use flow_workers::{WorkError, run_all};
 use std::alloc::Global;
 use std::sync::Arc;
 use std::thread::Threads;
 
-/// Runs shares in rounds, until a round moves nothing: then no node can step. The shares, and how many rounds there were;
-/// the count stays at the greatest `u64`.
+/// Runs shares in rounds, as long as a node can step. The shares, and how many rounds there were; the count stays at the
+/// greatest `u64`.
 ///
-/// Each round but the last moves a message at least. Refused as `NoThread` where a worker could not be started, and as `NoMemory` where memory was refused, to a node too.
-/// The shares are then let go.
+/// Each round moves a message at least. Refused as `NoThread` where a worker could not be started, and as `NoMemory` where
+/// memory was refused, to a node too. The shares are then let go.
 pub fn run_rounds<
     R: Threads,
     T: Transducer + Send + Drop + 'static,
@@ -40,23 +40,21 @@ pub fn run_rounds<
     requires stand { StandBetweenRounds setting shares.items }
     ensures rest { IfOk result (λ made. RestBetweenRounds setting made.0.items) }
     ensures count { IfOk result (λ made. length made.0.items ≡ length shares.items) }
-    ensures some { IfOk result (λ made. 0 < made.1) }
-    ensures least { IfOk result (λ made. moved_in setting (boxes_of shares.items) < moved_in setting (boxes_of made.0.items) → 1 < made.1) }
-    ensures most { IfOk result (λ made. made.1 + moved_in setting (boxes_of shares.items) ≤ moved_in setting (boxes_of made.0.items) + 1) }
+    ensures least { IfOk result (λ made. moved_in setting (boxes_of shares.items) < moved_in setting (boxes_of made.0.items) → 0 < made.1) }
+    ensures most { IfOk result (λ made. made.1 + moved_in setting (boxes_of shares.items) ≤ moved_in setting (boxes_of made.0.items)) }
 {
     let mut shares = shares;
     let mut count: u64 = 0;
     'rounds: loop {
-        let (back, moved) = round(rt, alloc, shares, wires, chunk, idle_turns, gate)?;
-        count = count.saturating_add(1);
-        if !moved {
-            return Ok((back, count));
+        if are_stuck(&mut shares) {
+            return Ok((shares, count));
         }
-        shares = back;
+        shares = round(rt, alloc, shares, wires, chunk, idle_turns, gate)?;
+        count = count.saturating_add(1);
     }
 }
 
-// One round: all shares are pumped side by side, and then the ends of all edges meet. Whether a message moved.
+// One round: all shares are pumped side by side, and then the ends of all edges meet.
 fn round<R: Threads, T: Transducer + Send + Drop + 'static, G: Gate + Send + Sync + Drop + 'static>(
     rt: &R,
     alloc: Global,
@@ -65,23 +63,20 @@ fn round<R: Threads, T: Transducer + Send + Drop + 'static, G: Gate + Send + Syn
     chunk: usize,
     idle_turns: usize,
     gate: &Arc<G, Global>,
-) -> Result<(Vec<Share<T, Boxes>>, bool), WorkError>
+) -> Result<Vec<Share<T, Boxes>>, WorkError>
     ghost setting: { Setting ⟦<T as Transducer>⟧ }
     requires some { 0 < chunk }
     requires idle { 0 < idle_turns }
     requires wires { AreWires setting.share setting.edges wires.now }
     requires stand { StandBetweenRounds setting shares.items }
-    ensures stand { IfOk result (λ made. StandBetweenRounds setting made.0.items) }
-    ensures rest { IfOk result (λ made. made.1 ≡ false → RestBetweenRounds setting made.0.items) }
-    ensures calm { IfOk result (λ made. made.1 ≡ false → moved_in setting (boxes_of made.0.items) ≡ moved_in setting (boxes_of shares.items)) }
-    ensures more { IfOk result (λ made. made.1 ≡ true → moved_in setting (boxes_of shares.items) < moved_in setting (boxes_of made.0.items)) }
-    ensures count { IfOk result (λ made. length made.0.items ≡ length shares.items) }
+    ensures stand { IfOk result (λ made. StandBetweenRounds setting made.items) }
+    ensures moves { IfOk result (λ made. (NoneCanStep shares.items → ⊥) → moved_in setting (boxes_of shares.items) < moved_in setting (boxes_of made.items)) }
+    ensures count { IfOk result (λ made. length made.items ≡ length shares.items) }
 {
     let back = run_all(rt, alloc, shares, chunk, idle_turns, gate)?;
     if !are_fed(&back) {
         return Err(WorkError::NoMemory);
     }
-    let moved = !are_calm(&back);
     let met = meet(alloc, back, wires)?;
-    Ok((met, moved))
+    Ok(met)
 }

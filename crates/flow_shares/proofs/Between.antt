@@ -1,5 +1,5 @@
 -- Lists that only grow: where nothing was put or taken from first to last, nothing was in between.
-use Rattle.std.proofs.Common.{◌≡◌, ◌≢◌, ℕ, suc, ◌<◌, ◌≤◌, List, [], ◌∷◌, length, get_or, ◌⊎◌, inl, inr, sym, ◌∙◌, ap, subst, arith, append-nil, length-append}
+use Rattle.std.proofs.Common.{◌≡◌, ◌≢◌, ℕ, suc, ◌<◌, ◌≤◌, List, [], ◌∷◌, ◌++◌, length, get_or, ◌⊎◌, inl, inr, sym, ◌∙◌, ap, subst, arith, append-nil, append_assoc, length-append}
 use Rattle.std.specs.List.{All}
 use Rattle.std.proofs.lemmas.Bool.{cases_eq}
 use Rattle.std.proofs.lemmas.List.Elements.{All-nil, All-cons}
@@ -9,7 +9,7 @@ use Rattle.flow_edges.specs.Ends.{View, SameTraffic}
 use Rattle.flow_base.specs.declared.transducer.Transducer.{Ghosts}
 use Rattle.flow_base.specs.Visits.{edge_of, IsNone}
 use Rattle.flow_graph.specs.declared.placed.Placed.{Placed}
-use Rattle.flow_shares.specs.Shares.{inputs_of, outputs_of, HaveMoved}
+use Rattle.flow_shares.specs.Shares.{inputs_of, outputs_of, Grows, HaveMoved, HaveMovedAndLost}
 
 -- an edge is none of these, or is at a port
 find_port : (e : ℕ) (edges : List ℕ) → IsNone edges e ⊎ ((p : ℕ) × (p < length edges) × (e ≡ edge_of edges p))
@@ -33,11 +33,6 @@ find_node {X} edges e (node ∷ nodes) = go (find_port e (edges node)) (find_nod
     go (inl none) (inl nones) = inl (All-cons (λ n. IsNone (edges n) e) node nodes none nones)
     go (inl none) (inr (k, p, d, l, inside, is)) = inr (suc k, p, d, omega (arith, l), inside, is)
 
--- The lists of each edge at v begin with those at a.
-pub record Grows (a v : View) : Type 0 where
-  pub received : (e : ℕ) → Begins (a.received e) (v.received e)
-  pub sent : (e : ℕ) → Begins (a.sent e) (v.sent e)
-
 pub moved_grows : {X : Type 0} {t : Ghosts X} (nodes later : List (Placed X t)) (a v : View) → HaveMoved nodes later a v → Grows a v
 moved_grows {X} {t} nodes later a v moved = record {
   received = λ e. elim (find_node inputs_of e nodes) [
@@ -47,6 +42,23 @@ moved_grows {X} {t} nodes later a v moved = record {
   sent = λ e. elim (find_node outputs_of e nodes) [
     | inl none ↦ ([], append-nil (a.sent e) ∙ sym (moved.other_sent e none))
     | inr (k, q, d, l, port, is) ↦ subst (λ f. Begins (a.sent f) (v.sent f)) (sym is) (writes q (moved.history k), sym (moved.sent k q d l port))
+  ];
+}
+
+-- and so they do where memory was refused, and one message may be lost
+pub lost_grows : {X : Type 0} {t : Ghosts X} (nodes later : List (Placed X t)) (a v : View) → HaveMovedAndLost nodes later a v → Grows a v
+lost_grows {X} {t} nodes later a v moved = record {
+  received = λ e. elim (find_node inputs_of e nodes) [
+    | inl none ↦ ([], append-nil (a.received e) ∙ sym (moved.other_received e none))
+    | inr (k, p, d, l, port, is) ↦ (
+        let f = edge_of (inputs_of (get_or nodes k d)) p in
+        let came = (moved.received k p d l port).0 in
+        subst (λ f. Begins (a.received f) (v.received f)) (sym is) (reads p (moved.history k) ++ came.0, sym (append_assoc (a.received f) (reads p (moved.history k)) came.0) ∙ came.1)
+        )
+  ];
+  sent = λ e. elim (find_node outputs_of e nodes) [
+    | inl none ↦ ([], append-nil (a.sent e) ∙ sym (moved.other_sent e none))
+    | inr (k, p, d, l, port, is) ↦ subst (λ f. Begins (a.sent f) (v.sent f)) (sym is) (writes p (moved.history k), sym (moved.sent k p d l port))
   ];
 }
 

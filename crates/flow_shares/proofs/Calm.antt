@@ -22,6 +22,17 @@ use Rattle.flow_shares.proofs.Visits.{is_away}
 none_of : (edges : List ℕ) (e : ℕ) → IsAway edges e → IsNone edges e
 none_of edges e away = All-from_get_or (λ f. e ≢ f) edges 0 away
 
+-- What is stuck where ends are certain of no less was stuck before.
+module _ (a v : View) (more_coming : (e : ℕ) → IsPrefix (a.coming e) (v.coming e)) (more_room : (e : ℕ) → a.room e ≤ v.room e) where
+  less : (xs ys : List Signal) → IsPrefix xs ys → length ys ≡ 0 → length xs ≡ 0
+  less xs ys (more, is) none = omega (arith, none, ap length is, length-append xs more)
+
+  pub stuck_before : (ins outs : List ℕ) (want : Want) → IsStuck ins outs v want → IsStuck ins outs a want
+  stuck_before ins outs (Read p) empty = less (a.coming (edge_of ins p)) (v.coming (edge_of ins p)) (more_coming (edge_of ins p)) empty
+  stuck_before ins outs (Write q) full = omega (arith, full, more_room (edge_of outs q))
+  stuck_before ins outs Ended h = h
+  stuck_before ins outs (Faulted fault) h = h
+
 module _ {X : Type 0} {t : Ghosts X} where
   -- the node cannot step by what its ends are certain of
   abbrev pub Stuck : View → Placed X t → Type 0
@@ -103,21 +114,12 @@ module _ {X : Type 0} {t : Ghosts X} where
 
   -- they were stuck before
   module _ (nodes later : List (Placed X t)) (a v : View) (same : AreSamePlaces nodes later) (n : ℕ) (all : length nodes ≤ n) (calm : AreCalm n nodes later a v) where
-    less : (xs ys : List Signal) → IsPrefix xs ys → length ys ≡ 0 → length xs ≡ 0
-    less xs ys (more, is) none = omega (arith, none, ap length is, length-append xs more)
-
-    stuck_before : (ins outs : List ℕ) (want : Want) → IsStuck ins outs v want → IsStuck ins outs a want
-    stuck_before ins outs (Read p) empty = less (a.coming (edge_of ins p)) (v.coming (edge_of ins p)) (calm.more_coming (edge_of ins p)) empty
-    stuck_before ins outs (Write q) full = omega (arith, full, calm.more_room (edge_of outs q))
-    stuck_before ins outs Ended h = h
-    stuck_before ins outs (Faulted fault) h = h
-
     was_stuck : (j : ℕ) (d : Placed X t) → j < length nodes → Stuck a (get_or nodes j d)
     was_stuck j d l =
         let place = same.each j d l in
         let node : Placed X t = get_or nodes j d in
         let after : Placed X t = get_or later j d in
-        stuck_before (inputs_of node) (outputs_of node) (t.behaviour.process.want (placed_state node))
+        stuck_before a v calm.more_coming calm.more_room (inputs_of node) (outputs_of node) (t.behaviour.process.want (placed_state node))
         (subst (λ ins. IsStuck ins (outputs_of node) v (t.behaviour.process.want (placed_state node))) place.inputs
         (subst (λ outs. IsStuck (inputs_of after) outs v (t.behaviour.process.want (placed_state node))) place.outputs
         (subst (λ s. IsStuck (inputs_of after) (outputs_of after) v (t.behaviour.process.want s)) (calm.state j d l) (calm.stuck j d (omega (arith, l, all)) l))))

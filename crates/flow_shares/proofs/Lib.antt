@@ -9,3 +9,4 @@ pub mod Passes
 pub mod Counts
 pub mod Rounds
 pub mod Lending
+pub mod Looked

@@ -1,3 +1,4 @@
 pub mod Shares
 pub mod Pumps
 pub mod Lending
+pub mod Looks

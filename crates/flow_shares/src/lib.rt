@@ -4,13 +4,14 @@
 //! visits the nodes of a share in turn, as long as they can step by what its own ends are certain of. What other
 //! threads do in the meantime it neither sees nor needs: each node goes on by reads and writes of its own, which are
 //! just what came to the lists of its ends. Between two pumps a share may lend its ends, so that they meet those of other
-//! shares ([`Share::lend`]).
+//! shares ([`Share::lend`]), and be asked whether one of its nodes can step ([`Share::is_stuck`]).
 #![tactic(auto)]
 
 mod gate;
 mod lender;
 mod pass;
 mod share;
+mod stuck;
 mod turns;
 
 pub use gate::{Gate, NoGate};

@@ -91,13 +91,13 @@ fn assert_nineteen(rt: &impl Abort, rested: &Rested<StreamNode>) {
     assert_eq!(rt; counts(rt, rested, 2), (7, 7));
 }
 
-// Asserts that each round or epoch but the last moved a message, of which there are nineteen, sent and received.
+// Asserts that each round or epoch moved a message, of which there are nineteen, sent and received.
 fn assert_rounds(rt: &impl Abort, rested: &Rested<StreamNode>, drive: Drive) {
     let (rounds, epochs) = (rested.rounds(), rested.epochs());
     match drive {
         Drive::Serial => assert_eq!(rt; (rounds, epochs), (0, 0)),
-        Drive::Rounds => assert!(rt; rounds > 0 && rounds <= 39 && epochs == 0),
-        Drive::Rings => assert!(rt; epochs > 0 && epochs <= 39 && rounds == 0),
+        Drive::Rounds => assert!(rt; rounds > 0 && rounds <= 38 && epochs == 0),
+        Drive::Rings => assert!(rt; epochs > 0 && epochs <= 38 && rounds == 0),
     }
 }
 

@@ -1,4 +1,4 @@
-use Rattle.flow_epochs.proofs.Begins.{dealt_graph, dealt_fed}
+use Rattle.flow_epochs.proofs.Begins.{dealt_graph, dealt_fed, dealt_none}
 use Rattle.flow_drive.proofs.joined.drive_rings.Goals as goal
 
 pub run_dealt-requires : goal.run_dealt-requires
@@ -11,4 +11,5 @@ run_dealt-requires g c κs within =
     let threads = c.args.config.now.sharing.threads in
     let graph = dealt_graph given.graph.value threads given.share.items given.capacity dealt made.dealt in
     let fed = dealt_fed given.graph.value threads given.share.items given.capacity dealt made.dealt in
-    (within.0, (within.1.0, (within.1.1, (bounds.static-T, (bounds.static-G, (bounds.send-T, (bounds.send-G, (bounds.sync-G, (lawful.chunk.some, (lawful.sharing.idle_turns.some, (made.given, (made.dealt.wires, (made.dealt.layout, (graph, fed))))))))))))))
+    let none = dealt_none given.graph.value threads given.share.items given.capacity dealt made.dealt in
+    (within.0, (within.1.0, (within.1.1, (bounds.static-T, (bounds.static-G, (bounds.send-T, (bounds.send-G, (bounds.sync-G, (lawful.chunk.some, (lawful.sharing.idle_turns.some, (made.given, (made.dealt.wires, (made.dealt.layout, (graph, (fed, none)))))))))))))))

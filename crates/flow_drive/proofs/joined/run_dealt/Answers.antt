@@ -1,4 +1,4 @@
-use Rattle.std.proofs.Common.{ℕ, ◌≡◌, ◌+◌, ◌≤◌, ◌∙◌, List, map, get_or, refl, sym, ap, subst, arith}
+use Rattle.std.proofs.Common.{ℕ, ◌≡◌, ◌<◌, ◌≤◌, ◌∙◌, List, map, get_or, refl, sym, ap, subst, arith}
 use Rattle.flow_edges.specs.Ends.{View}
 use Rattle.flow_edges.specs.declared.ends.Ends.{Ghosts as EndsGhosts}
 use Rattle.flow_base.specs.declared.transducer.Transducer.{Ghosts}
@@ -28,7 +28,7 @@ run_epochs-requires g c κs within =
     let bounds = c.requires.1.1.1 in
     let clauses = bounds.1.1.1.1.1 in
     let wires = subst (λ w. AreWires g.setting.share g.setting.edges w) (sym c.deref.ensures.value) clauses.1.1.1.0 in
-    (within.0, (within.1.0, (within.1.1, (bounds.0, (bounds.1.0, (bounds.1.1.0, (bounds.1.1.1.0, (bounds.1.1.1.1.0, (clauses.0, (clauses.1.0, (wires, clauses.1.1.1.1.1)))))))))))
+    (within.0, (within.1.0, (within.1.1, (bounds.0, (bounds.1.0, (bounds.1.1.0, (bounds.1.1.1.0, (bounds.1.1.1.1.0, (clauses.0, (clauses.1.0, (wires, (clauses.1.1.1.1.1.0, clauses.1.1.1.1.1.1.0))))))))))))
 
 pub invariant_of-result : goal.invariant_of-result
 invariant_of-result g c =
@@ -47,8 +47,19 @@ invariant_of-result g c =
       rest = rings_rest g.setting graph joined network rest share capacity;
     }
 
-pub returns-clause-some : goal.returns-clause-some
-returns-clause-some g c = c.in_ok-shares.ensures.some
+pub returns-clause-least : goal.returns-clause-least
+returns-clause-least g c =
+    let given = c.requires.1.1.1.1.1.1.1.1.1.1.0 in
+    let none = c.requires.1.1.1.1.1.1.1.1.1.1.1.1.1.1.1 in
+    let graph = c.in_ok-graph.graph in
+    let joined = c.new-joined.result in
+    let network = c.in_ok-graph.ensures.network in
+    let taken = ap (λ ends. ends.items) c.new-joined.ensures.ends ∙ c.in_ok-graph.ensures.ends in
+    let made = c.in_ok-shares.ensures in
+    let count = c.in_ok-shares.count in
+    let rest = have_rested g.setting c.in_ok-shares.shares.items made.graph made.sound made.rest made.met (states_of graph) c.in_ok-graph.ensures.states joined.ends.items taken refl in
+    rings_moved g.setting graph joined network rest (ap (λ share. share.items) c.new-joined.ensures.share ∙ given.share) (c.new-joined.ensures.capacity ∙ given.capacity) (λ n. 0 < n → 0 < count)
+    (subst (λ v. 0 < moved_by g.setting v → 0 < count) (rings_seen c.in_ok-shares.shares.items joined.ends.items taken refl) (λ some. made.least (omega (arith, none, some))))
 
 pub returns-clause-most : goal.returns-clause-most
 returns-clause-most g c =
@@ -60,8 +71,8 @@ returns-clause-most g c =
     let made = c.in_ok-shares.ensures in
     let count = c.in_ok-shares.count in
     let rest = have_rested g.setting c.in_ok-shares.shares.items made.graph made.sound made.rest made.met (states_of graph) c.in_ok-graph.ensures.states joined.ends.items taken refl in
-    rings_moved g.setting graph joined network rest (ap (λ share. share.items) c.new-joined.ensures.share ∙ given.share) (c.new-joined.ensures.capacity ∙ given.capacity) (λ n. count ≤ n + 1)
-    (subst (λ v. count ≤ moved_by g.setting v + 1) (rings_seen c.in_ok-shares.shares.items joined.ends.items taken refl) (omega (arith, made.most)))
+    rings_moved g.setting graph joined network rest (ap (λ share. share.items) c.new-joined.ensures.share ∙ given.share) (c.new-joined.ensures.capacity ∙ given.capacity) (λ n. count ≤ n)
+    (subst (λ v. count ≤ moved_by g.setting v) (rings_seen c.in_ok-shares.shares.items joined.ends.items taken refl) (omega (arith, made.most)))
 
 pub returns-in_err-shares : goal.returns-in_err-shares
 returns-in_err-shares g c =
@@ -71,7 +82,7 @@ returns-in_err-shares g c =
       network = nothing_made r _ _ h;
       capacity = nothing_made r _ _ h;
       rounds = nothing_made r _ _ h;
-      some = nothing_made r _ _ h;
+      least = nothing_made r _ _ h;
       most = nothing_made r _ _ h;
       rings = nothing_made r _ _ h;
     }
@@ -84,7 +95,7 @@ returns-in_err-graph g c =
       network = nothing_made r _ _ h;
       capacity = nothing_made r _ _ h;
       rounds = nothing_made r _ _ h;
-      some = nothing_made r _ _ h;
+      least = nothing_made r _ _ h;
       most = nothing_made r _ _ h;
       rings = nothing_made r _ _ h;
     }

@@ -2,7 +2,7 @@ use Rattle.std.proofs.Common.{refl, sym, subst}
 use Rattle.std.specs.Prelude.{IfOk}
 use Rattle.flow_graph.specs.Graphs.{states_of, edges_of}
 use Rattle.flow_graph.specs.Networks.{AreOpened}
-use Rattle.flow_rounds.proofs.Begins.{dealt_stand}
+use Rattle.flow_rounds.proofs.Begins.{dealt_stand, dealt_none}
 use Rattle.flow_drive.specs.Drives.{EndsMaximalRun}
 use Rattle.flow_drive.specs.Resteds.{rested_states, traffic_of}
 use Rattle.flow_drive.proofs.rounds.drive_rounds.Goals as goal
@@ -15,7 +15,8 @@ run_dealt-requires g c κs within =
     let made = c.in_ok-given.ensures in
     let opened = subst (λ graph. AreOpened g.T.Transducer.behaviour (states_of graph)) (sym made.graph) c.requires.opened in
     let stand = dealt_stand refl given.graph.value c.args.config.now.sharing.threads given.share.items given.capacity c.in_ok-given.dealt made.dealt opened in
-    (within.0, (within.1.0, (within.1.1, (bounds.static-T, (bounds.static-G, (bounds.send-T, (bounds.send-G, (bounds.sync-G, (lawful.chunk.some, (made.given, (made.dealt.wires, (made.dealt.layout, stand))))))))))))
+    let none = dealt_none refl given.graph.value c.args.config.now.sharing.threads given.share.items given.capacity c.in_ok-given.dealt made.dealt in
+    (within.0, (within.1.0, (within.1.1, (bounds.static-T, (bounds.static-G, (bounds.send-T, (bounds.send-G, (bounds.sync-G, (lawful.chunk.some, (made.given, (made.dealt.wires, (made.dealt.layout, (stand, none)))))))))))))
 
 pub returns-clause-run : goal.returns-clause-run
 returns-clause-run g c =

@@ -1,4 +1,4 @@
-use Rattle.std.proofs.Common.{◌+◌, ◌≤◌, ◌∙◌, sym, ap, subst, arith}
+use Rattle.std.proofs.Common.{◌<◌, ◌≤◌, ◌∙◌, sym, ap, subst, arith}
 use Rattle.flow_graph.specs.Graphs.{states_of}
 use Rattle.flow_opening.specs.Open.{AreWires}
 use Rattle.flow_round_laws.specs.Joints.{views_of}
@@ -14,7 +14,7 @@ run_rounds-requires g c κs within =
     let bounds = c.requires.1.1.1 in
     let clauses = bounds.1.1.1.1.1 in
     let wires = subst (λ w. AreWires g.setting.share g.setting.edges w) (sym c.deref.ensures.value) clauses.1.1.0 in
-    (within.0, (within.1.0, (within.1.1, (bounds.0, (bounds.1.0, (bounds.1.1.0, (bounds.1.1.1.0, (bounds.1.1.1.1.0, (clauses.0, (omega arith, (wires, clauses.1.1.1.1)))))))))))
+    (within.0, (within.1.0, (within.1.1, (bounds.0, (bounds.1.0, (bounds.1.1.0, (bounds.1.1.1.0, (bounds.1.1.1.1.0, (clauses.0, (omega arith, (wires, clauses.1.1.1.1.0)))))))))))
 
 pub invariant_of-result : goal.invariant_of-result
 invariant_of-result g c =
@@ -41,8 +41,18 @@ returns-clause-run g c =
     let rest = come_to_rest g.setting c.in_ok-shares.shares.items c.in_ok-shares.ensures.rest (states_of graph) c.in_ok-graph.ensures.states shared.ends.items taken in
     run g.setting graph shared c.in_ok-graph.ensures.network rest (ap (λ share. share.items) c.new-shared.ensures.share ∙ given.share) (c.new-shared.ensures.capacity ∙ given.capacity)
 
-pub returns-clause-some : goal.returns-clause-some
-returns-clause-some g c = c.in_ok-shares.ensures.some
+pub returns-clause-least : goal.returns-clause-least
+returns-clause-least g c =
+    let given = c.requires.1.1.1.1.1.1.1.1.1.0 in
+    let none = c.requires.1.1.1.1.1.1.1.1.1.1.1.1.1 in
+    let graph = c.in_ok-graph.graph in
+    let shared = c.new-shared.result in
+    let shares = c.in_ok-shares.shares.items in
+    let count = c.in_ok-shares.count in
+    let taken = ap (λ ends. ends.items) c.new-shared.ensures.ends ∙ c.in_ok-graph.ensures.ends in
+    let rest = come_to_rest g.setting shares c.in_ok-shares.ensures.rest (states_of graph) c.in_ok-graph.ensures.states shared.ends.items taken in
+    boxes_moved g.setting graph shared c.in_ok-graph.ensures.network rest (ap (λ share. share.items) c.new-shared.ensures.share ∙ given.share) (c.new-shared.ensures.capacity ∙ given.capacity) (λ n. 0 < n → 0 < count)
+    (subst (λ v. 0 < moved_by g.setting (views_of v) → 0 < count) (sym (seen_is shares shared.ends.items taken)) (λ some. c.in_ok-shares.ensures.least (omega (arith, none, some))))
 
 pub returns-clause-most : goal.returns-clause-most
 returns-clause-most g c =
@@ -53,8 +63,8 @@ returns-clause-most g c =
     let count = c.in_ok-shares.count in
     let taken = ap (λ ends. ends.items) c.new-shared.ensures.ends ∙ c.in_ok-graph.ensures.ends in
     let rest = come_to_rest g.setting shares c.in_ok-shares.ensures.rest (states_of graph) c.in_ok-graph.ensures.states shared.ends.items taken in
-    boxes_moved g.setting graph shared c.in_ok-graph.ensures.network rest (ap (λ share. share.items) c.new-shared.ensures.share ∙ given.share) (c.new-shared.ensures.capacity ∙ given.capacity) (λ n. count ≤ n + 1)
-    (subst (λ v. count ≤ moved_by g.setting (views_of v) + 1) (sym (seen_is shares shared.ends.items taken)) (omega (arith, c.in_ok-shares.ensures.most)))
+    boxes_moved g.setting graph shared c.in_ok-graph.ensures.network rest (ap (λ share. share.items) c.new-shared.ensures.share ∙ given.share) (c.new-shared.ensures.capacity ∙ given.capacity) (λ n. count ≤ n)
+    (subst (λ v. count ≤ moved_by g.setting (views_of v)) (sym (seen_is shares shared.ends.items taken)) (omega (arith, c.in_ok-shares.ensures.most)))
 
 pub returns-in_err-shares : goal.returns-in_err-shares
 returns-in_err-shares g c =
@@ -64,7 +74,7 @@ returns-in_err-shares g c =
       network = nothing_made r _ _ h;
       capacity = nothing_made r _ _ h;
       run = nothing_made r _ _ h;
-      some = nothing_made r _ _ h;
+      least = nothing_made r _ _ h;
       most = nothing_made r _ _ h;
       epochs = nothing_made r _ _ h;
     }
@@ -77,7 +87,7 @@ returns-in_err-graph g c =
       network = nothing_made r _ _ h;
       capacity = nothing_made r _ _ h;
       run = nothing_made r _ _ h;
-      some = nothing_made r _ _ h;
+      least = nothing_made r _ _ h;
       most = nothing_made r _ _ h;
       epochs = nothing_made r _ _ h;
     }

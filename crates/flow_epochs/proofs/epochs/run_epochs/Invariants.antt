@@ -1,17 +1,21 @@
 use Rattle.std.specs.Prelude.{◌+◌, ◌-◌, ◌<◌, ◌≤◌}
 use Rattle.flow_opening.specs.Settings.{AreFed}
-use Rattle.flow_epochs.specs.Epochs.{moved_in, AreLater, AreOfOneGraph}
+use Rattle.flow_epochs.specs.Epochs.{moved_in, AreLater, AreOfOneGraph, HaveMetAll}
 use Rattle.flow_epochs.proofs.Whole.{most_moved}
 use Rattle.flow_epochs.proofs.epochs.run_epochs.Given as goal
+
+abbrev pub ghost-meet : goal.ghost-meet
+ghost-meet g a = g.setting
 
 abbrev pub ghost-epoch : goal.ghost-epoch
 ghost-epoch g a = g.setting
 
--- the shares are those that were given, later, and each epoch so far moved a message
+-- the shares are those that were given, later, their ends have met, and each epoch so far moved a message
 abbrev pub invariant-epochs : goal.invariant-epochs
 invariant-epochs g l = record {
   later : AreLater l.fn.shares.items l.shares.items;
   graph : AreOfOneGraph g.setting l.shares.items;
+  met : HaveMetAll g.setting l.shares.items;
   fed : AreFed l.shares.items;
   least : moved_in g.setting l.fn.shares.items < moved_in g.setting l.shares.items → 0 < l.count;
   most : l.count + moved_in g.setting l.fn.shares.items ≤ moved_in g.setting l.shares.items;

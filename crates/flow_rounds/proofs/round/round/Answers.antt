@@ -1,10 +1,9 @@
 use Rattle.std.proofs.Common.{refl, subst, rules}
-use Rattle.std.specs.Prelude.{◌↔◌, IsTrue}
 use Rattle.flow_opening.specs.Open.{AreWires}
-use Rattle.flow_opening.specs.Settings.{AreFed, AreCalm}
+use Rattle.flow_opening.specs.Settings.{AreFed}
 use Rattle.flow_rounds.specs.Standing.{StandBetweenRounds}
 use Rattle.flow_rounds.proofs.Shares.{still_linked}
-use Rattle.flow_rounds.proofs.After.{stands_after, rests_after, stays_after, moves_after}
+use Rattle.flow_rounds.proofs.After.{stands_after, moves_after}
 use Rattle.flow_rounds.proofs.round.round.Goals as goal
 
 pub meet-requires : goal.meet-requires
@@ -28,38 +27,12 @@ returns-clause-stand g c =
     let laws = (g.met.T.Transducer g.world.𝓛 g.world.𝓜 g.world.𝓡 ((λ s x. x), (λ x. x), (λ x. x), λ x. x)).laws in
     stands_after laws s refl (λ a b same. same) shares back c.in_ok-met.met.items stand c.in_ok-back.ensures.count c.in_ok-back.ensures.each fed c.in_ok-met.ensures
 
-pub returns-clause-rest : goal.returns-clause-rest
-returns-clause-rest g c =
+pub returns-clause-moves : goal.returns-clause-moves
+returns-clause-moves g c =
     let s = g.setting in
     let shares = c.args.shares.items in
     let back = c.in_ok-back.back.items in
     let stand : StandBetweenRounds s shares = search rules in
     let fed = subst (λ l. AreFed l) c.deref.ensures.value (c.are_fed.ensures.0 c.if-not-are_fed.false) in
     let laws = (g.met.T.Transducer g.world.𝓛 g.world.𝓜 g.world.𝓡 ((λ s x. x), (λ x. x), (λ x. x), λ x. x)).laws in
-    let calm = c.are_calm-moved in
-    let says = subst (λ l. IsTrue calm.result ↔ AreCalm l) c.deref-2.ensures.value calm.ensures in
-    rests_after laws s refl (λ a b same. same) shares back c.in_ok-met.met.items stand c.in_ok-back.ensures.count c.in_ok-back.ensures.each fed c.in_ok-met.ensures calm.result says
-
-pub returns-clause-calm : goal.returns-clause-calm
-returns-clause-calm g c =
-    let s = g.setting in
-    let shares = c.args.shares.items in
-    let back = c.in_ok-back.back.items in
-    let stand : StandBetweenRounds s shares = search rules in
-    let fed = subst (λ l. AreFed l) c.deref.ensures.value (c.are_fed.ensures.0 c.if-not-are_fed.false) in
-    let laws = (g.met.T.Transducer g.world.𝓛 g.world.𝓜 g.world.𝓡 ((λ s x. x), (λ x. x), (λ x. x), λ x. x)).laws in
-    let calm = c.are_calm-moved in
-    let says = subst (λ l. IsTrue calm.result ↔ AreCalm l) c.deref-2.ensures.value calm.ensures in
-    stays_after laws s refl (λ a b same. same) shares back c.in_ok-met.met.items stand c.in_ok-back.ensures.count c.in_ok-back.ensures.each fed c.in_ok-met.ensures calm.result says
-
-pub returns-clause-more : goal.returns-clause-more
-returns-clause-more g c =
-    let s = g.setting in
-    let shares = c.args.shares.items in
-    let back = c.in_ok-back.back.items in
-    let stand : StandBetweenRounds s shares = search rules in
-    let fed = subst (λ l. AreFed l) c.deref.ensures.value (c.are_fed.ensures.0 c.if-not-are_fed.false) in
-    let laws = (g.met.T.Transducer g.world.𝓛 g.world.𝓜 g.world.𝓡 ((λ s x. x), (λ x. x), (λ x. x), λ x. x)).laws in
-    let calm = c.are_calm-moved in
-    let says = subst (λ l. IsTrue calm.result ↔ AreCalm l) c.deref-2.ensures.value calm.ensures in
-    moves_after laws s refl (λ a b same. same) shares back c.in_ok-met.met.items stand c.in_ok-back.ensures.count c.in_ok-back.ensures.each fed c.in_ok-met.ensures calm.result says
+    moves_after laws s refl (λ a b same. same) shares back c.in_ok-met.met.items stand c.in_ok-back.ensures.count c.in_ok-back.ensures.each fed c.in_ok-met.ensures

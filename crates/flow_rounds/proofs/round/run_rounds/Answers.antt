@@ -1,34 +1,97 @@
-use Rattle.std.proofs.Common.{◌∙◌, arith, rules, tests}
-use Rattle.flow_rounds.proofs.Rounds.{left_falls}
+use Rattle.std.proofs.Common.{◌≡◌, ◌++◌, length, take, drop, refl, sym, ◌∙◌, ap, subst, arith}
+use Rattle.flow_opening.specs.Settings.{NoneCanStep, AreLookedAt}
+use Rattle.flow_opening.proofs.Lists.{written_back}
+use Rattle.flow_rounds.specs.Standing.{boxes_of, moved_in, StandBetweenRounds, RestBetweenRounds}
+use Rattle.flow_rounds.proofs.Rounds.{rests, left_falls}
+use Rattle.flow_rounds.proofs.Shares.{all_stuck}
+use Rattle.flow_rounds.proofs.Looked.{stands_looked, moved_looked}
 use Rattle.flow_rounds.proofs.round.run_rounds.Goals as goal
 
-pub returns-then-not-moved-clause-rest : goal.returns-then-not-moved-clause-rest
-returns-then-not-moved-clause-rest g c = c.in_ok-back.ensures.rest (search (rules, tests))
+pub round-requires : goal.round-requires
+round-requires g c κs within =
+    let bounds = c.requires.1.1.1 in
+    let clauses = bounds.1.1.1.1.1 in
+    let s = g.setting in
+    let was = c.rounds.invariant in
+    let items = c.rounds.shares.items in
+    let now = c.are_stuck.new.shares in
+    let looked = subst (λ l. AreLookedAt l now) c.deref_mut.ensures.value c.are_stuck.ensures.looked in
+    let back : take c.rounds.shares.len (now ++ drop (length now) items) ≡ now = written_back now items c.rounds.shares.len looked.count (omega (arith, c.rounds.shares.ok.0)) in
+    let laws = (g.met.T.Transducer g.world.𝓛 g.world.𝓜 g.world.𝓡 ((λ s x. x), (λ x. x), (λ x. x), λ x. x)).laws in
+    let stand = subst (λ l. StandBetweenRounds s l) (sym back) (stands_looked s refl (λ a b keeps. keeps) items now was.stand looked laws) in
+    (within.0, (within.1.0, (within.1.1, (bounds.0, (bounds.1.0, (bounds.1.1.0, (bounds.1.1.1.0, (bounds.1.1.1.1.0, (clauses.0, (clauses.1.0, (clauses.1.1.0, stand)))))))))))
+
+pub returns-then-are_stuck-clause-rest : goal.returns-then-are_stuck-clause-rest
+returns-then-are_stuck-clause-rest g c =
+    let s = g.setting in
+    let was = c.rounds.invariant in
+    let items = c.rounds.shares.items in
+    let now = c.are_stuck.new.shares in
+    let looked = subst (λ l. AreLookedAt l now) c.deref_mut.ensures.value c.are_stuck.ensures.looked in
+    let back : take c.rounds.shares.len (now ++ drop (length now) items) ≡ now = written_back now items c.rounds.shares.len looked.count (omega (arith, c.rounds.shares.ok.0)) in
+    let laws = (g.met.T.Transducer g.world.𝓛 g.world.𝓜 g.world.𝓡 ((λ s x. x), (λ x. x), (λ x. x), λ x. x)).laws in
+    let stand = stands_looked s refl (λ a b keeps. keeps) items now was.stand looked laws in
+    subst (λ l. RestBetweenRounds s l) (sym back) (rests laws s now stand (all_stuck refl now (c.are_stuck.ensures.stuck.0 c.if-are_stuck.true)))
+
+pub returns-then-are_stuck-clause-count : goal.returns-then-are_stuck-clause-count
+returns-then-are_stuck-clause-count g c =
+    let s = g.setting in
+    let was = c.rounds.invariant in
+    let items = c.rounds.shares.items in
+    let now = c.are_stuck.new.shares in
+    let looked = subst (λ l. AreLookedAt l now) c.deref_mut.ensures.value c.are_stuck.ensures.looked in
+    let back : take c.rounds.shares.len (now ++ drop (length now) items) ≡ now = written_back now items c.rounds.shares.len looked.count (omega (arith, c.rounds.shares.ok.0)) in
+    ap length back ∙ looked.count ∙ was.count
+
+pub returns-then-are_stuck-clause-least : goal.returns-then-are_stuck-clause-least
+returns-then-are_stuck-clause-least g c =
+    let s = g.setting in
+    let was = c.rounds.invariant in
+    let items = c.rounds.shares.items in
+    let now = c.are_stuck.new.shares in
+    let looked = subst (λ l. AreLookedAt l now) c.deref_mut.ensures.value c.are_stuck.ensures.looked in
+    let back : take c.rounds.shares.len (now ++ drop (length now) items) ≡ now = written_back now items c.rounds.shares.len looked.count (omega (arith, c.rounds.shares.ok.0)) in
+    let same = ap (λ l. moved_in s (boxes_of l)) back ∙ moved_looked s refl (λ a b keeps. keeps) items now was.stand looked in
+    λ some. was.least (omega (arith, some, same))
+
+pub returns-then-are_stuck-clause-most : goal.returns-then-are_stuck-clause-most
+returns-then-are_stuck-clause-most g c =
+    let s = g.setting in
+    let was = c.rounds.invariant in
+    let items = c.rounds.shares.items in
+    let now = c.are_stuck.new.shares in
+    let looked = subst (λ l. AreLookedAt l now) c.deref_mut.ensures.value c.are_stuck.ensures.looked in
+    let back : take c.rounds.shares.len (now ++ drop (length now) items) ≡ now = written_back now items c.rounds.shares.len looked.count (omega (arith, c.rounds.shares.ok.0)) in
+    let same = ap (λ l. moved_in s (boxes_of l)) back ∙ moved_looked s refl (λ a b keeps. keeps) items now was.stand looked in
+    omega (arith, same, was.most)
 
 pub rounds-smaller : goal.rounds-smaller
 rounds-smaller g c =
+    let s = g.setting in
+    let was = c.rounds.invariant in
+    let items = c.rounds.shares.items in
+    let now = c.are_stuck.new.shares in
+    let looked = subst (λ l. AreLookedAt l now) c.deref_mut.ensures.value c.are_stuck.ensures.looked in
+    let back : take c.rounds.shares.len (now ++ drop (length now) items) ≡ now = written_back now items c.rounds.shares.len looked.count (omega (arith, c.rounds.shares.ok.0)) in
     let laws = (g.met.T.Transducer g.world.𝓛 g.world.𝓜 g.world.𝓡 ((λ s x. x), (λ x. x), (λ x. x), λ x. x)).laws in
-    left_falls laws g.setting c.rounds.shares.items c.in_ok-back.back.items c.in_ok-back.ensures.stand (c.in_ok-back.ensures.more (search (rules, tests)))
-
-pub returns-then-not-moved-clause-least : goal.returns-then-not-moved-clause-least
-returns-then-not-moved-clause-least g c some =
-    let calm = c.in_ok-back.ensures.calm (search (rules, tests)) in
-    let before = c.rounds.invariant.least (omega (arith, calm, some)) in
-    omega (arith, before, c.saturating_add-count.ensures)
-
-pub returns-then-not-moved-clause-most : goal.returns-then-not-moved-clause-most
-returns-then-not-moved-clause-most g c =
-    let calm = c.in_ok-back.ensures.calm (search (rules, tests)) in
-    omega (arith, calm, c.rounds.invariant.most, c.saturating_add-count.ensures)
+    let same = ap (λ l. moved_in s (boxes_of l)) back ∙ moved_looked s refl (λ a b keeps. keeps) items now was.stand looked in
+    let moved = c.in_ok-shares.ensures.moves (λ none. let no = sym (c.are_stuck.ensures.stuck.1 (subst (λ l. NoneCanStep l) back none)) ∙ c.if-are_stuck.false in cc) in
+    left_falls laws s items c.in_ok-shares.shares.items c.in_ok-shares.ensures.stand (omega (arith, same, moved))
 
 pub rounds-preserved : goal.rounds-preserved
 rounds-preserved g c =
+    let s = g.setting in
     let was = c.rounds.invariant in
-    let more = c.in_ok-back.ensures.more (search (rules, tests)) in
+    let items = c.rounds.shares.items in
+    let now = c.are_stuck.new.shares in
+    let looked = subst (λ l. AreLookedAt l now) c.deref_mut.ensures.value c.are_stuck.ensures.looked in
+    let back : take c.rounds.shares.len (now ++ drop (length now) items) ≡ now = written_back now items c.rounds.shares.len looked.count (omega (arith, c.rounds.shares.ok.0)) in
+    let same = ap (λ l. moved_in s (boxes_of l)) back ∙ moved_looked s refl (λ a b keeps. keeps) items now was.stand looked in
+    let moved = c.in_ok-shares.ensures.moves (λ none. let no = sym (c.are_stuck.ensures.stuck.1 (subst (λ l. NoneCanStep l) back none)) ∙ c.if-are_stuck.false in cc) in
     let counted = c.saturating_add-count.ensures in
     record {
-      stand = c.in_ok-back.ensures.stand;
-      count = c.in_ok-back.ensures.count ∙ was.count;
+      stand = c.in_ok-shares.ensures.stand;
+      count = c.in_ok-shares.ensures.count ∙ ap length back ∙ looked.count ∙ was.count;
       least = λ some. omega (arith, counted);
-      most = omega (arith, more, was.most, counted);
+      most = omega (arith, same, moved, was.most, counted);
     }
