@@ -1,10 +1,10 @@
 // Graphs dealt out as configurations say.
-ghost use Rattle.std.specs.Prelude.{◌≡◌, ◌↔◌, Err, IfOk};
+ghost use Rattle.std.specs.Prelude.{◌≡◌, ◌↔◌, ◌⊎◌, Err, IfOk, IfErr};
 ghost use Rattle.flow_graph.specs.Graphs.{states_of};
 ghost use Rattle.flow_graph.specs.Networks.{AreOpened};
 ghost use Rattle.flow_opening.specs.Deals.{IsDealt};
 ghost use Rattle.flow_drive.specs.Configs.{IsLawful};
-ghost use Rattle.flow_drive.specs.declared.driver.DriveError.TheVariants.{BadConfig};
+ghost use Rattle.flow_drive.specs.declared.driver.DriveError.TheVariants.{BadConfig, NoMemory};
 
 use crate::config::Config;
 use crate::driver::DriveError;
@@ -24,6 +24,7 @@ pub fn deal<T: Transducer + Drop, E: Opening + Drop>(
 ) -> Result<Dealt<T, E>, DriveError>
     requires { AreOpened T.behaviour (states_of graph) }
     ensures config { (result ≡ Err BadConfig) ↔ (IsLawful config.now → ⊥) }
+    ensures refused { IfErr result (λ error. (error ≡ BadConfig) ⊎ (error ≡ NoMemory)) }
     ensures dealt { IfOk result (λ dealt. IsDealt E.joins E.places graph config.now.sharing.threads config.now.sharing.share.items config.now.capacity dealt) }
 {
     if !config.lawful() {
