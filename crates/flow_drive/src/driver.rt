@@ -94,7 +94,7 @@ pub fn drive<
     ensures run { IsInSteps config.now.drive → IfOk result (λ rested. EndsMaximalRun T.behaviour config.now.capacity (states_of graph) (edges_of graph) (rested_states rested) (traffic_of rested)) }
     ensures rounds { IfOk result (λ rested. TookRounds config.now.drive (rested_rounds rested) (moved_of rested)) }
     ensures epochs { IfOk result (λ rested. TookEpochs config.now.drive (rested_epochs rested) (moved_of rested)) }
-    ensures rings { IfOk result (λ rested. config.now.drive ≡ Rings → IsOverRings rested) }
+    ensures rings { IfOk result (λ rested. IsOverRings rested ↔ (config.now.drive ≡ Rings)) }
 {
     if !config.lawful() {
         return Err(DriveError::BadConfig);
@@ -119,6 +119,7 @@ fn drive_serial<T: Transducer + Drop>(
     ensures run { IfOk result (λ rested. EndsMaximalRun T.behaviour config.now.capacity (states_of graph) (edges_of graph) (rested_states rested) (traffic_of rested)) }
     ensures rounds { IfOk result (λ rested. rested_rounds rested ≡ 0) }
     ensures epochs { IfOk result (λ rested. rested_epochs rested ≡ 0) }
+    ensures rings { IfOk result (λ rested. IsOverRings rested → ⊥) }
 {
     let mut ends = Table::new(alloc, graph.edges(), config.capacity)?;
     let mut graph = graph;

@@ -11,7 +11,7 @@ ghost use Rattle.flow_rounds.specs.Standing.{boxes_of, moved_in, StandBetweenRou
 ghost use Rattle.flow_drive.specs.Configs.{IsLawful};
 ghost use Rattle.flow_drive.specs.Drives.{EndsMaximalRun};
 ghost use Rattle.flow_drive.specs.Givens.{IsOfSetting};
-ghost use Rattle.flow_drive.specs.Resteds.{rested_states, rested_edges, rested_capacity, rested_rounds, rested_epochs, moved_of, traffic_of};
+ghost use Rattle.flow_drive.specs.Resteds.{rested_states, rested_edges, rested_capacity, rested_rounds, rested_epochs, moved_of, traffic_of, IsOverRings};
 
 use crate::config::Config;
 use crate::given::{Given, deal_out};
@@ -51,6 +51,7 @@ pub fn drive_rounds<
     ensures least { IfOk result (λ rested. 0 < moved_of rested → 0 < rested_rounds rested) }
     ensures most { IfOk result (λ rested. rested_rounds rested ≤ moved_of rested) }
     ensures epochs { IfOk result (λ rested. rested_epochs rested ≡ 0) }
+    ensures rings { IfOk result (λ rested. IsOverRings rested → ⊥) }
 {
     let (given, dealt) = deal_out(alloc, graph, config)?;
     run_dealt(rt, alloc, given, dealt, config.chunk, gate)
@@ -82,6 +83,7 @@ fn run_dealt<
     ensures least { IfOk result (λ rested. 0 < moved_of rested → 0 < rested_rounds rested) }
     ensures most { IfOk result (λ rested. rested_rounds rested ≤ moved_of rested) }
     ensures epochs { IfOk result (λ rested. rested_epochs rested ≡ 0) }
+    ensures rings { IfOk result (λ rested. IsOverRings rested → ⊥) }
 {
     let Dealt {
         shares,

@@ -77,6 +77,7 @@ returns-in_err-shares g c =
       least = nothing_made r _ _ h;
       most = nothing_made r _ _ h;
       epochs = nothing_made r _ _ h;
+      rings = nothing_made r _ _ h;
     }
 
 pub returns-in_err-graph : goal.returns-in_err-graph
@@ -90,4 +91,5 @@ returns-in_err-graph g c =
       least = nothing_made r _ _ h;
       most = nothing_made r _ _ h;
       epochs = nothing_made r _ _ h;
+      rings = nothing_made r _ _ h;
     }
