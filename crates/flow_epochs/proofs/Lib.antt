@@ -4,5 +4,6 @@ pub mod Meets
 pub mod Pumps
 pub mod Looked
 pub mod Whole
+pub mod Few
 pub mod Begins
 pub mod Gathers

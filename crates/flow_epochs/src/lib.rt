@@ -11,5 +11,7 @@
 mod epochs;
 mod meet;
 mod parts;
+mod theorems;
 
 pub use epochs::{epoch, run_epochs};
+pub use theorems::epochs_are_few;
