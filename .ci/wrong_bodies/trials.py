@@ -28,11 +28,14 @@ class Trials:
         self.checks, self.seconds = 0, 0.0
         os.makedirs(self.kept)
 
-    def verdicts(self, edits, batches):
-        """The verdict on each of these edits, which are tried in these batches, once the crate is seen to be proved without them."""
-        report = self.report([], proved_with(edits))
-        unfit = {it: unfit_for(it, report) for it in edits}
-        made = {it: Verdict(UNSURE, f"without the edit this is not proved: {names}: {report.head()}") for it, names in unfit.items() if names}
+    def verdicts(self, edits, batches, is_proved):
+        """The verdict on each of these edits, which are tried in these batches. Unless the crate is known to be proved without them, a
+        check is to show it."""
+        made = {}
+        if not is_proved:
+            report = self.report([], proved_with(edits))
+            unfit = {it: unfit_for(it, report) for it in edits}
+            made = {it: Verdict(UNSURE, f"without it this is not proved: {names}: {report.head()}") for it, names in unfit.items() if names}
         for batch in batches:
             made |= self.verdicts_of([it for it in batch if it not in made])
         return made
@@ -88,11 +91,12 @@ class Trials:
             pathlib.Path(self.copy, path).write_text("\n".join(text), encoding="utf-8")
         for function in self.functions if struck else ():
             if function.has_stub and function not in struck:
-                folder, name = f"{self.copy}/{function.proofs}", function.name.rpartition("::")[2]
-                shutil.rmtree(folder, ignore_errors=True)
-                os.makedirs(folder)
+                folder, name = pathlib.Path(self.copy, function.proofs), function.name.rpartition("::")[2]
+                folder.mkdir(parents=True, exist_ok=True)
+                for file in ("Answers.antt", "Invariants.antt"):
+                    (folder / file).unlink(missing_ok=True)
                 text = STUB.format(crate=self.crate.name, path=function.name.replace("::", "."), name=name)
-                pathlib.Path(folder, "Proof.antt").write_text(text, encoding="utf-8")
+                (folder / "Proof.antt").write_text(text, encoding="utf-8")
 
     def check(self, words):
         """Runs a check of the copy, once more where it is killed, as for memory, and returns its status and what it said."""
