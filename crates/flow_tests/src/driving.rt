@@ -1,21 +1,15 @@
-// Graphs built by hand, driven until they rest.
+// Graphs of sketches, driven until they rest.
 
-ghost use Rattle.std.specs.Prelude.{IfOk};
 ghost use Rattle.flow_graph.specs.Graphs.{states_of};
 ghost use Rattle.flow_graph.specs.Networks.{AreOpened};
 ghost use Rattle.flow_nodes.specs.StreamNodes.{node_behaviour};
 
-use crate::building::{add, built, empty, join_all, sum_of_five};
-use crate::graphs::sum_of_unlike;
-use flow_base::Node;
+use crate::sketches::{SUM_OF_FIVE, SUM_OF_UNLIKE, graph_of};
+use flow_base::{Printing, Transducer};
 use flow_drive::{Config, Drive, DriveError, NoGate, Outcome, Rested, Sharing, drive};
-use flow_edges::Kind;
 use flow_graph::Graph;
 use flow_nodes::StreamNode;
-use flow_scalar::{Const, Fork, Iota, Length, Reduce, Sink, Source, Stream};
-use flow_values::Print;
-use snesl_operators::{Reduction, Scalar};
-use snesl_values::{Dialect, Fault, FaultKind, Ty};
+use snesl_values::{Fault, FaultKind};
 use std::alloc::{AllocError, Global};
 use std::process::Abort;
 use std::sync::Arc;
@@ -33,6 +27,77 @@ pub const WAYS: [(Drive, usize); 8] = [
     (Drive::Rings, 1),
     (Drive::Rings, 1_024),
 ];
+
+/// What a graph tells that came to rest. (A graph at rest costs much proof wherever it is let go, and this does not.)
+#[derive(Drop)]
+pub struct Told {
+    pub outcome: Outcome,
+    pub nodes: usize,
+    /// How many messages were sent and how many received on each edge.
+    pub counts: Vec<(u64, u64)>,
+    pub rounds: u64,
+    pub epochs: u64,
+    pub text: Vec<u8>,
+}
+
+// How many messages were sent and how many received on each edge.
+fn counts_of<T: Transducer>(
+    alloc: Global,
+    rested: &Rested<T>,
+) -> Result<Vec<(u64, u64)>, AllocError> {
+    let mut counts = Vec::new(alloc);
+    for edge in 0..rested.edges() {
+        counts.push(rested.counts(edge))?;
+    }
+    Ok(counts)
+}
+
+fn told_of<T: Transducer + Printing>(
+    alloc: Global,
+    rested: &Rested<T>,
+) -> Result<Told, AllocError> {
+    Ok(Told {
+        outcome: rested.outcome(),
+        nodes: rested.nodes(),
+        counts: counts_of(alloc, rested)?,
+        rounds: rested.rounds(),
+        epochs: rested.epochs(),
+        text: rested.text().to_vec(alloc)?,
+    })
+}
+
+// The same, of a graph that is let go.
+fn told_at_last<T: Transducer + Printing + Drop>(
+    alloc: Global,
+    rested: Rested<T>,
+) -> Result<Told, AllocError> {
+    told_of(alloc, &rested)
+}
+
+fn driven_any<T: Transducer + Printing + Send + Drop + 'static>(
+    rt: &impl Threads,
+    alloc: Global,
+    graph: Graph<T>,
+    config: &Config,
+) -> Result<Told, DriveError>
+    requires { AreOpened T.behaviour (states_of graph) }
+{
+    let gate = Arc::new(alloc, NoGate).map_err(AllocError::from)?;
+    let rested = drive(rt, alloc, graph, config, gate)?;
+    Ok(told_at_last(alloc, rested)?)
+}
+
+/// Drives the graph under this configuration.
+pub fn driven_under(
+    rt: &impl Threads,
+    alloc: Global,
+    graph: Graph<StreamNode>,
+    config: &Config,
+) -> Result<Told, DriveError>
+    requires { AreOpened node_behaviour (states_of graph) }
+{
+    driven_any(rt, alloc, graph, config)
+}
 
 // A lawful configuration.
 fn config(
@@ -52,31 +117,22 @@ fn config(
     })
 }
 
-/// Drives the graph with ample memory.
+/// Drives the graph of a sketch.
 pub fn driven(
     rt: &impl Threads,
     alloc: Global,
-    graph: Graph<StreamNode>,
+    sketch: &str,
     capacity: usize,
     way: (Drive, usize),
-) -> Result<Rested<StreamNode>, Fail>
-    requires { AreOpened node_behaviour (states_of graph) }
-{
+) -> Result<Told, Fail> {
     let config = config(alloc, capacity, way)?;
-    Ok(drive(rt, alloc, graph, &config, Arc::new(alloc, NoGate)?)?)
+    Ok(driven_under(rt, alloc, graph_of(alloc, sketch)?, &config)?)
 }
 
-// How many messages were sent and how many received on this edge.
-fn counts(rt: &impl Abort, rested: &Rested<StreamNode>, edge: usize) -> (u64, u64) {
-    assert!(rt; edge < rested.edges());
-    rested.counts(edge)
-}
-
-// The same of all edges together.
-fn all_counts(rt: &impl Abort, rested: &Rested<StreamNode>) -> (u64, u64) {
+// How many messages were sent and how many received on all edges together.
+fn all_counts(told: &Told) -> (u64, u64) {
     let (mut sent, mut received) = (0u64, 0u64);
-    for edge in 0..rested.edges() {
-        let (put, taken) = counts(rt, rested, edge);
+    for &(put, taken) in &told.counts {
         sent = sent.saturating_add(put);
         received = received.saturating_add(taken);
     }
@@ -84,16 +140,16 @@ fn all_counts(rt: &impl Abort, rested: &Rested<StreamNode>) -> (u64, u64) {
 }
 
 // Asserts what the sum of the numbers below five left, by whatever drive.
-fn assert_nineteen(rt: &impl Abort, rested: &Rested<StreamNode>) {
-    assert_eq!(rt; rested.outcome(), Outcome::Value);
-    assert_eq!(rt; (rested.nodes(), rested.edges()), (5, 5));
-    assert_eq!(rt; all_counts(rt, rested), (19, 19));
-    assert_eq!(rt; counts(rt, rested, 2), (7, 7));
+fn assert_nineteen(rt: &impl Abort, told: &Told) {
+    assert_eq!(rt; told.outcome, Outcome::Value);
+    assert_eq!(rt; (told.nodes, told.counts.len()), (5, 5));
+    assert_eq!(rt; all_counts(told), (19, 19));
+    assert_eq!(rt; told.counts.get(2), Some(&(7, 7)));
 }
 
 // Asserts that each round or epoch moved a message, of which there are nineteen, sent and received.
-fn assert_rounds(rt: &impl Abort, rested: &Rested<StreamNode>, drive: Drive) {
-    let (rounds, epochs) = (rested.rounds(), rested.epochs());
+fn assert_rounds(rt: &impl Abort, told: &Told, drive: Drive) {
+    let (rounds, epochs) = (told.rounds, told.epochs);
     match drive {
         Drive::Serial => assert_eq!(rt; (rounds, epochs), (0, 0)),
         Drive::Rounds => assert!(rt; rounds > 0 && rounds <= 38 && epochs == 0),
@@ -105,28 +161,32 @@ fn assert_rounds(rt: &impl Abort, rested: &Rested<StreamNode>, drive: Drive) {
 fn nineteen_messages(rt: HostRuntime) -> Result<(), Fail> {
     for capacity in [1, 2, 256] {
         for way in WAYS {
-            let rested = driven(&rt, rt.alloc(), sum_of_five(rt.alloc())?, capacity, way)?;
-            assert_nineteen(&rt, &rested);
-            assert_rounds(&rt, &rested, way.0);
+            let told = driven(&rt, rt.alloc(), SUM_OF_FIVE, capacity, way)?;
+            assert_nineteen(&rt, &told);
+            assert_rounds(&rt, &told, way.0);
         }
     }
     Ok(())
 }
 
-#[test]
-fn a_fault_at_seven(rt: HostRuntime) -> Result<(), Fail> {
+// Asserts that the addition of unlike streams met its fault.
+fn assert_unlike(rt: &impl Abort, told: &Told) {
     let shape = Fault {
         kind: FaultKind::Shape,
         at: 7,
     };
+    assert_eq!(rt; told.outcome, Outcome::Fault(shape));
+    // The numbers and the end from the left; the number and the end from the right; the sum.
+    assert_eq!(rt; told.counts.first().map(|counts| counts.1), Some(2));
+    assert_eq!(rt; told.counts.get(1), Some(&(2, 2)));
+    assert_eq!(rt; told.counts.get(2), Some(&(1, 1)));
+}
+
+#[test]
+fn a_fault_at_seven(rt: HostRuntime) -> Result<(), Fail> {
     for capacity in [1, 4] {
         for way in WAYS {
-            let rested = driven(&rt, rt.alloc(), sum_of_unlike(rt.alloc())?, capacity, way)?;
-            assert_eq!(rt; rested.outcome(), Outcome::Fault(shape));
-            // The numbers and the end from the left; the number and the end from the right; the sum.
-            assert_eq!(rt; counts(&rt, &rested, 0).1, 2);
-            assert_eq!(rt; counts(&rt, &rested, 1), (2, 2));
-            assert_eq!(rt; counts(&rt, &rested, 2), (1, 1));
+            assert_unlike(&rt, &driven(&rt, rt.alloc(), SUM_OF_UNLIKE, capacity, way)?);
         }
     }
     Ok(())
@@ -134,56 +194,34 @@ fn a_fault_at_seven(rt: HostRuntime) -> Result<(), Fail> {
 
 // The flags of one segment of two elements, of which one copy waits for numbers that come from the other: its
 // length, and the numbers below it.
-fn waits_for_its_length(alloc: Global) -> Result<Graph<StreamNode>, Fail>
-    ensures { IfOk result (λ graph. AreOpened node_behaviour (states_of graph)) }
-{
-    let flags = Stream::Bools([false, false, true].to_vec(alloc)?);
-    let mut builder = empty(alloc);
-    add(&mut builder, StreamNode::Source(Source::new(alloc, flags)))?;
-    add(
-        &mut builder,
-        StreamNode::Fork(Node::new(Fork::new(alloc, Kind::Bool, 2), 1)),
-    )?;
-    add(
-        &mut builder,
-        StreamNode::Length(Node::new(Length::new(Dialect::One), 2)),
-    )?;
-    add(&mut builder, StreamNode::Iota(Node::new(Iota::new(), 3)))?;
-    add(
-        &mut builder,
-        StreamNode::Reduce(Node::new(Reduce::new(Dialect::One, Reduction::Sum), 4)),
-    )?;
-    add(
-        &mut builder,
-        StreamNode::Sink(Node::new(Sink::new(Kind::Bool), 5)),
-    )?;
-    add(
-        &mut builder,
-        StreamNode::Sink(Node::new(Sink::new(Kind::Int), 6)),
-    )?;
-    let edges = [
-        ((0, 0), (1, 0)),
-        ((1, 0), (4, 0)),
-        ((1, 1), (2, 0)),
-        ((2, 0), (3, 0)),
-        ((3, 0), (5, 0)),
-        ((3, 1), (4, 1)),
-        ((4, 0), (6, 0)),
-    ];
-    join_all(&mut builder, &edges)?;
-    built(builder)
+const WAITS_FOR_ITS_LENGTH: &str = r"
+node 0 source bools F F T
+node 1 fork bool 2
+node 2 length one
+node 3 iota
+node 4 reduce one sum
+node 5 sink bool
+node 6 sink int
+edge 0.0 1.0
+edge 1.0 4.0
+edge 1.1 2.0
+edge 2.0 3.0
+edge 3.0 5.0
+edge 3.1 4.1
+edge 4.0 6.0
+";
+
+// Asserts that the fork has the end of the segment for an edge that holds its second flag.
+fn assert_stalled(rt: &impl Abort, told: &Told) {
+    assert_eq!(rt; told.outcome, Outcome::Stalled { edge: 1 });
+    let first = [(4, 3), (2, 1), (2, 2), (0, 0)];
+    assert_eq!(rt; told.counts.get(..4), Some(first.as_slice()));
 }
 
 #[test]
 fn stalls_at_capacity_one(rt: HostRuntime) -> Result<(), Fail> {
     for way in WAYS {
-        let rested = driven(&rt, rt.alloc(), waits_for_its_length(rt.alloc())?, 1, way)?;
-        // The fork has the end of the segment for an edge that holds its second flag.
-        assert_eq!(rt; rested.outcome(), Outcome::Stalled { edge: 1 });
-        assert_eq!(rt; counts(&rt, &rested, 0), (4, 3));
-        assert_eq!(rt; counts(&rt, &rested, 1), (2, 1));
-        assert_eq!(rt; counts(&rt, &rested, 2), (2, 2));
-        assert_eq!(rt; counts(&rt, &rested, 3), (0, 0));
+        assert_stalled(&rt, &driven(&rt, rt.alloc(), WAITS_FOR_ITS_LENGTH, 1, way)?);
     }
     Ok(())
 }
@@ -191,56 +229,56 @@ fn stalls_at_capacity_one(rt: HostRuntime) -> Result<(), Fail> {
 #[test]
 fn runs_at_capacity_two(rt: HostRuntime) -> Result<(), Fail> {
     for way in WAYS {
-        let rested = driven(&rt, rt.alloc(), waits_for_its_length(rt.alloc())?, 2, way)?;
-        assert_eq!(rt; rested.outcome(), Outcome::Value);
-        assert_eq!(rt; all_counts(&rt, &rested), (23, 23));
+        let told = driven(&rt, rt.alloc(), WAITS_FOR_ITS_LENGTH, 2, way)?;
+        assert_eq!(rt; told.outcome, Outcome::Value);
+        assert_eq!(rt; all_counts(&told), (23, 23));
     }
     Ok(())
 }
 
-// Prints the sequence of the numbers below five: Source, Const 5, Iota, Print.
-fn prints_below_five(alloc: Global) -> Result<Graph<StreamNode>, Fail>
-    ensures { IfOk result (λ graph. AreOpened node_behaviour (states_of graph)) }
-{
-    let mut builder = empty(alloc);
-    add(
-        &mut builder,
-        StreamNode::Source(Source::new(alloc, Stream::Units(1))),
-    )?;
-    add(
-        &mut builder,
-        StreamNode::Const(Node::new(Const::new(Scalar::Int(5)), 1)),
-    )?;
-    add(&mut builder, StreamNode::Iota(Node::new(Iota::new(), 2)))?;
-    let ty = Ty::Seq(Box::new(alloc, Ty::Int)?);
-    add(&mut builder, StreamNode::Print(Print::new(alloc, ty, 3)?))?;
-    let edges = [
-        ((0, 0), (1, 0)),
-        ((1, 0), (2, 0)),
-        ((2, 0), (3, 0)),
-        ((2, 1), (3, 1)),
-    ];
-    join_all(&mut builder, &edges)?;
-    built(builder)
-}
+// Prints the sequence of the numbers below five.
+const PRINTS_BELOW_FIVE: &str = r"
+node 0 source units 1
+node 1 const 5
+node 2 iota
+node 3 print seq int
+edge 0.0 1.0
+edge 1.0 2.0
+edge 2.0 3.0
+edge 2.1 3.1
+";
 
 #[test]
 fn text_of_the_value(rt: HostRuntime) -> Result<(), Fail> {
     for capacity in [1, 256] {
         for way in WAYS {
-            let rested = driven(
-                &rt,
-                rt.alloc(),
-                prints_below_five(rt.alloc())?,
-                capacity,
-                way,
-            )?;
-            assert_eq!(rt; rested.outcome(), Outcome::Value);
-            assert_eq!(rt; rested.text(), b"{0,1,2,3,4}".as_slice());
+            let told = driven(&rt, rt.alloc(), PRINTS_BELOW_FIVE, capacity, way)?;
+            assert_eq!(rt; told.outcome, Outcome::Value);
+            assert_eq!(rt; told.text.as_slice(), b"{0,1,2,3,4}".as_slice());
         }
     }
-    let rested = driven(&rt, rt.alloc(), sum_of_five(rt.alloc())?, 1, WAYS[0])?;
-    assert!(rt; rested.text().is_empty());
+    Ok(())
+}
+
+#[test]
+fn no_text_without_a_print(rt: HostRuntime) -> Result<(), Fail> {
+    let told = driven(&rt, rt.alloc(), SUM_OF_FIVE, 1, WAYS[0])?;
+    assert!(rt; told.text.is_empty());
+    Ok(())
+}
+
+// Asserts whether this configuration is lawful, and that a drive refuses it just where it is not.
+fn assert_lawful(
+    rt: &(impl Threads + Abort),
+    alloc: Global,
+    config: &Config,
+    lawful: bool,
+) -> Result<(), Fail> {
+    assert_eq!(rt; config.lawful(), lawful);
+    match driven_under(rt, alloc, graph_of(alloc, SUM_OF_FIVE)?, config) {
+        Ok(told) => assert!(rt; lawful && told.outcome == Outcome::Value),
+        Err(error) => assert!(rt; !lawful && error == DriveError::BadConfig),
+    }
     Ok(())
 }
 
@@ -265,7 +303,7 @@ fn limits_of_configurations(rt: HostRuntime) -> Result<(), Fail> {
         (1, 1, 16, 1, 1, 16, false),
     ];
     for &(capacity, chunk, threads, idle_turns, entries, entry, lawful) in &cases {
-        for way in [Drive::Serial, Drive::Rounds, Drive::Rings] {
+        for drive in [Drive::Serial, Drive::Rounds, Drive::Rings] {
             let sharing = Sharing {
                 threads,
                 idle_turns,
@@ -275,14 +313,9 @@ fn limits_of_configurations(rt: HostRuntime) -> Result<(), Fail> {
                 capacity,
                 chunk,
                 sharing,
-                drive: way,
+                drive,
             };
-            assert_eq!(rt; config.lawful(), lawful);
-            let gate = Arc::new(alloc, NoGate)?;
-            match drive(&rt, alloc, sum_of_five(alloc)?, &config, gate) {
-                Ok(rested) => assert!(rt; lawful && rested.outcome() == Outcome::Value),
-                Err(error) => assert!(rt; !lawful && error == DriveError::BadConfig),
-            }
+            assert_lawful(&rt, alloc, &config, lawful)?;
         }
     }
     Ok(())

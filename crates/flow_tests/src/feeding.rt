@@ -7,7 +7,6 @@ use kahn::Want;
 use snesl_values::{Datum, text_of};
 use std::alloc::{AllocError, Global};
 use std::process::Abort;
-use std::test::Fail;
 
 // Writes the word of a message behind others: a vector as it is printed.
 fn append(alloc: Global, text: &mut Vec<u8>, message: &Msg) -> Result<(), AllocError> {
@@ -33,15 +32,19 @@ fn append(alloc: Global, text: &mut Vec<u8>, message: &Msg) -> Result<(), AllocE
 // More steps than any row takes.
 const MOST_STEPS: usize = 1_000;
 
-// Feeds the node of a row with the streams that come in, until it wants a message that is not there, or has ended or
+// Feeds a node with the streams that come in by its row, until it wants a message that is not there, or has ended or
 // faulted, or has read and written as often as the row tells. Gives what it wrote, for each of its outputs.
-fn fed(alloc: Global, row: &mut Row<'_>) -> Result<Vec<Vec<u8>>, AllocError> {
+fn fed<T: Transducer>(
+    alloc: Global,
+    node: &mut T,
+    row: &mut Row<'_>,
+) -> Result<Vec<Vec<u8>>, AllocError> {
     let mut written = Vec::new(alloc);
-    for _ in 0..row.node.outputs() {
+    for _ in 0..node.outputs() {
         written.push(Vec::<u8>::new(alloc))?;
     }
     for _ in 0..row.steps.unwrap_or(MOST_STEPS) {
-        match row.node.want() {
+        match node.want() {
             Want::Read(port) => {
                 let Some(stream) = row.ins.get_mut(port) else {
                     break;
@@ -49,10 +52,10 @@ fn fed(alloc: Global, row: &mut Row<'_>) -> Result<Vec<Vec<u8>>, AllocError> {
                 let Some(message) = stream.next() else {
                     break;
                 };
-                row.node.give(port, message)?;
+                node.give(port, message)?;
             }
             Want::Write(port) => {
-                let message = row.node.emit()?;
+                let message = node.emit()?;
                 let Some(text) = written.get_mut(port) else {
                     break;
                 };
@@ -64,29 +67,38 @@ fn fed(alloc: Global, row: &mut Row<'_>) -> Result<Vec<Vec<u8>>, AllocError> {
     Ok(written)
 }
 
-/// Asserts that the node of a row has the inputs and the outputs that the row tells, and carries what it tells. (In parts,
-/// each of which has less to let go where it ends.)
-pub fn assert_carries(rt: &impl Abort, alloc: Global, mut row: Row<'_>) -> Result<(), Fail> {
-    assert_ports(rt, &row);
-    let written = fed(alloc, &mut row)?;
-    assert_rests(rt, &row);
+/// Asserts that a node has the inputs and the outputs that its row tells, and carries what it tells. (In parts, each of
+/// which has less to let go where it ends.)
+pub fn assert_carries<T: Transducer + Printing + Drop>(
+    rt: &impl Abort,
+    alloc: Global,
+    mut node: T,
+    mut row: Row<'_>,
+) -> Result<(), AllocError> {
+    assert_ports(rt, &node, &row);
+    let written = fed(alloc, &mut node, &mut row)?;
+    assert_rests(rt, &node, &row);
     assert_written(rt, &row, &written);
     Ok(())
 }
 
 // Asserts that the node has as many inputs and outputs as its row tells.
-fn assert_ports(rt: &impl Abort, row: &Row<'_>) {
+fn assert_ports<T: Transducer>(rt: &impl Abort, node: &T, row: &Row<'_>) {
     let line = row.line;
-    assert_eq!(rt; row.node.inputs(), row.ins.len(), "inputs, line {line}");
-    assert_eq!(rt; row.node.outputs(), row.outs.len(), "outputs, line {line}");
+    let ports = (node.inputs(), node.outputs());
+    assert_eq!(rt;
+        ports,
+        (row.ins.len(), row.outs.len()),
+        "inputs and outputs, line {line}"
+    );
 }
 
 // Asserts that the node wants at last what its row tells, and has printed what it tells.
-fn assert_rests(rt: &impl Abort, row: &Row<'_>) {
+fn assert_rests<T: Transducer + Printing>(rt: &impl Abort, node: &T, row: &Row<'_>) {
     let line = row.line;
-    assert_eq!(rt; Some(row.node.want()), row.end, "line {line}");
+    assert_eq!(rt; Some(node.want()), row.end, "line {line}");
     let printed = row.prints.map(|text| text.as_bytes());
-    assert_eq!(rt; row.node.printed(), printed, "prints, line {line}");
+    assert_eq!(rt; node.printed(), printed, "prints, line {line}");
 }
 
 // Asserts that a node wrote what its row tells.

@@ -1,27 +1,23 @@
-// Graphs built by hand, and their single steps.
+// Graphs of sketches, and their single steps.
 
-ghost use Rattle.std.specs.Prelude.{IfOk};
-ghost use Rattle.flow_graph.specs.Graphs.{states_of};
+ghost use Rattle.flow_graph.specs.Graphs.{states_so_far};
 ghost use Rattle.flow_graph.specs.Networks.{AreOpened};
-ghost use Rattle.flow_nodes.specs.StreamNodes.{node_behaviour};
 
-use crate::building::{add, add_source, built, empty, join, join_all, sum_of_five};
-use flow_base::{Node, Transducer};
-use flow_edges::{Ends, Item, Kind, Msg, Table};
+use crate::building::join;
+use crate::sketches::{SUM_OF_FIVE, SUM_OF_UNLIKE, drawn, graph_of};
+use flow_base::Transducer;
+use flow_edges::{Ends, Item, Msg, Table};
 use flow_graph::{Edge, Graph, GraphBuilder, Moved, step_once};
-use flow_nodes::StreamNode;
-use flow_scalar::{Binary, Const, Iota, Reduce, Sink, Source, Stream};
 use kahn::Want;
-use snesl_operators::{BinaryOperator, Reduction, Scalar};
-use snesl_values::{Dialect, Fault, FaultKind};
+use snesl_values::{Fault, FaultKind};
 use std::alloc::Global;
 use std::process::Abort;
 use std::test::Fail;
 
 // One step of the node, if it can make one.
-fn step(
+fn step<T: Transducer>(
     rt: &impl Abort,
-    graph: &mut Graph<StreamNode>,
+    graph: &mut Graph<T>,
     table: &mut Table,
     node: usize,
 ) -> Result<Moved, Fail> {
@@ -29,16 +25,16 @@ fn step(
     Ok(step_once(graph, table, node)?)
 }
 
-fn wants(rt: &impl Abort, graph: &Graph<StreamNode>, node: usize) -> Want {
+fn wants<T: Transducer>(rt: &impl Abort, graph: &Graph<T>, node: usize) -> Want {
     assert!(rt; node < graph.nodes());
     graph.node(node).want()
 }
 
 // Steps the nodes in this order, again and again, until none moves. Gives how many messages were sent, and how many
 // received.
-fn run_in_order(
+fn run_in_order<T: Transducer>(
     rt: &impl Abort,
-    graph: &mut Graph<StreamNode>,
+    graph: &mut Graph<T>,
     table: &mut Table,
     order: &[usize],
 ) -> Result<(usize, usize), Fail> {
@@ -63,6 +59,22 @@ fn run_in_order(
     Ok((sent, received))
 }
 
+// Asserts that nineteen messages go over edges of one message until each of five nodes has ended.
+fn assert_nineteen<T: Transducer + Drop>(
+    rt: &impl Abort,
+    alloc: Global,
+    mut graph: Graph<T>,
+    order: &[usize],
+) -> Result<(), Fail> {
+    let mut table = Table::new(alloc, graph.edges(), 1)?;
+    let counts = run_in_order(rt, &mut graph, &mut table, order)?;
+    assert_eq!(rt; counts, (19, 19));
+    for node in 0..5 {
+        assert_eq!(rt; wants(rt, &graph, node), Want::Ended);
+    }
+    Ok(())
+}
+
 #[test]
 fn nineteen_messages_in_any_order(rt: HostRuntime) -> Result<(), Fail> {
     let orders = [
@@ -80,71 +92,55 @@ fn nineteen_messages_in_any_order(rt: HostRuntime) -> Result<(), Fail> {
         [0, 4, 1, 3, 2],
     ];
     for order in &orders {
-        let mut graph = sum_of_five(rt.alloc())?;
-        let mut table = Table::new(rt.alloc(), graph.edges(), 1)?;
-        let counts = run_in_order(&rt, &mut graph, &mut table, order)?;
-        assert_eq!(rt; counts, (19, 19));
-        for node in 0..5 {
-            assert_eq!(rt; wants(&rt, &graph, node), Want::Ended);
-        }
+        assert_nineteen(&rt, rt.alloc(), graph_of(rt.alloc(), SUM_OF_FIVE)?, order)?;
     }
     Ok(())
 }
 
-/// Sources of `1, 2` and of `1` into an addition at offset 7, and a sink.
-pub fn sum_of_unlike(alloc: Global) -> Result<Graph<StreamNode>, Fail>
-    ensures { IfOk result (λ graph. AreOpened node_behaviour (states_of graph)) }
-{
-    let mut builder = empty(alloc);
-    add_source(alloc, &mut builder, &[1, 2])?;
-    add_source(alloc, &mut builder, &[1])?;
-    add(
-        &mut builder,
-        StreamNode::Binary(Node::new(Binary::new(Dialect::One, BinaryOperator::Add), 7)),
-    )?;
-    add(
-        &mut builder,
-        StreamNode::Sink(Node::new(Sink::new(Kind::Int), 0)),
-    )?;
-    let edges = [((0, 0), (2, 0)), ((1, 0), (2, 1)), ((2, 0), (3, 0))];
-    join_all(&mut builder, &edges)?;
-    built(builder)
+// Takes a message from the edge of the sum.
+fn take_sum(rt: &impl Abort, table: &mut Table) -> Option<Msg> {
+    assert!(rt; table.has_reader(2));
+    table.take(2)
 }
 
-#[test]
-fn streams_that_end_unlike(rt: HostRuntime) -> Result<(), Fail> {
-    let mut graph = sum_of_unlike(rt.alloc())?;
-    let mut table = Table::new(rt.alloc(), graph.edges(), 4)?;
-    run_in_order(&rt, &mut graph, &mut table, &[0, 1, 2])?;
+// Asserts that the addition meets the end of the shorter stream with a fault, where its sink takes nothing.
+fn assert_unlike<T: Transducer + Drop>(
+    rt: &impl Abort,
+    alloc: Global,
+    mut graph: Graph<T>,
+) -> Result<(), Fail> {
+    let mut table = Table::new(alloc, graph.edges(), 4)?;
+    run_in_order(rt, &mut graph, &mut table, &[0, 1, 2])?;
     let shape = Fault {
         kind: FaultKind::Shape,
         at: 7,
     };
-    assert_eq!(rt; wants(&rt, &graph, 2), Want::Faulted(shape));
+    assert_eq!(rt; wants(rt, &graph, 2), Want::Faulted(shape));
     // The sum's edge carries 2 and no end.
-    assert!(rt; table.has_reader(2));
-    assert!(rt; matches!(table.take(2), Some(Msg::Item(Item::Int(2)))));
-    assert!(rt; table.has_reader(2));
-    assert!(rt; table.take(2).is_none());
+    assert!(rt; matches!(take_sum(rt, &mut table), Some(Msg::Item(Item::Int(2)))));
+    assert!(rt; take_sum(rt, &mut table).is_none());
     Ok(())
 }
 
 #[test]
-fn edges_that_may_not_join(rt: HostRuntime) -> Result<(), Fail> {
-    let alloc = rt.alloc();
-    let mut builder = empty(alloc);
-    add(
-        &mut builder,
-        StreamNode::Source(Source::new(alloc, Stream::Units(1))),
-    )?;
-    add(
-        &mut builder,
-        StreamNode::Const(Node::new(Const::new(Scalar::Int(5)), 1)),
-    )?;
-    add(
-        &mut builder,
-        StreamNode::Sink(Node::new(Sink::new(Kind::Int), 2)),
-    )?;
+fn streams_that_end_unlike(rt: HostRuntime) -> Result<(), Fail> {
+    assert_unlike(&rt, rt.alloc(), graph_of(rt.alloc(), SUM_OF_UNLIKE)?)
+}
+
+// A source, a node that computes and a sink, with no edge.
+const UNJOINED: &str = r"
+node 0 source units 1
+node 1 const 5
+node 2 sink int
+";
+
+// Asserts which edges may join the three nodes, and when they are complete.
+fn assert_joins<T: Transducer + Drop>(
+    rt: &impl Abort,
+    builder: &mut GraphBuilder<T>,
+) -> Result<(), Fail>
+    requires { AreOpened T.behaviour (states_so_far builder.old) }
+{
     let edge = |writer, reader| Edge {
         writer,
         writer_port: 0,
@@ -153,15 +149,23 @@ fn edges_that_may_not_join(rt: HostRuntime) -> Result<(), Fail> {
     };
     assert!(rt; builder.may_join(edge(0, 1)));
     // Units into integers, against the order, to itself, and to a node that is not there.
-    assert!(rt; !builder.may_join(edge(0, 2)));
-    assert!(rt; !builder.may_join(edge(1, 0)));
-    assert!(rt; !builder.may_join(edge(1, 1)));
-    assert!(rt; !builder.may_join(edge(1, 3)));
+    for (writer, reader) in [(0, 2), (1, 0), (1, 1), (1, 3)] {
+        assert!(rt;
+            !builder.may_join(edge(writer, reader)),
+            "{writer} to {reader}"
+        );
+    }
     assert!(rt; !builder.complete());
-    join(&mut builder, (0, 0), (1, 0))?;
+    join(builder, (0, 0), (1, 0))?;
     // Both ports are taken.
     assert!(rt; !builder.may_join(edge(0, 1)));
-    join(&mut builder, (1, 0), (2, 0))?;
+    join(builder, (1, 0), (2, 0))?;
     assert!(rt; builder.complete());
     Ok(())
+}
+
+#[test]
+fn edges_that_may_not_join(rt: HostRuntime) -> Result<(), Fail> {
+    let mut builder = drawn(rt.alloc(), UNJOINED)?;
+    assert_joins(&rt, &mut builder)
 }

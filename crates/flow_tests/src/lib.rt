@@ -22,6 +22,8 @@ pub mod shares;
 #[cfg(test)]
 mod single_nodes;
 #[cfg(test)]
+mod sketches;
+#[cfg(test)]
 mod tables;
 #[cfg(test)]
 mod words;

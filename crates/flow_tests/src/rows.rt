@@ -2,7 +2,7 @@
 //
 // A row begins with the words of a node (`node_words.rt`). Behind it stand the other lines below, in any order.
 //
-//   node WORDS          the node, before it has read or written anything
+//   node WORDS          the node at offset 7, before it has read or written anything
 //   in WORDS            the messages that come in at the next input, from port 0 on (`words.rt`); there may be none
 //   out WORDS           the messages that go out at the next output
 //   prints TEXT         the text that a Print has at last; no other node has one
@@ -18,7 +18,7 @@
 ghost use Rattle.std.specs.Prelude.{◌<◌, IfOk, vec_len};
 
 use crate::node_words::node_of;
-use crate::words::{WordError, fault_named, message};
+use crate::words::{WordError, fault_named, message, number_of};
 use flow_edges::Msg;
 use flow_nodes::StreamNode;
 use kahn::Want;
@@ -44,13 +44,13 @@ impl From<AllocError> for TableError {
     }
 }
 
-/// A node, and what it is to carry.
+/// The words of a node, and what it is to carry. (It does not hold the node, which costs much proof wherever it is let go.)
 #[derive(Drop)]
 pub struct Row<'a> {
     /// The line where it begins, from 1.
     pub line: usize,
-    /// The node.
-    pub node: StreamNode,
+    /// The words of the node.
+    pub node: &'a str,
     /// What comes in at each input.
     pub ins: Vec<std::vec::IntoIter<Msg>>,
     /// What goes out at each output.
@@ -72,10 +72,7 @@ pub fn rows_of<'a>(alloc: Global, text: &'a str) -> Result<Vec<Row<'a>>, TableEr
     for line in text.lines() {
         number = number.saturating_add(1);
         if !line.is_empty() && !line.starts_with('#') {
-            read_line(alloc, &mut rows, number, line).map_err(|error| match error {
-                WordError::Unread => TableError::Line(number),
-                WordError::NoMemory => TableError::NoMemory,
-            })?;
+            read_line(alloc, &mut rows, number, line).map_err(|error| at_line(number, error))?;
         }
     }
     if rows.is_empty() {
@@ -89,6 +86,22 @@ pub fn rows_of<'a>(alloc: Global, text: &'a str) -> Result<Vec<Row<'a>>, TableEr
     Ok(rows)
 }
 
+/// The node of a row.
+pub fn node_in(alloc: Global, row: &Row<'_>) -> Result<StreamNode, TableError> {
+    node_of(alloc, row.node, AT).map_err(|error| at_line(row.line, error))
+}
+
+// The place of each node in the program text.
+const AT: usize = 7;
+
+// Why the words of this line stand for nothing.
+fn at_line(line: usize, error: WordError) -> TableError {
+    match error {
+        WordError::Unread => TableError::Line(line),
+        WordError::NoMemory => TableError::NoMemory,
+    }
+}
+
 // Takes one line into the rows.
 fn read_line<'a>(
     alloc: Global,
@@ -98,7 +111,7 @@ fn read_line<'a>(
 ) -> Result<(), WordError> {
     let (field, text) = line.split_once(' ').unwrap_or((line, ""));
     if field == "node" {
-        let row = begun(alloc, number, node_of(alloc, text)?);
+        let row = begun(alloc, number, text);
         return Ok(rows.push(row).map_err(AllocError::from)?);
     }
     let row = rows.last_mut().ok_or(WordError::Unread)?;
@@ -117,7 +130,7 @@ fn read_line<'a>(
 }
 
 // A row that begins at this line, with its node alone.
-fn begun<'a>(alloc: Global, line: usize, node: StreamNode) -> Row<'a> {
+fn begun<'a>(alloc: Global, line: usize, node: &'a str) -> Row<'a> {
     Row {
         line,
         node,
@@ -155,8 +168,4 @@ fn end_of(field: &str, text: &str) -> Result<Want, WordError> {
         }
         _ => Err(WordError::Unread),
     }
-}
-
-fn number_of(word: &str) -> Result<usize, WordError> {
-    word.parse::<usize>().map_err(|_| WordError::Unread)
 }

@@ -1,55 +1,25 @@
 // When a scan adds: with the element that the sum is written for, and not with its flag. So in a graph the fault of the
 // element is named.
 
-ghost use Rattle.std.specs.Prelude.{IfOk};
-ghost use Rattle.flow_graph.specs.Graphs.{states_of};
-ghost use Rattle.flow_graph.specs.Networks.{AreOpened};
-ghost use Rattle.flow_nodes.specs.StreamNodes.{node_behaviour};
-
-use crate::building::{add, add_source, built, empty, join_all};
 use crate::driving::{WAYS, driven};
-use flow_base::Node;
 use flow_drive::Outcome;
-use flow_edges::Kind;
-use flow_graph::Graph;
-use flow_nodes::StreamNode;
-use flow_scalar::{Binary, ScanAdd, Sink, Source, Stream};
-use snesl_operators::BinaryOperator;
-use snesl_values::{Dialect, Fault, FaultKind};
-use std::alloc::Global;
+use snesl_values::{Fault, FaultKind};
 use std::test::Fail;
 
 // The sums at offset 0 of the quotients at offset 35, of which the third has no value, and its sum neither.
-fn scan_of_quotients(alloc: Global) -> Result<Graph<StreamNode>, Fail>
-    ensures { IfOk result (λ graph. AreOpened node_behaviour (states_of graph)) }
-{
-    let mut builder = empty(alloc);
-    let flags = Stream::Bools([false, false, false, true].to_vec(alloc)?);
-    add(&mut builder, StreamNode::Source(Source::new(alloc, flags)))?;
-    add_source(alloc, &mut builder, &[9_223_372_036_854_775_807, 1, 1])?;
-    add_source(alloc, &mut builder, &[1, 1, 0])?;
-    add(
-        &mut builder,
-        StreamNode::Binary(Node::new(Binary::new(Dialect::One, BinaryOperator::Divide), 35)),
-    )?;
-    add(
-        &mut builder,
-        StreamNode::ScanAdd(Node::new(ScanAdd::new(Dialect::One), 0)),
-    )?;
-    add(
-        &mut builder,
-        StreamNode::Sink(Node::new(Sink::new(Kind::Int), 0)),
-    )?;
-    let edges = [
-        ((0, 0), (4, 0)),
-        ((1, 0), (3, 0)),
-        ((2, 0), (3, 1)),
-        ((3, 0), (4, 1)),
-        ((4, 0), (5, 0)),
-    ];
-    join_all(&mut builder, &edges)?;
-    built(builder)
-}
+const SCAN_OF_QUOTIENTS: &str = r"
+node 0 source bools F F F T
+node 0 source ints 9223372036854775807 1 1
+node 0 source ints 1 1 0
+node 35 binary one divide
+node 0 scan_add one
+node 0 sink int
+edge 0.0 4.0
+edge 1.0 3.0
+edge 2.0 3.1
+edge 3.0 4.1
+edge 4.0 5.0
+";
 
 #[test]
 fn names_the_fault_of_the_element(rt: HostRuntime) -> Result<(), Fail> {
@@ -59,9 +29,8 @@ fn names_the_fault_of_the_element(rt: HostRuntime) -> Result<(), Fail> {
     };
     for capacity in [1, 4] {
         for way in WAYS {
-            let graph = scan_of_quotients(rt.alloc())?;
-            let rested = driven(&rt, rt.alloc(), graph, capacity, way)?;
-            assert_eq!(rt; rested.outcome(), Outcome::Fault(divide));
+            let told = driven(&rt, rt.alloc(), SCAN_OF_QUOTIENTS, capacity, way)?;
+            assert_eq!(rt; told.outcome, Outcome::Fault(divide));
         }
     }
     Ok(())

@@ -1,7 +1,7 @@
 // Each transducer by itself, through its trait: the rows of the tables in `tables/`, as `rows.rt` reads them.
 
 use crate::feeding::assert_carries;
-use crate::rows::{TableError, rows_of};
+use crate::rows::{TableError, node_in, rows_of};
 use crate::tables::{PRINT, SCALARS, SEGMENTS, VALUES};
 use std::alloc::Global;
 use std::process::Abort;
@@ -10,7 +10,7 @@ use std::test::Fail;
 // Asserts that each node of a table carries what its row tells.
 fn assert_rows(rt: &impl Abort, alloc: Global, table: &str) -> Result<(), Fail> {
     for row in rows_of(alloc, table)? {
-        assert_carries(rt, alloc, row)?;
+        assert_carries(rt, alloc, node_in(alloc, &row)?, row)?;
     }
     Ok(())
 }
@@ -35,10 +35,26 @@ fn print(rt: HostRuntime) -> Result<(), Fail> {
     assert_rows(&rt, rt.alloc(), PRINT)
 }
 
+// The line of a table that is refused, as a line or for the node of its row. 0 where none is.
+fn refused_line(alloc: Global, table: &str) -> usize {
+    match read(alloc, table) {
+        Err(TableError::Line(line)) => line,
+        _ => 0,
+    }
+}
+
+// Reads a table and the node of each row.
+fn read(alloc: Global, table: &str) -> Result<(), TableError> {
+    for row in &rows_of(alloc, table)? {
+        node_in(alloc, row)?;
+    }
+    Ok(())
+}
+
 #[test]
 fn refused_tables(rt: HostRuntime) {
     let alloc = rt.alloc();
-    assert!(rt; matches!(rows_of(alloc, "# a remark\n"), Err(TableError::Empty)));
+    assert!(rt; matches!(read(alloc, "# a remark\n"), Err(TableError::Empty)));
     let tables = [
         ("in .\nnode iota\nends", 1),
         ("node iotas\nends", 1),
@@ -50,12 +66,12 @@ fn refused_tables(rt: HostRuntime) {
         ("node iota\nends\nends", 3),
     ];
     for (table, wanted) in tables {
-        let line = match rows_of(alloc, table) {
-            Err(TableError::Line(line)) => line,
-            _ => 0,
-        };
-        assert_eq!(rt; line, wanted, "in {table}");
+        assert_eq!(rt; refused_line(alloc, table), wanted, "in {table}");
     }
-    let rows = rows_of(alloc, "node iota\nin .");
-    assert!(rt; matches!(rows, Err(TableError::Unfinished(1))));
+    assert!(rt;
+        matches!(
+            read(alloc, "node iota\nin ."),
+            Err(TableError::Unfinished(1))
+        )
+    );
 }

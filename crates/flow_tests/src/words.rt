@@ -101,6 +101,11 @@ fn boxed(alloc: Global, types: &mut Vec<Ty>) -> Result<Box<Ty>, WordError> {
     Ok(Box::new(alloc, ty).map_err(AllocError::from)?)
 }
 
+/// The number of a decimal word.
+pub fn number_of(word: &str) -> Result<usize, WordError> {
+    word.parse::<usize>().map_err(|_| WordError::Unread)
+}
+
 /// The kind of items of this name.
 pub fn kind_named(word: &str) -> Result<Kind, WordError> {
     Ok(match word {

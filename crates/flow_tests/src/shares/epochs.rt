@@ -5,7 +5,7 @@ ghost use Rattle.flow_graph.specs.Graphs.{states_of};
 ghost use Rattle.flow_graph.specs.Networks.{AreOpened};
 ghost use Rattle.flow_opening.specs.Settings.{Setting, setting_of};
 
-use crate::building::sum_of_five;
+use crate::sketches::{SUM_OF_FIVE, graph_of};
 use flow_base::Transducer;
 use flow_drive::{Config, Drive, NoGate, Sharing, deal};
 use flow_epochs::epoch;
@@ -64,7 +64,7 @@ fn two_epochs_of_three_shares(rt: HostRuntime) -> Result<(), Fail> {
         },
         drive: Drive::Rings,
     };
-    let back = two_epochs(&rt, alloc, sum_of_five(alloc)?, &config)?;
+    let back = two_epochs(&rt, alloc, graph_of(alloc, SUM_OF_FIVE)?, &config)?;
     assert_eq!(rt; back, Some(3));
     Ok(())
 }

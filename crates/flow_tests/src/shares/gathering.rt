@@ -2,24 +2,22 @@
 
 ghost use Rattle.flow_graph.specs.Graphs.{states_of};
 ghost use Rattle.flow_graph.specs.Networks.{AreOpened};
+ghost use Rattle.flow_nodes.specs.StreamNodes.{node_behaviour};
 
-use crate::building::sum_of_five;
+use crate::driving::driven_under;
 use crate::shares::regathering::dealt_and_gathered;
-use flow_base::Transducer;
-use flow_drive::{Config, Drive, NoGate, Outcome, Sharing, drive};
+use crate::sketches::{SUM_OF_FIVE, graph_of};
+use flow_drive::{Config, Drive, Outcome, Sharing};
 use flow_graph::Graph;
+use flow_nodes::StreamNode;
 use std::alloc::Global;
-use std::sync::Arc;
+use std::process::Abort;
 use std::test::Fail;
 use std::thread::Threads;
 
 // How the graph comes out, driven in one thread.
-fn outcome_of<T: Transducer + Send + Drop + 'static>(
-    rt: &impl Threads,
-    alloc: Global,
-    graph: Graph<T>,
-) -> Result<Outcome, Fail>
-    requires { AreOpened T.behaviour (states_of graph) }
+fn outcome_of(rt: &impl Threads, alloc: Global, graph: Graph<StreamNode>) -> Result<Outcome, Fail>
+    requires { AreOpened node_behaviour (states_of graph) }
 {
     let config = Config {
         capacity: 1,
@@ -31,14 +29,14 @@ fn outcome_of<T: Transducer + Send + Drop + 'static>(
         },
         drive: Drive::Serial,
     };
-    let rested = drive(rt, alloc, graph, &config, Arc::new(alloc, NoGate)?)?;
-    Ok(rested.outcome())
+    Ok(driven_under(rt, alloc, graph, &config)?.outcome)
 }
 
 #[test]
 fn graph_comes_back(rt: HostRuntime) -> Result<(), Fail> {
     let alloc = rt.alloc();
-    let (graph, counts) = dealt_and_gathered(alloc, sum_of_five(alloc)?, 3, &[2u8, 0, 2])?;
+    let sum = graph_of(alloc, SUM_OF_FIVE)?;
+    let (graph, counts) = dealt_and_gathered(alloc, sum, 3, &[2u8, 0, 2])?;
     assert_eq!(rt; counts.as_slice(), [2, 0, 3].as_slice());
     assert_eq!(rt; (graph.nodes(), graph.edges()), (5, 5));
     assert_eq!(rt; outcome_of(&rt, alloc, graph)?, Outcome::Value);

@@ -3,7 +3,7 @@
 ghost use Rattle.flow_graph.specs.Graphs.{states_of};
 ghost use Rattle.flow_graph.specs.Networks.{AreOpened};
 
-use crate::building::sum_of_five;
+use crate::sketches::{SUM_OF_FIVE, graph_of};
 use flow_base::Transducer;
 use flow_boxes::Boxes;
 use flow_drive::{Config, Drive, NoGate, Sharing, deal};
@@ -55,7 +55,7 @@ fn pumped<T: Transducer + Drop, E: Opening + Drop>(
 
 #[test]
 fn share_over_boxes_is_not_spent(rt: HostRuntime) -> Result<(), Fail> {
-    let graph = sum_of_five(rt.alloc())?;
+    let graph = graph_of(rt.alloc(), SUM_OF_FIVE)?;
     let mut ends = pumped::<StreamNode, Boxes>(&rt, rt.alloc(), graph)?;
     // The source has put its one message on the only edge that it writes.
     assert!(rt; ends.has_writer(0) && !ends.has_reader(0));
@@ -65,7 +65,7 @@ fn share_over_boxes_is_not_spent(rt: HostRuntime) -> Result<(), Fail> {
 
 #[test]
 fn share_over_rings_is_not_spent(rt: HostRuntime) -> Result<(), Fail> {
-    let graph = sum_of_five(rt.alloc())?;
+    let graph = graph_of(rt.alloc(), SUM_OF_FIVE)?;
     let ends = pumped::<StreamNode, Rings>(&rt, rt.alloc(), graph)?;
     assert!(rt; ends.has_writer(0) && !ends.has_reader(0));
     Ok(())

@@ -1,7 +1,0 @@
-use Rattle.flow_graph.specs.Graphs.{states_so_far}
-use Rattle.flow_graph.specs.Networks.{AreOpened}
-use Rattle.flow_nodes.specs.StreamNodes.{node_behaviour}
-use Rattle.flow_tests.proofs.building.join_all.Given as goal
-
-abbrev pub invariant-loop-writer : goal.invariant-loop-writer
-invariant-loop-writer l = AreOpened node_behaviour (states_so_far l.builder)
