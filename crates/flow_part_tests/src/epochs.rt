@@ -2,7 +2,7 @@
 ghost use Rattle.std.specs.Prelude.{◌≡◌, false, length, IfOk};
 ghost use Rattle.std.specs.List.{All};
 
-use crate::shares::bare;
+use crate::shares::two_bare;
 use flow_base::Transducer;
 use flow_epochs::run_epochs;
 use flow_rings::Rings;
@@ -35,10 +35,7 @@ fn run_bare<
 fn shares_without_nodes_rest_without_an_epoch(rt: HostRuntime) -> Result<(), Fail> {
     let alloc = rt.alloc();
     let gate = Arc::new(alloc, NoGate)?;
-    let mut shares = Vec::with_capacity(alloc, 2)?;
-    shares.push(bare(alloc, 7)?)?;
-    shares.push(bare(alloc, 3)?)?;
-    let (back, count) = run_bare(&rt, alloc, shares, &gate)?;
+    let (back, count) = run_bare(&rt, alloc, two_bare(alloc)?, &gate)?;
     assert_eq!(rt; count, 0);
     assert_eq!(rt; back.len(), 2);
     assert_eq!(rt; back[0].number(), 7);

@@ -12,6 +12,10 @@ mod epochs;
 #[cfg(test)]
 mod meetings;
 #[cfg(test)]
+mod messages;
+#[cfg(test)]
+mod opened;
+#[cfg(test)]
 mod opening;
 #[cfg(test)]
 mod rings;

@@ -1,136 +1,74 @@
-// Shares whose ends are crossed, and a share with an edge of its own.
-ghost use Rattle.std.specs.Prelude.{◌≡◌, length, slice_index_or, IfOk};
-ghost use Rattle.flow_meetings.specs.BoxMeetings.{BoxesJoin};
-ghost use Rattle.flow_meetings.specs.RingMeetings.{RingsJoin};
+// Shares whose ends are crossed, and a share with an edge of its own: what goes over their edges.
+ghost use Rattle.std.specs.Prelude.{◌≡◌, ◌<◌, ℕ, true, length, slice_index_or};
 
+use crate::messages::{is_message, message};
+use crate::opened::{lone, own_wire, wires};
 use flow_boxes::Boxes;
-use flow_edges::{Item, Msg};
-use flow_meetings::{Meeting, Wire, meet_all};
-use flow_rings::{Rings, edge};
+use flow_edges::Msg;
+use flow_meetings::{Meeting, meet_all};
+use flow_opening::{Opening, open_all};
+use flow_rings::Rings;
 use std::alloc::{AllocError, Global};
 use std::test::Fail;
 
-// Edge 0 goes from the first share to the second, and edge 1 back. A message is put on each.
-fn put_both<E: Meeting>(left: &mut E, right: &mut E)
-    requires there { E.joins left.old right.old 0 }
-    requires back { E.joins right.old left.old 1 }
-    ensures there { E.joins left.new right.new 0 }
-    ensures back { E.joins right.new left.new 1 }
+// Puts a message on an edge, whatever comes of it.
+fn put_at<E: Meeting>(ends: &mut [E], share: usize, edge: usize, message: Msg)
+    requires there { share < length ends.old }
+    requires writes { (d : _) → (E.view (slice_index_or ends.old share d)).writes edge ≡ true }
+    ensures { (s : ℕ) (d : _) → s < length ends.old → E.same (slice_index_or ends.old s d) (slice_index_or ends.new s d) }
 {
-    let _ = left.put(0, Msg::Item(Item::Unit));
-    let _ = right.put(1, Msg::End);
+    let _ = ends[share].put(edge, message);
 }
 
-// Both edges meet. What the second and the first share then take are returned.
-fn take_both<E: Meeting>(shares: &mut [E]) -> (Option<Msg>, Option<Msg>)
-    requires count { length shares.old ≡ 2 }
-    requires there { (d : _) → E.joins (slice_index_or shares.old 0 d) (slice_index_or shares.old 1 d) 0 }
-    requires back { (d : _) → E.joins (slice_index_or shares.old 1 d) (slice_index_or shares.old 0 d) 1 }
+// Whether the message of this number is certain to come over an edge, whose reader is there.
+fn takes<E: Meeting>(ends: &mut [E], share: usize, edge: usize, number: Option<i128>) -> bool
+    requires { share < length ends.old }
 {
-    let there = Wire {
-        writer: 0,
-        reader: 1,
-    };
-    let back = Wire {
-        writer: 1,
-        reader: 0,
-    };
-    meet_all(shares, &[there, back]);
-    let came = shares[1].take(0);
-    let came_back = shares[0].take(1);
-    (came, came_back)
+    ends[share].has_reader(edge) && is_message(ends[share].take(edge), number)
 }
 
-// Edge 0 goes from a share to itself. What it takes after a meeting is returned.
-fn pass_on<E: Meeting>(shares: &mut [E]) -> Option<Msg>
-    requires count { length shares.old ≡ 1 }
-    requires own { (d : _) → E.joins (slice_index_or shares.old 0 d) (slice_index_or shares.old 0 d) 0 }
+// Whether what is put on each of two edges, from one share to the other and back, comes over it after a meeting.
+fn pass_each_way<E: Meeting>(ends: &mut [E]) -> bool
+    requires count { length ends.old ≡ 2 }
+    requires there { (d : _) → E.joins (slice_index_or ends.old 0 d) (slice_index_or ends.old 1 d) 0 }
+    requires back { (d : _) → E.joins (slice_index_or ends.old 1 d) (slice_index_or ends.old 0 d) 1 }
 {
-    let own = Wire {
-        writer: 0,
-        reader: 0,
-    };
-    let _ = shares[0].put(0, Msg::End);
-    meet_all(shares, &[own]);
-    shares[0].take(0)
+    put_at(ends, 0, 0, message(Some(1)));
+    put_at(ends, 1, 1, message(None));
+    meet_all(ends, &wires());
+    takes(ends, 1, 0, Some(1)) && takes(ends, 0, 1, None)
 }
 
-fn crossed_boxes(alloc: Global) -> Result<(Boxes, Boxes), AllocError>
-    ensures there { IfOk result (λ shares. BoxesJoin shares.0 shares.1 0) }
-    ensures back { IfOk result (λ shares. BoxesJoin shares.1 shares.0 1) }
+fn open_and_pass<E: Opening + Drop>(alloc: Global) -> Result<bool, AllocError> {
+    let mut ends: Vec<E> = open_all(alloc, 2, &wires(), 1)?;
+    Ok(pass_each_way(&mut ends))
+}
+
+// Whether what is put on the edge of one share comes over it after a meeting.
+fn pass_on<E: Meeting>(ends: &mut [E]) -> bool
+    requires count { length ends.old ≡ 1 }
+    requires own { (d : _) → E.joins (slice_index_or ends.old 0 d) (slice_index_or ends.old 0 d) 0 }
 {
-    let mut left = Boxes::new(alloc, 2, 1)?;
-    let mut right = Boxes::new(alloc, 2, 1)?;
-    left.open_writer(alloc, 0)?;
-    right.open_reader(alloc, 0)?;
-    right.open_writer(alloc, 1)?;
-    left.open_reader(alloc, 1)?;
-    Ok((left, right))
-}
-
-fn lone_boxes(alloc: Global) -> Result<Boxes, AllocError>
-    ensures { IfOk result (λ share. BoxesJoin share share 0) }
-{
-    let mut share = Boxes::new(alloc, 1, 1)?;
-    share.open_writer(alloc, 0)?;
-    share.open_reader(alloc, 0)?;
-    Ok(share)
-}
-
-fn crossed_rings(alloc: Global) -> Result<(Rings, Rings), AllocError>
-    ensures there { IfOk result (λ shares. RingsJoin shares.0 shares.1 0) }
-    ensures back { IfOk result (λ shares. RingsJoin shares.1 shares.0 1) }
-{
-    let mut left = Rings::none(alloc, 2)?;
-    let mut right = Rings::none(alloc, 2)?;
-    let (writer, reader) = edge(alloc, 1)?;
-    left.put_writer(0, writer);
-    right.put_reader(0, reader);
-    let (writer, reader) = edge(alloc, 1)?;
-    right.put_writer(1, writer);
-    left.put_reader(1, reader);
-    Ok((left, right))
-}
-
-fn is_end(message: Option<Msg>) -> bool {
-    matches!(message, Some(Msg::End))
-}
-
-fn is_unit(message: Option<Msg>) -> bool {
-    matches!(message, Some(Msg::Item(Item::Unit)))
+    put_at(ends, 0, 0, message(None));
+    meet_all(ends, &own_wire());
+    takes(ends, 0, 0, None)
 }
 
 #[test]
-fn crossed_boxes_meet(rt: HostRuntime) -> Result<(), Fail> {
-    let (mut left, mut right) = crossed_boxes(rt.alloc())?;
-    put_both(&mut left, &mut right);
-    let mut shares = Vec::new(rt.alloc());
-    shares.push(left)?;
-    shares.push(right)?;
-    let (there, back) = take_both(&mut shares);
-    assert!(rt; is_unit(there));
-    assert!(rt; is_end(back));
+fn boxes_of_two_shares_meet(rt: HostRuntime) -> Result<(), Fail> {
+    assert!(rt; open_and_pass::<Boxes>(rt.alloc())?);
+    Ok(())
+}
+
+#[test]
+fn rings_of_two_shares_meet(rt: HostRuntime) -> Result<(), Fail> {
+    assert!(rt; open_and_pass::<Rings>(rt.alloc())?);
     Ok(())
 }
 
 #[test]
 fn boxes_of_one_share_meet(rt: HostRuntime) -> Result<(), Fail> {
-    let share = lone_boxes(rt.alloc())?;
-    let mut shares = Vec::new(rt.alloc());
-    shares.push(share)?;
-    assert!(rt; is_end(pass_on(&mut shares)));
-    Ok(())
-}
-
-#[test]
-fn crossed_rings_meet(rt: HostRuntime) -> Result<(), Fail> {
-    let (mut left, mut right) = crossed_rings(rt.alloc())?;
-    put_both(&mut left, &mut right);
-    let mut shares = Vec::new(rt.alloc());
-    shares.push(left)?;
-    shares.push(right)?;
-    let (there, back) = take_both(&mut shares);
-    assert!(rt; is_unit(there));
-    assert!(rt; is_end(back));
+    let mut shares = vec![in rt.alloc(); lone::<Boxes>(rt.alloc())?]?;
+    assert!(rt; pass_on(&mut shares));
     Ok(())
 }

@@ -1,5 +1,6 @@
 // Shares without nodes.
 ghost use Rattle.std.specs.Prelude.{◌≡◌, false, length, IfOk};
+ghost use Rattle.std.specs.List.{All};
 
 use flow_edges::Table;
 use flow_graph::Placed;
@@ -10,12 +11,20 @@ use std::alloc::{AllocError, Global};
 use std::cell::Cell;
 use std::test::Fail;
 
-/// A share over rings.
-pub fn bare(alloc: Global, number: usize) -> Result<Share<Source, Rings>, AllocError>
+// A share over rings.
+fn bare(alloc: Global, number: usize) -> Result<Share<Source, Rings>, AllocError>
     ensures fed { IfOk result (λ share. share.starved ≡ false) }
     ensures none { IfOk result (λ share. length share.nodes.items ≡ 0) }
 {
     Ok(Share::new(number, Vec::new(alloc), Rings::none(alloc, 0)?))
+}
+
+/// The shares of numbers 7 and 3.
+pub fn two_bare(alloc: Global) -> Result<Vec<Share<Source, Rings>>, AllocError>
+    ensures fed { IfOk result (λ shares. All (λ share. share.starved ≡ false) shares.items) }
+    ensures none { IfOk result (λ shares. All (λ share. length share.nodes.items ≡ 0) shares.items) }
+{
+    Ok(vec![in alloc; bare(alloc, 7)?, bare(alloc, 3)?]?)
 }
 
 /// Counts the turns of the share with number 3.

@@ -1,4 +1,4 @@
-use crate::shares::bare;
+use crate::shares::two_bare;
 use flow_shares::NoGate;
 use flow_workers::run_all;
 use std::sync::Arc;
@@ -8,10 +8,7 @@ use std::test::Fail;
 fn two_shares_come_back_in_order(rt: HostRuntime) -> Result<(), Fail> {
     let alloc = rt.alloc();
     let gate = Arc::new(alloc, NoGate)?;
-    let mut shares = Vec::with_capacity(alloc, 2)?;
-    shares.push(bare(alloc, 7)?)?;
-    shares.push(bare(alloc, 3)?)?;
-    let back = run_all(&rt, alloc, shares, 1, 1, &gate)?;
+    let back = run_all(&rt, alloc, two_bare(alloc)?, 1, 1, &gate)?;
     assert_eq!(rt; back.len(), 2);
     assert_eq!(rt; back[0].number(), 7);
     assert_eq!(rt; back[1].number(), 3);

@@ -1,53 +1,92 @@
-use crate::crossing::numbers::{is_number, number};
-use flow_edges::{Msg, Refused, Why};
-use flow_rings::{Held, edge, meet};
+// Both ends of an edge in one thread, by steps.
+ghost use Rattle.std.specs.Prelude.{◌<◌, ◌≤◌};
+ghost use Rattle.flow_edges.specs.Limits.{greatest_capacity};
+ghost use Rattle.flow_rings.specs.Edge.{IsEdge};
+
+use crate::messages::{is_message, is_refused, message};
+use flow_edges::Why;
+use flow_rings::{EdgeReader, EdgeWriter, Held, edge, meet, same_ends_are_an_edge};
+use std::alloc::{AllocError, Global};
+use std::process::Abort;
 use std::test::Fail;
 
-// The message that came back for this cause.
-fn refused(answer: Result<(), Refused>, cause: Why) -> Option<Msg> {
-    match answer {
-        Ok(()) => None,
-        Err(refused) => {
-            if refused.why == cause {
-                Some(refused.message)
-            } else {
-                None
-            }
-        }
+// What is done at an edge, and what is to come of it. A message is a number, or `End` where there is none.
+#[derive(Clone, Copy)]
+enum Step {
+    Puts(Option<i128>),
+    // It is refused for this cause, and comes back.
+    IsRefused(Option<i128>, Why),
+    Takes(Option<i128>),
+    TakesNothing,
+    Meets(Held),
+    HasRoom(bool),
+    IsReady(bool),
+}
+
+// Makes a step. Whether what is to come of it comes.
+fn goes(writer: &mut EdgeWriter, reader: &mut EdgeReader, step: Step) -> bool
+    requires { IsEdge writer.old reader.old }
+    ensures { IsEdge writer.new reader.new }
+{
+    same_ends_are_an_edge();
+    match step {
+        Step::Puts(of) => writer.put(message(of)).is_ok(),
+        Step::IsRefused(of, cause) => is_refused(writer.put(message(of)), of, cause),
+        Step::Takes(of) => is_message(reader.take(), of),
+        Step::TakesNothing => reader.take().is_none(),
+        Step::Meets(held) => meet(writer, reader) == held,
+        Step::HasRoom(room) => writer.room() == room,
+        Step::IsReady(ready) => reader.ready() == ready,
     }
+}
+
+// Asserts that these steps go one after another over a new edge of this capacity.
+fn assert_goes(
+    rt: &impl Abort,
+    alloc: Global,
+    capacity: usize,
+    steps: &[Step],
+) -> Result<(), AllocError>
+    requires some { 0 < capacity }
+    requires limit { capacity ≤ greatest_capacity }
+{
+    let (mut writer, mut reader) = edge(alloc, capacity)?;
+    for (number, &step) in steps.iter().enumerate() {
+        assert!(rt; goes(&mut writer, &mut reader, step), "step {number}");
+    }
+    Ok(())
 }
 
 #[test]
 fn two_messages_fill_an_edge_of_two(rt: HostRuntime) -> Result<(), Fail> {
-    let (mut writer, mut reader) = edge(rt.alloc(), 2)?;
-    assert!(rt; writer.put(number(1)).is_ok());
-    assert!(rt; writer.put(number(2)).is_ok());
-    assert_eq!(rt; meet(&mut writer, &mut reader), Held { count: 2, room: 0 });
-    let back = refused(writer.put(number(3)), Why::Full);
-    assert!(rt; is_number(back.as_ref(), 3));
-    assert!(rt; !writer.room());
-    assert!(rt; reader.ready());
-    assert!(rt; is_number(reader.take().as_ref(), 1));
-    assert!(rt; is_number(reader.take().as_ref(), 2));
-    assert!(rt; reader.take().is_none());
-    assert!(rt; !reader.ready());
-    assert_eq!(rt; meet(&mut writer, &mut reader), Held { count: 0, room: 2 });
-    assert!(rt; writer.room());
-    assert!(rt; writer.put(Msg::End).is_ok());
-    let back = refused(writer.put(number(4)), Why::Closed);
-    assert!(rt; is_number(back.as_ref(), 4));
-    assert_eq!(rt; meet(&mut writer, &mut reader), Held { count: 1, room: 1 });
-    assert!(rt; matches!(reader.take(), Some(Msg::End)));
-    Ok(())
+    let steps = [
+        Step::Puts(Some(1)),
+        Step::Puts(Some(2)),
+        Step::Meets(Held { count: 2, room: 0 }),
+        Step::IsRefused(Some(3), Why::Full),
+        Step::HasRoom(false),
+        Step::IsReady(true),
+        Step::Takes(Some(1)),
+        Step::Takes(Some(2)),
+        Step::TakesNothing,
+        Step::IsReady(false),
+        Step::Meets(Held { count: 0, room: 2 }),
+        Step::HasRoom(true),
+        Step::Puts(None),
+        Step::IsRefused(Some(4), Why::Closed),
+        Step::Meets(Held { count: 1, room: 1 }),
+        Step::Takes(None),
+    ];
+    Ok(assert_goes(&rt, rt.alloc(), 2, &steps)?)
 }
 
 #[test]
 fn end_waits_for_room_too(rt: HostRuntime) -> Result<(), Fail> {
-    let (mut writer, mut reader) = edge(rt.alloc(), 1)?;
-    assert!(rt; writer.put(number(1)).is_ok());
-    let back = refused(writer.put(Msg::End), Why::Full);
-    assert!(rt; matches!(back, Some(Msg::End)));
-    assert_eq!(rt; meet(&mut writer, &mut reader), Held { count: 1, room: 0 });
-    assert!(rt; is_number(reader.take().as_ref(), 1));
-    Ok(())
+    let steps = [
+        Step::Puts(Some(1)),
+        Step::IsRefused(None, Why::Full),
+        Step::Meets(Held { count: 1, room: 0 }),
+        Step::Takes(Some(1)),
+    ];
+    Ok(assert_goes(&rt, rt.alloc(), 1, &steps)?)
 }

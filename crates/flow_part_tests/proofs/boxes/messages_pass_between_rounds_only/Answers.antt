@@ -11,7 +11,7 @@ carry-requires g c =
     let w3 = contents c.put-3.new.self in
     let r = contents c.in_ok-writer.reader in
     let written = keeps_trans w w1 w3 c.put.ensures.same (keeps_trans w1 w2 w3 c.put-2.ensures.same c.put-3.ensures.same) in
-    reader-linked w3 r (contents c.take.new.self) 0 (writer-linked w w3 r 0 c.in_ok-writer.ensures written) c.take.ensures.same
+    reader-linked w3 r (contents c.take.new.self) 0 (writer-linked w w3 r 0 c.in_ok-writer.ensures.there written) c.take.ensures.same
 
 pub carry-requires-2 : goal.carry-requires-2
 carry-requires-2 g c =

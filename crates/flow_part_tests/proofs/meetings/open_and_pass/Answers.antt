@@ -1,7 +1,7 @@
 use Rattle.std.proofs.Common.{get_or, sym, subst, arith}
 use Rattle.flow_meetings.specs.declared.everywhere.Wire.{Wire}
 use Rattle.flow_opening.specs.Open.{AreFreshEnds}
-use Rattle.flow_part_tests.proofs.opening.open_and_pass.Goals as goal
+use Rattle.flow_part_tests.proofs.meetings.open_and_pass.Goals as goal
 
 pub pass_each_way-requires-clause-there : goal.pass_each_way-requires-clause-there
 pass_each_way-requires-clause-there g c d =

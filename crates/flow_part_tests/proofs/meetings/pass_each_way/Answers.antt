@@ -1,6 +1,6 @@
 use Rattle.std.proofs.Common.{ℕ, ◌<◌, [], ◌∷◌, get_or, arith}
 use Rattle.flow_part_tests.proofs.Two.{below_two}
-use Rattle.flow_part_tests.proofs.opening.pass_each_way.Goals as goal
+use Rattle.flow_part_tests.proofs.meetings.pass_each_way.Goals as goal
 
 pub put_at-requires-clause-writes : goal.put_at-requires-clause-writes
 put_at-requires-clause-writes g c d = (g.met.E.Meeting.join_ends _ _ 0 (c.requires.there d)).0

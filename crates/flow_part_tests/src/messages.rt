@@ -1,0 +1,29 @@
+// Messages of tests, by numbers: a message carries the number, or is `End` where there is none. (What was taken is let go in
+// here, and not in each test.)
+
+use flow_edges::{Item, Msg, Refused, Why};
+
+/// The message of this number, or `End`.
+pub fn message(number: Option<i128>) -> Msg {
+    match number {
+        Some(value) => Msg::Item(Item::Int(value)),
+        None => Msg::End,
+    }
+}
+
+/// Whether a message is there, and is that of this number, or `End`.
+pub fn is_message(taken: Option<Msg>, number: Option<i128>) -> bool {
+    match (taken, number) {
+        (Some(Msg::Item(Item::Int(carried))), Some(value)) => carried == value,
+        (Some(Msg::End), None) => true,
+        _ => false,
+    }
+}
+
+/// Whether the message of this number, or `End`, came back for this cause.
+pub fn is_refused(answer: Result<(), Refused>, number: Option<i128>, cause: Why) -> bool {
+    match answer {
+        Ok(()) => false,
+        Err(refused) => refused.why == cause && is_message(Some(refused.message), number),
+    }
+}
