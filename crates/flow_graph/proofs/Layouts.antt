@@ -2,9 +2,10 @@
 use Rattle.std.proofs.Common.{◌≡◌, ℕ, suc, ◌<◌, List, [], ◌∷◌, length, get_or, map, refl, sym, ◌∙◌, ap, arith}
 use Rattle.flow_base.specs.Transducers.{BehaviourLaws}
 use Rattle.flow_base.specs.declared.transducer.Transducer.{Ghosts}
+use Rattle.flow_graph.specs.declared.edge.Edge.{Edge}
 use Rattle.flow_graph.specs.declared.placed.Placed.{Placed}
 use Rattle.flow_graph.specs.Places.{number_at, placed_state, states_in}
-use Rattle.flow_graph.specs.Layouts.{LaterFit}
+use Rattle.flow_graph.specs.Layouts.{FitTogether, AreSamePlaces}
 use Rattle.flow_graph.proofs.Reached.{built_openings}
 
 -- lists that f does not tell apart
@@ -19,6 +20,10 @@ map_same f (x ∷ xs) (y ∷ ys) even same =
 map_both : {X Y Z : Type 0} (f : X → Y) (g : Y → Z) (xs : List X) → map g (map f xs) ≡ map (λ x. g (f x)) xs
 map_both f g [] = refl
 map_both f g (x ∷ xs) = ap (λ zs. g (f x) ∷ zs) (map_both f g xs)
+
+-- what fits together still does later
+abbrev pub LaterFit : {X : Type 0} → Ghosts X → Type 0
+LaterFit {X} t = (nodes later : List (Placed X t)) (edges : List Edge) → FitTogether nodes edges → AreSamePlaces nodes later → FitTogether later edges
 
 pub later_fit : {X : Type 0} {t : Ghosts X} → BehaviourLaws t.behaviour → LaterFit t
 later_fit {X} {t} laws nodes later edges fit same = record {

@@ -26,7 +26,3 @@ module _ {X : Type 0} {t : Ghosts X} where
   pub record AreSamePlaces (nodes later : List (Placed X t)) : Type 0 where
     pub count : length later ≡ length nodes
     pub each : (k : ℕ) (d : Placed X t) → k < length nodes → IsSamePlace (slice_index_or nodes k d) (slice_index_or later k d)
-
--- what fits together still does later
-abbrev pub LaterFit : {X : Type 0} → Ghosts X → Type 0
-LaterFit {X} t = (nodes later : List (Placed X t)) (edges : List Edge) → FitTogether nodes edges → AreSamePlaces nodes later → FitTogether later edges
