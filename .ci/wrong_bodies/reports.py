@@ -57,10 +57,9 @@ class Report:
         if not last.startswith("+"):
             return next((it for it in self.functions if folder == it.proofs), None)
         goal = re.match(r"error: `(\w+)-", text)
-        shared = [it for it in self.functions if not it.has_stub]
-        # the folder of one that only calls itself has its name
-        found = [it for it in shared if it.proofs == f"{above}/{last[1:]}"]
-        found = found or [it for it in shared if goal and it.name.rpartition("::")[2] == goal[1]]
+        found = [it for it in self.functions if goal and it.cycle == last[1:] and it.name.rpartition("::")[2] == goal[1]]
+        # one that calls itself alone has its name on the folder
+        found = found or [it for it in self.functions if it.cycle is None and it.proofs == f"{above}/{last[1:]}"]
         return found[0] if len(found) == 1 else None
 
     def misfits(self):
