@@ -1,24 +1,28 @@
 -- Each typed expression means its value.
-use Rattle.std.specs.Prelude.{◌≡◌, ℕ, List, ◌∷◌, ◌++◌, refl}
-use Rattle.std.proofs.Common.{sym, ap, ◌∙◌, subst}
+use Rattle.std.specs.Prelude.{◌≡◌, ℕ, List, [], ◌∷◌, ◌++◌, refl}
+use Rattle.std.proofs.Common.{ap, ◌∙◌, subst}
 use Rattle.snesl_values.specs.declared.dialect.Dialect.{Dialect}
 use Rattle.snesl_values.specs.Types.{Ty, bool}
-use Rattle.snesl_values.specs.Inputs.{Declaration}
+use Rattle.snesl_values.specs.Values.{Value}
+use Rattle.snesl_values.specs.Inputs.{Declaration, Environment}
 use Rattle.snesl_tree.specs.declared.span.Span.{Span}
 use Rattle.snesl_tree.specs.Spelling.{spelling}
 use Rattle.snesl_tree.specs.Tree.{Tree, Trees, both, Binders, binder}
+use Rattle.snesl_evaluation.specs.Answer.{Answer, gives, go}
 use Rattle.snesl_evaluation.specs.Eval.{Calls, eval}
 use Rattle.snesl_types.specs.Contexts.{Context, opened, inside, Signatures}
 use Rattle.snesl_types.specs.Typing.{Types, has_type, Gives, integer_type, truth_type, name_type, binary_type, prefix_type, call_type, apply_type, group_type, pair_type, binding_type, choice_type, literal_type, filter_type, each_type, AllTypes, no_types, more_types, BindersType, no_binders, more_binders, no_condition, condition_type, AllAre}
-use Rattle.snesl_translation.specs.FreeNames.{free}
-use Rattle.snesl_translation.specs.Translation.{Bodies, tr}
+use Rattle.snesl_translation.specs.Wires.{Wires, Bound}
+use Rattle.snesl_translation.specs.Makings.{Making}
+use Rattle.snesl_translation.specs.FreeNames.{Names, free}
+use Rattle.snesl_translation.specs.Translation.{Bodies, single, followed, tr}
 use Rattle.snesl_translation.specs.Sources.{without_items}
 use Rattle.snesl_translation.specs.Theorems.{CallsMean, TypedExpressionsMean}
 use Rattle.snesl_translation.proofs.BuiltinMeanings.{TreeMeans, TreesMean, prefix_means, binary_means, builtin_means}
 use Rattle.snesl_translation.proofs.PlainMeanings.{integer_means, truth_means, variable_means, pair_tree_means, let_means, no_arguments_mean, arguments_mean, apply_means}
 use Rattle.snesl_translation.proofs.Borne.{AreOpen}
 use Rattle.snesl_translation.proofs.UsableNames.{binder_items, free_are_open, both_open}
-use Rattle.snesl_translation.proofs.FormMeanings.{filter_tree_means, ItemsMean, one_item, more_items, BindersMean, no_binders_mean, binder_means, each_tree_means, each_where_tree_means}
+use Rattle.snesl_translation.proofs.FormMeanings.{filter_tree_means, ItemsMean, FurtherMean, SequenceMeans, first_item_means, literal_means, no_further_mean, with_item, item_followed, more_further_mean, BindersMean, no_binders_mean, binder_means, each_tree_means, each_where_tree_means}
 use Rattle.snesl_translation.proofs.Choices.{choice_means}
 
 -- the first item of a comprehension's binders, and the others
@@ -81,10 +85,21 @@ module _ (dialect : Dialect) (text : List ℕ) (functions : Signatures) (calls :
         (subst (λ l. TreeMeans dialect text calls bodies (opened l ++ inside context) body t) same (typed_means h))
 
     items_mean : {context : Context} {trees : Trees} {t : Ty} {ts : List Ty} (at : ℕ) → AllTypes dialect text functions context trees (t ∷ ts) → AllAre t ts → ItemsMean dialect text calls bodies context at trees t
-    items_mean at (more_types {context = context} {first = first} {t = t} h no_types) same = one_item dialect text calls bodies context at first t (free_are_open h) (typed_means h)
-    items_mean at (more_types {context = context} {first = first} {t = t} h (more_types {first = second} {others = others} {t = u} {ts = us} g rest)) (e, same) =
-        let further : ItemsMean dialect text calls bodies context at (both second others) u = items_mean at (more_types g rest) (subst (λ x. AllAre x us) (sym e) same) in
-        more_items dialect text calls bodies context at first second others t (free_are_open h) (typed_means h) (subst (ItemsMean dialect text calls bodies context at (both second others)) e further)
+    items_mean at (more_types {context = context} {first = first} {others = others} {t = t} h rest) same =
+        literal_means dialect text calls bodies context at first others t
+        (further_mean at t (single at (free text first) (tr dialect text bodies first)) (λ environment. go (eval dialect first text calls environment) (λ v. gives (v ∷ []))) (free text first)
+        (first_item_means dialect text calls bodies context at first t (free_are_open h) (typed_means h)) rest same)
+
+    -- items behind a sequence that means this
+    further_mean : {context : Context} {trees : Trees} {ts : List Ty} (at : ℕ) (t : Ty) (sequence : Bound → ℕ → ℕ → Making Wires) (before : Environment → Answer (List Value)) (names : Names)
+        → SequenceMeans dialect text calls bodies context sequence before names t → AllTypes dialect text functions context trees ts → AllAre t ts
+        → FurtherMean dialect text calls bodies context at sequence before names trees t
+    further_mean at t sequence before names means (no_types {context = context}) same = no_further_mean dialect text calls bodies context at sequence before names t means
+    further_mean at t sequence before names means (more_types {context = context} {first = item} {others = others} h rest) (e, same) =
+        let item_means : TreeMeans dialect text calls bodies context item t = subst (TreeMeans dialect text calls bodies context item) e (typed_means h) in
+        more_further_mean dialect text calls bodies context at sequence before names item others t
+        (further_mean at t (followed at sequence (free text item) (tr dialect text bodies item)) (with_item dialect text calls bodies context before item) (names ++ free text item)
+        (item_followed dialect text calls bodies context at sequence before names item t (free_are_open h) means item_means) rest same)
 
     sources_mean : {context : Context} {earlier all : List Declaration} {binders : Binders} (h : BindersType dialect text functions context earlier binders all)
         → BindersMean dialect text calls bodies context binders (binder_items h).0

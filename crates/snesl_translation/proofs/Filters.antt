@@ -1,6 +1,6 @@
 -- Items where truth values are true: filters, and the items of literals.
 use Rattle.std.specs.Prelude.{◌≡◌, ℕ, suc, Bool, true, false, List, [], ◌∷◌, ◌++◌, map, length, replicate, zip, Option, Some, None, option_map, refl}
-use Rattle.std.proofs.Common.{sym, ap, ◌∙◌, subst, append-nil}
+use Rattle.std.proofs.Common.{sym, ap, ◌∙◌, subst}
 use Rattle.snesl_values.specs.declared.dialect.Dialect.TheVariants.{One}
 use Rattle.snesl_values.specs.Types.{Ty, bool, seq}
 use Rattle.snesl_values.specs.Values.{Value, an_int, a_bool, a_pair, a_vec, a_seq}
@@ -25,7 +25,7 @@ use Rattle.snesl_translation.specs.Wires.{Wires, segments, stream_of, Bound}
 use Rattle.snesl_translation.specs.Makings.{Making, done, and_then, stepped}
 use Rattle.snesl_translation.specs.FreeNames.{Names}
 use Rattle.snesl_translation.specs.Moving.{flags_stepped, kept, all_moved}
-use Rattle.snesl_translation.specs.Translation.{appended, units_step, filtered, single}
+use Rattle.snesl_translation.specs.Translation.{appended, units_step, filtered, single, followed}
 use Rattle.snesl_translation.specs.Carrying.{Carries, Makes, given_by, GoesTo}
 use Rattle.snesl_translation.specs.Meaning.{Bears, Means}
 use Rattle.snesl_translation.proofs.Carrying.{grown, then_makes, rest_stops, first_stops, stream_carries}
@@ -231,36 +231,28 @@ module _ (context : Context) (at : ℕ) (t : Ty) where
   single_means names item one usable h =
       filter_means [] names (λ bound control next. stepped at (const (Truth true)) (control ∷ []) bool next) item (λ environment. gives (a_bool true)) one usable (const_means context at (Truth true)) h
 
-  -- that of one item and of no others
-  pub one_item_means : (names : Names) (item : Bound → ℕ → ℕ → Making Wires) (one : Environment → Answer Value) → AreOpen names context
-      → Means item (λ environment. given_by (one environment)) names context t
-      → Means (single at names item) (λ environment. given_by (seq_answer (go (one environment) (λ v. go (gives []) (λ vs. gives (v ∷ vs)))))) (names ++ []) context (seq t)
-  one_item_means names item one usable h =
-      subst (λ names'. Means (single at names item) (λ environment. given_by (seq_answer (go (one environment) (λ v. gives (v ∷ []))))) names' context (seq t)) (sym (append-nil names))
-      (single_means names item one usable h)
-
-  appended_value : (v : Answer Value) (vs : Answer (List Value))
-      → bind (given_by (seq_answer (go v (λ v. gives (v ∷ []))))) (λ a. bind (given_by (seq_answer vs)) (λ b. given_by (append_answer at a b))) ≡ given_by (seq_answer (go v (λ v. go vs (λ vs. gives (v ∷ vs)))))
-  appended_value (faults kind place) vs = refl
-  appended_value (gives v) (faults kind place) = refl
-  appended_value (gives v) (gives vs) = ap (λ l. Some (sequence (v ∷ l))) (list_values vs)
+  appended_value : (before : Answer (List Value)) (one : Answer Value)
+      → bind (given_by (seq_answer before)) (λ a. bind (given_by (seq_answer (go one (λ v. gives (v ∷ []))))) (λ b. given_by (append_answer at a b)))
+      ≡ given_by (seq_answer (go before (λ vs. go one (λ v. gives (vs ++ v ∷ [])))))
+  appended_value (faults kind place) one = refl
+  appended_value (gives vs) (faults kind place) = refl
+  appended_value (gives vs) (gives v) = ap (λ l. Some (sequence (l ++ v ∷ []))) (list_values vs)
 
   append_goes_to : (streams : Columns) (u v : Wires) (ps : List (Value × Value)) → Carries streams u (seq t) (map (λ p. p.0) ps) → Carries streams v (seq t) (map (λ p. p.1) ps)
       → GoesTo streams (seq t) (appended at u v (length streams)) (each (λ p. given_by (append_answer at p.0 p.1)) ps)
   append_goes_to streams u v ps c d =
       subst (GoesTo streams (seq t) (appended at u v (length streams))) (given_all (λ p. append_answer at p.0 p.1) ps) (append_goes One at streams u v t ps c d)
 
-  -- that of one item and of others, whose sequence is made first
-  pub more_items_mean : (names others : Names) (item : Bound → ℕ → ℕ → Making Wires) (items : Bound → ℕ → ℕ → Making Wires) (one : Environment → Answer Value) (rest : Environment → Answer (List Value))
-      → AreOpen names context → Means item (λ environment. given_by (one environment)) names context t → Means items (λ environment. given_by (seq_answer (rest environment))) others context (seq t)
-      → Means (λ bound control next. and_then (single at names item bound control next) (λ u k. and_then (items bound control k) (λ v k. appended at u v k)))
-      (λ environment. given_by (seq_answer (go (one environment) (λ v. go (rest environment) (λ vs. gives (v ∷ vs)))))) (names ++ others) context (seq t)
-  more_items_mean names others item items one rest usable h g =
-      let first : Environment → Option Value = λ environment. given_by (seq_answer (go (one environment) (λ v. gives (v ∷ [])))) in
-      let second : Environment → Option Value = λ environment. given_by (seq_answer (rest environment)) in
-      let translated : Bound → ℕ → ℕ → Making Wires = λ bound control next. and_then (single at names item bound control next) (λ u k. and_then (items bound control k) (λ v k. appended at u v k)) in
-      means_same context (seq t) (names ++ others) translated (λ environment. bind (first environment) (λ a. bind (second environment) (λ b. given_by (append_answer at a b))))
-      (λ environment. given_by (seq_answer (go (one environment) (λ v. go (rest environment) (λ vs. gives (v ∷ vs))))))
-      (λ environment. appended_value (one environment) (rest environment))
-      (both_mean context (seq t) (seq t) (seq t) names others (single at names item) items (λ u v k. appended at u v k) first second (λ a b. given_by (append_answer at a b))
-      (single_means names item one usable h) g append_goes_to)
+  -- that of a sequence and of one item behind it
+  pub followed_means : (names others : Names) (before item : Bound → ℕ → ℕ → Making Wires) (sequences : Environment → Answer (List Value)) (one : Environment → Answer Value)
+      → AreOpen others context → Means before (λ environment. given_by (seq_answer (sequences environment))) names context (seq t) → Means item (λ environment. given_by (one environment)) others context t
+      → Means (followed at before others item)
+      (λ environment. given_by (seq_answer (go (sequences environment) (λ vs. go (one environment) (λ v. gives (vs ++ v ∷ [])))))) (names ++ others) context (seq t)
+  followed_means names others before item sequences one usable h g =
+      let first : Environment → Option Value = λ environment. given_by (seq_answer (sequences environment)) in
+      let second : Environment → Option Value = λ environment. given_by (seq_answer (go (one environment) (λ v. gives (v ∷ [])))) in
+      means_same context (seq t) (names ++ others) (followed at before others item) (λ environment. bind (first environment) (λ a. bind (second environment) (λ b. given_by (append_answer at a b))))
+      (λ environment. given_by (seq_answer (go (sequences environment) (λ vs. go (one environment) (λ v. gives (vs ++ v ∷ []))))))
+      (λ environment. appended_value (sequences environment) (one environment))
+      (both_mean context (seq t) (seq t) (seq t) names others before (single at others item) (λ u v k. appended at u v k) first second (λ a b. given_by (append_answer at a b))
+      h (single_means others item one usable g) append_goes_to)

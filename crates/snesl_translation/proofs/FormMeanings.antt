@@ -1,6 +1,6 @@
 -- Filters, literals and comprehensions as expressions mean what their parts say.
 use Rattle.std.specs.Prelude.{◌≡◌, ℕ, List, [], ◌∷◌, ◌++◌, length, Option, Some, None, option_map, refl}
-use Rattle.std.proofs.Common.{sym, ap, ◌∙◌, subst}
+use Rattle.std.proofs.Common.{sym, ap, ◌∙◌, subst, append-nil, append_assoc}
 use Rattle.snesl_values.specs.declared.dialect.Dialect.{Dialect}
 use Rattle.snesl_values.specs.Types.{Ty, bool, seq}
 use Rattle.snesl_values.specs.Values.{Value}
@@ -19,7 +19,7 @@ use Rattle.snesl_translation.specs.Wires.{Wires, segments, stream_of, Bound}
 use Rattle.snesl_translation.specs.Makings.{Making, done, and_then}
 use Rattle.snesl_translation.specs.FreeNames.{Names, free, free_of_all, free_of_sources, without_binders}
 use Rattle.snesl_translation.specs.Moving.{distributed, all_moved}
-use Rattle.snesl_translation.specs.Translation.{Bodies, Sources, first_flags, in_step, items_bound, units_step, filtered, concatenated, tr, tr_items, tr_binders}
+use Rattle.snesl_translation.specs.Translation.{Bodies, Sources, first_flags, in_step, items_bound, units_step, filtered, concatenated, single, followed, tr, tr_items, tr_further, tr_binders}
 use Rattle.snesl_translation.specs.Carrying.{given_by}
 use Rattle.snesl_translation.specs.Meaning.{Means}
 use Rattle.snesl_translation.specs.Sources.{without_items, SourcesGo, SourcesMean}
@@ -27,7 +27,7 @@ use Rattle.snesl_translation.proofs.Running.{bind_same}
 use Rattle.snesl_translation.proofs.Instances.{given_go, given_all, each_same}
 use Rattle.snesl_translation.proofs.Borne.{AreOpen}
 use Rattle.snesl_translation.proofs.BuiltinMeanings.{means_same, TreeMeans}
-use Rattle.snesl_translation.proofs.Filters.{filter_means, one_item_means, more_items_mean}
+use Rattle.snesl_translation.proofs.Filters.{filter_means, single_means, followed_means}
 use Rattle.snesl_translation.proofs.Binders.{no_sources_mean, more_columns, more_sources_mean}
 use Rattle.snesl_translation.proofs.Comprehensions.{each_means, each_where_means}
 
@@ -91,14 +91,73 @@ module _ (dialect : Dialect) (text : List ℕ) (calls : Calls) (bodies : Bodies)
   abbrev pub ItemsMean : ℕ → Trees → Ty → Type 0
   ItemsMean at items t = Means (tr_items dialect text bodies at items) (λ environment. given_by (seq_answer (eval_all dialect items text calls environment))) (free_of_all text items) context (seq t)
 
-  pub one_item : (at : ℕ) (first : Tree) (t : Ty) → AreOpen (free text first) context → TreeMeans dialect text calls bodies context first t → ItemsMean at (both first none) t
-  one_item at first t usable h = one_item_means context at t (free text first) (tr dialect text bodies first) (λ environment. eval dialect first text calls environment) usable h
+  -- what stands before items, and how it is evaluated
+  abbrev pub FurtherMean : ℕ → (Bound → ℕ → ℕ → Making Wires) → (Environment → Answer (List Value)) → Names → Trees → Ty → Type 0
+  FurtherMean at sequence before names items t =
+      Means (tr_further dialect text bodies at sequence items)
+      (λ environment. given_by (seq_answer (go (before environment) (λ vs. go (eval_all dialect items text calls environment) (λ ws. gives (vs ++ ws)))))) (names ++ free_of_all text items) context (seq t)
 
-  pub more_items : (at : ℕ) (first second : Tree) (others : Trees) (t : Ty) → AreOpen (free text first) context → TreeMeans dialect text calls bodies context first t → ItemsMean at (both second others) t
-      → ItemsMean at (both first (both second others)) t
-  more_items at first second others t usable h g =
-      more_items_mean context at t (free text first) (free_of_all text (both second others)) (tr dialect text bodies first) (tr_items dialect text bodies at (both second others))
-      (λ environment. eval dialect first text calls environment) (λ environment. eval_all dialect (both second others) text calls environment) usable h g
+  abbrev pub SequenceMeans : (Bound → ℕ → ℕ → Making Wires) → (Environment → Answer (List Value)) → Names → Ty → Type 0
+  SequenceMeans sequence before names t = Means sequence (λ environment. given_by (seq_answer (before environment))) names context (seq t)
+
+  -- the first item alone
+  pub first_item_means : (at : ℕ) (first : Tree) (t : Ty) → AreOpen (free text first) context → TreeMeans dialect text calls bodies context first t
+      → SequenceMeans (single at (free text first) (tr dialect text bodies first)) (λ environment. go (eval dialect first text calls environment) (λ v. gives (v ∷ []))) (free text first) t
+  first_item_means at first t usable h = single_means context at t (free text first) (tr dialect text bodies first) (λ environment. eval dialect first text calls environment) usable h
+
+  -- a literal, where its first item with the others behind it means this
+  pub literal_means : (at : ℕ) (first : Tree) (others : Trees) (t : Ty)
+      → FurtherMean at (single at (free text first) (tr dialect text bodies first)) (λ environment. go (eval dialect first text calls environment) (λ v. gives (v ∷ []))) (free text first) others t
+      → ItemsMean at (both first others) t
+  literal_means at first others t h =
+      means_same context (seq t) (free_of_all text (both first others)) (tr_items dialect text bodies at (both first others))
+      (λ environment. given_by (seq_answer (go (go (eval dialect first text calls environment) (λ v. gives (v ∷ []))) (λ vs. go (eval_all dialect others text calls environment) (λ ws. gives (vs ++ ws))))))
+      (λ environment. given_by (seq_answer (eval_all dialect (both first others) text calls environment)))
+      (λ environment. same (eval dialect first text calls environment) (eval_all dialect others text calls environment)) h
+    where
+      same : (one : Answer Value) (rest : Answer (List Value))
+          → given_by (seq_answer (go (go one (λ v. gives (v ∷ []))) (λ vs. go rest (λ ws. gives (vs ++ ws))))) ≡ given_by (seq_answer (go one (λ v. go rest (λ ws. gives (v ∷ ws)))))
+      same (faults kind place) rest = refl
+      same (gives v) rest = refl
+
+  pub no_further_mean : (at : ℕ) (sequence : Bound → ℕ → ℕ → Making Wires) (before : Environment → Answer (List Value)) (names : Names) (t : Ty)
+      → SequenceMeans sequence before names t → FurtherMean at sequence before names none t
+  no_further_mean at sequence before names t h =
+      subst (λ names'. Means sequence (λ environment. given_by (seq_answer (go (before environment) (λ vs. gives (vs ++ []))))) names' context (seq t)) (sym (append-nil names))
+      (means_same context (seq t) names sequence (λ environment. given_by (seq_answer (before environment))) (λ environment. given_by (seq_answer (go (before environment) (λ vs. gives (vs ++ [])))))
+      (λ environment. same (before environment)) h)
+    where
+      same : (answer : Answer (List Value)) → given_by (seq_answer answer) ≡ given_by (seq_answer (go answer (λ vs. gives (vs ++ []))))
+      same (faults kind place) = refl
+      same (gives vs) = ap (λ l. given_by (seq_answer (gives l))) (sym (append-nil vs))
+
+  -- the values of what stands before, with an item behind it
+  abbrev pub with_item : (Environment → Answer (List Value)) → Tree → Environment → Answer (List Value)
+  with_item before item environment = go (before environment) (λ vs. go (eval dialect item text calls environment) (λ v. gives (vs ++ v ∷ [])))
+
+  pub item_followed : (at : ℕ) (sequence : Bound → ℕ → ℕ → Making Wires) (before : Environment → Answer (List Value)) (names : Names) (item : Tree) (t : Ty)
+      → AreOpen (free text item) context → SequenceMeans sequence before names t → TreeMeans dialect text calls bodies context item t
+      → SequenceMeans (followed at sequence (free text item) (tr dialect text bodies item)) (with_item before item) (names ++ free text item) t
+  item_followed at sequence before names item t usable h g =
+      followed_means context at t names (free text item) sequence (tr dialect text bodies item) before (λ environment. eval dialect item text calls environment) usable h g
+
+  pub more_further_mean : (at : ℕ) (sequence : Bound → ℕ → ℕ → Making Wires) (before : Environment → Answer (List Value)) (names : Names) (item : Tree) (others : Trees) (t : Ty)
+      → FurtherMean at (followed at sequence (free text item) (tr dialect text bodies item)) (with_item before item) (names ++ free text item) others t → FurtherMean at sequence before names (both item others) t
+  more_further_mean at sequence before names item others t h =
+      subst (λ names'. Means (tr_further dialect text bodies at sequence (both item others)) (λ environment. given_by (seq_answer (go (before environment) (λ vs. go (eval_all dialect (both item others) text calls environment) (λ ws. gives (vs ++ ws)))))) names' context (seq t))
+      (append_assoc names (free text item) (free_of_all text others))
+      (means_same context (seq t) ((names ++ free text item) ++ free_of_all text others) (tr_further dialect text bodies at sequence (both item others))
+      (λ environment. given_by (seq_answer (go (with_item before item environment) (λ vs. go (eval_all dialect others text calls environment) (λ ws. gives (vs ++ ws))))))
+      (λ environment. given_by (seq_answer (go (before environment) (λ vs. go (eval_all dialect (both item others) text calls environment) (λ ws. gives (vs ++ ws))))))
+      (λ environment. same (before environment) (eval dialect item text calls environment) (eval_all dialect others text calls environment)) h)
+    where
+      same : (answer : Answer (List Value)) (one : Answer Value) (rest : Answer (List Value))
+          → given_by (seq_answer (go (go answer (λ vs. go one (λ v. gives (vs ++ v ∷ [])))) (λ vs. go rest (λ ws. gives (vs ++ ws)))))
+          ≡ given_by (seq_answer (go answer (λ vs. go (go one (λ v. go rest (λ ws. gives (v ∷ ws)))) (λ ws. gives (vs ++ ws)))))
+      same (faults kind place) one rest = refl
+      same (gives vs) (faults kind place) rest = refl
+      same (gives vs) (gives v) (faults kind place) = refl
+      same (gives vs) (gives v) (gives ws) = ap (λ l. given_by (seq_answer (gives l))) (append_assoc vs (v ∷ []) ws)
 
   -- binders
 

@@ -33,3 +33,4 @@ pub mod Filters
 pub mod Choices
 pub mod FormMeanings
 pub mod UsableNames
+pub mod WrittenOut

@@ -3,6 +3,7 @@ pub mod Makings
 pub mod FreeNames
 pub mod Moving
 pub mod Translation
+pub mod Literals
 pub mod Carrying
 pub mod Meaning
 pub mod Sources

@@ -1,6 +1,7 @@
 // What the translation means.
 
 ghost use Rattle.snesl_translation.specs.Theorems.{TypedExpressionsMean, TypedFunctionsMean};
+ghost use Rattle.snesl_translation.specs.Literals.{LiteralSteps, OneItemSteps};
 ghost use Rattle.snesl_translation.specs.Programs.{PlansMean};
 
 /// The law that a typed expression means its value: for any list of environments at once, each an
@@ -19,4 +20,12 @@ pub fn expressions_are_translated()
 /// that fit it, and that the streams which go to its Print then carry that one value.
 pub fn programs_are_planned()
     ensures { PlansMean }
+{}
+
+/// The law that a literal has the steps of its written-out form: its items group to the left, so the
+/// literal of more items has those of the first ones, with the last appended. What goes over the
+/// edges, and where a network stalls, is then the same for both.
+pub fn literals_are_written_out()
+    ensures one_item { OneItemSteps }
+    ensures literal { LiteralSteps }
 {}

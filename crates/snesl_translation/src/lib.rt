@@ -3,4 +3,4 @@
 
 mod laws;
 
-pub use laws::{expressions_are_translated, programs_are_planned};
+pub use laws::{expressions_are_translated, literals_are_written_out, programs_are_planned};

@@ -3,4 +3,5 @@ pub mod Makings
 pub mod Listed
 pub mod Adding
 pub mod Bindings
+pub mod Literals
 pub mod Opening

@@ -4,16 +4,14 @@ use Rattle.snesl_values.specs.declared.dialect.Dialect.{Dialect}
 use Rattle.snesl_tree.specs.declared.expr.Expr.{Expr}
 use Rattle.snesl_tree.specs.declared.expr.Binder.{Binder}
 use Rattle.snesl_tree.specs.Spelling.{spelling}
-use Rattle.snesl_tree.specs.Tree.{Trees, none, both}
 use Rattle.snesl_tree.specs.View.{tree_of, trees_of, binders_of}
 use Rattle.flow_plans.specs.Plans.{Step}
 use Rattle.snesl_translation.specs.Wires.{Wires}
 use Rattle.snesl_translation.specs.Makings.{Making, done, and_then}
-use Rattle.snesl_translation.specs.Translation.{appended, tr_items}
 use Rattle.snesl_scopes.specs.Scopes.{bound_of}
 use Rattle.snesl_scopes.specs.declared.scope.Scope.{Scope}
 use Rattle.snesl_translator.specs.declared.translator.Setting.{Setting}
-use Rattle.snesl_translator.specs.Translated.{all_in, all_appended, binders_in, bodies_in, single_in, singles_in, tr_in}
+use Rattle.snesl_translator.specs.Translated.{all_in, binders_in, tr_in}
 
 abbrev pub made_all : {A B : Type 0} → (A → ℕ → Making B) → List A → ℕ → Making (List B)
 made_all one [] next = done [] next
@@ -50,17 +48,6 @@ module _ (dialect : Dialect) (setting : Setting) (scope : Scope) (control : ℕ)
       let first = argument_in expr next in
       ap (λ (m : Making (List Wires)). record { steps = first.steps ++ (m.steps ++ []); given = first.given ∷ m.given; next = m.next }) (arguments_listed exprs first.next)
 
-  -- items of a literal
-  abbrev pub item_in : ℕ → Expr → ℕ → Making Wires
-  item_in at expr next = single_in dialect setting scope at (tree_of expr) control next
-
-  pub items_listed : (at : ℕ) (exprs : List Expr) (next : ℕ) → made_all (item_in at) exprs next ≡ singles_in dialect setting scope at (trees_of exprs) control next
-  unfolding and_then
-  items_listed at [] next = refl
-  items_listed at (expr ∷ exprs) next =
-      let first = item_in at expr next in
-      ap (λ (m : Making (List Wires)). record { steps = first.steps ++ (m.steps ++ []); given = first.given ∷ m.given; next = m.next }) (items_listed at exprs first.next)
-
   -- sequences of binders
   abbrev pub source_in : Binder → ℕ → Making (List ℕ × Wires)
   source_in binder next = and_then (tr_in dialect setting scope (tree_of binder.source) control next) (λ u k. done (spelling setting.text.now binder.name, u) k)
@@ -74,24 +61,3 @@ module _ (dialect : Dialect) (setting : Setting) (scope : Scope) (control : ℕ)
       let others = made_all source_in binders first.next in
       ap (λ steps. record { steps = steps ++ (others.steps ++ []); given = (name, first.given) ∷ others.given; next = others.next }) (append-nil first.steps)
       ∙ ap (λ (m : Making (List (List ℕ × Wires))). record { steps = first.steps ++ (m.steps ++ []); given = (name, first.given) ∷ m.given; next = m.next }) (sources_listed binders first.next)
-
-  -- a literal is its items, and then these appended
-  pub literal_listed : (at : ℕ) (items : Trees) (next : ℕ)
-      → and_then (singles_in dialect setting scope at items control next) (λ us k. all_appended at us k)
-      ≡ tr_items dialect setting.text.now (bodies_in dialect setting) at items (bound_of scope) control next
-  unfolding and_then
-  literal_listed at none next = refl
-  literal_listed at (both item none) next =
-      let first = single_in dialect setting scope at item control next in
-      ap (λ steps. record { steps = steps; given = first.given; next = first.next }) (append-nil (first.steps ++ []) ∙ append-nil first.steps)
-  literal_listed at (both item (both second others)) next =
-      let first = single_in dialect setting scope at item control next in
-      let later = singles_in dialect setting scope at (both second others) control first.next in
-      let joined = all_appended at later.given later.next in
-      let last = appended at first.given joined.given joined.next in
-      ap (λ steps. record { steps = steps; given = last.given; next = last.next }) (grouped first.steps later.steps joined.steps last.steps)
-      ∙ ap (λ (m : Making Wires). and_then first (λ u k. and_then m (λ v k. appended at u v k))) (literal_listed at (both second others) first.next)
-    where
-      grouped : (x xs ys zs : List Step) → (x ++ (xs ++ [])) ++ (ys ++ zs) ≡ x ++ ((xs ++ ys) ++ zs)
-      grouped x xs ys zs =
-          append_assoc x (xs ++ []) (ys ++ zs) ∙ ap (λ l. x ++ (l ++ (ys ++ zs))) (append-nil xs) ∙ ap (λ l. x ++ l) (sym (append_assoc xs ys zs))

@@ -1,9 +1,6 @@
 -- Makings one after another, in other groups.
 use Rattle.std.proofs.Common.{◌≡◌, ℕ, List, [], ◌∷◌, ◌++◌, refl, sym, ap, ◌∙◌, append_assoc, append-nil}
-use Rattle.snesl_translation.specs.Wires.{Wires}
 use Rattle.snesl_translation.specs.Makings.{Making, done, and_then}
-use Rattle.snesl_translation.specs.Translation.{appended}
-use Rattle.snesl_translator.specs.Translated.{all_appended, appended_to}
 
 pub in_turn : {A B C : Type 0} (first : Making A) (second : A → ℕ → Making B) (rest : B → ℕ → Making C)
     → and_then (and_then first second) rest ≡ and_then first (λ x k. and_then (second x k) rest)
@@ -38,17 +35,3 @@ three_in_turn a b c g rest =
     ap (λ steps. record { steps = steps; given = last.given; next = last.next })
     (append_assoc a.steps (second.steps ++ (third.steps ++ [])) last.steps
     ∙ ap (λ l. a.steps ++ l) (append_assoc second.steps (third.steps ++ []) last.steps ∙ ap (λ l. second.steps ++ l) (append_assoc third.steps [] last.steps)))
-
--- the last of several sequences is appended to first
-pub appended-last : (at : ℕ) (us : List Wires) (v w : Wires) (next : ℕ)
-    → appended_to at (us ++ v ∷ []) w next ≡ and_then (appended at v w next) (λ x k. appended_to at us x k)
-unfolding and_then
-appended-last at [] v w next = sym (then_nothing (appended at v w next))
-appended-last at (u ∷ us) v w next =
-    ap (λ (m : Making Wires). and_then m (λ y k. appended at u y k)) (appended-last at us v w next)
-    ∙ in_turn (appended at v w next) (λ x k. appended_to at us x k) (λ y k. appended at u y k)
-
-pub all_appended-last : (at : ℕ) (us : List Wires) (w : Wires) (next : ℕ) → all_appended at (us ++ w ∷ []) next ≡ appended_to at us w next
-all_appended-last at [] w next = refl
-all_appended-last at (u ∷ []) w next = refl
-all_appended-last at (u ∷ v ∷ us) w next = ap (λ (m : Making Wires). and_then m (λ y k. appended at u y k)) (all_appended-last at (v ∷ us) w next)

@@ -4,12 +4,12 @@ use Rattle.snesl_values.specs.declared.dialect.Dialect.{Dialect}
 use Rattle.snesl_values.specs.Types.{bool}
 use Rattle.snesl_operators.specs.declared.scalar.Scalar.TheVariants.{Bool as Truth}
 use Rattle.flow_plans.specs.Plans.{const}
-use Rattle.snesl_tree.specs.Tree.{Tree, Trees, Binders, none, both}
+use Rattle.snesl_tree.specs.Tree.{Tree, Trees, Binders}
 use Rattle.snesl_tree.specs.View.{declaration_of}
 use Rattle.snesl_translation.specs.Wires.{Wires, segments, stream_of}
 use Rattle.snesl_translation.specs.Makings.{Making, done, and_then, stepped}
 use Rattle.snesl_translation.specs.FreeNames.{free, without_binders}
-use Rattle.snesl_translation.specs.Translation.{Bodies, Sources, appended, concatenated, filtered, nowhere, single, tr, tr_all, tr_binders}
+use Rattle.snesl_translation.specs.Translation.{Bodies, Sources, concatenated, filtered, single, tr, tr_all, tr_binders, tr_further}
 use Rattle.snesl_translation.specs.Functions.{bodies_of}
 use Rattle.snesl_steps.specs.Views.{dialect_of_steps, next_in}
 use Rattle.snesl_steps.specs.declared.steps.Steps.{Steps}
@@ -51,23 +51,10 @@ single_in dialect setting scope at item control next =
 abbrev pub always_true : ℕ → (control next : ℕ) → Making ℕ
 always_true at control next = and_then (stepped at (const (Truth true)) (control ∷ []) bool next) (λ d k. done (stream_of d) k)
 
--- those of the items of a literal, each alone
-abbrev pub singles_in : Dialect → Setting → Scope → ℕ → Trees → (control next : ℕ) → Making (List Wires)
-singles_in dialect setting scope at none control next = done [] next
-singles_in dialect setting scope at (both first others) control next =
-    and_then (single_in dialect setting scope at first control next) (λ u k.
-    and_then (singles_in dialect setting scope at others control k) (λ us k. done (u ∷ us) k))
-
--- these sequences in order, and behind them one more: they are appended from the last one on
-abbrev pub appended_to : ℕ → List Wires → Wires → ℕ → Making Wires
-appended_to at [] w next = done w next
-appended_to at (u ∷ us) w next = and_then (appended_to at us w next) (λ v k. appended at u v k)
-
--- sequences in order, one behind the other
-abbrev pub all_appended : ℕ → List Wires → ℕ → Making Wires
-all_appended at [] next = done nowhere next
-all_appended at (u ∷ []) next = done u next
-all_appended at (u ∷ v ∷ us) next = and_then (all_appended at (v ∷ us) next) (λ w k. appended at u w k)
+-- those of further items of a literal, behind a sequence that was made
+abbrev pub further_in : Dialect → Setting → Scope → ℕ → Wires → Trees → (control next : ℕ) → Making Wires
+further_in dialect setting scope at sequence items control next =
+    tr_further dialect setting.text.now (bodies_in dialect setting) at (λ b c n. done sequence n) items (bound_of scope) control next
 
 -- the steps of a body that sees this
 abbrev pub body_in : Dialect → Setting → Opened → Tree → ℕ → Making Wires

@@ -1,6 +1,5 @@
 // What the forms of expressions have beside the expressions in them.
 
-ghost use Rattle.std.specs.Prelude.{map};
 ghost use Rattle.snesl_tree.specs.Spelling.{spelling};
 ghost use Rattle.snesl_translation.specs.Wires.{two, segments, stream_of, item_wires};
 ghost use Rattle.snesl_translation.specs.Makings.{done, and_then, tested};
@@ -10,7 +9,7 @@ ghost use Rattle.std.specs.Prelude.{◌∷◌, []};
 ghost use Rattle.snesl_steps.specs.Views.{next_in, wires_of};
 ghost use Rattle.snesl_steps.specs.Added.{Adds};
 ghost use Rattle.snesl_scopes.specs.Scopes.{bound_of};
-ghost use Rattle.snesl_translator.specs.Translated.{all_appended, always_true, appended_to};
+ghost use Rattle.snesl_translator.specs.Translated.{always_true};
 
 use snesl_operators::Scalar;
 use snesl_scopes::{Scope, look_up};
@@ -87,37 +86,4 @@ pub(crate) fn one_of(
     let mut arguments = Vec::new(steps.alloc());
     arguments.push(both)?;
     apply_built_in(steps, at, Builtin::The, &arguments)
-}
-
-// Sequences in order, one behind the other. The errors are those of `Steps::step`.
-#[inline(never)]
-pub(crate) fn append_all(
-    steps: &mut Steps,
-    at: usize,
-    mut sequences: Vec<Wires>,
-) -> Result<Wires, Refusal>
-    ensures { Adds wires_of steps.old steps.new (all_appended at (map wires_of sequences.items) (next_in steps.old)) result }
-{
-    match sequences.pop() {
-        Some(last) => append_onto(steps, at, sequences, last),
-        None => Ok(Wires::Wire(Ty::Int, 0)),
-    }
-}
-
-// It calls itself not more often than there are steps: each of the sequences has some.
-fn append_onto(
-    steps: &mut Steps,
-    at: usize,
-    mut sequences: Vec<Wires>,
-    last: Wires,
-) -> Result<Wires, Refusal>
-    ensures { Adds wires_of steps.old steps.new (appended_to at (map wires_of sequences.items) (wires_of last) (next_in steps.old)) result }
-{
-    match sequences.pop() {
-        Some(before) => {
-            let longer = append(steps, at, &before, &last)?;
-            append_onto(steps, at, sequences, longer)
-        }
-        None => Ok(last),
-    }
 }

@@ -13,15 +13,17 @@ ghost use Rattle.snesl_steps.specs.Added.{Adds};
 ghost use Rattle.snesl_scopes.specs.Scopes.{bound_of};
 ghost use Rattle.snesl_translator.specs.Called.{entered};
 ghost use Rattle.snesl_translator.specs.Rows.{rows_of};
-ghost use Rattle.snesl_translator.specs.Translated.{all_in, binders_in, bodies_in, body_in, each_behind, filtered_in, single_in, singles_in, translated, where_behind, where_in};
+ghost use Rattle.snesl_translator.specs.Translated.{all_in, binders_in, bodies_in, body_in, each_behind, filtered_in, further_in, single_in, translated, where_behind, where_in};
 
-use crate::forms::{always_true, append_all, flat, named, one_of, paired, sequence};
+use crate::forms::{always_true, flat, named, one_of, paired, sequence};
 use crate::frames::{bind_parameters, one_bound};
 use crate::functions::find_function;
 use crate::rows::{Rows, open_each, open_where, part_of, part_where};
 use snesl_operators::Scalar;
 use snesl_scopes::Scope;
-use snesl_steps::{Binding, Steps, Wires, apply_built_in, apply_operator, apply_prefix, constant};
+use snesl_steps::{
+    Binding, Steps, Wires, append, apply_built_in, apply_operator, apply_prefix, constant,
+};
 use snesl_tree::{Binder, Builtin, Declaration, Expr, Function, Operator, Prefix, Span};
 use snesl_values::{Refusal, Ty};
 
@@ -326,7 +328,7 @@ fn enter(
     Ok(w)
 }
 
-// The items of a literal, one behind the other.
+// A literal: its first item, and the others behind it.
 #[cycle(translate)]
 #[inline(never)]
 fn literal_form(
@@ -339,8 +341,35 @@ fn literal_form(
 ) -> Result<Wires, Refusal>
     ensures { Adds wires_of steps.old steps.new (translated steps.old setting.now scope.now (literal at (trees_of items.now)) control) result }
 {
-    let sequences = all_singles(steps, setting, at, items, scope, control)?;
-    append_all(steps, at, sequences)
+    match items.split_first() {
+        Some((first, others)) => {
+            let sequence = single(steps, setting, at, first, scope, control)?;
+            further(steps, setting, at, sequence, others, scope, control)
+        }
+        None => Ok(Wires::Wire(Ty::Int, 0)),
+    }
+}
+
+// A sequence with items behind it: each is appended to all that stand before it.
+#[cycle(translate)]
+#[inline(never)]
+fn further(
+    steps: &mut Steps,
+    setting: &Setting<'_>,
+    at: usize,
+    sequence: Wires,
+    items: &[Expr],
+    scope: &Scope<'_>,
+    control: usize,
+) -> Result<Wires, Refusal>
+    ensures { Adds wires_of steps.old steps.new (further_in (dialect_of_steps steps.old) setting.now scope.now at (wires_of sequence) (trees_of items.now) control (next_in steps.old)) result }
+{
+    let mut all = sequence;
+    for item in items {
+        let last = single(steps, setting, at, item, scope, control)?;
+        all = append(steps, at, &all, &last)?;
+    }
+    Ok(all)
 }
 
 // The item where the condition is true, and else nothing.
@@ -454,27 +483,6 @@ fn all_translated(
     let mut us = Vec::new(steps.alloc());
     for expr in exprs {
         let u = translate(steps, setting, expr, scope, control)?;
-        us.push(u)?;
-    }
-    Ok(us)
-}
-
-// The items of a literal, each alone.
-#[cycle(translate)]
-#[inline(never)]
-fn all_singles(
-    steps: &mut Steps,
-    setting: &Setting<'_>,
-    at: usize,
-    items: &[Expr],
-    scope: &Scope<'_>,
-    control: usize,
-) -> Result<Vec<Wires>, Refusal>
-    ensures { Adds (λ us. map wires_of us.items) steps.old steps.new (singles_in (dialect_of_steps steps.old) setting.now scope.now at (trees_of items.now) control (next_in steps.old)) result }
-{
-    let mut us = Vec::new(steps.alloc());
-    for item in items {
-        let u = single(steps, setting, at, item, scope, control)?;
         us.push(u)?;
     }
     Ok(us)

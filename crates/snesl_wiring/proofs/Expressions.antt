@@ -1,6 +1,6 @@
 -- Each typed expression makes streams of its type.
 use Rattle.std.specs.Prelude.{◌≡◌, ℕ, true, ◌||◌, false, List, [], ◌∷◌, ◌++◌, length, Some, refl}
-use Rattle.std.proofs.Common.{sym, ap, subst}
+use Rattle.std.proofs.Common.{sym, ap, subst, append-nil, append_assoc}
 use Rattle.std.proofs.lemmas.Slice.Eq.{bytes_eq-Decides}
 use Rattle.snesl_values.specs.declared.dialect.Dialect.{Dialect}
 use Rattle.snesl_values.specs.Types.{Ty, int, bool, pair, seq}
@@ -13,9 +13,9 @@ use Rattle.snesl_types.specs.Typing.{Types, has_type, Gives, integer_type, truth
 use Rattle.flow_edges.specs.declared.message.Kind.{Kind}
 use Rattle.flow_edges.specs.declared.message.Kind.TheVariants.{Unit as UnitKind, Bool as BoolKind}
 use Rattle.snesl_translation.specs.Wires.{Wires, two, segments, stream_of, Bound}
-use Rattle.snesl_translation.specs.Makings.{done, and_then}
-use Rattle.snesl_translation.specs.FreeNames.{is_among, without_binders, free, free_of_all, free_of_sources}
-use Rattle.snesl_translation.specs.Translation.{Bodies, Sources, first_flags, binary_streams, filtered, concatenated, tr, tr_all, tr_items, tr_binders}
+use Rattle.snesl_translation.specs.Makings.{Making, done, and_then}
+use Rattle.snesl_translation.specs.FreeNames.{Names, is_among, without_binders, free, free_of_all, free_of_sources}
+use Rattle.snesl_translation.specs.Translation.{Bodies, Sources, first_flags, binary_streams, appended, filtered, single, followed, concatenated, tr, tr_all, tr_items, tr_further, tr_binders}
 use Rattle.snesl_translation.proofs.Borne.{AreOpen}
 use Rattle.snesl_translation.proofs.UsableNames.{binder_items, free_are_open, both_open}
 use Rattle.snesl_wiring.proofs.Fitting.{Stream, stream_on, further, no_reads, more_reads, fits_two, fits_segments, fits_on, flags_fit, stream_fits}
@@ -102,15 +102,24 @@ module _ (dialect : Dialect) (text : List ℕ) (functions : Signatures) (bodies 
         concatenated_made at (segments f w) (fits_segments (stream_on (further more more') there) fw))))
 
     items_made : {context : Context} {trees : Trees} {t : Ty} {ts : List Ty} (at : ℕ) → AllTypes dialect text functions context trees (t ∷ ts) → AllAre t ts → ItemsMake context at trees t
-    items_made at (more_types {context = context} {first = first} {t = t} h no_types) same kinds bound control bears units =
-        single_made at context (free text first) t (tr dialect text bodies first) (free_are_open h) (typed_made h) kinds bound control (bears_left (free text first) [] bears) units
-    items_made at (more_types {context = context} {first = first} {t = t} h (more_types {first = second} {others = others} {t = u} {ts = us} g rest)) (e, same) kinds bound control bears units =
-        let behind : ItemsMake context at (both second others) u = items_made at (more_types g rest) (subst (λ x. AllAre x us) (sym e) same) in
-        let others_make : ItemsMake context at (both second others) t = subst (ItemsMake context at (both second others)) e behind in
-        let names = free_of_all text (both second others) in
-        then_made _ (single_made at context (free text first) t (tr dialect text bodies first) (free_are_open h) (typed_made h) kinds bound control (bears_left (free text first) names bears) units) (λ on more v fv.
-        then_made _ (others_make on bound control (bears_on more (bears_right (free text first) names bears)) (stream_on more units)) (λ last more' w fw.
-        appended_made at v w (fits_on more' fv) fw))
+    items_made at (more_types {context = context} {first = first} {t = t} h rest) same =
+        further_made at t (single at (free text first) (tr dialect text bodies first)) (free text first)
+        (single_made at context (free text first) t (tr dialect text bodies first) (free_are_open h) (typed_made h)) rest same
+
+    -- items behind a sequence of this type
+    further_made : {context : Context} {trees : Trees} {ts : List Ty} (at : ℕ) (t : Ty) (sequence : Bound → ℕ → ℕ → Making Wires) (names : Names)
+        → AlwaysMakes sequence names context (seq t) → AllTypes dialect text functions context trees ts → AllAre t ts
+        → AlwaysMakes (tr_further dialect text bodies at sequence trees) (names ++ free_of_all text trees) context (seq t)
+    further_made at t sequence names made (no_types {context = context}) same =
+        subst (λ names'. AlwaysMakes sequence names' context (seq t)) (sym (append-nil names)) made
+    further_made at t sequence names made (more_types {context = context} {first = item} {others = others} h rest) (e, same) =
+        let behind = followed at sequence (free text item) (tr dialect text bodies item) in
+        let item_made : TreeMakes context item t = subst (TreeMakes context item) e (typed_made h) in
+        let made_behind : AlwaysMakes behind (names ++ free text item) context (seq t) =
+        two_made context names (free text item) (seq t) (seq t) (seq t) sequence (single at (free text item) (tr dialect text bodies item)) (λ u v k. appended at u v k) made
+        (single_made at context (free text item) t (tr dialect text bodies item) (free_are_open h) item_made) (λ kinds u v fu fv. appended_made at u v fu fv) in
+        subst (λ names'. AlwaysMakes (tr_further dialect text bodies at sequence (both item others)) names' context (seq t)) (append_assoc names (free text item) (free_of_all text others))
+        (further_made at t behind (names ++ free text item) made_behind rest same)
 
     sources_made : {context : Context} {earlier all : List Declaration} {binders : Binders} (h : BindersType dialect text functions context earlier binders all)
         → SourcesMake (tr_binders dialect text bodies binders) (free_of_sources text binders) context (binder_items h).0

@@ -1,4 +1,5 @@
-use Rattle.std.proofs.Common.{◌≡◌, ℕ, true, List, [], ◌∷◌, ◌++◌, map, Ok, Err, Vec, Global, sym, ap, subst, ◌∙◌}
+use Rattle.std.proofs.Common.{◌≡◌, ℕ, true, List, [], ◌∷◌, ◌++◌, map, Ok, Err, Vec, Global, arith, sym, ap, subst, ◌∙◌}
+use denote.Param.Weighed.{at_most, most}
 use Rattle.flow_plans.specs.Plans.{const, the_check}
 use Rattle.snesl_values.specs.declared.dialect.Dialect.{Dialect}
 use Rattle.snesl_values.specs.Types.{bool}
@@ -6,24 +7,27 @@ use Rattle.snesl_operators.specs.declared.scalar.Scalar.TheVariants.{Bool as Tru
 use Rattle.snesl_tree.specs.Spelling.{spelling}
 use Rattle.snesl_tree.specs.Tree.{Tree, Binders, apply, always, binding, call, choice, each, filter, literal, only_where}
 use Rattle.snesl_tree.specs.View.{tree_of, trees_of, binders_of}
-use Rattle.snesl_tree.specs.declared.expr.Expr.{Expr, Each}
+use Rattle.snesl_tree.specs.declared.expr.Expr.{Expr, Each, size-Expr}
 use Rattle.snesl_tree.specs.declared.expr.Binder.{Binder}
 use Rattle.snesl_tree.specs.declared.operator.Prefix.TheVariants.{Not}
 use Rattle.snesl_tree.proofs.Arguments.{tree_of-Call, tree_of-Apply, tree_of-Literal, binders_row}
 use Rattle.snesl_translation.specs.FreeNames.{Names, free, without_binders}
 use Rattle.snesl_translation.specs.Makings.{Making, done, and_then, stepped, tested}
 use Rattle.snesl_translation.specs.Wires.{Bound, Wires as WiresOf, item_wires, segments, stream_of, two}
-use Rattle.snesl_translation.specs.Translation.{appended, binary_streams, call_streams, concatenated, filtered, prefix_streams, tr}
+use Rattle.snesl_translation.specs.Translation.{appended, binary_streams, call_streams, concatenated, filtered, prefix_streams, single, tr}
 use Rattle.snesl_steps.specs.Added.{Adds, HasMade}
 use Rattle.snesl_steps.specs.Views.{binding_of, bindings_of, dialect_of_steps, next_in, wires_of}
 use Rattle.snesl_steps.specs.declared.wires.Binding.{Binding}
 use Rattle.snesl_steps.specs.declared.wires.Wires.{Wires}
-use Rattle.snesl_steps.proofs.Adding.{exits, exits_first, refused_first, then_done}
+use Rattle.snesl_steps.proofs.Adding.{done_made, exits, exits_first, refused_first, then_done}
 use Rattle.snesl_scopes.specs.Scopes.{bound_of}
+use Rattle.snesl_scopes.specs.declared.scope.Scope.{Scope}
+use Rattle.snesl_translator.specs.declared.translator.Setting.{Setting}
 use Rattle.snesl_translator.specs.Rows.{each_opened, rows_of, where_opened}
-use Rattle.snesl_translator.specs.Translated.{all_appended, always_true, bodies_in, body_in, each_behind, filtered_in, tr_in, translated, where_behind, where_in}
+use Rattle.snesl_translator.specs.Translated.{always_true, bodies_in, body_in, each_behind, filtered_in, further_in, single_in, tr_in, translated, where_behind, where_in}
 use Rattle.snesl_translator.proofs.Adding.{item_made, item_refused, items_made, none_made, then_adds}
-use Rattle.snesl_translator.proofs.Listed.{argument_in, arguments_listed, item_in, items_listed, literal_listed, source_in, sources_listed}
+use Rattle.snesl_translator.proofs.Listed.{argument_in, arguments_listed, source_in, sources_listed}
+use Rattle.snesl_translator.proofs.Literals.{all_behind, further_behind, item_behind, item_not_behind}
 use Rattle.snesl_translator.proofs.Makings.{in_turn, one_in_turn}
 use Rattle.snesl_translator.proofs.Opening.{each_opens, each_rest, where_opens}
 use Rattle.snesl_translator.proofs.translator.+translate.Goals as goal
@@ -283,21 +287,91 @@ call_form-returns t c =
 
 -- literals
 
-pub literal_form-returns-in_err-sequences : goal.literal_form-returns-in_err-sequences
-literal_form-returns-in_err-sequences t c =
-    let old = c.args.steps.now in
-    let new = c.all_singles.new.steps in
-    subst (λ (m : Making WiresOf). Adds wires_of old new m c.from_residual.result)
-    (literal_listed (dialect_of_steps old) c.args.setting.now c.args.scope.now c.args.control c.args.at (trees_of c.args.items.now) (next_in old))
-    (exits_first (λ (us : Vec Wires Global). map wires_of us.items) wires_of old new new _ (λ us k. all_appended c.args.at us k) c.in_err-sequences.field-0.0 c.from_residual.result c.from_residual.ensures c.in_err-sequences.ensures)
+-- a literal is its first item, and then the others behind it
+literal_listed : (dialect : Dialect) (setting : Setting) (scope : Scope) (at control : ℕ) (first : Expr) (others : List Expr) (next : ℕ)
+    → and_then (single_in dialect setting scope at (tree_of first) control next) (λ u k. further_in dialect setting scope at u (trees_of others) control k)
+    ≡ tr_in dialect setting scope (literal at (trees_of (first ∷ others))) control next
+literal_listed dialect setting scope at control first others next =
+    sym (further_behind dialect setting.text.now (bodies_in dialect setting) at (bound_of scope) control (λ b c n. single at (free setting.text.now (tree_of first)) (λ b c n. tr dialect setting.text.now (bodies_in dialect setting) (tree_of first) b c n) b c n) (trees_of others) next)
 
-pub literal_form-returns : goal.literal_form-returns
-literal_form-returns t c =
+pub literal_form-returns-in_err-sequence-in-Some : goal.literal_form-returns-in_err-sequence-in-Some
+literal_form-returns-in_err-sequence-in-Some t c =
+    let setting = c.args.setting.now in
+    let scope = c.args.scope.now in
+    let at = c.args.at in
+    let control = c.args.control in
     let old = c.args.steps.now in
-    let new = c.append_all.new.steps in
-    subst (λ (m : Making WiresOf). Adds wires_of old new m c.append_all.result)
-    (literal_listed (dialect_of_steps old) c.args.setting.now c.args.scope.now c.args.control c.args.at (trees_of c.args.items.now) (next_in old))
-    (then_adds wires_of new (λ d us k. all_appended c.args.at us k) c.append_all.result c.in_ok-sequences.ensures c.append_all.ensures)
+    let new = c.single.new.steps in
+    let d = dialect_of_steps old in
+    let others = c.in-Some.others.now in
+    let result = c.from_residual.result in
+    subst (λ (l : List Expr). Adds wires_of old new (tr_in d setting scope (literal at (trees_of l)) control (next_in old)) result) (sym c.in-Some.ensures.cases.0)
+    (subst (λ (m : Making WiresOf). Adds wires_of old new m result) (literal_listed d setting scope at control c.in-Some.first.now others (next_in old))
+    (exits_first wires_of wires_of old new new _ (λ u k. further_in d setting scope at u (trees_of others) control k) c.in_err-sequence-in-Some.field-0.0 result c.from_residual.ensures c.in_err-sequence-in-Some.ensures))
+
+pub literal_form-returns-in_ok-sequence-in-Some : goal.literal_form-returns-in_ok-sequence-in-Some
+literal_form-returns-in_ok-sequence-in-Some t c =
+    let setting = c.args.setting.now in
+    let scope = c.args.scope.now in
+    let at = c.args.at in
+    let control = c.args.control in
+    let old = c.args.steps.now in
+    let new = c.further.new.steps in
+    let d = dialect_of_steps old in
+    let others = c.in-Some.others.now in
+    let result = c.further.result in
+    subst (λ (l : List Expr). Adds wires_of old new (tr_in d setting scope (literal at (trees_of l)) control (next_in old)) result) (sym c.in-Some.ensures.cases.0)
+    (subst (λ (m : Making WiresOf). Adds wires_of old new m result) (literal_listed d setting scope at control c.in-Some.first.now others (next_in old))
+    (then_adds wires_of new (λ d u k. further_in d setting scope at u (trees_of others) control k) result c.in_ok-sequence-in-Some.ensures c.further.ensures))
+
+pub literal_form-further-requires : goal.literal_form-further-requires
+literal_form-further-requires t c =
+    let whole = ap (λ (l : List Expr). most size-Expr l) c.in-Some.ensures.cases.0 in
+    (omega (arith, whole), tt)
+
+pub further-single-requires : goal.further-single-requires
+further-single-requires t c =
+    let here = ap (λ (x : Expr). size-Expr x) c.item-item.is in
+    let within = at_most size-Expr c.args.items.now c.loop-item.item-index c.item-item.result c.loop-item-test.true in
+    (omega (arith, here, within), tt)
+
+pub further-loop-item-init : goal.further-loop-item-init
+further-loop-item-init t c = done_made c.args.steps.now (wires_of c.args.sequence)
+
+pub further-loop-item-preserved : goal.further-loop-item-preserved
+further-loop-item-preserved t c =
+    item_behind c.args.setting.now c.args.scope.now c.args.at c.args.control (wires_of c.args.sequence) (wires_of c.loop-item.all) (wires_of c.in_ok-last.last) (wires_of c.in_ok-all.all) c.args.items.now c.loop-item.item-index c.item-item.result
+    c.loop-item-test.true c.item-item.is c.loop-item.invariant c.in_ok-last.ensures c.in_ok-all.ensures
+
+pub further-returns-in_err-last : goal.further-returns-in_err-last
+further-returns-in_err-last t c =
+    let setting = c.args.setting.now in
+    let scope = c.args.scope.now in
+    let at = c.args.at in
+    let control = c.args.control in
+    let middle = c.loop-item.steps in
+    let new = c.single.new.steps in
+    let refusal = c.in_err-last.field-0.0 in
+    exits wires_of c.args.steps.now new _ refusal c.from_residual.result c.from_residual.ensures
+    (item_not_behind setting scope at control new (wires_of c.args.sequence) (wires_of c.loop-item.all) c.args.items.now c.loop-item.item-index c.item-item.result refusal c.loop-item-test.true c.item-item.is c.loop-item.invariant
+    (refused_first wires_of wires_of middle new new (single_in (dialect_of_steps middle) setting scope at (tree_of c.item-item.result) control (next_in middle)) (λ v k. appended at (wires_of c.loop-item.all) v k) refusal c.in_err-last.ensures))
+
+pub further-returns-in_err-all : goal.further-returns-in_err-all
+further-returns-in_err-all t c =
+    let setting = c.args.setting.now in
+    let scope = c.args.scope.now in
+    let at = c.args.at in
+    let control = c.args.control in
+    let all = wires_of c.loop-item.all in
+    let new = c.append.new.steps in
+    let refusal = c.in_err-all.field-0.0 in
+    exits wires_of c.args.steps.now new _ refusal c.from_residual-in_err-all.result c.from_residual-in_err-all.ensures
+    (item_not_behind setting scope at control new (wires_of c.args.sequence) all c.args.items.now c.loop-item.item-index c.item-item.result refusal c.loop-item-test.true c.item-item.is c.loop-item.invariant
+    (then_adds wires_of new (λ d v k. appended at all v k) (Err refusal) c.in_ok-last.ensures c.in_err-all.ensures))
+
+pub further-returns : goal.further-returns
+further-returns t c =
+    all_behind c.args.setting.now c.args.scope.now c.args.at c.args.control (wires_of c.args.sequence) (wires_of c.loop-item.all) c.args.items.now c.loop-item.item-index c.loop-item-test.false c.loop-item.invariant
 
 -- comprehensions
 
@@ -571,40 +645,6 @@ all_translated-returns t c =
     let one = argument_in (dialect_of_steps old) c.args.setting.now c.args.scope.now c.args.control in
     subst (λ (m : Making (List WiresOf)). HasMade old new m us) (arguments_listed (dialect_of_steps old) c.args.setting.now c.args.scope.now c.args.control c.args.exprs.now (next_in old))
     (items_made one c.args.exprs.now c.loop-expr.expr-index us c.loop-expr-test.false c.loop-expr.invariant)
-
-pub all_singles-loop-item-init : goal.all_singles-loop-item-init
-all_singles-loop-item-init t c =
-    none_made c.args.steps.now (item_in (dialect_of_steps c.args.steps.now) c.args.setting.now c.args.scope.now c.args.control c.args.at) c.args.items.now wires_of c.new-us.result.items c.new-us.ensures.items
-
-pub all_singles-loop-item-preserved : goal.all_singles-loop-item-preserved
-all_singles-loop-item-preserved t c =
-    let one = λ (d : Dialect) (item : Expr) (k : ℕ). item_in d c.args.setting.now c.args.scope.now c.args.control c.args.at item k in
-    item_made one wires_of c.args.items.now c.loop-item.item-index c.item-item.result c.loop-item.us.items c.push.new.self.items c.in_ok-u.u
-    c.loop-item-test.true c.item-item.is c.in_ok-push.ensures.items c.loop-item.invariant c.in_ok-u.ensures
-
-pub all_singles-returns-in_err-u : goal.all_singles-returns-in_err-u
-all_singles-returns-in_err-u t c =
-    let setting = c.args.setting.now in
-    let scope = c.args.scope.now in
-    let control = c.args.control in
-    let old = c.args.steps.now in
-    let new = c.single.new.steps in
-    let refusal = c.in_err-u.field-0.0 in
-    let given = λ (us : Vec Wires Global). map wires_of us.items in
-    let one = λ (d : Dialect) (x : Expr) (k : ℕ). item_in d setting scope control c.args.at x k in
-    let listed = items_listed (dialect_of_steps old) setting scope control c.args.at c.args.items.now (next_in old) in
-    exits given old new _ refusal c.from_residual.result c.from_residual.ensures
-    (subst (λ (m : Making (List WiresOf)). Adds given old new m (Err refusal)) listed
-    (item_refused wires_of given new one c.args.items.now c.loop-item.item-index c.item-item.result (map wires_of c.loop-item.us.items) refusal c.loop-item-test.true c.item-item.is c.loop-item.invariant c.in_err-u.ensures))
-
-pub all_singles-returns : goal.all_singles-returns
-all_singles-returns t c =
-    let old = c.args.steps.now in
-    let new = c.loop-item.steps in
-    let us = map wires_of c.loop-item.us.items in
-    let one = item_in (dialect_of_steps old) c.args.setting.now c.args.scope.now c.args.control c.args.at in
-    subst (λ (m : Making (List WiresOf)). HasMade old new m us) (items_listed (dialect_of_steps old) c.args.setting.now c.args.scope.now c.args.control c.args.at c.args.items.now (next_in old))
-    (items_made one c.args.items.now c.loop-item.item-index us c.loop-item-test.false c.loop-item.invariant)
 
 pub all_sources-loop-binder-init : goal.all_sources-loop-binder-init
 all_sources-loop-binder-init t c =

@@ -4,10 +4,12 @@ use denote.Param.Weighed
 use Rattle.snesl_tree.proofs.expr.Binder.TheLaws
 use Rattle.snesl_tree.specs.declared.expr.Binder.{Binder}
 use Rattle.snesl_tree.specs.declared.expr.Expr.{size-Expr}
+use Rattle.snesl_tree.specs.View.{trees_of}
 use Rattle.snesl_evaluation.specs.Scopes.{weight, weight_of}
 use Rattle.snesl_steps.specs.Added.{HasMade}
 use Rattle.snesl_steps.specs.Views.{bindings_of, dialect_of_steps, next_in, wires_of}
-use Rattle.snesl_translator.proofs.Listed.{argument_in, item_in, made_all, source_in}
+use Rattle.snesl_translator.specs.Translated.{further_in}
+use Rattle.snesl_translator.proofs.Listed.{argument_in, made_all, source_in}
 use Rattle.snesl_translator.proofs.translator.+translate.Given as goal
 
 -- the deeper of an expression and its helpers comes first, behind the weight of the functions that it may call
@@ -75,8 +77,8 @@ decreases-where_over l = rank (max (size-Expr l.body.now) (size-Expr l.condition
 abbrev pub decreases-all_translated : goal.decreases-all_translated
 decreases-all_translated l = rank (goal.size-all_translated l) (weight l.setting.now.functions.now) 1
 
-abbrev pub decreases-all_singles : goal.decreases-all_singles
-decreases-all_singles l = rank (goal.size-all_singles l) (weight l.setting.now.functions.now) 5
+abbrev pub decreases-further : goal.decreases-further
+decreases-further l = rank (goal.size-further l) (weight l.setting.now.functions.now) 5
 
 abbrev pub decreases-all_sources : goal.decreases-all_sources
 decreases-all_sources l = rank (goal.size-all_sources l) (weight l.setting.now.functions.now) 1
@@ -98,9 +100,9 @@ abbrev pub invariant-all_translated-loop-expr : goal.invariant-all_translated-lo
 invariant-all_translated-loop-expr l =
     HasMade l.fn.steps l.steps (made_all (argument_in (dialect_of_steps l.fn.steps) l.setting l.scope l.control) (take l.expr-index l.exprs) (next_in l.fn.steps)) (map wires_of l.us.items)
 
-abbrev pub invariant-all_singles-loop-item : goal.invariant-all_singles-loop-item
-invariant-all_singles-loop-item l =
-    HasMade l.fn.steps l.steps (made_all (item_in (dialect_of_steps l.fn.steps) l.setting l.scope l.control l.at) (take l.item-index l.items) (next_in l.fn.steps)) (map wires_of l.us.items)
+abbrev pub invariant-further-loop-item : goal.invariant-further-loop-item
+invariant-further-loop-item l =
+    HasMade l.fn.steps l.steps (further_in (dialect_of_steps l.fn.steps) l.setting l.scope l.at (wires_of l.fn.sequence) (trees_of (take l.item-index l.items)) l.control (next_in l.fn.steps)) (wires_of l.all)
 
 abbrev pub invariant-all_sources-loop-binder : goal.invariant-all_sources-loop-binder
 invariant-all_sources-loop-binder l =
