@@ -8,7 +8,6 @@ use Rattle.snesl_tree.specs.View.{tree_of, trees_of, binders_of}
 use Rattle.flow_plans.specs.Plans.{Step}
 use Rattle.snesl_translation.specs.Wires.{Wires}
 use Rattle.snesl_translation.specs.Makings.{Making, done, and_then}
-use Rattle.snesl_scopes.specs.Scopes.{bound_of}
 use Rattle.snesl_scopes.specs.declared.scope.Scope.{Scope}
 use Rattle.snesl_translator.specs.declared.translator.Setting.{Setting}
 use Rattle.snesl_translator.specs.Translated.{all_in, binders_in, tr_in}

@@ -1,5 +1,5 @@
 -- Makings one after another, in other groups.
-use Rattle.std.proofs.Common.{◌≡◌, ℕ, List, [], ◌∷◌, ◌++◌, refl, sym, ap, ◌∙◌, append_assoc, append-nil}
+use Rattle.std.proofs.Common.{◌≡◌, ℕ, [], ◌++◌, ap, ◌∙◌, append_assoc, append-nil}
 use Rattle.snesl_translation.specs.Makings.{Making, done, and_then}
 
 pub in_turn : {A B C : Type 0} (first : Making A) (second : A → ℕ → Making B) (rest : B → ℕ → Making C)

@@ -57,7 +57,7 @@ abbrev pub decreases-enter : goal.decreases-enter
 decreases-enter l = rank (weight_of l.function.now) (weight l.earlier.now) 2
 
 abbrev pub decreases-literal_form : goal.decreases-literal_form
-decreases-literal_form l = rank (goal.size-literal_form l) (weight l.setting.now.functions.now) 6
+decreases-literal_form l = rank (Weighed.most size-Expr l.items.now) (weight l.setting.now.functions.now) 6
 
 abbrev pub decreases-filter_form : goal.decreases-filter_form
 decreases-filter_form l = rank (max (size-Expr l.item.now) (size-Expr l.condition.now)) (weight l.setting.now.functions.now) 4
@@ -78,7 +78,7 @@ abbrev pub decreases-all_translated : goal.decreases-all_translated
 decreases-all_translated l = rank (goal.size-all_translated l) (weight l.setting.now.functions.now) 1
 
 abbrev pub decreases-further : goal.decreases-further
-decreases-further l = rank (goal.size-further l) (weight l.setting.now.functions.now) 5
+decreases-further l = rank (Weighed.most size-Expr l.items.now) (weight l.setting.now.functions.now) 5
 
 abbrev pub decreases-all_sources : goal.decreases-all_sources
 decreases-all_sources l = rank (goal.size-all_sources l) (weight l.setting.now.functions.now) 1
