@@ -3,7 +3,7 @@ use Rattle.std.specs.Prelude.{◌≡◌, ℕ, zero, suc, ◌<◌, List, [], ◌�
 use Rattle.std.specs.List.{slice_get}
 use Rattle.std.specs.Result.{IsErrAnd}
 use Rattle.std.proofs.Common.{sym, ◌∙◌, ap, subst, arith}
-use Rattle.flow_edges.specs.declared.message.Kind.{Kind}
+use Rattle.flow_messages.specs.declared.message.Kind.{Kind}
 use Rattle.flow_rows.specs.Lists.{bind, each}
 use Rattle.flow_plans.specs.Ports.{kinds_read, kinds_written}
 use Rattle.flow_plans.specs.Layouts.{Placed}

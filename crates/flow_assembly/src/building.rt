@@ -13,7 +13,7 @@ use crate::laws::openings_perform;
 use crate::network::{Network, Port};
 use crate::nodes::{fork_of, kinds_written, node_of, sink_of};
 use crate::plan::Plan;
-use flow_edges::Kind;
+use flow_messages::Kind;
 use snesl_values::Refusal;
 
 impl Network {

@@ -9,7 +9,7 @@ ghost use Rattle.flow_assembly.specs.Openings.{Opens};
 ghost use Rattle.flow_assembly.specs.Ready.{WritesKinds};
 
 use flow_base::{Node, Transducer};
-use flow_edges::Kind;
+use flow_messages::Kind;
 use flow_nodes::StreamNode;
 use flow_plans::Operation;
 use flow_scalar::{

@@ -3,11 +3,11 @@ use Rattle.std.proofs.Common.{◌≡◌, ◌≢◌, ℕ, ◌<◌, ◌≤◌, Boo
 use Rattle.std.proofs.lemmas.Bool.{cases_eq, cases_Bool}
 use mathlib.Core.List.{IsPrefix}
 use Rattle.kahn.specs.Processes.{Event, Reads, Writes}
-use Rattle.flow_edges.specs.Signals.{Signal, ended}
-use Rattle.flow_edges.specs.Ends.{View, SameEnds, LookedForRoom, LookedForMessages, Taken, Put}
-use Rattle.flow_edges.specs.declared.ends.Refused.{Refused}
-use Rattle.flow_edges.specs.declared.ends.Why.TheVariants.{Closed}
-use Rattle.flow_edges.specs.declared.message.Msg.{Msg}
+use Rattle.flow_messages.specs.Signals.{Signal, ended}
+use Rattle.flow_messages.specs.Ends.{View, SameEnds, LookedForRoom, LookedForMessages, Taken, Put}
+use Rattle.flow_messages.specs.declared.ends.Refused.{Refused}
+use Rattle.flow_messages.specs.declared.ends.Why.TheVariants.{Closed}
+use Rattle.flow_messages.specs.declared.message.Msg.{Msg}
 use Rattle.flow_base.specs.Visits.{read_from, sent_after}
 
 pub same_ends_refl : (a : View) → SameEnds a a

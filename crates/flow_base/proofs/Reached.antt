@@ -5,7 +5,7 @@ use native.Mathlib.Bridge.{le_prop}
 use Rattle.kahn.specs.declared.want.Want.TheVariants.{Read, Write}
 use Rattle.kahn.specs.Processes.{Event, Reads, Writes, Does, IsLawful}
 use Rattle.kahn.proofs.History.{does_then}
-use Rattle.flow_edges.specs.Signals.{Signal}
+use Rattle.flow_messages.specs.Signals.{Signal}
 use Rattle.flow_base.specs.Transducers.{Behaviour, BehaviourLaws}
 use Rattle.flow_base.specs.Visits.{IsReached}
 

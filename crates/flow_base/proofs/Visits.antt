@@ -6,11 +6,11 @@ use Rattle.kahn.specs.declared.want.Want.TheVariants.{Read, Write}
 use Rattle.kahn.specs.Basics.{Begins}
 use Rattle.kahn.specs.Processes.{Event, Reads, Writes, Does}
 use Rattle.kahn.proofs.History.{does_then}
-use Rattle.flow_edges.specs.Signals.{Signal, signal_of, ended}
-use Rattle.flow_edges.specs.Ends.{View, SameEnds, LookedForRoom, LookedForMessages, Put, Taken}
-use Rattle.flow_edges.specs.declared.ends.Refused.{Refused}
-use Rattle.flow_edges.specs.declared.ends.Why.TheVariants.{Closed}
-use Rattle.flow_edges.specs.declared.message.Msg.{Msg}
+use Rattle.flow_messages.specs.Signals.{Signal, signal_of, ended}
+use Rattle.flow_messages.specs.Ends.{View, SameEnds, LookedForRoom, LookedForMessages, Put, Taken}
+use Rattle.flow_messages.specs.declared.ends.Refused.{Refused}
+use Rattle.flow_messages.specs.declared.ends.Why.TheVariants.{Closed}
+use Rattle.flow_messages.specs.declared.message.Msg.{Msg}
 use Rattle.flow_base.specs.Transducers.{Behaviour, BehaviourLaws}
 use Rattle.flow_base.specs.Visits.{read_from, sent_after, edge_of, IsNone, Carried, SparesOthers, LeavesAlone, IsStuck, Visited, BrokeOff, IsReached, IsPlaced}
 use Rattle.flow_base.proofs.Carried.{looked_coming, looked_room, same_ends_refl, same_ends_then, prefix_same, prefix_then, read_append, sent_append, taken_received, taken_room, longer, Wrote, put_wrote}

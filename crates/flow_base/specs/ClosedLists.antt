@@ -2,8 +2,8 @@
 use Rattle.std.specs.Prelude.{◌≡◌, ℕ, ◌+◌, ◌<◌, List, [], ◌∷◌, true, false, cond, nat_lt, refl}
 use Rattle.std.proofs.Common.{inl, inr, sym, ◌∙◌, ap, arith}
 use Rattle.std.proofs.lemmas.Bool.Decides.{nat_tests}
-use Rattle.flow_edges.specs.Cells.{Cell}
-use Rattle.flow_edges.specs.Signals.{Signal, carry, stop}
+use Rattle.flow_messages.specs.Cells.{Cell}
+use Rattle.flow_messages.specs.Signals.{Signal, carry, stop}
 use Rattle.flow_base.specs.Lists.{Lists, push, with_port, IsFull}
 use Rattle.flow_base.specs.Ports.{ports, at_port, off_port, First-from}
 use Rattle.flow_base.specs.Transducers.{closed}

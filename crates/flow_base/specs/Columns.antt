@@ -2,7 +2,7 @@
 use Rattle.std.specs.Prelude.{◌≡◌, ℕ, zero, suc, ◌<◌, List, [], ◌∷◌, refl, ◌↔◌}
 use Rattle.std.proofs.Common.{sym, ◌∙◌, ap, subst, arith}
 use Rattle.std.proofs.Math.Path.{ap₂}
-use Rattle.flow_edges.specs.Cells.{Cell}
+use Rattle.flow_messages.specs.Cells.{Cell}
 use Rattle.flow_base.specs.Lists.{Lists, with_port, NothingAt, First}
 use Rattle.flow_base.specs.Ports.{at_port, off_port, by_port, nothing_at, NothingAt-from, first_of_list, First-from, each_port}
 

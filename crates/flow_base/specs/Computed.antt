@@ -2,7 +2,7 @@
 use Rattle.std.specs.Prelude.{◌≡◌, ℕ, zero, suc, ◌+◌, ◌<◌, ◌≤◌, List, [], ◌∷◌, length, Option, Some, None, Result, Ok, Err, refl, ◌↔◌}
 use Rattle.std.proofs.Common.{sym, ◌∙◌, ap, subst, arith}
 use Rattle.snesl_values.specs.declared.fault.FaultKind.{FaultKind}
-use Rattle.flow_edges.specs.Cells.{Cell}
+use Rattle.flow_messages.specs.Cells.{Cell}
 use Rattle.flow_base.specs.Lists.{Lists, First}
 use Rattle.flow_base.specs.Ports.{each_port}
 use Rattle.flow_base.specs.Columns.{Columns, columns, nothing, push_column, with_column, At}

@@ -1,6 +1,6 @@
 -- Segments as flags, and lists of lists.
 use Rattle.std.specs.Prelude.{ℕ, zero, suc, List, [], ◌∷◌, ◌++◌, length, true, false}
-use Rattle.flow_edges.specs.Cells.{Cell, flag}
+use Rattle.flow_messages.specs.Cells.{Cell, flag}
 
 -- F, which stands for an element, and T, which ends a segment
 abbrev pub F : Cell

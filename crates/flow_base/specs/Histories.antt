@@ -6,8 +6,8 @@ use Rattle.std.proofs.lemmas.Bool.Decides.{nat_tests}
 use Rattle.kahn.specs.Basics.{Begins}
 use Rattle.kahn.specs.Processes.{Process, Event, Reads, Writes, reads, writes, HasEnd}
 use Rattle.kahn.proofs.Prefix.{reads_first, reads_later, writes_first, writes_later}
-use Rattle.flow_edges.specs.Cells.{Cell}
-use Rattle.flow_edges.specs.Signals.{Signal, carry, stop}
+use Rattle.flow_messages.specs.Cells.{Cell}
+use Rattle.flow_messages.specs.Signals.{Signal, carry, stop}
 use Rattle.flow_base.specs.Lists.{Lists, push}
 use Rattle.flow_base.specs.Ports.{at_port, off_port, by_port}
 use Rattle.flow_base.specs.Transducers.{closed, closed_at}

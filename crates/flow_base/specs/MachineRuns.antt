@@ -3,8 +3,8 @@ use Rattle.std.specs.Prelude.{◌≡◌, ℕ, zero, suc, Bool, true, false, cond
 use Rattle.std.proofs.Common.{sym, subst}
 use Rattle.snesl_values.specs.declared.fault.FaultKind.{FaultKind}
 use Rattle.snesl_values.specs.declared.fault.FaultKind.TheVariants.{Shape}
-use Rattle.flow_edges.specs.Cells.{Cell, unit, is_of}
-use Rattle.flow_edges.specs.declared.message.Kind.{Kind}
+use Rattle.flow_messages.specs.Cells.{Cell, unit, is_of}
+use Rattle.flow_messages.specs.declared.message.Kind.{Kind}
 use Rattle.flow_base.specs.Columns.{Columns, nothing, push_column, pushed, At}
 use Rattle.flow_base.specs.Machines.{Taking, on_kind, Move, begins, takes, gives, taken, Machine, OnNext, RunOf, Run, Runs, SoundAt}
 

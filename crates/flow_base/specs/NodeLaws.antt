@@ -1,7 +1,7 @@
 -- A worker as a transducer keeps the laws of transducers.
 use Rattle.std.specs.Prelude.{◌≡◌, ℕ, nat_lt, refl, ◌↔◌}
 use Rattle.std.proofs.Common.{sym, subst}
-use Rattle.flow_edges.specs.Signals.{Signal}
+use Rattle.flow_messages.specs.Signals.{Signal}
 use Rattle.flow_base.specs.Lists.{Lists}
 use Rattle.flow_base.specs.Machines.{Move, begins, takes, gives, Machine, MachineLaws, ask_of, SoundAt}
 use Rattle.flow_base.specs.Transducers.{BehaviourLaws, IsLawfulTraffic}

@@ -4,8 +4,8 @@ use Rattle.std.proofs.Common.{sym, ◌∙◌, ap, subst}
 use Rattle.snesl_values.specs.declared.dialect.Dialect.{Dialect}
 use Rattle.snesl_values.specs.declared.fault.FaultKind.{FaultKind}
 use Rattle.snesl_values.specs.declared.fault.FaultKind.TheVariants.{Shape}
-use Rattle.flow_edges.specs.Cells.{Cell, is_of}
-use Rattle.flow_edges.specs.Signals.{Signal, carry, stop}
+use Rattle.flow_messages.specs.Cells.{Cell, is_of}
+use Rattle.flow_messages.specs.Signals.{Signal, carry, stop}
 use Rattle.flow_base.specs.Lists.{Lists, push, with_port, IsFull}
 use Rattle.flow_base.specs.Ports.{at_port, put_back, nothing_at, NothingAt-from}
 use Rattle.flow_base.specs.Ranges.{CellInRange, SignalInRange}

@@ -1,8 +1,8 @@
 -- A worker as a transducer keeps its promises where the worker writes.
 use Rattle.std.specs.Prelude.{◌≡◌, ℕ, ◌<◌, List, ◌∷◌, true, refl, ◌↔◌}
 use Rattle.std.proofs.Common.{sym, ◌∙◌, ap, subst}
-use Rattle.flow_edges.specs.Cells.{Cell, is_of}
-use Rattle.flow_edges.specs.Signals.{Signal, carry}
+use Rattle.flow_messages.specs.Cells.{Cell, is_of}
+use Rattle.flow_messages.specs.Signals.{Signal, carry}
 use Rattle.flow_base.specs.Lists.{Lists, push, with_port, First}
 use Rattle.flow_base.specs.Ports.{at_port, put_back, take_away, first_of_list, First-from}
 use Rattle.flow_base.specs.Ranges.{CellInRange}

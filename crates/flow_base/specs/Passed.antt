@@ -5,7 +5,7 @@ use Rattle.snesl_values.specs.declared.dialect.Dialect.{Dialect}
 use Rattle.kahn.specs.declared.want.Want.TheVariants.{Read, Write}
 use Rattle.kahn.specs.Processes.{Event, Reads, Writes, Does, reads, writes, HasEnd}
 use Rattle.kahn.proofs.Prefix.{reads_first, reads_later, writes_first, writes_later}
-use Rattle.flow_edges.specs.Signals.{Signal, stop}
+use Rattle.flow_messages.specs.Signals.{Signal, stop}
 use Rattle.flow_base.specs.Ports.{ports}
 use Rattle.flow_base.specs.Ranges.{SignalInRange, SignalsInRange, SignalOfKind, SignalsOfKind}
 use Rattle.flow_base.specs.Transducers.{Behaviour}

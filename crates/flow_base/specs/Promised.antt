@@ -7,8 +7,8 @@ use Rattle.kahn.specs.Basics.{Begins}
 use Rattle.kahn.specs.Processes.{Event, Does, reads, writes, HasEnd, IsLawful, RunsToEnd}
 use Rattle.kahn.specs.ProcessTheorems.{FollowsLists}
 use Rattle.kahn.proofs.Conclusions.{follows_lists}
-use Rattle.flow_edges.specs.Cells.{Cell}
-use Rattle.flow_edges.specs.Signals.{Signal}
+use Rattle.flow_messages.specs.Cells.{Cell}
+use Rattle.flow_messages.specs.Signals.{Signal}
 use Rattle.flow_base.specs.Lists.{Lists}
 use Rattle.flow_base.specs.Transducers.{Behaviour, BehaviourLaws, TransducerLaws, IsLawfulTraffic, closed, closed_at}
 use Rattle.flow_base.specs.Promises.{Promise, PromiseLaws}

@@ -5,8 +5,8 @@ use Rattle.snesl_values.specs.declared.fault.Fault.{Fault}
 use Rattle.snesl_values.specs.declared.fault.FaultKind.TheVariants.{Shape}
 use Rattle.kahn.specs.declared.want.Want.{Want}
 use Rattle.kahn.specs.declared.want.Want.TheVariants.{Read, Write, Ended, Faulted}
-use Rattle.flow_edges.specs.Cells.{Cell, is_of}
-use Rattle.flow_edges.specs.Signals.{Signal, carry, stop}
+use Rattle.flow_messages.specs.Cells.{Cell, is_of}
+use Rattle.flow_messages.specs.Signals.{Signal, carry, stop}
 use Rattle.flow_base.specs.Lists.{Lists, push, with_port, First, IsFull}
 use Rattle.flow_base.specs.Ranges.{SignalInRange, SignalOfKind}
 use Rattle.flow_base.specs.Transducers.{Behaviour, IsLawfulTraffic}

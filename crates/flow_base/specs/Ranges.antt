@@ -3,9 +3,9 @@ use Rattle.std.specs.Prelude.{◌≡◌, true, List, [], ◌∷◌}
 use Rattle.snesl_values.specs.declared.dialect.Dialect.{Dialect}
 use Rattle.snesl_values.specs.Integers.{IsInteger}
 use Rattle.snesl_values.specs.Values.{Value, Values, an_int, a_bool, a_pair, a_vec, a_seq, no_values, more_values}
-use Rattle.flow_edges.specs.Cells.{Cell, unit, flag, int, datum, is_of}
-use Rattle.flow_edges.specs.Signals.{Signal, carry, stop}
-use Rattle.flow_edges.specs.declared.message.Kind.{Kind}
+use Rattle.flow_messages.specs.Cells.{Cell, unit, flag, int, datum, is_of}
+use Rattle.flow_messages.specs.Signals.{Signal, carry, stop}
+use Rattle.flow_messages.specs.declared.message.Kind.{Kind}
 
 -- the integers in the value lie in the range of the dialect
 abbrev mutual

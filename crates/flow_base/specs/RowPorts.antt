@@ -1,6 +1,6 @@
 -- Rows as laws between the bodies at ports: what lies at other numbers does not matter to them.
 use Rattle.std.specs.Prelude.{◌≡◌, ℕ, ◌<◌}
-use Rattle.flow_edges.specs.Cells.{Cell}
+use Rattle.flow_messages.specs.Cells.{Cell}
 use Rattle.flow_base.specs.Lists.{Lists}
 use Rattle.flow_base.specs.Transducers.{Behaviour}
 

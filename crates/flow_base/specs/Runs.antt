@@ -9,7 +9,7 @@ use Rattle.kahn.specs.Basics.{total}
 use Rattle.kahn.specs.Processes.{Event, Reads, Writes, Does, writes, RunsToEnd}
 use Rattle.kahn.proofs.Prefix.{reads_first, reads_later, writes_first, writes_later}
 use Rattle.kahn.proofs.Search.{total_falls}
-use Rattle.flow_edges.specs.Signals.{Signal}
+use Rattle.flow_messages.specs.Signals.{Signal}
 use Rattle.flow_base.specs.Lists.{Lists, push, with_port}
 use Rattle.flow_base.specs.Ports.{ports, at_port, off_port, put_back, take_away, first_of_list, First-from}
 use Rattle.flow_base.specs.Transducers.{Behaviour}

@@ -7,8 +7,8 @@ use Rattle.kahn.specs.declared.want.Want.{Want}
 use Rattle.kahn.specs.declared.want.Want.TheVariants.{Read, Write, Ended, Faulted}
 use Rattle.kahn.specs.Basics.{Begins}
 use Rattle.kahn.specs.Processes.{Event, Reads, Writes, Does, reads, writes, HasEnd, IsLawful, RunsToEnd}
-use Rattle.flow_edges.specs.Cells.{Cell}
-use Rattle.flow_edges.specs.Signals.{Signal, stop}
+use Rattle.flow_messages.specs.Cells.{Cell}
+use Rattle.flow_messages.specs.Signals.{Signal, stop}
 use Rattle.flow_base.specs.Lists.{Lists}
 use Rattle.flow_base.specs.Transducers.{Behaviour, BehaviourLaws, TransducerLaws, IsLawfulTraffic, closed, closed_at}
 

@@ -6,8 +6,8 @@ use Rattle.kahn.specs.declared.want.Want.{Want}
 use Rattle.kahn.specs.declared.want.Want.TheVariants.{Read, Write, Ended, Faulted}
 use Rattle.kahn.specs.Basics.{Begins}
 use Rattle.kahn.specs.Processes.{Process, Event, Reads, Writes, Does}
-use Rattle.flow_edges.specs.Signals.{Signal, ended}
-use Rattle.flow_edges.specs.Ends.{View, held, SameTraffic}
+use Rattle.flow_messages.specs.Signals.{Signal, ended}
+use Rattle.flow_messages.specs.Ends.{View, held, SameTraffic}
 use Rattle.flow_base.specs.Transducers.{Behaviour}
 
 -- what the events read from edge e, where input port p has the edge `edge p`

@@ -1,8 +1,8 @@
 // Transducers made of workers: what they do where streams end.
 
 ghost use Rattle.std.specs.Prelude.{◌≡◌, ◌+◌, ◌<◌, ◌≤◌, true, false, nat_lt, IfOk, OnErr, IsOk};
-ghost use Rattle.flow_edges.specs.Signals.{signal_of};
-ghost use Rattle.flow_edges.specs.Ends.{SameEnds};
+ghost use Rattle.flow_messages.specs.Signals.{signal_of};
+ghost use Rattle.flow_messages.specs.Ends.{SameEnds};
 ghost use Rattle.flow_base.specs.Machines.{move_of, ask_of};
 ghost use Rattle.flow_base.specs.Workers.{IsReading};
 ghost use Rattle.flow_base.specs.Nodes.{closing, opened, want_for};
@@ -11,7 +11,7 @@ ghost use Rattle.flow_base.specs.declared.node.Phase.TheVariants.{Working};
 
 use crate::transducer::{Port, Side, Transducer};
 use crate::worker::{Ask, Stop, Worker};
-use flow_edges::{Ends, Msg};
+use flow_messages::{Ends, Msg};
 use kahn::Want;
 use snesl_values::{Fault, FaultKind};
 use std::alloc::AllocError;

@@ -3,7 +3,7 @@
 ghost use Rattle.std.specs.Prelude.{◌≡◌};
 ghost use Rattle.flow_base.specs.Transducers.{TransducerLaws};
 
-use flow_edges::{Ends, Kind, Msg};
+use flow_messages::{Ends, Kind, Msg};
 use kahn::Want;
 use std::alloc::AllocError;
 
@@ -31,8 +31,8 @@ pub struct Port {
 pub trait Transducer {
     ghost use Rattle.std.specs.Prelude.{◌≡◌, ◌<◌, ℕ, false, IfOk, OnOk, OnErr, IsOk};
     ghost use Rattle.kahn.specs.declared.want.Want.TheVariants.{Read};
-    ghost use Rattle.flow_edges.specs.Signals.{signal_of};
-    ghost use Rattle.flow_edges.specs.Ends.{SameEnds};
+    ghost use Rattle.flow_messages.specs.Signals.{signal_of};
+    ghost use Rattle.flow_messages.specs.Ends.{SameEnds};
     ghost use Rattle.flow_base.specs.Transducers.{Behaviour, BehaviourLaws, IsWrite, ports_on, kind_on};
     ghost use Rattle.flow_base.specs.Visits.{IsPlaced, Visited, BrokeOff};
 

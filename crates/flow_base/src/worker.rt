@@ -3,7 +3,7 @@
 ghost use Rattle.std.specs.Prelude.{◌≡◌, false, IfOk, OnErr, IsOk};
 ghost use Rattle.flow_base.specs.Computed.{ComputesRow};
 
-use flow_edges::{Item, Kind};
+use flow_messages::{Item, Kind};
 use snesl_values::FaultKind;
 use std::alloc::AllocError;
 
@@ -52,7 +52,7 @@ impl From<AllocError> for Stop {
 /// Its laws speak of an abstract state, and of what items carry.
 pub trait Worker {
     ghost use Rattle.std.specs.Prelude.{ℕ};
-    ghost use Rattle.flow_edges.specs.Cells.{cell_of};
+    ghost use Rattle.flow_messages.specs.Cells.{cell_of};
     ghost use Rattle.flow_base.specs.Workers.{Takes, IsReading, IsWriting};
     ghost use Rattle.flow_base.specs.Machines.{Machine, MachineLaws, move_of, ask_of, given_of, told_of, after_of, with_parameters};
     ghost use Rattle.flow_base.specs.declared.worker.Stop.TheVariants.{OutOfMemory};

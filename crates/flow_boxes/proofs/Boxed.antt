@@ -1,9 +1,9 @@
 -- What a carrying changes in the shares.
 use Rattle.std.proofs.Common.{◌≡◌, ℕ, ◌+◌, ◌<◌, ◌≤◌, List, [], ◌++◌, length, refl, ap, sym, ◌∙◌, get_or, set, arith}
 use Rattle.std.specs.Prelude.{Option, Some}
-use Rattle.flow_edges.specs.Signals.{Signal, signals}
-use Rattle.flow_edges.specs.TableLaws.{signals-length}
-use Rattle.flow_edges.proofs.Signals.{signals-nil}
+use Rattle.flow_messages.specs.Signals.{Signal, signals}
+use Rattle.flow_messages.specs.TableLaws.{signals-length}
+use Rattle.flow_messages.proofs.Signals.{signals-nil}
 use Rattle.flow_boxes.specs.declared.outbox.Outbox.{Outbox}
 use Rattle.flow_boxes.specs.declared.inbox.Inbox.{Inbox}
 use Rattle.flow_boxes.specs.Contents.{Contents, contents_of}

@@ -2,12 +2,12 @@
 use Rattle.std.proofs.Common.{◌≡◌, ◌≢◌, ℕ, zero, suc, ◌+◌, ◌<◌, ◌≤◌, true, false, List, [], ◌∷◌, ◌++◌, length, refl, ap, sym, ◌∙◌, get_or, set, arith, length-set, length-append, append-nil, append_assoc, ◌⊎◌, inl, inr}
 use Rattle.std.proofs.lemmas.Bool.{cases_eq}
 use Rattle.std.specs.Prelude.{Option, Some}
-use Rattle.flow_edges.specs.declared.message.Msg.{Msg}
-use Rattle.flow_edges.specs.Signals.{Signal, signals, signal_of}
-use Rattle.flow_edges.specs.Tables.{at_line}
-use Rattle.flow_edges.specs.Ends.{LookedForRoom, LookedForMessages, Put, Taken}
-use Rattle.flow_edges.proofs.Signals.{signals-cons, signals-snoc}
-use Rattle.flow_edges.proofs.Tables.{at_line-here, at_line-same, at_line-other, at_line-kept}
+use Rattle.flow_messages.specs.declared.message.Msg.{Msg}
+use Rattle.flow_messages.specs.Signals.{Signal, signals, signal_of}
+use Rattle.flow_messages.specs.Tables.{at_line}
+use Rattle.flow_messages.specs.Ends.{LookedForRoom, LookedForMessages, Put, Taken}
+use Rattle.flow_messages.proofs.Signals.{signals-cons, signals-snoc}
+use Rattle.flow_messages.proofs.Tables.{at_line-here, at_line-same, at_line-other, at_line-kept}
 use Rattle.flow_boxes.specs.declared.outbox.Outbox.{Outbox}
 use Rattle.flow_boxes.specs.declared.inbox.Inbox.{Inbox}
 use Rattle.flow_boxes.specs.Contents.{Contents, contents_of, sent_in, leaving_in, room_in, writes_in, received_in, coming_in, reads_in}

@@ -1,10 +1,10 @@
 -- One box more, and a share without any.
 use Rattle.std.proofs.Common.{◌≡◌, ℕ, zero, suc, ◌<◌, false, List, [], ◌∷◌, ◌++◌, length, refl, ap, ◌∙◌, set, length-set}
 use Rattle.std.specs.Prelude.{Option, Some, None}
-use Rattle.flow_edges.specs.Signals.{signals}
-use Rattle.flow_edges.specs.Tables.{at_line}
-use Rattle.flow_edges.proofs.Signals.{signals-nil}
-use Rattle.flow_edges.proofs.Tables.{at_line-same, at_line-other}
+use Rattle.flow_messages.specs.Signals.{signals}
+use Rattle.flow_messages.specs.Tables.{at_line}
+use Rattle.flow_messages.proofs.Signals.{signals-nil}
+use Rattle.flow_messages.proofs.Tables.{at_line-same, at_line-other}
 use Rattle.flow_boxes.specs.declared.outbox.Outbox.{Outbox}
 use Rattle.flow_boxes.specs.declared.inbox.Inbox.{Inbox}
 use Rattle.flow_boxes.specs.Contents.{contents_of, sent_in, leaving_in, room_in, writes_in, received_in, coming_in, reads_in}

@@ -1,8 +1,8 @@
 -- What a contract sees of the boxes of a share.
 use Rattle.std.specs.Prelude.{ℕ, Bool, true, false, List, [], length, Option, Some, None}
-use Rattle.flow_edges.specs.Signals.{Signal, signals}
-use Rattle.flow_edges.specs.Ends.{View}
-use Rattle.flow_edges.specs.Tables.{at_line}
+use Rattle.flow_messages.specs.Signals.{Signal, signals}
+use Rattle.flow_messages.specs.Ends.{View}
+use Rattle.flow_messages.specs.Tables.{at_line}
 use Rattle.flow_boxes.specs.declared.outbox.Outbox.{Outbox}
 use Rattle.flow_boxes.specs.declared.inbox.Inbox.{Inbox}
 use Rattle.flow_boxes.specs.declared.boxes.Boxes.{Boxes}

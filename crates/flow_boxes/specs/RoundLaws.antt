@@ -1,6 +1,6 @@
 -- The same boxes, over several calls within a round.
 use Rattle.std.proofs.Common.{List, [], ◌++◌, refl, sym, ap, ◌∙◌, arith, append_assoc, append-nil}
-use Rattle.flow_edges.specs.Signals.{Signal}
+use Rattle.flow_messages.specs.Signals.{Signal}
 use Rattle.flow_boxes.specs.Contents.{Contents}
 use Rattle.flow_boxes.specs.Rounds.{SameBoxes, KeepsRound, GrowAlike}
 

@@ -1,7 +1,7 @@
 -- What happens within a round, and between two.
 use Rattle.std.specs.Prelude.{◌≡◌, ◌≢◌, ℕ, ◌+◌, ◌≤◌, true, false, List, [], ◌++◌, length, drop}
-use Rattle.flow_edges.specs.Signals.{Signal}
-use Rattle.flow_edges.specs.Ends.{held, SameEnds, SameTraffic}
+use Rattle.flow_messages.specs.Signals.{Signal}
+use Rattle.flow_messages.specs.Ends.{held, SameEnds, SameTraffic}
 use Rattle.flow_boxes.specs.Contents.{Contents}
 
 -- the same boxes are there

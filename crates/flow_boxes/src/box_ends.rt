@@ -6,7 +6,7 @@ ghost use Rattle.flow_boxes.specs.Rounds.{KeepsRound, HasNone, OpensWriter, Open
 use crate::boxes::Boxes;
 use crate::inbox::Inbox;
 use crate::outbox::Outbox;
-use flow_edges::{CountedEnds, Ends, Msg, Refused};
+use flow_messages::{CountedEnds, Ends, Msg, Refused};
 use std::alloc::{AllocError, Global};
 
 impl Boxes {

@@ -3,7 +3,7 @@ ghost use Rattle.std.specs.Prelude.{◌≡◌, ◌≤◌, [], ◌∷◌, ◌++�
 ghost use Rattle.std.specs.VecDeque.{deque_capacity};
 ghost use Rattle.std.specs.Io.Iter.{u64_saturate};
 
-use flow_edges::Msg;
+use flow_messages::Msg;
 use flow_history::History;
 use std::alloc::{AllocError, Global};
 use std::collections::VecDeque;

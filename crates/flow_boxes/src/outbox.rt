@@ -2,11 +2,11 @@
 ghost use Rattle.std.specs.Prelude.{◌≡◌, ◌+◌, ◌<◌, ◌≤◌, ◌↔◌, true, false, [], ◌∷◌, ◌++◌, length, IsOk, OnOk, IfOk, IfErr, IsErrAnd};
 ghost use Rattle.std.specs.VecDeque.{deque_capacity};
 ghost use Rattle.std.specs.Io.Iter.{u64_saturate};
-ghost use Rattle.flow_edges.specs.Signals.{signals, ended, orderly};
-ghost use Rattle.flow_edges.specs.declared.ends.Why.TheVariants.{Full, Closed};
+ghost use Rattle.flow_messages.specs.Signals.{signals, ended, orderly};
+ghost use Rattle.flow_messages.specs.declared.ends.Why.TheVariants.{Full, Closed};
 
 use crate::inbox::Inbox;
-use flow_edges::{Msg, Refused, Why};
+use flow_messages::{Msg, Refused, Why};
 use flow_history::History;
 use std::alloc::{AllocError, Global};
 use std::collections::VecDeque;
@@ -30,7 +30,7 @@ pub struct Outbox {
 
 impl Outbox {
     /// An empty box, with room for the capacity.
-    #[tactic(auto, using(flow_edges::proofs::Signals::signal_steps))]
+    #[tactic(auto, using(flow_messages::proofs::Signals::signal_steps))]
     pub fn new(alloc: Global, capacity: usize) -> Result<Outbox, AllocError>
         ensures fresh { IfOk result (λ o. (o.sent.items ≡ []) × (o.queue.items ≡ []) × (o.room ≡ capacity)) }
         ensures reserved { IfOk result (λ o. capacity ≤ deque_capacity o.queue) }
@@ -47,7 +47,7 @@ impl Outbox {
 
     /// Puts a message behind all others, or gives it back.
     #[inline(always)]
-    #[tactic(auto, using(flow_edges::proofs::Signals::signal_steps))]
+    #[tactic(auto, using(flow_messages::proofs::Signals::signal_steps))]
     pub fn put(&mut self, message: Msg) -> Result<(), Refused>
         ensures reserved { deque_capacity self.new.queue ≡ deque_capacity self.old.queue }
         ensures ok { OnOk result ((self.new.sent.items ≡ self.old.sent.items ++ message ∷ []) × (self.new.queue.items ≡ self.old.queue.items ++ message ∷ []) × (self.new.room + 1 ≡ self.old.room)) }

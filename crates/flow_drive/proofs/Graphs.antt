@@ -4,9 +4,9 @@ use Rattle.std.proofs.lemmas.Bool.Decides.{nat_tests}
 use Rattle.kahn.specs.Networks.{Network, IsWired}
 use Rattle.kahn.specs.Configurations.{Configuration, IsSound}
 use Rattle.kahn.proofs.Steps.{sound_run}
-use Rattle.flow_edges.specs.Ends.{View, SameEnds}
-use Rattle.flow_edges.specs.Signals.{Signal}
-use Rattle.flow_edges.specs.Tables.{IsFresh}
+use Rattle.flow_messages.specs.Ends.{View, SameEnds}
+use Rattle.flow_messages.specs.Signals.{Signal}
+use Rattle.flow_messages.specs.Tables.{IsFresh}
 use Rattle.flow_base.specs.Transducers.{Behaviour}
 use Rattle.flow_graph.specs.declared.edge.Edge.{Edge}
 use Rattle.flow_graph.specs.Networks.{network_of, configuration_of}

@@ -6,12 +6,12 @@ use Rattle.std.specs.List.{All}
 use Rattle.std.specs.Io.Iter.{u64_saturate}
 use Rattle.std.proofs.Props.{props}
 use mathlib.Core.Logic.{∥∥₁_elim}
-use Rattle.flow_edges.specs.declared.line.Line.{Line}
-use Rattle.flow_edges.specs.Ends.{View, held}
-use Rattle.flow_edges.specs.Signals.{Signal}
-use Rattle.flow_edges.specs.TableLaws.{signals-length, whole_table}
-use Rattle.flow_edges.specs.Tables.{view_of_lines, ends_of, capacity_of}
-use Rattle.flow_edges.proofs.Waiting.{waits-length}
+use Rattle.flow_messages.specs.declared.line.Line.{Line}
+use Rattle.flow_messages.specs.Ends.{View, held}
+use Rattle.flow_messages.specs.Signals.{Signal}
+use Rattle.flow_messages.specs.TableLaws.{signals-length, whole_table}
+use Rattle.flow_messages.specs.Tables.{view_of_lines, ends_of, capacity_of}
+use Rattle.flow_messages.proofs.Waiting.{waits-length}
 use Rattle.flow_graph.specs.declared.edge.Edge.{Edge}
 use Rattle.flow_graph.specs.Edges.{edge_at}
 use Rattle.flow_boxes.specs.Contents.{view_of}

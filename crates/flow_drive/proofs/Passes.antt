@@ -8,8 +8,8 @@ use Rattle.kahn.specs.Runs.{Reaches}
 use Rattle.kahn.proofs.Finite.{most_events}
 use Rattle.kahn.proofs.Steps.{sound_start, sound_run}
 use Rattle.kahn.proofs.Turns.{reaches_then}
-use Rattle.flow_edges.specs.Ends.{View}
-use Rattle.flow_edges.specs.Tables.{IsFresh}
+use Rattle.flow_messages.specs.Ends.{View}
+use Rattle.flow_messages.specs.Tables.{IsFresh}
 use Rattle.flow_base.specs.Transducers.{Behaviour}
 use Rattle.flow_base.specs.declared.transducer.Transducer.{Ghosts}
 use Rattle.flow_graph.specs.declared.edge.Edge.{Edge}

@@ -9,8 +9,8 @@ use Rattle.kahn.specs.Networks.{Network, IsWired, AllLawful}
 use Rattle.kahn.specs.Configurations.{Configuration, start, held, IsSound, NoneFaulted, AllEnded, IsLeastBlocked}
 use Rattle.kahn.proofs.Rest.{stalled_or_ended}
 use Rattle.kahn.proofs.Steps.{sound_start, sound_run}
-use Rattle.flow_edges.specs.Ends.{View}
-use Rattle.flow_edges.specs.Signals.{Signal}
+use Rattle.flow_messages.specs.Ends.{View}
+use Rattle.flow_messages.specs.Signals.{Signal}
 use Rattle.flow_base.specs.Transducers.{Behaviour}
 use Rattle.flow_graph.specs.declared.edge.Edge.{Edge}
 use Rattle.flow_graph.specs.Networks.{network_of, configuration_of}

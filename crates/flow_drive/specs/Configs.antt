@@ -1,7 +1,7 @@
 -- Which configurations of a drive are lawful.
 use Rattle.std.specs.Prelude.{ℕ, ◌<◌, ◌≤◌, length}
 use Rattle.std.specs.List.{All}
-use Rattle.flow_edges.specs.Limits.{greatest_capacity}
+use Rattle.flow_messages.specs.Limits.{greatest_capacity}
 use Rattle.flow_drive.specs.declared.config.Config.{Config}
 use Rattle.flow_drive.specs.declared.config.Drive.{Drive}
 use Rattle.flow_drive.specs.declared.config.Drive.TheVariants.{Serial, Rounds, Rings}

@@ -6,8 +6,8 @@ use Rattle.kahn.specs.Processes.{Event}
 use Rattle.kahn.specs.Configurations.{start, IsSound}
 use Rattle.kahn.specs.Runs.{AtRest, Maximal}
 use Rattle.kahn.specs.Outcomes.{HasOutcome}
-use Rattle.flow_edges.specs.Signals.{Signal}
-use Rattle.flow_edges.specs.Ends.{View}
+use Rattle.flow_messages.specs.Signals.{Signal}
+use Rattle.flow_messages.specs.Ends.{View}
 use Rattle.flow_base.specs.Transducers.{Behaviour}
 use Rattle.flow_graph.specs.declared.edge.Edge.{Edge}
 use Rattle.flow_graph.specs.Edges.{edge_at}

@@ -1,9 +1,9 @@
 -- The edges of a graph at rest: both ends of each in one table, or in shares, over boxes or over rings.
 use Rattle.std.specs.Prelude.{◌≡◌, ℕ, ◌+◌, ◌<◌, List, [], length, map, slice_index_or}
 use Rattle.kahn.specs.Basics.{total}
-use Rattle.flow_edges.specs.Ends.{View}
-use Rattle.flow_edges.specs.Tables.{ends_of, capacity_of}
-use Rattle.flow_edges.specs.declared.table.Table.{Table}
+use Rattle.flow_messages.specs.Ends.{View}
+use Rattle.flow_messages.specs.Tables.{ends_of, capacity_of}
+use Rattle.flow_messages.specs.declared.table.Table.{Table}
 use Rattle.flow_graph.specs.declared.edge.Edge.{Edge}
 use Rattle.flow_graph.specs.Edges.{edge_at}
 use Rattle.flow_graph.specs.Visits.{HasAllEnds}

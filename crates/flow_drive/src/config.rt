@@ -3,7 +3,7 @@ ghost use Rattle.std.specs.Prelude.{◌<◌, ◌↔◌, IsTrue};
 ghost use Rattle.std.specs.List.{All};
 ghost use Rattle.flow_drive.specs.Configs.{IsWithin, IsLawfulSharing, IsLawful};
 
-use flow_edges::Table;
+use flow_messages::Table;
 
 /// The most steps of a node at one visit.
 pub const MAX_CHUNK: usize = 1_024;
@@ -31,7 +31,7 @@ pub enum Drive {
 /// How a graph is to be driven.
 #[derive(Debug, Drop)]
 pub struct Config {
-    /// How many messages an edge holds at most, 1 to [`flow_edges::MAX_CAPACITY`].
+    /// How many messages an edge holds at most, 1 to [`flow_messages::MAX_CAPACITY`].
     pub capacity: usize,
     /// How many steps a node makes at most before the next node has its turn, 1 to [`MAX_CHUNK`].
     pub chunk: usize,

@@ -18,7 +18,7 @@ use crate::rested::Rested;
 use crate::rounds::drive_rounds;
 use crate::serial::run_serial;
 use flow_base::Transducer;
-use flow_edges::Table;
+use flow_messages::Table;
 use flow_graph::Graph;
 use flow_shares::Gate;
 use flow_workers::WorkError;

@@ -5,7 +5,7 @@ ghost use Rattle.flow_deal.specs.Deals.{share_of};
 
 use flow_boxes::Boxes;
 use flow_deal::share_of;
-use flow_edges::{CountedEnds, Table};
+use flow_messages::{CountedEnds, Table};
 use flow_graph::Edge;
 use flow_rings::Rings;
 

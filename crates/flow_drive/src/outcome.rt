@@ -2,7 +2,7 @@
 ghost use Rattle.std.specs.Prelude.{◌<◌, ℕ, length, MatchOption};
 ghost use Rattle.kahn.specs.Configurations.{NoneFaulted};
 ghost use Rattle.kahn.specs.Outcomes.{NamesFault};
-ghost use Rattle.flow_edges.specs.Ends.{View};
+ghost use Rattle.flow_messages.specs.Ends.{View};
 ghost use Rattle.flow_graph.specs.Graphs.{states_of, edges_of};
 ghost use Rattle.flow_graph.specs.Networks.{network_of, configuration_of};
 ghost use Rattle.flow_drive.specs.Drives.{WantsToWrite, IsFirstToWrite};

@@ -7,7 +7,7 @@ ghost use Rattle.flow_graph.specs.Visits.{HasAllEnds, Visits};
 
 use crate::over::is_over;
 use flow_base::Transducer;
-use flow_edges::WholeEnds;
+use flow_messages::WholeEnds;
 use flow_graph::Graph;
 use std::alloc::AllocError;
 

@@ -9,7 +9,7 @@ use crate::lines::Lines;
 use crate::outcome::{first_to_write, standing_fault};
 use crate::rested::Rested;
 use flow_base::{Printing, Transducer};
-use flow_edges::CountedEnds;
+use flow_messages::CountedEnds;
 use flow_rings::Rings;
 use kahn::Outcome;
 

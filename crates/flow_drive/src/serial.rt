@@ -1,7 +1,7 @@
 // The drive of one thread.
 ghost use Rattle.std.specs.Prelude.{◌≡◌, ◌<◌, ◌⊎◌, ℕ, true, length, IfOk, OnOk};
 ghost use Rattle.std.specs.List.{All, Contains};
-ghost use Rattle.flow_edges.specs.Tables.{IsFresh};
+ghost use Rattle.flow_messages.specs.Tables.{IsFresh};
 ghost use Rattle.flow_graph.specs.Networks.{state_at, AreOpened};
 ghost use Rattle.flow_graph.specs.Graphs.{states_of, edges_of};
 ghost use Rattle.flow_graph.specs.Shapes.{KeepsShape};
@@ -11,7 +11,7 @@ ghost use Rattle.flow_drive.specs.Drives.{EndsMaximalRun};
 use crate::over::is_over;
 use crate::pass::pass_over;
 use flow_base::Transducer;
-use flow_edges::WholeEnds;
+use flow_messages::WholeEnds;
 use flow_graph::Graph;
 use std::alloc::{AllocError, Global};
 

@@ -4,7 +4,7 @@ use native.Mathlib.Bridge.{le_prop}
 use mathlib.Core.Logic.{∥∥₁_elim}
 use Rattle.kahn.specs.Configurations.{moved}
 use Rattle.kahn.specs.Traffic.{WholeTraffic}
-use Rattle.flow_edges.specs.declared.ends.Ends.{Ghosts as EndsGhosts}
+use Rattle.flow_messages.specs.declared.ends.Ends.{Ghosts as EndsGhosts}
 use Rattle.flow_base.specs.declared.transducer.Transducer.{Ghosts}
 use Rattle.flow_rings.specs.declared.rings.Rings.{Rings}
 use Rattle.flow_shares.specs.declared.share.Share.{Share}

@@ -2,8 +2,8 @@
 use Rattle.std.proofs.Common.{◌≡◌, ℕ, ◌<◌, List, length, map, get_or, Some, sym, ◌∙◌, ap, subst, arith}
 use Rattle.kahn.specs.Configurations.{IsSound}
 use Rattle.kahn.specs.Runs.{AtRest}
-use Rattle.flow_edges.specs.Ends.{View}
-use Rattle.flow_edges.specs.declared.ends.Ends.{Ghosts as EndsGhosts}
+use Rattle.flow_messages.specs.Ends.{View}
+use Rattle.flow_messages.specs.declared.ends.Ends.{Ghosts as EndsGhosts}
 use Rattle.flow_base.specs.declared.transducer.Transducer.{Ghosts}
 use Rattle.flow_graph.specs.Edges.{edge_at}
 use Rattle.flow_rings.specs.declared.rings.Rings.{Rings}

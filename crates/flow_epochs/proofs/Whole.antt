@@ -9,9 +9,9 @@ use Rattle.kahn.specs.Configurations.{Configuration, moved}
 use Rattle.kahn.specs.Runs.{AtRest}
 use Rattle.kahn.specs.Traffic.{WholeTraffic}
 use Rattle.kahn.proofs.Conclusions.{whole_traffic}
-use Rattle.flow_edges.specs.Signals.{Signal}
-use Rattle.flow_edges.specs.Ends.{View, SameTraffic}
-use Rattle.flow_edges.specs.declared.ends.Ends.{Ghosts as EndsGhosts}
+use Rattle.flow_messages.specs.Signals.{Signal}
+use Rattle.flow_messages.specs.Ends.{View, SameTraffic}
+use Rattle.flow_messages.specs.declared.ends.Ends.{Ghosts as EndsGhosts}
 use Rattle.flow_base.specs.Transducers.{BehaviourLaws}
 use Rattle.flow_base.specs.declared.transducer.Transducer.{Ghosts}
 use Rattle.flow_graph.specs.Places.{placed_state, states_in}

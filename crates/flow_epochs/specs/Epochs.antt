@@ -2,8 +2,8 @@
 use Rattle.std.specs.Prelude.{◌≡◌, ℕ, ◌<◌, List, length, map, Some, slice_index_or}
 use Rattle.kahn.specs.Configurations.{Configuration, IsSound}
 use Rattle.kahn.specs.Runs.{AtRest}
-use Rattle.flow_edges.specs.Signals.{Signal}
-use Rattle.flow_edges.specs.declared.ends.Ends.{Ghosts as EndsGhosts}
+use Rattle.flow_messages.specs.Signals.{Signal}
+use Rattle.flow_messages.specs.declared.ends.Ends.{Ghosts as EndsGhosts}
 use Rattle.flow_base.specs.declared.transducer.Transducer.{Ghosts}
 use Rattle.flow_graph.specs.Edges.{edge_at}
 use Rattle.flow_graph.specs.Layouts.{AreSamePlaces}

@@ -2,7 +2,7 @@
 use Rattle.std.specs.Prelude.{◌*◌, ◌≤◌, List, [], ◌∷◌, length}
 use Rattle.kahn.specs.Basics.{total}
 use Rattle.kahn.specs.Traffic.{WholeTraffic}
-use Rattle.flow_edges.specs.declared.ends.Ends.{Ghosts as EndsGhosts}
+use Rattle.flow_messages.specs.declared.ends.Ends.{Ghosts as EndsGhosts}
 use Rattle.flow_base.specs.declared.transducer.Transducer.{Ghosts}
 use Rattle.flow_rings.specs.declared.rings.Rings.{Rings}
 use Rattle.flow_shares.specs.declared.share.Share.{Share}

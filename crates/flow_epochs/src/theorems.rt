@@ -2,7 +2,7 @@
 ghost use Rattle.flow_epochs.specs.Few.{EpochsAreFew};
 
 use flow_base::Transducer;
-use flow_edges::Ends;
+use flow_messages::Ends;
 use flow_rings::Rings;
 
 /// Where epochs follow each other, and a node can step before each, there are at most twice as many as messages that are

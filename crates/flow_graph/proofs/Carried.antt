@@ -6,8 +6,8 @@ use Rattle.kahn.specs.declared.want.Want.TheVariants.{Read, Write}
 use Rattle.kahn.specs.Processes.{Process, Event, Reads, Writes, Does, HasEnd, IsLawful, reads, writes}
 use Rattle.kahn.specs.Networks.{Network, IsWired}
 use Rattle.kahn.proofs.History.{does_then, writes_push, writes_push_other, writes_push_read}
-use Rattle.flow_edges.specs.Signals.{Signal, stop, ended}
-use Rattle.flow_edges.specs.Ends.{View}
+use Rattle.flow_messages.specs.Signals.{Signal, stop, ended}
+use Rattle.flow_messages.specs.Ends.{View}
 use Rattle.flow_base.specs.Transducers.{Behaviour, BehaviourLaws}
 use Rattle.flow_base.specs.Visits.{Visited, BrokeOff, read_from, sent_after}
 use Rattle.flow_graph.proofs.Reached.{Follows, follows_does}

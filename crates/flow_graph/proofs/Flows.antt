@@ -7,8 +7,8 @@ use Rattle.kahn.specs.Networks.{Network}
 use Rattle.kahn.specs.Configurations.{Configuration, IsReached, IsSound, IsComplete}
 use Rattle.kahn.specs.Traffic.{Carries, Completes}
 use Rattle.kahn.proofs.Conclusions.{carries_from_nodes, one_traffic, same_traffic, all_received, never_stalls, runs_are_sound}
-use Rattle.flow_edges.specs.Cells.{Cell}
-use Rattle.flow_edges.specs.Signals.{Signal, carry, stop}
+use Rattle.flow_messages.specs.Cells.{Cell}
+use Rattle.flow_messages.specs.Signals.{Signal, carry, stop}
 use Rattle.flow_base.specs.Transducers.{Behaviour, BehaviourLaws, TransducerLaws, IsLawfulTraffic, closed, closed_at}
 use Rattle.flow_base.specs.Histories.{closed_inside}
 use Rattle.flow_graph.specs.declared.edge.Edge.{Edge}

@@ -2,8 +2,8 @@
 use Rattle.std.proofs.Common.{◌≡◌, ℕ, ◌<◌, List, [], ◌∷◌, ◌++◌, length, get_or, map, Result, Ok, Err, IsOk, is_ok, if◌then◌else◌, ◌⊎◌, inl, inr, sym, ◌∙◌, ap, subst, arith}
 use Rattle.std.proofs.lemmas.Bool.{cases_eq}
 use Rattle.std.proofs.lemmas.List.{get_or-map, get_or_append_left, get_or_push, length_push, length-map, map-append}
-use Rattle.flow_edges.specs.declared.message.Kind.{Kind}
-use Rattle.flow_edges.specs.declared.message.Kind.TheVariants.{Unit as UnitKind}
+use Rattle.flow_messages.specs.declared.message.Kind.{Kind}
+use Rattle.flow_messages.specs.declared.message.Kind.TheVariants.{Unit as UnitKind}
 use Rattle.flow_base.specs.Transducers.{Behaviour}
 use Rattle.flow_graph.specs.Limits.{most_nodes, most_edges}
 use Rattle.flow_graph.specs.declared.edge.Edge.{Edge}

@@ -1,9 +1,9 @@
 -- What the test of two kinds says.
 use Rattle.std.proofs.Common.{rules, ◌≡◌, Bool, true, refl, sym, ◌∙◌, ap}
 use denote.Enum.Bare.{sameb, same_true}
-use Rattle.flow_edges.specs.declared.message.Kind.{Kind}
-use Rattle.flow_edges.specs.declared.message.Kind.TheVariants.{Unit as UnitKind, Bool as BoolKind, Int as IntKind, Vec as VecKind}
-use Rattle.flow_edges.specs.contracts.message.Kind.{the_type}
+use Rattle.flow_messages.specs.declared.message.Kind.{Kind}
+use Rattle.flow_messages.specs.declared.message.Kind.TheVariants.{Unit as UnitKind, Bool as BoolKind, Int as IntKind, Vec as VecKind}
+use Rattle.flow_messages.specs.contracts.message.Kind.{the_type}
 
 same_itself : (a : Kind) → sameb the_type a a ≡ true
 same_itself UnitKind = refl

@@ -5,11 +5,11 @@ use mathlib.Core.List.{IsPrefix}
 use Rattle.kahn.specs.declared.want.Want.TheVariants.{Read, Write}
 use Rattle.flow_base.specs.Transducers.{Behaviour}
 use Rattle.flow_base.proofs.Visits.{no_room}
-use Rattle.flow_edges.specs.Signals.{Signal, ended}
-use Rattle.flow_edges.specs.Ends.{View, SameEnds, LookedForRoom, Put, Taken}
-use Rattle.flow_edges.specs.declared.ends.Refused.{Refused}
-use Rattle.flow_edges.specs.declared.ends.Why.TheVariants.{Closed}
-use Rattle.flow_edges.specs.declared.message.Msg.{Msg}
+use Rattle.flow_messages.specs.Signals.{Signal, ended}
+use Rattle.flow_messages.specs.Ends.{View, SameEnds, LookedForRoom, Put, Taken}
+use Rattle.flow_messages.specs.declared.ends.Refused.{Refused}
+use Rattle.flow_messages.specs.declared.ends.Why.TheVariants.{Closed}
+use Rattle.flow_messages.specs.declared.message.Msg.{Msg}
 use Rattle.flow_graph.specs.declared.edge.Edge.{Edge}
 use Rattle.flow_graph.specs.Edges.{in_edge, out_edge}
 use Rattle.flow_graph.specs.Steps.{PutInRoom, Moves}

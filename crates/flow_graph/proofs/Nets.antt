@@ -4,8 +4,8 @@ use Rattle.std.proofs.lemmas.List.{get_or-map}
 use Rattle.kahn.specs.Processes.{IsLawful}
 use Rattle.kahn.specs.Networks.{IsWired, AllLawful}
 use Rattle.kahn.specs.Configurations.{start}
-use Rattle.flow_edges.specs.Ends.{View}
-use Rattle.flow_edges.specs.Tables.{IsFresh}
+use Rattle.flow_messages.specs.Ends.{View}
+use Rattle.flow_messages.specs.Tables.{IsFresh}
 use Rattle.std.specs.List.{All}
 use Rattle.flow_base.specs.Transducers.{Behaviour, BehaviourLaws}
 use Rattle.flow_base.specs.declared.transducer.Transducer.{Ghosts}

@@ -2,7 +2,7 @@
 use Rattle.std.proofs.Common.{◌≡◌, ℕ, ◌<◌, true, List, length, get_or, sym, ◌∙◌, ap, arith}
 use Rattle.std.specs.List.{All}
 use Rattle.std.proofs.lemmas.List.{get_or_default}
-use Rattle.flow_edges.specs.Ends.{View}
+use Rattle.flow_messages.specs.Ends.{View}
 use Rattle.flow_base.specs.Transducers.{Behaviour}
 use Rattle.flow_base.specs.declared.transducer.Transducer.{Ghosts}
 use Rattle.flow_graph.specs.declared.edge.Edge.{Edge}

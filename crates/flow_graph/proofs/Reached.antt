@@ -8,9 +8,9 @@ use Rattle.kahn.specs.declared.want.Want.TheVariants.{Read, Write, Ended, Faulte
 use Rattle.kahn.specs.Processes.{Event, Does, Reads, Writes, IsLawful}
 use Rattle.kahn.specs.Networks.{IsWired}
 use Rattle.kahn.proofs.History.{does_then}
-use Rattle.flow_edges.specs.Signals.{Signal}
-use Rattle.flow_edges.specs.declared.message.Kind.{Kind}
-use Rattle.flow_edges.specs.declared.message.Kind.TheVariants.{Unit as UnitKind}
+use Rattle.flow_messages.specs.Signals.{Signal}
+use Rattle.flow_messages.specs.declared.message.Kind.{Kind}
+use Rattle.flow_messages.specs.declared.message.Kind.TheVariants.{Unit as UnitKind}
 use Rattle.flow_base.specs.Transducers.{Behaviour, BehaviourLaws, IsWrite}
 use Rattle.flow_graph.specs.declared.edge.Edge.{Edge}
 use Rattle.flow_graph.specs.Edges.{edge_at}

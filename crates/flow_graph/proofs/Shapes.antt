@@ -1,6 +1,6 @@
 -- Graphs that were left in shape, one step after another.
 use Rattle.std.proofs.Common.{◌≡◌, map, refl, ◌∙◌}
-use Rattle.flow_edges.specs.Ends.{View, SameEnds}
+use Rattle.flow_messages.specs.Ends.{View, SameEnds}
 use Rattle.flow_base.specs.Transducers.{BehaviourLaws}
 use Rattle.flow_base.specs.declared.transducer.Transducer.{Ghosts}
 use Rattle.flow_graph.specs.declared.graph.Graph.{Graph}

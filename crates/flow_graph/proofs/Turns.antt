@@ -12,10 +12,10 @@ use Rattle.kahn.specs.Turns.{Turn}
 use Rattle.kahn.proofs.Turns.{nothing_held, no_room, did_read, did_write}
 use Rattle.kahn.proofs.Held.{updated_from, same_from}
 use Rattle.kahn.proofs.Steps.{sound_next}
-use Rattle.flow_edges.specs.Signals.{Signal, carry, stop, ended}
-use Rattle.flow_edges.specs.Ends.{View, SameTraffic}
-use Rattle.flow_edges.specs.Whole.{IsWhole, waiting}
-use Rattle.flow_edges.proofs.Waiting.{taken-begins, put-room, room-count, none-waits}
+use Rattle.flow_messages.specs.Signals.{Signal, carry, stop, ended}
+use Rattle.flow_messages.specs.Ends.{View, SameTraffic}
+use Rattle.flow_messages.specs.Whole.{IsWhole, waiting}
+use Rattle.flow_messages.proofs.Waiting.{taken-begins, put-room, room-count, none-waits}
 use Rattle.flow_base.specs.Transducers.{Behaviour, BehaviourLaws}
 use Rattle.flow_base.specs.declared.transducer.Transducer.{Ghosts}
 use Rattle.std.specs.declared.alloc.AllocError.{AllocError}

@@ -15,10 +15,10 @@ use Rattle.kahn.specs.HistoryTheorems.{extended, goes_in, comes_out, on_edges, a
 use Rattle.kahn.proofs.Histories.{histories_are_runs}
 use Rattle.kahn.proofs.Turns.{nothing_held, no_room}
 use Rattle.kahn.proofs.Held.{updated_from, same_from}
-use Rattle.flow_edges.specs.Signals.{Signal}
-use Rattle.flow_edges.specs.Ends.{View, held, SameEnds}
-use Rattle.flow_edges.specs.Whole.{IsWhole, waiting}
-use Rattle.flow_edges.proofs.Waiting.{held-count, room-count, none-waits}
+use Rattle.flow_messages.specs.Signals.{Signal}
+use Rattle.flow_messages.specs.Ends.{View, held, SameEnds}
+use Rattle.flow_messages.specs.Whole.{IsWhole, waiting}
+use Rattle.flow_messages.proofs.Waiting.{held-count, room-count, none-waits}
 use Rattle.flow_base.specs.Transducers.{Behaviour, BehaviourLaws}
 use Rattle.flow_base.specs.declared.transducer.Transducer.{Ghosts}
 use Rattle.flow_base.specs.Visits.{Visited, IsStuck, edge_of}

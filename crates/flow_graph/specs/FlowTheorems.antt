@@ -6,8 +6,8 @@ use Rattle.kahn.specs.Networks.{Network}
 use Rattle.kahn.specs.Configurations.{Configuration, start, IsSound, AllEnded, NoneFaulted, IsComplete}
 use Rattle.kahn.specs.Runs.{Run, AtRest, Maximal}
 use Rattle.kahn.specs.Traffic.{Carries}
-use Rattle.flow_edges.specs.Cells.{Cell}
-use Rattle.flow_edges.specs.Signals.{Signal}
+use Rattle.flow_messages.specs.Cells.{Cell}
+use Rattle.flow_messages.specs.Signals.{Signal}
 use Rattle.flow_base.specs.Transducers.{Behaviour, closed}
 use Rattle.flow_base.specs.RowPorts.{RowsOnPorts}
 use Rattle.flow_graph.specs.declared.edge.Edge.{Edge}

@@ -1,8 +1,8 @@
 -- Lawful flows: bodies for the edges of a graph, over which the row of each node holds.
 use Rattle.std.specs.Prelude.{◌≡◌, ℕ, ◌<◌, List, length}
 use Rattle.kahn.specs.Configurations.{Configuration}
-use Rattle.flow_edges.specs.Cells.{Cell}
-use Rattle.flow_edges.specs.Signals.{Signal}
+use Rattle.flow_messages.specs.Cells.{Cell}
+use Rattle.flow_messages.specs.Signals.{Signal}
 use Rattle.flow_base.specs.Lists.{Lists}
 use Rattle.flow_base.specs.Transducers.{Behaviour, closed}
 use Rattle.flow_graph.specs.declared.edge.Edge.{Edge}

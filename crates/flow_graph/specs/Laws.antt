@@ -4,9 +4,9 @@ use Rattle.kahn.specs.declared.want.Want.TheVariants.{Write}
 use Rattle.kahn.specs.Processes.{Settles}
 use Rattle.kahn.specs.Networks.{IsWired, AllLawful}
 use Rattle.kahn.specs.Configurations.{IsSound, start}
-use Rattle.flow_edges.specs.Signals.{stop, ended}
-use Rattle.flow_edges.specs.Ends.{View}
-use Rattle.flow_edges.specs.Tables.{IsFresh}
+use Rattle.flow_messages.specs.Signals.{stop, ended}
+use Rattle.flow_messages.specs.Ends.{View}
+use Rattle.flow_messages.specs.Tables.{IsFresh}
 use Rattle.flow_base.specs.Transducers.{Behaviour}
 use Rattle.flow_graph.specs.declared.edge.Edge.{Edge}
 use Rattle.flow_graph.specs.Limits.{most_nodes, most_edges}

@@ -2,10 +2,10 @@
 -- for parallel programming", 1974).
 use Rattle.std.specs.Prelude.{◌≡◌, ◌≢◌, ℕ, ◌<◌, ◌≤◌, true, List, length, map, slice_index_or}
 use Rattle.std.specs.List.{All}
-use Rattle.flow_edges.specs.Ends.{View}
-use Rattle.flow_edges.specs.Signals.{Signal}
-use Rattle.flow_edges.specs.declared.message.Kind.{Kind}
-use Rattle.flow_edges.specs.declared.message.Kind.TheVariants.{Unit as UnitKind}
+use Rattle.flow_messages.specs.Ends.{View}
+use Rattle.flow_messages.specs.Signals.{Signal}
+use Rattle.flow_messages.specs.declared.message.Kind.{Kind}
+use Rattle.flow_messages.specs.declared.message.Kind.TheVariants.{Unit as UnitKind}
 use Rattle.kahn.specs.Networks.{Network}
 use Rattle.kahn.specs.Configurations.{Configuration}
 use Rattle.flow_base.specs.Transducers.{Behaviour}

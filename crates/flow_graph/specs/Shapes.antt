@@ -1,6 +1,6 @@
 -- What steps of a graph over the ends of its edges leave as it was.
 use Rattle.std.specs.Prelude.{◌≡◌, List, length}
-use Rattle.flow_edges.specs.Ends.{View, SameEnds}
+use Rattle.flow_messages.specs.Ends.{View, SameEnds}
 use Rattle.flow_base.specs.Transducers.{Behaviour}
 use Rattle.flow_base.specs.declared.transducer.Transducer.{Ghosts}
 use Rattle.flow_graph.specs.declared.edge.Edge.{Edge}

@@ -3,8 +3,8 @@ use Rattle.std.specs.Prelude.{◌≡◌, ℕ, ◌<◌, Bool, true, false, List, 
 use Rattle.std.specs.declared.alloc.AllocError.{AllocError}
 use Rattle.kahn.specs.declared.want.Want.{Want}
 use Rattle.kahn.specs.declared.want.Want.TheVariants.{Read, Write, Ended, Faulted}
-use Rattle.flow_edges.specs.Signals.{Signal, ended}
-use Rattle.flow_edges.specs.Ends.{View, held, LookedForRoom, LookedForMessages, Put, Taken}
+use Rattle.flow_messages.specs.Signals.{Signal, ended}
+use Rattle.flow_messages.specs.Ends.{View, held, LookedForRoom, LookedForMessages, Put, Taken}
 use Rattle.flow_base.specs.Transducers.{Behaviour}
 use Rattle.flow_graph.specs.declared.edge.Edge.{Edge}
 use Rattle.flow_graph.specs.declared.step.Moved.{Moved}

@@ -3,7 +3,7 @@ use Rattle.std.specs.Prelude.{ℕ, Some, Result}
 use Rattle.std.specs.declared.alloc.AllocError.{AllocError}
 use Rattle.kahn.specs.Configurations.{IsSound}
 use Rattle.kahn.specs.Turns.{Turn}
-use Rattle.flow_edges.specs.Ends.{View}
+use Rattle.flow_messages.specs.Ends.{View}
 use Rattle.flow_base.specs.declared.transducer.Transducer.{Ghosts}
 use Rattle.flow_graph.specs.declared.graph.Graph.{Graph}
 use Rattle.flow_graph.specs.declared.step.Moved.{Moved}

@@ -5,7 +5,7 @@ use Rattle.kahn.specs.Processes.{Process, Event}
 use Rattle.kahn.specs.Networks.{Network, actor}
 use Rattle.kahn.specs.Configurations.{Configuration, moved, IsSound}
 use Rattle.kahn.specs.Runs.{Can, Reaches}
-use Rattle.flow_edges.specs.Ends.{View}
+use Rattle.flow_messages.specs.Ends.{View}
 use Rattle.flow_base.specs.Transducers.{Behaviour}
 use Rattle.flow_graph.specs.declared.edge.Edge.{Edge}
 use Rattle.flow_graph.specs.Networks.{network_of, configuration_of}

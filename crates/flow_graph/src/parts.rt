@@ -8,7 +8,7 @@ ghost use Rattle.flow_graph.specs.Graphs.{states_of, edges_of};
 use crate::edge::Edge;
 use crate::graph::Graph;
 use flow_base::Transducer;
-use flow_edges::Ends;
+use flow_messages::Ends;
 
 impl<T: Transducer> Graph<T> {
     /// How many nodes it has.

@@ -2,15 +2,15 @@
 ghost use Rattle.std.specs.Prelude.{◌≡◌, ◌<◌, ◌↔◌, false, true, length, replicate, slice_set, IsTrue, IsOk, IfOk, OnOk, OnErr};
 ghost use Rattle.std.specs.List.{All};
 ghost use Rattle.kahn.specs.declared.want.Want.TheVariants.{Read};
-ghost use Rattle.flow_edges.specs.Signals.{signal_of};
-ghost use Rattle.flow_edges.specs.Ends.{SameEnds};
+ghost use Rattle.flow_messages.specs.Signals.{signal_of};
+ghost use Rattle.flow_messages.specs.Ends.{SameEnds};
 ghost use Rattle.flow_base.specs.Transducers.{IsWrite};
 ghost use Rattle.flow_base.specs.Visits.{LeavesAlone, IsStuck, Visited, BrokeOff};
 ghost use Rattle.flow_graph.specs.Places.{placed_state, IsSamePlace};
 
 use crate::placed::Placed;
 use flow_base::Transducer;
-use flow_edges::{Ends, Msg};
+use flow_messages::{Ends, Msg};
 use kahn::Want;
 use std::alloc::{AllocError, Global};
 

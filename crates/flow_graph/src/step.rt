@@ -1,7 +1,7 @@
 // Single steps of the nodes of a graph.
 ghost use Rattle.std.specs.Prelude.{◌≡◌, ◌<◌, false, map, length, slice_set, IsOk, IfOk, OnOk, OnErr};
 ghost use Rattle.kahn.specs.declared.want.Want.TheVariants.{Read, Write};
-ghost use Rattle.flow_edges.specs.Signals.{signal_of};
+ghost use Rattle.flow_messages.specs.Signals.{signal_of};
 ghost use Rattle.flow_base.specs.Transducers.{IsWrite};
 ghost use Rattle.flow_graph.specs.Edges.{in_edge, out_edge};
 ghost use Rattle.flow_graph.specs.Networks.{state_at, inputs_at, outputs_at, HasEnds};
@@ -11,7 +11,7 @@ ghost use Rattle.flow_graph.specs.Turns.{TakesTurn};
 
 use crate::graph::Graph;
 use flow_base::Transducer;
-use flow_edges::{Ends, Msg};
+use flow_messages::{Ends, Msg};
 use kahn::Want;
 use std::alloc::AllocError;
 

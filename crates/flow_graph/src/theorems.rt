@@ -1,5 +1,5 @@
 // What holds of every graph. The functions do nothing: their contracts are the theorems.
-ghost use Rattle.flow_edges.specs.Ends.{View};
+ghost use Rattle.flow_messages.specs.Ends.{View};
 ghost use Rattle.flow_graph.specs.Graphs.{states_of, edges_of};
 ghost use Rattle.flow_graph.specs.Laws.{IsNetwork, IsWithinLimits, Opens, WritesOpen};
 ghost use Rattle.flow_graph.specs.FlowTheorems.{RowsMakeAFlow, FlowHasRows, FlowIsCarried, FlowIsBegun, EndedHasFlow, FlowNeverStalls, FlowRunsToEnd, EndedIsLawful, EndedRunIsLawful, OneFlow};

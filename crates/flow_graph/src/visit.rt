@@ -6,7 +6,7 @@ ghost use Rattle.flow_graph.specs.Visits.{HasAllEnds, Visits};
 
 use crate::graph::Graph;
 use flow_base::Transducer;
-use flow_edges::WholeEnds;
+use flow_messages::WholeEnds;
 use std::alloc::AllocError;
 
 impl<T: Transducer> Graph<T> {

@@ -8,7 +8,7 @@ ghost use Rattle.flow_graph.specs.Turns.{TakesTurn, TurnsNetwork};
 use crate::graph::Graph;
 use crate::step::{Moved, step_once};
 use flow_base::Transducer;
-use flow_edges::WholeEnds;
+use flow_messages::WholeEnds;
 use std::alloc::AllocError;
 
 /// One turn of a node, over both ends of each edge: from a sound configuration it is one step of the

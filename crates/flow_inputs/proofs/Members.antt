@@ -7,7 +7,7 @@ use Rattle.snesl_values.specs.declared.datum.Datum.{Datum}
 use Rattle.snesl_values.specs.declared.datum.Datum.TheVariants.{Int, Bool as BoolDatum}
 use Rattle.snesl_values.specs.Types.{Ty, int, bool, pair, vec, seq}
 use Rattle.snesl_values.specs.Values.{Value, a_pair, a_vec, a_seq, value_of}
-use Rattle.flow_edges.specs.Cells.{datum}
+use Rattle.flow_messages.specs.Cells.{datum}
 use Rattle.flow_base.specs.Flags.{joined}
 use Rattle.flow_values.specs.Shapes.{is_a, all_are, cell_for, first_of, second_of, elements_of}
 use Rattle.flow_values.specs.laws.Kinds.{both_true}

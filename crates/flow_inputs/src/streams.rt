@@ -3,7 +3,7 @@
 ghost use Rattle.std.specs.Prelude.{◌≡◌, ◌++◌, ◌∷◌, [], true, map, IfOk, OnOk};
 ghost use Rattle.snesl_values.specs.Types.{ty_of, int as int_type, bool as bool_type};
 ghost use Rattle.snesl_values.specs.Values.{value_of, values_of};
-ghost use Rattle.flow_edges.specs.Cells.{flag, int as int_cell, datum as vector_cell};
+ghost use Rattle.flow_messages.specs.Cells.{flag, int as int_cell, datum as vector_cell};
 ghost use Rattle.flow_scalar.specs.Streams.{stream_cells, stream_kind};
 ghost use Rattle.flow_values.specs.Shapes.{is_a, all_are, cell_for, kinds_of};
 ghost use Rattle.flow_rows.specs.Made.{laid};

@@ -1,8 +1,8 @@
 -- What is known of an edge where its two ends have met.
 use Rattle.std.proofs.Common.{◌≡◌, ℕ, ◌+◌, ◌≤◌, List, [], ◌++◌, length, refl, sym, ap, ◌∙◌, arith, append-nil, append_assoc, length-append}
 use mathlib.Core.List.{IsPrefix}
-use Rattle.flow_edges.specs.Signals.{Signal}
-use Rattle.flow_edges.specs.Ends.{View, held}
+use Rattle.flow_messages.specs.Signals.{Signal}
+use Rattle.flow_messages.specs.Ends.{View, held}
 use Rattle.flow_rings.specs.Rings.{Kept}
 
 -- The writer of edge e is seen in a, and its reader in b. The edge holds so many messages at most.

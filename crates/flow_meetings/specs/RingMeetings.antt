@@ -1,7 +1,7 @@
 -- Rings that meet at an edge.
 use Rattle.std.proofs.Common.{◌≡◌, ◌≢◌, ℕ, zero, suc, true, List, [], ◌∷◌, refl, ◌∙◌, get_or, rules}
 use Rattle.std.specs.Prelude.{Option, Some, None}
-use Rattle.flow_edges.specs.Tables.{at_line}
+use Rattle.flow_messages.specs.Tables.{at_line}
 use Rattle.flow_rings.specs.declared.ring.EdgeWriter.{EdgeWriter}
 use Rattle.flow_rings.specs.declared.ring.EdgeReader.{EdgeReader}
 use Rattle.flow_rings.specs.declared.rings.Rings.{Rings}

@@ -1,5 +1,5 @@
 // Sets of ends that can meet.
-use flow_edges::Ends;
+use flow_messages::Ends;
 
 /// Some ends of some edges. Two of such sets, or one alone, can have both ends of an edge, and these
 /// then can meet. A meeting takes no memory, and sends and receives nothing.

@@ -1,7 +1,7 @@
 // What follows where ends have met. The functions do nothing: their contracts are the theorems.
 ghost use Rattle.std.specs.Prelude.{◌≡◌, ℕ, ◌+◌, ◌≤◌, ◌++◌, length};
 ghost use mathlib.Core.List.{IsPrefix};
-ghost use Rattle.flow_edges.specs.Ends.{View, held};
+ghost use Rattle.flow_messages.specs.Ends.{View, held};
 ghost use Rattle.flow_boxes.specs.declared.boxes.Boxes.{Boxes as TheBoxes};
 ghost use Rattle.flow_boxes.specs.Contents.{contents, view_of};
 ghost use Rattle.flow_meetings.specs.Met.{Met};

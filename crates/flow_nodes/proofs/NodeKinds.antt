@@ -2,9 +2,9 @@
 use Rattle.std.proofs.Common.{◌≡◌, ℕ, false, sym, ◌∙◌, ap, subst, Result, Ok, Err, IfOk, OnErr, IsOk}
 use Rattle.std.specs.declared.alloc.AllocError.{AllocError}
 use Rattle.kahn.specs.declared.want.Want.{Want}
-use Rattle.flow_edges.specs.declared.message.Kind.{Kind}
-use Rattle.flow_edges.specs.declared.message.Msg.{Msg}
-use Rattle.flow_edges.specs.Signals.{signal_of}
+use Rattle.flow_messages.specs.declared.message.Kind.{Kind}
+use Rattle.flow_messages.specs.declared.message.Msg.{Msg}
+use Rattle.flow_messages.specs.Signals.{signal_of}
 use Rattle.flow_base.specs.Transducers.{IsWrite, ports_on, kind_on}
 use Rattle.flow_base.specs.declared.transducer.Side.{Side}
 use Rattle.flow_base.specs.declared.transducer.Side.TheVariants as sides

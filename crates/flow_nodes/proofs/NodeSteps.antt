@@ -1,7 +1,7 @@
 -- What a node does, one variant at a time: for the tactics, which see no further than a node whose variant is open.
 use Rattle.std.specs.Prelude.{◌≡◌}
 use Rattle.std.proofs.Common.{arith}
-use Rattle.flow_edges.specs.Signals.{Signal}
+use Rattle.flow_messages.specs.Signals.{Signal}
 use Rattle.flow_nodes.specs.declared.stream_node.StreamNode.{StreamNode}
 use Rattle.flow_nodes.specs.declared.stream_node.StreamNode.TheVariants as nodes
 use Rattle.flow_nodes.specs.StreamNodes.{node_behaviour, state_of, text_in}

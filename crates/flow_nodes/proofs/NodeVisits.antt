@@ -3,8 +3,8 @@ use Rattle.std.proofs.Common.{◌≡◌, ℕ, Bool, List, sym, ◌∙◌, subst,
 use mathlib.Core.Logic.{∥∥₁_map}
 use Rattle.std.specs.declared.alloc.AllocError.{AllocError}
 use Rattle.kahn.specs.Processes.{Event, Does}
-use Rattle.flow_edges.specs.Signals.{Signal}
-use Rattle.flow_edges.specs.Ends.{View}
+use Rattle.flow_messages.specs.Signals.{Signal}
+use Rattle.flow_messages.specs.Ends.{View}
 use Rattle.flow_base.specs.Sums.{sum_does, does_sum}
 use Rattle.flow_base.specs.Visits.{IsPlaced, Visited, BrokeOff}
 use Rattle.flow_base.proofs.Reached.{opening_does}

@@ -4,7 +4,7 @@ ghost use Rattle.std.specs.Prelude.{◌≡◌};
 ghost use Rattle.flow_nodes.specs.StreamNodes.{node_behaviour, state_of};
 
 use flow_base::{Node, Port, Printing, Side, Transducer};
-use flow_edges::{Ends, Msg};
+use flow_messages::{Ends, Msg};
 use flow_scalar::{
     Binary, Const, Fork, Iota, Length, Reduce, ScanAdd, Sink, Source, Unary, UnitsOf,
 };

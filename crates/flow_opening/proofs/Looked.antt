@@ -3,7 +3,7 @@ use Rattle.std.proofs.Common.{◌≡◌, ℕ, ◌+◌, ◌<◌, List, length, ge
 use Rattle.std.proofs.lemmas.Bool.{cases_eq}
 use Rattle.std.proofs.lemmas.List.{length-set}
 use Rattle.std.proofs.lemmas.List.Elements.{at_read}
-use Rattle.flow_edges.specs.declared.ends.Ends.{Ghosts as EndsGhosts}
+use Rattle.flow_messages.specs.declared.ends.Ends.{Ghosts as EndsGhosts}
 use Rattle.flow_base.specs.declared.transducer.Transducer.{Ghosts}
 use Rattle.flow_shares.specs.declared.share.Share.{Share}
 use Rattle.flow_shares.specs.Looks.{IsLookedAt}

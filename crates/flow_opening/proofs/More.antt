@@ -3,9 +3,9 @@ use Rattle.std.proofs.Common.{◌≡◌, ◌≢◌, ◌==◌, ℕ, zero, suc, �
 use Rattle.std.specs.List.{All}
 use Rattle.std.proofs.lemmas.Bool.{eq-eqb}
 use Rattle.std.proofs.lemmas.List.{get_or-map, get_or_push, get_or_append_left, length_push}
-use Rattle.flow_edges.specs.Signals.{Signal}
-use Rattle.flow_edges.specs.Ends.{View}
-use Rattle.flow_edges.specs.Tables.{at_line}
+use Rattle.flow_messages.specs.Signals.{Signal}
+use Rattle.flow_messages.specs.Ends.{View}
+use Rattle.flow_messages.specs.Tables.{at_line}
 use Rattle.flow_boxes.proofs.Changed.{everywhere}
 use Rattle.flow_meetings.specs.declared.everywhere.Wire.{Wire}
 use Rattle.flow_meetings.specs.Met.{Met}

@@ -1,10 +1,10 @@
 -- What opening an edge makes of boxes and of rings.
 use Rattle.std.proofs.Common.{◌≡◌, ℕ, zero, suc, ◌<◌, true, false, List, [], ◌∷◌, length, refl, ap, sym, ◌∙◌, subst, get_or, set, get_or-set_other, length-set}
 use Rattle.std.specs.Prelude.{Option, Some, None}
-use Rattle.flow_edges.specs.Signals.{signals}
-use Rattle.flow_edges.specs.Ends.{View}
-use Rattle.flow_edges.proofs.Signals.{signals-nil}
-use Rattle.flow_edges.proofs.Tables.{at_line-same, at_line-other}
+use Rattle.flow_messages.specs.Signals.{signals}
+use Rattle.flow_messages.specs.Ends.{View}
+use Rattle.flow_messages.proofs.Signals.{signals-nil}
+use Rattle.flow_messages.proofs.Tables.{at_line-same, at_line-other}
 use Rattle.flow_boxes.specs.Contents.{Contents}
 use Rattle.flow_boxes.specs.Rounds.{IsLinked, OthersSame, OpensWriter, OpensReader}
 use Rattle.flow_boxes.proofs.Linking.{fresh-linked, outbox-beside}

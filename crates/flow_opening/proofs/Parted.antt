@@ -3,7 +3,7 @@ use Rattle.std.proofs.Common.{◌≡◌, ◌≢◌, ◌==◌, ℕ, ◌-◌, ◌<
 use Rattle.std.specs.Prelude.{Result, Ok, Err, OnOk}
 use Rattle.std.proofs.lemmas.Bool.{eq-eqb, ne_eqb}
 use Rattle.std.proofs.lemmas.List.{get_or_default, get_or_append_left, get_or-append-add, set-append_left, set-append_right, length-append}
-use Rattle.flow_edges.specs.Ends.{View}
+use Rattle.flow_messages.specs.Ends.{View}
 use Rattle.flow_boxes.proofs.Changed.{everywhere}
 use Rattle.flow_meetings.specs.declared.everywhere.Wire.{Wire}
 use Rattle.flow_opening.specs.Opens.{OpensAt, OpensEdge}

@@ -1,8 +1,8 @@
 -- The shares so far, and one more.
 use Rattle.std.proofs.Common.{◌≡◌, ◌<◌, List, [], ◌∷◌, ◌++◌, length, map, get_or, refl, sym, ap, ◌∙◌, subst, arith, append_assoc}
 use Rattle.std.proofs.lemmas.List.{get_or_push, get_or_append_left, length_push, map-append}
-use Rattle.flow_edges.specs.declared.ends.Ends.{Ghosts as EndsGhosts}
-use Rattle.flow_edges.proofs.Tables.{all-snoc}
+use Rattle.flow_messages.specs.declared.ends.Ends.{Ghosts as EndsGhosts}
+use Rattle.flow_messages.proofs.Tables.{all-snoc}
 use Rattle.flow_base.specs.declared.transducer.Transducer.{Ghosts}
 use Rattle.flow_boxes.proofs.Changed.{everywhere}
 use Rattle.flow_shares.specs.declared.share.Share.{Share}

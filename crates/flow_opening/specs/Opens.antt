@@ -1,6 +1,6 @@
 -- What opening an edge makes of what is seen of some ends.
 use Rattle.std.specs.Prelude.{◌≡◌, ◌≢◌, ◌==◌, ℕ, ◌<◌, Bool, true, List, [], cond, length, slice_index_or}
-use Rattle.flow_edges.specs.Ends.{View}
+use Rattle.flow_messages.specs.Ends.{View}
 use Rattle.flow_meetings.specs.declared.everywhere.Wire.{Wire}
 
 -- nothing changed at any edge but e

@@ -1,7 +1,7 @@
 // Graphs are dealt out.
 ghost use Rattle.std.specs.Prelude.{◌≡◌, ◌<◌, ◌≤◌, length, map, IfOk};
 ghost use Rattle.std.specs.List.{All, AllZip};
-ghost use Rattle.flow_edges.specs.Limits.{greatest_capacity};
+ghost use Rattle.flow_messages.specs.Limits.{greatest_capacity};
 ghost use Rattle.flow_graph.specs.Graphs.{states_of};
 ghost use Rattle.flow_graph.specs.Networks.{AreOpened};
 ghost use Rattle.flow_deal.specs.Deals.{lists_in};
@@ -13,7 +13,7 @@ use crate::opening::Opening;
 use crate::wires::wires_of;
 use flow_base::Transducer;
 use flow_deal::deal_nodes;
-use flow_edges::Ends;
+use flow_messages::Ends;
 use flow_graph::{Graph, Placed};
 use flow_shares::Share;
 use std::alloc::{AllocError, Global};

@@ -1,6 +1,6 @@
 // What a graph that was dealt out is.
 use flow_base::Transducer;
-use flow_edges::Ends;
+use flow_messages::Ends;
 use flow_graph::Layout;
 use flow_meetings::Wire;
 use flow_shares::Share;

@@ -1,7 +1,7 @@
 // All edges are opened.
 ghost use Rattle.std.specs.Prelude.{◌≡◌, ◌==◌, ℕ, ◌<◌, ◌≤◌, false, length, slice_index_or, IfOk, OnOk};
 ghost use Rattle.std.specs.List.{All};
-ghost use Rattle.flow_edges.specs.Limits.{greatest_capacity};
+ghost use Rattle.flow_messages.specs.Limits.{greatest_capacity};
 ghost use Rattle.flow_opening.specs.Opens.{OpensEdge};
 ghost use Rattle.flow_opening.specs.Open.{AreFreshEnds};
 

@@ -5,7 +5,7 @@ use std::alloc::{AllocError, Global};
 /// Some ends of some edges. Both ends of an edge can be opened in one of such sets, or each in one of two.
 pub trait Opening: Meeting {
     ghost use Rattle.std.specs.Prelude.{◌≡◌, ◌≢◌, ℕ, ◌<◌, ◌≤◌, true, false, IfOk, OnOk};
-    ghost use Rattle.flow_edges.specs.Limits.{greatest_capacity};
+    ghost use Rattle.flow_messages.specs.Limits.{greatest_capacity};
     ghost use Rattle.flow_opening.specs.Opens.{OpensAt};
 
     /// Ends of this edge can be here, if it is to hold so many messages at most.

@@ -3,7 +3,7 @@ ghost use Rattle.std.specs.Prelude.{◌↔◌, IsTrue};
 ghost use Rattle.flow_opening.specs.Settings.{AreFed, AreCalm, NoneCanStep, AreLookedAt};
 
 use flow_base::Transducer;
-use flow_edges::Ends;
+use flow_messages::Ends;
 use flow_shares::Share;
 
 /// Whether memory was refused to none of the shares.

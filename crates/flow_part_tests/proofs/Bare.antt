@@ -1,7 +1,7 @@
 -- The graph without nodes, dealt out to shares without nodes.
 use Rattle.std.proofs.Common.{◌≡◌, ◌<◌, List, [], length, refl, ap, arith}
 use Rattle.std.specs.List.{All}
-use Rattle.flow_edges.specs.declared.ends.Ends.{Ghosts as EndsGhosts}
+use Rattle.flow_messages.specs.declared.ends.Ends.{Ghosts as EndsGhosts}
 use Rattle.flow_base.specs.declared.transducer.Transducer.{Ghosts}
 use Rattle.flow_graph.specs.Layouts.{FitTogether}
 use Rattle.flow_rings.specs.declared.rings.Rings.{Rings}

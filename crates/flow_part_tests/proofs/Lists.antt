@@ -1,9 +1,9 @@
 -- Lists of messages that go over an edge.
 use Rattle.std.proofs.Common.{◌≡◌, true, false, List, [], ◌∷◌, ◌++◌, refl}
-use Rattle.flow_edges.specs.declared.message.Msg.{Msg}
-use Rattle.flow_edges.specs.declared.message.Msg.TheVariants.{Item, End}
-use Rattle.flow_edges.specs.Signals.{signals, ended, orderly}
-use Rattle.flow_edges.proofs.Signals.{ended-snoc, orderly-snoc, ended-nil}
+use Rattle.flow_messages.specs.declared.message.Msg.{Msg}
+use Rattle.flow_messages.specs.declared.message.Msg.TheVariants.{Item, End}
+use Rattle.flow_messages.specs.Signals.{signals, ended, orderly}
+use Rattle.flow_messages.proofs.Signals.{ended-snoc, orderly-snoc, ended-nil}
 
 -- in an orderly list no End stands before a message
 pub open-before : (before : List Msg) (m : Msg) (after : List Msg) → orderly (signals (before ++ m ∷ after)) ≡ true → ended (signals before) ≡ false

@@ -2,7 +2,7 @@
 use crate::messages::{is_message, is_refused, message};
 use crate::opened::{crossed, lone};
 use flow_boxes::{Boxes, carry, carry_own};
-use flow_edges::{CountedEnds, Ends, Why};
+use flow_messages::{CountedEnds, Ends, Why};
 use std::test::Fail;
 
 #[test]

@@ -1,7 +1,7 @@
 // Messages of tests, by numbers: a message carries the number, or is `End` where there is none. (What was taken is let go in
 // here, and not in each test.)
 
-use flow_edges::{Item, Msg, Refused, Why};
+use flow_messages::{Item, Msg, Refused, Why};
 
 /// The message of this number, or `End`.
 pub fn message(number: Option<i128>) -> Msg {

@@ -1,7 +1,7 @@
 // A graph without nodes is dealt out and gathered again.
 ghost use Rattle.std.specs.Prelude.{◌≡◌, ◌<◌, ◌≤◌, length};
 ghost use Rattle.std.specs.List.{All};
-ghost use Rattle.flow_edges.specs.Limits.{greatest_capacity};
+ghost use Rattle.flow_messages.specs.Limits.{greatest_capacity};
 ghost use Rattle.flow_graph.specs.Graphs.{states_of};
 ghost use Rattle.flow_graph.specs.Networks.{AreOpened};
 ghost use Rattle.flow_opening.specs.Settings.{Setting, setting_of};

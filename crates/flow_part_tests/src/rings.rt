@@ -3,7 +3,7 @@ ghost use Rattle.flow_rings.specs.Rings.{writer_at, reader_at, SameRings, Joins}
 
 use crate::messages::{is_message, message};
 use crate::opened::{crossed, lone};
-use flow_edges::{CountedEnds, Ends, Msg};
+use flow_messages::{CountedEnds, Ends, Msg};
 use flow_rings::{Held, Rings, rings_stay_joined};
 use std::test::Fail;
 

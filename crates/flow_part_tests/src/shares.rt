@@ -2,7 +2,7 @@
 ghost use Rattle.std.specs.Prelude.{◌≡◌, false, length, IfOk};
 ghost use Rattle.std.specs.List.{All};
 
-use flow_edges::Table;
+use flow_messages::Table;
 use flow_graph::Placed;
 use flow_rings::Rings;
 use flow_scalar::Source;

@@ -1,8 +1,8 @@
 -- The transducers of a layout: those of steps, and those that stand behind a stream and copy it, as often as it has uses.
 use Rattle.std.specs.Prelude.{◌≡◌, ℕ, zero, suc, List, [], ◌∷◌, ◌++◌, length, replicate, option_map, refl}
 use Rattle.std.proofs.lemmas.List.{length-replicate}
-use Rattle.flow_edges.specs.Cells.{Cell}
-use Rattle.flow_edges.specs.declared.message.Kind.{Kind}
+use Rattle.flow_messages.specs.Cells.{Cell}
+use Rattle.flow_messages.specs.declared.message.Kind.{Kind}
 use Rattle.flow_rows.specs.Decoded.{items}
 use Rattle.flow_plans.specs.Plans.{Step, made_by}
 use Rattle.flow_plans.specs.Ports.{kinds_read, kinds_written}

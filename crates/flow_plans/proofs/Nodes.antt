@@ -5,9 +5,9 @@ use Rattle.std.proofs.Common.{sym, ◌∙◌, ap, subst, arith}
 use Rattle.std.proofs.lemmas.List.{get_or-map}
 use Rattle.std.proofs.lemmas.Option.{slice_get_within}
 use Rattle.kahn.specs.Processes.{writes}
-use Rattle.flow_edges.specs.Cells.{Cell}
-use Rattle.flow_edges.specs.declared.message.Kind.{Kind}
-use Rattle.flow_edges.specs.declared.message.Kind.TheVariants.{Unit as UnitKind}
+use Rattle.flow_messages.specs.Cells.{Cell}
+use Rattle.flow_messages.specs.declared.message.Kind.{Kind}
+use Rattle.flow_messages.specs.declared.message.Kind.TheVariants.{Unit as UnitKind}
 use Rattle.flow_base.specs.Ranges.{AllOf, SignalsOfKind}
 use Rattle.flow_base.specs.Columns.{columns, columns_same}
 use Rattle.flow_base.specs.Histories.{closed_inside}

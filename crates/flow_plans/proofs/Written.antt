@@ -5,7 +5,7 @@ use Rattle.std.proofs.lemmas.List.{length-replicate}
 use Rattle.snesl_values.specs.Types.{seq}
 use Rattle.snesl_values.specs.Values.{Value}
 use Rattle.snesl_operators.specs.Operators.{same_truth}
-use Rattle.flow_edges.specs.Cells.{Cell}
+use Rattle.flow_messages.specs.Cells.{Cell}
 use Rattle.flow_base.specs.Flags.{flags, joined, lengths}
 use Rattle.flow_base.specs.Columns.{Columns}
 use Rattle.flow_rows.specs.Lists.{each, same_lists, cut}

@@ -3,8 +3,8 @@
 -- outputs; these stand right behind the transducer that writes the stream.
 use Rattle.std.specs.Prelude.{◌≡◌, ℕ, zero, suc, ◌+◌, ◌<◌, ◌==◌, List, [], ◌∷◌, ◌++◌, length, replicate, Option, Some, if◌then◌else◌}
 use Rattle.std.specs.List.{slice_get}
-use Rattle.flow_edges.specs.Cells.{Cell}
-use Rattle.flow_edges.specs.declared.message.Kind.{Kind}
+use Rattle.flow_messages.specs.Cells.{Cell}
+use Rattle.flow_messages.specs.declared.message.Kind.{Kind}
 use Rattle.flow_base.specs.Columns.{Columns}
 use Rattle.flow_base.specs.Transducers.{Behaviour}
 use Rattle.flow_rows.specs.Lists.{bind}

@@ -9,8 +9,8 @@ use Rattle.snesl_operators.specs.declared.scalar.Scalar.{Scalar}
 use Rattle.snesl_operators.specs.declared.operator.UnaryOperator.{UnaryOperator}
 use Rattle.snesl_operators.specs.declared.operator.BinaryOperator.{BinaryOperator}
 use Rattle.snesl_operators.specs.declared.operator.Reduction.{Reduction}
-use Rattle.flow_edges.specs.Cells.{Cell}
-use Rattle.flow_edges.specs.declared.message.Kind.{Kind}
+use Rattle.flow_messages.specs.Cells.{Cell}
+use Rattle.flow_messages.specs.declared.message.Kind.{Kind}
 use Rattle.flow_base.specs.Columns.{Columns}
 use Rattle.flow_rows.specs.Lists.{bind, each}
 use Rattle.flow_rows.specs.Made.{source_made, const_made, unary_made, binary_made, iota_made, units_of_made, scan_add_made, reduce_made, length_made, dist_made, pack_made, pack_groups_made, flag_of_bool_made, same_flags_made, concat_flags_made, part_flags_made, the_check_made, append_flags_made, interleave_made, interleave_groups_made, print_made, tab_made, seq_made, index_made, fork_made, sink_made}

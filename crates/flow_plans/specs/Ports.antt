@@ -3,8 +3,8 @@ use Rattle.std.specs.Prelude.{◌≡◌, ℕ, List, [], ◌∷◌, ◌++◌, rep
 use Rattle.std.specs.List.{slice_get}
 use Rattle.snesl_values.specs.Types.{seq}
 use Rattle.snesl_operators.specs.Operators.{type_of, unary_operand, binary_operand, binary_result}
-use Rattle.flow_edges.specs.declared.message.Kind.{Kind}
-use Rattle.flow_edges.specs.declared.message.Kind.TheVariants.{Unit as UnitKind, Bool as BoolKind, Int as IntKind, Vec as VecKind}
+use Rattle.flow_messages.specs.declared.message.Kind.{Kind}
+use Rattle.flow_messages.specs.declared.message.Kind.TheVariants.{Unit as UnitKind, Bool as BoolKind, Int as IntKind, Vec as VecKind}
 use Rattle.flow_scalar.specs.Scalars.{kind_of_type}
 use Rattle.flow_scalar.specs.ReduceMachine.{reduced_kind}
 use Rattle.flow_values.specs.Shapes.{kinds_of}

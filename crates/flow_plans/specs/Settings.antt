@@ -1,8 +1,8 @@
 -- Setting what a source of a plan writes, in the plan and in its network.
 use Rattle.std.specs.Prelude.{◌≡◌, ℕ, List, Some, slice_set, slice_index_or}
 use Rattle.std.specs.List.{slice_get}
-use Rattle.flow_edges.specs.Cells.{Cell}
-use Rattle.flow_edges.specs.declared.message.Kind.{Kind}
+use Rattle.flow_messages.specs.Cells.{Cell}
+use Rattle.flow_messages.specs.declared.message.Kind.{Kind}
 use Rattle.flow_base.specs.Transducers.{Behaviour}
 use Rattle.flow_graph.specs.declared.edge.Edge.{Edge}
 use Rattle.flow_graph.specs.Replacements.{MayReplace}

@@ -2,8 +2,8 @@
 use Rattle.std.specs.Prelude.{List, [], ◌∷◌, map}
 use Rattle.snesl_values.specs.declared.dialect.Dialect.{Dialect}
 use Rattle.snesl_values.specs.Types.{ty_of}
-use Rattle.flow_edges.specs.Cells.{unit}
-use Rattle.flow_edges.specs.declared.message.Kind.TheVariants.{Unit as UnitKind}
+use Rattle.flow_messages.specs.Cells.{unit}
+use Rattle.flow_messages.specs.declared.message.Kind.TheVariants.{Unit as UnitKind}
 use Rattle.flow_plans.specs.declared.operation.Operation.{Operation as OperationData}
 use Rattle.flow_plans.specs.declared.operation.Operation.TheVariants as held
 use Rattle.flow_plans.specs.declared.operation.Step.{Step as StepData}

@@ -1,6 +1,6 @@
 // The steps of a plan.
 
-use flow_edges::Kind;
+use flow_messages::Kind;
 use snesl_operators::{BinaryOperator, Reduction, Scalar, UnaryOperator};
 use snesl_values::Ty;
 

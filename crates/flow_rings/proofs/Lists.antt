@@ -2,10 +2,10 @@
 use Rattle.std.proofs.Common.{◌≡◌, ℕ, zero, suc, ◌<◌, Bool, true, false, not, List, [], ◌∷◌, ◌++◌, refl, sym, ap, ◌∙◌, arith, append-nil}
 use Rattle.std.proofs.lemmas.Bool.{false≢true}
 use Rattle.std.specs.Prelude.{◌↔◌, IsTrue}
-use Rattle.flow_edges.specs.declared.message.Msg.{Msg}
-use Rattle.flow_edges.specs.declared.message.Msg.TheVariants.{Item, End}
-use Rattle.flow_edges.specs.Signals.{signals, ended, orderly}
-use Rattle.flow_edges.proofs.Signals.{ended-snoc, orderly-snoc, ended-nil, orderly-nil}
+use Rattle.flow_messages.specs.declared.message.Msg.{Msg}
+use Rattle.flow_messages.specs.declared.message.Msg.TheVariants.{Item, End}
+use Rattle.flow_messages.specs.Signals.{signals, ended, orderly}
+use Rattle.flow_messages.proofs.Signals.{ended-snoc, orderly-snoc, ended-nil, orderly-nil}
 
 -- what a fresh list and a list with one message more are
 pub ruleset list_steps = (ended-snoc, orderly-snoc, ended-nil, orderly-nil)

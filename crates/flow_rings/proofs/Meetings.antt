@@ -3,11 +3,11 @@ use Rattle.std.proofs.Common.{◌≡◌, ◌≢◌, ℕ, zero, suc, ◌+◌, ◌
 use Rattle.std.proofs.lemmas.Bool.{cases_eq}
 use Rattle.std.specs.Prelude.{Option, Some, None}
 use mathlib.Core.List.{IsPrefix}
-use Rattle.flow_edges.specs.Signals.{Signal, carry, stop, signals, ended, orderly}
-use Rattle.flow_edges.specs.Ends.{View, SameEnds, LookedForRoom, LookedForMessages}
-use Rattle.flow_edges.specs.Tables.{at_line}
-use Rattle.flow_edges.specs.TableLaws.{signals-length}
-use Rattle.flow_edges.proofs.Tables.{at_line-same}
+use Rattle.flow_messages.specs.Signals.{Signal, carry, stop, signals, ended, orderly}
+use Rattle.flow_messages.specs.Ends.{View, SameEnds, LookedForRoom, LookedForMessages}
+use Rattle.flow_messages.specs.Tables.{at_line}
+use Rattle.flow_messages.specs.TableLaws.{signals-length}
+use Rattle.flow_messages.proofs.Tables.{at_line-same}
 use Rattle.flow_rings.specs.declared.ring.EdgeWriter.{EdgeWriter}
 use Rattle.flow_rings.specs.declared.ring.EdgeReader.{EdgeReader}
 use Rattle.flow_rings.specs.declared.ring.Held.{Held}

@@ -2,13 +2,13 @@
 use Rattle.std.proofs.Common.{◌≡◌, ℕ, zero, suc, ◌+◌, ◌<◌, ◌≤◌, Bool, true, false, List, [], ◌∷◌, ◌++◌, length, refl, ap, sym, ◌∙◌, get_or, set, arith, append-nil}
 use Rattle.std.specs.Prelude.{Option, Some}
 use mathlib.Core.List.{IsPrefix}
-use Rattle.flow_edges.specs.declared.message.Msg.{Msg}
-use Rattle.flow_edges.specs.Signals.{signals, signal_of}
-use Rattle.flow_edges.specs.Ends.{View, held, SameEnds, LookedForRoom, LookedForMessages, Put, Taken}
-use Rattle.flow_edges.specs.Tables.{at_line}
-use Rattle.flow_edges.specs.TableLaws.{signals-length}
-use Rattle.flow_edges.proofs.Signals.{signals-cons, signals-snoc}
-use Rattle.flow_edges.proofs.Tables.{at_line-here, at_line-same, at_line-other, at_line-kept}
+use Rattle.flow_messages.specs.declared.message.Msg.{Msg}
+use Rattle.flow_messages.specs.Signals.{signals, signal_of}
+use Rattle.flow_messages.specs.Ends.{View, held, SameEnds, LookedForRoom, LookedForMessages, Put, Taken}
+use Rattle.flow_messages.specs.Tables.{at_line}
+use Rattle.flow_messages.specs.TableLaws.{signals-length}
+use Rattle.flow_messages.proofs.Signals.{signals-cons, signals-snoc}
+use Rattle.flow_messages.proofs.Tables.{at_line-here, at_line-same, at_line-other, at_line-kept}
 use Rattle.flow_rings.specs.declared.ring.EdgeWriter.{EdgeWriter}
 use Rattle.flow_rings.specs.declared.ring.EdgeReader.{EdgeReader}
 use Rattle.flow_rings.specs.Edge.{sent, received, certain_room, certain_held}

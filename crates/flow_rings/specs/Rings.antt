@@ -1,9 +1,9 @@
 -- The ring ends that a share owns, each at the number of its edge.
 use Rattle.std.specs.Prelude.{◌≡◌, ℕ, ◌+◌, ◌≤◌, Bool, true, false, List, [], ◌++◌, length, slice_index_or, Option, Some, None, ⊤}
 use mathlib.Core.List.{IsPrefix}
-use Rattle.flow_edges.specs.Signals.{Signal, signals}
-use Rattle.flow_edges.specs.Ends.{View, SameEnds, SameTraffic}
-use Rattle.flow_edges.specs.Tables.{at_line}
+use Rattle.flow_messages.specs.Signals.{Signal, signals}
+use Rattle.flow_messages.specs.Ends.{View, SameEnds, SameTraffic}
+use Rattle.flow_messages.specs.Tables.{at_line}
 use Rattle.flow_rings.specs.declared.ring.EdgeWriter.{EdgeWriter}
 use Rattle.flow_rings.specs.declared.ring.EdgeReader.{EdgeReader}
 use Rattle.flow_rings.specs.declared.ring.Held.{Held}

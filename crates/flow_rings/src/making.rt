@@ -1,7 +1,7 @@
 // Both ends at once: where an edge is made, and where its ends meet.
 ghost use Rattle.std.specs.Prelude.{◌≡◌, ◌+◌, ◌<◌, ◌≤◌, [], ◌++◌, length, IfOk};
 ghost use mathlib.Core.List.{IsPrefix};
-ghost use Rattle.flow_edges.specs.Limits.{greatest_capacity};
+ghost use Rattle.flow_messages.specs.Limits.{greatest_capacity};
 ghost use Rattle.flow_rings.specs.Edge.{sent, received, certain_room, certain_held, edge_capacity, IsEdge, SameWriter, SameReader};
 
 use crate::ring::{Closing, EdgeReader, EdgeWriter, Held};

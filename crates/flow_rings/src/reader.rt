@@ -1,11 +1,11 @@
 // The end that takes messages.
 ghost use Rattle.std.specs.Prelude.{◌≡◌, ◌<◌, ◌↔◌, false, [], ◌∷◌, ◌++◌, length, IsTrue, IsSome, IfSome, IfNone};
 ghost use mathlib.Core.List.{IsPrefix};
-ghost use Rattle.flow_edges.specs.Signals.{signals, ended};
+ghost use Rattle.flow_messages.specs.Signals.{signals, ended};
 ghost use Rattle.flow_rings.specs.Edge.{received, certain_held, SameReader, all_sent, IsMarkOf};
 
 use crate::ring::{EdgeReader, FinishedMark};
-use flow_edges::Msg;
+use flow_messages::Msg;
 
 impl EdgeReader {
     /// Takes the oldest message that was not taken, or none where none is certain to be there.

@@ -2,9 +2,9 @@
 ghost use Rattle.std.specs.Prelude.{◌≡◌, true, length};
 ghost use Rattle.std.specs.Io.Iter.{u64_saturate};
 ghost use Rattle.rtrb.specs.Ring.{sent, received, all_sent};
-ghost use Rattle.flow_edges.specs.Signals.{signals, ended, orderly};
+ghost use Rattle.flow_messages.specs.Signals.{signals, ended, orderly};
 
-use flow_edges::Msg;
+use flow_messages::Msg;
 use rtrb::{Consumer, Finished, Producer, Protocol};
 use std::alloc::Global;
 

@@ -4,7 +4,7 @@ ghost use Rattle.flow_rings.specs.Rings.{ends_of, writer_at, reader_at, SameRing
 
 use crate::making::meet;
 use crate::ring::{EdgeReader, EdgeWriter, Held};
-use flow_edges::{CountedEnds, Ends, Msg, Refused};
+use flow_messages::{CountedEnds, Ends, Msg, Refused};
 use std::alloc::{AllocError, Global};
 
 /// Some writers and some readers, each at the number of its edge.

@@ -1,8 +1,8 @@
 // What follows for both ends of an edge. The functions do nothing: their contracts are the theorems.
 ghost use Rattle.std.specs.Prelude.{◌≡◌, ℕ, true, [], ◌++◌};
 ghost use mathlib.Core.List.{IsPrefix};
-ghost use Rattle.flow_edges.specs.Signals.{signals, ended};
-ghost use Rattle.flow_edges.specs.Ends.{SameEnds};
+ghost use Rattle.flow_messages.specs.Signals.{signals, ended};
+ghost use Rattle.flow_messages.specs.Ends.{SameEnds};
 ghost use Rattle.flow_rings.specs.declared.ring.EdgeWriter.{EdgeWriter};
 ghost use Rattle.flow_rings.specs.declared.ring.EdgeReader.{EdgeReader};
 ghost use Rattle.flow_rings.specs.declared.ring.FinishedMark.{FinishedMark};

@@ -1,11 +1,11 @@
 // The end that puts messages.
 ghost use Rattle.std.specs.Prelude.{◌≡◌, ◌+◌, ◌<◌, ◌≤◌, ◌↔◌, true, false, [], ◌∷◌, ◌++◌, IsTrue, IsOk, OnOk, IfErr, IsErrAnd, IfSome};
-ghost use Rattle.flow_edges.specs.Signals.{signals, ended};
-ghost use Rattle.flow_edges.specs.declared.ends.Why.TheVariants.{Full, Closed};
+ghost use Rattle.flow_messages.specs.Signals.{signals, ended};
+ghost use Rattle.flow_messages.specs.declared.ends.Why.TheVariants.{Full, Closed};
 ghost use Rattle.flow_rings.specs.Edge.{sent, certain_room, SameWriter, Finishes};
 
 use crate::ring::{EdgeWriter, FinishedMark};
-use flow_edges::{Msg, Refused, Why};
+use flow_messages::{Msg, Refused, Why};
 use rtrb::PushError;
 
 impl EdgeWriter {

@@ -6,8 +6,8 @@ use Rattle.kahn.specs.declared.want.Want.TheVariants.{Read, Write, Ended, Faulte
 use Rattle.kahn.specs.Processes.{Reads, Writes}
 use Rattle.kahn.specs.Configurations.{Configuration}
 use Rattle.kahn.specs.Runs.{AtRest}
-use Rattle.flow_edges.specs.Signals.{Signal}
-use Rattle.flow_edges.specs.Ends.{View, held, SameTraffic}
+use Rattle.flow_messages.specs.Signals.{Signal}
+use Rattle.flow_messages.specs.Ends.{View, held, SameTraffic}
 use Rattle.flow_base.specs.Visits.{edge_of, IsStuck}
 use Rattle.flow_base.specs.declared.transducer.Transducer.{Ghosts}
 use Rattle.flow_graph.specs.declared.edge.Edge.{Edge}

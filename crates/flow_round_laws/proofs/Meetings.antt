@@ -7,9 +7,9 @@ use Rattle.kahn.specs.Processes.{Does, reads, writes}
 use Rattle.kahn.specs.Networks.{Network}
 use Rattle.kahn.specs.Configurations.{Configuration, IsReached, Flows}
 use Rattle.kahn.proofs.Parts.{sound_from}
-use Rattle.flow_edges.specs.Signals.{Signal}
-use Rattle.flow_edges.specs.Ends.{View}
-use Rattle.flow_edges.specs.Tables.{IsFresh}
+use Rattle.flow_messages.specs.Signals.{Signal}
+use Rattle.flow_messages.specs.Ends.{View}
+use Rattle.flow_messages.specs.Tables.{IsFresh}
 use Rattle.flow_base.specs.declared.transducer.Transducer.{Ghosts}
 use Rattle.flow_graph.specs.declared.edge.Edge.{Edge}
 use Rattle.flow_graph.specs.declared.placed.Placed.{Placed}

@@ -9,7 +9,7 @@ use Rattle.kahn.specs.Configurations.{Configuration, IsSound, moved}
 use Rattle.kahn.specs.Runs.{Reaches}
 use Rattle.kahn.specs.HistoryTheorems.{after_histories}
 use Rattle.kahn.proofs.AllHistories.{all_histories_are_one_run}
-use Rattle.flow_edges.specs.Signals.{Signal}
+use Rattle.flow_messages.specs.Signals.{Signal}
 use Rattle.flow_base.specs.Transducers.{BehaviourLaws}
 use Rattle.flow_base.specs.declared.transducer.Transducer.{Ghosts}
 use Rattle.flow_graph.specs.declared.edge.Edge.{Edge}

@@ -1,7 +1,7 @@
 -- The view of all shares: below the number of edges what the shares see, and nothing from there on.
 use Rattle.std.proofs.Common.{◌≡◌, ℕ, ◌<◌, ◌≤◌, List, [], length, lt-ltb}
 use Rattle.std.proofs.lemmas.Bool.{cond-true, cond-false, le-ltb}
-use Rattle.flow_edges.specs.Ends.{View}
+use Rattle.flow_messages.specs.Ends.{View}
 use Rattle.flow_graph.specs.declared.edge.Edge.{Edge}
 use Rattle.flow_round_laws.specs.Joints.{writer_view, reader_view, joined_view}
 

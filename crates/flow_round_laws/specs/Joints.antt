@@ -1,6 +1,6 @@
 -- What shares make together: one configuration of the network of their graph.
 use Rattle.std.specs.Prelude.{◌≡◌, ℕ, ◌<◌, false, cond, ltb, List, [], length, map, slice_index_or}
-use Rattle.flow_edges.specs.Ends.{View}
+use Rattle.flow_messages.specs.Ends.{View}
 use Rattle.flow_base.specs.declared.transducer.Transducer.{Ghosts}
 use Rattle.flow_graph.specs.declared.edge.Edge.{Edge}
 use Rattle.flow_graph.specs.declared.placed.Placed.{Placed}

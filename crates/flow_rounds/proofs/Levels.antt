@@ -2,8 +2,8 @@
 use Rattle.std.proofs.Common.{◌≡◌, ℕ, ◌<◌, List, [], ◌++◌, drop, length, get_or, refl, sym, ◌∙◌, ap, subst, arith, append-nil, length-append}
 use Rattle.std.proofs.Math.Seq.{drop-append_seam}
 use Rattle.std.proofs.lemmas.List.{get_or-map, length-map}
-use Rattle.flow_edges.specs.Signals.{Signal}
-use Rattle.flow_edges.specs.Ends.{SameTraffic}
+use Rattle.flow_messages.specs.Signals.{Signal}
+use Rattle.flow_messages.specs.Ends.{SameTraffic}
 use Rattle.flow_graph.specs.declared.edge.Edge.{Edge}
 use Rattle.flow_graph.specs.Edges.{edge_at}
 use Rattle.flow_rings.specs.Rings.{Kept}

@@ -9,8 +9,8 @@ use Rattle.kahn.proofs.Steps.{sound_start, sound_run}
 use Rattle.kahn.proofs.Finite.{most_events, run_most}
 use Rattle.kahn.proofs.Traffic.{moved_run}
 use Rattle.kahn.proofs.Turns.{reaches_then}
-use Rattle.flow_edges.specs.Signals.{Signal}
-use Rattle.flow_edges.specs.declared.ends.Ends.{Ghosts as EndsGhosts}
+use Rattle.flow_messages.specs.Signals.{Signal}
+use Rattle.flow_messages.specs.declared.ends.Ends.{Ghosts as EndsGhosts}
 use Rattle.flow_base.specs.Transducers.{BehaviourLaws}
 use Rattle.flow_base.specs.declared.transducer.Transducer.{Ghosts}
 use Rattle.flow_boxes.specs.declared.boxes.Boxes.{Boxes}

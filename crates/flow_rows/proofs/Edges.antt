@@ -5,7 +5,7 @@ use Rattle.std.proofs.Common.{inl, inr, arith, sym, ◌∙◌, ap, length-append
 use Rattle.std.proofs.Math.Path.{ap₂}
 use Rattle.snesl_values.specs.Types.{Ty, int, bool, pair, vec, seq}
 use Rattle.snesl_values.specs.Values.{Value}
-use Rattle.flow_edges.specs.Cells.{Cell}
+use Rattle.flow_messages.specs.Cells.{Cell}
 use Rattle.flow_base.specs.Lists.{Lists}
 use Rattle.flow_base.specs.Ports.{ports, each_port}
 use Rattle.flow_base.specs.Flags.{flags, joined, lengths}

@@ -12,8 +12,8 @@ use Rattle.snesl_operators.specs.declared.scalar.Scalar.{Scalar}
 use Rattle.snesl_operators.specs.declared.operator.UnaryOperator.{UnaryOperator}
 use Rattle.snesl_operators.specs.declared.operator.BinaryOperator.{BinaryOperator}
 use Rattle.snesl_operators.specs.declared.operator.Reduction.{Reduction}
-use Rattle.flow_edges.specs.Cells.{Cell, unit, flag, datum}
-use Rattle.flow_edges.specs.declared.message.Kind.{Kind}
+use Rattle.flow_messages.specs.Cells.{Cell, unit, flag, datum}
+use Rattle.flow_messages.specs.declared.message.Kind.{Kind}
 use Rattle.flow_base.specs.Flags.{F, T, elements, flags, joined, lengths}
 use Rattle.flow_base.specs.Ranges.{AllOf}
 use Rattle.flow_scalar.specs.Scalars.{cell_of_scalar}

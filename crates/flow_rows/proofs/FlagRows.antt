@@ -4,7 +4,7 @@ use Rattle.std.proofs.Common.{arith, sym, ◌∙◌, ap, map-id}
 use Rattle.std.proofs.Math.Path.{ap₂}
 use Rattle.std.proofs.lemmas.List.Sums.{sum_by-cons}
 use Rattle.std.proofs.lemmas.Bool.{eqb-true, eq-eqb}
-use Rattle.flow_edges.specs.Cells.{Cell, flag}
+use Rattle.flow_messages.specs.Cells.{Cell, flag}
 use Rattle.flow_base.specs.Lists.{Lists}
 use Rattle.flow_base.specs.Flags.{F, T, elements, flags, joined, lengths}
 use Rattle.flow_base.specs.Columns.{Columns, columns, RowOf}

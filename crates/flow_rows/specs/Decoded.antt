@@ -4,8 +4,8 @@ use Rattle.std.specs.List.{list_all}
 use Rattle.snesl_values.specs.Types.{Ty, int, bool, pair, vec, seq}
 use Rattle.snesl_values.specs.Values.{Value, an_int, a_bool, a_pair, a_seq, values_of}
 use Rattle.snesl_operators.specs.declared.scalar.Scalar.{Scalar}
-use Rattle.flow_edges.specs.Cells.{Cell, unit, flag, int as int_cell, datum, is_of}
-use Rattle.flow_edges.specs.declared.message.Kind.{Kind}
+use Rattle.flow_messages.specs.Cells.{Cell, unit, flag, int as int_cell, datum, is_of}
+use Rattle.flow_messages.specs.declared.message.Kind.{Kind}
 use Rattle.flow_base.specs.Columns.{Columns}
 use Rattle.flow_scalar.specs.Scalars.{scalar_in}
 use Rattle.flow_values.specs.Shapes.{is_a}

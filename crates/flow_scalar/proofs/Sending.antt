@@ -1,8 +1,8 @@
 -- What a source writes next, by the number of items that it has written.
 use Rattle.std.proofs.Common.{◌≡◌, ℕ, ◌+◌, Bool, true, false, Some, None, refl}
 use Rattle.std.specs.List.{slice_get}
-use Rattle.flow_edges.specs.Cells.{Cell}
-use Rattle.flow_edges.specs.Signals.{carry, stop}
+use Rattle.flow_messages.specs.Cells.{Cell}
+use Rattle.flow_messages.specs.Signals.{carry, stop}
 use Rattle.flow_base.specs.Transducers.{IsWrite}
 use Rattle.flow_scalar.specs.Streams.{stream_cells, items_of}
 use Rattle.flow_scalar.specs.SourceBehaviour.{source_state, finished, source_want, source_written, source_wrote}

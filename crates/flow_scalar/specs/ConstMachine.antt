@@ -3,7 +3,7 @@ use Rattle.std.specs.Prelude.{Bool, true, false, Ok}
 use Rattle.snesl_operators.specs.Operators.{type_of}
 use Rattle.snesl_operators.specs.declared.scalar.Scalar.{Scalar}
 use Rattle.snesl_operators.specs.declared.scalar.Scalar.TheVariants.{Bool as BoolScalar}
-use Rattle.flow_edges.specs.declared.message.Kind.TheVariants.{Unit as UnitKind}
+use Rattle.flow_messages.specs.declared.message.Kind.TheVariants.{Unit as UnitKind}
 use Rattle.flow_base.specs.Machines.{Move, begins, gives, on_kind, Machine, one_write}
 use Rattle.flow_scalar.specs.Rows.{ConstRow}
 use Rattle.flow_scalar.specs.Scalars.{kind_of_type, cell_of_scalar, ScalarInRange}

@@ -1,10 +1,10 @@
 -- The machine of Fork: an item that comes goes to each output, one after another.
 use Rattle.std.specs.Prelude.{◌≡◌, ℕ, zero, suc, ◌+◌, ◌-◌, Bool, true, false, Option, Some, None, Ok}
 use Rattle.snesl_values.specs.declared.dialect.Dialect.{Dialect}
-use Rattle.flow_edges.specs.Cells.{Cell, cell_of, is_of}
-use Rattle.flow_edges.specs.declared.message.Item.{Item}
-use Rattle.flow_edges.specs.declared.message.Kind.{Kind}
-use Rattle.flow_edges.specs.declared.message.Kind.TheVariants.{Vec as VecKind, Unit as UnitKind}
+use Rattle.flow_messages.specs.Cells.{Cell, cell_of, is_of}
+use Rattle.flow_messages.specs.declared.message.Item.{Item}
+use Rattle.flow_messages.specs.declared.message.Kind.{Kind}
+use Rattle.flow_messages.specs.declared.message.Kind.TheVariants.{Vec as VecKind, Unit as UnitKind}
 use Rattle.flow_base.specs.Ranges.{CellInRange}
 use Rattle.flow_base.specs.Machines.{Move, begins, gives, on_kind, Machine}
 use Rattle.flow_scalar.specs.Rows.{ForkRow}

@@ -4,9 +4,9 @@ use Rattle.snesl_values.specs.declared.dialect.Dialect.{Dialect}
 use Rattle.snesl_values.specs.declared.fault.FaultKind.{FaultKind}
 use Rattle.snesl_values.specs.declared.fault.FaultKind.TheVariants.{NegativeCount}
 use Rattle.snesl_values.specs.Integers.{IsInteger}
-use Rattle.flow_edges.specs.Cells.{flag, int}
-use Rattle.flow_edges.specs.declared.message.Kind.{Kind}
-use Rattle.flow_edges.specs.declared.message.Kind.TheVariants.{Bool as BoolKind, Int as IntKind}
+use Rattle.flow_messages.specs.Cells.{flag, int}
+use Rattle.flow_messages.specs.declared.message.Kind.{Kind}
+use Rattle.flow_messages.specs.declared.message.Kind.TheVariants.{Bool as BoolKind, Int as IntKind}
 use Rattle.flow_base.specs.Machines.{Move, begins, gives, on_int, Machine}
 use Rattle.flow_scalar.specs.Rows.{IotaRow}
 use Rattle.flow_scalar.specs.declared.iota.Iota.{Iota}

@@ -5,8 +5,8 @@ use Rattle.snesl_values.specs.declared.dialect.Dialect.TheVariants.{One}
 use Rattle.snesl_values.specs.declared.fault.FaultKind.{FaultKind}
 use Rattle.snesl_values.specs.declared.fault.FaultKind.TheVariants.{Overflow}
 use Rattle.snesl_values.specs.Integers.{greatest_integer, is_integer, IsInteger}
-use Rattle.flow_edges.specs.Cells.{int}
-use Rattle.flow_edges.specs.declared.message.Kind.TheVariants.{Bool as BoolKind, Int as IntKind}
+use Rattle.flow_messages.specs.Cells.{int}
+use Rattle.flow_messages.specs.declared.message.Kind.TheVariants.{Bool as BoolKind, Int as IntKind}
 use Rattle.flow_base.specs.Machines.{Taking, on_flag, Move, begins, takes, gives, Machine, one_write}
 use Rattle.flow_scalar.specs.OwnDialect.{InOwn}
 use Rattle.flow_scalar.specs.Rows.{LengthRow}

@@ -7,7 +7,7 @@ use Rattle.snesl_operators.specs.declared.scalar.Scalar.{Scalar}
 use Rattle.snesl_operators.specs.declared.scalar.Scalar.TheVariants.{Int, Bool as Truth}
 use Rattle.snesl_operators.specs.declared.scalar.ScalarType.{ScalarType}
 use Rattle.snesl_operators.specs.declared.scalar.ScalarType.TheVariants.{Int as IntType, Bool as BoolType}
-use Rattle.flow_edges.specs.Cells.{Cell, int, flag}
+use Rattle.flow_messages.specs.Cells.{Cell, int, flag}
 use Rattle.flow_base.specs.Machines.{Taking, on_kind}
 use Rattle.flow_scalar.specs.Scalars.{kind_of_type}
 

@@ -3,7 +3,7 @@ use Rattle.std.specs.Prelude.{◌≡◌, Result, Ok, Err, refl}
 use Rattle.std.proofs.Common.{subst}
 use Rattle.snesl_values.specs.declared.dialect.Dialect.{Dialect}
 use Rattle.snesl_values.specs.declared.fault.FaultKind.{FaultKind}
-use Rattle.flow_edges.specs.Cells.{Cell}
+use Rattle.flow_messages.specs.Cells.{Cell}
 use Rattle.flow_base.specs.Ranges.{CellInRange}
 use Rattle.flow_base.specs.Machines.{Taking, on_flag, on_int, on_kind, OfNext, OfRange}
 

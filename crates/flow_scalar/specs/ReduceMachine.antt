@@ -9,8 +9,8 @@ use Rattle.snesl_operators.specs.Reductions.{and_then, reduction_type, reduced_n
 use Rattle.snesl_operators.specs.declared.scalar.Scalar.{Scalar}
 use Rattle.snesl_operators.specs.declared.operator.Reduction.{Reduction}
 use Rattle.snesl_operators.specs.declared.operator.Reduction.TheVariants.{Sum}
-use Rattle.flow_edges.specs.declared.message.Kind.{Kind}
-use Rattle.flow_edges.specs.declared.message.Kind.TheVariants.{Bool as BoolKind}
+use Rattle.flow_messages.specs.declared.message.Kind.{Kind}
+use Rattle.flow_messages.specs.declared.message.Kind.TheVariants.{Bool as BoolKind}
 use Rattle.flow_base.specs.Machines.{Taking, on_flag, on_kind, Move, begins, takes, gives, one_write, Machine}
 use Rattle.flow_scalar.specs.Scalars.{kind_of_type, cell_of_scalar, scalar_in}
 use Rattle.flow_scalar.specs.OwnDialect.{InOwn}

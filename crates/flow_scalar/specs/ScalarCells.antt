@@ -6,7 +6,7 @@ use Rattle.snesl_operators.specs.Operators.{type_of, ScalarInRange}
 use Rattle.snesl_operators.specs.declared.scalar.Scalar.{Scalar}
 use Rattle.snesl_operators.specs.declared.scalar.Scalar.TheVariants.{Int, Bool as Truth}
 use Rattle.snesl_operators.specs.declared.scalar.ScalarType.{ScalarType}
-use Rattle.flow_edges.specs.Cells.{Cell, unit, int, flag, datum, is_of}
+use Rattle.flow_messages.specs.Cells.{Cell, unit, int, flag, datum, is_of}
 use Rattle.flow_base.specs.Ranges.{CellInRange}
 use Rattle.flow_scalar.specs.Scalars.{kind_of_type, cell_of_scalar, scalar_in}
 

@@ -6,9 +6,9 @@ use Rattle.snesl_values.specs.declared.fault.FaultKind.{FaultKind}
 use Rattle.snesl_values.specs.Integers.{IsInteger}
 use Rattle.snesl_operators.specs.Operators.{ranged}
 use Rattle.snesl_operators.specs.Reductions.{and_then}
-use Rattle.flow_edges.specs.Cells.{int}
-use Rattle.flow_edges.specs.declared.message.Kind.{Kind}
-use Rattle.flow_edges.specs.declared.message.Kind.TheVariants.{Bool as BoolKind, Int as IntKind}
+use Rattle.flow_messages.specs.Cells.{int}
+use Rattle.flow_messages.specs.declared.message.Kind.{Kind}
+use Rattle.flow_messages.specs.declared.message.Kind.TheVariants.{Bool as BoolKind, Int as IntKind}
 use Rattle.flow_base.specs.Machines.{Move, begins, takes, gives, on_flag, on_int, one_write, Machine}
 use Rattle.flow_scalar.specs.OwnDialect.{InOwn}
 use Rattle.flow_scalar.specs.Rows.{ScanAddRow}

@@ -1,7 +1,7 @@
 -- The end of a stream that nothing uses, as a machine.
 use Rattle.std.specs.Prelude.{false, Ok}
-use Rattle.flow_edges.specs.declared.message.Kind.{Kind}
-use Rattle.flow_edges.specs.declared.message.Kind.TheVariants.{Unit as UnitKind}
+use Rattle.flow_messages.specs.declared.message.Kind.{Kind}
+use Rattle.flow_messages.specs.declared.message.Kind.TheVariants.{Unit as UnitKind}
 use Rattle.flow_base.specs.Machines.{Move, begins, on_kind, Machine}
 use Rattle.flow_scalar.specs.Rows.{SinkRow}
 use Rattle.flow_scalar.specs.declared.sink.Sink.{Sink}

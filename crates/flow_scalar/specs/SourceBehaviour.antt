@@ -3,9 +3,9 @@ use Rattle.std.specs.Prelude.{ℕ, ◌+◌, ◌-◌, Bool, true, false, [], leng
 use Rattle.std.specs.List.{slice_get}
 use Rattle.kahn.specs.declared.want.Want.{Want}
 use Rattle.kahn.specs.declared.want.Want.TheVariants.{Write, Ended}
-use Rattle.flow_edges.specs.Cells.{Cell, is_of}
-use Rattle.flow_edges.specs.Signals.{Signal, carry, stop}
-use Rattle.flow_edges.specs.declared.message.Kind.TheVariants.{Unit as UnitKind, Vec as VecKind}
+use Rattle.flow_messages.specs.Cells.{Cell, is_of}
+use Rattle.flow_messages.specs.Signals.{Signal, carry, stop}
+use Rattle.flow_messages.specs.declared.message.Kind.TheVariants.{Unit as UnitKind, Vec as VecKind}
 use Rattle.flow_base.specs.Ranges.{SignalsInRange}
 use Rattle.flow_base.specs.Transducers.{Behaviour, closed}
 use Rattle.flow_scalar.specs.Rows.{SourceRow}

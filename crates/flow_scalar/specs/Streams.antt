@@ -1,9 +1,9 @@
 -- What a stream holds: so many items of one kind.
 use Rattle.std.specs.Prelude.{◌≡◌, ℕ, zero, suc, true, List, [], ◌∷◌, map, replicate, refl}
 use Rattle.snesl_values.specs.Values.{value_of}
-use Rattle.flow_edges.specs.Cells.{Cell, unit, flag, int, datum, is_of}
-use Rattle.flow_edges.specs.declared.message.Kind.{Kind}
-use Rattle.flow_edges.specs.declared.message.Kind.TheVariants.{Unit as UnitKind, Bool as BoolKind, Int as IntKind, Vec as VecKind}
+use Rattle.flow_messages.specs.Cells.{Cell, unit, flag, int, datum, is_of}
+use Rattle.flow_messages.specs.declared.message.Kind.{Kind}
+use Rattle.flow_messages.specs.declared.message.Kind.TheVariants.{Unit as UnitKind, Bool as BoolKind, Int as IntKind, Vec as VecKind}
 use Rattle.flow_base.specs.Ranges.{AllOf}
 use Rattle.flow_scalar.specs.declared.source.Stream.{Stream}
 use Rattle.flow_scalar.specs.declared.source.Stream.TheVariants.{Units, Bools, Ints, Vectors}

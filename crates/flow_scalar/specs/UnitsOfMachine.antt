@@ -1,7 +1,7 @@
 -- A Unit for each element that flags stand for, as a machine.
 use Rattle.std.specs.Prelude.{Bool, true, false, Ok}
-use Rattle.flow_edges.specs.Cells.{unit}
-use Rattle.flow_edges.specs.declared.message.Kind.TheVariants.{Unit as UnitKind, Bool as BoolKind}
+use Rattle.flow_messages.specs.Cells.{unit}
+use Rattle.flow_messages.specs.declared.message.Kind.TheVariants.{Unit as UnitKind, Bool as BoolKind}
 use Rattle.flow_base.specs.Machines.{Move, begins, gives, on_flag, Machine, one_write}
 use Rattle.flow_scalar.specs.Rows.{UnitsOfRow}
 use Rattle.flow_scalar.specs.declared.units_of.UnitsOf.{UnitsOf}

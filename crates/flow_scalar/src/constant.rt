@@ -4,7 +4,7 @@ ghost use Rattle.std.specs.Prelude.{◌≡◌, false};
 
 use crate::scalars::{item_of, kind_of};
 use flow_base::{Ask, Stop, Worker};
-use flow_edges::{Item, Kind};
+use flow_messages::{Item, Kind};
 use snesl_operators::Scalar;
 use snesl_values::FaultKind;
 use std::alloc::AllocError;

@@ -4,7 +4,7 @@ ghost use Rattle.std.specs.Prelude.{suc, ◌≡◌, ◌<◌, ◌≤◌};
 ghost use Rattle.flow_scalar.specs.ForkMachine.{fork_ports, idle};
 
 use flow_base::{Ask, Stop, Worker};
-use flow_edges::{Item, Kind};
+use flow_messages::{Item, Kind};
 use snesl_values::FaultKind;
 use std::alloc::{AllocError, Global};
 

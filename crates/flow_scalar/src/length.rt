@@ -4,7 +4,7 @@ ghost use Rattle.std.specs.Prelude.{◌≡◌};
 ghost use Rattle.flow_scalar.specs.LengthMachine.{one_more, length_ended};
 
 use flow_base::{Ask, Stop, Worker};
-use flow_edges::{Item, Kind};
+use flow_messages::{Item, Kind};
 use snesl_values::{Dialect, FaultKind};
 use std::alloc::AllocError;
 

@@ -1,10 +1,10 @@
 // Operands that come as items.
 
 ghost use Rattle.std.specs.Prelude.{◌≡◌};
-ghost use Rattle.flow_edges.specs.Cells.{cell_of};
+ghost use Rattle.flow_messages.specs.Cells.{cell_of};
 ghost use Rattle.flow_scalar.specs.Operands.{operand_in};
 
-use flow_edges::Item;
+use flow_messages::Item;
 use snesl_operators::{Scalar, ScalarType};
 use snesl_values::FaultKind;
 

@@ -4,7 +4,7 @@ ghost use Rattle.std.specs.Prelude.{◌≡◌};
 
 use crate::scalars::{item_of, kind_of, scalar_of};
 use flow_base::{Ask, Stop, Worker};
-use flow_edges::{Item, Kind};
+use flow_messages::{Item, Kind};
 use snesl_operators::{Reduction, Scalar};
 use snesl_values::{Dialect, FaultKind};
 use std::alloc::AllocError;
@@ -39,7 +39,7 @@ enum Stage {
 }
 
 impl Stage {
-    ghost use Rattle.flow_edges.specs.Cells.{cell_of};
+    ghost use Rattle.flow_messages.specs.Cells.{cell_of};
     ghost use Rattle.flow_base.specs.Machines.{taken, given_of};
     ghost use Rattle.flow_scalar.specs.ReduceMachine.{at_flag, reduce_move};
 

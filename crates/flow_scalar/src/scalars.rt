@@ -1,10 +1,10 @@
 // Scalars as items of streams.
 
 ghost use Rattle.std.specs.Prelude.{◌≡◌};
-ghost use Rattle.flow_edges.specs.Cells.{cell_of};
+ghost use Rattle.flow_messages.specs.Cells.{cell_of};
 ghost use Rattle.flow_scalar.specs.Scalars.{kind_of_type, scalar_in, cell_of_scalar};
 
-use flow_edges::{Item, Kind};
+use flow_messages::{Item, Kind};
 use snesl_operators::{Scalar, ScalarType};
 
 /// The kind of the items that carry scalars of this type.

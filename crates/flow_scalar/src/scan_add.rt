@@ -3,7 +3,7 @@
 ghost use Rattle.std.specs.Prelude.{◌≡◌};
 
 use flow_base::{Ask, Stop, Worker};
-use flow_edges::{Item, Kind};
+use flow_messages::{Item, Kind};
 use snesl_operators::sum;
 use snesl_values::{Dialect, FaultKind};
 use std::alloc::AllocError;
@@ -38,7 +38,7 @@ enum Stage {
 }
 
 impl Stage {
-    ghost use Rattle.flow_edges.specs.Cells.{cell_of};
+    ghost use Rattle.flow_messages.specs.Cells.{cell_of};
     ghost use Rattle.flow_base.specs.Machines.{given_of};
     ghost use Rattle.flow_scalar.specs.ScanAddMachine.{scan_add_move};
 

@@ -3,7 +3,7 @@
 ghost use Rattle.std.specs.Prelude.{◌≡◌, false, IfOk, OnErr, IsOk};
 
 use flow_base::{Ask, Stop, Worker};
-use flow_edges::{Item, Kind};
+use flow_messages::{Item, Kind};
 use snesl_values::FaultKind;
 use std::alloc::AllocError;
 
@@ -24,8 +24,8 @@ impl Sink {
 }
 
 impl Worker for Sink {
-    ghost use Rattle.flow_edges.specs.Cells.{cell_of};
-    ghost use Rattle.flow_edges.specs.declared.message.Kind.{Kind};
+    ghost use Rattle.flow_messages.specs.Cells.{cell_of};
+    ghost use Rattle.flow_messages.specs.declared.message.Kind.{Kind};
     ghost use Rattle.flow_base.specs.Machines.{told_of, after_of};
     ghost use Rattle.flow_scalar.specs.SinkMachine.{sink_machine, sink_view};
     ghost use Rattle.flow_scalar.specs.laws.Sink.{sink_laws};

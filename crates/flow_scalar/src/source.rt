@@ -3,15 +3,15 @@
 ghost use Rattle.std.specs.Prelude.{◌≡◌, ◌<◌, false, IfOk, OnOk, OnErr, IsOk, IsSome, option_map};
 ghost use Rattle.std.specs.List.{slice_get};
 ghost use Rattle.snesl_values.specs.declared.dialect.Dialect.{Dialect};
-ghost use Rattle.flow_edges.specs.Cells.{cell_of, is_of};
-ghost use Rattle.flow_edges.specs.Signals.{signal_of};
+ghost use Rattle.flow_messages.specs.Cells.{cell_of, is_of};
+ghost use Rattle.flow_messages.specs.Signals.{signal_of};
 ghost use Rattle.flow_base.specs.Ranges.{AllOf, SignalsInRange};
 ghost use Rattle.flow_base.specs.Transducers.{closed};
 ghost use Rattle.flow_scalar.specs.Streams.{stream_kind, stream_cells, items_of};
 ghost use Rattle.flow_scalar.specs.SourceBehaviour.{is_vector, source_opened, source_behaviour};
 
 use flow_base::{Port, Side, Transducer};
-use flow_edges::{Item, Kind, Msg};
+use flow_messages::{Item, Kind, Msg};
 use kahn::Want;
 use snesl_values::{Datum, copy_datum};
 use std::alloc::{AllocError, Global};

@@ -5,7 +5,7 @@ ghost use Rattle.std.specs.Prelude.{◌≡◌, None};
 use crate::operand::operand_of;
 use crate::scalars::{item_of, kind_of};
 use flow_base::{Ask, Stop, Worker};
-use flow_edges::{Item, Kind};
+use flow_messages::{Item, Kind};
 use snesl_operators::{Scalar, UnaryOperator};
 use snesl_values::Dialect;
 use std::alloc::AllocError;

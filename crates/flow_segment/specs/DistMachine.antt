@@ -1,10 +1,10 @@
 -- An item for each element of a segment: the machine.
 use Rattle.std.specs.Prelude.{◌≡◌, ℕ, zero, true, false, Bool, Option, Some, None, Ok}
 use Rattle.snesl_values.specs.declared.dialect.Dialect.{Dialect}
-use Rattle.flow_edges.specs.Cells.{Cell, cell_of, is_of}
-use Rattle.flow_edges.specs.declared.message.Item.{Item}
-use Rattle.flow_edges.specs.declared.message.Kind.{Kind}
-use Rattle.flow_edges.specs.declared.message.Kind.TheVariants.{Bool as BoolKind, Vec as VecKind, Unit as UnitKind}
+use Rattle.flow_messages.specs.Cells.{Cell, cell_of, is_of}
+use Rattle.flow_messages.specs.declared.message.Item.{Item}
+use Rattle.flow_messages.specs.declared.message.Kind.{Kind}
+use Rattle.flow_messages.specs.declared.message.Kind.TheVariants.{Bool as BoolKind, Vec as VecKind, Unit as UnitKind}
 use Rattle.flow_base.specs.Ranges.{CellInRange}
 use Rattle.flow_base.specs.Machines.{on_flag, on_kind, Move, begins, takes, gives, Machine, one_write}
 use Rattle.flow_segment.specs.Rows.{DistRow}

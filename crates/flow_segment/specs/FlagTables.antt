@@ -1,7 +1,7 @@
 -- Machines over flags alone.
 use Rattle.std.specs.Prelude.{ℕ, false}
-use Rattle.flow_edges.specs.Cells.{Cell, flag}
-use Rattle.flow_edges.specs.declared.message.Kind.TheVariants.{Bool as BoolKind}
+use Rattle.flow_messages.specs.Cells.{Cell, flag}
+use Rattle.flow_messages.specs.declared.message.Kind.TheVariants.{Bool as BoolKind}
 use Rattle.flow_base.specs.Lists.{Lists}
 use Rattle.flow_base.specs.Machines.{on_flag, Move, begins, takes, gives, Machine}
 use Rattle.flow_segment.specs.declared.over_flags.OverFlags.{OverFlags}

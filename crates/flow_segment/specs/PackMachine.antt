@@ -1,9 +1,9 @@
 -- The items that are to be kept: the machine.
 use Rattle.std.specs.Prelude.{◌≡◌, ℕ, zero, true, false, Bool, Ok}
 use Rattle.snesl_values.specs.declared.dialect.Dialect.{Dialect}
-use Rattle.flow_edges.specs.Cells.{Cell, cell_of, is_of}
-use Rattle.flow_edges.specs.declared.message.Kind.{Kind}
-use Rattle.flow_edges.specs.declared.message.Kind.TheVariants.{Bool as BoolKind, Unit as UnitKind}
+use Rattle.flow_messages.specs.Cells.{Cell, cell_of, is_of}
+use Rattle.flow_messages.specs.declared.message.Kind.{Kind}
+use Rattle.flow_messages.specs.declared.message.Kind.TheVariants.{Bool as BoolKind, Unit as UnitKind}
 use Rattle.flow_base.specs.Ranges.{CellInRange}
 use Rattle.flow_base.specs.Machines.{Move, begins, takes, gives, on_flag, on_kind, Machine, one_write}
 use Rattle.flow_segment.specs.Rows.{PackRow}

@@ -1,7 +1,7 @@
 -- The rows: what each transducer reads and writes, in whole instances.
 use Rattle.std.specs.Prelude.{ℕ, ◌≡◌, ◌+◌, true, false, Bool, List, [], ◌∷◌, ◌++◌, map, sum, length, replicate, suc, sum_by}
-use Rattle.flow_edges.specs.Cells.{Cell, flag}
-use Rattle.flow_edges.specs.declared.message.Kind.{Kind}
+use Rattle.flow_messages.specs.Cells.{Cell, flag}
+use Rattle.flow_messages.specs.declared.message.Kind.{Kind}
 use Rattle.flow_base.specs.Lists.{Lists}
 use Rattle.flow_base.specs.Flags.{T, elements, flags, joined, lengths}
 use Rattle.flow_base.specs.Ranges.{AllOf}

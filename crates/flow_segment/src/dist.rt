@@ -3,7 +3,7 @@
 ghost use Rattle.std.specs.Prelude.{◌≡◌};
 
 use flow_base::{Ask, Stop, Worker};
-use flow_edges::{Item, Kind};
+use flow_messages::{Item, Kind};
 use snesl_values::FaultKind;
 use std::alloc::{AllocError, Global};
 
@@ -43,7 +43,7 @@ impl Dist {
 }
 
 impl Worker for Dist {
-    ghost use Rattle.flow_edges.specs.declared.message.Kind.{Kind};
+    ghost use Rattle.flow_messages.specs.declared.message.Kind.{Kind};
     ghost use Rattle.flow_segment.specs.DistMachine.{Step, dist_machine, dist_view};
     ghost use Rattle.flow_segment.specs.laws.Dist.{dist_laws};
 

@@ -3,7 +3,7 @@
 ghost use Rattle.std.specs.Prelude.{◌≡◌};
 
 use flow_base::{Ask, Stop, Worker};
-use flow_edges::{Item, Kind};
+use flow_messages::{Item, Kind};
 use snesl_values::FaultKind;
 use std::alloc::AllocError;
 use std::mem;
@@ -70,7 +70,7 @@ impl Interleave {
 }
 
 impl Worker for Interleave {
-    ghost use Rattle.flow_edges.specs.declared.message.Kind.{Kind};
+    ghost use Rattle.flow_messages.specs.declared.message.Kind.{Kind};
     ghost use Rattle.flow_segment.specs.InterleaveMachine.{Step, interleave_machine, interleave_view};
     ghost use Rattle.flow_segment.specs.laws.Interleave.{interleave_laws};
 

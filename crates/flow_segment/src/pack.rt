@@ -3,7 +3,7 @@
 ghost use Rattle.std.specs.Prelude.{◌≡◌};
 
 use flow_base::{Ask, Stop, Worker};
-use flow_edges::{Item, Kind};
+use flow_messages::{Item, Kind};
 use snesl_values::FaultKind;
 use std::alloc::AllocError;
 use std::mem;
@@ -44,7 +44,7 @@ impl Pack {
 }
 
 impl Worker for Pack {
-    ghost use Rattle.flow_edges.specs.declared.message.Kind.{Kind};
+    ghost use Rattle.flow_messages.specs.declared.message.Kind.{Kind};
     ghost use Rattle.flow_segment.specs.PackMachine.{Step, pack_machine, pack_view};
     ghost use Rattle.flow_segment.specs.laws.Pack.{pack_laws};
 

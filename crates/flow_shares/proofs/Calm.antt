@@ -5,8 +5,8 @@ use Rattle.std.proofs.lemmas.List.Elements.{All-from_get_or}
 use mathlib.Core.List.{IsPrefix}
 use Rattle.kahn.specs.declared.want.Want.{Want}
 use Rattle.kahn.specs.declared.want.Want.TheVariants.{Read, Write, Ended, Faulted}
-use Rattle.flow_edges.specs.Signals.{Signal}
-use Rattle.flow_edges.specs.Ends.{View, SameTraffic}
+use Rattle.flow_messages.specs.Signals.{Signal}
+use Rattle.flow_messages.specs.Ends.{View, SameTraffic}
 use Rattle.flow_base.specs.Transducers.{BehaviourLaws}
 use Rattle.flow_base.specs.declared.transducer.Transducer.{Ghosts}
 use Rattle.flow_base.specs.Visits.{edge_of, IsNone, LeavesAlone, IsStuck}

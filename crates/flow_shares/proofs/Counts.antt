@@ -4,7 +4,7 @@ use Rattle.std.proofs.Math.Nat.{mul-le-mul_left}
 use Rattle.std.proofs.lemmas.Bool.{cases_eq, cases_lt}
 use Rattle.kahn.specs.Basics.{total}
 use Rattle.kahn.specs.Processes.{reads, writes}
-use Rattle.flow_edges.specs.Ends.{View, SameTraffic}
+use Rattle.flow_messages.specs.Ends.{View, SameTraffic}
 use Rattle.flow_base.specs.declared.transducer.Transducer.{Ghosts}
 use Rattle.flow_base.specs.Visits.{edge_of}
 use Rattle.flow_graph.specs.declared.placed.Placed.{Placed}

@@ -2,7 +2,7 @@
 use Rattle.std.proofs.Common.{List, ◌∙◌}
 use mathlib.Core.Logic.{∥∥₁_map}
 use Rattle.std.specs.List.{All}
-use Rattle.flow_edges.specs.Ends.{View, SameTraffic}
+use Rattle.flow_messages.specs.Ends.{View, SameTraffic}
 use Rattle.flow_base.specs.declared.transducer.Transducer.{Ghosts}
 use Rattle.flow_graph.specs.declared.placed.Placed.{Placed}
 use Rattle.flow_shares.specs.Shares.{IsOwn}

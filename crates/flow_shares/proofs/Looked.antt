@@ -1,7 +1,7 @@
 -- Nodes that were looked at one after another, each of which is stuck.
 use Rattle.std.proofs.Common.{◌≡◌, ℕ, ◌+◌, ◌<◌, List, length, get_or, ◌⊎◌, inl, inr, refl, sym, ◌∙◌, subst, arith}
 use Rattle.std.proofs.lemmas.Bool.{cases_eq}
-use Rattle.flow_edges.specs.Ends.{View, SameEnds}
+use Rattle.flow_messages.specs.Ends.{View, SameEnds}
 use Rattle.flow_base.specs.Transducers.{BehaviourLaws}
 use Rattle.flow_base.specs.declared.transducer.Transducer.{Ghosts}
 use Rattle.flow_base.specs.Visits.{LeavesAlone}

@@ -5,8 +5,8 @@ use mathlib.Core.Logic.{∥∥₁_map}
 use Rattle.kahn.specs.Basics.{Begins}
 use Rattle.kahn.specs.Processes.{Event, Does, reads, writes}
 use Rattle.kahn.proofs.History.{does_then, reads_append, writes_append}
-use Rattle.flow_edges.specs.Signals.{Signal}
-use Rattle.flow_edges.specs.Ends.{View}
+use Rattle.flow_messages.specs.Signals.{Signal}
+use Rattle.flow_messages.specs.Ends.{View}
 use Rattle.flow_base.specs.declared.transducer.Transducer.{Ghosts}
 use Rattle.flow_base.specs.Visits.{edge_of, IsNone}
 use Rattle.flow_graph.specs.declared.placed.Placed.{Placed}

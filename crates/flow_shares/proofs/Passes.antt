@@ -2,7 +2,7 @@
 use Rattle.std.proofs.Common.{◌≡◌, ℕ, ◌+◌, ◌<◌, Bool, true, false, ◌||◌, List, length, get_or, set, refl, sym, ◌∙◌, subst}
 use Rattle.std.specs.List.{All}
 use Rattle.kahn.specs.Processes.{Does}
-use Rattle.flow_edges.specs.Ends.{View, SameEnds, SameTraffic}
+use Rattle.flow_messages.specs.Ends.{View, SameEnds, SameTraffic}
 use Rattle.flow_base.specs.Transducers.{BehaviourLaws}
 use Rattle.flow_base.specs.declared.transducer.Transducer.{Ghosts}
 use Rattle.flow_base.specs.Visits.{Visited, BrokeOff}

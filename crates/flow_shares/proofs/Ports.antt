@@ -6,7 +6,7 @@ use mathlib.Core.Logic.{∥∥₁_elim, ∥∥₁_map}
 use Rattle.kahn.specs.declared.want.Want.TheVariants.{Read, Write}
 use Rattle.kahn.specs.Processes.{Process, Event, Reads, Writes, Does, HasEnd, reads, writes}
 use Rattle.kahn.proofs.History.{does_then, writes_push, writes_push_other, writes_push_read}
-use Rattle.flow_edges.specs.Signals.{Signal, ended}
+use Rattle.flow_messages.specs.Signals.{Signal, ended}
 use Rattle.flow_base.specs.Transducers.{Behaviour, BehaviourLaws}
 use Rattle.flow_base.specs.Visits.{read_from, sent_after, edge_of, IsReached}
 use Rattle.flow_base.proofs.Reached.{opening_read, opening_wrote, wants_input, wants_output}

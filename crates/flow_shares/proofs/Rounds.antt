@@ -1,7 +1,7 @@
 -- One turn more of a share.
 use Rattle.std.proofs.Common.{◌≡◌, ℕ, zero, suc, ◌+◌, ◌*◌, ◌<◌, ◌≤◌, ◌⊎◌, Bool, true, false, List, refl, sym, ◌∙◌, subst, arith}
 use Rattle.std.specs.List.{All}
-use Rattle.flow_edges.specs.Ends.{View, SameEnds, SameTraffic}
+use Rattle.flow_messages.specs.Ends.{View, SameEnds, SameTraffic}
 use Rattle.flow_base.specs.declared.transducer.Transducer.{Ghosts}
 use Rattle.flow_base.proofs.Carried.{same_ends_refl, same_ends_then}
 use Rattle.flow_graph.specs.declared.placed.Placed.{Placed}

@@ -1,6 +1,6 @@
 -- What of a share is not its ends.
 use Rattle.std.specs.Prelude.{ℕ, Bool, List}
-use Rattle.flow_edges.specs.declared.ends.Ends.{Ghosts as EndsGhosts}
+use Rattle.flow_messages.specs.declared.ends.Ends.{Ghosts as EndsGhosts}
 use Rattle.flow_base.specs.declared.transducer.Transducer.{Ghosts}
 use Rattle.flow_graph.specs.declared.placed.Placed.{Placed}
 use Rattle.flow_shares.specs.declared.share.Share.{Share}

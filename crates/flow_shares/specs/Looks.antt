@@ -1,8 +1,8 @@
 -- What looking at the ends of a share makes of it.
 use Rattle.std.specs.Prelude.{◌≡◌, ℕ, ◌≤◌}
 use mathlib.Core.List.{IsPrefix}
-use Rattle.flow_edges.specs.Ends.{View, SameEnds, SameTraffic}
-use Rattle.flow_edges.specs.declared.ends.Ends.{Ghosts as EndsGhosts}
+use Rattle.flow_messages.specs.Ends.{View, SameEnds, SameTraffic}
+use Rattle.flow_messages.specs.declared.ends.Ends.{Ghosts as EndsGhosts}
 use Rattle.flow_base.specs.declared.transducer.Transducer.{Ghosts}
 use Rattle.flow_shares.specs.declared.share.Share.{Share}
 use Rattle.flow_shares.specs.Lending.{body_of}

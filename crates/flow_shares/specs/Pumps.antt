@@ -1,7 +1,7 @@
 -- What a pump makes of a share.
 use Rattle.std.specs.Prelude.{◌≡◌, true, false}
-use Rattle.flow_edges.specs.Ends.{SameEnds, SameTraffic}
-use Rattle.flow_edges.specs.declared.ends.Ends.{Ghosts as EndsGhosts}
+use Rattle.flow_messages.specs.Ends.{SameEnds, SameTraffic}
+use Rattle.flow_messages.specs.declared.ends.Ends.{Ghosts as EndsGhosts}
 use Rattle.flow_base.specs.declared.transducer.Transducer.{Ghosts}
 use Rattle.flow_graph.specs.Layouts.{AreSamePlaces}
 use Rattle.flow_shares.specs.declared.share.Share.{Share}

@@ -1,11 +1,11 @@
 // A share while its ends are elsewhere.
 ghost use Rattle.std.specs.Prelude.{◌≡◌};
-ghost use Rattle.flow_edges.specs.Ends.{SameEnds, SameTraffic};
+ghost use Rattle.flow_messages.specs.Ends.{SameEnds, SameTraffic};
 ghost use Rattle.flow_shares.specs.Lending.{body_of};
 
 use crate::share::Share;
 use flow_base::Transducer;
-use flow_edges::Ends;
+use flow_messages::Ends;
 use flow_graph::Placed;
 use std::snapshot::Snapshot;
 

@@ -1,12 +1,12 @@
 // One turn of a share.
 ghost use Rattle.std.specs.Prelude.{◌≡◌, ◌<◌, true, false, IfOk, OnErr};
 ghost use Rattle.std.specs.List.{All};
-ghost use Rattle.flow_edges.specs.Ends.{SameEnds, SameTraffic};
+ghost use Rattle.flow_messages.specs.Ends.{SameEnds, SameTraffic};
 ghost use Rattle.flow_graph.specs.Layouts.{AreSamePlaces};
 ghost use Rattle.flow_shares.specs.Shares.{HasItsEnds, AreApart, IsOwn, AreStuck, TakesMemory, HaveMoved, HaveMovedAndLost};
 
 use flow_base::Transducer;
-use flow_edges::Ends;
+use flow_messages::Ends;
 use flow_graph::Placed;
 use std::alloc::AllocError;
 

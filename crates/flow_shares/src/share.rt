@@ -4,7 +4,7 @@ ghost use Rattle.std.specs.List.{All};
 ghost use Rattle.flow_shares.specs.Shares.{HasItsEnds, AreApart, IsOwn};
 
 use flow_base::Transducer;
-use flow_edges::Ends;
+use flow_messages::Ends;
 use flow_graph::Placed;
 
 /// Some nodes of a graph, in ascending order, and the ends of the edges at their ports.

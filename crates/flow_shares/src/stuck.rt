@@ -6,7 +6,7 @@ ghost use Rattle.flow_shares.specs.Shares.{HasItsEnds, AreApart, AreStuck};
 
 use crate::share::Share;
 use flow_base::Transducer;
-use flow_edges::Ends;
+use flow_messages::Ends;
 use flow_graph::Placed;
 
 impl<T: Transducer, E: Ends> Share<T, E> {

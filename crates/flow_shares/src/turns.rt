@@ -1,7 +1,7 @@
 // Running a share: turn after turn.
 ghost use Rattle.std.specs.Prelude.{◌≡◌, ◌<◌, true, false, length, IfOk, OnErr};
 ghost use Rattle.std.specs.List.{All};
-ghost use Rattle.flow_edges.specs.Ends.{SameEnds, SameTraffic};
+ghost use Rattle.flow_messages.specs.Ends.{SameEnds, SameTraffic};
 ghost use Rattle.flow_graph.specs.Layouts.{AreSamePlaces};
 ghost use Rattle.flow_shares.specs.Pumps.{IsPumped};
 ghost use Rattle.flow_shares.specs.Shares.{most_turns, HasItsEnds, AreApart, IsOwn, AreStuck, TakesMemory, HaveMoved, HaveMovedForTurns, HaveMovedAndLost};
@@ -10,7 +10,7 @@ use crate::gate::Gate;
 use crate::pass::pass;
 use crate::share::Share;
 use flow_base::Transducer;
-use flow_edges::Ends;
+use flow_messages::Ends;
 use flow_graph::Placed;
 use std::alloc::AllocError;
 use std::thread;

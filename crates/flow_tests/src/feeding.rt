@@ -2,7 +2,7 @@
 
 use crate::rows::Row;
 use flow_base::{Printing, Transducer};
-use flow_edges::{Item, Msg};
+use flow_messages::{Item, Msg};
 use kahn::Want;
 use snesl_values::{Datum, text_of};
 use std::alloc::{AllocError, Global};

@@ -6,7 +6,7 @@ ghost use Rattle.flow_graph.specs.Networks.{AreOpened};
 use crate::building::join;
 use crate::sketches::{SUM_OF_FIVE, SUM_OF_UNLIKE, drawn, graph_of};
 use flow_base::Transducer;
-use flow_edges::{Ends, Item, Msg, Table};
+use flow_messages::{Ends, Item, Msg, Table};
 use flow_graph::{Edge, Graph, GraphBuilder, Moved, step_once};
 use kahn::Want;
 use snesl_values::{Fault, FaultKind};

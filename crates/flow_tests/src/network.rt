@@ -1,6 +1,6 @@
 // Edges of one thread, and the fault that is named.
 
-use flow_edges::{Ends, Item, Kind, Msg, Refused, Table, WholeEnds, Why};
+use flow_messages::{Ends, Item, Kind, Msg, Refused, Table, WholeEnds, Why};
 use kahn::faults::{named, named_fault};
 use snesl_values::{Datum, Fault, FaultKind};
 use std::process::Abort;

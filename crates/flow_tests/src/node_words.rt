@@ -8,7 +8,7 @@ use crate::words::{
     type_of, unary_named,
 };
 use flow_base::Node;
-use flow_edges::{Item, Msg};
+use flow_messages::{Item, Msg};
 use flow_nodes::StreamNode;
 use flow_scalar::{
     Binary, Const, Fork, Iota, Length, Reduce, ScanAdd, Sink, Source, Stream, Unary, UnitsOf,

@@ -19,7 +19,7 @@ ghost use Rattle.std.specs.Prelude.{◌<◌, IfOk, vec_len};
 
 use crate::node_words::node_of;
 use crate::words::{WordError, fault_named, message, number_of};
-use flow_edges::Msg;
+use flow_messages::Msg;
 use flow_nodes::StreamNode;
 use kahn::Want;
 use snesl_values::Fault;

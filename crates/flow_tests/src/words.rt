@@ -1,6 +1,6 @@
 // What the words of a table stand for: messages, types, kinds and operators.
 
-use flow_edges::{Item, Kind, Msg};
+use flow_messages::{Item, Kind, Msg};
 use snesl_operators::{BinaryOperator, Reduction, UnaryOperator};
 use snesl_values::{Datum, Dialect, FaultKind, Ty};
 use std::alloc::{AllocError, Global};

@@ -9,9 +9,9 @@ use Rattle.kahn.specs.declared.want.Want.TheVariants.{Ended}
 use Rattle.kahn.specs.Processes.{Does, reads}
 use Rattle.kahn.specs.Networks.{Network}
 use Rattle.kahn.specs.Configurations.{Configuration, IsReached, IsComplete}
-use Rattle.flow_edges.specs.Cells.{Cell}
-use Rattle.flow_edges.specs.Signals.{Signal}
-use Rattle.flow_edges.specs.Ends.{View}
+use Rattle.flow_messages.specs.Cells.{Cell}
+use Rattle.flow_messages.specs.Signals.{Signal}
+use Rattle.flow_messages.specs.Ends.{View}
 use Rattle.flow_base.specs.Columns.{columns_same}
 use Rattle.flow_base.specs.Transducers.{closed}
 use Rattle.flow_base.specs.Sums.{sum_does}

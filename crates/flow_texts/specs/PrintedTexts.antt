@@ -4,8 +4,8 @@ use Rattle.snesl_values.specs.Types.{Ty}
 use Rattle.snesl_values.specs.Values.{Value}
 use Rattle.snesl_values.specs.Text.{text}
 use Rattle.kahn.specs.Configurations.{IsComplete}
-use Rattle.flow_edges.specs.Cells.{Cell}
-use Rattle.flow_edges.specs.Ends.{View}
+use Rattle.flow_messages.specs.Cells.{Cell}
+use Rattle.flow_messages.specs.Ends.{View}
 use Rattle.flow_values.specs.Shapes.{is_a}
 use Rattle.flow_values.specs.Flats.{width, flat}
 use Rattle.flow_values.specs.PrintMachine.{print_opened}

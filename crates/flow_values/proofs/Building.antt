@@ -10,9 +10,9 @@ use Rattle.std.proofs.lemmas.Bool.Decides.{nat_tests}
 use Rattle.snesl_values.specs.declared.fault.FaultKind.TheVariants.{Shape}
 use Rattle.snesl_values.specs.Types.{Ty, int, bool, pair, vec, seq}
 use Rattle.snesl_values.specs.Values.{Value, an_int, a_bool, a_pair}
-use Rattle.flow_edges.specs.declared.message.Item.{Item}
-use Rattle.flow_edges.specs.declared.message.Kind.{Kind}
-use Rattle.flow_edges.specs.Cells.{Cell, flag, int as int_cell, datum, unit, cell_of, is_of}
+use Rattle.flow_messages.specs.declared.message.Item.{Item}
+use Rattle.flow_messages.specs.declared.message.Kind.{Kind}
+use Rattle.flow_messages.specs.Cells.{Cell, flag, int as int_cell, datum, unit, cell_of, is_of}
 use Rattle.flow_base.specs.Workers.{Takes}
 use Rattle.flow_base.specs.declared.worker.Stop.{Stop}
 use Rattle.flow_base.specs.declared.worker.Stop.TheVariants.{Faulted, OutOfMemory}

@@ -6,8 +6,8 @@ use Rattle.std.specs.List.{slice_get}
 use Rattle.std.proofs.lemmas.Bool.Decides.{nat_tests}
 use Rattle.snesl_values.specs.declared.fault.FaultKind.TheVariants.{Shape}
 use Rattle.kahn.specs.declared.want.Want.TheVariants.{Read, Ended, Faulted}
-use Rattle.flow_edges.specs.Signals.{stop}
-use Rattle.flow_edges.specs.Cells.{Cell, flag, int as int_cell, datum, is_of}
+use Rattle.flow_messages.specs.Signals.{stop}
+use Rattle.flow_messages.specs.Cells.{Cell, flag, int as int_cell, datum, is_of}
 use Rattle.flow_base.specs.declared.worker.Stop.{Stop}
 use Rattle.flow_base.specs.declared.worker.Stop.TheVariants.{Faulted as Stopped, OutOfMemory}
 use Rattle.flow_values.specs.Shapes.{kinds_of, is_a, kind_at}

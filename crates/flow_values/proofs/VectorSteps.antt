@@ -11,7 +11,7 @@ use Rattle.snesl_values.specs.declared.fault.FaultKind.TheVariants.{Shape}
 use Rattle.snesl_values.specs.Types.{Ty, seq}
 use Rattle.snesl_values.specs.Values.{Value, Values, a_vec, list_of, value_of, values_of}
 use Rattle.snesl_values.proofs.Data.{list_values}
-use Rattle.flow_edges.specs.Cells.{Cell, unit, flag, int, datum}
+use Rattle.flow_messages.specs.Cells.{Cell, unit, flag, int, datum}
 use Rattle.flow_base.specs.Workers.{IsReading}
 use Rattle.flow_values.specs.Shapes.{is_a, all_are}
 use Rattle.flow_values.specs.Dues.{DueCell, dues_of, segment_dues}

@@ -5,9 +5,9 @@ use Rattle.snesl_values.specs.declared.fault.FaultKind.{FaultKind}
 use Rattle.snesl_values.specs.declared.fault.FaultKind.TheVariants.{Shape, Index}
 use Rattle.snesl_values.specs.Types.{Ty, bool}
 use Rattle.snesl_values.specs.Values.{Value, Values, a_vec, value_of, values_of}
-use Rattle.flow_edges.specs.Cells.{Cell, datum}
-use Rattle.flow_edges.specs.declared.message.Kind.{Kind}
-use Rattle.flow_edges.specs.declared.message.Kind.TheVariants.{Int as IntKind, Vec as VecKind}
+use Rattle.flow_messages.specs.Cells.{Cell, datum}
+use Rattle.flow_messages.specs.declared.message.Kind.{Kind}
+use Rattle.flow_messages.specs.declared.message.Kind.TheVariants.{Int as IntKind, Vec as VecKind}
 use Rattle.flow_base.specs.Ranges.{AllInRange}
 use Rattle.flow_base.specs.Machines.{Move, begins, takes, gives, on_int, on_kind, Machine}
 use Rattle.flow_values.specs.Shapes.{all_are, kinds_of, kind_at}

@@ -3,7 +3,7 @@ use Rattle.std.specs.Prelude.{◌≡◌, ℕ, zero, ◌-◌, Bool, true, false, 
 use Rattle.std.specs.List.{slice_get}
 use Rattle.snesl_values.specs.Types.{Ty, int, bool, pair, vec}
 use Rattle.snesl_values.specs.Values.{Value, an_int, a_bool, a_pair}
-use Rattle.flow_edges.specs.Cells.{Cell, flag, int as int_cell, datum}
+use Rattle.flow_messages.specs.Cells.{Cell, flag, int as int_cell, datum}
 use Rattle.flow_values.specs.Shapes.{is_a, cell_for, first_of, second_of}
 use Rattle.flow_values.specs.Flats.{width}
 

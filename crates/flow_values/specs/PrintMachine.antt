@@ -6,9 +6,9 @@ use Rattle.snesl_values.specs.Text.{text}
 use Rattle.snesl_values.specs.declared.fault.FaultKind.TheVariants.{Shape}
 use Rattle.kahn.specs.declared.want.Want.{Want}
 use Rattle.kahn.specs.declared.want.Want.TheVariants.{Read, Ended, Faulted}
-use Rattle.flow_edges.specs.Cells.{Cell, flag, int as int_cell, datum, is_of}
-use Rattle.flow_edges.specs.Signals.{Signal, carry, stop}
-use Rattle.flow_edges.specs.declared.message.Kind.TheVariants.{Unit as UnitKind}
+use Rattle.flow_messages.specs.Cells.{Cell, flag, int as int_cell, datum, is_of}
+use Rattle.flow_messages.specs.Signals.{Signal, carry, stop}
+use Rattle.flow_messages.specs.declared.message.Kind.TheVariants.{Unit as UnitKind}
 use Rattle.flow_base.specs.Transducers.{Behaviour}
 use Rattle.flow_values.specs.Shapes.{is_a, kinds_of, kind_at}
 use Rattle.flow_values.specs.Flats.{width}

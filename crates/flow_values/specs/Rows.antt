@@ -3,7 +3,7 @@ use Rattle.std.specs.Prelude.{◌≡◌, ℕ, ◌<◌, ℤ, pos, negsuc, true, L
 use Rattle.std.specs.List.{slice_get}
 use Rattle.snesl_values.specs.Types.{Ty, vec, seq, is_concrete}
 use Rattle.snesl_values.specs.Values.{Value, Values, a_vec, list_of, values_of}
-use Rattle.flow_edges.specs.Cells.{Cell, int, datum}
+use Rattle.flow_messages.specs.Cells.{Cell, int, datum}
 use Rattle.flow_base.specs.Lists.{Lists}
 use Rattle.flow_values.specs.Shapes.{is_a, all_are}
 use Rattle.flow_values.specs.Flats.{width, flat, Outputs}

@@ -5,8 +5,8 @@ use Rattle.snesl_values.specs.declared.fault.FaultKind.{FaultKind}
 use Rattle.snesl_values.specs.declared.fault.FaultKind.TheVariants.{Shape}
 use Rattle.snesl_values.specs.Types.{Ty, bool, seq}
 use Rattle.snesl_values.specs.Values.{a_vec}
-use Rattle.flow_edges.specs.Cells.{Cell, datum}
-use Rattle.flow_edges.specs.declared.message.Kind.TheVariants.{Vec as VecKind}
+use Rattle.flow_messages.specs.Cells.{Cell, datum}
+use Rattle.flow_messages.specs.declared.message.Kind.TheVariants.{Vec as VecKind}
 use Rattle.flow_base.specs.Machines.{Move, begins, gives, on_kind, Machine}
 use Rattle.flow_values.specs.Shapes.{all_are, kinds_of, kind_at}
 use Rattle.flow_values.specs.Flats.{width}

@@ -6,9 +6,9 @@ use Rattle.snesl_values.specs.declared.fault.FaultKind.TheVariants.{Shape}
 use Rattle.snesl_values.specs.Types.{Ty, bool, seq, is_concrete}
 use Rattle.snesl_values.specs.declared.datum.Datum.{Datum}
 use Rattle.snesl_values.specs.Values.{Value, a_vec, value_of, values_of}
-use Rattle.flow_edges.specs.declared.message.Item.{Item}
-use Rattle.flow_edges.specs.Cells.{Cell, datum, cell_of}
-use Rattle.flow_edges.specs.declared.message.Kind.TheVariants.{Vec as VecKind}
+use Rattle.flow_messages.specs.declared.message.Item.{Item}
+use Rattle.flow_messages.specs.Cells.{Cell, datum, cell_of}
+use Rattle.flow_messages.specs.declared.message.Kind.TheVariants.{Vec as VecKind}
 use Rattle.flow_base.specs.Ranges.{AllInRange, CellInRange}
 use Rattle.flow_base.specs.Machines.{Taking, on_flag, on_kind, Move, begins, takes, gives, Machine, one_write}
 use Rattle.flow_base.specs.declared.worker.Stop.{Stop}

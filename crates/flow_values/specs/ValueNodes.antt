@@ -2,7 +2,7 @@
 use Rattle.std.specs.Prelude.{map}
 use Rattle.snesl_values.specs.Types.{ty_of}
 use Rattle.snesl_values.specs.Values.{value_of}
-use Rattle.flow_edges.specs.Cells.{cell_of}
+use Rattle.flow_messages.specs.Cells.{cell_of}
 use Rattle.flow_base.specs.Members.{NodeOf, node_of}
 use Rattle.flow_base.specs.declared.node.Node.{Node}
 use Rattle.flow_values.specs.Dues.{due_cell}

@@ -2,7 +2,7 @@
 
 ghost use Rattle.std.specs.Prelude.{◌≡◌, ◌+◌, ◌++◌, [], ◌∷◌, false, true, List, IfOk, OnOk, Result};
 ghost use Rattle.snesl_values.specs.Types.{ty_of, seq};
-ghost use Rattle.flow_edges.specs.Cells.{cell_of};
+ghost use Rattle.flow_messages.specs.Cells.{cell_of};
 ghost use Rattle.flow_values.specs.Places.{Fits};
 ghost use Rattle.flow_values.specs.PrintMachine.{closes, entered, next};
 ghost use Rattle.flow_values.specs.PrintMachine as machine;
@@ -11,7 +11,7 @@ ghost use Rattle.flow_values.specs.Aheads.{pending_of, stack, Leads, Finds};
 use crate::pending::{Flags, Pending, Place};
 use crate::shapes::{edge_count, is_value};
 use flow_base::Stop;
-use flow_edges::Item;
+use flow_messages::Item;
 use snesl_values::{Datum, FaultKind, Ty, copy_ty, text_of};
 use std::alloc::{AllocError, Global};
 

@@ -6,10 +6,10 @@ ghost use Rattle.snesl_values.specs.Values.{value_of, values_of};
 ghost use Rattle.flow_values.specs.Shapes.{is_a, all_are};
 ghost use Rattle.flow_values.specs.Flats.{width};
 ghost use Rattle.flow_values.specs.Dues.{due, due_cell, dues_of, segment_dues, output_of};
-ghost use Rattle.flow_edges.specs.Cells.{cell_of};
+ghost use Rattle.flow_messages.specs.Cells.{cell_of};
 
 use crate::shapes::edge_count;
-use flow_edges::Item;
+use flow_messages::Item;
 use snesl_values::{Datum, Ty, copy_datum};
 use std::alloc::{AllocError, Global};
 use std::collections::VecDeque;

@@ -11,7 +11,7 @@ use crate::dues::{Due, add_value};
 use crate::shapes::{kind_at, kinds};
 use crate::vectors::vector_in;
 use flow_base::{Ask, Stop, Worker};
-use flow_edges::{Item, Kind};
+use flow_messages::{Item, Kind};
 use snesl_values::{Datum, FaultKind, Ty};
 use std::alloc::{AllocError, Global};
 use std::collections::VecDeque;

@@ -2,8 +2,8 @@
 
 ghost use Rattle.std.specs.Prelude.{◌≡◌, false, [], ◌∷◌, ◌++◌, List, IfOk, OnOk, OnErr, IsOk};
 ghost use Rattle.snesl_values.specs.Types.{ty_of};
-ghost use Rattle.flow_edges.specs.Cells.{cell_of};
-ghost use Rattle.flow_edges.specs.Signals.{signal_of};
+ghost use Rattle.flow_messages.specs.Cells.{cell_of};
+ghost use Rattle.flow_messages.specs.Signals.{signal_of};
 ghost use Rattle.flow_values.specs.Shapes.{kinds_of};
 ghost use Rattle.flow_values.specs.PrintMachine.{print_opened, print_behaviour, reading, moved};
 ghost use Rattle.flow_values.specs.Aheads.{stack, found, Reaches};
@@ -13,7 +13,7 @@ use crate::ahead::Ahead;
 use crate::pending::{Pending, Place};
 use crate::shapes::{kind_at, kinds};
 use flow_base::{Port, Side, Stop, Transducer};
-use flow_edges::{Item, Kind, Msg};
+use flow_messages::{Item, Kind, Msg};
 use kahn::Want;
 use snesl_values::{Fault, FaultKind, Ty, copy_ty};
 use std::alloc::{AllocError, Global};

@@ -9,7 +9,7 @@ use crate::dues::{Due, add_segment};
 use crate::shapes::{add_kinds, kind_at};
 use crate::vectors::vector_in;
 use flow_base::{Ask, Stop, Worker};
-use flow_edges::{Item, Kind};
+use flow_messages::{Item, Kind};
 use snesl_values::Ty;
 use std::alloc::{AllocError, Global};
 use std::collections::VecDeque;

@@ -3,7 +3,7 @@
 ghost use Rattle.std.specs.Prelude.{◌≡◌, [], map, List, IfOk};
 ghost use Rattle.snesl_values.specs.Types.{Ty as ElementType, ty_of, seq};
 ghost use Rattle.snesl_values.specs.Values.{Value, value_of, a_pair};
-ghost use Rattle.flow_edges.specs.Cells.{cell_of};
+ghost use Rattle.flow_messages.specs.Cells.{cell_of};
 ghost use Rattle.flow_base.specs.Workers.{Takes};
 ghost use Rattle.flow_values.specs.Shapes.{kinds_of};
 ghost use Rattle.flow_values.specs.Parts.{built, PartsFit};
@@ -12,7 +12,7 @@ ghost use Rattle.flow_values.specs.TabMachine.{Step, start, step_in, staged, fla
 
 use crate::shapes::{add_kinds, is_value, kind_at, part_fits};
 use flow_base::{Ask, Stop, Worker};
-use flow_edges::{Item, Kind};
+use flow_messages::{Item, Kind};
 use snesl_values::{Datum, FaultKind, Ty};
 use std::alloc::{AllocError, Global};
 use std::collections::VecDeque;

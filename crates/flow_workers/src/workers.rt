@@ -5,7 +5,7 @@ ghost use Rattle.flow_shares.specs.Pumps.{IsPumped};
 
 use crate::error::WorkError;
 use flow_base::Transducer;
-use flow_edges::Ends;
+use flow_messages::Ends;
 use flow_shares::{Gate, Share, pump};
 use std::alloc::Global;
 use std::snapshot::Snapshot;

@@ -6,7 +6,7 @@ use Rattle.std.specs.Result.{IsErr, IsErrAnd}
 use Rattle.snesl_values.specs.declared.refusal.Refusal.{Refusal}
 use Rattle.snesl_values.specs.declared.ty.Ty.{Ty as TyTree}
 use Rattle.snesl_values.specs.Inputs.{Declaration, declared, declaration_of}
-use Rattle.flow_edges.specs.Cells.{Cell}
+use Rattle.flow_messages.specs.Cells.{Cell}
 use Rattle.snesl_translation.specs.Wires.{Wires, Bound}
 use Rattle.snesl_translation.specs.Makings.{Making, done, and_then}
 use Rattle.snesl_translation.specs.Programs.{sourced, inputs_sourced, not_set}

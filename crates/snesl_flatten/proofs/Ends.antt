@@ -6,7 +6,7 @@ use Rattle.std.specs.List.{slice_get}
 use Rattle.snesl_values.specs.Types.{Ty}
 use Rattle.snesl_values.specs.Inputs.{Declaration}
 use Rattle.snesl_tree.specs.Tree.{ProgramTree}
-use Rattle.flow_edges.specs.Cells.{Cell}
+use Rattle.flow_messages.specs.Cells.{Cell}
 use Rattle.flow_scalar.specs.Streams.{Items}
 use Rattle.flow_scalar.specs.SourceBehaviour.{source_opened}
 use Rattle.flow_values.specs.PrintMachine.{print_opened}

@@ -16,8 +16,8 @@ use Rattle.snesl_evaluation.specs.Eval.{program_value}
 use Rattle.snesl_types.specs.Programs.{HasTyping}
 use Rattle.snesl_types.specs.Soundness.{Safe, TypedProgramsAreSound}
 use Rattle.kahn.specs.Configurations.{IsComplete}
-use Rattle.flow_edges.specs.Cells.{Cell}
-use Rattle.flow_edges.specs.Ends.{View}
+use Rattle.flow_messages.specs.Cells.{Cell}
+use Rattle.flow_messages.specs.Ends.{View}
 use Rattle.flow_base.specs.Columns.{Columns}
 use Rattle.flow_values.specs.Shapes.{is_a}
 use Rattle.flow_values.specs.Flats.{width, flat}

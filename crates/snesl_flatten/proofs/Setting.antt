@@ -8,7 +8,7 @@ use Rattle.std.specs.Option.{option_map}
 use Rattle.snesl_values.specs.Inputs.{Declaration}
 use Rattle.snesl_tree.specs.Tree.{ProgramTree}
 use Rattle.snesl_types.specs.Typed.{typed_inputs}
-use Rattle.flow_edges.specs.declared.message.Kind.{Kind}
+use Rattle.flow_messages.specs.declared.message.Kind.{Kind}
 use Rattle.flow_base.specs.Columns.{Columns}
 use Rattle.flow_scalar.specs.Streams.{Items, stream_cells, stream_kind}
 use Rattle.flow_scalar.specs.declared.source.Stream.{Stream}

@@ -8,8 +8,8 @@ use Rattle.snesl_tree.specs.Tree.{ProgramTree}
 use Rattle.snesl_evaluation.specs.Answer.{gives, faults}
 use Rattle.snesl_evaluation.specs.Eval.{program_value}
 use Rattle.kahn.specs.Configurations.{IsComplete}
-use Rattle.flow_edges.specs.Cells.{Cell}
-use Rattle.flow_edges.specs.Ends.{View}
+use Rattle.flow_messages.specs.Cells.{Cell}
+use Rattle.flow_messages.specs.Ends.{View}
 use Rattle.flow_nodes.specs.StreamNodes.{NodeKind, member, node_behaviour, text_in}
 use Rattle.flow_graph.specs.declared.edge.Edge.{Edge}
 use Rattle.flow_graph.specs.Networks.{network_of, configuration_of}

@@ -15,8 +15,8 @@ use Rattle.kahn.specs.Processes.{Process}
 use Rattle.kahn.specs.Configurations.{Configuration, AllEnded, IsSound}
 use Rattle.kahn.specs.Runs.{AtRest}
 use Rattle.kahn.specs.Outcomes.{HasFault}
-use Rattle.flow_edges.specs.Cells.{Cell}
-use Rattle.flow_edges.specs.Signals.{Signal}
+use Rattle.flow_messages.specs.Cells.{Cell}
+use Rattle.flow_messages.specs.Signals.{Signal}
 use Rattle.flow_base.specs.Transducers.{closed}
 use Rattle.flow_nodes.specs.StreamNodes.{node_behaviour, text_in}
 use Rattle.flow_graph.specs.declared.edge.Edge.{Edge}

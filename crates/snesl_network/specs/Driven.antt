@@ -14,7 +14,7 @@ use Rattle.snesl_types.specs.Programs.{Declared, ProgramTypes}
 use Rattle.snesl_meaning.specs.Meaning.{Means, is_refused, has_value, has_fault}
 use Rattle.kahn.specs.Configurations.{AllEnded}
 use Rattle.kahn.specs.Outcomes.{NamesFault}
-use Rattle.flow_edges.specs.Cells.{Cell}
+use Rattle.flow_messages.specs.Cells.{Cell}
 use Rattle.flow_base.specs.Transducers.{closed}
 use Rattle.flow_nodes.specs.StreamNodes.{node_behaviour, text_in}
 use Rattle.flow_graph.specs.Limits.{most_nodes, most_edges}

@@ -1,6 +1,6 @@
 -- What is seen of nodes at rest. It names neither a graph nor a table of ends, since nodes may lie in shares.
 use Rattle.std.specs.Prelude.{ℕ, List}
-use Rattle.flow_edges.specs.Ends.{View}
+use Rattle.flow_messages.specs.Ends.{View}
 use Rattle.flow_base.specs.declared.transducer.Transducer.{Ghosts}
 use Rattle.flow_graph.specs.declared.edge.Edge.{Edge}
 use Rattle.flow_drive.specs.declared.rested.Rested.{Rested}

@@ -3,7 +3,7 @@ use Rattle.std.proofs.Common.{◌≡◌, ℕ, ◌∷◌, [], Result, Ok, Err, sy
 use Rattle.std.specs.Result.{IsErr, IsErrAnd}
 use Rattle.snesl_values.specs.declared.refusal.Refusal.{Refusal}
 use Rattle.snesl_values.specs.Types.{bool}
-use Rattle.flow_edges.specs.declared.message.Kind.TheVariants.{Bool as BoolKind}
+use Rattle.flow_messages.specs.declared.message.Kind.TheVariants.{Bool as BoolKind}
 use Rattle.flow_plans.specs.Plans.{dist, pack_groups}
 use Rattle.snesl_translation.specs.Wires.{Wires, wire, two, segments, stream_of}
 use Rattle.snesl_translation.specs.Makings.{Making, done, and_then}

@@ -9,7 +9,7 @@ ghost use Rattle.snesl_scopes.specs.Moved.{each_moved, moved_by, one_moved};
 
 use crate::part::{Part, names};
 use crate::scope::{Scope, is_bound};
-use flow_edges::Kind;
+use flow_messages::Kind;
 use flow_plans::Operation;
 use snesl_steps::{Binding, Steps, Wires, copy_wires, kind_of, pair_wires, sequence_wires};
 use snesl_values::Refusal;

@@ -12,7 +12,7 @@ use crate::options::{matched, value_of};
 use crate::values::{drive_said, number_said, share_said};
 use clap::ArgMatches;
 use flow_drive::{Config, MAX_CHUNK, MAX_IDLE_TURNS, MAX_THREADS, Sharing};
-use flow_edges::MAX_CAPACITY;
+use flow_messages::MAX_CAPACITY;
 use snesl_values::Refusal;
 use std::alloc::Global;
 

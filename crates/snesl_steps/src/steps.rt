@@ -4,7 +4,7 @@ ghost use Rattle.std.specs.Prelude.{◌≤◌, vec_len};
 ghost use Rattle.flow_graph.specs.Limits.{most_nodes};
 
 use crate::wires::{Wires, next_number, next_wires};
-use flow_edges::Kind;
+use flow_messages::Kind;
 use flow_graph::MAX_NODES;
 use flow_plans::{Operation, Step};
 use flow_values::kinds;

@@ -6,7 +6,7 @@ ghost use Rattle.flow_values.specs.Flats.{width};
 ghost use Rattle.snesl_translation.specs.Wires.{type_of_wires, numbers_of, wires_from, kind_of_type, stream_of, first_wires, second_wires, item_wires, two, segments};
 ghost use Rattle.snesl_steps.specs.Views.{wires_of};
 
-use flow_edges::Kind;
+use flow_messages::Kind;
 use snesl_values::{Ty, copy_ty};
 use std::alloc::{AllocError, Global};
 

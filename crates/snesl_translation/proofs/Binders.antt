@@ -9,7 +9,7 @@ use Rattle.snesl_operators.specs.Operators.{same_truth}
 use Rattle.snesl_evaluation.specs.Builtins.{items_at}
 use Rattle.snesl_evaluation.specs.Eval.{Columns as Sequences}
 use Rattle.snesl_types.specs.Contexts.{Context}
-use Rattle.flow_edges.specs.Cells.{Cell, flag}
+use Rattle.flow_messages.specs.Cells.{Cell, flag}
 use Rattle.flow_base.specs.Columns.{Columns}
 use Rattle.flow_base.specs.Flags.{flags, lengths}
 use Rattle.flow_rows.specs.Lists.{bind, only_if, each, same_lists}

@@ -11,7 +11,7 @@ use Rattle.snesl_operators.specs.declared.scalar.Scalar.TheVariants.{Int, Bool a
 use Rattle.snesl_evaluation.specs.Builtins.{scalar_value}
 use Rattle.snesl_types.specs.Contexts.{open_to, Context, bound as bound_to, found}
 use Rattle.flow_base.specs.Columns.{Columns}
-use Rattle.flow_edges.specs.Cells.{unit}
+use Rattle.flow_messages.specs.Cells.{unit}
 use Rattle.flow_scalar.specs.Scalars.{cell_of_scalar}
 use Rattle.flow_values.specs.Shapes.{cell_for}
 use Rattle.flow_rows.specs.Lists.{bind, each}

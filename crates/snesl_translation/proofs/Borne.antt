@@ -5,7 +5,7 @@ use Rattle.std.proofs.Common.{sym, ap, ◌∙◌, subst}
 use Rattle.snesl_values.specs.Types.{Ty, is_concrete}
 use Rattle.snesl_values.specs.Inputs.{Environment, value_in}
 use Rattle.snesl_types.specs.Contexts.{Binding, open_to, shut, Context, found, inside, shut_if_streamed}
-use Rattle.flow_edges.specs.Cells.{flag}
+use Rattle.flow_messages.specs.Cells.{flag}
 use Rattle.flow_base.specs.Columns.{Columns}
 use Rattle.flow_base.specs.Flags.{flags}
 use Rattle.flow_rows.specs.Lists.{each, dist, pack}

@@ -5,7 +5,7 @@ use Rattle.std.proofs.Common.{sym, ap, ◌∙◌, subst, append_assoc, append-ni
 use Rattle.std.proofs.lemmas.Slice.Eq.{bytes_eq-Decides}
 use Rattle.snesl_values.specs.Types.{Ty, is_concrete}
 use Rattle.snesl_values.specs.Values.{Value}
-use Rattle.flow_edges.specs.Cells.{flag}
+use Rattle.flow_messages.specs.Cells.{flag}
 use Rattle.flow_base.specs.Columns.{Columns}
 use Rattle.flow_base.specs.Flags.{flags}
 use Rattle.flow_rows.specs.Lists.{dist, pack}

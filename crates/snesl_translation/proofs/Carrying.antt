@@ -6,7 +6,7 @@ use Rattle.std.proofs.Math.Path.{ap₂}
 use Rattle.std.proofs.lemmas.Bool.{and_parts}
 use Rattle.snesl_values.specs.Types.{Ty, int, bool, pair, vec, seq}
 use Rattle.snesl_values.specs.Values.{Value, a_pair, a_seq, list_of, values_of}
-use Rattle.flow_edges.specs.Cells.{Cell}
+use Rattle.flow_messages.specs.Cells.{Cell}
 use Rattle.flow_base.specs.Columns.{Columns}
 use Rattle.flow_base.specs.Flags.{flags, joined, lengths}
 use Rattle.flow_values.specs.Shapes.{is_a, kinds_of, cell_for, first_of, second_of, elements_of, all_are}

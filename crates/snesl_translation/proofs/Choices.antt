@@ -13,7 +13,7 @@ use Rattle.snesl_operators.specs.declared.operator.UnaryOperator.TheVariants as 
 use Rattle.snesl_tree.specs.declared.operator.Prefix.TheVariants.{Not}
 use Rattle.snesl_tree.specs.Tree.{Tree, choice}
 use Rattle.snesl_types.specs.Contexts.{Context}
-use Rattle.flow_edges.specs.Cells.{flag}
+use Rattle.flow_messages.specs.Cells.{flag}
 use Rattle.flow_base.specs.Columns.{Columns}
 use Rattle.flow_base.specs.Flags.{flags, joined, lengths}
 use Rattle.flow_values.specs.Shapes.{elements_of}

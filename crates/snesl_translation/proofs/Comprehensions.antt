@@ -12,7 +12,7 @@ use Rattle.snesl_evaluation.specs.Answer.{gives, go_all}
 use Rattle.snesl_evaluation.specs.Builtins.{applied}
 use Rattle.snesl_evaluation.specs.Eval.{Columns as Sequences, height, in_step as rows_in_step}
 use Rattle.snesl_types.specs.Contexts.{open_to, Context, opened, found, inside}
-use Rattle.flow_edges.specs.Cells.{unit}
+use Rattle.flow_messages.specs.Cells.{unit}
 use Rattle.flow_base.specs.Columns.{Columns}
 use Rattle.flow_base.specs.Flags.{flags, joined, lengths}
 use Rattle.flow_values.specs.Shapes.{elements_of}

@@ -11,7 +11,7 @@ use Rattle.snesl_values.specs.Types.{Ty, int, pair, vec, seq, is_concrete}
 use Rattle.snesl_values.specs.Values.{Value, an_int, a_vec, values_of}
 use Rattle.snesl_operators.specs.Operators.{ranged}
 use Rattle.snesl_tree.specs.declared.operator.Builtin.TheVariants.{Iota, Length, The, Tab, Seq, Fst, Snd}
-use Rattle.flow_edges.specs.Cells.{int as int_cell, datum}
+use Rattle.flow_messages.specs.Cells.{int as int_cell, datum}
 use Rattle.flow_base.specs.Columns.{Columns}
 use Rattle.flow_base.specs.Flags.{flags, joined, lengths}
 use Rattle.flow_scalar.specs.Rows.{numbers_from, numbers_below as cells_below}

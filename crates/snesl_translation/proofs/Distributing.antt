@@ -3,7 +3,7 @@ use Rattle.std.specs.Prelude.{◌≡◌, ℕ, zero, suc, true, List, [], ◌∷�
 use Rattle.std.proofs.Common.{sym, ap, ◌∙◌, subst}
 use Rattle.snesl_values.specs.Types.{Ty, pair, is_concrete}
 use Rattle.snesl_values.specs.Values.{Value}
-use Rattle.flow_edges.specs.Cells.{Cell}
+use Rattle.flow_messages.specs.Cells.{Cell}
 use Rattle.flow_base.specs.Columns.{Columns}
 use Rattle.flow_base.specs.Flags.{flags}
 use Rattle.flow_values.specs.Shapes.{is_a, cell_for, first_of, second_of}

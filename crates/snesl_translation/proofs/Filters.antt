@@ -7,7 +7,7 @@ use Rattle.snesl_values.specs.Values.{Value, an_int, a_bool, a_pair, a_vec, a_se
 use Rattle.snesl_values.specs.Inputs.{Environment}
 use Rattle.snesl_operators.specs.declared.scalar.Scalar.TheVariants.{Bool as Truth}
 use Rattle.snesl_types.specs.Contexts.{Context}
-use Rattle.flow_edges.specs.Cells.{flag, unit}
+use Rattle.flow_messages.specs.Cells.{flag, unit}
 use Rattle.flow_base.specs.Columns.{Columns}
 use Rattle.flow_base.specs.Flags.{flags, joined, lengths}
 use Rattle.flow_segment.specs.Rows.{one_if}

@@ -6,7 +6,7 @@ use Rattle.snesl_values.specs.Types.{Ty, pair}
 use Rattle.snesl_values.specs.Values.{Value, a_pair}
 use Rattle.snesl_values.specs.Inputs.{Environment}
 use Rattle.snesl_types.specs.Contexts.{Context}
-use Rattle.flow_edges.specs.Cells.{unit}
+use Rattle.flow_messages.specs.Cells.{unit}
 use Rattle.flow_base.specs.Columns.{Columns}
 use Rattle.flow_values.specs.Shapes.{is_a, first_of, second_of}
 use Rattle.flow_rows.specs.Lists.{bind, each}

@@ -15,7 +15,7 @@ use Rattle.snesl_operators.specs.declared.scalar.Scalar.TheVariants.{Int, Bool a
 use Rattle.snesl_operators.specs.declared.operator.Reduction.{Reduction}
 use Rattle.snesl_operators.proofs.ReductionLaws.{reduced_type}
 use Rattle.snesl_tree.specs.declared.operator.Builtin.TheVariants.{ScanAdd, Concat}
-use Rattle.flow_edges.specs.Cells.{int as int_cell}
+use Rattle.flow_messages.specs.Cells.{int as int_cell}
 use Rattle.flow_base.specs.Columns.{Columns}
 use Rattle.flow_base.specs.Flags.{flags, joined, lengths}
 use Rattle.flow_values.specs.Shapes.{cell_for, elements_of}

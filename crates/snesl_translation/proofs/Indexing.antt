@@ -6,7 +6,7 @@ use Rattle.snesl_values.specs.declared.fault.FaultKind.{FaultKind}
 use Rattle.snesl_values.specs.Types.{Ty, int, vec}
 use Rattle.snesl_values.specs.Values.{Value, an_int, values_of}
 use Rattle.snesl_tree.specs.declared.operator.Operator.TheVariants.{Index}
-use Rattle.flow_edges.specs.Cells.{datum}
+use Rattle.flow_messages.specs.Cells.{datum}
 use Rattle.flow_base.specs.Columns.{Columns}
 use Rattle.flow_values.specs.Shapes.{cell_for}
 use Rattle.flow_values.specs.Rows.{element_at}

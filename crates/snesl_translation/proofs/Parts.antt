@@ -9,7 +9,7 @@ use Rattle.snesl_values.specs.declared.dialect.Dialect.{Dialect}
 use Rattle.snesl_values.specs.Types.{Ty, bool, pair, seq}
 use Rattle.snesl_values.specs.Values.{Value, a_bool, list_of, values_of}
 use Rattle.snesl_tree.specs.declared.operator.Builtin.TheVariants.{Part}
-use Rattle.flow_edges.specs.Cells.{Cell, flag}
+use Rattle.flow_messages.specs.Cells.{Cell, flag}
 use Rattle.flow_base.specs.Columns.{Columns}
 use Rattle.flow_base.specs.Flags.{flags, joined, lengths}
 use Rattle.flow_values.specs.Shapes.{is_a, cell_for, elements_of}

@@ -11,8 +11,8 @@ use Rattle.snesl_evaluation.specs.Answer.{gives, faults}
 use Rattle.snesl_evaluation.specs.Eval.{eval, no_calls, calls_of, program_value}
 use Rattle.snesl_types.specs.Contexts.{opened}
 use Rattle.snesl_types.specs.Programs.{nothing_declared}
-use Rattle.flow_edges.specs.Cells.{Cell, unit}
-use Rattle.flow_edges.specs.declared.message.Kind.{Kind}
+use Rattle.flow_messages.specs.Cells.{Cell, unit}
+use Rattle.flow_messages.specs.declared.message.Kind.{Kind}
 use Rattle.flow_base.specs.Columns.{Columns}
 use Rattle.flow_values.specs.Shapes.{is_a, all_are, kinds_of}
 use Rattle.flow_rows.specs.Lists.{bind, each}

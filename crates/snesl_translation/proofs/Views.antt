@@ -9,7 +9,7 @@ use Rattle.snesl_operators.specs.declared.scalar.Scalar.{Scalar}
 use Rattle.snesl_operators.specs.declared.scalar.Scalar.TheVariants.{Int, Bool as Truth}
 use Rattle.snesl_operators.specs.declared.scalar.ScalarType.{ScalarType}
 use Rattle.snesl_operators.specs.declared.scalar.ScalarType.TheVariants.{Int as IntType, Bool as BoolType}
-use Rattle.flow_edges.specs.Cells.{flag, int as int_cell, datum}
+use Rattle.flow_messages.specs.Cells.{flag, int as int_cell, datum}
 use Rattle.flow_base.specs.Flags.{flags, joined, lengths}
 use Rattle.flow_values.specs.Shapes.{is_a, cell_for}
 use Rattle.flow_rows.specs.Decoded.{a_pair_of, a_seq_of}

@@ -8,9 +8,9 @@ use Rattle.snesl_tree.specs.Tree.{Tree, integer, truth, name, binary, prefix, ca
 use Rattle.snesl_evaluation.specs.Answer.{gives, faults}
 use Rattle.snesl_evaluation.specs.Eval.{program_value}
 use Rattle.snesl_types.specs.Programs.{Declared, ProgramTypes}
-use Rattle.flow_edges.specs.Cells.{Cell, unit}
-use Rattle.flow_edges.specs.declared.message.Kind.{Kind}
-use Rattle.flow_edges.specs.declared.message.Kind.TheVariants.{Unit as UnitKind}
+use Rattle.flow_messages.specs.Cells.{Cell, unit}
+use Rattle.flow_messages.specs.declared.message.Kind.{Kind}
+use Rattle.flow_messages.specs.declared.message.Kind.TheVariants.{Unit as UnitKind}
 use Rattle.flow_base.specs.Columns.{Columns}
 use Rattle.flow_values.specs.Shapes.{kinds_of}
 use Rattle.flow_values.specs.Flats.{width}

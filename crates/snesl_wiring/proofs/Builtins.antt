@@ -14,7 +14,7 @@ use Rattle.snesl_tree.specs.declared.operator.Operator.TheVariants.{Or, And, Equ
 use Rattle.snesl_tree.specs.declared.operator.Prefix.{Prefix}
 use Rattle.snesl_tree.specs.declared.operator.Prefix.TheVariants.{Negate, Not}
 use Rattle.snesl_types.specs.Forms.{operator_result, prefix_result, result_of}
-use Rattle.flow_edges.specs.declared.message.Kind.{Kind}
+use Rattle.flow_messages.specs.declared.message.Kind.{Kind}
 use Rattle.flow_scalar.specs.Scalars.{kind_of_type as kind_of_scalar}
 use Rattle.flow_values.specs.Shapes.{kinds_of}
 use Rattle.flow_plans.specs.Plans.{index, tab, seq_of}

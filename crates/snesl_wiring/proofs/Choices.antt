@@ -4,7 +4,7 @@ use Rattle.snesl_values.specs.declared.dialect.Dialect.{Dialect}
 use Rattle.snesl_values.specs.Types.{Ty, bool}
 use Rattle.snesl_tree.specs.declared.operator.Prefix.TheVariants.{Not}
 use Rattle.snesl_types.specs.Contexts.{Context, bound as bound_to}
-use Rattle.flow_edges.specs.declared.message.Kind.{Kind}
+use Rattle.flow_messages.specs.declared.message.Kind.{Kind}
 use Rattle.flow_plans.specs.Plans.{the_check}
 use Rattle.snesl_translation.specs.Wires.{Wires, stream_of, item_wires, Bound}
 use Rattle.snesl_translation.specs.Makings.{Making, and_then, tested}

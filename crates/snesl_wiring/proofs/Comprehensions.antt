@@ -5,8 +5,8 @@ use Rattle.std.proofs.Common.{sym, subst}
 use Rattle.snesl_values.specs.Types.{Ty, seq}
 use Rattle.snesl_values.specs.Inputs.{Declaration}
 use Rattle.snesl_types.specs.Contexts.{open_to, Context, opened, found, inside}
-use Rattle.flow_edges.specs.declared.message.Kind.{Kind}
-use Rattle.flow_edges.specs.declared.message.Kind.TheVariants.{Unit as UnitKind, Bool as BoolKind}
+use Rattle.flow_messages.specs.declared.message.Kind.{Kind}
+use Rattle.flow_messages.specs.declared.message.Kind.TheVariants.{Unit as UnitKind, Bool as BoolKind}
 use Rattle.snesl_translation.specs.Wires.{Wires, stream_of, item_wires, Bound}
 use Rattle.snesl_translation.specs.Makings.{Making, and_then}
 use Rattle.snesl_translation.specs.FreeNames.{Names, is_among}

@@ -2,8 +2,8 @@
 use Rattle.std.specs.Prelude.{ℕ, List, length, refl}
 use Rattle.snesl_values.specs.Types.{Ty, bool, pair, seq}
 use Rattle.snesl_types.specs.Contexts.{Context}
-use Rattle.flow_edges.specs.declared.message.Kind.{Kind}
-use Rattle.flow_edges.specs.declared.message.Kind.TheVariants.{Unit as UnitKind, Bool as BoolKind}
+use Rattle.flow_messages.specs.declared.message.Kind.{Kind}
+use Rattle.flow_messages.specs.declared.message.Kind.TheVariants.{Unit as UnitKind, Bool as BoolKind}
 use Rattle.snesl_translation.specs.Wires.{Wires, stream_of, item_wires, Bound}
 use Rattle.snesl_translation.specs.Makings.{Making}
 use Rattle.snesl_translation.specs.FreeNames.{Names}

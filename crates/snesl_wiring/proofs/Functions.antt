@@ -11,7 +11,7 @@ use Rattle.snesl_tree.specs.Spelling.{spelling}
 use Rattle.snesl_tree.specs.Tree.{Tree, Typed, TypeTree, DeclarationTree, declares_input, declares_function}
 use Rattle.snesl_types.specs.Contexts.{opened, Signature, Signatures, function_named}
 use Rattle.snesl_types.specs.Programs.{Declared, with_inputs, with_function, named, signature_of, NamesType, no_names, more_names, FunctionTypes, function_type, DeclarationsType, no_declarations, input_declared, function_declared}
-use Rattle.flow_edges.specs.declared.message.Kind.{Kind}
+use Rattle.flow_messages.specs.declared.message.Kind.{Kind}
 use Rattle.snesl_translation.specs.Wires.{Wires}
 use Rattle.snesl_translation.specs.FreeNames.{Names, without, free}
 use Rattle.snesl_translation.specs.Translation.{Bodies, tr}

@@ -2,8 +2,8 @@
 use Rattle.std.specs.Prelude.{◌≡◌, ℕ, true, List, length, refl}
 use Rattle.std.proofs.Common.{sym}
 use Rattle.snesl_values.specs.Types.{Ty, bool, is_concrete}
-use Rattle.flow_edges.specs.declared.message.Kind.{Kind}
-use Rattle.flow_edges.specs.declared.message.Kind.TheVariants.{Bool as BoolKind}
+use Rattle.flow_messages.specs.declared.message.Kind.{Kind}
+use Rattle.flow_messages.specs.declared.message.Kind.TheVariants.{Bool as BoolKind}
 use Rattle.flow_values.specs.laws.Kinds.{both_true}
 use Rattle.snesl_translation.specs.Wires.{Wires, wire, two, segments, stream_of, first_wires, second_wires, item_wires}
 use Rattle.snesl_translation.specs.Moving.{distributed, kept, mixed}

@@ -6,9 +6,9 @@ use Rattle.snesl_values.specs.Inputs.{Declaration}
 use Rattle.snesl_tree.specs.Tree.{ProgramTree}
 use Rattle.snesl_types.specs.Contexts.{opened}
 use Rattle.snesl_types.specs.Programs.{Declared, ProgramTypes, nothing_declared}
-use Rattle.flow_edges.specs.Cells.{Cell}
-use Rattle.flow_edges.specs.declared.message.Kind.{Kind}
-use Rattle.flow_edges.specs.declared.message.Kind.TheVariants.{Unit as UnitKind}
+use Rattle.flow_messages.specs.Cells.{Cell}
+use Rattle.flow_messages.specs.declared.message.Kind.{Kind}
+use Rattle.flow_messages.specs.declared.message.Kind.TheVariants.{Unit as UnitKind}
 use Rattle.flow_values.specs.Shapes.{kinds_of}
 use Rattle.flow_plans.specs.Ports.{AreWired, kinds_after}
 use Rattle.snesl_translation.specs.Wires.{numbers_of, wires_from}

@@ -3,7 +3,7 @@ use Rattle.std.specs.Prelude.{◌≡◌, ℕ, List, []}
 use Rattle.snesl_values.specs.Types.{Ty}
 use Rattle.snesl_tree.specs.Tree.{ProgramTree}
 use Rattle.snesl_types.specs.Programs.{Declared, ProgramTypes}
-use Rattle.flow_edges.specs.Cells.{Cell}
+use Rattle.flow_messages.specs.Cells.{Cell}
 use Rattle.flow_plans.specs.Ports.{AreWired}
 use Rattle.snesl_translation.specs.Wires.{type_of_wires}
 use Rattle.snesl_translation.specs.Programs.{program_plan}

@@ -1,11 +1,11 @@
 // Messages that one thread puts on an edge and another takes from it.
 ghost use Rattle.std.specs.Prelude.{◌≡◌, ◌<◌, ◌≤◌, List, true, false, [], ◌∷◌, ◌++◌, IfOk};
-ghost use Rattle.flow_edges.specs.Limits.{greatest_capacity};
-ghost use Rattle.flow_edges.specs.Signals.{signals, ended, orderly};
-ghost use Rattle.flow_edges.specs.declared.message.Msg.{Msg as Message};
+ghost use Rattle.flow_messages.specs.Limits.{greatest_capacity};
+ghost use Rattle.flow_messages.specs.Signals.{signals, ended, orderly};
+ghost use Rattle.flow_messages.specs.declared.message.Msg.{Msg as Message};
 ghost use Rattle.flow_rings.specs.Edge.{sent, received, SameWriter, SameReader};
 
-use flow_edges::Msg;
+use flow_messages::Msg;
 use flow_rings::{
     EdgeReader, EdgeWriter, Held, all_was_received, edge, meet, same_ends_are_an_edge,
 };

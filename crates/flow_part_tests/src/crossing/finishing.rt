@@ -1,12 +1,12 @@
 // A writer that finishes, in a thread of its own.
 ghost use Rattle.std.specs.Prelude.{◌≡◌, ◌<◌, ◌≤◌, true, [], IfOk, IfSome};
-ghost use Rattle.flow_edges.specs.Limits.{greatest_capacity};
-ghost use Rattle.flow_edges.specs.Signals.{signals, ended, orderly};
+ghost use Rattle.flow_messages.specs.Limits.{greatest_capacity};
+ghost use Rattle.flow_messages.specs.Signals.{signals, ended, orderly};
 ghost use Rattle.flow_rings.specs.Edge.{sent, received, all_sent, IsEdge, IsMarkOf, SameReader};
 ghost use Rattle.flow_rings.specs.declared.ring.EdgeReader.{EdgeReader as Reader};
 
 use crate::crossing::across::{put_all, take_all};
-use flow_edges::Msg;
+use flow_messages::Msg;
 use flow_rings::{
     EdgeReader, EdgeWriter, FinishedMark, all_was_received, edge, same_ends_are_an_edge,
 };

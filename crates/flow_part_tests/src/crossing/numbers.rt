@@ -1,8 +1,8 @@
 // Numbers as messages.
 ghost use Rattle.std.specs.Prelude.{◌≡◌, true, false, IfOk};
-ghost use Rattle.flow_edges.specs.Signals.{signals, signal_of, is_stop, ended, orderly};
+ghost use Rattle.flow_messages.specs.Signals.{signals, signal_of, is_stop, ended, orderly};
 
-use flow_edges::{Item, Msg};
+use flow_messages::{Item, Msg};
 use std::alloc::{AllocError, Global};
 
 /// A message that carries this number.

@@ -1,10 +1,10 @@
 // Both ends of an edge in one thread, by steps.
 ghost use Rattle.std.specs.Prelude.{◌<◌, ◌≤◌};
-ghost use Rattle.flow_edges.specs.Limits.{greatest_capacity};
+ghost use Rattle.flow_messages.specs.Limits.{greatest_capacity};
 ghost use Rattle.flow_rings.specs.Edge.{IsEdge};
 
 use crate::messages::{is_message, is_refused, message};
-use flow_edges::Why;
+use flow_messages::Why;
 use flow_rings::{EdgeReader, EdgeWriter, Held, edge, meet, same_ends_are_an_edge};
 use std::alloc::{AllocError, Global};
 use std::process::Abort;

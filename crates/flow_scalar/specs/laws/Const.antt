@@ -3,7 +3,7 @@ use Rattle.std.specs.Prelude.{◌≡◌, ℕ, zero, suc, Bool, true, false, refl
 use Rattle.std.proofs.Common.{arith}
 use Rattle.snesl_operators.specs.Operators.{type_of}
 use Rattle.snesl_operators.specs.declared.scalar.Scalar.{Scalar}
-use Rattle.flow_edges.specs.Cells.{Cell, unit}
+use Rattle.flow_messages.specs.Cells.{Cell, unit}
 use Rattle.flow_base.specs.Columns.{Columns, push_column, rows_from}
 use Rattle.flow_base.specs.Machines.{MachineLaws, SoundAt, Runs}
 use Rattle.flow_base.specs.MachineRuns.{Then, reading, writing, run_is}

@@ -1,7 +1,7 @@
 -- The runs of Fork are its row.
 use Rattle.std.specs.Prelude.{◌≡◌, ℕ, zero, suc, ◌+◌, ◌-◌, ◌<◌, ◌≤◌, true, List, [], ◌∷◌, Ok, refl}
 use Rattle.std.proofs.Common.{arith, sym, ◌∙◌, ap, subst}
-use Rattle.flow_edges.specs.Cells.{Cell, is_of}
+use Rattle.flow_messages.specs.Cells.{Cell, is_of}
 use Rattle.flow_base.specs.Lists.{Lists}
 use Rattle.flow_base.specs.Ranges.{AllOf}
 use Rattle.flow_base.specs.Ports.{each_port}

@@ -6,7 +6,7 @@ use Rattle.std.proofs.lemmas.Int.{ints}
 use Rattle.snesl_values.specs.declared.dialect.Dialect.{Dialect}
 use Rattle.snesl_values.specs.declared.dialect.Dialect.TheVariants.{One, Two}
 use Rattle.snesl_values.specs.Integers.{greatest_integer, IsInteger}
-use Rattle.flow_edges.specs.Cells.{Cell, flag, int}
+use Rattle.flow_messages.specs.Cells.{Cell, flag, int}
 use Rattle.flow_base.specs.Flags.{F, T, elements, flags, joined}
 use Rattle.flow_base.specs.Columns.{Columns, push_column, rows_from}
 use Rattle.flow_base.specs.Machines.{MachineLaws, SoundAt, OfKind, OfRange, on_int, RunOf, Runs}

@@ -8,7 +8,7 @@ use Rattle.std.proofs.lemmas.List.Elements.{All-nil, All-cons, All-head, All-tai
 use Rattle.snesl_values.specs.declared.dialect.Dialect.{Dialect}
 use Rattle.snesl_values.specs.declared.fault.FaultKind.TheVariants.{Overflow}
 use Rattle.snesl_values.specs.Integers.{greatest_integer, is_integer, IsInteger}
-use Rattle.flow_edges.specs.Cells.{Cell, flag, int}
+use Rattle.flow_messages.specs.Cells.{Cell, flag, int}
 use Rattle.flow_base.specs.Flags.{F, T, elements, flags}
 use Rattle.flow_base.specs.Columns.{Columns, columns, push_column, At}
 use Rattle.flow_base.specs.Machines.{MachineLaws, SoundAt, Run, Runs, taken, OnNext, OfNext}

@@ -9,7 +9,7 @@ use Rattle.snesl_operators.specs.Reductions.{and_then, reduction_type, reduced_n
 use Rattle.snesl_operators.proofs.ReductionLaws.{nothing_type, nothing_range, more_type, more_shape, more_range}
 use Rattle.snesl_operators.specs.declared.scalar.Scalar.{Scalar}
 use Rattle.snesl_operators.specs.declared.operator.Reduction.{Reduction}
-use Rattle.flow_edges.specs.Cells.{Cell, flag, is_of}
+use Rattle.flow_messages.specs.Cells.{Cell, flag, is_of}
 use Rattle.flow_base.specs.Flags.{F, T, elements, flags, joined}
 use Rattle.flow_base.specs.Lists.{Lists}
 use Rattle.flow_base.specs.Columns.{Columns, columns, push_column, rows_from}

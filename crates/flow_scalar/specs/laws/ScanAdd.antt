@@ -8,7 +8,7 @@ use Rattle.snesl_values.specs.Integers.{IsInteger}
 use Rattle.snesl_operators.specs.Operators.{ranged}
 use Rattle.snesl_operators.specs.Reductions.{scanned_from, and_then}
 use Rattle.snesl_operators.proofs.OperatorLaws.{ranged_integer}
-use Rattle.flow_edges.specs.Cells.{Cell, int, flag}
+use Rattle.flow_messages.specs.Cells.{Cell, int, flag}
 use Rattle.flow_base.specs.Flags.{T, elements, flags, joined}
 use Rattle.flow_base.specs.Columns.{Columns, push_column, rows_from}
 use Rattle.flow_base.specs.Machines.{on_flag, on_int, MachineLaws, SoundAt, OnNext, OfNext, Run, Runs}

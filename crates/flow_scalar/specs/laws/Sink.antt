@@ -1,8 +1,8 @@
 -- A sink keeps to the laws of machines.
 use Rattle.std.specs.Prelude.{◌≡◌, zero, suc, true, List, [], ◌∷◌, Ok, refl}
 use Rattle.std.proofs.Common.{arith}
-use Rattle.flow_edges.specs.Cells.{Cell, is_of}
-use Rattle.flow_edges.specs.declared.message.Kind.{Kind}
+use Rattle.flow_messages.specs.Cells.{Cell, is_of}
+use Rattle.flow_messages.specs.declared.message.Kind.{Kind}
 use Rattle.flow_base.specs.Ranges.{AllOf}
 use Rattle.flow_base.specs.Columns.{Columns, columns, push_column}
 use Rattle.flow_base.specs.Machines.{MachineLaws, SoundAt, Run, Runs}

@@ -5,9 +5,9 @@ use Rattle.std.proofs.Common.{arith, sym, ◌∙◌, ap}
 use Rattle.std.proofs.Math.Path.{ap₂}
 use Rattle.std.proofs.lemmas.Option.{slice_get_within}
 use Rattle.snesl_values.specs.declared.dialect.Dialect.{Dialect}
-use Rattle.flow_edges.specs.Cells.{Cell, is_of}
-use Rattle.flow_edges.specs.Signals.{Signal, carry, stop}
-use Rattle.flow_edges.specs.declared.message.Kind.{Kind}
+use Rattle.flow_messages.specs.Cells.{Cell, is_of}
+use Rattle.flow_messages.specs.Signals.{Signal, carry, stop}
+use Rattle.flow_messages.specs.declared.message.Kind.{Kind}
 use Rattle.flow_base.specs.Lists.{Lists, First}
 use Rattle.flow_base.specs.Ports.{first_of_list, First-from}
 use Rattle.flow_base.specs.Ranges.{CellInRange, SignalsInRange, AllOf}

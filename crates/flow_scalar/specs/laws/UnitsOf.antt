@@ -1,7 +1,7 @@
 -- The worker that writes a Unit for each element keeps to the laws of machines.
 use Rattle.std.specs.Prelude.{◌≡◌, zero, suc, Bool, true, false, List, [], ◌∷◌, refl}
 use Rattle.std.proofs.Common.{arith}
-use Rattle.flow_edges.specs.Cells.{Cell, unit, flag}
+use Rattle.flow_messages.specs.Cells.{Cell, unit, flag}
 use Rattle.flow_base.specs.Columns.{Columns, push_column, rows_from}
 use Rattle.flow_base.specs.Machines.{MachineLaws, SoundAt, Runs}
 use Rattle.flow_base.specs.MachineRuns.{Then, reading, writing, run_is}

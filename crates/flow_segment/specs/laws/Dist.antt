@@ -1,8 +1,8 @@
 -- What the worker of an item for each element of a segment keeps to.
 use Rattle.std.specs.Prelude.{◌≡◌, ℕ, zero, suc, true, false, List, [], ◌∷◌, ◌++◌, length, replicate, Ok, refl}
 use Rattle.std.proofs.Common.{arith, sym, ap, subst}
-use Rattle.flow_edges.specs.Cells.{Cell, flag, is_of}
-use Rattle.flow_edges.specs.declared.message.Kind.{Kind}
+use Rattle.flow_messages.specs.Cells.{Cell, flag, is_of}
+use Rattle.flow_messages.specs.declared.message.Kind.{Kind}
 use Rattle.flow_base.specs.Flags.{T, elements, flags}
 use Rattle.flow_base.specs.Ranges.{AllOf}
 use Rattle.flow_base.specs.Columns.{Columns, columns, push_column}

@@ -2,7 +2,7 @@
 use Rattle.std.specs.Prelude.{◌≡◌, ℕ, zero, suc, List, [], ◌∷◌, map, sum_by, refl, ◌↔◌}
 use Rattle.std.proofs.Common.{◌∙◌, ap}
 use Rattle.std.proofs.lemmas.List.Sums.{sum_by-cons}
-use Rattle.flow_edges.specs.Cells.{Cell}
+use Rattle.flow_messages.specs.Cells.{Cell}
 use Rattle.flow_base.specs.Lists.{Lists}
 use Rattle.flow_base.specs.Flags.{T, elements, flags}
 use Rattle.flow_base.specs.Segments.{elements-add}

@@ -1,8 +1,8 @@
 -- The laws of Interleave.
 use Rattle.std.specs.Prelude.{◌≡◌, zero, suc, true, false, List, [], ◌∷◌, ◌++◌, length, Ok, refl}
 use Rattle.std.proofs.Common.{arith}
-use Rattle.flow_edges.specs.Cells.{Cell, flag, is_of}
-use Rattle.flow_edges.specs.declared.message.Kind.{Kind}
+use Rattle.flow_messages.specs.Cells.{Cell, flag, is_of}
+use Rattle.flow_messages.specs.declared.message.Kind.{Kind}
 use Rattle.flow_base.specs.Flags.{T, elements, flags, joined, lengths}
 use Rattle.flow_base.specs.Ranges.{AllOf}
 use Rattle.flow_base.specs.Columns.{Columns, push_column, rows_from}

@@ -1,7 +1,7 @@
 -- What the worker of the segments that are to be kept keeps to.
 use Rattle.std.specs.Prelude.{◌≡◌, ℕ, zero, suc, true, false, Bool, List, [], ◌∷◌, map, refl}
 use Rattle.std.proofs.Common.{arith}
-use Rattle.flow_edges.specs.Cells.{Cell, flag}
+use Rattle.flow_messages.specs.Cells.{Cell, flag}
 use Rattle.flow_base.specs.Flags.{F, T, elements, flags}
 use Rattle.flow_base.specs.Columns.{Columns, push_column, rows_from}
 use Rattle.flow_base.specs.Machines.{MachineLaws, SoundAt, Runs}

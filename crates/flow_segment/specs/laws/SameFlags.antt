@@ -1,7 +1,7 @@
 -- What the worker of two streams of the same flags keeps to.
 use Rattle.std.specs.Prelude.{◌≡◌, zero, suc, true, false, Bool, List, [], ◌∷◌, map, refl}
 use Rattle.std.proofs.Common.{arith}
-use Rattle.flow_edges.specs.Cells.{Cell, flag}
+use Rattle.flow_messages.specs.Cells.{Cell, flag}
 use Rattle.flow_base.specs.Columns.{Columns, rows_from}
 use Rattle.flow_base.specs.Machines.{MachineLaws, SoundAt, Runs}
 use Rattle.flow_base.specs.MachineRuns.{Then, reading, writing, run_is}

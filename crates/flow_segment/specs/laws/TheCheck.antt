@@ -1,7 +1,7 @@
 -- What the worker of segments of one element keeps to.
 use Rattle.std.specs.Prelude.{◌≡◌, ℕ, zero, suc, true, false, [], ◌∷◌, replicate, refl}
 use Rattle.std.proofs.Common.{arith}
-use Rattle.flow_edges.specs.Cells.{Cell, flag}
+use Rattle.flow_messages.specs.Cells.{Cell, flag}
 use Rattle.flow_base.specs.Flags.{T, flags}
 use Rattle.flow_base.specs.Columns.{Columns, rows_from}
 use Rattle.flow_base.specs.Machines.{MachineLaws, SoundAt, Runs}

@@ -7,7 +7,7 @@ use crate::sketches::{SUM_OF_FIVE, graph_of};
 use flow_base::Transducer;
 use flow_boxes::Boxes;
 use flow_drive::{Config, Drive, NoGate, Sharing, deal};
-use flow_edges::Ends;
+use flow_messages::Ends;
 use flow_graph::Graph;
 use flow_nodes::StreamNode;
 use flow_opening::{Dealt, Opening};

@@ -3,7 +3,7 @@ use Rattle.std.specs.Prelude.{◌≡◌, ℕ, zero, suc, ◌<◌, List, [], ◌�
 use Rattle.std.proofs.Common.{sym, ◌∙◌, ap, subst}
 use Rattle.snesl_values.specs.Types.{Ty}
 use Rattle.snesl_values.specs.Values.{Value}
-use Rattle.flow_edges.specs.Cells.{Cell}
+use Rattle.flow_messages.specs.Cells.{Cell}
 use Rattle.flow_base.specs.Lists.{Lists, push, with_port}
 use Rattle.flow_base.specs.Ports.{at_port, take_away, NothingAt-from, First-from, each_port}
 use Rattle.flow_base.specs.Columns.{Columns, columns, with_column, push_column, nothing, At, column_is, columns_same, columns_port, first_at, nothing_read}

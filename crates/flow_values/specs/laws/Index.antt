@@ -6,8 +6,8 @@ use Rattle.snesl_values.specs.declared.dialect.Dialect.{Dialect}
 use Rattle.snesl_values.specs.declared.fault.FaultKind.TheVariants.{Shape}
 use Rattle.snesl_values.specs.Types.{Ty}
 use Rattle.snesl_values.specs.Values.{Value, Values, a_vec, no_values, more_values, list_of}
-use Rattle.flow_edges.specs.Cells.{Cell, unit, flag, int, datum, is_of}
-use Rattle.flow_edges.specs.declared.message.Kind.TheVariants.{Vec as VecKind}
+use Rattle.flow_messages.specs.Cells.{Cell, unit, flag, int, datum, is_of}
+use Rattle.flow_messages.specs.declared.message.Kind.TheVariants.{Vec as VecKind}
 use Rattle.flow_base.specs.Lists.{Lists}
 use Rattle.flow_base.specs.Ranges.{CellInRange, InRange, AllInRange}
 use Rattle.flow_base.specs.Columns.{Columns, columns, push_column, nothing}

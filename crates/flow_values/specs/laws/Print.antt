@@ -8,8 +8,8 @@ use Rattle.snesl_values.specs.Text.{text as text_of_value}
 use Rattle.snesl_values.specs.declared.fault.FaultKind.TheVariants.{Shape}
 use Rattle.kahn.specs.declared.want.Want.TheVariants.{Read, Write, Ended, Faulted}
 use Rattle.kahn.specs.Processes.{Event, Reads, Writes, Does, reads}
-use Rattle.flow_edges.specs.Cells.{Cell, is_of}
-use Rattle.flow_edges.specs.Signals.{Signal, carry, stop}
+use Rattle.flow_messages.specs.Cells.{Cell, is_of}
+use Rattle.flow_messages.specs.Signals.{Signal, carry, stop}
 use Rattle.flow_base.specs.Lists.{Lists, push, with_port, IsFull, iff_refl}
 use Rattle.flow_base.specs.Ports.{at_port, off_port, by_port, put_back, First-from}
 use Rattle.flow_base.specs.Ranges.{AllOf}

@@ -4,7 +4,7 @@ use Rattle.std.proofs.Common.{arith, sym, ◌∙◌, ap, subst, append_assoc, ap
 use Rattle.snesl_values.specs.Types.{Ty, int, bool, pair, vec, seq}
 use Rattle.snesl_values.specs.Values.{Value, Values, an_int, a_bool, a_pair, a_vec, a_seq, no_values, more_values, list_of}
 use Rattle.snesl_values.specs.Text.{text, further_text}
-use Rattle.flow_edges.specs.Cells.{Cell, flag, int as int_cell, datum}
+use Rattle.flow_messages.specs.Cells.{Cell, flag, int as int_cell, datum}
 use Rattle.flow_base.specs.Lists.{Lists, push}
 use Rattle.flow_base.specs.Flags.{F, T, elements}
 use Rattle.flow_values.specs.Shapes.{is_a, all_are, cell_for}

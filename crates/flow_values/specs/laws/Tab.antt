@@ -7,7 +7,7 @@ use Rattle.snesl_values.specs.declared.fault.FaultKind.{FaultKind}
 use Rattle.snesl_values.specs.declared.fault.FaultKind.TheVariants.{Shape}
 use Rattle.snesl_values.specs.Types.{Ty, int, bool, pair, vec, seq, is_concrete}
 use Rattle.snesl_values.specs.Values.{Value, Values, an_int, a_bool, a_pair, a_vec, a_seq, no_values, more_values, list_of, values_of}
-use Rattle.flow_edges.specs.Cells.{Cell, flag, datum, is_of}
+use Rattle.flow_messages.specs.Cells.{Cell, flag, datum, is_of}
 use Rattle.flow_base.specs.Lists.{Lists, push}
 use Rattle.flow_base.specs.Flags.{F, T}
 use Rattle.flow_base.specs.Ranges.{InRange, AllInRange, CellInRange}

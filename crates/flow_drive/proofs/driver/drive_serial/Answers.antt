@@ -1,5 +1,5 @@
 use Rattle.std.proofs.Common.{◌≡◌, length, ap, subst, sym, ◌∙◌}
-use Rattle.flow_edges.specs.Tables.{ends_of, capacity_of}
+use Rattle.flow_messages.specs.Tables.{ends_of, capacity_of}
 use Rattle.flow_graph.specs.Graphs.{states_of, edges_of}
 use Rattle.flow_graph.specs.Visits.{HasAllEnds}
 use Rattle.flow_graph.proofs.Nets.{graph_wired}

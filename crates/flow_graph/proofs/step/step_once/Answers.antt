@@ -1,7 +1,7 @@
 use Rattle.std.proofs.Common.{◌≡◌, ◌<◌, sym, ◌∙◌}
 use Rattle.kahn.specs.declared.want.Want.TheVariants.{Read, Write}
-use Rattle.flow_edges.specs.Signals.{signal_of}
-use Rattle.flow_edges.specs.Ends.{Taken}
+use Rattle.flow_messages.specs.Signals.{signal_of}
+use Rattle.flow_messages.specs.Ends.{Taken}
 use Rattle.flow_graph.specs.Networks.{state_at}
 use Rattle.flow_graph.specs.Graphs.{states_of, edges_of}
 use Rattle.flow_graph.proofs.Looks.{put_ends, put_or_lost, moves_read, moves_write}

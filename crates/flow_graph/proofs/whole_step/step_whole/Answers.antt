@@ -1,5 +1,5 @@
 use Rattle.std.proofs.Common.{subst}
-use Rattle.flow_edges.specs.Whole.{IsWhole}
+use Rattle.flow_messages.specs.Whole.{IsWhole}
 use Rattle.flow_graph.proofs.Turns.{turns_network}
 use Rattle.flow_graph.proofs.whole_step.step_whole.Goals as goal
 

@@ -1,6 +1,6 @@
 use Rattle.std.proofs.Common.{◌≡◌, [], ◌∷◌, ◌++◌, false, true, map, ap, ◌∙◌, append_assoc, arith}
 use Rattle.std.proofs.lemmas.List.{map_push}
-use Rattle.flow_edges.specs.Cells.{flag}
+use Rattle.flow_messages.specs.Cells.{flag}
 use Rattle.flow_base.specs.Flags.{F, T, elements}
 use Rattle.flow_inputs.proofs.Loops.{flag_more, flag_last}
 use Rattle.flow_inputs.proofs.parts.add_flags.Goals as goal

@@ -1,5 +1,5 @@
 use Rattle.std.proofs.Common.{◌≡◌, [], ◌++◌, map}
-use Rattle.flow_edges.specs.Cells.{flag}
+use Rattle.flow_messages.specs.Cells.{flag}
 use Rattle.flow_base.specs.Flags.{elements}
 use Rattle.flow_inputs.proofs.parts.add_flags.Given as goal
 

@@ -1,5 +1,5 @@
 use Rattle.std.proofs.Common.{map}
-use Rattle.flow_edges.specs.Cells.{flag}
+use Rattle.flow_messages.specs.Cells.{flag}
 use Rattle.flow_inputs.proofs.Loops.{flags_more}
 use Rattle.flow_inputs.proofs.parts.flags.Goals as goal
 

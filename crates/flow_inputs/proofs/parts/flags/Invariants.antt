@@ -1,5 +1,5 @@
 use Rattle.std.proofs.Common.{◌≡◌, ◌++◌, map, drop}
-use Rattle.flow_edges.specs.Cells.{flag}
+use Rattle.flow_messages.specs.Cells.{flag}
 use Rattle.flow_base.specs.Flags.{flags, lengths}
 use Rattle.flow_values.specs.Shapes.{elements_of}
 use Rattle.flow_inputs.specs.Data.{values_at}

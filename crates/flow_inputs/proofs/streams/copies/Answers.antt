@@ -1,7 +1,7 @@
 use Rattle.std.proofs.Common.{ap}
 use Rattle.snesl_values.specs.declared.datum.Datum.{Datum}
 use Rattle.snesl_values.specs.Values.{value_of}
-use Rattle.flow_edges.specs.Cells.{datum}
+use Rattle.flow_messages.specs.Cells.{datum}
 use Rattle.flow_inputs.proofs.Loops.{one_more, all_seen, none_given}
 use Rattle.flow_inputs.proofs.streams.copies.Goals as goal
 

@@ -3,7 +3,7 @@ use Rattle.flow_inputs.proofs.Members.{member_is}
 use Rattle.std.proofs.Common.{◌≡◌, ◌++◌, ◌∷◌, [], ap, ◌∙◌, rules}
 use mir.Val.{to_z, of_z}
 use mir.Syntax.{w128}
-use Rattle.flow_edges.specs.Cells.{int as int_cell}
+use Rattle.flow_messages.specs.Cells.{int as int_cell}
 use Rattle.flow_values.specs.Shapes.{cell_for}
 use Rattle.flow_inputs.proofs.Loops.{one_more, all_seen, none_given}
 use Rattle.flow_inputs.proofs.streams.integers.Goals as goal

@@ -1,5 +1,5 @@
 use Rattle.std.proofs.Common.{◌≡◌, map, take}
-use Rattle.flow_edges.specs.Cells.{int}
+use Rattle.flow_messages.specs.Cells.{int}
 use Rattle.flow_values.specs.Shapes.{cell_for}
 use Rattle.flow_inputs.specs.Data.{values_at}
 use Rattle.flow_inputs.proofs.streams.integers.Given as goal

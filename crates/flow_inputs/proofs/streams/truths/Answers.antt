@@ -1,6 +1,6 @@
 use Rattle.snesl_values.specs.Types.{bool}
 use Rattle.flow_inputs.proofs.Members.{member_is}
-use Rattle.flow_edges.specs.Cells.{flag}
+use Rattle.flow_messages.specs.Cells.{flag}
 use Rattle.flow_values.specs.Shapes.{cell_for}
 use Rattle.flow_inputs.proofs.Loops.{one_more, all_seen, none_given}
 use Rattle.flow_inputs.proofs.streams.truths.Goals as goal

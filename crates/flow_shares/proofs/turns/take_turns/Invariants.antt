@@ -1,5 +1,5 @@
 use Rattle.std.proofs.Common.{◌≡◌, true, false}
-use Rattle.flow_edges.specs.Ends.{SameTraffic}
+use Rattle.flow_messages.specs.Ends.{SameTraffic}
 use Rattle.flow_shares.proofs.Rounds.{Turned}
 use Rattle.flow_shares.proofs.turns.take_turns.Given as goal
 

@@ -1,5 +1,5 @@
 use Rattle.std.proofs.Common.{◌≡◌, map, take}
-use Rattle.flow_edges.specs.Cells.{cell_of}
+use Rattle.flow_messages.specs.Cells.{cell_of}
 use Rattle.flow_values.proofs.tab.copies.Given as goal
 
 abbrev pub invariant-loop-item : goal.invariant-loop-item

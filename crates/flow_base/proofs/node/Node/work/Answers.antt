@@ -1,8 +1,8 @@
 use Rattle.std.proofs.Common.{◌≡◌, ℕ, ◌+◌, ◌<◌, nat_lt, true, sym, ◌∙◌, ap, subst, arith}
 use Rattle.std.proofs.lemmas.Bool.Decides.{nat_tests}
 use Rattle.kahn.specs.declared.want.Want.TheVariants.{Read, Write}
-use Rattle.flow_edges.specs.Signals.{signal_of, carry}
-use Rattle.flow_edges.specs.declared.message.Msg.TheVariants as msg
+use Rattle.flow_messages.specs.Signals.{signal_of, carry}
+use Rattle.flow_messages.specs.declared.message.Msg.TheVariants as msg
 use Rattle.flow_base.specs.Machines.{move_of, told_of}
 use Rattle.flow_base.specs.Nodes.{node_state, want_in, told_in, after_in, memory_in}
 use Rattle.flow_base.specs.Members.{node_of}

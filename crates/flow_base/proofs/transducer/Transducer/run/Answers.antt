@@ -1,6 +1,6 @@
 use Rattle.std.proofs.Common.{◌≡◌, ◌<◌, true, refl, sym, ◌∙◌, ap, subst, arith}
 use Rattle.kahn.specs.declared.want.Want.TheVariants.{Read, Write}
-use Rattle.flow_edges.specs.Signals.{signal_of}
+use Rattle.flow_messages.specs.Signals.{signal_of}
 use Rattle.flow_base.specs.Visits.{edge_of, IsStuck}
 use Rattle.flow_base.proofs.Carried.{same_ends_then}
 use Rattle.flow_base.proofs.Visits.{Made, made_none, input_there, output_there, reads_at, made_read, made_put, made_looked, made_room, visited, broke_off, broke_reading, starves_err, no_room, on_err}

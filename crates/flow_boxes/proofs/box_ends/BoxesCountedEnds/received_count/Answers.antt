@@ -1,4 +1,4 @@
-use Rattle.flow_edges.proofs.Counts.{count-said}
+use Rattle.flow_messages.proofs.Counts.{count-said}
 use Rattle.flow_boxes.proofs.Changed.{reader-below, had_received}
 use Rattle.flow_boxes.proofs.box_ends.BoxesCountedEnds.received_count.Goals as goal
 

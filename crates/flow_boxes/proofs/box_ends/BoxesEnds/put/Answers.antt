@@ -1,5 +1,5 @@
 use Rattle.std.proofs.Common.{◌∙◌}
-use Rattle.flow_edges.proofs.Tables.{on_ok, if_err}
+use Rattle.flow_messages.proofs.Tables.{on_ok, if_err}
 use Rattle.flow_boxes.proofs.Changed.{writer-below, writer-put, writer-kept, put-keeps, refused-keeps, has_room}
 use Rattle.flow_boxes.proofs.Results.{by_result}
 use Rattle.flow_boxes.proofs.box_ends.BoxesEnds.put.Goals as goal

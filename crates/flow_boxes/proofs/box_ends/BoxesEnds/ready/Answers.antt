@@ -1,5 +1,5 @@
 use Rattle.std.proofs.Common.{length, ap, ◌∙◌, rules}
-use Rattle.flow_edges.specs.TableLaws.{signals-length}
+use Rattle.flow_messages.specs.TableLaws.{signals-length}
 use Rattle.flow_boxes.proofs.Changed.{reader-below, had_coming}
 use Rattle.flow_boxes.proofs.box_ends.BoxesEnds.ready.Goals as goal
 

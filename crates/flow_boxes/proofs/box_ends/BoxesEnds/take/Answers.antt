@@ -1,8 +1,8 @@
 use Rattle.std.proofs.Common.{length, ap, sym, ◌∙◌, arith}
-use Rattle.flow_edges.specs.TableLaws.{signals-length}
-use Rattle.flow_edges.specs.Signals.{signals}
-use Rattle.flow_edges.proofs.Signals.{signals-nil}
-use Rattle.flow_edges.proofs.Tables.{if_some, if_none, some_unless_empty}
+use Rattle.flow_messages.specs.TableLaws.{signals-length}
+use Rattle.flow_messages.specs.Signals.{signals}
+use Rattle.flow_messages.proofs.Signals.{signals-nil}
+use Rattle.flow_messages.proofs.Tables.{if_some, if_none, some_unless_empty}
 use Rattle.flow_boxes.proofs.Results.{by_option}
 use Rattle.flow_boxes.proofs.Changed.{reader-below, reader-taken, reader-kept, take-keeps, none-keeps, has_coming, had_coming}
 use Rattle.flow_boxes.proofs.box_ends.BoxesEnds.take.Goals as goal

@@ -1,7 +1,7 @@
 use Rattle.std.proofs.Common.{◌≤◌, false, [], ◌∷◌, List, length, ap, subst, sym, ◌∙◌, arith, refl, length-append}
 use Rattle.std.specs.Prelude.{Option, None}
-use Rattle.flow_edges.specs.Tables.{at_line}
-use Rattle.flow_edges.proofs.Tables.{all-snoc}
+use Rattle.flow_messages.specs.Tables.{at_line}
+use Rattle.flow_messages.proofs.Tables.{all-snoc}
 use Rattle.flow_boxes.specs.declared.outbox.Outbox.{Outbox}
 use Rattle.flow_boxes.specs.declared.inbox.Inbox.{Inbox}
 use Rattle.flow_boxes.specs.Contents.{writes_in, reads_in}

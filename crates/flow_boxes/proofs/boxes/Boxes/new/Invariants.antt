@@ -1,5 +1,5 @@
 use Rattle.std.proofs.Common.{◌≡◌, ℕ, false, length}
-use Rattle.flow_edges.specs.Tables.{at_line}
+use Rattle.flow_messages.specs.Tables.{at_line}
 use Rattle.flow_boxes.specs.Contents.{writes_in, reads_in}
 use Rattle.flow_boxes.specs.Reserved.{OutboxesReserved, InboxesReserved}
 use Rattle.flow_boxes.proofs.boxes.Boxes.new.Given as goal

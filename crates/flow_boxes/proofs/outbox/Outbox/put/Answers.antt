@@ -1,4 +1,4 @@
-use Rattle.flow_edges.proofs.Counts.{count-next}
+use Rattle.flow_messages.proofs.Counts.{count-next}
 use Rattle.flow_boxes.proofs.outbox.Outbox.put.Goals as goal
 
 pub invariant_of-self-clause-counts : goal.invariant_of-self-clause-counts

@@ -1,7 +1,7 @@
 use Rattle.std.proofs.Common.{◌<◌, length, ◌∙◌, ap, arith}
 use Rattle.std.proofs.lemmas.List.{length-map}
-use Rattle.flow_edges.proofs.Tables.{on_ok}
-use Rattle.flow_edges.specs.Signals.{signal_of}
+use Rattle.flow_messages.proofs.Tables.{on_ok}
+use Rattle.flow_messages.specs.Signals.{signal_of}
 use Rattle.flow_graph.specs.Places.{placed_state}
 use Rattle.flow_graph.proofs.Reached.{state_read, states_set, states_kept, on_err}
 use Rattle.flow_graph.proofs.Seats.{openings_same, built_same, seated_same}

@@ -1,6 +1,6 @@
 use Rattle.std.proofs.Common.{◌<◌, length, refl, subst, arith}
 use Rattle.std.proofs.lemmas.List.{length-map}
-use Rattle.flow_edges.specs.Whole.{IsWhole}
+use Rattle.flow_messages.specs.Whole.{IsWhole}
 use Rattle.flow_graph.specs.Graphs.{states_of, edges_of}
 use Rattle.flow_graph.specs.Places.{placed_state}
 use Rattle.flow_graph.proofs.NodeEnds.{all_node_ends, ends_reads, ends_writes}

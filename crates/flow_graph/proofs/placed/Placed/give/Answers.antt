@@ -1,4 +1,4 @@
-use Rattle.flow_edges.specs.Signals.{signal_of}
+use Rattle.flow_messages.specs.Signals.{signal_of}
 use Rattle.flow_graph.proofs.Reached.{Follows, follows_read, follows_inputs, follows_outputs, either}
 use Rattle.flow_graph.proofs.placed.Placed.give.Goals as goal
 

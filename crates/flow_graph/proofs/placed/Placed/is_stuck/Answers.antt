@@ -1,7 +1,7 @@
 use Rattle.std.proofs.Common.{◌≡◌, ◌<◌, ◌↔◌, length, not, IsTrue, true, refl, sym, ◌∙◌, subst, arith}
 use Rattle.std.proofs.lemmas.List.{get_or_read}
 use Rattle.kahn.specs.declared.want.Want.TheVariants.{Read, Write}
-use Rattle.flow_edges.specs.Ends.{LookedForMessages, LookedForRoom, held}
+use Rattle.flow_messages.specs.Ends.{LookedForMessages, LookedForRoom, held}
 use Rattle.flow_base.specs.Visits.{edge_of, IsPlaced, IsStuck}
 use Rattle.flow_base.proofs.Visits.{made_none, input_there, output_there, reads_at, writes_at, made_looked, made_room}
 use Rattle.flow_graph.proofs.Looks.{not_there}

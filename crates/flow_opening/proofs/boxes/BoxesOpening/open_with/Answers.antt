@@ -1,4 +1,4 @@
-use Rattle.flow_edges.proofs.Tables.{on_ok}
+use Rattle.flow_messages.proofs.Tables.{on_ok}
 use Rattle.flow_boxes.specs.Contents.{contents}
 use Rattle.flow_opening.proofs.Opened.{box_writer}
 use Rattle.flow_opening.proofs.boxes.BoxesOpening.open_with.Goals as goal

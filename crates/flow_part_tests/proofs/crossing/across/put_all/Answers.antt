@@ -1,6 +1,6 @@
 use Rattle.std.proofs.Common.{◌++◌, List, sym, ap, ◌∙◌}
-use Rattle.flow_edges.specs.Signals.{signals, orderly}
-use Rattle.flow_edges.specs.declared.message.Msg.{Msg}
+use Rattle.flow_messages.specs.Signals.{signals, orderly}
+use Rattle.flow_messages.specs.declared.message.Msg.{Msg}
 use Rattle.flow_rings.specs.Edge.{sent}
 use Rattle.flow_part_tests.proofs.Lists.{open-before}
 use Rattle.flow_part_tests.proofs.crossing.across.put_all.Goals as goal

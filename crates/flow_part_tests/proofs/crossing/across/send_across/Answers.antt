@@ -1,6 +1,6 @@
 use Rattle.std.proofs.Common.{◌≡◌, List, length, sym, ap, subst, ◌∙◌, arith, IfOk}
-use Rattle.flow_edges.specs.Signals.{signals, ended}
-use Rattle.flow_edges.specs.declared.message.Msg.{Msg}
+use Rattle.flow_messages.specs.Signals.{signals, ended}
+use Rattle.flow_messages.specs.declared.message.Msg.{Msg}
 use Rattle.flow_rings.specs.Edge.{received}
 use Rattle.flow_part_tests.proofs.crossing.across.send_across.Goals as goal
 

@@ -1,7 +1,7 @@
 use Rattle.std.proofs.Common.{List, sym, ap, ◌∙◌}
-use Rattle.flow_edges.specs.declared.message.Msg.{Msg}
-use Rattle.flow_edges.specs.Signals.{signals, ended}
-use Rattle.flow_edges.proofs.Signals.{ended-snoc}
+use Rattle.flow_messages.specs.declared.message.Msg.{Msg}
+use Rattle.flow_messages.specs.Signals.{signals, ended}
+use Rattle.flow_messages.proofs.Signals.{ended-snoc}
 use Rattle.flow_rings.specs.Edge.{received}
 use Rattle.flow_part_tests.proofs.crossing.across.take_all.Goals as goal
 

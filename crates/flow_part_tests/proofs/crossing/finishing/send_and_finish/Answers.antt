@@ -1,6 +1,6 @@
 use Rattle.std.proofs.Common.{◌≡◌, List, length, refl, sym, ap, subst, ◌∙◌, IfOk, IfSome}
-use Rattle.flow_edges.specs.Signals.{signals, ended}
-use Rattle.flow_edges.specs.declared.message.Msg.{Msg}
+use Rattle.flow_messages.specs.Signals.{signals, ended}
+use Rattle.flow_messages.specs.declared.message.Msg.{Msg}
 use Rattle.flow_rings.specs.Edge.{received, all_sent, IsEdge, IsMarkOf}
 use Rattle.flow_rings.specs.declared.ring.EdgeReader.{EdgeReader}
 use Rattle.flow_part_tests.proofs.crossing.finishing.send_and_finish.Goals as goal

@@ -1,5 +1,5 @@
 use Rattle.std.proofs.Common.{◌≡◌, false}
-use Rattle.flow_edges.specs.Signals.{signals, ended}
+use Rattle.flow_messages.specs.Signals.{signals, ended}
 use Rattle.flow_part_tests.proofs.crossing.numbers.numbers_and_end.Given as goal
 
 abbrev pub invariant-loop-value : goal.invariant-loop-value

@@ -1,4 +1,4 @@
-use Rattle.flow_edges.proofs.Counts.{count-next}
+use Rattle.flow_messages.proofs.Counts.{count-next}
 use Rattle.flow_rings.specs.Edge.{sent}
 use Rattle.flow_rings.proofs.ring.EdgeWriter.put.Goals as goal
 

@@ -1,4 +1,4 @@
-use Rattle.flow_edges.proofs.Counts.{count-said}
+use Rattle.flow_messages.proofs.Counts.{count-said}
 use Rattle.flow_rings.specs.Edge.{received}
 use Rattle.flow_rings.specs.Rings.{reads_of}
 use Rattle.flow_rings.proofs.RingLines.{at_line-there, had_received}

@@ -1,5 +1,5 @@
 use Rattle.std.proofs.Common.{◌∙◌}
-use Rattle.flow_edges.proofs.Tables.{on_ok, if_err}
+use Rattle.flow_messages.proofs.Tables.{on_ok, if_err}
 use Rattle.flow_rings.specs.Rings.{writes_of}
 use Rattle.flow_rings.proofs.RingLines.{at_line-there, writer-put, writer-looked, writer-room}
 use Rattle.flow_rings.proofs.rings.RingsEnds.put.Goals as goal

@@ -1,4 +1,4 @@
-use Rattle.flow_edges.proofs.Tables.{if_some, if_none}
+use Rattle.flow_messages.proofs.Tables.{if_some, if_none}
 use Rattle.flow_rings.specs.Rings.{reads_of}
 use Rattle.flow_rings.proofs.RingLines.{at_line-there, reader-taken, reader-looked, reader-empty, had_held}
 use Rattle.std.proofs.Common.{[], append-nil, sym, ◌∙◌, arith}

@@ -1,5 +1,5 @@
 use Rattle.std.proofs.Common.{option_map, ◌∙◌, sym, ap}
-use Rattle.flow_edges.specs.Cells.{cell_of}
+use Rattle.flow_messages.specs.Cells.{cell_of}
 use Rattle.flow_scalar.proofs.Sending.{sends_item}
 use Rattle.flow_scalar.proofs.source.SourceTransducer.emit.Goals as goal
 

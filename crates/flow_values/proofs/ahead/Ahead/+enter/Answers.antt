@@ -3,7 +3,7 @@ use Rattle.snesl_values.specs.Types.{ty_of, pair}
 use Rattle.flow_values.specs.Flats.{width}
 use Rattle.flow_values.specs.Places.{Fits}
 use Rattle.flow_values.specs.PrintMachine.{whole, entered}
-use Rattle.flow_edges.specs.Cells.{cell_of}
+use Rattle.flow_messages.specs.Cells.{cell_of}
 use Rattle.flow_values.specs.Aheads.{Leads}
 use Rattle.flow_values.proofs.Printing.{second_fits, bracket_fits, leads_pair}
 use Rattle.flow_values.proofs.ahead.Ahead.+enter.Goals as goal

@@ -1,7 +1,7 @@
 use Rattle.std.proofs.Common.{◌≡◌, ◌==◌, ◌∙◌, [], true, false, length, ap, sym, subst}
 use Rattle.snesl_values.specs.Types.{ty_of}
-use Rattle.flow_edges.specs.Cells.{cell_of}
-use Rattle.flow_edges.specs.Signals.{signal_of}
+use Rattle.flow_messages.specs.Cells.{cell_of}
+use Rattle.flow_messages.specs.Signals.{signal_of}
 use Rattle.flow_values.specs.PrintMachine.{read_at}
 use Rattle.flow_values.specs.Aheads.{stack, step_in, state_in, found}
 use Rattle.flow_values.proofs.Printing.{not_stuck, none_ahead, end_inside, refused}

@@ -1,7 +1,7 @@
 use Rattle.std.proofs.Common.{◌≡◌, ◌∙◌, ap, map, refl, subst, Err}
 use Rattle.snesl_values.specs.Types.{ty_of}
 use Rattle.snesl_values.specs.Values.{value_of}
-use Rattle.flow_edges.specs.Cells.{cell_of}
+use Rattle.flow_messages.specs.Cells.{cell_of}
 use Rattle.flow_values.specs.Parts.{built}
 use Rattle.flow_values.specs.TabMachine.{Makes}
 use Rattle.flow_values.proofs.Building.{all_there, refused_answer, stopped_answer}

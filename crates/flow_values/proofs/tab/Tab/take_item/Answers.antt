@@ -1,7 +1,7 @@
 use Rattle.std.proofs.Common.{◌∙◌, ap, [], ◌∷◌, ◌++◌, map, if◌then◌else◌}
 use Rattle.snesl_values.specs.Types.{ty_of}
 use Rattle.snesl_values.specs.Values.{value_of}
-use Rattle.flow_edges.specs.Cells.{cell_of}
+use Rattle.flow_messages.specs.Cells.{cell_of}
 use Rattle.flow_values.specs.TabMachine.{step_in}
 use Rattle.flow_values.proofs.Building.{fits_behind, parts_pushed, refused_item}
 use Rattle.flow_values.proofs.tab.Tab.take_item.Goals as goal

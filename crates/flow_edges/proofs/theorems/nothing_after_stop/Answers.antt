@@ -1,5 +1,0 @@
-use Rattle.flow_edges.proofs.Waiting.{nothing-behind}
-use Rattle.flow_edges.proofs.theorems.nothing_after_stop.Goals as goal
-
-pub returns : goal.returns
-returns c = nothing-behind

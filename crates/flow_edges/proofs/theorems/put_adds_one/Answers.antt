@@ -1,8 +1,0 @@
-use Rattle.flow_edges.proofs.Waiting.{put-waits, put-room}
-use Rattle.flow_edges.proofs.theorems.put_adds_one.Goals as goal
-
-pub returns : goal.returns
-returns c = record {
-  waits = λ capacity a b e m whole whole'. put-waits capacity a b e m whole;
-  room = put-room;
-}

@@ -1,8 +1,0 @@
-use Rattle.flow_edges.proofs.Waiting.{taken-waits, taken-begins}
-use Rattle.flow_edges.proofs.theorems.take_gives_oldest.Goals as goal
-
-pub returns : goal.returns
-returns c = record {
-  waits = λ capacity a b e m whole. taken-waits capacity a b e m;
-  begins = taken-begins;
-}

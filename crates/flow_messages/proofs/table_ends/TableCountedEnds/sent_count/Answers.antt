@@ -1,0 +1,12 @@
+use Rattle.std.proofs.Common.{◌<◌, [], length, arith}
+use borrow.Author.Tests.{ltb-true}
+use Rattle.flow_messages.proofs.Counts.{count-said}
+use Rattle.flow_messages.proofs.Tables.{at_line-here, sent_on}
+use Rattle.flow_messages.proofs.table_ends.TableCountedEnds.sent_count.Goals as goal
+
+pub returns : goal.returns
+returns c =
+    let ls = c.args.self.now.lines.items in
+    let h : c.args.edge < length ls = omega (arith, ltb-true) in
+    let line = c.index.result.now in
+    count-said line.sent.items (at_line-here sent_on ls c.args.edge [] line h c.index.ensures) c.sent_count.ensures

@@ -1,0 +1,36 @@
+-- A table as the ends of all its edges.
+use Rattle.std.specs.Prelude.{◌≡◌, ℕ, ◌-◌, List, [], length, map, slice_index_or, nat_lt}
+use Rattle.flow_messages.specs.declared.line.Line.{Line}
+use Rattle.flow_messages.specs.declared.table.Table.{Table}
+use Rattle.flow_messages.specs.Signals.{signals}
+use Rattle.flow_messages.specs.Ends.{View}
+
+-- f at the line of edge e, and d where there is none
+abbrev pub at_line : {L X : Type 0} → (L → X) → List L → ℕ → X → X
+at_line f lines e d = slice_index_or (map f lines) e d
+
+-- what is seen of the edges that these lines are
+abbrev pub view_of_lines : List Line → View
+view_of_lines lines = record {
+  sent = λ e. at_line (λ l. signals l.sent.items) lines e [];
+  received = λ e. at_line (λ l. signals l.received.items) lines e [];
+  coming = λ e. at_line (λ l. signals l.queue.items) lines e [];
+  room = λ e. at_line (λ l. l.capacity - length l.queue.items) lines e 0;
+  writes = λ e. nat_lt e (length lines);
+  reads = λ e. nat_lt e (length lines);
+}
+
+-- what is seen of the table
+abbrev pub ends_of : Table → View
+ends_of t = view_of_lines t.lines.items
+
+-- how many messages each edge of the table holds at most
+abbrev pub capacity_of : Table → ℕ
+capacity_of t = t.capacity
+
+-- both ends of the edges below `edges`, on which nothing was sent or received
+pub record IsFresh (edges : ℕ) (v : View) : Type 0 where
+  pub writes : (e : ℕ) → v.writes e ≡ nat_lt e edges
+  pub reads : (e : ℕ) → v.reads e ≡ nat_lt e edges
+  pub sent : (e : ℕ) → v.sent e ≡ []
+  pub received : (e : ℕ) → v.received e ≡ []

@@ -1,0 +1,81 @@
+// The ends of a set of edges.
+use crate::message::Msg;
+
+/// Why a message was not put on an edge.
+#[derive(Clone, Copy, Debug, PartialEq, Eq)]
+pub enum Why {
+    /// The edge holds as many messages as it may.
+    Full,
+    /// `End` was put on it before.
+    Closed,
+}
+
+/// A message that was not put on an edge. It comes back.
+#[derive(Debug, Drop)]
+pub struct Refused {
+    pub message: Msg,
+    pub why: Why,
+}
+
+/// Some ends of some edges, each named by its edge's number.
+///
+/// No call takes memory, and none waits.
+pub trait Ends {
+    ghost use Rattle.std.specs.Prelude.{◌≡◌, ◌<◌, ◌↔◌, true, false, IsTrue, IsOk, IsSome, IfSome, IfNone, OnOk, IfErr, IsErrAnd};
+    ghost use Rattle.flow_messages.specs.Signals.{signal_of, ended};
+    ghost use Rattle.flow_messages.specs.Ends.{View, held, LookedForRoom, LookedForMessages, Put, Taken};
+    ghost use Rattle.flow_messages.specs.declared.ends.Why.TheVariants.{Full, Closed};
+
+    /// What was put and taken on each edge, and what is certain.
+    ghost view: { Self → View };
+
+    /// The two are the same ends, before and after.
+    ghost same: { Self → Self → Type 0 };
+
+    /// Whether the end that puts messages on this edge is there.
+    fn has_writer(&self, edge: usize) -> bool
+        ensures { result ≡ (view self.now).writes edge };
+
+    /// Whether the end that takes messages from this edge is there.
+    fn has_reader(&self, edge: usize) -> bool
+        ensures { result ≡ (view self.now).reads edge };
+
+    /// Whether the edge is certain to have room for one more message.
+    fn room(&mut self, edge: usize) -> bool
+        requires { (view self.old).writes edge ≡ true }
+        ensures same { same self.old self.new }
+        ensures looked { LookedForRoom (view self.old) edge (view self.new) }
+        ensures value { IsTrue result ↔ (0 < (view self.new).room edge) };
+
+    /// Whether the edge is certain to hold a message.
+    fn ready(&mut self, edge: usize) -> bool
+        requires { (view self.old).reads edge ≡ true }
+        ensures same { same self.old self.new }
+        ensures looked { LookedForMessages (view self.old) edge (view self.new) }
+        ensures value { IsTrue result ↔ (0 < held (view self.new) edge) };
+
+    /// Puts a message behind all others.
+    ///
+    /// It is refused as `Closed` exactly where `End` was put on the edge before, and as `Full` only
+    /// where no room was certain. Then nothing was put, and the message comes back.
+    fn put(&mut self, edge: usize, message: Msg) -> Result<(), Refused>
+        requires { (view self.old).writes edge ≡ true }
+        ensures same { same self.old self.new }
+        ensures ok { OnOk result (Put (view self.old) edge (signal_of message) (view self.new)) }
+        ensures refused { IfErr result (λ e. (e.message ≡ message) × LookedForRoom (view self.old) edge (view self.new)) }
+        ensures closed { IsErrAnd result (λ e. e.why ≡ Closed) ↔ (ended ((view self.old).sent edge) ≡ true) }
+        ensures full { IsErrAnd result (λ e. e.why ≡ Full) → (view self.new).room edge ≡ 0 }
+        ensures succeeds { ended ((view self.old).sent edge) ≡ false → 0 < (view self.old).room edge → IsOk result };
+
+    /// Takes the oldest message that was not taken, or none where none is certain to be there.
+    fn take(&mut self, edge: usize) -> Option<Msg>
+        requires { (view self.old).reads edge ≡ true }
+        ensures same { same self.old self.new }
+        ensures some { IfSome result (λ m. Taken (view self.old) edge (signal_of m) (view self.new)) }
+        ensures none { IfNone result (LookedForMessages (view self.old) edge (view self.new) × (held (view self.new) edge ≡ 0)) }
+        ensures succeeds { 0 < held (view self.old) edge → IsSome result };
+
+    ghost same_refl: { (a : Self) → same a a };
+
+    ghost same_trans: { (a b c : Self) → same a b → same b c → same a c };
+}

@@ -1,0 +1,105 @@
+// A table of fresh edges, a table as ends, as both ends of each edge, and as ends that count.
+ghost use Rattle.std.specs.Prelude.{◌≡◌, ◌<◌, ◌≤◌, ◌↔◌, IsTrue, IfOk};
+ghost use Rattle.flow_messages.specs.Limits.{greatest_capacity};
+ghost use Rattle.flow_messages.specs.Tables.{ends_of, capacity_of, IsFresh};
+
+use crate::counted::CountedEnds;
+use crate::ends::{Ends, Refused};
+use crate::line::Line;
+use crate::message::Msg;
+use crate::table::{MAX_CAPACITY, Table};
+use crate::whole::WholeEnds;
+use std::alloc::{AllocError, Global};
+
+impl Table {
+    /// The edges with the numbers below `edges`, each of which holds at most `capacity` messages.
+    /// Nothing was sent or received. All the room that messages take is reserved here, and the call
+    /// is refused where there is no memory for it.
+    pub fn new(alloc: Global, edges: usize, capacity: usize) -> Result<Table, AllocError>
+        requires some { 0 < capacity }
+        requires limit { capacity ≤ greatest_capacity }
+        ensures fresh { IfOk result (λ table. IsFresh edges (ends_of table)) }
+        ensures capacity { IfOk result (λ table. capacity_of table ≡ capacity) }
+    {
+        let mut lines = Vec::with_capacity(alloc, edges)?;
+        for _ in 0..edges {
+            lines.push(Line::new(alloc, capacity)?)?;
+        }
+        Ok(Table { lines, capacity })
+    }
+
+    /// Whether an edge of a table may hold so many messages at most: 1 to [`MAX_CAPACITY`].
+    pub fn is_capacity(capacity: usize) -> bool
+        ensures { IsTrue result ↔ ((0 < capacity) × (capacity ≤ greatest_capacity)) }
+    {
+        capacity >= 1 && capacity <= MAX_CAPACITY
+    }
+}
+
+impl Ends for Table {
+    ghost use Rattle.flow_messages.specs.TableLaws.{same_capacity_refl, same_capacity_trans};
+
+    ghost view = { ends_of };
+
+    ghost same = { λ a b. capacity_of b ≡ capacity_of a };
+
+    fn has_writer(&self, edge: usize) -> bool {
+        edge < self.lines.len()
+    }
+
+    fn has_reader(&self, edge: usize) -> bool {
+        edge < self.lines.len()
+    }
+
+    #[inline(always)]
+    fn room(&mut self, edge: usize) -> bool {
+        self.lines[edge].room()
+    }
+
+    #[inline(always)]
+    fn ready(&mut self, edge: usize) -> bool {
+        self.lines[edge].ready()
+    }
+
+    #[inline(always)]
+    fn put(&mut self, edge: usize, message: Msg) -> Result<(), Refused> {
+        self.lines[edge].put(message)
+    }
+
+    #[inline(always)]
+    fn take(&mut self, edge: usize) -> Option<Msg> {
+        self.lines[edge].take()
+    }
+
+    ghost same_refl = { same_capacity_refl };
+
+    ghost same_trans = { same_capacity_trans };
+}
+
+impl WholeEnds for Table {
+    ghost use Rattle.flow_messages.specs.TableLaws.{whole_table};
+
+    ghost capacity = { capacity_of };
+
+    fn capacity(&self) -> usize {
+        self.capacity
+    }
+
+    fn held(&self, edge: usize) -> usize {
+        self.lines[edge].queue.len()
+    }
+
+    ghost whole = { whole_table };
+
+    ghost same_capacity = { λ a b same. same };
+}
+
+impl CountedEnds for Table {
+    fn sent_count(&self, edge: usize) -> u64 {
+        self.lines[edge].sent_count()
+    }
+
+    fn received_count(&self, edge: usize) -> u64 {
+        self.lines[edge].taken
+    }
+}
