@@ -14,3 +14,9 @@ pub mod Visits
 pub mod Flows
 pub mod FlowTheorems
 pub mod Replacements
+-- what the public clauses cite of the crates below
+pub use Rattle.snesl_values.specs.declared.refusal.Refusal
+pub use Rattle.kahn.specs.declared.want.Want
+pub use Rattle.flow_messages.specs.Ends
+pub use Rattle.flow_messages.specs.Signals
+pub use Rattle.flow_base.specs.Transducers

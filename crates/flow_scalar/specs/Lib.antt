@@ -18,3 +18,16 @@ pub mod Streams
 pub mod UnaryMachine
 pub mod UnitsOfMachine
 pub mod laws
+-- what the public clauses cite of the crates below
+pub use Rattle.snesl_values.specs.declared.dialect.Dialect
+pub use Rattle.snesl_operators.specs.declared.operator.BinaryOperator
+pub use Rattle.snesl_operators.specs.declared.operator.Reduction
+pub use Rattle.snesl_operators.specs.declared.operator.UnaryOperator
+pub use Rattle.snesl_operators.specs.declared.scalar.Scalar
+pub use Rattle.kahn.specs.declared.want.Want
+pub use Rattle.flow_messages.specs.declared.message.Kind
+pub use Rattle.flow_messages.specs.Cells
+pub use Rattle.flow_messages.specs.Signals
+pub use Rattle.flow_base.specs.Machines
+pub use Rattle.flow_base.specs.Ranges
+pub use Rattle.flow_base.specs.Transducers

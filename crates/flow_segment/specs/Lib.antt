@@ -12,3 +12,18 @@ pub mod InterleaveGroupsMachine
 pub mod PartFlagsMachine
 pub mod Rows
 pub mod laws
+-- what the public clauses cite of the crates below
+pub use Rattle.snesl_values.specs.Types
+pub use Rattle.snesl_values.specs.Values
+pub use Rattle.flow_messages.specs.declared.message.Kind
+pub use Rattle.flow_messages.specs.Cells
+pub use Rattle.flow_messages.specs.Signals
+pub use Rattle.flow_base.specs.Machines
+pub use Rattle.flow_base.specs.Workers
+-- and those of the nodes of vectors and of the text
+pub use Rattle.flow_values.specs.Shapes
+pub use Rattle.flow_values.specs.TabMachine
+pub use Rattle.flow_values.specs.SeqMachine
+pub use Rattle.flow_values.specs.IndexMachine
+pub use Rattle.flow_values.specs.PrintMachine
+pub use Rattle.flow_values.specs.Rows as ValueRows

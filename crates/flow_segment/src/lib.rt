@@ -1,6 +1,8 @@
 //! Transducers over segments: those that count, join, choose and deal out the segments of sequences, and the items that
 //! go with them.
 //!
+//! The nodes over vectors, [`Tab`], [`Seq`] and [`Index`], and [`Print`] are passed on from flow_values.
+//!
 //! A segment is a list of flags: `false` (F) for each of its elements, then `true` (T). Each transducer here is a
 //! [`Worker`](flow_base::Worker), of which [`Node`](flow_base::Node) makes a transducer.
 #![tactic(auto)]
@@ -22,6 +24,7 @@ pub use append_flags::AppendFlags;
 pub use concat_flags::ConcatFlags;
 pub use dist::Dist;
 pub use flag_of_bool::FlagOfBool;
+pub use flow_values::{Index, Print, Seq, Tab};
 pub use interleave::Interleave;
 pub use interleave_groups::InterleaveGroups;
 pub use pack::Pack;

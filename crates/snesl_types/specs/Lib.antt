@@ -10,3 +10,13 @@ pub mod Names
 pub mod Views
 pub mod Typed
 pub mod Soundness
+-- what the public clauses cite of the crates below
+pub use Rattle.snesl_values.specs.declared.refusal.Refusal
+pub use Rattle.snesl_values.specs.Inputs
+pub use Rattle.snesl_values.specs.Types
+pub use Rattle.snesl_tree.specs.Tree
+pub use Rattle.snesl_tree.specs.Spelling
+pub use Rattle.snesl_tree.specs.View
+pub use Rattle.snesl_grammar.specs.View as GrammarView
+pub use Rattle.snesl_evaluation.specs.Eval
+pub use Rattle.snesl_evaluation.specs.Results
