@@ -11,7 +11,8 @@ use Rattle.snesl_translation.specs.Wires.{Wires, Bound}
 use Rattle.snesl_translation.specs.Makings.{Making, done, and_then}
 use Rattle.snesl_translation.specs.FreeNames.{Names}
 use Rattle.snesl_translation.specs.Carrying.{Carries, Controls, GoesTo}
-use Rattle.snesl_translation.specs.Meaning.{Means, AllCarry, GoAll, AllMean}
+use Rattle.snesl_translation.specs.Meaning.{Means, AllCarry}
+use Rattle.snesl_translation.proofs.ArgumentMeanings.{GoAll, AllMean}
 use Rattle.snesl_translation.proofs.Carrying.{carried_on, rest_stops, first_stops}
 use Rattle.snesl_translation.proofs.Doing.{done_does, then_does}
 use Rattle.snesl_translation.proofs.Instances.{each_length}

@@ -27,7 +27,8 @@ use Rattle.snesl_translation.specs.FreeNames.{Names}
 use Rattle.snesl_translation.specs.Translation.{Sources, same_lengths}
 use Rattle.snesl_translation.specs.Carrying.{Carries, given_by, GoesTo}
 use Rattle.snesl_translation.specs.Meaning.{Means}
-use Rattle.snesl_translation.specs.Sources.{with_column, SourcesCarry, SourcesGo, SourcesMean}
+use Rattle.snesl_translation.specs.Sources.{with_column}
+use Rattle.snesl_translation.proofs.SourceMeanings.{SourcesCarry, SourcesGo, SourcesMean}
 use Rattle.snesl_translation.proofs.Running.{bind_bind}
 use Rattle.snesl_translation.proofs.Carrying.{carried_on, streams_joined, flags_carry, rest_stops, first_stops}
 use Rattle.snesl_translation.proofs.Doing.{done_does, then_does}

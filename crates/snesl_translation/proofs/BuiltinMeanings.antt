@@ -23,7 +23,8 @@ use Rattle.snesl_translation.specs.Makings.{Making}
 use Rattle.snesl_translation.specs.FreeNames.{Names, free, free_of_all}
 use Rattle.snesl_translation.specs.Translation.{Bodies, prefix_streams, binary_streams, call_streams, tr, tr_all}
 use Rattle.snesl_translation.specs.Carrying.{Carries, given_by, GoesTo, Goes}
-use Rattle.snesl_translation.specs.Meaning.{Means, AllCarry, AllMean}
+use Rattle.snesl_translation.specs.Meaning.{Means, AllCarry}
+use Rattle.snesl_translation.proofs.ArgumentMeanings.{AllMean}
 use Rattle.snesl_translation.proofs.Instances.{given_go, given_all, each_same, each_map}
 use Rattle.snesl_translation.proofs.Operands.{after_means, both_mean}
 use Rattle.snesl_translation.proofs.Arguments.{call_means, one_row, both_rows}

@@ -30,7 +30,8 @@ use Rattle.snesl_translation.specs.Moving.{distributed, all_moved}
 use Rattle.snesl_translation.specs.Translation.{Sources, units_step, first_flags, in_step, items_bound, concatenated}
 use Rattle.snesl_translation.specs.Carrying.{Carries, Controls, Makes, given_by, GoesTo, Goes}
 use Rattle.snesl_translation.specs.Meaning.{Bears, Means}
-use Rattle.snesl_translation.specs.Sources.{without_items, SourcesCarry, SourcesMean}
+use Rattle.snesl_translation.specs.Sources.{without_items}
+use Rattle.snesl_translation.proofs.SourceMeanings.{SourcesCarry, SourcesMean}
 use Rattle.snesl_translation.proofs.Running.{bind_bind, bind_same}
 use Rattle.snesl_translation.proofs.Carrying.{grown, flags_carry, items_carry, first_stops, rest_stops}
 use Rattle.snesl_translation.proofs.Doing.{Does, Writes, then_does, flags_written, segments_makes}

@@ -22,7 +22,8 @@ use Rattle.snesl_translation.specs.Moving.{distributed, all_moved}
 use Rattle.snesl_translation.specs.Translation.{Bodies, Sources, first_flags, in_step, items_bound, units_step, filtered, concatenated, single, followed, tr, tr_items, tr_further, tr_binders}
 use Rattle.snesl_translation.specs.Carrying.{given_by}
 use Rattle.snesl_translation.specs.Meaning.{Means}
-use Rattle.snesl_translation.specs.Sources.{without_items, SourcesGo, SourcesMean}
+use Rattle.snesl_translation.specs.Sources.{without_items}
+use Rattle.snesl_translation.proofs.SourceMeanings.{SourcesGo, SourcesMean}
 use Rattle.snesl_translation.proofs.Running.{bind_same}
 use Rattle.snesl_translation.proofs.Instances.{given_go, given_all, each_same}
 use Rattle.snesl_translation.proofs.Borne.{AreOpen}

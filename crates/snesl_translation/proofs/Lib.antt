@@ -16,6 +16,7 @@ pub mod Mixing
 pub mod BoundMoved
 pub mod Groups
 pub mod Borne
+pub mod ArgumentMeanings
 pub mod Operands
 pub mod Arguments
 pub mod Appending
@@ -27,6 +28,7 @@ pub mod PlainMeanings
 pub mod Plans
 pub mod Rows
 pub mod Expressions
+pub mod SourceMeanings
 pub mod Binders
 pub mod Comprehensions
 pub mod Filters

@@ -19,7 +19,7 @@ use Rattle.snesl_translation.specs.Makings.{Making}
 use Rattle.snesl_translation.specs.FreeNames.{Names, without, free, free_of_all}
 use Rattle.snesl_translation.specs.Translation.{Bodies, tr, tr_all}
 use Rattle.snesl_translation.specs.Carrying.{given_by}
-use Rattle.snesl_translation.specs.Meaning.{GoAll, AllMean}
+use Rattle.snesl_translation.proofs.ArgumentMeanings.{GoAll, AllMean}
 use Rattle.snesl_translation.specs.Theorems.{CallsMean}
 use Rattle.snesl_translation.proofs.Instances.{given_go, each_same}
 use Rattle.snesl_translation.proofs.Forms.{pair_means}

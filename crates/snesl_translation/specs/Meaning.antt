@@ -1,12 +1,11 @@
 -- What a translation means: at any list of instances at once, its steps go where the answers at the instances do.
-use Rattle.std.specs.Prelude.{◌≡◌, ℕ, true, List, [], ◌∷◌, ◌++◌, length, map, replicate, zip, Option, Some, None}
+use Rattle.std.specs.Prelude.{◌≡◌, ℕ, true, List, [], ◌∷◌, length, map, replicate, zip, Option, Some}
 use Rattle.snesl_values.specs.Types.{Ty}
 use Rattle.snesl_values.specs.Values.{Value}
 use Rattle.snesl_values.specs.Inputs.{Environment, value_in}
 use Rattle.snesl_types.specs.Contexts.{open_to, Context, found}
 use Rattle.flow_base.specs.Columns.{Columns}
 use Rattle.flow_rows.specs.Lists.{each}
-use Rattle.flow_plans.specs.Plans.{run}
 use Rattle.snesl_translation.specs.Wires.{Wires, Bound}
 use Rattle.snesl_translation.specs.Makings.{Making}
 use Rattle.snesl_translation.specs.FreeNames.{Names, is_among}
@@ -35,17 +34,3 @@ AllCarry streams (u ∷ us) (t ∷ ts) rows =
     (values : List Value) × (others : List (List Value)) × (rows ≡ map (λ p. p.0 ∷ p.1) (zip values others)) × (length values ≡ length others)
     × Carries streams u t values × AllCarry streams us ts others
 AllCarry streams _ _ rows = ⊥
-
--- where there are rows, the steps make streams that carry these; where there are none, they do not run
-abbrev pub GoAll : Columns → List Ty → Making (List Wires) → Option (List (List Value)) → Type 0
-GoAll streams ts making (Some rows) =
-    (more : Columns) × (run making.steps streams ≡ Some (streams ++ more)) × (making.next ≡ length (streams ++ more))
-    × AllCarry (streams ++ more) making.given ts rows
-GoAll streams ts making None = run making.steps streams ≡ None
-
--- the same as `Means` of several expressions, as the arguments of a call
-abbrev pub AllMean : (Bound → (control next : ℕ) → Making (List Wires)) → (Environment → Option (List Value)) → Names → Context → List Ty → Type 0
-AllMean translated values names context ts =
-    (streams : Columns) (bound : Bound) (control : ℕ) (environments : List Environment)
-    → Bears streams bound names context environments → Controls streams control (length environments)
-    → GoAll streams ts (translated bound control (length streams)) (each values environments)

@@ -1,20 +1,9 @@
--- What the sources of a comprehension mean: for each name the sequence that it goes through.
-use Rattle.std.specs.Prelude.{◌≡◌, ℕ, List, [], ◌∷◌, ◌++◌, length, map, replicate, zip, Option, Some, None}
-use Rattle.snesl_values.specs.Types.{seq}
+-- The names and the sequences of a comprehension's sources.
+use Rattle.std.specs.Prelude.{ℕ, List, [], ◌∷◌, map, zip}
 use Rattle.snesl_values.specs.Values.{Value}
-use Rattle.snesl_values.specs.Inputs.{Declaration, Environment}
+use Rattle.snesl_values.specs.Inputs.{Declaration}
 use Rattle.snesl_evaluation.specs.Eval.{Columns as Sequences}
-use Rattle.snesl_types.specs.Contexts.{Context}
-use Rattle.flow_base.specs.Columns.{Columns}
-use Rattle.flow_rows.specs.Lists.{each}
-use Rattle.flow_rows.specs.Decoded.{a_seq_of}
-use Rattle.flow_plans.specs.Plans.{run}
-use Rattle.snesl_translation.specs.Wires.{Bound}
-use Rattle.snesl_translation.specs.Makings.{Making}
 use Rattle.snesl_translation.specs.FreeNames.{Names, without}
-use Rattle.snesl_translation.specs.Translation.{Sources}
-use Rattle.snesl_translation.specs.Carrying.{Carries, Controls}
-use Rattle.snesl_translation.specs.Meaning.{Bears}
 
 -- names but for those of these items
 abbrev pub without_items : List Declaration → Names → Names
@@ -24,25 +13,3 @@ without_items (item ∷ items) names = without item.0 (without_items items names
 -- a name with one more sequence at each instance
 abbrev pub with_column : List ℕ → List (List Value) → List Sequences → List Sequences
 with_column name groups all = map (λ p. (name, p.0) ∷ p.1) (zip groups all)
-
--- the sources have the names of the items, and carry at the instances the sequences of these
-abbrev pub SourcesCarry : Columns → Sources → List Declaration → List Sequences → Type 0
-SourcesCarry streams [] [] all = all ≡ replicate (length all) []
-SourcesCarry streams (source ∷ sources) (item ∷ items) all =
-    (groups : List (List Value)) × (others : List Sequences) × (all ≡ with_column item.0 groups others) × (length groups ≡ length others)
-    × (source.0 ≡ item.0) × Carries streams source.1 (seq item.1) (map a_seq_of groups) × SourcesCarry streams sources items others
-SourcesCarry streams _ _ all = ⊥
-
--- where there are sequences, the steps make streams that carry these; where there are none, they do not run
-abbrev pub SourcesGo : Columns → List Declaration → Making Sources → Option (List Sequences) → Type 0
-SourcesGo streams items making (Some all) =
-    (more : Columns) × (run making.steps streams ≡ Some (streams ++ more)) × (making.next ≡ length (streams ++ more))
-    × SourcesCarry (streams ++ more) making.given items all
-SourcesGo streams items making None = run making.steps streams ≡ None
-
--- the same as `Means` of the sources of binders
-abbrev pub SourcesMean : (Bound → (control next : ℕ) → Making Sources) → (Environment → Option Sequences) → Names → Context → List Declaration → Type 0
-SourcesMean translated columns names context items =
-    (streams : Columns) (bound : Bound) (control : ℕ) (environments : List Environment)
-    → Bears streams bound names context environments → Controls streams control (length environments)
-    → SourcesGo streams items (translated bound control (length streams)) (each columns environments)

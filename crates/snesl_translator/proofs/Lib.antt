@@ -1,3 +1,4 @@
+pub mod Expressions
 pub mod Declared
 pub mod Makings
 pub mod Listed

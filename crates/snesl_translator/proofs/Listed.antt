@@ -10,7 +10,8 @@ use Rattle.snesl_translation.specs.Wires.{Wires}
 use Rattle.snesl_translation.specs.Makings.{Making, done, and_then}
 use Rattle.snesl_scopes.specs.declared.scope.Scope.{Scope}
 use Rattle.snesl_translator.specs.declared.translator.Setting.{Setting}
-use Rattle.snesl_translator.specs.Translated.{all_in, binders_in, tr_in}
+use Rattle.snesl_translator.specs.Translated.{all_in, binders_in}
+use Rattle.snesl_translator.proofs.Expressions.{tr_in}
 
 abbrev pub made_all : {A B : Type 0} → (A → ℕ → Making B) → List A → ℕ → Making (List B)
 made_all one [] next = done [] next

@@ -22,10 +22,6 @@ use Rattle.snesl_translator.specs.Rows.{Opened, each_opened}
 abbrev pub bodies_in : Dialect → Setting → Bodies
 bodies_in dialect setting = bodies_of dialect setting.text.now (map declaration_of setting.functions.now)
 
--- the steps of an expression, from a stream's number on
-abbrev pub tr_in : Dialect → Setting → Scope → Tree → (control next : ℕ) → Making Wires
-tr_in dialect setting scope tree control next = tr dialect setting.text.now (bodies_in dialect setting) tree (bound_of scope) control next
-
 -- the steps of an expression behind these
 abbrev pub translated : Steps → Setting → Scope → Tree → ℕ → Making Wires
 translated steps setting scope tree control =

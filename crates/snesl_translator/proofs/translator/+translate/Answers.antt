@@ -24,7 +24,8 @@ use Rattle.snesl_scopes.specs.Scopes.{bound_of}
 use Rattle.snesl_scopes.specs.declared.scope.Scope.{Scope}
 use Rattle.snesl_translator.specs.declared.translator.Setting.{Setting}
 use Rattle.snesl_translator.specs.Rows.{each_opened, rows_of, where_opened}
-use Rattle.snesl_translator.specs.Translated.{always_true, bodies_in, body_in, each_behind, filtered_in, further_in, single_in, tr_in, translated, where_behind, where_in}
+use Rattle.snesl_translator.specs.Translated.{always_true, bodies_in, body_in, each_behind, filtered_in, further_in, single_in, translated, where_behind, where_in}
+use Rattle.snesl_translator.proofs.Expressions.{tr_in}
 use Rattle.snesl_translator.proofs.Adding.{item_made, item_refused, items_made, none_made, then_adds}
 use Rattle.snesl_translator.proofs.Listed.{argument_in, arguments_listed, source_in, sources_listed}
 use Rattle.snesl_translator.proofs.Literals.{all_behind, further_behind, item_behind, item_not_behind}
