@@ -3,8 +3,8 @@ ghost use Rattle.std.specs.Prelude.{◌≡◌, ◌≤◌, [], ◌∷◌, ◌++�
 ghost use Rattle.std.specs.VecDeque.{deque_capacity};
 ghost use Rattle.std.specs.Io.Iter.{u64_saturate};
 
-use flow_messages::Msg;
 use flow_history::History;
+use flow_messages::Msg;
 use std::alloc::{AllocError, Global};
 use std::collections::VecDeque;
 

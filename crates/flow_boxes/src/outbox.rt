@@ -6,8 +6,8 @@ ghost use Rattle.flow_messages.specs.Signals.{signals, ended, orderly};
 ghost use Rattle.flow_messages.specs.declared.ends.Why.TheVariants.{Full, Closed};
 
 use crate::inbox::Inbox;
-use flow_messages::{Msg, Refused, Why};
 use flow_history::History;
+use flow_messages::{Msg, Refused, Why};
 use std::alloc::{AllocError, Global};
 use std::collections::VecDeque;
 use std::mem;

@@ -5,8 +5,8 @@ ghost use Rattle.flow_deal.specs.Deals.{share_of};
 
 use flow_boxes::Boxes;
 use flow_deal::share_of;
-use flow_messages::{CountedEnds, Table};
 use flow_graph::Edge;
+use flow_messages::{CountedEnds, Table};
 use flow_rings::Rings;
 
 /// The edges of a graph at rest: what was sent and received on them, and what they hold.

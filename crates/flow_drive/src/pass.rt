@@ -7,8 +7,8 @@ ghost use Rattle.flow_graph.specs.Visits.{HasAllEnds, Visits};
 
 use crate::over::is_over;
 use flow_base::Transducer;
-use flow_messages::WholeEnds;
 use flow_graph::Graph;
+use flow_messages::WholeEnds;
 use std::alloc::AllocError;
 
 /// What came of a pass.

@@ -11,8 +11,8 @@ ghost use Rattle.flow_drive.specs.Drives.{EndsMaximalRun};
 use crate::over::is_over;
 use crate::pass::pass_over;
 use flow_base::Transducer;
-use flow_messages::WholeEnds;
 use flow_graph::Graph;
+use flow_messages::WholeEnds;
 use std::alloc::{AllocError, Global};
 
 /// Visits all nodes in ascending order, with at most `chunk` steps each, until a whole pass moves nothing.

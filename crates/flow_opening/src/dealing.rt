@@ -13,8 +13,8 @@ use crate::opening::Opening;
 use crate::wires::wires_of;
 use flow_base::Transducer;
 use flow_deal::deal_nodes;
-use flow_messages::Ends;
 use flow_graph::{Graph, Placed};
+use flow_messages::Ends;
 use flow_shares::Share;
 use std::alloc::{AllocError, Global};
 

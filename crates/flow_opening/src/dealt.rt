@@ -1,8 +1,8 @@
 // What a graph that was dealt out is.
 use flow_base::Transducer;
-use flow_messages::Ends;
 use flow_graph::Layout;
 use flow_meetings::Wire;
+use flow_messages::Ends;
 use flow_shares::Share;
 
 /// A graph that was dealt out to shares.

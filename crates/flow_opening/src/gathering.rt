@@ -11,8 +11,8 @@ ghost use Rattle.flow_opening.specs.Settings.{Setting};
 
 use flow_base::Transducer;
 use flow_deal::gather;
-use flow_messages::Ends;
 use flow_graph::{Graph, Layout, Placed};
+use flow_messages::Ends;
 use flow_shares::Share;
 use std::alloc::{AllocError, Global};
 

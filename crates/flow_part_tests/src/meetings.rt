@@ -4,8 +4,8 @@ ghost use Rattle.std.specs.Prelude.{◌≡◌, ◌<◌, ℕ, true, length, slice
 use crate::messages::{is_message, message};
 use crate::opened::{lone, own_wire, wires};
 use flow_boxes::Boxes;
-use flow_messages::Msg;
 use flow_meetings::{Meeting, meet_all};
+use flow_messages::Msg;
 use flow_opening::{Opening, open_all};
 use flow_rings::Rings;
 use std::alloc::{AllocError, Global};

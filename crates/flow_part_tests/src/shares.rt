@@ -2,8 +2,8 @@
 ghost use Rattle.std.specs.Prelude.{◌≡◌, false, length, IfOk};
 ghost use Rattle.std.specs.List.{All};
 
-use flow_messages::Table;
 use flow_graph::Placed;
+use flow_messages::Table;
 use flow_rings::Rings;
 use flow_scalar::Source;
 use flow_shares::{Gate, NoGate, Share, pump};

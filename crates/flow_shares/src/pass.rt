@@ -6,8 +6,8 @@ ghost use Rattle.flow_graph.specs.Layouts.{AreSamePlaces};
 ghost use Rattle.flow_shares.specs.Shares.{HasItsEnds, AreApart, IsOwn, AreStuck, TakesMemory, HaveMoved, HaveMovedAndLost};
 
 use flow_base::Transducer;
-use flow_messages::Ends;
 use flow_graph::Placed;
+use flow_messages::Ends;
 use std::alloc::AllocError;
 
 /// Visits each node once, in order, with at most `chunk` steps each. Whether one made a step.

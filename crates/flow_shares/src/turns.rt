@@ -10,8 +10,8 @@ use crate::gate::Gate;
 use crate::pass::pass;
 use crate::share::Share;
 use flow_base::Transducer;
-use flow_messages::Ends;
 use flow_graph::Placed;
+use flow_messages::Ends;
 use std::alloc::AllocError;
 use std::thread;
 

@@ -4,8 +4,8 @@ ghost use Rattle.std.specs.Prelude.{◌≤◌, vec_len};
 ghost use Rattle.flow_graph.specs.Limits.{most_nodes};
 
 use crate::wires::{Wires, next_number, next_wires};
-use flow_messages::Kind;
 use flow_graph::MAX_NODES;
+use flow_messages::Kind;
 use flow_plans::{Operation, Step};
 use flow_values::kinds;
 use snesl_values::{Dialect, Refusal, Ty};

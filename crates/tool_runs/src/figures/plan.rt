@@ -5,8 +5,8 @@ ghost use Rattle.flow_graph.specs.Graphs.{states_of, states_so_far};
 ghost use Rattle.flow_graph.specs.Networks.{AreOpened};
 
 use flow_base::Node;
-use flow_messages::Kind;
 use flow_graph::{Edge, Graph, GraphBuilder};
+use flow_messages::Kind;
 use flow_nodes::StreamNode;
 use flow_scalar::{Binary, Const, Fork, Iota, Reduce, Sink, Source, Stream, UnitsOf};
 use snesl_operators::{BinaryOperator, Reduction, Scalar};
