@@ -2,8 +2,12 @@
 
 /// What a pump calls before each of its turns, in its own thread.
 pub trait Gate {
+    ghost use Rattle.std.specs.Prelude.{◌<◌};
+    ghost use Rattle.flow_shares.specs.Shares.{most_turns};
+
     /// The share of this number is about to make its turn of this number, counted from 0 in each pump.
-    fn turn(&self, share: usize, turn: usize);
+    fn turn(&self, share: usize, turn: usize)
+        requires { turn < most_turns };
 }
 
 /// A gate that does nothing.

@@ -1,5 +1,5 @@
 // Running a share: turn after turn.
-ghost use Rattle.std.specs.Prelude.{◌≡◌, ◌<◌, true, false, length, IfOk, OnErr};
+ghost use Rattle.std.specs.Prelude.{◌≡◌, ◌<◌, true, false, [], ◌∷◌, ◌++◌, length, IfOk, OnErr};
 ghost use Rattle.std.specs.List.{All};
 ghost use Rattle.flow_messages.specs.Ends.{SameEnds, SameTraffic};
 ghost use Rattle.flow_graph.specs.Layouts.{AreSamePlaces};
@@ -11,6 +11,7 @@ use crate::pass::pass;
 use crate::share::Share;
 use flow_base::Transducer;
 use flow_graph::Placed;
+use flow_history::History;
 use flow_messages::Ends;
 use std::alloc::AllocError;
 use std::thread;
@@ -101,6 +102,16 @@ struct Turns {
 }
 
 /// Makes turns until `idle_turns` in a row moved nothing, and at most [`MAX_TURNS`].
+// Calls the gate for the next turn. Its number is that of the turns made before it, which only proofs keep.
+fn begin_turn<G: Gate>(gate: &G, share: usize, turn: usize, made: &mut History<usize>)
+    requires few { turn < most_turns }
+    requires counted { turn ≡ length made.old.items }
+    ensures { made.new.items ≡ made.old.items ++ turn ∷ [] }
+{
+    gate.turn(share, turn);
+    *made = made.with(&turn);
+}
+
 ///
 /// An error where memory was refused to a node.
 fn take_turns<T: Transducer, E: Ends, G: Gate>(
@@ -137,7 +148,8 @@ fn take_turns<T: Transducer, E: Ends, G: Gate>(
     }
     let (mut idle, mut moved) = (0, false);
     for turn in 0..MAX_TURNS {
-        gate.turn(number, turn);
+        begin_turn(gate, number, turn, &mut made);
+    let mut made: History<usize> = History::new();
         if pass(nodes, ends, chunk)? {
             idle = 0;
             moved = true;

@@ -1,4 +1,4 @@
-use Rattle.std.proofs.Common.{inl, inr, refl, sym, ◌∙◌, arith}
+use Rattle.std.proofs.Common.{[], ◌∷◌, inl, inr, refl, sym, ◌∙◌, ap, length, arith, length-append}
 use Rattle.flow_base.proofs.Visits.{on_err}
 use Rattle.flow_shares.specs.Shares.{most_turns}
 use Rattle.flow_shares.proofs.Moves.{moved_none}
@@ -12,6 +12,7 @@ returns-then-is_empty-clause-moved g c = moved_none c.args.nodes.now.items (g.E.
 pub loop-turn-init : goal.loop-turn-init
 loop-turn-init g c = record {
   same = g.met.E.Ends.same_refl c.args.ends.now;
+  counted = ap length c.new-made.ensures;
   turned = turned_none c.args.nodes.now.items (g.E.Ends.view c.args.ends.now) c.args.idle_turns c.requires.idle;
   busy = λ h. cc;
   calm = λ h. record { sent = λ k. refl; received = λ k. refl };
@@ -51,6 +52,7 @@ loop-turn-preserved g c =
     let now = c.if-branch.idle in
     record {
       same = g.met.E.Ends.same_trans c.args.ends.now c.loop-turn.ends c.pass.new.ends c.loop-turn.invariant.same ensures.same;
+      counted = omega (arith, ap length c.begin_turn.ensures, length-append c.loop-turn.made.items (c.loop-turn.turn ∷ []), c.loop-turn.invariant.counted);
       turned = elim c.if-branch.branch [
         | then-branch w ↦ turned_next c.loop-turn.turn c.loop-turn.idle c.args.idle_turns c.args.nodes.now.items c.loop-turn.nodes.items (view c.args.ends.now) (view c.loop-turn.ends) c.loop-turn.invariant.turned c.pass.new.nodes.items (view c.pass.new.ends) ensures.places ensures.ends ensures.moved c.in_ok-pass.field-0 ensures.busy ensures.stuck
             now (omega (arith, w.idle-is, c.requires.idle)) (inl (w.if-branch.true, w.idle-is))
