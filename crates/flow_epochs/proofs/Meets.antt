@@ -23,17 +23,16 @@ use Rattle.flow_opening.proofs.Lists.{all_zipped}
 use Rattle.flow_epochs.specs.Epochs.{writer_rings, AreOfOneGraph, HaveMetAll, AreMet}
 use Rattle.flow_epochs.proofs.Lists.{count_dealt, count_ends, view_of_ends, same_count, same_nodes}
 
--- ends that lost no certainty did not, whatever they were part of
-pub zip_kept : {A : Type 0} (own : A → Rings) (parts : List A) (ends now : List Rings) → ends ≡ map own parts → length now ≡ length ends
-    → ((k : ℕ) (d : Rings) → k < length ends → Kept (ends_of (get_or ends k d)) (ends_of (get_or now k d))) → AllZip (λ part mine. Kept (ends_of (own part)) (ends_of mine)) parts now
-zip_kept {A} own parts ends now is same kept = all_zipped _ parts now (same ∙ long) each
+-- what the ends are to those that they were, they are whatever those were part of
+pub zip_parts : {A : Type 0} (R : Rings → Rings → Type 0) (own : A → Rings) (parts : List A) (ends now : List Rings) → ends ≡ map own parts → length now ≡ length ends
+    → ((k : ℕ) (d : Rings) → k < length ends → R (get_or ends k d) (get_or now k d)) → AllZip (λ part mine. R (own part) mine) parts now
+zip_parts {A} R own parts ends now is same holds = all_zipped _ parts now (same ∙ long) each
   where
     long : length ends ≡ length parts
     long = ap length is ∙ length-map parts own
 
-    each : (k : ℕ) (p : A) (b : Rings) → k < length parts → Kept (ends_of (own (get_or parts k p))) (ends_of (get_or now k b))
-    each k p b l =
-        subst (λ (a : Rings). Kept (ends_of a) (ends_of (get_or now k b))) (ap (λ xs. get_or xs k b) is ∙ get_or-map own parts k p b l) (kept k b (omega (arith, l, long)))
+    each : (k : ℕ) (p : A) (b : Rings) → k < length parts → R (own (get_or parts k p)) (get_or now k b)
+    each k p b l = subst (λ (a : Rings). R a (get_or now k b)) (ap (λ xs. get_or xs k b) is ∙ get_or-map own parts k p b l) (holds k b (omega (arith, l, long)))
 
 module _ {X : Type 0} {t : Ghosts X} {u : EndsGhosts Rings} (setting : Setting t) (shares : List (Share X Rings t u)) (graph : AreOfOneGraph setting shares) where
   -- the shares of the writer and the reader of edge e

@@ -1,7 +1,7 @@
 // Shares without their ends, while these meet.
 ghost use Rattle.std.specs.Prelude.{◌≡◌, map, IfOk};
 ghost use Rattle.std.specs.List.{AllZip};
-ghost use Rattle.flow_rings.specs.Rings.{Kept, ends_of};
+ghost use Rattle.flow_rings.specs.Rings.{Kept, SameRings, ends_of};
 ghost use Rattle.flow_shares.specs.Lending.{body_of};
 ghost use Rattle.flow_opening.specs.Deals.{ends_in};
 
@@ -34,6 +34,7 @@ pub(crate) fn put_together<T: Transducer + Drop>(
     lenders: Vec<Lender<T, Rings>>,
     ends: Vec<Rings>,
 ) -> Result<Vec<Share<T, Rings>>, AllocError>
+    requires same { AllZip (λ lender own. SameRings lender.share.value.ends own) lenders.items ends.items }
     requires kept { AllZip (λ lender own. Kept (ends_of lender.share.value.ends) (ends_of own)) lenders.items ends.items }
     ensures bodies { IfOk result (λ shares. map (λ share. body_of share) shares.items ≡ map (λ lender. body_of lender.share.value) lenders.items) }
     ensures ends { IfOk result (λ shares. ends_in shares.items ≡ ends.items) }

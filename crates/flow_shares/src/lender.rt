@@ -55,6 +55,7 @@ impl<T: Transducer, E: Ends> Share<T, E> {
 impl<T: Transducer, E: Ends> Lender<T, E> {
     /// The share as it was, with these ends: those that it lent, on which nothing was put or taken since.
     pub fn take_back(self, ends: E) -> Share<T, E>
+        requires same { E.same self.share.value.ends ends }
         requires ends { SameEnds (E.view self.share.value.ends) (E.view ends) }
         requires traffic { SameTraffic (E.view self.share.value.ends) (E.view ends) }
         ensures body { body_of result ≡ body_of self.share.value }

@@ -1,10 +1,10 @@
 use Rattle.std.proofs.Common.{◌≡◌, length, map, refl, sym, ◌∙◌, ap, subst, arith}
 use Rattle.std.specs.List.{AllZip}
-use Rattle.flow_rings.specs.Rings.{Kept, ends_of}
+use Rattle.flow_rings.specs.Rings.{Kept, SameRings, ends_of}
 use Rattle.flow_shares.specs.Lending.{body_of}
 use Rattle.flow_opening.proofs.Lists.{mapped_twice, written_back}
 use Rattle.flow_epochs.proofs.Lists.{two_of_ok}
-use Rattle.flow_epochs.proofs.Meets.{are_met, zip_kept}
+use Rattle.flow_epochs.proofs.Meets.{are_met, zip_parts}
 use Rattle.flow_epochs.proofs.meet.meet.Goals as goal
 
 pub put_together-requires : goal.put_together-requires
@@ -17,7 +17,9 @@ put_together-requires g c =
     let taken = is ∙ c.in_ok-lenders.ensures.ends ∙ ap (map (λ share. share.ends)) (sym c.in_ok-lenders.ensures.lenders) ∙ mapped_twice (λ share. share.ends) (λ lender. lender.share.value) lenders in
     let back = written_back now c.in_ok-lenders.ends.items c.in_ok-lenders.ends.len (even ∙ ap length is) (omega (arith, c.in_ok-lenders.ends.ok.0)) in
     record {
-      kept = subst (λ l. AllZip (λ lender own. Kept (ends_of lender.share.value.ends) (ends_of own)) lenders l) (sym back) (zip_kept (λ lender. lender.share.value.ends) lenders ends now taken even c.meet_all.ensures.kept);
+      same = subst (λ l. AllZip (λ lender own. SameRings lender.share.value.ends own) lenders l) (sym back) (zip_parts SameRings (λ lender. lender.share.value.ends) lenders ends now taken even c.meet_all.ensures.same);
+      kept = subst (λ l. AllZip (λ lender own. Kept (ends_of lender.share.value.ends) (ends_of own)) lenders l) (sym back)
+          (zip_parts (λ a b. Kept (ends_of a) (ends_of b)) (λ lender. lender.share.value.ends) lenders ends now taken even c.meet_all.ensures.kept);
     }
 
 pub returns : goal.returns

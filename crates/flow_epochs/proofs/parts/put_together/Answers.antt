@@ -1,6 +1,6 @@
 use Rattle.std.proofs.Common.{map, ap, arith}
 use Rattle.std.proofs.lemmas.Grind.{common_steps}
-use Rattle.flow_rings.specs.Rings.{Kept, ends_of}
+use Rattle.flow_rings.specs.Rings.{Kept, SameRings, ends_of}
 use Rattle.flow_shares.specs.Lending.{body_of}
 use Rattle.flow_epochs.proofs.Pushed.{nothing_made, goes_over_as, first_and_rest}
 use Rattle.flow_epochs.proofs.parts.put_together.Goals as goal
@@ -25,7 +25,9 @@ loop-lender-preserved g c =
     let is = c.in-Some.ensures.steps.0 in
     let are = c.in-Some-next.ensures.items in
     let kept = first_and_rest (λ lender own. Kept (ends_of lender.share.value.ends) (ends_of own)) left rest ends others lender own is are was.kept in
+    let same = first_and_rest (λ lender own. SameRings lender.share.value.ends own) left rest ends others lender own is are was.same in
     record {
+      same = same.1;
       kept = kept.1;
       bodies = goes_over_as (λ share. body_of share) made now share (map (λ lender. body_of lender.share.value) left) (map (λ lender. body_of lender.share.value) rest) (body_of lender.share.value)
           (map (λ lender. body_of lender.share.value) c.args.lenders.items) c.push_reserved.ensures.items c.take_back.ensures.body (ap (map (λ lender. body_of lender.share.value)) is) was.bodies;

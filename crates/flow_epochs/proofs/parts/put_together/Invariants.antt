@@ -1,7 +1,7 @@
 use Rattle.std.specs.Prelude.{◌≡◌, ◌+◌, ◌≤◌, ◌++◌, map, length}
 use Rattle.std.specs.List.{AllZip}
 use Rattle.std.specs.Vec.{vec_capacity}
-use Rattle.flow_rings.specs.Rings.{Kept, ends_of}
+use Rattle.flow_rings.specs.Rings.{Kept, SameRings, ends_of}
 use Rattle.flow_shares.specs.Lending.{body_of}
 use Rattle.flow_opening.specs.Deals.{ends_in}
 use Rattle.flow_epochs.proofs.parts.put_together.Given as goal
@@ -12,6 +12,7 @@ invariant-loop-lender g l =
     let own = l.ends.rest.items in
     let made = l.shares.items in
     record {
+      same : AllZip (λ lender ends. SameRings lender.share.value.ends ends) left own;
       kept : AllZip (λ lender ends. Kept (ends_of lender.share.value.ends) (ends_of ends)) left own;
       bodies : map (λ share. body_of share) made ++ map (λ lender. body_of lender.share.value) left ≡ map (λ lender. body_of lender.share.value) l.fn.lenders.items;
       ends : ends_in made ++ own ≡ l.fn.ends.items;
