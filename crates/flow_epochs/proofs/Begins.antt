@@ -1,5 +1,8 @@
 -- Shares to which a graph was just dealt out are of one graph, and nothing was sent or received on its edges.
-use Rattle.std.proofs.Common.{◌≡◌, ℕ, ◌<◌, List, [], length, get_or, sym, ◌∙◌, ap, subst, arith}
+use Rattle.std.proofs.Common.{◌≡◌, ◌==◌, ℕ, ◌<◌, true, false, List, [], length, get_or, sym, ◌∙◌, ap, subst, arith}
+use Rattle.std.proofs.lemmas.Bool.{eqb-true}
+use Rattle.std.proofs.lemmas.List.{get_or-map}
+use Rattle.flow_messages.specs.Tables.{at_line}
 use Rattle.flow_messages.specs.declared.ends.Ends.{Ghosts as EndsGhosts}
 use Rattle.flow_base.specs.declared.transducer.Transducer.{Ghosts}
 use Rattle.flow_graph.specs.declared.edge.Edge.{Edge}
@@ -8,6 +11,7 @@ use Rattle.flow_graph.specs.Edges.{edge_at}
 use Rattle.flow_graph.specs.Graphs.{edges_of}
 use Rattle.flow_graph.specs.Layouts.{nodes_of}
 use Rattle.flow_rings.specs.declared.rings.Rings.{Rings}
+use Rattle.flow_rings.proofs.RingLines.{at_line-there}
 use Rattle.flow_meetings.specs.declared.everywhere.Wire.{Wire}
 use Rattle.flow_meetings.specs.RingMeetings.{RingsJoin, ring_places}
 use Rattle.flow_deal.specs.Deals.{share_of}
@@ -25,6 +29,12 @@ use Rattle.flow_opening.proofs.More.{writes_there, reads_there}
 use Rattle.flow_epochs.specs.Epochs.{moved_in, AreOfOneGraph}
 use Rattle.flow_epochs.proofs.Lists.{count_ends, view_of_ends}
 use Rattle.flow_epochs.proofs.Meets.{writer_is_share, reader_is_share}
+
+-- a wire that names share s is there where an end is
+names : (f : Wire → ℕ) (wires : List Wire) (s e : ℕ) (w : Wire) → at_line (λ wire. f wire == s) wires e false ≡ true → (e < length wires) × (f (get_or wires e w) ≡ s)
+names f wires s e w is =
+    let inside : e < length wires = at_line-there (λ wire. f wire == s) wires e is in
+    (inside, eqb-true (f (get_or wires e w)) s (sym (get_or-map (λ wire. f wire == s) wires e w false inside) ∙ is))
 
 module _ {X : Type 0} {t : Ghosts X} {u : EndsGhosts Rings} (graph : Graph X t) (threads : ℕ) (share : List ℕ) (capacity : ℕ) (dealt : Dealt X Rings t u)
     (is : IsDealt RingsJoin ring_places graph threads share capacity dealt) where
@@ -56,6 +66,26 @@ module _ {X : Type 0} {t : Ghosts X} {u : EndsGhosts Rings} (graph : Graph X t) 
   wire : (e : ℕ) → e < length edges → e < length wires
   wire e l = omega (arith, l, is.wires.count)
 
+  -- the ends of share s are fresh
+  fresh_at : (s : ℕ) → s < length shares → HasFreshEnds wires capacity s (view_at shares s)
+  fresh_at s l =
+      let inside : s < length rings = omega (arith, l, count_ends shares) in
+      let d = any_of rings s inside in
+      subst (λ v. HasFreshEnds wires capacity s v) (sym (view_of_ends shares s d l)) (is.ends.fresh s d inside)
+
+  -- and only those that the wires name it for
+  only_writes : (s e : ℕ) → s < length shares → (view_at shares s).writes e ≡ true → (e < length edges) × (s ≡ writer e)
+  only_writes s e l there =
+      let named = names (λ (wire : Wire). wire.writer) wires s e none (sym ((fresh_at s l).writes e) ∙ there) in
+      let inside : e < length edges = omega (arith, named.0, is.wires.count) in
+      (inside, sym named.1 ∙ is.wires.writers e none inside)
+
+  only_reads : (s e : ℕ) → s < length shares → (view_at shares s).reads e ≡ true → (e < length edges) × (s ≡ reader e)
+  only_reads s e l there =
+      let named = names (λ (wire : Wire). wire.reader) wires s e none (sym ((fresh_at s l).reads e) ∙ there) in
+      let inside : e < length edges = omega (arith, named.0, is.wires.count) in
+      (inside, sym named.1 ∙ is.wires.readers e none inside)
+
   pub dealt_graph : AreOfOneGraph setting shares
   dealt_graph = record {
     deals = as_given share (nodes_of graph) (nodes_in shares) is.nodes;
@@ -63,18 +93,13 @@ module _ {X : Type 0} {t : Ghosts X} {u : EndsGhosts Rings} (graph : Graph X t) 
         subst (λ i. RingsJoin (get_or rings i d) (get_or rings (reader e) d) e) (is.wires.writers e none l)
         (subst (λ j. RingsJoin (get_or rings (get_or wires e none).writer d) (get_or rings j d) e) (is.wires.readers e none l) (is.ends.joined e none d (wire e l)));
     capacity = λ e d l. subst (λ i. ring_places (get_or rings i d) e ≡ capacity) (is.wires.writers e none l) (is.ends.places e none d (wire e l));
+    only_writers = only_writes;
+    only_readers = only_reads;
   }
 
   -- memory was refused to none of them
   pub dealt_fed : AreFed shares
   dealt_fed s d l = (is.new.each s d l).starved
-
-  -- the ends of share s are fresh
-  fresh_at : (s : ℕ) → s < length shares → HasFreshEnds wires capacity s (view_at shares s)
-  fresh_at s l =
-      let inside : s < length rings = omega (arith, l, count_ends shares) in
-      let d = any_of rings s inside in
-      subst (λ v. HasFreshEnds wires capacity s v) (sym (view_of_ends shares s d l)) (is.ends.fresh s d inside)
 
   -- nothing was sent or received on edge e
   none_sent : (e : ℕ) → e < length edges → (joined_view share edges (view_at shares)).sent e ≡ []

@@ -7,3 +7,4 @@ pub mod Whole
 pub mod Few
 pub mod Begins
 pub mod Gathers
+pub mod FirstWires

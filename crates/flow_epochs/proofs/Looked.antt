@@ -65,6 +65,14 @@ module _ {X : Type 0} {t : Ghosts X} {u : EndsGhosts Rings} (same_is : (a b : Ri
           joins-kept (get_or (ends_in shares) (writer setting shares graph e) b) (get_or (ends_in after) (writer setting shares graph e) b) (get_or (ends_in shares) (reader setting shares graph e) b) (get_or (ends_in after) (reader setting shares graph e) b) e
           (graph.joined e b l) (ends _ b (writer_is_share setting shares graph e l)) (ends _ b (reader_is_share setting shares graph e l));
       capacity = λ e b l. rings_keep_places _ _ (ends _ b (writer_is_share setting shares graph e l)) e ∙ graph.capacity e b l;
+      only_writers = λ s e l there. (
+          let h : s < length shares = omega (arith, l, looked.count) in
+          graph.only_writers s e h (sym ((kept s h).ends.writes e) ∙ there)
+          );
+      only_readers = λ s e l there. (
+          let h : s < length shares = omega (arith, l, looked.count) in
+          graph.only_readers s e h (sym ((kept s h).ends.reads e) ∙ there)
+          );
     };
     met = λ e l.
         met_kept _ _ _ _ setting.capacity e (met e l) (kept (writer setting shares graph e) (writer_is_share setting shares graph e l)) (kept (reader setting shares graph e) (reader_is_share setting shares graph e l));

@@ -97,13 +97,6 @@ module _ {X : Type 0} {t : Ghosts X} {u : EndsGhosts Rings} (setting : Setting t
           subst (λ i. Q (get_or now i d) (get_or now (reader e) d)) (are.writers e none l)
           (subst (λ j. Q (get_or now (get_or wires e none).writer d) (get_or now j d)) (are.readers e none l) q)
 
-      met_graph : AreOfOneGraph setting after
-      met_graph = record {
-        deals = subst (AreDealt setting.share setting.nodes) (sym (same_nodes shares after bodies)) graph.deals;
-        joined = λ e d l. subst (λ es. RingsJoin (get_or es (writer e) d) (get_or es (reader e) d) e) (sym put) (of_wire (λ a b. RingsJoin a b e) e d l (joined e none d (wire e l)));
-        capacity = λ e d l. ap (λ es. ring_places (get_or es (writer e) d) e) put ∙ capacity_at e d l;
-      }
-
       -- what share s sees now, and what it saw
       now_sees : (s : ℕ) (d : Rings) → s < length shares → view_at after s ≡ ends_of (get_or now s d)
       now_sees s d l =
@@ -131,6 +124,21 @@ module _ {X : Type 0} {t : Ghosts X} {u : EndsGhosts Rings} (setting : Setting t
           let d = some s l in
           subst (λ a. Kept a (view_at after s)) (sym (saw s d l))
           (subst (λ b. Kept (ends_of (get_or ends s d)) b) (sym (now_sees s d l)) (kept s d (omega (arith, l, count))))
+
+      met_graph : AreOfOneGraph setting after
+      met_graph = record {
+        deals = subst (AreDealt setting.share setting.nodes) (sym (same_nodes shares after bodies)) graph.deals;
+        joined = λ e d l. subst (λ es. RingsJoin (get_or es (writer e) d) (get_or es (reader e) d) e) (sym put) (of_wire (λ a b. RingsJoin a b e) e d l (joined e none d (wire e l)));
+        capacity = λ e d l. ap (λ es. ring_places (get_or es (writer e) d) e) put ∙ capacity_at e d l;
+        only_writers = λ s e l there. (
+            let h : s < length shares = omega (arith, l, same_count shares after bodies) in
+            graph.only_writers s e h (sym ((kept_at s h).ends.writes e) ∙ there)
+            );
+        only_readers = λ s e l there. (
+            let h : s < length shares = omega (arith, l, same_count shares after bodies) in
+            graph.only_readers s e h (sym ((kept_at s h).ends.reads e) ∙ there)
+            );
+      }
 
       pub are_met : AreMet setting shares after
       are_met = record {

@@ -1,7 +1,7 @@
 -- What pumps of all shares at once make of their graph.
 use Rattle.std.proofs.Common.{◌≡◌, ℕ, ◌+◌, ◌<◌, ◌≤◌, Bool, true, false, List, length, get_or, inl, inr, refl, sym, ◌∙◌, ap, subst, arith}
 use Rattle.kahn.specs.Processes.{Does}
-use Rattle.flow_messages.specs.Ends.{View, SameTraffic}
+use Rattle.flow_messages.specs.Ends.{View, SameEnds, SameTraffic}
 use Rattle.flow_messages.specs.declared.ends.Ends.{Ghosts as EndsGhosts}
 use Rattle.flow_base.specs.Transducers.{BehaviourLaws}
 use Rattle.flow_base.specs.declared.transducer.Transducer.{Ghosts}
@@ -55,15 +55,6 @@ module _ {X : Type 0} {t : Ghosts X} {u : EndsGhosts Rings} (same_is : (a b : Ri
   pub pumped_deals : AreDealt setting.share setting.nodes (nodes_in back)
   pumped_deals = dealt_later setting.share setting.nodes (nodes_in shares) (nodes_in back) graph.deals count_both pumped_places
 
-  pub pumped_graph : AreOfOneGraph setting back
-  pumped_graph = record {
-    deals = pumped_deals;
-    joined = λ e b l.
-        joins-kept (get_or (ends_in shares) (writer setting shares graph e) b) (get_or (ends_in back) (writer setting shares graph e) b) (get_or (ends_in shares) (reader setting shares graph e) b) (get_or (ends_in back) (reader setting shares graph e) b) e
-        (graph.joined e b l) (pumped_ends _ b (writer_is_share setting shares graph e l)) (pumped_ends _ b (reader_is_share setting shares graph e l));
-    capacity = λ e b l. rings_keep_places _ _ (pumped_ends _ b (writer_is_share setting shares graph e l)) e ∙ graph.capacity e b l;
-  }
-
   abbrev some : (s : ℕ) → s < length shares → Share X Rings t u
   some s l = any_of shares s l
 
@@ -71,6 +62,27 @@ module _ {X : Type 0} {t : Ghosts X} {u : EndsGhosts Rings} (same_is : (a b : Ri
   of_views : (Q : View → View → Type 0) (s : ℕ) (l : s < length shares) → Q (u.view (get_or shares s (some s l)).ends) (u.view (get_or back s (some s l)).ends) → Q (view_at shares s) (view_at back s)
   of_views Q s l q =
       subst (λ a. Q a (view_at back s)) (sym (view_is shares s (some s l) l)) (subst (λ b. Q (u.view (get_or shares s (some s l)).ends) b) (sym (view_is back s (some s l) (low s l))) q)
+
+  -- each share has the ends that it had
+  pumped_same : (s : ℕ) → s < length shares → SameEnds (view_at shares s) (view_at back s)
+  pumped_same s l = of_views SameEnds s l (each s (some s l) l).ends
+
+  pub pumped_graph : AreOfOneGraph setting back
+  pumped_graph = record {
+    deals = pumped_deals;
+    joined = λ e b l.
+        joins-kept (get_or (ends_in shares) (writer setting shares graph e) b) (get_or (ends_in back) (writer setting shares graph e) b) (get_or (ends_in shares) (reader setting shares graph e) b) (get_or (ends_in back) (reader setting shares graph e) b) e
+        (graph.joined e b l) (pumped_ends _ b (writer_is_share setting shares graph e l)) (pumped_ends _ b (reader_is_share setting shares graph e l));
+    capacity = λ e b l. rings_keep_places _ _ (pumped_ends _ b (writer_is_share setting shares graph e l)) e ∙ graph.capacity e b l;
+    only_writers = λ s e l there. (
+        let h : s < length shares = omega (arith, l, count) in
+        graph.only_writers s e h (sym ((pumped_same s h).writes e) ∙ there)
+        );
+    only_readers = λ s e l there. (
+        let h : s < length shares = omega (arith, l, count) in
+        graph.only_readers s e h (sym ((pumped_same s h).reads e) ∙ there)
+        );
+  }
 
   -- and of share s later, what holds of what it sees
   of_ends : (Q : View → View → Type 0) (s : ℕ) (d : Share X Rings t u) (l : s < length shares) → Q (view_at shares s) (view_at back s) → Q (u.view (get_or shares s d).ends) (u.view (get_or back s d).ends)

@@ -1,5 +1,5 @@
 -- Shares over rings before and after an epoch.
-use Rattle.std.specs.Prelude.{◌≡◌, ℕ, ◌<◌, List, length, map, Some, slice_index_or}
+use Rattle.std.specs.Prelude.{◌≡◌, ℕ, ◌<◌, true, List, length, map, Some, slice_index_or}
 use Rattle.kahn.specs.Configurations.{Configuration, IsSound}
 use Rattle.kahn.specs.Runs.{AtRest}
 use Rattle.flow_messages.specs.Signals.{Signal}
@@ -49,6 +49,11 @@ module _ {X : Type 0} {t : Ghosts X} {u : EndsGhosts Rings} where
       pub deals : AreDealt setting.share setting.nodes (nodes_in shares)
       pub joined : (e : ℕ) (d : Rings) → e < length setting.edges → RingsJoin (writer_rings e d) (reader_rings e d) e
       pub capacity : (e : ℕ) (d : Rings) → e < length setting.edges → ring_places (writer_rings e d) e ≡ setting.capacity
+      -- and no share has an end but those of its own nodes' edges
+      pub only_writers : (s e : ℕ) → s < length shares → (view_at shares s).writes e ≡ true
+          → (e < length setting.edges) × (s ≡ share_of setting.share (edge_at setting.edges e).writer)
+      pub only_readers : (s e : ℕ) → s < length shares → (view_at shares s).reads e ≡ true
+          → (e < length setting.edges) × (s ≡ share_of setting.share (edge_at setting.edges e).reader)
 
     -- the ends of every edge have met
     abbrev pub HaveMetAll : Type 0

@@ -1,2 +1,3 @@
 pub mod Epochs
 pub mod Few
+pub mod Wires

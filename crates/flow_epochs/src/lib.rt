@@ -12,6 +12,8 @@ mod epochs;
 mod meet;
 mod parts;
 mod theorems;
+mod wires;
 
 pub use epochs::{epoch, run_epochs};
 pub use theorems::epochs_are_few;
+pub use wires::wires_of_shares;

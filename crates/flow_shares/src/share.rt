@@ -61,6 +61,13 @@ impl<T: Transducer, E: Ends> Share<T, E> {
         &self.nodes
     }
 
+    /// Its ends.
+    pub fn ends(&self) -> &E
+        ensures { result.now ≡ self.now.ends }
+    {
+        &self.ends
+    }
+
     /// Whether the last pump made all the turns that it may make, and did not come to rest.
     pub fn spent(&self) -> bool
         ensures { result ≡ self.now.spent }
