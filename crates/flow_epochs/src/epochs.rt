@@ -1,5 +1,6 @@
 // Epochs.
-ghost use Rattle.std.specs.Prelude.{◌+◌, ◌<◌, ◌≤◌, IfOk};
+ghost use Rattle.std.specs.Prelude.{◌≡◌, ◌+◌, ◌<◌, ◌≤◌, ◌⊎◌, IfOk};
+ghost use Rattle.flow_workers.specs.declared.error.WorkError.TheVariants.{NoThread};
 ghost use Rattle.flow_opening.specs.Open.{AreWires};
 ghost use Rattle.flow_opening.specs.Settings.{Setting, AreFed};
 ghost use Rattle.flow_epochs.specs.Epochs.{moved_in, AreLater, AreOfOneGraph, HaveMetAll, StandSound, StandAtRest, IsEpoch};
@@ -10,19 +11,20 @@ use flow_meetings::Wire;
 use flow_opening::{are_fed, are_stuck};
 use flow_rings::Rings;
 use flow_shares::{Gate, Share};
-use flow_workers::{WorkError, run_all};
+use flow_workers::{Start, WorkError, run_all};
 use std::alloc::Global;
 use std::sync::Arc;
 use std::thread::Threads;
 
 /// One epoch: the ends of every edge meet, all shares are pumped side by side, each in a worker, and the ends meet again.
 ///
-/// A share that starved comes back with the others. Refused as `NoThread` where a worker could not be started, and as
-/// `NoMemory` where memory was refused for a list; the shares are then let go.
+/// A share that starved comes back with the others. Refused as `NoThread` where a worker could not be started or `start`
+/// said no, and as `NoMemory` where memory was refused for a list; the shares are then let go.
 pub fn epoch<
     R: Threads,
     T: Transducer + Send + Drop + 'static,
     G: Gate + Send + Sync + Drop + 'static,
+    S: Start,
 >(
     rt: &R,
     alloc: Global,
@@ -31,6 +33,7 @@ pub fn epoch<
     chunk: usize,
     idle_turns: usize,
     gate: &Arc<G, Global>,
+    start: &mut S,
 ) -> Result<Vec<Share<T, Rings>>, WorkError>
     ghost setting: { Setting ⟦<T as Transducer>⟧ }
     requires some { 0 < chunk }
@@ -38,10 +41,11 @@ pub fn epoch<
     requires wires { AreWires setting.share setting.edges wires.now }
     requires graph { AreOfOneGraph setting shares.items }
     requires fed { AreFed shares.items }
-    ensures { IfOk result (λ back. IsEpoch setting shares.items back.items) }
+    ensures epoch { IfOk result (λ back. IsEpoch setting shares.items back.items) }
+    ensures refused { S.refused start.new → S.refused start.old ⊎ (result ≡ Err NoThread) }
 {
     let met = meet(alloc, shares, wires)?;
-    let back = run_all(rt, alloc, met, chunk, idle_turns, gate)?;
+    let back = run_all(rt, alloc, met, chunk, idle_turns, gate, start)?;
     let back = meet(alloc, back, wires)?;
     Ok(back)
 }
@@ -49,12 +53,13 @@ pub fn epoch<
 /// Runs shares in epochs, as long as a node can step where the ends of every edge have met. The shares, and how many epochs
 /// there were; the count stays at the greatest `u64`.
 ///
-/// Each epoch moves a message at least. Refused as `NoThread` where a worker could not be started, and as
-/// `NoMemory` where memory was refused, to a node too. The shares are then let go.
+/// Each epoch moves a message at least. Refused as `NoThread` where a worker could not be started or `start` said no, and
+/// as `NoMemory` where memory was refused, to a node too. The shares are then let go.
 pub fn run_epochs<
     R: Threads,
     T: Transducer + Send + Drop + 'static,
     G: Gate + Send + Sync + Drop + 'static,
+    S: Start,
 >(
     rt: &R,
     alloc: Global,
@@ -63,6 +68,7 @@ pub fn run_epochs<
     chunk: usize,
     idle_turns: usize,
     gate: &Arc<G, Global>,
+    start: &mut S,
 ) -> Result<(Vec<Share<T, Rings>>, u64), WorkError>
     ghost setting: { Setting ⟦<T as Transducer>⟧ }
     requires some { 0 < chunk }
@@ -78,6 +84,7 @@ pub fn run_epochs<
     ensures rest { IfOk result (λ made. StandAtRest setting made.0.items) }
     ensures least { IfOk result (λ made. moved_in setting shares.items < moved_in setting made.0.items → 0 < made.1) }
     ensures most { IfOk result (λ made. made.1 + moved_in setting shares.items ≤ moved_in setting made.0.items) }
+    ensures refused { S.refused start.new → S.refused start.old ⊎ (result ≡ Err NoThread) }
 {
     let mut shares = meet(alloc, shares, wires)?;
     let mut count: u64 = 0;
@@ -85,7 +92,7 @@ pub fn run_epochs<
         if are_stuck(&mut shares) {
             return Ok((shares, count));
         }
-        let back = epoch(rt, alloc, shares, wires, chunk, idle_turns, gate)?;
+        let back = epoch(rt, alloc, shares, wires, chunk, idle_turns, gate, start)?;
         if !are_fed(&back) {
             return Err(WorkError::NoMemory);
         }

@@ -1,9 +1,6 @@
 -- Shares to which a graph was just dealt out stand between two rounds: before the first.
 use Rattle.std.proofs.Common.{◌≡◌, ℕ, ◌<◌, true, List, [], length, get_or, refl, sym, ◌∙◌, ap, subst, arith}
 use Rattle.std.proofs.lemmas.List.{get_or-map, length-map}
-use Rattle.std.specs.Prelude.{Some, map}
-use Rattle.kahn.specs.Configurations.{start}
-use Rattle.kahn.specs.Runs.{Reaches}
 use Rattle.flow_messages.specs.Ends.{View}
 use Rattle.flow_messages.specs.declared.ends.Ends.{Ghosts as EndsGhosts}
 use Rattle.flow_base.specs.declared.transducer.Transducer.{Ghosts}
@@ -21,18 +18,17 @@ use Rattle.flow_boxes.specs.Rounds.{IsLinked}
 use Rattle.flow_meetings.specs.declared.everywhere.Wire.{Wire}
 use Rattle.flow_meetings.specs.Met.{Met, kept_refl}
 use Rattle.flow_meetings.specs.BoxMeetings.{BoxesJoin, box_places}
-use Rattle.flow_deal.specs.Deals.{share_of, AreDealt, AreJustDealt}
+use Rattle.flow_deal.specs.Deals.{share_of, AreDealt}
 use Rattle.flow_deal.proofs.Stays.{as_given}
 use Rattle.flow_shares.specs.declared.share.Share.{Share}
 use Rattle.flow_opening.specs.declared.dealt.Dealt.{Dealt}
 use Rattle.flow_opening.specs.Deals.{nodes_in, ends_in, IsDealt}
-use Rattle.flow_round_laws.specs.Joints.{boxes_at, views_of, writer_boxes, reader_boxes, HaveMet, AreStates}
-use Rattle.flow_round_laws.specs.RoundTheorems.{net_of, joint}
+use Rattle.flow_round_laws.specs.Joints.{views_of, writer_boxes, reader_boxes, HaveMet, AreStates}
 use Rattle.flow_round_laws.proofs.Parts.{any_of}
 use Rattle.flow_round_laws.proofs.Seats.{reader_inside, writer_inside}
 use Rattle.flow_round_laws.proofs.Meetings.{fresh_shares_start}
 use Rattle.flow_round_laws.proofs.Views.{sent_at, received_at}
-use Rattle.flow_opening.specs.Settings.{Setting, setting_of, AreFed}
+use Rattle.flow_opening.specs.Settings.{setting_of, AreFed}
 use Rattle.flow_opening.proofs.Lists.{total_none}
 use Rattle.flow_rounds.specs.Standing.{seen, AreLinked, boxes_of, moved_in, StandBetweenRounds}
 use Rattle.flow_rounds.proofs.Levels.{seen_at, have_met}

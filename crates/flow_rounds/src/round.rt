@@ -1,5 +1,6 @@
 // Rounds.
-ghost use Rattle.std.specs.Prelude.{◌≡◌, ◌+◌, ◌<◌, ◌≤◌, length, IfOk};
+ghost use Rattle.std.specs.Prelude.{◌≡◌, ◌+◌, ◌<◌, ◌≤◌, ◌⊎◌, length, IfOk};
+ghost use Rattle.flow_workers.specs.declared.error.WorkError.TheVariants.{NoThread};
 ghost use Rattle.flow_opening.specs.Open.{AreWires};
 ghost use Rattle.flow_opening.specs.Settings.{Setting, NoneCanStep};
 ghost use Rattle.flow_rounds.specs.Standing.{boxes_of, moved_in, StandBetweenRounds, RestBetweenRounds};
@@ -10,7 +11,7 @@ use flow_boxes::Boxes;
 use flow_meetings::Wire;
 use flow_opening::{are_fed, are_stuck};
 use flow_shares::{Gate, Share};
-use flow_workers::{WorkError, run_all};
+use flow_workers::{Start, WorkError, run_all};
 use std::alloc::Global;
 use std::sync::Arc;
 use std::thread::Threads;
@@ -18,12 +19,13 @@ use std::thread::Threads;
 /// Runs shares in rounds, as long as a node can step. The shares, and how many rounds there were; the count stays at the
 /// greatest `u64`.
 ///
-/// Each round moves a message at least. Refused as `NoThread` where a worker could not be started, and as `NoMemory` where
-/// memory was refused, to a node too. The shares are then let go.
+/// Each round moves a message at least. Refused as `NoThread` where a worker could not be started or `start` said no, and
+/// as `NoMemory` where memory was refused, to a node too. The shares are then let go.
 pub fn run_rounds<
     R: Threads,
     T: Transducer + Send + Drop + 'static,
     G: Gate + Send + Sync + Drop + 'static,
+    S: Start,
 >(
     rt: &R,
     alloc: Global,
@@ -32,6 +34,7 @@ pub fn run_rounds<
     chunk: usize,
     idle_turns: usize,
     gate: &Arc<G, Global>,
+    start: &mut S,
 ) -> Result<(Vec<Share<T, Boxes>>, u64), WorkError>
     ghost setting: { Setting ⟦<T as Transducer>⟧ }
     requires some { 0 < chunk }
@@ -42,6 +45,7 @@ pub fn run_rounds<
     ensures count { IfOk result (λ made. length made.0.items ≡ length shares.items) }
     ensures least { IfOk result (λ made. moved_in setting (boxes_of shares.items) < moved_in setting (boxes_of made.0.items) → 0 < made.1) }
     ensures most { IfOk result (λ made. made.1 + moved_in setting (boxes_of shares.items) ≤ moved_in setting (boxes_of made.0.items)) }
+    ensures refused { S.refused start.new → S.refused start.old ⊎ (result ≡ Err NoThread) }
 {
     let mut shares = shares;
     let mut count: u64 = 0;
@@ -49,13 +53,18 @@ pub fn run_rounds<
         if are_stuck(&mut shares) {
             return Ok((shares, count));
         }
-        shares = round(rt, alloc, shares, wires, chunk, idle_turns, gate)?;
+        shares = round(rt, alloc, shares, wires, chunk, idle_turns, gate, start)?;
         count = count.saturating_add(1);
     }
 }
 
 // One round: all shares are pumped side by side, and then the ends of all edges meet.
-fn round<R: Threads, T: Transducer + Send + Drop + 'static, G: Gate + Send + Sync + Drop + 'static>(
+fn round<
+    R: Threads,
+    T: Transducer + Send + Drop + 'static,
+    G: Gate + Send + Sync + Drop + 'static,
+    S: Start,
+>(
     rt: &R,
     alloc: Global,
     shares: Vec<Share<T, Boxes>>,
@@ -63,6 +72,7 @@ fn round<R: Threads, T: Transducer + Send + Drop + 'static, G: Gate + Send + Syn
     chunk: usize,
     idle_turns: usize,
     gate: &Arc<G, Global>,
+    start: &mut S,
 ) -> Result<Vec<Share<T, Boxes>>, WorkError>
     ghost setting: { Setting ⟦<T as Transducer>⟧ }
     requires some { 0 < chunk }
@@ -72,8 +82,9 @@ fn round<R: Threads, T: Transducer + Send + Drop + 'static, G: Gate + Send + Syn
     ensures stand { IfOk result (λ made. StandBetweenRounds setting made.items) }
     ensures moves { IfOk result (λ made. (NoneCanStep shares.items → ⊥) → moved_in setting (boxes_of shares.items) < moved_in setting (boxes_of made.items)) }
     ensures count { IfOk result (λ made. length made.items ≡ length shares.items) }
+    ensures refused { S.refused start.new → S.refused start.old ⊎ (result ≡ Err NoThread) }
 {
-    let back = run_all(rt, alloc, shares, chunk, idle_turns, gate)?;
+    let back = run_all(rt, alloc, shares, chunk, idle_turns, gate, start)?;
     if !are_fed(&back) {
         return Err(WorkError::NoMemory);
     }

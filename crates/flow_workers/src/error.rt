@@ -14,7 +14,7 @@ pub enum WorkError {
     /// Memory was refused for a list, or the gate has as many owners as it may.
     #[error("out of memory")]
     NoMemory,
-    /// A worker could not be started.
+    /// A worker could not be started, or the caller's [`Start`](crate::Start) said no.
     #[error("no thread could be started")]
     NoThread,
 }

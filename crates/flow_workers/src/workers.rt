@@ -1,9 +1,11 @@
 // Workers: threads, each of which pumps a share and gives it back.
-ghost use Rattle.std.specs.Prelude.{◌≡◌, ◌<◌, ℕ, false, map, length, slice_index_or, IfOk};
+ghost use Rattle.std.specs.Prelude.{◌≡◌, ◌<◌, ◌⊎◌, ℕ, false, map, length, slice_index_or, IfOk};
 ghost use Rattle.std.specs.List.{All};
 ghost use Rattle.flow_shares.specs.Pumps.{IsPumped};
+ghost use Rattle.flow_workers.specs.declared.error.WorkError.TheVariants.{NoThread};
 
 use crate::error::WorkError;
+use crate::start::Start;
 use flow_base::Transducer;
 use flow_messages::Ends;
 use flow_shares::{Gate, Share, pump};
@@ -26,24 +28,31 @@ impl<T: Transducer, E: Ends> Promise<Share<T, E>> for Pumped<T, E> {
 // A worker that was started and is still to be joined.
 type Worker<T, E> = PromisedHandle<Share<T, E>, Pumped<T, E>>;
 
-// Starts a worker for the share. A share for which none could be started is let go.
-fn start<
+// Starts a worker for the share, if it may. A share for which none could be started is let go.
+fn start_worker<
     R: Threads,
     T: Transducer + Send + Drop + 'static,
     E: Ends + Send + Drop + 'static,
     G: Gate + Send + Sync + Drop + 'static,
+    S: Start,
 >(
     rt: &R,
     share: Share<T, E>,
+    number: usize,
     chunk: usize,
     idle_turns: usize,
     gate: &Arc<G, Global>,
+    start: &mut S,
 ) -> Result<Worker<T, E>, WorkError>
     requires some { 0 < chunk }
     requires idle { 0 < idle_turns }
     requires fed { share.starved ≡ false }
-    ensures { IfOk result (λ worker. worker.promise.given.value ≡ share) }
+    ensures given { IfOk result (λ worker. worker.promise.given.value ≡ share) }
+    ensures refused { S.refused start.new → S.refused start.old ⊎ (result ≡ Err NoThread) }
 {
+    if !start.may_start(number) {
+        return Err(WorkError::NoThread);
+    }
     let gate = Arc::try_clone(gate)?;
     let promise = Pumped {
         given: Snapshot::of(&share),
@@ -73,6 +82,7 @@ fn start_all<
     T: Transducer + Send + Drop + 'static,
     E: Ends + Send + Drop + 'static,
     G: Gate + Send + Sync + Drop + 'static,
+    S: Start,
 >(
     rt: &R,
     alloc: Global,
@@ -80,15 +90,18 @@ fn start_all<
     chunk: usize,
     idle_turns: usize,
     gate: &Arc<G, Global>,
+    start: &mut S,
 ) -> Result<Vec<Worker<T, E>>, WorkError>
     requires some { 0 < chunk }
     requires idle { 0 < idle_turns }
     requires fed { All (λ share. share.starved ≡ false) shares.items }
-    ensures { IfOk result (λ workers. map (λ worker. worker.promise.given.value) workers.items ≡ shares.items) }
+    ensures given { IfOk result (λ workers. map (λ worker. worker.promise.given.value) workers.items ≡ shares.items) }
+    ensures refused { S.refused start.new → S.refused start.old ⊎ (result ≡ Err NoThread) }
 {
     let mut workers = Vec::with_capacity(alloc, shares.len())?;
     for share in shares {
-        match start(rt, share, chunk, idle_turns, gate) {
+        let number = workers.len();
+        match start_worker(rt, share, number, chunk, idle_turns, gate, start) {
             Ok(worker) => workers.push_reserved(worker),
             Err(refused) => {
                 join_all(rt, workers);
@@ -101,16 +114,18 @@ fn start_all<
 
 /// Runs each share in a worker of its own, all of them at once, and gives them back in order.
 ///
-/// All workers are started before any is joined, and one share gets a worker too. A worker that was started is joined
-/// whatever else fails, and its share is let go.
+/// All workers are started before any is joined, and one share gets a worker too. `start` is asked before each start.
+/// Refused as `NoThread` where it says no or a worker could not be started, and as `NoMemory` where memory was refused for
+/// a list, or the gate has as many owners as it may. The shares are then let go.
 ///
-/// No contract can say so, nor that each pump gets this `chunk`, these `idle_turns` and this gate, nor which error is
-/// answered: only a reader of the code sees it.
+/// A worker that was started is joined whatever else fails. No contract can say so: a test sees it. Nor can one say that
+/// each pump gets this `chunk`, these `idle_turns` and this gate: only a reader of the code sees it.
 pub fn run_all<
     R: Threads,
     T: Transducer + Send + Drop + 'static,
     E: Ends + Send + Drop + 'static,
     G: Gate + Send + Sync + Drop + 'static,
+    S: Start,
 >(
     rt: &R,
     alloc: Global,
@@ -118,15 +133,17 @@ pub fn run_all<
     chunk: usize,
     idle_turns: usize,
     gate: &Arc<G, Global>,
+    start: &mut S,
 ) -> Result<Vec<Share<T, E>>, WorkError>
     requires some { 0 < chunk }
     requires idle { 0 < idle_turns }
     requires fed { All (λ share. share.starved ≡ false) shares.items }
     ensures count { IfOk result (λ back. length back.items ≡ length shares.items) }
     ensures each { IfOk result (λ back. (k : ℕ) (d : _) → k < length shares.items → IsPumped (slice_index_or shares.items k d) (slice_index_or back.items k d)) }
+    ensures refused { S.refused start.new → S.refused start.old ⊎ (result ≡ Err NoThread) }
 {
     let mut back = Vec::with_capacity(alloc, shares.len())?;
-    for worker in start_all(rt, alloc, shares, chunk, idle_turns, gate)? {
+    for worker in start_all(rt, alloc, shares, chunk, idle_turns, gate, start)? {
         back.push_reserved(worker.join(rt));
     }
     Ok(back)

@@ -17,8 +17,8 @@ meet-requires-2 g c κs within =
     let wires : AreWires g.setting.share g.setting.edges c.args.wires.now = search rules in
     (search rules, (wires, pumped_graph (λ a b same. same) g.setting c.in_ok-met.met.items c.in_ok-back.back.items c.in_ok-back.ensures.count c.in_ok-back.ensures.each c.in_ok-met.ensures.graph))
 
-pub returns : goal.returns
-returns g c =
+pub returns-clause-epoch : goal.returns-clause-epoch
+returns-clause-epoch g c =
     let shares = c.args.shares.items in
     let mid = c.in_ok-met.met.items in
     let pumped = c.in_ok-back.back.items in

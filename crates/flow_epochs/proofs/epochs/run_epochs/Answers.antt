@@ -1,4 +1,6 @@
 use Rattle.std.proofs.Common.{◌≡◌, ◌++◌, length, take, drop, sym, ◌∙◌, ap, subst, arith, rules}
+use Rattle.flow_workers.specs.declared.error.WorkError.TheVariants.{NoThread}
+use Rattle.flow_workers.proofs.Refused.{none_refused}
 use Rattle.flow_opening.specs.Settings.{AreFed, NoneCanStep, AreLookedAt}
 use Rattle.flow_opening.proofs.Lists.{written_back}
 use Rattle.flow_epochs.specs.Epochs.{moved_in, AreLater, AreOfOneGraph, HaveMetAll, StandSound, StandAtRest, AreMet}
@@ -17,6 +19,7 @@ epochs-init g c =
     let fed : AreFed given = search rules in
     let same = moved_same s given now graph (met_traffic s given now met) in
     record {
+      asked = λ refused. refused;
       later = met_later s given now met;
       graph = met.graph;
       met = met.met;
@@ -27,7 +30,7 @@ epochs-init g c =
 
 pub epoch-requires : goal.epoch-requires
 epoch-requires g c κs within =
-    let bounds = c.requires.1.1.1 in
+    let bounds = c.requires.1.1.1.1 in
     let clauses = bounds.1.1.1.1.1 in
     let s = g.setting in
     let was = c.epochs.invariant in
@@ -38,7 +41,7 @@ epoch-requires g c κs within =
     let met : AreMet s items now = looked_met (λ a b same. same) s items now was.graph was.met looked in
     let graph = subst (λ l. AreOfOneGraph s l) (sym back) met.graph in
     let fed = subst (λ l. AreFed l) (sym back) (fed_stay items now met.bodies was.fed) in
-    (within.0, (within.1.0, (within.1.1, (bounds.0, (bounds.1.0, (bounds.1.1.0, (bounds.1.1.1.0, (bounds.1.1.1.1.0, (clauses.0, (clauses.1.0, (clauses.1.1.0, (graph, fed))))))))))))
+    (within.0, (within.1.0, (within.1.1.0, (within.1.1.1, (bounds.0, (bounds.1.0, (bounds.1.1.0, (bounds.1.1.1.0, (bounds.1.1.1.1.0, (clauses.0, (clauses.1.0, (clauses.1.1.0, (graph, fed)))))))))))))
 
 pub returns-then-are_stuck-clause-later : goal.returns-then-are_stuck-clause-later
 returns-then-are_stuck-clause-later g c =
@@ -143,7 +146,7 @@ epochs-smaller g c =
     let fed = subst (λ l. AreFed l) c.deref.ensures.value (c.are_fed.ensures.0 c.if-not-are_fed.false) in
     let steps : NoneCanStep (take c.epochs.shares.len (now ++ drop (length now) items)) → ⊥ = λ none. (let no = sym (c.are_stuck.ensures.stuck.1 (subst (λ l. NoneCanStep l) back none)) ∙ c.if-are_stuck.false in cc) in
     let laws = (g.met.T.Transducer g.world.𝓛 g.world.𝓜 g.world.𝓡 ((λ s x. x), (λ x. x), (λ x. x), λ x. x)).laws in
-    let falls = left_falls laws s _ c.in_ok-back.back.items c.in_ok-back.ensures fed steps in
+    let falls = left_falls laws s _ c.in_ok-back.back.items c.in_ok-back.ensures.epoch fed steps in
     omega (arith, same, falls)
 
 pub epochs-preserved : goal.epochs-preserved
@@ -158,11 +161,12 @@ epochs-preserved g c =
     let same = ap (λ l. moved_in s l) back ∙ moved_same s items now was.graph (met_traffic s items now met) in
     let fed = subst (λ l. AreFed l) c.deref.ensures.value (c.are_fed.ensures.0 c.if-not-are_fed.false) in
     let steps : NoneCanStep (take c.epochs.shares.len (now ++ drop (length now) items)) → ⊥ = λ none. (let no = sym (c.are_stuck.ensures.stuck.1 (subst (λ l. NoneCanStep l) back none)) ∙ c.if-are_stuck.false in cc) in
-    let epoch = c.in_ok-back.ensures in
+    let epoch = c.in_ok-back.ensures.epoch in
     let more = epoch.moves fed steps in
     let counted = c.saturating_add-count.ensures in
     let later = subst (λ l. AreLater c.args.shares.items l) (sym back) (later_then c.args.shares.items items now was.later (met_later s items now met)) in
     record {
+      asked = λ refused. was.asked (none_refused c.in_ok-back.back NoThread c.in_ok-back.ensures.refused refused);
       later = later_then _ _ _ later epoch.later;
       graph = epoch.graph;
       met = epoch.met;

@@ -13,6 +13,7 @@ ghost-epoch g a = g.setting
 -- the shares are those that were given, later, their ends have met, and each epoch so far moved a message
 abbrev pub invariant-epochs : goal.invariant-epochs
 invariant-epochs g l = record {
+  asked : g.S.Start.refused l.start → g.S.Start.refused l.fn.start;
   later : AreLater l.fn.shares.items l.shares.items;
   graph : AreOfOneGraph g.setting l.shares.items;
   met : HaveMetAll g.setting l.shares.items;

@@ -1,4 +1,6 @@
 use Rattle.std.proofs.Common.{◌≡◌, ◌++◌, length, take, drop, refl, sym, ◌∙◌, ap, subst, arith}
+use Rattle.flow_workers.specs.declared.error.WorkError.TheVariants.{NoThread}
+use Rattle.flow_workers.proofs.Refused.{none_refused}
 use Rattle.flow_opening.specs.Settings.{NoneCanStep, AreLookedAt}
 use Rattle.flow_opening.proofs.Lists.{written_back}
 use Rattle.flow_rounds.specs.Standing.{boxes_of, moved_in, StandBetweenRounds, RestBetweenRounds}
@@ -9,7 +11,7 @@ use Rattle.flow_rounds.proofs.round.run_rounds.Goals as goal
 
 pub round-requires : goal.round-requires
 round-requires g c κs within =
-    let bounds = c.requires.1.1.1 in
+    let bounds = c.requires.1.1.1.1 in
     let clauses = bounds.1.1.1.1.1 in
     let s = g.setting in
     let was = c.rounds.invariant in
@@ -19,7 +21,7 @@ round-requires g c κs within =
     let back : take c.rounds.shares.len (now ++ drop (length now) items) ≡ now = written_back now items c.rounds.shares.len looked.count (omega (arith, c.rounds.shares.ok.0)) in
     let laws = (g.met.T.Transducer g.world.𝓛 g.world.𝓜 g.world.𝓡 ((λ s x. x), (λ x. x), (λ x. x), λ x. x)).laws in
     let stand = subst (λ l. StandBetweenRounds s l) (sym back) (stands_looked s refl (λ a b keeps. keeps) items now was.stand looked laws) in
-    (within.0, (within.1.0, (within.1.1, (bounds.0, (bounds.1.0, (bounds.1.1.0, (bounds.1.1.1.0, (bounds.1.1.1.1.0, (clauses.0, (clauses.1.0, (clauses.1.1.0, stand)))))))))))
+    (within.0, (within.1.0, (within.1.1.0, (within.1.1.1, (bounds.0, (bounds.1.0, (bounds.1.1.0, (bounds.1.1.1.0, (bounds.1.1.1.1.0, (clauses.0, (clauses.1.0, (clauses.1.1.0, stand))))))))))))
 
 pub returns-then-are_stuck-clause-rest : goal.returns-then-are_stuck-clause-rest
 returns-then-are_stuck-clause-rest g c =
@@ -90,6 +92,7 @@ rounds-preserved g c =
     let moved = c.in_ok-shares.ensures.moves (λ none. let no = sym (c.are_stuck.ensures.stuck.1 (subst (λ l. NoneCanStep l) back none)) ∙ c.if-are_stuck.false in cc) in
     let counted = c.saturating_add-count.ensures in
     record {
+      asked = λ refused. was.asked (none_refused c.in_ok-shares.shares NoThread c.in_ok-shares.ensures.refused refused);
       stand = c.in_ok-shares.ensures.stand;
       count = c.in_ok-shares.ensures.count ∙ ap length back ∙ looked.count ∙ was.count;
       least = λ some. omega (arith, counted);

@@ -9,6 +9,7 @@ ghost-round g a = g.setting
 -- the shares stand where a run led, all of them, and each round so far moved a message
 abbrev pub invariant-rounds : goal.invariant-rounds
 invariant-rounds g l = record {
+  asked : g.S.Start.refused l.start → g.S.Start.refused l.fn.start;
   stand : StandBetweenRounds g.setting l.shares.items;
   count : length l.shares.items ≡ length l.fn.shares.items;
   least : moved_in g.setting (boxes_of l.fn.shares.items) < moved_in g.setting (boxes_of l.shares.items) → 0 < l.count;
