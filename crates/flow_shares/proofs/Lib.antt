@@ -4,6 +4,7 @@ pub mod Moves
 pub mod Between
 pub mod Visits
 pub mod Busy
+pub mod Spares
 pub mod Calm
 pub mod Passes
 pub mod Counts

@@ -10,12 +10,13 @@ use Rattle.flow_base.proofs.Carried.{same_ends_refl, same_ends_then}
 use Rattle.flow_graph.specs.declared.placed.Placed.{Placed}
 use Rattle.flow_graph.specs.Places.{placed_state, IsSamePlace}
 use Rattle.flow_graph.specs.Layouts.{AreSamePlaces}
-use Rattle.flow_shares.specs.Shares.{inputs_of, outputs_of, HasItsEnds, IsOwn, AreApart, TakesMemory, HaveMoved, HaveMovedAndLost}
+use Rattle.flow_shares.specs.Shares.{inputs_of, outputs_of, HasItsEnds, IsOwn, AreApart, TakesMemory, HaveMoved, HaveMovedAndLost, SpareOthers}
 use Rattle.flow_shares.proofs.Later.{same_places_refl, same_places_then, same_places_set, apart_later, there_later}
 use Rattle.flow_shares.proofs.Moves.{moved_none, moved_then, lost_then, own_later}
 use Rattle.flow_shares.proofs.Between.{moved_grows, same_first, same_second}
 use Rattle.flow_shares.proofs.Visits.{visit_moved, visit_history, visit_lost, visit_starves}
 use Rattle.flow_shares.proofs.Busy.{quiet}
+use Rattle.flow_shares.proofs.Spares.{spared_none, visit_spares, spared_then}
 use Rattle.flow_shares.proofs.Calm.{AreCalm, calm_none, calm_next}
 
 module _ {X : Type 0} {t : Ghosts X} where
@@ -24,6 +25,7 @@ module _ {X : Type 0} {t : Ghosts X} where
     pub places : AreSamePlaces nodes later
     pub ends : SameEnds a v
     pub moved : HaveMoved nodes later a v
+    pub spares : SpareOthers nodes a v
     pub busy : any ≡ true → SameTraffic a v → ⊥
     pub calm : any ≡ false → AreCalm n nodes later a v
 
@@ -32,6 +34,7 @@ module _ {X : Type 0} {t : Ghosts X} where
     places = same_places_refl nodes;
     ends = same_ends_refl a;
     moved = moved_none nodes a;
+    spares = spared_none nodes a;
     busy = λ h. cc;
     calm = λ h. calm_none nodes a;
   }
@@ -82,6 +85,7 @@ module _ {X : Type 0} {t : Ghosts X} where
           places = places_next;
           ends = ends_next;
           moved = moved_then nodes mid (set mid k y) a v w passed.places passed.moved moved_next;
+          spares = spared_then nodes mid a v w passed.places passed.spares (visit_spares mid k x inside is v w visited.spares);
           busy = busy_next any one passed.busy busy_here;
           calm = calm_both any one passed.calm calm_here;
         }

@@ -6,9 +6,10 @@ use Rattle.flow_base.specs.declared.transducer.Transducer.{Ghosts}
 use Rattle.flow_base.proofs.Carried.{same_ends_refl, same_ends_then}
 use Rattle.flow_graph.specs.declared.placed.Placed.{Placed}
 use Rattle.flow_graph.specs.Layouts.{AreSamePlaces}
-use Rattle.flow_shares.specs.Shares.{HasItsEnds, IsOwn, AreApart, AreStuck, HaveMoved, HaveMovedAndLost, count_of, HaveMovedForTurns}
+use Rattle.flow_shares.specs.Shares.{HasItsEnds, IsOwn, AreApart, AreStuck, HaveMoved, HaveMovedAndLost, count_of, HaveMovedForTurns, SpareOthers}
 use Rattle.flow_shares.proofs.Later.{same_places_refl, same_places_then, apart_later, there_later}
 use Rattle.flow_shares.proofs.Moves.{moved_none, moved_then, lost_then, own_later}
+use Rattle.flow_shares.proofs.Spares.{spared_none, spared_then}
 use Rattle.flow_shares.proofs.Counts.{count_then, count_some, turn_counted}
 use Rattle.flow_shares.proofs.Between.{moved_grows, same_first}
 
@@ -18,6 +19,7 @@ module _ {X : Type 0} {t : Ghosts X} where
     pub places : AreSamePlaces nodes later
     pub ends : SameEnds a v
     pub moved : HaveMoved nodes later a v
+    pub spares : SpareOthers nodes a v
     pub first : turns ≡ 0 → (later ≡ nodes) × (v ≡ a)
     pub few : idle < idle_turns
     pub often : turns ≤ idle_turns * count_of moved + idle
@@ -28,6 +30,7 @@ module _ {X : Type 0} {t : Ghosts X} where
     places = same_places_refl nodes;
     ends = same_ends_refl a;
     moved = moved_none nodes a;
+    spares = spared_none nodes a;
     first = λ h. (refl, refl);
     few = some;
     often = omega arith;
@@ -59,8 +62,11 @@ module _ {X : Type 0} {t : Ghosts X} where
     pub turn_ends : (w : View) → SameEnds v w → SameEnds a w
     turn_ends w = same_ends_then a v w turned.ends
 
+    pub turn_spares : (w : View) → SpareOthers mid v w → SpareOthers nodes a w
+    turn_spares w = spared_then nodes mid a v w turned.places turned.spares
+
     -- one turn more
-    module _ (later : List (Placed X t)) (w : View) (places : AreSamePlaces mid later) (ends : SameEnds v w) (moved : HaveMoved mid later v w) (any : Bool) (busy : any ≡ true → SameTraffic v w → ⊥) (stuck : any ≡ false → AreStuck v mid × AreStuck w later) where
+    module _ (later : List (Placed X t)) (w : View) (places : AreSamePlaces mid later) (ends : SameEnds v w) (moved : HaveMoved mid later v w) (spares : SpareOthers mid v w) (any : Bool) (busy : any ≡ true → SameTraffic v w → ⊥) (stuck : any ≡ false → AreStuck v mid × AreStuck w later) where
       still : (one : Bool) → (one ≡ true → SameTraffic v w → ⊥) → (one ≡ false → AreStuck v mid × AreStuck w later) → SameTraffic v w → AreStuck v mid
       still true busy stuck same = absurd (busy refl same)
       still false busy stuck same = (stuck refl).0
@@ -76,6 +82,7 @@ module _ {X : Type 0} {t : Ghosts X} where
         places = turn_places later places;
         ends = turn_ends w ends;
         moved = moved_then nodes mid later a v w turned.places turned.moved moved;
+        spares = turn_spares w spares;
         first = λ h. absurd (omega (arith, h));
         few = few;
         often = subst (λ n. turns + 1 ≤ idle_turns * n + now) (sym (count_then nodes mid later a v w turned.places turned.moved moved))

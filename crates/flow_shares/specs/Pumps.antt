@@ -5,7 +5,7 @@ use Rattle.flow_messages.specs.declared.ends.Ends.{Ghosts as EndsGhosts}
 use Rattle.flow_base.specs.declared.transducer.Transducer.{Ghosts}
 use Rattle.flow_graph.specs.Layouts.{AreSamePlaces}
 use Rattle.flow_shares.specs.declared.share.Share.{Share}
-use Rattle.flow_shares.specs.Shares.{AreStuck, HaveMoved, HaveMovedAndLost}
+use Rattle.flow_shares.specs.Shares.{AreStuck, HaveMoved, HaveMovedAndLost, SpareOthers}
 
 -- The share that comes back has the nodes and the ends that were given, and its nodes went on by reads and writes of
 -- their own.
@@ -17,6 +17,8 @@ pub record IsPumped {X Y : Type 0} {t : Ghosts X} {u : EndsGhosts Y} (share resu
   pub moved : result.starved ≡ false → HaveMoved share.nodes.items result.nodes.items (u.view share.ends) (u.view result.ends)
   -- where memory was refused, one message may be lost
   pub lost : result.starved ≡ true → HaveMovedAndLost share.nodes.items result.nodes.items (u.view share.ends) (u.view result.ends)
+  -- what ends at no port of these nodes were certain of is certain still
+  pub spares : result.starved ≡ false → SpareOthers share.nodes.items (u.view share.ends) (u.view result.ends)
   -- whether a message moved
   pub busy : result.starved ≡ false → result.moved ≡ true → SameTraffic (u.view share.ends) (u.view result.ends) → ⊥
   pub calm : result.starved ≡ false → result.moved ≡ false → SameTraffic (u.view share.ends) (u.view result.ends)

@@ -2,6 +2,7 @@
 -- its nodes makes of it.
 use Rattle.std.specs.Prelude.{◌≡◌, ℕ, ◌+◌, ◌*◌, ◌<◌, ◌≤◌, true, false, List, [], ◌++◌, length, slice_index_or}
 use Rattle.std.specs.List.{All}
+use mathlib.Core.List.{IsPrefix}
 use Rattle.kahn.specs.Basics.{Begins, total}
 use Rattle.kahn.specs.Processes.{Event, Does, reads, writes}
 use Rattle.flow_messages.specs.Signals.{Signal}
@@ -73,6 +74,11 @@ module _ {X : Type 0} {t : Ghosts X} where
     pub sent : (k q : ℕ) (d : Placed X t) → k < length nodes → let edges = outputs_of (slice_index_or nodes k d) in q < length edges → v.sent (edge_of edges q) ≡ a.sent (edge_of edges q) ++ writes q (history k)
     pub other_received : (e : ℕ) → All (λ placed. IsNone (inputs_of placed) e) nodes → v.received e ≡ a.received e
     pub other_sent : (e : ℕ) → All (λ placed. IsNone (outputs_of placed) e) nodes → v.sent e ≡ a.sent e
+
+  -- Ends of edges at no port of these nodes lost nothing of which they were certain.
+  pub record SpareOthers (nodes : List (Placed X t)) (a v : View) : Type 0 where
+    pub coming : (e : ℕ) → All (λ placed. IsNone (inputs_of placed) e) nodes → IsPrefix (a.coming e) (v.coming e)
+    pub room : (e : ℕ) → All (λ placed. IsNone (outputs_of placed) e) nodes → a.room e ≤ v.room e
 
   -- how many messages they read and wrote in all
   abbrev pub count_of : {nodes later : List (Placed X t)} {a v : View} → HaveMoved nodes later a v → ℕ

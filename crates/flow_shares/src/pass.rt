@@ -3,7 +3,7 @@ ghost use Rattle.std.specs.Prelude.{◌≡◌, ◌<◌, true, false, IfOk, OnErr
 ghost use Rattle.std.specs.List.{All};
 ghost use Rattle.flow_messages.specs.Ends.{SameEnds, SameTraffic};
 ghost use Rattle.flow_graph.specs.Layouts.{AreSamePlaces};
-ghost use Rattle.flow_shares.specs.Shares.{HasItsEnds, AreApart, IsOwn, AreStuck, TakesMemory, HaveMoved, HaveMovedAndLost};
+ghost use Rattle.flow_shares.specs.Shares.{HasItsEnds, AreApart, IsOwn, AreStuck, TakesMemory, HaveMoved, HaveMovedAndLost, SpareOthers};
 
 use flow_base::Transducer;
 use flow_graph::Placed;
@@ -26,6 +26,7 @@ pub fn pass<T: Transducer, E: Ends>(
     ensures same { E.same ends.old ends.new }
     ensures ends { SameEnds (E.view ends.old) (E.view ends.new) }
     ensures moved { IfOk result (λ any. HaveMoved nodes.old.items nodes.new.items (E.view ends.old) (E.view ends.new)) }
+    ensures spares { IfOk result (λ _. SpareOthers nodes.old.items (E.view ends.old) (E.view ends.new)) }
     ensures lost { OnErr result (HaveMovedAndLost nodes.old.items nodes.new.items (E.view ends.old) (E.view ends.new)) }
     ensures starves { OnErr result (TakesMemory nodes.new.items) }
     ensures busy { IfOk result (λ any. any ≡ true → SameTraffic (E.view ends.old) (E.view ends.new) → ⊥) }

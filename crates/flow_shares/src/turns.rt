@@ -4,7 +4,7 @@ ghost use Rattle.std.specs.List.{All};
 ghost use Rattle.flow_messages.specs.Ends.{SameEnds, SameTraffic};
 ghost use Rattle.flow_graph.specs.Layouts.{AreSamePlaces};
 ghost use Rattle.flow_shares.specs.Pumps.{IsPumped};
-ghost use Rattle.flow_shares.specs.Shares.{most_turns, HasItsEnds, AreApart, IsOwn, AreStuck, TakesMemory, HaveMoved, HaveMovedForTurns, HaveMovedAndLost};
+ghost use Rattle.flow_shares.specs.Shares.{most_turns, HasItsEnds, AreApart, IsOwn, AreStuck, TakesMemory, HaveMoved, HaveMovedForTurns, HaveMovedAndLost, SpareOthers};
 
 use crate::gate::Gate;
 use crate::pass::pass;
@@ -57,6 +57,7 @@ fn after_turns<T: Transducer, E: Ends, G: Gate>(
     ensures same { E.same share.ends result.ends }
     ensures ends { SameEnds (E.view share.ends) (E.view result.ends) }
     ensures moved { result.starved ≡ false → HaveMoved share.nodes.items result.nodes.items (E.view share.ends) (E.view result.ends) }
+    ensures spares { result.starved ≡ false → SpareOthers share.nodes.items (E.view share.ends) (E.view result.ends) }
     ensures lost { result.starved ≡ true → HaveMovedAndLost share.nodes.items result.nodes.items (E.view share.ends) (E.view result.ends) }
     ensures busy { result.starved ≡ false → result.moved ≡ true → SameTraffic (E.view share.ends) (E.view result.ends) → ⊥ }
     ensures calm { result.starved ≡ false → result.moved ≡ false → SameTraffic (E.view share.ends) (E.view result.ends) }
@@ -101,7 +102,6 @@ struct Turns {
     moved: bool,
 }
 
-/// Makes turns until `idle_turns` in a row moved nothing, and at most [`MAX_TURNS`].
 // Calls the gate for the next turn. Its number is that of the turns made before it, which only proofs keep.
 fn begin_turn<G: Gate>(gate: &G, share: usize, turn: usize, made: &mut History<usize>)
     requires few { turn < most_turns }
@@ -112,6 +112,7 @@ fn begin_turn<G: Gate>(gate: &G, share: usize, turn: usize, made: &mut History<u
     *made = made.with(&turn);
 }
 
+/// Makes turns until `idle_turns` in a row moved nothing, and at most [`MAX_TURNS`].
 ///
 /// An error where memory was refused to a node.
 fn take_turns<T: Transducer, E: Ends, G: Gate>(
@@ -131,6 +132,7 @@ fn take_turns<T: Transducer, E: Ends, G: Gate>(
     ensures same { E.same ends.old ends.new }
     ensures ends { SameEnds (E.view ends.old) (E.view ends.new) }
     ensures moved { IfOk result (λ turns. HaveMoved nodes.old.items nodes.new.items (E.view ends.old) (E.view ends.new)) }
+    ensures spares { IfOk result (λ _. SpareOthers nodes.old.items (E.view ends.old) (E.view ends.new)) }
     ensures lost { OnErr result (HaveMovedAndLost nodes.old.items nodes.new.items (E.view ends.old) (E.view ends.new)) }
     ensures busy { IfOk result (λ turns. turns.moved ≡ true → SameTraffic (E.view ends.old) (E.view ends.new) → ⊥) }
     ensures calm { IfOk result (λ turns. turns.moved ≡ false → SameTraffic (E.view ends.old) (E.view ends.new)) }
@@ -147,9 +149,9 @@ fn take_turns<T: Transducer, E: Ends, G: Gate>(
         });
     }
     let (mut idle, mut moved) = (0, false);
+    let mut made: History<usize> = History::new();
     for turn in 0..MAX_TURNS {
         begin_turn(gate, number, turn, &mut made);
-    let mut made: History<usize> = History::new();
         if pass(nodes, ends, chunk)? {
             idle = 0;
             moved = true;

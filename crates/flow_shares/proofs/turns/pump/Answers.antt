@@ -8,6 +8,7 @@ returns-clause-pumped g c = record {
   ends = c.after_turns.ensures.ends;
   moved = c.after_turns.ensures.moved;
   lost = c.after_turns.ensures.lost;
+  spares = c.after_turns.ensures.spares;
   busy = c.after_turns.ensures.busy;
   calm = c.after_turns.ensures.calm;
   progress = c.after_turns.ensures.progress;

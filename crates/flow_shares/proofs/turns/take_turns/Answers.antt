@@ -2,7 +2,8 @@ use Rattle.std.proofs.Common.{[], ◌∷◌, inl, inr, refl, sym, ◌∙◌, ap,
 use Rattle.flow_base.proofs.Visits.{on_err}
 use Rattle.flow_shares.specs.Shares.{most_turns}
 use Rattle.flow_shares.proofs.Moves.{moved_none}
-use Rattle.flow_shares.proofs.Rounds.{turned_none, turned_end, there_now, apart_now, own_now, turn_lost, moved_last, stuck_last, turned_next, still_calm, busy_before, busy_last}
+use Rattle.flow_shares.proofs.Spares.{spared_none}
+use Rattle.flow_shares.proofs.Rounds.{turned_none, turned_end, there_now, apart_now, own_now, turn_lost, moved_last, stuck_last, turned_next, turn_spares, still_calm, busy_before, busy_last}
 use Rattle.flow_shares.proofs.turns.take_turns.Goals.{then-branch, else-branch+else-idle-idle_turns}
 use Rattle.flow_shares.proofs.turns.take_turns.Goals as goal
 
@@ -11,8 +12,8 @@ returns-then-is_empty-clause-moved g c = moved_none c.args.nodes.now.items (g.E.
 
 pub loop-turn-init : goal.loop-turn-init
 loop-turn-init g c = record {
-  same = g.met.E.Ends.same_refl c.args.ends.now;
   counted = ap length c.new-made.ensures;
+  same = g.met.E.Ends.same_refl c.args.ends.now;
   turned = turned_none c.args.nodes.now.items (g.E.Ends.view c.args.ends.now) c.args.idle_turns c.requires.idle;
   busy = λ h. cc;
   calm = λ h. record { sent = λ k. refl; received = λ k. refl };
@@ -36,13 +37,13 @@ pub returns-then-idle-idle_turns-clause-moved : goal.returns-then-idle-idle_turn
 returns-then-idle-idle_turns-clause-moved g c =
     let view = g.E.Ends.view in
     let ensures = c.in_ok-pass.ensures in
-    moved_last c.loop-turn.turn c.loop-turn.idle c.args.idle_turns c.args.nodes.now.items c.loop-turn.nodes.items (view c.args.ends.now) (view c.loop-turn.ends) c.loop-turn.invariant.turned c.pass.new.nodes.items (view c.pass.new.ends) ensures.places ensures.ends ensures.moved c.in_ok-pass.field-0 ensures.busy ensures.stuck
+    moved_last c.loop-turn.turn c.loop-turn.idle c.args.idle_turns c.args.nodes.now.items c.loop-turn.nodes.items (view c.args.ends.now) (view c.loop-turn.ends) c.loop-turn.invariant.turned c.pass.new.nodes.items (view c.pass.new.ends) ensures.places ensures.ends ensures.moved ensures.spares c.in_ok-pass.field-0 ensures.busy ensures.stuck
 
 pub returns-then-idle-idle_turns-clause-progress : goal.returns-then-idle-idle_turns-clause-progress
 returns-then-idle-idle_turns-clause-progress g c =
     let view = g.E.Ends.view in
     let ensures = c.in_ok-pass.ensures in
-    stuck_last c.loop-turn.turn c.loop-turn.idle c.args.idle_turns c.args.nodes.now.items c.loop-turn.nodes.items (view c.args.ends.now) (view c.loop-turn.ends) c.loop-turn.invariant.turned c.pass.new.nodes.items (view c.pass.new.ends) ensures.places ensures.ends ensures.moved c.in_ok-pass.field-0 ensures.busy ensures.stuck
+    stuck_last c.loop-turn.turn c.loop-turn.idle c.args.idle_turns c.args.nodes.now.items c.loop-turn.nodes.items (view c.args.ends.now) (view c.loop-turn.ends) c.loop-turn.invariant.turned c.pass.new.nodes.items (view c.pass.new.ends) ensures.places ensures.ends ensures.moved ensures.spares c.in_ok-pass.field-0 ensures.busy ensures.stuck
 
 pub loop-turn-preserved : goal.loop-turn-preserved
 loop-turn-preserved g c =
@@ -51,12 +52,12 @@ loop-turn-preserved g c =
     let few = c.loop-turn.invariant.turned.few in
     let now = c.if-branch.idle in
     record {
-      same = g.met.E.Ends.same_trans c.args.ends.now c.loop-turn.ends c.pass.new.ends c.loop-turn.invariant.same ensures.same;
       counted = omega (arith, ap length c.begin_turn.ensures, length-append c.loop-turn.made.items (c.loop-turn.turn ∷ []), c.loop-turn.invariant.counted);
+      same = g.met.E.Ends.same_trans c.args.ends.now c.loop-turn.ends c.pass.new.ends c.loop-turn.invariant.same ensures.same;
       turned = elim c.if-branch.branch [
-        | then-branch w ↦ turned_next c.loop-turn.turn c.loop-turn.idle c.args.idle_turns c.args.nodes.now.items c.loop-turn.nodes.items (view c.args.ends.now) (view c.loop-turn.ends) c.loop-turn.invariant.turned c.pass.new.nodes.items (view c.pass.new.ends) ensures.places ensures.ends ensures.moved c.in_ok-pass.field-0 ensures.busy ensures.stuck
+        | then-branch w ↦ turned_next c.loop-turn.turn c.loop-turn.idle c.args.idle_turns c.args.nodes.now.items c.loop-turn.nodes.items (view c.args.ends.now) (view c.loop-turn.ends) c.loop-turn.invariant.turned c.pass.new.nodes.items (view c.pass.new.ends) ensures.places ensures.ends ensures.moved ensures.spares c.in_ok-pass.field-0 ensures.busy ensures.stuck
             now (omega (arith, w.idle-is, c.requires.idle)) (inl (w.if-branch.true, w.idle-is))
-        | else-branch+else-idle-idle_turns w ↦ turned_next c.loop-turn.turn c.loop-turn.idle c.args.idle_turns c.args.nodes.now.items c.loop-turn.nodes.items (view c.args.ends.now) (view c.loop-turn.ends) c.loop-turn.invariant.turned c.pass.new.nodes.items (view c.pass.new.ends) ensures.places ensures.ends ensures.moved c.in_ok-pass.field-0 ensures.busy ensures.stuck
+        | else-branch+else-idle-idle_turns w ↦ turned_next c.loop-turn.turn c.loop-turn.idle c.args.idle_turns c.args.nodes.now.items c.loop-turn.nodes.items (view c.args.ends.now) (view c.loop-turn.ends) c.loop-turn.invariant.turned c.pass.new.nodes.items (view c.pass.new.ends) ensures.places ensures.ends ensures.moved ensures.spares c.in_ok-pass.field-0 ensures.busy ensures.stuck
             now (omega (arith, w.idle-is, few, w.if-idle-idle_turns.false)) (inr (w.if-branch.false, w.idle-is))
       ];
       busy = elim c.if-branch.branch [
@@ -85,3 +86,11 @@ returns-then-idle-idle_turns-clause-calm g c =
     let view = g.E.Ends.view in
     let ensures = c.in_ok-pass.ensures in
     λ h. still_calm c.args.nodes.now.items c.loop-turn.nodes.items c.pass.new.nodes.items (view c.args.ends.now) (view c.loop-turn.ends) (view c.pass.new.ends) (c.loop-turn.invariant.calm h) (ensures.calm c.if-branch.false)
+
+pub returns-then-idle-idle_turns-clause-spares : goal.returns-then-idle-idle_turns-clause-spares
+returns-then-idle-idle_turns-clause-spares g c =
+    let view = g.E.Ends.view in
+    turn_spares c.loop-turn.turn c.loop-turn.idle c.args.idle_turns c.args.nodes.now.items c.loop-turn.nodes.items (view c.args.ends.now) (view c.loop-turn.ends) c.loop-turn.invariant.turned (view c.pass.new.ends) c.in_ok-pass.ensures.spares
+
+pub returns-then-is_empty-clause-spares : goal.returns-then-is_empty-clause-spares
+returns-then-is_empty-clause-spares g c = spared_none c.args.nodes.now.items (g.E.Ends.view c.args.ends.now)
