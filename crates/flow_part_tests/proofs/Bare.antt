@@ -1,6 +1,7 @@
 -- The graph without nodes, dealt out to shares without nodes.
-use Rattle.std.proofs.Common.{◌≡◌, ◌<◌, List, [], length, refl, ap, arith}
+use Rattle.std.proofs.Common.{◌≡◌, ◌<◌, List, [], length, refl, sym, ◌∙◌, ap, arith}
 use Rattle.std.specs.List.{All}
+use Rattle.flow_messages.specs.Ends.{View}
 use Rattle.flow_messages.specs.declared.ends.Ends.{Ghosts as EndsGhosts}
 use Rattle.flow_base.specs.declared.transducer.Transducer.{Ghosts}
 use Rattle.flow_graph.specs.Layouts.{FitTogether}
@@ -10,7 +11,8 @@ use Rattle.flow_round_laws.proofs.Parts.{any_of}
 use Rattle.flow_opening.specs.Open.{AreWires}
 use Rattle.flow_opening.specs.Settings.{Setting}
 use Rattle.flow_epochs.specs.Epochs.{AreOfOneGraph}
-use Rattle.flow_epochs.proofs.Lists.{count_dealt, nodes_are}
+use Rattle.flow_epochs.proofs.Lists.{count_dealt, nodes_are, view_is}
+use Rattle.flow_part_tests.specs.NoEnds.{HasNoEnds}
 
 pub none_fit : {X : Type 0} (t : Ghosts X) → FitTogether {t = t} [] []
 none_fit t = record {
@@ -41,8 +43,9 @@ bare_setting t = record { nodes = []; edges = []; fit = none_fit t; share = []; 
 pub no_wires : AreWires [] [] []
 no_wires = record { count = refl; writers = λ e w l. absurd (omega (arith, l)); readers = λ e w l. absurd (omega (arith, l)) }
 
-pub bare_graph : {X : Type 0} {t : Ghosts X} {u : EndsGhosts Rings} (shares : List (Share X Rings t u)) → All (λ share. length share.nodes.items ≡ 0) shares → AreOfOneGraph (bare_setting t) shares
-bare_graph shares bare = record {
+pub bare_graph : {X : Type 0} {t : Ghosts X} {u : EndsGhosts Rings} (shares : List (Share X Rings t u)) → All (λ share. length share.nodes.items ≡ 0) shares → All (λ share. HasNoEnds (u.view share.ends)) shares
+    → AreOfOneGraph (bare_setting t) shares
+bare_graph {X} {t} {u} shares bare none = record {
   deals = record {
     place = λ k. 0;
     inside = λ k l. absurd (omega (arith, l));
@@ -55,4 +58,14 @@ bare_graph shares bare = record {
   };
   joined = λ e d l. absurd (omega (arith, l));
   capacity = λ e d l. absurd (omega (arith, l));
+  only_writers = λ s e l there. (
+      let share = any_of shares s l in
+      let away = ap (λ (v : View). v.writes e) (view_is shares s share l) ∙ (none s share l e).0 in
+      absurd (let no = sym there ∙ away in cc)
+      );
+  only_readers = λ s e l there. (
+      let share = any_of shares s l in
+      let away = ap (λ (v : View). v.reads e) (view_is shares s share l) ∙ (none s share l e).1 in
+      absurd (let no = sym there ∙ away in cc)
+      );
 }

@@ -1,13 +1,15 @@
 // Shares without nodes that are run in epochs.
 ghost use Rattle.std.specs.Prelude.{◌≡◌, false, length, IfOk};
 ghost use Rattle.std.specs.List.{All};
+ghost use Rattle.flow_rings.specs.Rings.{ends_of};
+ghost use Rattle.flow_part_tests.specs.NoEnds.{HasNoEnds};
 
 use crate::shares::two_bare;
 use flow_base::Transducer;
 use flow_epochs::run_epochs;
 use flow_rings::Rings;
 use flow_shares::{Gate, NoGate, Share};
-use flow_workers::WorkError;
+use flow_workers::{AlwaysStart, WorkError};
 use std::alloc::Global;
 use std::sync::Arc;
 use std::test::Fail;
@@ -26,9 +28,10 @@ fn run_bare<
 ) -> Result<(Vec<Share<T, Rings>>, u64), WorkError>
     requires none { All (λ share. length share.nodes.items ≡ 0) shares.items }
     requires fed { All (λ share. share.starved ≡ false) shares.items }
+    requires ends { All (λ share. HasNoEnds (ends_of share.ends)) shares.items }
     ensures { IfOk result (λ made. length made.0.items ≡ length shares.items) }
 {
-    run_epochs(rt, alloc, shares, &[], 1, 1, gate)
+    run_epochs(rt, alloc, shares, &[], 1, 1, gate, &mut AlwaysStart)
 }
 
 #[test]

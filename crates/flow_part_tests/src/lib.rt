@@ -18,8 +18,14 @@ mod opened;
 #[cfg(test)]
 mod opening;
 #[cfg(test)]
+mod pairs;
+#[cfg(test)]
 mod rings;
 #[cfg(test)]
 mod shares;
+#[cfg(test)]
+mod starts;
+#[cfg(test)]
+mod turns;
 #[cfg(test)]
 mod workers;

@@ -1,9 +1,12 @@
 // Shares without nodes.
 ghost use Rattle.std.specs.Prelude.{◌≡◌, false, length, IfOk};
 ghost use Rattle.std.specs.List.{All};
+ghost use Rattle.flow_rings.specs.Rings.{ends_of};
+ghost use Rattle.flow_part_tests.specs.NoEnds.{HasNoEnds};
 
 use flow_graph::Placed;
 use flow_messages::Table;
+use flow_opening::Opening;
 use flow_rings::Rings;
 use flow_scalar::Source;
 use flow_shares::{Gate, NoGate, Share, pump};
@@ -15,14 +18,17 @@ use std::test::Fail;
 fn bare(alloc: Global, number: usize) -> Result<Share<Source, Rings>, AllocError>
     ensures fed { IfOk result (λ share. share.starved ≡ false) }
     ensures none { IfOk result (λ share. length share.nodes.items ≡ 0) }
+    ensures ends { IfOk result (λ share. HasNoEnds (ends_of share.ends)) }
 {
-    Ok(Share::new(number, Vec::new(alloc), Rings::none(alloc, 0)?))
+    let ends = <Rings as Opening>::none(alloc, 0, 1)?;
+    Ok(Share::new(number, Vec::new(alloc), ends))
 }
 
 /// The shares of numbers 7 and 3.
 pub fn two_bare(alloc: Global) -> Result<Vec<Share<Source, Rings>>, AllocError>
     ensures fed { IfOk result (λ shares. All (λ share. share.starved ≡ false) shares.items) }
     ensures none { IfOk result (λ shares. All (λ share. length share.nodes.items ≡ 0) shares.items) }
+    ensures ends { IfOk result (λ shares. All (λ share. HasNoEnds (ends_of share.ends)) shares.items) }
 {
     Ok(vec![in alloc; bare(alloc, 7)?, bare(alloc, 3)?]?)
 }
