@@ -4,6 +4,7 @@ pub mod Passes
 pub mod Refused
 pub mod Dropped
 pub mod Rests
+pub mod Alike
 pub mod Texts
 pub mod Holding
 pub mod Gathered

@@ -2,6 +2,7 @@ pub mod Limits
 pub mod Configs
 pub mod Over
 pub mod Drives
+pub mod Alike
 pub mod Epochs
 pub mod Edges
 pub mod Refusals

@@ -22,4 +22,4 @@ pub use driver::{DriveError, drive};
 pub use flow_shares::{Gate, NoGate};
 pub use kahn::Outcome;
 pub use rested::Rested;
-pub use theorems::rested_is_sound;
+pub use theorems::{rested_is_sound, runs_rest_alike};
