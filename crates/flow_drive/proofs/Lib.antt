@@ -1,10 +1,5 @@
-pub mod Visits
-pub mod Graphs
-pub mod Passes
 pub mod Refused
-pub mod Dropped
 pub mod Rests
-pub mod Alike
 pub mod Texts
 pub mod Holding
 pub mod Gathered

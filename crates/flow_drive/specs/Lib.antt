@@ -1,8 +1,6 @@
 pub mod Limits
 pub mod Configs
-pub mod Over
 pub mod Drives
-pub mod Alike
 pub mod Epochs
 pub mod Edges
 pub mod Refusals

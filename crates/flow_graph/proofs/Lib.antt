@@ -14,3 +14,9 @@ pub mod Shapes
 pub mod Layouts
 pub mod Flows
 pub mod Replacements
+pub mod Refused
+pub mod VisitedNodes
+pub mod VisitedGraphs
+pub mod Passes
+pub mod Dropped
+pub mod Alike

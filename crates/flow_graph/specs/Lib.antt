@@ -11,6 +11,9 @@ pub mod Steps
 pub mod Shapes
 pub mod Turns
 pub mod Visits
+pub mod Over
+pub mod MaximalRuns
+pub mod Alike
 pub mod Flows
 pub mod FlowTheorems
 pub mod Replacements

@@ -1,5 +1,6 @@
 // What holds of every graph. The functions do nothing: their contracts are the theorems.
 ghost use Rattle.flow_messages.specs.Ends.{View};
+ghost use Rattle.flow_graph.specs.Alike.{RunsRestAlike};
 ghost use Rattle.flow_graph.specs.Graphs.{states_of, edges_of};
 ghost use Rattle.flow_graph.specs.Laws.{IsNetwork, IsWithinLimits, Opens, WritesOpen};
 ghost use Rattle.flow_graph.specs.FlowTheorems.{RowsMakeAFlow, FlowHasRows, FlowIsCarried, FlowIsBegun, EndedHasFlow, FlowNeverStalls, FlowRunsToEnd, EndedIsLawful, EndedRunIsLawful, OneFlow};
@@ -55,4 +56,11 @@ pub fn ended_is_lawful<T: Transducer>(graph: &Graph<T>)
 /// A graph has at most one lawful flow, as a network of sequential processes has one history (Kahn 1974).
 pub fn one_flow<T: Transducer>(graph: &Graph<T>)
     ensures { OneFlow T.behaviour (states_of graph.now) (edges_of graph.now) }
+{}
+
+/// Where two maximal runs of one network end, at one capacity, the nodes have the same states and each edge had the same
+/// traffic; and both came out alike. The network is determined, whatever the schedules (G. Kahn, "The semantics of a simple
+/// language for parallel programming", 1974).
+pub fn runs_rest_alike<T: Transducer>()
+    ensures { RunsRestAlike T.behaviour }
 {}

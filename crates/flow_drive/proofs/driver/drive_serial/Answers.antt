@@ -5,9 +5,17 @@ use Rattle.flow_graph.specs.Visits.{HasAllEnds}
 use Rattle.flow_graph.proofs.Nets.{graph_wired}
 use Rattle.flow_drive.specs.Drives.{EndsMaximalRun}
 use Rattle.flow_drive.specs.Edges.{traffic_in}
-use Rattle.flow_drive.proofs.Graphs.{all_ends_still, fresh_all_ends}
+use Rattle.flow_graph.proofs.Passes.{reached_first}
+use Rattle.flow_graph.proofs.VisitedGraphs.{all_ends_still, fresh_all_ends}
 use Rattle.flow_drive.proofs.Rests.{run_sound, run_rests}
 use Rattle.flow_drive.proofs.driver.drive_serial.Goals as goal
+
+pub run_serial-requires-clause-reached : goal.run_serial-requires-clause-reached
+run_serial-requires-clause-reached g c =
+    let graph = c.args.graph in
+    let table = c.in_ok-ends.ends in
+    let fresh = rw c.edges.ensures at c.in_ok-ends.ensures.fresh in
+    reached_first g.T.Transducer.behaviour table.capacity (states_of graph) (edges_of graph) (ends_of table) c.requires.opened fresh
 
 pub invariant_of-result : goal.invariant_of-result
 invariant_of-result g c =

@@ -5,9 +5,9 @@ ghost use Rattle.flow_graph.specs.Graphs.{states_of, edges_of};
 ghost use Rattle.flow_graph.specs.Shapes.{KeepsShape};
 ghost use Rattle.flow_graph.specs.Visits.{HasAllEnds, Visits};
 
+use crate::graph::Graph;
 use crate::over::is_over;
 use flow_base::Transducer;
-use flow_graph::Graph;
 use flow_messages::WholeEnds;
 use std::alloc::AllocError;
 

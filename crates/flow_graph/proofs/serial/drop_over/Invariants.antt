@@ -1,8 +1,8 @@
 use Rattle.std.proofs.Common.{◌≡◌, ◌<◌, ◌≤◌, ◌⊎◌, ℕ, true, length, get_or}
 use Rattle.flow_graph.specs.Networks.{state_at}
 use Rattle.flow_graph.specs.Graphs.{states_of}
-use Rattle.flow_drive.specs.Over.{is_over}
-use Rattle.flow_drive.proofs.serial.drop_over.Given as goal
+use Rattle.flow_graph.specs.Over.{is_over}
+use Rattle.flow_graph.proofs.serial.drop_over.Given as goal
 
 -- the nodes from i on are as they were, and each before i is among the first `kept` or is over
 abbrev pub invariant-loop-i : goal.invariant-loop-i

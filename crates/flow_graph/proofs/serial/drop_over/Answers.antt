@@ -1,9 +1,9 @@
 use Rattle.std.proofs.Common.{◌≡◌, ◌<◌, true, length, arith}
 use Rattle.flow_graph.specs.Networks.{state_at}
 use Rattle.flow_graph.specs.Graphs.{states_of}
-use Rattle.flow_drive.specs.Over.{is_over}
-use Rattle.flow_drive.proofs.Dropped.{below_left, left_or_over}
-use Rattle.flow_drive.proofs.serial.drop_over.Goals as goal
+use Rattle.flow_graph.specs.Over.{is_over}
+use Rattle.flow_graph.proofs.Dropped.{below_left, left_or_over}
+use Rattle.flow_graph.proofs.serial.drop_over.Goals as goal
 
 pub returns-clause-below : goal.returns-clause-below
 returns-clause-below g c = below_left (λ k. k < length (states_of c.args.graph.now)) c.loop-i.nodes.items c.truncate.new.self.items c.loop-i.kept c.truncate.ensures.items c.loop-i.invariant.below

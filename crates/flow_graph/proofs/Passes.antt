@@ -4,7 +4,6 @@ use Rattle.std.specs.List.{Contains}
 use Rattle.kahn.specs.Processes.{Settles}
 use Rattle.kahn.specs.Networks.{IsWired}
 use Rattle.kahn.specs.Configurations.{moved, start, IsSound}
-use Rattle.kahn.specs.Runs.{Reaches}
 use Rattle.kahn.proofs.Finite.{most_events}
 use Rattle.kahn.proofs.Steps.{sound_start, sound_run}
 use Rattle.kahn.proofs.Turns.{reaches_then}
@@ -19,21 +18,17 @@ use Rattle.flow_graph.specs.Graphs.{states_of, edges_of}
 use Rattle.flow_graph.specs.Shapes.{IsSameNetwork, KeepsShape}
 use Rattle.flow_graph.proofs.Nets.{opens, graph_wired}
 use Rattle.flow_graph.specs.Visits.{IsVisited, Visits}
-use Rattle.flow_drive.specs.Over.{is_over}
-use Rattle.flow_drive.specs.Drives.{EndsMaximalRun}
-use Rattle.flow_drive.proofs.Visits.{over_stays, visited_rest, visited_falls}
-use Rattle.flow_drive.proofs.Graphs.{in_network}
+use Rattle.flow_graph.specs.Over.{is_over}
+use Rattle.flow_graph.specs.MaximalRuns.{RunLeadsTo, EndsMaximalRun}
+use Rattle.flow_graph.proofs.VisitedNodes.{over_stays, visited_rest, visited_falls}
+use Rattle.flow_graph.proofs.VisitedGraphs.{in_network}
 
 module _ {S : Type 0} (b : Behaviour S) (capacity : ℕ) (states : List S) (edges : List Edge) where
-  -- a run leads from the start to these states and this traffic
-  abbrev pub IsReachedBy : List S → View → Type 0
-  IsReachedBy states' view' = Reaches b.process (network_of b states edges) (Some capacity) (start (network_of b states edges)) (configuration_of b states' view')
-
   -- each node that is not among these is over
   abbrev pub OthersAreOver : List S → List ℕ → Type 0
   OthersAreOver states' running = (k : ℕ) → k < length states → Contains running k ⊎ (is_over (b.process.want (state_at b states' k)) ≡ true)
 
-  pub reached_first : (view : View) → AreOpened b states → IsFresh (length edges) view → IsReachedBy states view
+  pub reached_first : (view : View) → AreOpened b states → IsFresh (length edges) view → RunLeadsTo b capacity states edges states view
   reached_first view opened fresh = ([], sym (opens b states edges view opened fresh))
 
   module _ (wired : IsWired (network_of b states edges)) where
@@ -43,7 +38,7 @@ module _ {S : Type 0} (b : Behaviour S) (capacity : ℕ) (states : List S) (edge
         let net = network_of b states edges in
         most_events b.process net wired settles (start net) (λ e inside. ([], refl)) - moved net (configuration_of b states view)
 
-    module _ (states' : List S) (edges' : List Edge) (view' : View) (same : IsSameNetwork b states edges states' edges') (capacity' : ℕ) (even : capacity' ≡ capacity) (reached : IsReachedBy states' view') (nodes : List ℕ) (states'' : List S) (view'' : View) where
+    module _ (states' : List S) (edges' : List Edge) (view' : View) (same : IsSameNetwork b states edges states' edges') (capacity' : ℕ) (even : capacity' ≡ capacity) (reached : RunLeadsTo b capacity states edges states' view') (nodes : List ℕ) (states'' : List S) (view'' : View) where
       visited : (any : Bool) → Visits b capacity' nodes edges' states' view' states'' view'' any
           → IsVisited b.process (network_of b states edges) (Some capacity) nodes (configuration_of b states' view') (configuration_of b states'' view'') any
       visited any visits =
@@ -52,7 +47,7 @@ module _ {S : Type 0} (b : Behaviour S) (capacity : ℕ) (states : List S) (edge
           (sound_start b.process (network_of b states edges)) reached.1 in
           in_network b capacity states edges view' wired states' edges' view' same capacity' even nodes states'' view'' any sound visits
 
-      pub reached_then : (any : Bool) → Visits b capacity' nodes edges' states' view' states'' view'' any → IsReachedBy states'' view''
+      pub reached_then : (any : Bool) → Visits b capacity' nodes edges' states' view' states'' view'' any → RunLeadsTo b capacity states edges states'' view''
       reached_then any visits =
           reaches_then b.process (network_of b states edges) (Some capacity) (start (network_of b states edges)) (configuration_of b states' view') (configuration_of b states'' view'') reached (visited any visits).reaches
 
@@ -87,8 +82,8 @@ module _ {S : Type 0} (b : Behaviour S) (capacity : ℕ) (states : List S) (edge
 
 -- the same of a graph and its ends, after one pass more
 module _ {X Y : Type 0} {t : Ghosts X} (Same : Y → Y → Type 0) (view : Y → View) (capacity : Y → ℕ) (even : (x y : Y) → Same x y → capacity y ≡ capacity x) (g : Graph X t) (e : Y) (g' : Graph X t) (e' : Y) (g'' : Graph X t) (e'' : Y)
-    (shape : KeepsShape Same view g e g' e') (reached : IsReachedBy t.behaviour (capacity e) (states_of g) (edges_of g) (states_of g') (view e')) (nodes : List ℕ) (any : Bool) (visits : Visits t.behaviour (capacity e') nodes (edges_of g') (states_of g') (view e') (states_of g'') (view e'') any) where
-  pub pass_reached : IsReachedBy t.behaviour (capacity e) (states_of g) (edges_of g) (states_of g'') (view e'')
+    (shape : KeepsShape Same view g e g' e') (reached : RunLeadsTo t.behaviour (capacity e) (states_of g) (edges_of g) (states_of g') (view e')) (nodes : List ℕ) (any : Bool) (visits : Visits t.behaviour (capacity e') nodes (edges_of g') (states_of g') (view e') (states_of g'') (view e'') any) where
+  pub pass_reached : RunLeadsTo t.behaviour (capacity e) (states_of g) (edges_of g) (states_of g'') (view e'')
   pass_reached = reached_then t.behaviour (capacity e) (states_of g) (edges_of g) (graph_wired g) (states_of g') (edges_of g') (view e') shape.network (capacity e') (even e e' shape.same) reached nodes (states_of g'') (view e'') any visits
 
   pub pass_ends : any ≡ false → OthersAreOver t.behaviour (capacity e) (states_of g) (edges_of g) (states_of g') nodes → EndsMaximalRun t.behaviour (capacity e) (states_of g) (edges_of g) (states_of g'') (view e'')

@@ -14,7 +14,7 @@ use Rattle.kahn.proofs.Finite.{most_events}
 use Rattle.kahn.proofs.Traffic.{moved_run}
 use Rattle.kahn.proofs.Turns.{reaches_then, swept_falls}
 use Rattle.flow_graph.specs.Visits.{IsVisited}
-use Rattle.flow_drive.specs.Over.{is_over}
+use Rattle.flow_graph.specs.Over.{is_over}
 
 -- whether something moved, after one visit more
 pub or_moved : (any one now : Bool) → one ≡ true → now ≡ true → (any || one) ≡ now

@@ -2,10 +2,10 @@
 ghost use Rattle.std.specs.Prelude.{◌≡◌, ◌<◌, length};
 ghost use Rattle.flow_graph.specs.Networks.{state_at};
 ghost use Rattle.flow_graph.specs.Graphs.{states_of};
-ghost use Rattle.flow_drive.specs.Over.{is_over};
+ghost use Rattle.flow_graph.specs.Over.{is_over};
 
+use crate::graph::Graph;
 use flow_base::Transducer;
-use flow_graph::Graph;
 use kahn::Want;
 
 /// Whether the node makes no step again.

@@ -2,8 +2,8 @@ use Rattle.std.proofs.Common.{◌≡◌, inl, Bool, true, false, not, length, re
 use Rattle.flow_graph.specs.Graphs.{states_of, edges_of}
 use Rattle.flow_graph.proofs.Shapes.{shape_refl, shape_then}
 use Rattle.flow_graph.specs.Visits.{Visits}
-use Rattle.flow_drive.proofs.Passes.{reached_first, pass_reached, pass_ends, pass_others, pass_falls}
-use Rattle.flow_drive.proofs.serial.run_serial.Goals as goal
+use Rattle.flow_graph.proofs.Passes.{pass_reached, pass_ends, pass_others, pass_falls}
+use Rattle.flow_graph.proofs.serial.run_serial.Goals as goal
 
 not_true : (any : Bool) → not any ≡ true → any ≡ false
 not_true true h = cc
@@ -15,15 +15,10 @@ not_false false h = cc
 
 pub passes-init : goal.passes-init
 passes-init g c =
-    let b = g.T.Transducer.behaviour in
-    let states = states_of c.args.graph.now in
-    let edges = edges_of c.args.graph.now in
-    let view = g.E.Ends.view c.args.ends.now in
-    let capacity = g.E.WholeEnds.capacity c.args.ends.now in
-    let count : c.nodes.result ≡ length states = c.nodes.ensures in
+    let count : c.nodes.result ≡ length (states_of c.args.graph.now) = c.nodes.ensures in
     record {
       shape = shape_refl g.E.Ends.same g.E.Ends.view g.met.E.Ends.same_refl c.args.graph.now c.args.ends.now;
-      reached = reached_first b capacity states edges view c.requires.opened c.requires.fresh;
+      reached = c.requires.reached;
       below = λ i d low. omega (arith, count, c.in_ok-running.ensures.below i d low);
       others = λ k inside. inl (c.in_ok-running.ensures.all k (omega (arith, count, inside)));
     }

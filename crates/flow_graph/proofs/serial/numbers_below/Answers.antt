@@ -1,8 +1,8 @@
 use Rattle.std.proofs.Common.{◌≡◌, ◌⊎◌, ℕ, ◌+◌, ◌<◌, ◌≤◌, List, [], ◌∷◌, ◌++◌, length, get_or, inl, inr, ap, ◌∙◌, arith}
 use Rattle.std.proofs.lemmas.Bool.{cases_lt}
 use Rattle.std.proofs.lemmas.List.{get_or_push, get_or_append_left}
-use Rattle.flow_drive.proofs.Refused.{nothing_made}
-use Rattle.flow_drive.proofs.serial.numbers_below.Goals as goal
+use Rattle.flow_graph.proofs.Refused.{nothing_made}
+use Rattle.flow_graph.proofs.serial.numbers_below.Goals as goal
 
 -- with one more, number k stands at k
 one_more : (xs ys : List ℕ) (n : ℕ) → ys ≡ xs ++ n ∷ [] → length xs ≡ n → ((k d : ℕ) → k < n → get_or xs k d ≡ k) → (k d : ℕ) → k < n + 1 → get_or ys k d ≡ k

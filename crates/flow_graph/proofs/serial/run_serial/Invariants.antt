@@ -2,15 +2,16 @@ use Rattle.std.proofs.Common.{◌<◌, length}
 use Rattle.std.specs.List.{All}
 use Rattle.flow_graph.specs.Graphs.{states_of, edges_of}
 use Rattle.flow_graph.specs.Shapes.{KeepsShape}
+use Rattle.flow_graph.specs.MaximalRuns.{RunLeadsTo}
 use Rattle.flow_graph.proofs.Nets.{graph_wired}
-use Rattle.flow_drive.proofs.Passes.{IsReachedBy, OthersAreOver, left_of}
-use Rattle.flow_drive.proofs.serial.run_serial.Given as goal
+use Rattle.flow_graph.proofs.Passes.{OthersAreOver, left_of}
+use Rattle.flow_graph.proofs.serial.run_serial.Given as goal
 
 -- a run leads to where the graph is, and the nodes that are not running are over
 abbrev pub invariant-passes : goal.invariant-passes
 invariant-passes g l = record {
   shape : KeepsShape g.E.Ends.same g.E.Ends.view l.fn.graph l.fn.ends l.graph l.ends;
-  reached : IsReachedBy g.T.Transducer.behaviour (g.E.WholeEnds.capacity l.fn.ends) (states_of l.fn.graph) (edges_of l.fn.graph) (states_of l.graph) (g.E.Ends.view l.ends);
+  reached : RunLeadsTo g.T.Transducer.behaviour (g.E.WholeEnds.capacity l.fn.ends) (states_of l.fn.graph) (edges_of l.fn.graph) (states_of l.graph) (g.E.Ends.view l.ends);
   below : All (λ k. k < length (states_of l.graph)) l.running.items;
   others : OthersAreOver g.T.Transducer.behaviour (g.E.WholeEnds.capacity l.fn.ends) (states_of l.fn.graph) (edges_of l.fn.graph) (states_of l.graph) l.running.items;
 }

@@ -1,32 +1,34 @@
-// The drive of one thread.
+// Passes over all nodes of a graph, in one thread.
 ghost use Rattle.std.specs.Prelude.{◌≡◌, ◌<◌, ◌⊎◌, ℕ, true, length, IfOk, OnOk};
 ghost use Rattle.std.specs.List.{All, Contains};
-ghost use Rattle.flow_messages.specs.Tables.{IsFresh};
-ghost use Rattle.flow_graph.specs.Networks.{state_at, AreOpened};
+ghost use Rattle.flow_graph.specs.Networks.{state_at};
 ghost use Rattle.flow_graph.specs.Graphs.{states_of, edges_of};
 ghost use Rattle.flow_graph.specs.Shapes.{KeepsShape};
-ghost use Rattle.flow_drive.specs.Over.{is_over};
-ghost use Rattle.flow_drive.specs.Drives.{EndsMaximalRun};
+ghost use Rattle.flow_graph.specs.Visits.{HasAllEnds};
+ghost use Rattle.flow_graph.specs.Over.{is_over};
+ghost use Rattle.flow_graph.specs.MaximalRuns.{RunReaches, RunEndsAt};
 
+use crate::graph::Graph;
 use crate::over::is_over;
 use crate::pass::pass_over;
 use flow_base::Transducer;
-use flow_graph::Graph;
 use flow_messages::WholeEnds;
 use std::alloc::{AllocError, Global};
 
 /// Visits all nodes in ascending order, with at most `chunk` steps each, until a whole pass moves nothing.
+///
+/// It goes on from where a run of the graph's network led. An error where memory was refused.
 pub fn run_serial<T: Transducer, E: WholeEnds>(
     alloc: Global,
     graph: &mut Graph<T>,
     ends: &mut E,
     chunk: usize,
 ) -> Result<(), AllocError>
-    requires opened { AreOpened T.behaviour (states_of graph.old) }
     requires some { 0 < chunk }
-    requires fresh { IsFresh (length (edges_of graph.old)) (E.view ends.old) }
+    requires ends { HasAllEnds (length (edges_of graph.old)) (E.view ends.old) }
+    requires reached { RunReaches (E.capacity ends.old) graph.old graph.old (E.view ends.old) }
     ensures shape { KeepsShape E.same E.view graph.old ends.old graph.new ends.new }
-    ensures run { OnOk result (EndsMaximalRun T.behaviour (E.capacity ends.old) (states_of graph.old) (edges_of graph.old) (states_of graph.new) (E.view ends.new)) }
+    ensures run { OnOk result (RunEndsAt (E.capacity ends.old) graph.old graph.new (E.view ends.new)) }
 {
     // Nodes that are over need no more visits.
     let mut running = numbers_below(alloc, graph.nodes())?;

@@ -5,7 +5,7 @@ use Rattle.flow_messages.specs.Ends.{View}
 use Rattle.flow_base.specs.Transducers.{Behaviour}
 use Rattle.flow_graph.specs.declared.edge.Edge.{Edge}
 use Rattle.flow_graph.specs.Laws.{IsNetwork}
-use Rattle.flow_drive.specs.Drives.{EndsMaximalRun, ComesOut}
+use Rattle.flow_graph.specs.MaximalRuns.{EndsMaximalRun, ComesOut}
 
 module _ {S : Type 0} (b : Behaviour S) (capacity : ℕ) (edges : List Edge) where
   -- The nodes have the same states, each edge had the same traffic, and both came out alike.

@@ -12,7 +12,7 @@ use Rattle.flow_graph.specs.declared.edge.Edge.{Edge}
 use Rattle.flow_graph.specs.Networks.{network_of, configuration_of}
 use Rattle.flow_graph.specs.Shapes.{IsSameNetwork}
 use Rattle.flow_graph.specs.Visits.{IsVisited, HasAllEnds, Visits}
-use Rattle.flow_drive.proofs.Visits.{visited_none, visited_push}
+use Rattle.flow_graph.proofs.VisitedNodes.{visited_none, visited_push}
 
 -- of fresh edges all ends are there
 pub fresh_all_ends : (edges : ℕ) (v : View) → IsFresh edges v → HasAllEnds edges v

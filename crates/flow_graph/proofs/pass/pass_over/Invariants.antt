@@ -2,7 +2,7 @@ use Rattle.std.proofs.Common.{◌≡◌, ◌<◌, true, take}
 use Rattle.flow_graph.specs.Graphs.{states_of, edges_of}
 use Rattle.flow_graph.specs.Shapes.{KeepsShape}
 use Rattle.flow_graph.specs.Visits.{Visits}
-use Rattle.flow_drive.proofs.pass.pass_over.Given as goal
+use Rattle.flow_graph.proofs.pass.pass_over.Given as goal
 
 -- the nodes so far were visited
 abbrev pub invariant-loop-node : goal.invariant-loop-node

@@ -1,5 +1,5 @@
 use Rattle.std.proofs.Common.{◌≡◌, ◌<◌, ℕ, length, get_or}
-use Rattle.flow_drive.proofs.serial.numbers_below.Given as goal
+use Rattle.flow_graph.proofs.serial.numbers_below.Given as goal
 
 -- number k stands at k
 abbrev pub invariant-loop-number : goal.invariant-loop-number

@@ -5,10 +5,10 @@ use Rattle.flow_graph.specs.Graphs.{states_of, edges_of}
 use Rattle.flow_graph.proofs.Nets.{graph_wired}
 use Rattle.flow_graph.proofs.Shapes.{shape_then}
 use Rattle.flow_graph.specs.Visits.{Visits}
-use Rattle.flow_drive.proofs.Visits.{or_moved, or_calm}
-use Rattle.flow_drive.proofs.Graphs.{visits_push}
-use Rattle.flow_drive.proofs.pass.pass_over.Goals as goal
-use Rattle.flow_drive.proofs.pass.pass_over.Goals.{then-branch, else-branch+then-is_over, else-branch+else-is_over}
+use Rattle.flow_graph.proofs.VisitedNodes.{or_moved, or_calm}
+use Rattle.flow_graph.proofs.VisitedGraphs.{visits_push}
+use Rattle.flow_graph.proofs.pass.pass_over.Goals as goal
+use Rattle.flow_graph.proofs.pass.pass_over.Goals.{then-branch, else-branch+then-is_over, else-branch+else-is_over}
 
 pub returns-in_err-visit-clause-shape : goal.returns-in_err-visit-clause-shape
 returns-in_err-visit-clause-shape g c =

@@ -1,5 +1,5 @@
 -- Where two maximal runs of one network end is alike.
-use Rattle.std.proofs.Common.{◌≡◌, ℕ, ◌<◌, List, length, Some, sym, ◌∙◌, ap, subst, arith, ext_get_or}
+use Rattle.std.proofs.Common.{◌≡◌, ℕ, List, length, Some, sym, ◌∙◌, ap, subst, arith, ext_get_or}
 use Rattle.kahn.specs.declared.outcome.Outcome.{Outcome}
 use Rattle.kahn.specs.declared.outcome.Outcome.TheVariants.{Value, Fault as Failed, Stalled}
 use Rattle.kahn.specs.Networks.{Network}
@@ -13,8 +13,8 @@ use Rattle.flow_base.specs.Transducers.{Behaviour}
 use Rattle.flow_graph.specs.declared.edge.Edge.{Edge}
 use Rattle.flow_graph.specs.Laws.{IsNetwork}
 use Rattle.flow_graph.specs.Networks.{network_of, configuration_of}
-use Rattle.flow_drive.specs.Alike.{AreAlike}
-use Rattle.flow_drive.specs.Drives.{EndsMaximalRun, ComesOut}
+use Rattle.flow_graph.specs.Alike.{AreAlike}
+use Rattle.flow_graph.specs.MaximalRuns.{EndsMaximalRun, ComesOut}
 
 module _ {S : Type 0} (b : Behaviour S) (capacity : ℕ) (edges : List Edge) (states : List S) where
   abbrev net : Network S
