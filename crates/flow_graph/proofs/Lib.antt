@@ -20,3 +20,4 @@ pub mod VisitedGraphs
 pub mod Passes
 pub mod Dropped
 pub mod Alike
+pub mod Settling
