@@ -3,3 +3,4 @@ pub mod Rests
 pub mod Texts
 pub mod Holding
 pub mod Gathered
+pub mod Dealt

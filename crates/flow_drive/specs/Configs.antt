@@ -5,7 +5,6 @@ use Rattle.flow_messages.specs.Limits.{greatest_capacity}
 use Rattle.flow_drive.specs.declared.config.Config.{Config}
 use Rattle.flow_drive.specs.declared.config.Drive.{Drive}
 use Rattle.flow_drive.specs.declared.config.Drive.TheVariants.{Serial, Rounds, Rings}
-use Rattle.flow_drive.specs.declared.config.Sharing.{Sharing}
 use Rattle.flow_drive.specs.Limits.{greatest_chunk, most_threads, most_idle_turns, most_entries}
 
 -- the number is at least 1 and at most `most`
@@ -13,18 +12,14 @@ pub record IsWithin (most number : ℕ) : Type 0 where
   pub some : 1 ≤ number
   pub limit : number ≤ most
 
--- What drives of several threads read lies within its limits.
-pub record IsLawfulSharing (sharing : Sharing) : Type 0 where
-  pub threads : IsWithin most_threads sharing.threads
-  pub idle_turns : IsWithin most_idle_turns sharing.idle_turns
-  pub entries : IsWithin most_entries (length sharing.share.items)
-  pub shares : All (λ share. share < sharing.threads) sharing.share.items
-
 -- Each field lies within its limits.
 pub record IsLawful (config : Config) : Type 0 where
   pub capacity : IsWithin greatest_capacity config.capacity
   pub chunk : IsWithin greatest_chunk config.chunk
-  pub sharing : IsLawfulSharing config.sharing
+  pub threads : IsWithin most_threads config.threads
+  pub idle : IsWithin most_idle_turns config.idle
+  pub entries : IsWithin most_entries (length config.share.items)
+  pub shares : All (λ share. share < config.threads) config.share.items
 
 -- the drive starts threads
 abbrev pub StartsThreads : Drive → Type 0

@@ -1,7 +1,7 @@
 // How a graph is to be driven.
 ghost use Rattle.std.specs.Prelude.{◌<◌, ◌↔◌, IsTrue};
 ghost use Rattle.std.specs.List.{All};
-ghost use Rattle.flow_drive.specs.Configs.{IsWithin, IsLawfulSharing, IsLawful};
+ghost use Rattle.flow_drive.specs.Configs.{IsWithin, IsLawful};
 
 use flow_messages::Table;
 
@@ -28,29 +28,22 @@ pub enum Drive {
     Rings,
 }
 
-/// How a graph is to be driven.
+/// How a graph is to be driven. `threads`, `idle` and `share` are for drives of several threads: `Serial` does not read them.
 #[derive(Debug, Drop)]
 pub struct Config {
     /// How many messages an edge holds at most, 1 to [`flow_messages::MAX_CAPACITY`].
     pub capacity: usize,
     /// How many steps a node makes at most before the next node has its turn, 1 to [`MAX_CHUNK`].
     pub chunk: usize,
-    /// How the nodes are shared out to threads: for drives of several threads. `Serial` does not read it.
-    pub sharing: Sharing,
-    /// The drive.
-    pub drive: Drive,
-}
-
-/// How nodes are shared out to threads, and when a thread ends: for drives of several threads.
-#[derive(Debug, Drop)]
-pub struct Sharing {
     /// How many threads there are, 1 to [`MAX_THREADS`].
     pub threads: usize,
     /// How many turns in a row without a step a thread makes before it ends, 1 to [`MAX_IDLE_TURNS`].
-    pub idle_turns: usize,
+    pub idle: usize,
     /// Which thread has each node: node `k` has the entry at `k` modulo the length. 1 to [`MAX_SHARE`] entries, each
     /// below `threads`.
     pub share: Vec<u8>,
+    /// The drive.
+    pub drive: Drive,
 }
 
 impl Config {
@@ -60,17 +53,8 @@ impl Config {
     {
         Table::is_capacity(self.capacity)
             && is_within(self.chunk, MAX_CHUNK)
-            && self.sharing.lawful()
-    }
-}
-
-impl Sharing {
-    /// Whether each field lies within its limits.
-    pub fn lawful(&self) -> bool
-        ensures { IsTrue result ↔ IsLawfulSharing self.now }
-    {
-        is_within(self.threads, MAX_THREADS)
-            && is_within(self.idle_turns, MAX_IDLE_TURNS)
+            && is_within(self.threads, MAX_THREADS)
+            && is_within(self.idle, MAX_IDLE_TURNS)
             && is_within(self.share.len(), MAX_SHARE)
             && all_below(&self.share, self.threads)
     }

@@ -1,9 +1,10 @@
 // Drives of graphs.
-ghost use Rattle.std.specs.Prelude.{◌≡◌, ◌↔◌, Err, IfOk};
+ghost use Rattle.std.specs.Prelude.{◌≡◌, ◌↔◌, ◌⊎◌, Err, IfOk};
 ghost use Rattle.flow_graph.specs.Graphs.{states_of, edges_of};
 ghost use Rattle.flow_graph.specs.Networks.{AreOpened};
 ghost use Rattle.flow_graph.specs.Shapes.{IsSameNetwork};
 ghost use Rattle.flow_drive.specs.Configs.{IsLawful, StartsThreads, IsInSteps};
+ghost use Rattle.flow_drive.specs.Driven.{HasNetworkOf, EndsRunOf};
 ghost use Rattle.flow_drive.specs.Drives.{EndsMaximalRun};
 ghost use Rattle.flow_drive.specs.Epochs.{TookRounds, TookEpochs};
 ghost use Rattle.flow_drive.specs.Refusals.{refused_work};
@@ -20,7 +21,7 @@ use flow_base::Transducer;
 use flow_graph::{Graph, run_serial};
 use flow_messages::Table;
 use flow_shares::Gate;
-use flow_workers::WorkError;
+use flow_workers::{AlwaysStart, Start, WorkError};
 use std::alloc::{AllocError, Global};
 use std::sync::Arc;
 use std::thread::Threads;
@@ -88,20 +89,56 @@ pub fn drive<
     ensures config { (result ≡ Err BadConfig) ↔ (IsLawful config.now → ⊥) }
     ensures threads { result ≡ Err NoThread → StartsThreads config.now.drive }
     ensures whole { result ≡ Err Short → ⊥ }
-    ensures network { IfOk result (λ rested. IsSameNetwork T.behaviour (states_of graph) (edges_of graph) (rested_states rested) (rested_edges rested)) }
+    ensures network { IfOk result (λ rested. HasNetworkOf graph rested) }
     ensures capacity { IfOk result (λ rested. rested_capacity rested ≡ config.now.capacity) }
-    ensures run { IsInSteps config.now.drive → IfOk result (λ rested. EndsMaximalRun T.behaviour config.now.capacity (states_of graph) (edges_of graph) (rested_states rested) (traffic_of rested)) }
-    ensures rounds { IfOk result (λ rested. TookRounds config.now.drive (rested_rounds rested) (moved_of rested)) }
-    ensures epochs { IfOk result (λ rested. TookEpochs config.now.drive (rested_epochs rested) (moved_of rested)) }
+    ensures run { IsInSteps config.now.drive
+        → IfOk result (λ rested. EndsRunOf graph config.now rested) }
+    ensures rounds { IfOk result (λ rested.
+        TookRounds config.now.drive (rested_rounds rested) (moved_of rested)) }
+    ensures epochs { IfOk result (λ rested.
+        TookEpochs config.now.drive (rested_epochs rested) (moved_of rested)) }
     ensures rings { IfOk result (λ rested. IsOverRings rested ↔ (config.now.drive ≡ Rings)) }
+{
+    drive_with(rt, alloc, graph, config, gate, &mut AlwaysStart)
+}
+
+/// The same, where `start` is asked before each thread is started, and may refuse it: then the drive is refused as
+/// `NoThread`.
+pub fn drive_with<
+    R: Threads,
+    T: Transducer + Send + Drop + 'static,
+    G: Gate + Send + Sync + Drop + 'static,
+    S: Start,
+>(
+    rt: &R,
+    alloc: Global,
+    graph: Graph<T>,
+    config: &Config,
+    gate: Arc<G, Global>,
+    start: &mut S,
+) -> Result<Rested<T>, DriveError>
+    requires { AreOpened T.behaviour (states_of graph) }
+    ensures config { (result ≡ Err BadConfig) ↔ (IsLawful config.now → ⊥) }
+    ensures threads { result ≡ Err NoThread → StartsThreads config.now.drive }
+    ensures whole { result ≡ Err Short → ⊥ }
+    ensures network { IfOk result (λ rested. HasNetworkOf graph rested) }
+    ensures capacity { IfOk result (λ rested. rested_capacity rested ≡ config.now.capacity) }
+    ensures run { IsInSteps config.now.drive
+        → IfOk result (λ rested. EndsRunOf graph config.now rested) }
+    ensures rounds { IfOk result (λ rested.
+        TookRounds config.now.drive (rested_rounds rested) (moved_of rested)) }
+    ensures epochs { IfOk result (λ rested.
+        TookEpochs config.now.drive (rested_epochs rested) (moved_of rested)) }
+    ensures rings { IfOk result (λ rested. IsOverRings rested ↔ (config.now.drive ≡ Rings)) }
+    ensures refused { S.refused start.new → S.refused start.old ⊎ (result ≡ Err NoThread) }
 {
     if !config.lawful() {
         return Err(DriveError::BadConfig);
     }
     match config.drive {
         Drive::Serial => Ok(drive_serial(alloc, graph, config)?),
-        Drive::Rounds => Ok(drive_rounds(rt, alloc, graph, config, &gate)?),
-        Drive::Rings => Ok(drive_rings(rt, alloc, graph, config, &gate)?),
+        Drive::Rounds => Ok(drive_rounds(rt, alloc, graph, config, &gate, start)?),
+        Drive::Rings => Ok(drive_rings(rt, alloc, graph, config, &gate, start)?),
     }
 }
 

@@ -39,15 +39,15 @@ pub fn deal_out<T: Transducer + Drop, E: Opening + Drop>(
     ensures graph { IfOk result (λ made. made.0.graph.value ≡ graph) }
     ensures capacity { IfOk result (λ made. made.0.capacity ≡ config.now.capacity) }
     ensures given { IfOk result (λ made. IsOfSetting (setting_in made.0) made.0) }
-    ensures dealt { IfOk result (λ made. IsDealt E.joins E.places made.0.graph.value config.now.sharing.threads made.0.share.items made.0.capacity made.1) }
+    ensures dealt { IfOk result (λ made. IsDealt E.joins E.places made.0.graph.value config.now.threads made.0.share.items made.0.capacity made.1) }
 {
     let given = Snapshot::of(&graph);
     let nodes = graph.nodes();
-    let share = config.sharing.share.to_vec(alloc)?;
+    let share = config.share.to_vec(alloc)?;
     let dealt = deal(
         alloc,
         graph,
-        config.sharing.threads,
+        config.threads,
         &share,
         config.capacity,
     )?;

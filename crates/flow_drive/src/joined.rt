@@ -1,5 +1,5 @@
 // The drive of several threads over rings.
-ghost use Rattle.std.specs.Prelude.{◌≡◌, ◌<◌, ◌≤◌, IfOk};
+ghost use Rattle.std.specs.Prelude.{◌≡◌, ◌<◌, ◌≤◌, ◌⊎◌, Err, IfOk};
 ghost use Rattle.flow_graph.specs.Graphs.{states_of, edges_of};
 ghost use Rattle.flow_graph.specs.Layouts.{edges_in};
 ghost use Rattle.flow_graph.specs.Networks.{AreOpened};
@@ -7,6 +7,7 @@ ghost use Rattle.flow_graph.specs.Places.{states_in};
 ghost use Rattle.flow_graph.specs.Shapes.{IsSameNetwork};
 ghost use Rattle.flow_opening.specs.Open.{AreWires};
 ghost use Rattle.flow_opening.specs.Settings.{Setting, AreFed};
+ghost use Rattle.flow_workers.specs.declared.error.WorkError.TheVariants.{NoThread};
 ghost use Rattle.flow_epochs.specs.Epochs.{moved_in, AreOfOneGraph};
 ghost use Rattle.flow_drive.specs.Configs.{IsLawful};
 ghost use Rattle.flow_drive.specs.Givens.{IsOfSetting};
@@ -22,7 +23,7 @@ use flow_graph::Graph;
 use flow_opening::{Dealt, gather_graph};
 use flow_rings::Rings;
 use flow_shares::Gate;
-use flow_workers::WorkError;
+use flow_workers::{Start, WorkError};
 use std::alloc::Global;
 use std::sync::Arc;
 use std::thread::Threads;
@@ -35,12 +36,14 @@ pub fn drive_rings<
     R: Threads,
     T: Transducer + Send + Drop + 'static,
     G: Gate + Send + Sync + Drop + 'static,
+    S: Start,
 >(
     rt: &R,
     alloc: Global,
     graph: Graph<T>,
     config: &Config,
     gate: &Arc<G, Global>,
+    start: &mut S,
 ) -> Result<Rested<T>, WorkError>
     requires opened { AreOpened T.behaviour (states_of graph) }
     requires lawful { IsLawful config.now }
@@ -50,17 +53,10 @@ pub fn drive_rings<
     ensures least { IfOk result (λ rested. 0 < moved_of rested → 0 < rested_epochs rested) }
     ensures most { IfOk result (λ rested. rested_epochs rested ≤ moved_of rested) }
     ensures rings { IfOk result (λ rested. IsOverRings rested) }
+    ensures refused { S.refused start.new → S.refused start.old ⊎ (result ≡ Err NoThread) }
 {
     let (given, dealt) = deal_out(alloc, graph, config)?;
-    run_dealt(
-        rt,
-        alloc,
-        given,
-        dealt,
-        config.chunk,
-        config.sharing.idle_turns,
-        gate,
-    )
+    run_dealt(rt, alloc, given, dealt, config, gate, start)
 }
 
 // Runs the shares of a graph that was just dealt out, and gathers them.
@@ -68,18 +64,18 @@ fn run_dealt<
     R: Threads,
     T: Transducer + Send + Drop + 'static,
     G: Gate + Send + Sync + Drop + 'static,
+    S: Start,
 >(
     rt: &R,
     alloc: Global,
     given: Given<T>,
     dealt: Dealt<T, Rings>,
-    chunk: usize,
-    idle_turns: usize,
+    config: &Config,
     gate: &Arc<G, Global>,
+    start: &mut S,
 ) -> Result<Rested<T>, WorkError>
     ghost setting: { Setting ⟦<T as Transducer>⟧ }
-    requires some { 0 < chunk }
-    requires idle { 0 < idle_turns }
+    requires lawful { IsLawful config.now }
     requires given { IsOfSetting setting given }
     requires wires { AreWires setting.share setting.edges dealt.wires.items }
     requires layout { edges_in dealt.layout ≡ setting.edges }
@@ -92,13 +88,23 @@ fn run_dealt<
     ensures least { IfOk result (λ rested. 0 < moved_of rested → 0 < rested_epochs rested) }
     ensures most { IfOk result (λ rested. rested_epochs rested ≤ moved_of rested) }
     ensures rings { IfOk result (λ rested. IsOverRings rested) }
+    ensures refused { S.refused start.new → S.refused start.old ⊎ (result ≡ Err NoThread) }
 {
     let Dealt {
         shares,
         wires,
         layout,
     } = dealt;
-    let (shares, count) = run_epochs(rt, alloc, shares, &wires, chunk, idle_turns, gate)?;
+    let (shares, count) = run_epochs(
+        rt,
+        alloc,
+        shares,
+        &wires,
+        config.chunk,
+        config.idle,
+        gate,
+        start,
+    )?;
     let (graph, rings) = gather_graph(alloc, shares, layout, given.nodes, &given.share)?;
     let joined = SharedLines::new(given.share, rings, given.capacity);
     Ok(Rested {

@@ -1,5 +1,5 @@
 // The drive of several threads by rounds.
-ghost use Rattle.std.specs.Prelude.{◌≡◌, ◌<◌, ◌≤◌, IfOk};
+ghost use Rattle.std.specs.Prelude.{◌≡◌, ◌<◌, ◌≤◌, ◌⊎◌, Err, IfOk};
 ghost use Rattle.flow_graph.specs.Graphs.{states_of, edges_of};
 ghost use Rattle.flow_graph.specs.Layouts.{edges_in};
 ghost use Rattle.flow_graph.specs.Networks.{AreOpened};
@@ -7,6 +7,7 @@ ghost use Rattle.flow_graph.specs.Places.{states_in};
 ghost use Rattle.flow_graph.specs.Shapes.{IsSameNetwork};
 ghost use Rattle.flow_opening.specs.Open.{AreWires};
 ghost use Rattle.flow_opening.specs.Settings.{Setting};
+ghost use Rattle.flow_workers.specs.declared.error.WorkError.TheVariants.{NoThread};
 ghost use Rattle.flow_rounds.specs.Standing.{boxes_of, moved_in, StandBetweenRounds};
 ghost use Rattle.flow_drive.specs.Configs.{IsLawful};
 ghost use Rattle.flow_drive.specs.Drives.{EndsMaximalRun};
@@ -23,25 +24,24 @@ use flow_graph::Graph;
 use flow_opening::{Dealt, gather_graph};
 use flow_rounds::run_rounds;
 use flow_shares::Gate;
-use flow_workers::WorkError;
+use flow_workers::{Start, WorkError};
 use std::alloc::Global;
 use std::sync::Arc;
 use std::thread::Threads;
-
-// Nothing comes to a box within a round, so a share is at rest after one turn that moves nothing.
-const IDLE_TURNS: usize = 1;
 
 /// Drives a graph in shares, each in a thread of its own, round after round.
 pub fn drive_rounds<
     R: Threads,
     T: Transducer + Send + Drop + 'static,
     G: Gate + Send + Sync + Drop + 'static,
+    S: Start,
 >(
     rt: &R,
     alloc: Global,
     graph: Graph<T>,
     config: &Config,
     gate: &Arc<G, Global>,
+    start: &mut S,
 ) -> Result<Rested<T>, WorkError>
     requires opened { AreOpened T.behaviour (states_of graph) }
     requires lawful { IsLawful config.now }
@@ -52,9 +52,10 @@ pub fn drive_rounds<
     ensures most { IfOk result (λ rested. rested_rounds rested ≤ moved_of rested) }
     ensures epochs { IfOk result (λ rested. rested_epochs rested ≡ 0) }
     ensures rings { IfOk result (λ rested. IsOverRings rested → ⊥) }
+    ensures refused { S.refused start.new → S.refused start.old ⊎ (result ≡ Err NoThread) }
 {
     let (given, dealt) = deal_out(alloc, graph, config)?;
-    run_dealt(rt, alloc, given, dealt, config.chunk, gate)
+    run_dealt(rt, alloc, given, dealt, config, gate, start)
 }
 
 // Runs the shares of a graph that was just dealt out, and gathers them.
@@ -62,16 +63,18 @@ fn run_dealt<
     R: Threads,
     T: Transducer + Send + Drop + 'static,
     G: Gate + Send + Sync + Drop + 'static,
+    S: Start,
 >(
     rt: &R,
     alloc: Global,
     given: Given<T>,
     dealt: Dealt<T, Boxes>,
-    chunk: usize,
+    config: &Config,
     gate: &Arc<G, Global>,
+    start: &mut S,
 ) -> Result<Rested<T>, WorkError>
     ghost setting: { Setting ⟦<T as Transducer>⟧ }
-    requires some { 0 < chunk }
+    requires lawful { IsLawful config.now }
     requires given { IsOfSetting setting given }
     requires wires { AreWires setting.share setting.edges dealt.wires.items }
     requires layout { edges_in dealt.layout ≡ setting.edges }
@@ -84,13 +87,23 @@ fn run_dealt<
     ensures most { IfOk result (λ rested. rested_rounds rested ≤ moved_of rested) }
     ensures epochs { IfOk result (λ rested. rested_epochs rested ≡ 0) }
     ensures rings { IfOk result (λ rested. IsOverRings rested → ⊥) }
+    ensures refused { S.refused start.new → S.refused start.old ⊎ (result ≡ Err NoThread) }
 {
     let Dealt {
         shares,
         wires,
         layout,
     } = dealt;
-    let (shares, count) = run_rounds(rt, alloc, shares, &wires, chunk, IDLE_TURNS, gate)?;
+    let (shares, count) = run_rounds(
+        rt,
+        alloc,
+        shares,
+        &wires,
+        config.chunk,
+        config.idle,
+        gate,
+        start,
+    )?;
     let (graph, boxes) = gather_graph(alloc, shares, layout, given.nodes, &given.share)?;
     let shared = SharedLines::new(given.share, boxes, given.capacity);
     Ok(Rested {

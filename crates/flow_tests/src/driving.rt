@@ -6,7 +6,7 @@ ghost use Rattle.flow_nodes.specs.StreamNodes.{node_behaviour};
 
 use crate::sketches::{SUM_OF_FIVE, SUM_OF_UNLIKE, graph_of};
 use flow_base::{Printing, Transducer};
-use flow_drive::{Config, Drive, DriveError, NoGate, Outcome, Rested, Sharing, drive};
+use flow_drive::{Config, Drive, DriveError, NoGate, Outcome, Rested, drive};
 use flow_graph::Graph;
 use flow_nodes::StreamNode;
 use snesl_values::{Fault, FaultKind};
@@ -108,11 +108,9 @@ fn config(
     Ok(Config {
         capacity,
         chunk,
-        sharing: Sharing {
-            threads: 2,
-            idle_turns: 64,
-            share: vec![in alloc; 0u8, 1]?,
-        },
+        threads: 2,
+        idle: 64,
+        share: vec![in alloc; 0u8, 1]?,
         drive,
     })
 }
@@ -302,17 +300,14 @@ fn limits_of_configurations(rt: HostRuntime) -> Result<(), Fail> {
         (1, 1, 1, 1, 1, 1, false),
         (1, 1, 16, 1, 1, 16, false),
     ];
-    for &(capacity, chunk, threads, idle_turns, entries, entry, lawful) in &cases {
+    for &(capacity, chunk, threads, idle, entries, entry, lawful) in &cases {
         for drive in [Drive::Serial, Drive::Rounds, Drive::Rings] {
-            let sharing = Sharing {
-                threads,
-                idle_turns,
-                share: vec![in alloc; entry; entries]?,
-            };
             let config = Config {
                 capacity,
                 chunk,
-                sharing,
+                threads,
+                idle,
+                share: vec![in alloc; entry; entries]?,
                 drive,
             };
             assert_lawful(&rt, alloc, &config, lawful)?;

@@ -9,6 +9,8 @@ mod feeding;
 #[cfg(test)]
 mod graphs;
 #[cfg(test)]
+mod idling;
+#[cfg(test)]
 mod network;
 #[cfg(test)]
 mod node_words;

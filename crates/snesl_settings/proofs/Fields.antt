@@ -21,18 +21,16 @@ same_share (Some text) n m a b same said other = said.entries ∙ sym other.entr
 -- of two configurations with the same values, both are lawful or neither is
 pub lawful_by_fields : (value : Text → Option Text) (a b : Config) → HasFields value a → HasFields value b → IsLawful a → IsLawful b
 lawful_by_fields value a b said other lawful =
-    let threads = same_number _ 2 a.sharing.threads b.sharing.threads said.threads other.threads in
-    let share = same_share _ a.sharing.threads b.sharing.threads a.sharing.share.items b.sharing.share.items threads said.share other.share in
+    let threads = same_number _ 2 a.threads b.threads said.threads other.threads in
+    let share = same_share _ a.threads b.threads a.share.items b.share.items threads said.share other.share in
     record {
       capacity = subst (IsWithin greatest_capacity) (same_number _ 256 a.capacity b.capacity said.capacity other.capacity) lawful.capacity;
       chunk = subst (IsWithin greatest_chunk) (same_number _ 16 a.chunk b.chunk said.chunk other.chunk) lawful.chunk;
-      sharing = record {
-        threads = subst (IsWithin most_threads) threads lawful.sharing.threads;
-        idle_turns = subst (IsWithin most_idle_turns) (same_number _ 64 a.sharing.idle_turns b.sharing.idle_turns said.idle_turns other.idle_turns) lawful.sharing.idle_turns;
-        entries = subst (λ (entries : List ℕ). IsWithin most_entries (length entries)) share lawful.sharing.entries;
-        shares = subst (λ (most : ℕ). All (λ entry. entry < most) b.sharing.share.items) threads
-            (subst (λ (entries : List ℕ). All (λ entry. entry < a.sharing.threads) entries) share lawful.sharing.shares);
-      };
+      threads = subst (IsWithin most_threads) threads lawful.threads;
+      idle = subst (IsWithin most_idle_turns) (same_number _ 64 a.idle b.idle said.idle other.idle) lawful.idle;
+      entries = subst (λ (entries : List ℕ). IsWithin most_entries (length entries)) share lawful.entries;
+      shares = subst (λ (most : ℕ). All (λ entry. entry < most) b.share.items) threads
+          (subst (λ (entries : List ℕ). All (λ entry. entry < a.threads) entries) share lawful.shares);
     }
 
 -- what the words say, by the rows that clap finds for them

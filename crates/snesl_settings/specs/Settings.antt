@@ -83,10 +83,10 @@ SaysShare (Some text) threads share = SpellsShare text share
 pub record HasFields (value : Text → Option Text) (config : Config) : Type 0 where
   pub capacity : SaysNumber (value (codes "capacity")) 256 config.capacity
   pub chunk : SaysNumber (value (codes "chunk")) 16 config.chunk
-  pub threads : SaysNumber (value (codes "threads")) 2 config.sharing.threads
-  pub idle_turns : SaysNumber (value (codes "idle")) 64 config.sharing.idle_turns
+  pub threads : SaysNumber (value (codes "threads")) 2 config.threads
+  pub idle : SaysNumber (value (codes "idle")) 64 config.idle
   pub drive : SaysDrive (value (codes "drive")) config.drive
-  pub share : SaysShare (value (codes "deal")) config.sharing.threads config.sharing.share.items
+  pub share : SaysShare (value (codes "deal")) config.threads config.share.items
 
 -- The words say the configuration: clap finds no fault in them, and each field is what its option says.
 pub record SaysSo (words : List Text) (config : Config) : Type 0 where

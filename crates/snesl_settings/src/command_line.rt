@@ -11,7 +11,7 @@ ghost use Rattle.snesl_settings.specs.Settings.{AreLawful, HasFields, RefusesBut
 use crate::options::{matched, value_of};
 use crate::values::{drive_said, number_said, share_said};
 use clap::ArgMatches;
-use flow_drive::{Config, MAX_CHUNK, MAX_IDLE_TURNS, MAX_THREADS, Sharing};
+use flow_drive::{Config, MAX_CHUNK, MAX_IDLE_TURNS, MAX_THREADS};
 use flow_messages::MAX_CAPACITY;
 use snesl_values::Refusal;
 use std::alloc::Global;
@@ -56,18 +56,15 @@ fn config_said(alloc: Global, matches: &ArgMatches<'_>) -> Result<Config, Refusa
     let capacity = number_said(value_of(matches, "capacity"), 256, MAX_CAPACITY)?;
     let chunk = number_said(value_of(matches, "chunk"), 16, MAX_CHUNK)?;
     let threads = number_said(value_of(matches, "threads"), 2, MAX_THREADS)?;
-    let idle_turns = number_said(value_of(matches, "idle"), 64, MAX_IDLE_TURNS)?;
+    let idle = number_said(value_of(matches, "idle"), 64, MAX_IDLE_TURNS)?;
     let drive = drive_said(value_of(matches, "drive"))?;
     let share = share_said(alloc, value_of(matches, "deal"), threads)?;
-    let sharing = Sharing {
-        threads,
-        idle_turns,
-        share,
-    };
     Ok(Config {
         capacity,
         chunk,
-        sharing,
+        threads,
+        idle,
+        share,
         drive,
     })
 }

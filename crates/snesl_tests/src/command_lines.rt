@@ -104,14 +104,14 @@ fn words_of<'a>(alloc: Global, line: &'a str) -> Result<Vec<&'a str>, AllocError
 // What a configuration has.
 fn told(alloc: Global, config: &Config) -> Result<String, AllocError> {
     let (capacity, chunk) = (config.capacity, config.chunk);
-    let (threads, idle) = (config.sharing.threads, config.sharing.idle_turns);
+    let (threads, idle) = (config.threads, config.idle);
     let drive = match config.drive {
         Drive::Serial => "serial",
         Drive::Rounds => "rounds",
         Drive::Rings => "rings",
     };
     let mut text = format!(in alloc; "{drive} {capacity} {chunk} {threads} {idle}")?;
-    for entry in &config.sharing.share {
+    for entry in &config.share {
         add_entry(alloc, &mut text, *entry)?;
     }
     Ok(text)

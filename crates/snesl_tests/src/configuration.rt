@@ -3,7 +3,7 @@
 
 ghost use Rattle.std.specs.Prelude.{◌≡◌, IfOk};
 
-use flow_drive::{Config, Drive, Sharing};
+use flow_drive::{Config, Drive};
 use std::alloc::{AllocError, Global};
 
 /// Edges that hold so many messages, and shares in so many threads, each of which ends after one turn without a step. Its
@@ -16,18 +16,15 @@ pub fn in_threads(
     share: &[u8],
 ) -> Result<Config, AllocError>
     ensures capacity { IfOk result (λ config. config.capacity ≡ capacity) }
-    ensures threads { IfOk result (λ config. config.sharing.threads ≡ threads) }
+    ensures threads { IfOk result (λ config. config.threads ≡ threads) }
     ensures drive { IfOk result (λ config. config.drive ≡ drive) }
 {
-    let sharing = Sharing {
-        threads,
-        idle_turns: 1,
-        share: share.to_vec(alloc)?,
-    };
     Ok(Config {
         capacity,
         chunk: 16,
-        sharing,
+        threads,
+        idle: 1,
+        share: share.to_vec(alloc)?,
         drive,
     })
 }

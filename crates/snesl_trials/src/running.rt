@@ -2,7 +2,7 @@
 ghost use Rattle.std.specs.Prelude.{◌≡◌, IfOk};
 ghost use Rattle.flow_drive.specs.declared.config.Drive.TheVariants.{Serial};
 
-use flow_drive::{Config, Drive, NoGate, Outcome, Rested, Sharing};
+use flow_drive::{Config, Drive, NoGate, Outcome, Rested};
 use flow_nodes::StreamNode;
 use snesl_run::run;
 use snesl_values::{Counted, Refusal};
@@ -105,15 +105,12 @@ pub fn alone(alloc: Global, capacity: usize, chunk: usize) -> Result<Config, All
     ensures chunk { IfOk result (λ config. config.chunk ≡ chunk) }
     ensures drive { IfOk result (λ config. config.drive ≡ Serial) }
 {
-    let sharing = Sharing {
-        threads: 1,
-        idle_turns: 1,
-        share: vec![in alloc; 0u8]?,
-    };
     Ok(Config {
         capacity,
         chunk,
-        sharing,
+        threads: 1,
+        idle: 1,
+        share: vec![in alloc; 0u8]?,
         drive: Drive::Serial,
     })
 }

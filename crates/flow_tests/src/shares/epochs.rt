@@ -3,15 +3,14 @@
 ghost use Rattle.std.specs.Prelude.{◌≡◌};
 ghost use Rattle.flow_graph.specs.Graphs.{states_of};
 ghost use Rattle.flow_graph.specs.Networks.{AreOpened};
-ghost use Rattle.flow_opening.specs.Settings.{Setting, setting_of};
+ghost use Rattle.flow_opening.specs.Settings.{Setting};
+ghost use Rattle.flow_drive.specs.Dealings.{setting_under};
 
 use crate::sketches::{SUM_OF_FIVE, graph_of};
 use flow_base::Transducer;
-use flow_drive::{Config, Drive, NoGate, Sharing, deal};
-use flow_epochs::epoch;
+use flow_drive::{Config, Drive, NoGate, deal_rings, epoch};
 use flow_graph::Graph;
-use flow_opening::{Dealt, are_fed};
-use flow_rings::Rings;
+use flow_opening::are_fed;
 use std::alloc::Global;
 use std::process::Abort;
 use std::sync::Arc;
@@ -39,15 +38,15 @@ fn two_epochs_in<R: Threads, T: Transducer + Send + Drop + 'static>(
 ) -> Result<Option<usize>, Fail>
     ghost setting: { Setting ⟦<T as Transducer>⟧ }
     requires opened { AreOpened T.behaviour (states_of graph) }
-    requires setting { setting ≡ setting_of graph config.now.sharing.share.items config.now.capacity }
+    requires setting { setting ≡ setting_under graph config.now }
 {
     let gate = Arc::new(alloc, NoGate)?;
-    let Dealt { shares, wires, .. } = deal::<T, Rings>(alloc, graph, config)?;
-    let once = epoch(rt, alloc, shares, &wires, 1, 1, &gate)?;
+    let shares = deal_rings(alloc, graph, config)?;
+    let once = epoch(rt, alloc, shares, config, &gate)?;
     if !are_fed(&once) {
         return Ok(None);
     }
-    let twice = epoch(rt, alloc, once, &wires, 1, 1, &gate)?;
+    let twice = epoch(rt, alloc, once, config, &gate)?;
     Ok(Some(twice.len()))
 }
 
@@ -57,11 +56,9 @@ fn two_epochs_of_three_shares(rt: HostRuntime) -> Result<(), Fail> {
     let config = Config {
         capacity: 1,
         chunk: 1,
-        sharing: Sharing {
-            threads: 3,
-            idle_turns: 1,
-            share: vec![in alloc; 0u8, 1, 2]?,
-        },
+        threads: 3,
+        idle: 1,
+        share: vec![in alloc; 0u8, 1, 2]?,
         drive: Drive::Rings,
     };
     let back = two_epochs(&rt, alloc, graph_of(alloc, SUM_OF_FIVE)?, &config)?;

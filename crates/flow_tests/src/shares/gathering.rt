@@ -7,7 +7,7 @@ ghost use Rattle.flow_nodes.specs.StreamNodes.{node_behaviour};
 use crate::driving::driven_under;
 use crate::shares::regathering::dealt_and_gathered;
 use crate::sketches::{SUM_OF_FIVE, graph_of};
-use flow_drive::{Config, Drive, Outcome, Sharing};
+use flow_drive::{Config, Drive, Outcome};
 use flow_graph::Graph;
 use flow_nodes::StreamNode;
 use std::alloc::Global;
@@ -22,11 +22,9 @@ fn outcome_of(rt: &impl Threads, alloc: Global, graph: Graph<StreamNode>) -> Res
     let config = Config {
         capacity: 1,
         chunk: 1,
-        sharing: Sharing {
-            threads: 1,
-            idle_turns: 1,
-            share: vec![in alloc; 0u8]?,
-        },
+        threads: 1,
+        idle: 1,
+        share: vec![in alloc; 0u8]?,
         drive: Drive::Serial,
     };
     Ok(driven_under(rt, alloc, graph, &config)?.outcome)

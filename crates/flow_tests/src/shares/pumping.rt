@@ -1,18 +1,12 @@
 // Shares that were dealt out, the first of them pumped by itself.
 
-ghost use Rattle.flow_graph.specs.Graphs.{states_of};
-ghost use Rattle.flow_graph.specs.Networks.{AreOpened};
+ghost use Rattle.flow_opening.specs.Settings.{AreFed};
+ghost use Rattle.flow_drive.specs.Configs.{IsLawful};
 
 use crate::sketches::{SUM_OF_FIVE, graph_of};
 use flow_base::Transducer;
-use flow_boxes::Boxes;
-use flow_drive::{Config, Drive, NoGate, Sharing, deal};
-use flow_graph::Graph;
+use flow_drive::{Config, Drive, NoGate, Share, deal, deal_rings, pump};
 use flow_messages::Ends;
-use flow_nodes::StreamNode;
-use flow_opening::{Dealt, Opening};
-use flow_rings::Rings;
-use flow_shares::pump;
 use std::alloc::{AllocError, Global};
 use std::process::Abort;
 use std::test::Fail;
@@ -26,37 +20,36 @@ fn apart(alloc: Global) -> Result<Config, AllocError> {
     Ok(Config {
         capacity: 1,
         chunk: 1,
-        sharing: Sharing {
-            threads: 16,
-            idle_turns: 1,
-            share,
-        },
+        threads: 16,
+        idle: 1,
+        share,
         drive: Drive::Rounds,
     })
 }
 
 // The ends of the first of sixteen shares, after a pump that moved a message and came to rest.
-fn pumped<T: Transducer + Drop, E: Opening + Drop>(
+fn pumped<T: Transducer + Drop, E: Ends + Drop>(
     rt: &impl Abort,
-    alloc: Global,
-    graph: Graph<T>,
-) -> Result<E, Fail>
-    requires { AreOpened T.behaviour (states_of graph) }
+    shares: Vec<Share<T, E>>,
+    config: &Config,
+) -> E
+    requires lawful { IsLawful config.now }
+    requires fed { AreFed shares.items }
 {
-    let dealt: Dealt<T, E> = deal(alloc, graph, &apart(alloc)?)?;
-    let mut shares = dealt.shares;
+    let mut shares = shares;
     assert!(rt; shares.len() == 16);
     let share = shares.swap_remove(0);
-    let share = pump(share, 1, 1, &NoGate);
+    let share = pump(share, config, &NoGate);
     assert_eq!(rt; share.nodes().len(), 1);
     assert!(rt; share.moved() && !share.spent() && !share.starved());
-    Ok(share.into_parts().1)
+    share.into_parts().1
 }
 
 #[test]
 fn share_over_boxes_is_not_spent(rt: HostRuntime) -> Result<(), Fail> {
-    let graph = graph_of(rt.alloc(), SUM_OF_FIVE)?;
-    let mut ends = pumped::<StreamNode, Boxes>(&rt, rt.alloc(), graph)?;
+    let config = apart(rt.alloc())?;
+    let shares = deal(rt.alloc(), graph_of(rt.alloc(), SUM_OF_FIVE)?, &config)?;
+    let mut ends = pumped(&rt, shares, &config);
     // The source has put its one message on the only edge that it writes.
     assert!(rt; ends.has_writer(0) && !ends.has_reader(0));
     assert!(rt; !ends.room(0));
@@ -65,8 +58,9 @@ fn share_over_boxes_is_not_spent(rt: HostRuntime) -> Result<(), Fail> {
 
 #[test]
 fn share_over_rings_is_not_spent(rt: HostRuntime) -> Result<(), Fail> {
-    let graph = graph_of(rt.alloc(), SUM_OF_FIVE)?;
-    let ends = pumped::<StreamNode, Rings>(&rt, rt.alloc(), graph)?;
+    let config = apart(rt.alloc())?;
+    let shares = deal_rings(rt.alloc(), graph_of(rt.alloc(), SUM_OF_FIVE)?, &config)?;
+    let ends = pumped(&rt, shares, &config);
     assert!(rt; ends.has_writer(0) && !ends.has_reader(0));
     Ok(())
 }

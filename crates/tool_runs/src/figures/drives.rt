@@ -5,7 +5,7 @@
 use crate::figures::programs::{Program, deep, squares, wide};
 use crate::figures::rounds::idle_rounds;
 use anyhow::{Result, bail, ensure};
-use flow_drive::{Config, Drive, NoGate, Sharing};
+use flow_drive::{Config, Drive, NoGate};
 use snesl_run::{Report, RunError, run};
 use snesl_values::Counted;
 use std::alloc::{AllocError, Global};
@@ -78,15 +78,12 @@ fn config(alloc: Global, drive: Drive, threads: u8, capacity: usize) -> Result<C
     for thread in 0..threads {
         share.push(thread)?;
     }
-    let sharing = Sharing {
-        threads: usize::from(threads),
-        idle_turns: 64,
-        share,
-    };
     Ok(Config {
         capacity,
         chunk: 256,
-        sharing,
+        threads: usize::from(threads),
+        idle: 64,
+        share,
         drive,
     })
 }
@@ -125,7 +122,7 @@ fn report<R: Eprint + Clock + AllocGlobal + Threads>(
     time: Duration,
     turns: u64,
 ) -> Result<()> {
-    let (name, capacity, threads) = (program.name, config.capacity, config.sharing.threads);
+    let (name, capacity, threads) = (program.name, config.capacity, config.threads);
     let (drive, each) = match config.drive {
         Drive::Serial => ("serial", "rounds"),
         Drive::Rounds => ("rounds", "rounds"),

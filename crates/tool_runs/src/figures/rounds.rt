@@ -8,7 +8,7 @@ use flow_boxes::Boxes;
 use flow_drive::NoGate;
 use flow_scalar::Source;
 use flow_shares::Share;
-use flow_workers::run_all;
+use flow_workers::{AlwaysStart, run_all};
 use std::alloc::{AllocError, Global};
 use std::rt::Clock;
 use std::sync::Arc;
@@ -25,7 +25,8 @@ pub fn idle_rounds<R: Clock + AllocGlobal + Threads>(
     let gate = Arc::new(alloc, NoGate)?;
     let start = Instant::now(rt)?;
     for _ in 0..rounds {
-        run_all(rt, alloc, bare_shares(alloc, threads)?, 1, 1, &gate)?;
+        let shares = bare_shares(alloc, threads)?;
+        run_all(rt, alloc, shares, 1, 1, &gate, &mut AlwaysStart)?;
     }
     Ok(start.elapsed(rt)?)
 }

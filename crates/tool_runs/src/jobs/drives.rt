@@ -2,7 +2,7 @@
 
 use crate::jobs::Trial;
 use crate::jobs::answers::job_of;
-use flow_drive::{Config, Drive, Sharing};
+use flow_drive::{Config, Drive};
 use snesl_console::split;
 use snesl_tables::{Row, SpellingError};
 use snesl_trials::{Done, ran, ran_alone};
@@ -57,7 +57,7 @@ struct Case<'a> {
 struct Way<'a> {
     drive: Drive,
     chunk: usize,
-    idle_turns: usize,
+    idle: usize,
     shares: (usize, &'a [u8]),
 }
 
@@ -106,19 +106,19 @@ impl Drives {
     }
 
     // Tries the drives of several threads: chunks of 1 and of 16, each of the lists of shares, and over rings threads that end
-    // after one turn without a step and after 64, which rounds do not read. A network of at most five nodes is run with
-    // each list of five entries 0 or 1 besides.
+    // after one turn without a step and after 64; in rounds no message comes that a later turn could find. A network of at
+    // most five nodes is run with each list of five entries 0 or 1 besides.
     fn try_ways(
         &mut self,
         rt: &impl Threads,
         alloc: Global,
         case: Case<'_>,
     ) -> Result<(), AllocError> {
-        for (drive, idle) in [
+        for (drive, idles) in [
             (Drive::Rounds, [1].as_slice()),
             (Drive::Rings, [1, 64].as_slice()),
         ] {
-            self.try_shares(rt, alloc, case, drive, idle)?;
+            self.try_shares(rt, alloc, case, drive, idles)?;
             if case.serial.nodes <= 5 {
                 self.try_pairs(rt, alloc, case, drive)?;
             }
@@ -133,15 +133,15 @@ impl Drives {
         alloc: Global,
         case: Case<'_>,
         drive: Drive,
-        idle: &[usize],
+        idles: &[usize],
     ) -> Result<(), AllocError> {
         for chunk in [1, 16] {
-            for &idle_turns in idle {
+            for &idle in idles {
                 for &shares in &SHARES {
                     let way = Way {
                         drive,
                         chunk,
-                        idle_turns,
+                        idle,
                         shares,
                     };
                     self.try_way(rt, alloc, case, way)?;
@@ -197,22 +197,19 @@ fn unhurried(drive: Drive, shares: (usize, &[u8])) -> Way<'_> {
     Way {
         drive,
         chunk: 1,
-        idle_turns: 1,
+        idle: 1,
         shares,
     }
 }
 
 fn config(alloc: Global, capacity: usize, way: Way<'_>) -> Result<Config, AllocError> {
     let (threads, share) = way.shares;
-    let sharing = Sharing {
-        threads,
-        idle_turns: way.idle_turns,
-        share: share.to_vec(alloc)?,
-    };
     Ok(Config {
         capacity,
         chunk: way.chunk,
-        sharing,
+        threads,
+        idle: way.idle,
+        share: share.to_vec(alloc)?,
         drive: way.drive,
     })
 }

@@ -1,7 +1,7 @@
 // Programs by plain evaluation and by the drives of several threads.
 
 use crate::endings::Endings;
-use flow_drive::{Config, Drive, Outcome, Sharing};
+use flow_drive::{Config, Drive, Outcome};
 use snesl_console::split;
 use snesl_dice::Dice;
 use snesl_trials::{Done, Expected, alone, ran};
@@ -225,17 +225,14 @@ fn random_config(
     capacity: usize,
 ) -> Result<Config, AllocError> {
     let chunk = if dice.once_in(2) { 1 } else { 16 };
-    let idle_turns = if dice.once_in(2) { 1 } else { 64 };
+    let idle = if dice.once_in(2) { 1 } else { 64 };
     let threads = dice.below(4).saturating_add(1);
-    let sharing = Sharing {
-        threads,
-        idle_turns,
-        share: random_shares(alloc, dice, threads)?,
-    };
     Ok(Config {
         capacity,
         chunk,
-        sharing,
+        threads,
+        idle,
+        share: random_shares(alloc, dice, threads)?,
         drive,
     })
 }

@@ -1,17 +1,17 @@
-use Rattle.std.proofs.Common.{subst}
-use Rattle.flow_opening.specs.Deals.{IsDealt}
+use Rattle.flow_meetings.specs.BoxMeetings.{BoxesJoin, box_places}
 use Rattle.flow_drive.specs.Configs.{IsLawful}
-use Rattle.flow_drive.specs.declared.driver.DriveError.TheVariants.{NoMemory}
-use Rattle.flow_drive.proofs.Refused.{refused_else, made_lawful}
+use Rattle.flow_drive.proofs.Refused.{passed_on, passed_made}
+use Rattle.flow_drive.proofs.Dealt.{are_dealt_out, are_fed}
 use Rattle.flow_drive.proofs.dealing.deal.Goals as goal
 
 pub returns-in_err-dealt-clause-config : goal.returns-in_err-dealt-clause-config
-returns-in_err-dealt-clause-config g c = refused_else c.from_residual.result NoMemory (IsLawful c.args.config.now) (c.lawful.ensures.0 c.if-not-lawful.false) c.from_residual.ensures.1 (λ is. cc)
+returns-in_err-dealt-clause-config g c = passed_on c.in_err-dealt.field-0.0 c.from_residual.result (IsLawful c.args.config.now) c.from_residual.ensures.1 c.in_err-dealt.ensures.config
 
 pub returns-clause-config : goal.returns-clause-config
-returns-clause-config g c = made_lawful c.in_ok-dealt.dealt (IsLawful c.args.config.now) (c.lawful.ensures.0 c.if-not-lawful.false)
+returns-clause-config g c = passed_made c.in_ok-dealt.dealt c.in_ok-dealt.dealt.shares (IsLawful c.args.config.now) c.in_ok-dealt.ensures.config
 
 pub returns-clause-dealt : goal.returns-clause-dealt
-returns-clause-dealt g c =
-    let config = c.args.config.now in
-    subst (λ share. IsDealt g.E.Meeting.joins g.E.Meeting.places c.args.graph config.sharing.threads share config.capacity c.in_ok-dealt.dealt) c.deref.ensures.value c.in_ok-dealt.ensures
+returns-clause-dealt g c = are_dealt_out BoxesJoin box_places c.args.graph c.args.config.now c.in_ok-dealt.dealt c.in_ok-dealt.ensures.dealt c.in_ok-dealt.ensures.lawful
+
+pub returns-clause-fed : goal.returns-clause-fed
+returns-clause-fed g c = are_fed BoxesJoin box_places c.args.graph c.args.config.now c.in_ok-dealt.dealt c.in_ok-dealt.ensures.dealt

@@ -11,7 +11,7 @@ pub returns-clause-given : goal.returns-clause-given
 returns-clause-given g c =
     let given = c.of-given.result.value in
     record {
-      named = omega (arith, c.requires.lawful.sharing.entries.some, c.in_ok-share.ensures.len, ap length c.deref.ensures.value);
+      named = omega (arith, c.requires.lawful.entries.some, c.in_ok-share.ensures.len, ap length c.deref.ensures.value);
       nodes = c.nodes-nodes.ensures ∙ ap (λ graph. length (states_of graph)) (sym c.of-given.ensures) ∙ length-map (nodes_of given) placed_state;
       share = refl;
       capacity = refl;
@@ -24,8 +24,8 @@ returns-clause-dealt g c =
     let config = c.args.config.now in
     let share = c.in_ok-share.share.items in
     let dealt = c.in_ok-dealt.dealt in
-    subst (λ graph. IsDealt joins places graph config.sharing.threads share config.capacity dealt) (sym c.of-given.ensures)
-    (subst (λ s. IsDealt joins places c.args.graph config.sharing.threads s config.capacity dealt) c.deref-2.ensures.value c.in_ok-dealt.ensures)
+    subst (λ graph. IsDealt joins places graph config.threads share config.capacity dealt) (sym c.of-given.ensures)
+    (subst (λ s. IsDealt joins places c.args.graph config.threads s config.capacity dealt) c.deref-2.ensures.value c.in_ok-dealt.ensures)
 
 pub returns-in_err-share : goal.returns-in_err-share
 returns-in_err-share g c =

@@ -8,8 +8,8 @@ run_dealt-requires g c κs within =
     let given = c.in_ok-given.given in
     let dealt = c.in_ok-given.dealt in
     let made = c.in_ok-given.ensures in
-    let threads = c.args.config.now.sharing.threads in
+    let threads = c.args.config.now.threads in
     let graph = dealt_graph given.graph.value threads given.share.items given.capacity dealt made.dealt in
     let fed = dealt_fed given.graph.value threads given.share.items given.capacity dealt made.dealt in
     let none = dealt_none given.graph.value threads given.share.items given.capacity dealt made.dealt in
-    (within.0, (within.1.0, (within.1.1, (bounds.static-T, (bounds.static-G, (bounds.send-T, (bounds.send-G, (bounds.sync-G, (lawful.chunk.some, (lawful.sharing.idle_turns.some, (made.given, (made.dealt.wires, (made.dealt.layout, (graph, (fed, none)))))))))))))))
+    (within.0, (within.1.0, (within.1.1.0, (within.1.1.1, (bounds.static-T, (bounds.static-G, (bounds.send-T, (bounds.send-G, (bounds.sync-G, (lawful, (made.given, (made.dealt.wires, (made.dealt.layout, (graph, (fed, none)))))))))))))))

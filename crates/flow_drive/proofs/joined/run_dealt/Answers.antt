@@ -1,8 +1,10 @@
-use Rattle.std.proofs.Common.{ℕ, ◌≡◌, ◌<◌, ◌≤◌, ◌∙◌, List, map, get_or, refl, sym, ap, subst, arith}
+use Rattle.std.proofs.Common.{ℕ, ◌≡◌, ◌<◌, ◌≤◌, ◌∙◌, List, map, get_or, refl, sym, ap, subst, arith, inl, rules}
 use Rattle.flow_messages.specs.Ends.{View}
 use Rattle.flow_messages.specs.declared.ends.Ends.{Ghosts as EndsGhosts}
 use Rattle.flow_base.specs.declared.transducer.Transducer.{Ghosts}
 use Rattle.flow_graph.specs.Graphs.{states_of}
+use Rattle.flow_workers.specs.declared.error.WorkError.TheVariants.{NoThread}
+use Rattle.flow_workers.proofs.Refused.{none_refused}
 use Rattle.flow_rings.specs.declared.rings.Rings.{Rings}
 use Rattle.flow_rings.specs.Rings.{ends_of}
 use Rattle.flow_shares.specs.declared.share.Share.{Share}
@@ -25,10 +27,11 @@ rings_seen {X} {t} {u} shares rings taken sees =
 
 pub run_epochs-requires : goal.run_epochs-requires
 run_epochs-requires g c κs within =
-    let bounds = c.requires.1.1.1 in
+    let bounds = c.requires.1.1.1.1 in
     let clauses = bounds.1.1.1.1.1 in
-    let wires = subst (λ w. AreWires g.setting.share g.setting.edges w) (sym c.deref.ensures.value) clauses.1.1.1.0 in
-    (within.0, (within.1.0, (within.1.1, (bounds.0, (bounds.1.0, (bounds.1.1.0, (bounds.1.1.1.0, (bounds.1.1.1.1.0, (clauses.0, (clauses.1.0, (wires, (clauses.1.1.1.1.1.0, clauses.1.1.1.1.1.1.0))))))))))))
+    let lawful = clauses.0 in
+    let wires = subst (λ w. AreWires g.setting.share g.setting.edges w) (sym c.deref.ensures.value) clauses.1.1.0 in
+    (within.0, (within.1.0, (within.1.1.0, (within.1.1.1, (bounds.0, (bounds.1.0, (bounds.1.1.0, (bounds.1.1.1.0, (bounds.1.1.1.1.0, (lawful.chunk.some, (lawful.idle.some, (wires, (clauses.1.1.1.1.0, clauses.1.1.1.1.1.0)))))))))))))
 
 pub invariant_of-result : goal.invariant_of-result
 invariant_of-result g c =
@@ -74,6 +77,9 @@ returns-clause-most g c =
     rings_moved g.setting graph joined network rest (ap (λ share. share.items) c.new-joined.ensures.share ∙ given.share) (c.new-joined.ensures.capacity ∙ given.capacity) (λ n. count ≤ n)
     (subst (λ v. count ≤ moved_by g.setting v) (rings_seen c.in_ok-shares.shares.items joined.ends.items taken refl) (omega (arith, made.most)))
 
+pub returns-clause-refused : goal.returns-clause-refused
+returns-clause-refused g c now = inl (none_refused _ NoThread c.in_ok-shares.ensures.refused now)
+
 pub returns-in_err-shares : goal.returns-in_err-shares
 returns-in_err-shares g c =
     let r = c.from_residual.result in
@@ -85,6 +91,7 @@ returns-in_err-shares g c =
       least = nothing_made r _ _ h;
       most = nothing_made r _ _ h;
       rings = nothing_made r _ _ h;
+      refused = search rules;
     }
 
 pub returns-in_err-graph : goal.returns-in_err-graph
@@ -98,4 +105,5 @@ returns-in_err-graph g c =
       least = nothing_made r _ _ h;
       most = nothing_made r _ _ h;
       rings = nothing_made r _ _ h;
+      refused = λ now. inl (none_refused _ NoThread c.in_ok-shares.ensures.refused now);
     }

@@ -14,9 +14,9 @@ run_dealt-requires g c κs within =
     let given = c.in_ok-given.given in
     let made = c.in_ok-given.ensures in
     let opened = subst (λ graph. AreOpened g.T.Transducer.behaviour (states_of graph)) (sym made.graph) c.requires.opened in
-    let stand = dealt_stand refl given.graph.value c.args.config.now.sharing.threads given.share.items given.capacity c.in_ok-given.dealt made.dealt opened in
-    let none = dealt_none refl given.graph.value c.args.config.now.sharing.threads given.share.items given.capacity c.in_ok-given.dealt made.dealt in
-    (within.0, (within.1.0, (within.1.1, (bounds.static-T, (bounds.static-G, (bounds.send-T, (bounds.send-G, (bounds.sync-G, (lawful.chunk.some, (made.given, (made.dealt.wires, (made.dealt.layout, (stand, none)))))))))))))
+    let stand = dealt_stand refl given.graph.value c.args.config.now.threads given.share.items given.capacity c.in_ok-given.dealt made.dealt opened in
+    let none = dealt_none refl given.graph.value c.args.config.now.threads given.share.items given.capacity c.in_ok-given.dealt made.dealt in
+    (within.0, (within.1.0, (within.1.1.0, (within.1.1.1, (bounds.static-T, (bounds.static-G, (bounds.send-T, (bounds.send-G, (bounds.sync-G, (lawful, (made.given, (made.dealt.wires, (made.dealt.layout, (stand, none))))))))))))))
 
 pub returns-clause-run : goal.returns-clause-run
 returns-clause-run g c =

@@ -1,5 +1,7 @@
-use Rattle.std.proofs.Common.{◌<◌, ◌≤◌, ◌∙◌, sym, ap, subst, arith}
+use Rattle.std.proofs.Common.{◌<◌, ◌≤◌, ◌∙◌, sym, ap, subst, arith, inl, rules}
 use Rattle.flow_graph.specs.Graphs.{states_of}
+use Rattle.flow_workers.specs.declared.error.WorkError.TheVariants.{NoThread}
+use Rattle.flow_workers.proofs.Refused.{none_refused}
 use Rattle.flow_opening.specs.Open.{AreWires}
 use Rattle.flow_round_laws.specs.Joints.{views_of}
 use Rattle.flow_opening.specs.Settings.{moved_by}
@@ -11,14 +13,15 @@ use Rattle.flow_drive.proofs.rounds.run_dealt.Goals as goal
 
 pub run_rounds-requires : goal.run_rounds-requires
 run_rounds-requires g c κs within =
-    let bounds = c.requires.1.1.1 in
+    let bounds = c.requires.1.1.1.1 in
     let clauses = bounds.1.1.1.1.1 in
+    let lawful = clauses.0 in
     let wires = subst (λ w. AreWires g.setting.share g.setting.edges w) (sym c.deref.ensures.value) clauses.1.1.0 in
-    (within.0, (within.1.0, (within.1.1, (bounds.0, (bounds.1.0, (bounds.1.1.0, (bounds.1.1.1.0, (bounds.1.1.1.1.0, (clauses.0, (omega arith, (wires, clauses.1.1.1.1.0)))))))))))
+    (within.0, (within.1.0, (within.1.1.0, (within.1.1.1, (bounds.0, (bounds.1.0, (bounds.1.1.0, (bounds.1.1.1.0, (bounds.1.1.1.1.0, (lawful.chunk.some, (lawful.idle.some, (wires, clauses.1.1.1.1.0))))))))))))
 
 pub invariant_of-result : goal.invariant_of-result
 invariant_of-result g c =
-    let given = c.requires.1.1.1.1.1.1.1.1.1.0 in
+    let given = c.requires.1.1.1.1.1.1.1.1.1.1.0 in
     let graph = c.in_ok-graph.graph in
     let shared = c.new-shared.result in
     let network = c.in_ok-graph.ensures.network in
@@ -34,7 +37,7 @@ invariant_of-result g c =
 
 pub returns-clause-run : goal.returns-clause-run
 returns-clause-run g c =
-    let given = c.requires.1.1.1.1.1.1.1.1.1.0 in
+    let given = c.requires.1.1.1.1.1.1.1.1.1.1.0 in
     let graph = c.in_ok-graph.graph in
     let shared = c.new-shared.result in
     let taken = ap (λ ends. ends.items) c.new-shared.ensures.ends ∙ c.in_ok-graph.ensures.ends in
@@ -43,8 +46,8 @@ returns-clause-run g c =
 
 pub returns-clause-least : goal.returns-clause-least
 returns-clause-least g c =
-    let given = c.requires.1.1.1.1.1.1.1.1.1.0 in
-    let none = c.requires.1.1.1.1.1.1.1.1.1.1.1.1.1 in
+    let given = c.requires.1.1.1.1.1.1.1.1.1.1.0 in
+    let none = c.requires.1.1.1.1.1.1.1.1.1.1.1.1.1.1 in
     let graph = c.in_ok-graph.graph in
     let shared = c.new-shared.result in
     let shares = c.in_ok-shares.shares.items in
@@ -56,7 +59,7 @@ returns-clause-least g c =
 
 pub returns-clause-most : goal.returns-clause-most
 returns-clause-most g c =
-    let given = c.requires.1.1.1.1.1.1.1.1.1.0 in
+    let given = c.requires.1.1.1.1.1.1.1.1.1.1.0 in
     let graph = c.in_ok-graph.graph in
     let shared = c.new-shared.result in
     let shares = c.in_ok-shares.shares.items in
@@ -65,6 +68,9 @@ returns-clause-most g c =
     let rest = come_to_rest g.setting shares c.in_ok-shares.ensures.rest (states_of graph) c.in_ok-graph.ensures.states shared.ends.items taken in
     boxes_moved g.setting graph shared c.in_ok-graph.ensures.network rest (ap (λ share. share.items) c.new-shared.ensures.share ∙ given.share) (c.new-shared.ensures.capacity ∙ given.capacity) (λ n. count ≤ n)
     (subst (λ v. count ≤ moved_by g.setting (views_of v)) (sym (seen_is shares shared.ends.items taken)) (omega (arith, c.in_ok-shares.ensures.most)))
+
+pub returns-clause-refused : goal.returns-clause-refused
+returns-clause-refused g c now = inl (none_refused _ NoThread c.in_ok-shares.ensures.refused now)
 
 pub returns-in_err-shares : goal.returns-in_err-shares
 returns-in_err-shares g c =
@@ -78,6 +84,7 @@ returns-in_err-shares g c =
       most = nothing_made r _ _ h;
       epochs = nothing_made r _ _ h;
       rings = nothing_made r _ _ h;
+      refused = search rules;
     }
 
 pub returns-in_err-graph : goal.returns-in_err-graph
@@ -92,4 +99,5 @@ returns-in_err-graph g c =
       most = nothing_made r _ _ h;
       epochs = nothing_made r _ _ h;
       rings = nothing_made r _ _ h;
+      refused = λ now. inl (none_refused _ NoThread c.in_ok-shares.ensures.refused now);
     }
