@@ -38,6 +38,8 @@ pub struct Told {
     pub rounds: u64,
     pub epochs: u64,
     pub text: Vec<u8>,
+    /// How many nodes its shares have, where it was driven over rings.
+    pub apart: Option<usize>,
 }
 
 // How many messages were sent and how many received on each edge.
@@ -52,6 +54,15 @@ fn counts_of<T: Transducer>(
     Ok(counts)
 }
 
+// How many nodes its shares have, where it was driven over rings.
+fn nodes_apart<T: Transducer>(rested: &Rested<T>) -> Option<usize> {
+    let mut nodes: usize = 0;
+    for share in rested.rings()? {
+        nodes = nodes.saturating_add(share.nodes().len());
+    }
+    Some(nodes)
+}
+
 fn told_of<T: Transducer + Printing>(
     alloc: Global,
     rested: &Rested<T>,
@@ -63,6 +74,7 @@ fn told_of<T: Transducer + Printing>(
         rounds: rested.rounds(),
         epochs: rested.epochs(),
         text: rested.text().to_vec(alloc)?,
+        apart: nodes_apart(rested),
     })
 }
 
@@ -145,6 +157,12 @@ fn assert_nineteen(rt: &impl Abort, told: &Told) {
     assert_eq!(rt; told.counts.get(2), Some(&(7, 7)));
 }
 
+// Asserts that over rings all nodes stayed in shares, and in no other drive.
+fn assert_apart(rt: &impl Abort, told: &Told, drive: Drive) {
+    let all = if drive == Drive::Rings { Some(told.nodes) } else { None };
+    assert_eq!(rt; told.apart, all);
+}
+
 // Asserts that each round or epoch moved a message, of which there are nineteen, sent and received.
 fn assert_rounds(rt: &impl Abort, told: &Told, drive: Drive) {
     let (rounds, epochs) = (told.rounds, told.epochs);
@@ -162,6 +180,7 @@ fn nineteen_messages(rt: HostRuntime) -> Result<(), Fail> {
             let told = driven(&rt, rt.alloc(), SUM_OF_FIVE, capacity, way)?;
             assert_nineteen(&rt, &told);
             assert_rounds(&rt, &told, way.0);
+            assert_apart(&rt, &told, way.0);
         }
     }
     Ok(())
