@@ -1,11 +1,10 @@
 -- Where a job is split.
-use Rattle.std.proofs.Common.{◌≡◌, ◌≢◌, ℕ, ◌+◌, ◌-◌, ◌<◌, ◌≤◌, ◌⊎◌, suc, Bool, true, false, ◌==◌, List, [], ◌∷◌, ◌++◌, Option, Some, None, length, take, drop, get_or, nat_lt, codes, Bor, MatchOption, refl, sym, ap, ◌∙◌, subst, arith, inl, inr, ⊎_elim, cond}
+use Rattle.std.proofs.Common.{◌≡◌, ◌≢◌, ℕ, ◌+◌, ◌-◌, ◌<◌, ◌≤◌, ◌⊎◌, suc, Bool, true, false, ◌==◌, List, [], ◌∷◌, ◌++◌, Some, None, length, take, drop, get_or, nat_lt, codes, refl, sym, ap, ◌∙◌, subst, arith, inl, inr, ⊎_elim, cond}
 use Rattle.std.specs.List.{position, position_or_len}
 use Rattle.std.proofs.lemmas.List.{get_or-drop, get_or_past, length-drop, take-append-drop, length-take-le}
 use Rattle.std.proofs.lemmas.List.Quantifiers.{position-Some}
 use Rattle.std.proofs.lemmas.List.Sums.{fails_before_first}
 use Rattle.std.proofs.lemmas.Bool.{cases_lt, cases_order}
-use Rattle.std.proofs.lemmas.Bool.Decides.{Decides-eqb}
 use Rattle.std.proofs.Math.Seq.{drop-append_seam, take-append_seam, take-suc}
 use borrow.Author.Tests.{ltb-false, eqb-true}
 use Rattle.snesl_console.specs.Job.{BeginsWithSeparator, at_the_end, before_line_feed, before_carriage_return, EndsLine, NoSeparatorBefore, IsJob, parted, program_alone, HaveOneJob}
@@ -51,7 +50,7 @@ ends_at front at (inr (others, e)) h =
     (length others, omega arith, sym size, λ back. ap (λ l. get_or (l ++ back) (length others) 0) e ∙ seam others back 10)
 
 -- no line feed stands from here up to there
-abbrev NoLineFeed : List ℕ → ℕ → ℕ → Type 0
+abbrev pub NoLineFeed : List ℕ → ℕ → ℕ → Type 0
 NoLineFeed job at end = (k : ℕ) → at ≤ k → k < end → get_or job k 0 ≢ 10
 
 at_seam : (job front back : List ℕ) (at : ℕ) → job ≡ front ++ back → length front ≡ at → drop at job ≡ back
@@ -95,13 +94,19 @@ none_behind job at end missing k low high e =
     absurd (let t : 0 ≡ 10 = sym zero ∙ moved job at k low ∙ e in omega arith))
     (cases_lt (k - at) (length (drop at job)))
 
+-- the line feed that ends a line
+pub line_feed : (job : List ℕ) (at n : ℕ) → position (λ b. b == 10) (drop at job) ≡ Some n → get_or job (at + n) 0 ≡ 10
+line_feed job at n found =
+    let first = position-Some (λ b. b == 10) (drop at job) n 0 found in
+    sym (get_or-drop at job n 0) ∙ eqb-true (get_or (drop at job) n 0) 10 first.1
+
 -- the end of a line
 pub line_ends : (job : List ℕ) (at n : ℕ) → position (λ b. b == 10) (drop at job) ≡ Some n
     → (suc (at + n) ≤ length job) × EndsLine (take (suc (at + n)) job)
 line_ends job at n found =
     let first = position-Some (λ b. b == 10) (drop at job) n 0 found in
     let inside : at + n < length job = omega (arith, first.0, length-drop at job) in
-    let here : get_or job (at + n) 0 ≡ 10 = sym (get_or-drop at job n 0) ∙ eqb-true (get_or (drop at job) n 0) 10 first.1 in
+    let here : get_or job (at + n) 0 ≡ 10 = line_feed job at n found in
     (omega arith, inr (take (at + n) job, take-suc job (at + n) 0 inside ∙ ap (λ b. take (at + n) job ++ b ∷ []) here))
 
 take_size : (job : List ℕ) (at : ℕ) → at ≤ length job → length (take at job) ≡ at
@@ -199,22 +204,6 @@ pub no_line_end : (bytes behind : List ℕ) → bytes ≡ codes "---" ++ behind 
 no_line_end bytes behind e some not_feed not_return input found =
     no_end_form bytes behind input e some not_feed not_return (form bytes input found)
 
-pub empty_is : (l : List ℕ) → true ≡ (length l == 0) → l ≡ []
-empty_is [] e = refl
-empty_is (x ∷ l) e = absurd (let f : suc (length l) ≡ 0 = (Decides-eqb (suc (length l)) 0).0 (sym e) in omega arith)
-
-pub not_empty : (l : List ℕ) → false ≡ (length l == 0) → l ≢ []
-not_empty [] e f = cc
-not_empty (x ∷ l) e f = cc
-
--- the last form of the line
-pub last_form : (bytes behind : List ℕ) (r : Option (Bor (List ℕ))) → bytes ≡ codes "---" ++ behind → behind ≢ []
-    → ((rest : List ℕ) → behind ≢ codes "\n" ++ rest)
-    → MatchOption r ((rest : List ℕ) → behind ≢ codes "\r\n" ++ rest) (λ x. behind ≡ codes "\r\n" ++ x.now)
-    → MatchOption r ((input : List ℕ) → ¬ BeginsWithSeparator bytes input) (λ x. BeginsWithSeparator bytes x.now)
-last_form bytes behind None e some not_feed h = no_line_end bytes behind e some not_feed h
-last_form bytes behind (Some x) e some not_feed h = carriage_return_follows bytes behind x.now e h
-
 -- the next line
 pub next_line : (job rest : List ℕ) (at n next : ℕ) → rest ≡ drop at job → next ≡ suc (at + n) → Some n ≡ position (λ b. b == 10) rest
     → ((input : List ℕ) → ¬ BeginsWithSeparator rest input) → NoSeparatorBefore at job
@@ -227,8 +216,3 @@ next_line job rest at n next e f found not_here before =
       subst (λ k. NoSeparatorBefore k job) (sym f)
           (passed_line job at (at + n) (none_inside job at n here) (subst (λ l. (input : List ℕ) → ¬ BeginsWithSeparator l input) e not_here) before),
     )
-
-pub no_next_line : (job rest : List ℕ) (at : ℕ) → rest ≡ drop at job → None ≡ position (λ b. b == 10) rest
-    → ((input : List ℕ) → ¬ BeginsWithSeparator rest input) → NoSeparatorBefore at job → IsJob job job []
-no_next_line job rest at e missing not_here before =
-    split_nowhere job at (ap (position (λ b. b == 10)) (sym e) ∙ sym missing) (subst (λ l. (input : List ℕ) → ¬ BeginsWithSeparator l input) e not_here) before

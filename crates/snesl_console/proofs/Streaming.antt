@@ -1,7 +1,7 @@
 -- Bytes that are written or read piece by piece.
-use Rattle.std.proofs.Common.{◌≡◌, ℕ, ◌+◌, ◌<◌, ◌≤◌, ◌-◌, ◌&&◌, ◌==◌, nat_lt, length, take, drop, List, [], ◌++◌, Option, Some, None, refl, sym, ap, subst, ◌∙◌, append_assoc, append-nil, arith, ⊎_elim, false}
+use Rattle.std.proofs.Common.{◌≡◌, ℕ, ◌<◌, ◌-◌, ◌&&◌, ◌==◌, nat_lt, length, take, drop, List, [], ◌++◌, Option, Some, None, refl, sym, ap, ◌∙◌, append_assoc, append-nil, arith, ⊎_elim, false}
 use Rattle.std.proofs.lemmas.Bool.Decides.{eqb_tells}
-use Rattle.std.proofs.lemmas.List.{length-drop, length-append, length-take, length-take-le, take-append-drop, take-append-le}
+use Rattle.std.proofs.lemmas.List.{length-drop, take-append-drop}
 use Rattle.std.proofs.Math.Seq.{take-length}
 use Rattle.std.specs.Io.KnownBytes.{Appends, Keeps, Consumes}
 use Rattle.snesl_values.specs.Counted.{one_more, counted, HasFailed}
@@ -52,27 +52,3 @@ not_zero n h = ⊎_elim (λ p. absurd (let e = p.1 in omega arith)) (λ p. p.0) 
 pub not_counted : (before n len after : ℕ) → 0 < n → after ≡ counted before (n == 0 && nat_lt 0 len) → after ≡ before
 not_counted before n len after h e =
     e ∙ ap (λ t. counted before (t && nat_lt 0 len)) (not_zero n h)
-
--- a read that gave n bytes, which were kept
-pub read_on : (a b c : Option (List ℕ)) (bytes buf behind items : List ℕ) (n : ℕ) → Consumes a b bytes → Consumes b c (take n buf) → n ≤ length buf
-    → items ≡ bytes ++ take n (buf ++ behind) → Consumes a c items
-read_on a b c bytes buf behind items n p q h e =
-    subst (λ l. Consumes a c l) (sym (e ∙ ap (λ l. bytes ++ l) (take-append-le n buf behind h))) (consumes_more a b c bytes (take n buf) p q)
-
--- a read that gave none
-pub read_none : (a b c : Option (List ℕ)) (bytes buf : List ℕ) (n : ℕ) → Consumes a b bytes → Consumes b c (take n buf) → n ≡ 0 → Consumes a c bytes
-read_none a b c bytes buf n p q e =
-    subst (λ l. Consumes a c l) (append-nil bytes)
-    (consumes_more a b c bytes [] p (subst (λ k. Consumes b c (take k buf)) e q))
-
-pub read_length : (bytes buf behind items : List ℕ) (n most : ℕ) → n ≤ length buf → items ≡ bytes ++ take n (buf ++ behind)
-    → length bytes + length buf ≤ most → length items ≤ most
-read_length bytes buf behind items n most h e fits =
-    let size : length (take n (buf ++ behind)) ≡ n = length-take-le n (buf ++ behind) (omega (arith, length-append buf behind)) in
-    omega (arith, ap length e, length-append bytes (take n (buf ++ behind)))
-
-pub room_left : (piece : List ℕ) (room size given most : ℕ) → size ≤ most → room ≤ most - size → given ≡ length (take room piece) → size + given ≤ most
-room_left piece room size given most fits small e = omega (arith, length-take room piece)
-
-pub some_room : (piece : List ℕ) (room given : ℕ) → (0 < room) × (room ≤ length piece) → given ≡ length (take room piece) → 0 < given
-some_room piece room given h e = omega (arith, length-take-le room piece h.1)

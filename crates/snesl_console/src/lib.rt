@@ -2,12 +2,12 @@
 //! faults and refusals are, and how a line is written.
 #![tactic(auto)]
 
+mod beginning;
 pub mod job;
 pub mod lines;
-pub mod reading;
+mod reading;
 pub mod sending;
 
-pub use job::{one_job, split};
+pub use job::{JobError, one_job, split_job};
 pub use lines::{BAD_CONFIG_LINE, STALLED_LINE, fault_line, refusal_line};
-pub use reading::read_job;
 pub use sending::{complain, print, send};

@@ -1,56 +1,62 @@
-// Reading a job.
+// Reading a job piece by piece.
 
-ghost use Rattle.std.specs.Prelude.{◌≡◌, ◌<◌, length, IfOk};
+ghost use Rattle.std.specs.Prelude.{◌≡◌, ◌<◌, ◌≤◌, length, IfOk};
 ghost use Rattle.snesl_console.specs.Streams.{given};
-ghost use Rattle.snesl_console.specs.Reads.{HasRead};
+ghost use Rattle.snesl_console.specs.Reads.{HasReadMore, HasReadInput};
 
-use snesl_values::{Counted, Refusal};
+use crate::job::JobError;
+use snesl_values::Counted;
 use std::alloc::{AllocError, Global};
 use std::io::Read;
 
-/// Of a job no more is read: a program of 65,536 bytes, the separator's line, and one byte over the
-/// 16,777,216 of an input text.
-const LONGEST_JOB: usize = 65_536 + 5 + 16_777_217;
+/// The greatest length of an input text, in bytes.
+const LONGEST_INPUT: usize = 16_777_216;
 
-/// Of so many bytes is a read.
+/// Of so many bytes is a read, at most.
 const PIECE: usize = 65_536;
 
-/// The job that a reader gives, or its first 65,536 + 5 + 16,777,217 bytes, since no more decides what it means.
-///
-/// It is refused as `Read` only where exactly one call of the reader failed, and as `NoMemory` where memory was refused. No
-/// call that failed is tried again.
-pub fn read_job<R: Read>(alloc: Global, job: &mut Counted<R>) -> Result<Vec<u8>, Refusal>
-    ensures { HasRead (given R.remaining job.old job.new) result }
+// Room for a read.
+pub(crate) fn new_piece(alloc: Global) -> Result<Vec<u8>, AllocError>
+    ensures { IfOk result (λ piece. length piece.items ≡ 65536) }
 {
-    let mut piece = zeros(alloc, PIECE)?;
-    read_by_pieces(alloc, job, &mut piece)
+    vec![in alloc; 0; PIECE]
 }
 
-// The same. A read that fails ends it: there is no second try, at an interrupted call either.
-fn read_by_pieces<R: Read>(
-    alloc: Global,
+// One call of the reader, for no more bytes than there is room for; returns how many it gave. A call that fails is not tried
+// again, an interrupted one either.
+pub(crate) fn read_more<R: Read>(
     job: &mut Counted<R>,
     piece: &mut [u8],
-) -> Result<Vec<u8>, Refusal>
-    requires { 0 < length piece.old }
-    ensures { HasRead (given R.remaining job.old job.new) result }
+    room: usize,
+    bytes: &mut Vec<u8>,
+) -> Result<usize, JobError>
+    requires piece { 0 < length piece.old }
+    requires room { 0 < room }
+    ensures { HasReadMore (given R.remaining job.old job.new) room bytes.old.items bytes.new.items result }
 {
-    let mut bytes = Vec::new(alloc);
-    while bytes.len() < LONGEST_JOB {
-        let room = piece.len().min(LONGEST_JOB - bytes.len());
-        let Ok(n) = job.read(&mut piece[..room]) else {
-            return Err(Refusal::Read);
-        };
-        if n == 0 {
-            break;
-        }
-        bytes.extend_from_slice(&piece[..n])?;
-    }
-    Ok(bytes)
+    let room = room.min(piece.len());
+    let Ok(n) = job.read(&mut piece[..room]) else {
+        return Err(JobError::Read);
+    };
+    bytes.extend_from_slice(&piece[..n])?;
+    Ok(n)
 }
 
-fn zeros(alloc: Global, len: usize) -> Result<Vec<u8>, AllocError>
-    ensures { IfOk result (λ zeros. length zeros.items ≡ len) }
+// Reads on in an input text until it ends or is too long.
+pub(crate) fn read_input<R: Read>(
+    job: &mut Counted<R>,
+    piece: &mut [u8],
+    text: &mut Vec<u8>,
+) -> Result<(), JobError>
+    requires piece { 0 < length piece.old }
+    requires short { length text.old.items ≤ 16777217 }
+    ensures { HasReadInput (given R.remaining job.old job.new) text.old.items text.new.items result }
 {
-    vec![in alloc; 0; len]
+    while text.len() <= LONGEST_INPUT {
+        let room = LONGEST_INPUT + 1 - text.len();
+        if read_more(job, piece, room, text)? == 0 {
+            break;
+        }
+    }
+    Ok(())
 }

@@ -1,3 +1,3 @@
 pub mod Reports
 pub mod Printing
-pub mod CutJobs
+pub mod CutParts

@@ -1,5 +1,5 @@
 -- What is printed for a job.
-use Rattle.std.proofs.Common.{◌≡◌, ℕ, true, false, List, Option, Some, None, Result, Ok, Err, Vec, IfOk, MatchResult, inl, inr, refl, sym, ap, ◌∙◌, subst}
+use Rattle.std.proofs.Common.{◌≡◌, ℕ, true, false, List, Option, Result, Ok, Err, Vec, IfOk, MatchResult, inl, inr, refl, sym, ap, ◌∙◌, subst}
 use Rattle.std.specs.Global.{Global}
 use Rattle.std.specs.declared.alloc.AllocError.{AllocError}
 use Rattle.snesl_values.specs.declared.counted.Counted.{Counted}
@@ -7,63 +7,68 @@ use Rattle.snesl_values.specs.declared.fault.Fault.{Fault}
 use Rattle.snesl_values.specs.declared.refusal.Refusal.{Refusal}
 use Rattle.snesl_values.specs.declared.refusal.Refusal.TheVariants.{NoMemory, Output, Read}
 use Rattle.snesl_values.specs.Refusals.{is_of_the_system, status_of_refusal}
-use Rattle.kahn.specs.declared.outcome.Outcome.{Outcome}
 use Rattle.kahn.specs.declared.outcome.Outcome.TheVariants.{Value as Ended, Fault as Failed, Stalled}
 use Rattle.flow_drive.specs.declared.config.Config.{Config}
 use Rattle.snesl_settings.specs.Settings.{AreLawful, RefusesBut}
 use Rattle.snesl_network.specs.Driven.{WasRefused}
-use Rattle.snesl_console.specs.Job.{IsJob}
 use Rattle.snesl_run.specs.Runs.{outcome_of, WroteFor, HasWritten, IsReported, HasError}
 use Rattle.snesl_console.specs.Streams.{Taken, Given, taken, WasTold}
 use Rattle.snesl_console.specs.Lines.{Prints, written, Refuses, refusal_line, fault_line, stalled_line}
-use Rattle.snesl_console.specs.Reads.{HasRead}
-use Rattle.snesl_run.specs.Prints.{PrintsOutcome, Printed, came_out, refused, IsJobAnswered, unread, out_of_memory, Answered, words_refused, words_lost}
+use Rattle.snesl_console.specs.Reads.{HasSplit, refusal_of}
+use Rattle.snesl_console.specs.declared.job.JobError.{JobError}
+use Rattle.snesl_console.specs.declared.job.JobError.TheVariants.{NoMemory as NoJobMemory, Read as BrokenOff}
+use Rattle.snesl_run.specs.Prints.{PrintsOutcome, PrintedFor, came_out, refused, IsJobAnswered, unread, out_of_memory, Answered, words_refused, words_lost}
 use Rattle.snesl_run.specs.declared.report.Report.{Report}
 use Rattle.snesl_console.proofs.Printing.{cut_off_line, system_refused, job_refused}
 
--- a job that could not be read
-pub read_refused : {config : Config} {reader : Given} {out err : Taken} (refusal : Refusal) (code : ℕ) → HasRead reader (Err refusal) → out.nothing
-    → WasTold err (refusal_line refusal) → code ≡ status_of_refusal refusal → IsJobAnswered config reader out err code
-read_refused NoMemory code h untouched told e = out_of_memory h (system_refused NoMemory code refl untouched told e)
-read_refused Read code h untouched told e = unread h (system_refused Read code refl untouched told e)
-read_refused refusal code h untouched told e = absurd h
+-- a job that was not split
+pub job_refused_so : {config : Config} {reader : Given} {out err : Taken} (error : JobError) (refusal : Refusal) (code : ℕ) → refusal ≡ refusal_of error
+    → HasSplit reader (Err error) → out.nothing → WasTold err (refusal_line refusal) → code ≡ status_of_refusal refusal
+    → IsJobAnswered config reader out err code
+job_refused_so {config} {reader} {out} {err} error refusal code is h untouched told e =
+    by_error error h (subst (λ r. WasTold err (refusal_line r)) is told) (e ∙ ap status_of_refusal is)
+  where
+    by_error : (error : JobError) → HasSplit reader (Err error) → WasTold err (refusal_line (refusal_of error)) → code ≡ status_of_refusal (refusal_of error)
+        → IsJobAnswered config reader out err code
+    by_error NoJobMemory h told e = out_of_memory h.0 h.1 (system_refused NoMemory code refl untouched told e)
+    by_error BrokenOff h told e = unread h.0 h.1 (system_refused Read code refl untouched told e)
 
-module _ (config : Config) (job program input : List ℕ) (split : IsJob job program input) where
+module _ (config : Config) (program input : List ℕ) where
   -- want of memory
-  memory_refused : {out err : Taken} {status : ℕ} → Refuses out err NoMemory status → Printed config job out err status
-  memory_refused h = refused program input NoMemory split tt h
+  memory_refused : {out err : Taken} {status : ℕ} → Refuses out err NoMemory status → PrintedFor config program input out err status
+  memory_refused h = refused NoMemory tt h
 
   -- what is printed for a job whose run leaves the writer as it was
   module _ {W : Type 0} (contents : W → Option (List ℕ)) (before mid after : Counted W) (err : Taken) where
     -- a line that could be made is printed, and else memory is refused
     made_line : (bytes : List ℕ) (line : Result (Vec ℕ Global) AllocError) (first status : ℕ) → mid ≡ before
-        → ((out : Taken) → Prints out err bytes first status → Printed config job out err status)
+        → ((out : Taken) → Prints out err bytes first status → PrintedFor config program input out err status)
         → IfOk line (λ l. l.items ≡ bytes)
         → MatchResult line (λ l. Prints (taken contents mid after) err l.items first status) (λ _. Refuses (taken contents mid after) err NoMemory status)
-        → Printed config job (taken contents before after) err status
+        → PrintedFor config program input (taken contents before after) err status
     made_line bytes (Ok l) first status same as_printed made printed =
-        subst (λ w. Printed config job (taken contents w after) err status) same
+        subst (λ w. PrintedFor config program input (taken contents w after) err status) same
         (as_printed (taken contents mid after) (subst (λ b. Prints (taken contents mid after) err b first status) made printed))
     made_line bytes (Err e) first status same as_printed made printed =
-        subst (λ w. Printed config job (taken contents w after) err status) same (memory_refused printed)
+        subst (λ w. PrintedFor config program input (taken contents w after) err status) same (memory_refused printed)
 
     pub printed_fault : (fault : Fault) (report : Report) (line : Result (Vec ℕ Global) AllocError) (status : ℕ)
         → IsReported program input config report → HasWritten program input (taken contents before mid) report → outcome_of report ≡ Failed fault
         → IfOk line (λ l. l.items ≡ fault_line fault.kind fault.at)
         → MatchResult line (λ l. Prints (taken contents mid after) err l.items 2 status) (λ _. Refuses (taken contents mid after) err NoMemory status)
-        → Printed config job (taken contents before after) err status
+        → PrintedFor config program input (taken contents before after) err status
     printed_fault fault report line status has wrote e made printed =
         let h : WroteFor program input (taken contents before mid) (Failed fault) = subst (WroteFor program input (taken contents before mid)) e wrote in
         made_line (fault_line fault.kind fault.at) line 2 status h.1
-        (λ out p. came_out program input report split has (subst (λ o. PrintsOutcome program input out err o status) (sym e) (h.0, p))) made printed
+        (λ out p. came_out report has (subst (λ o. PrintsOutcome program input out err o status) (sym e) (h.0, p))) made printed
 
     pub printed_stall : (edge : ℕ) (report : Report) (line : List ℕ) (status : ℕ)
         → IsReported program input config report → HasWritten program input (taken contents before mid) report → outcome_of report ≡ Stalled edge → line ≡ stalled_line
-        → Prints (taken contents mid after) err line 3 status → Printed config job (taken contents before after) err status
+        → Prints (taken contents mid after) err line 3 status → PrintedFor config program input (taken contents before after) err status
     printed_stall edge report line status has wrote e is printed =
         let h : WroteFor program input (taken contents before mid) (Stalled edge) = subst (WroteFor program input (taken contents before mid)) e wrote in
-        subst (λ w. Printed config job (taken contents w after) err status) h
-        (came_out program input report split has
+        subst (λ w. PrintedFor config program input (taken contents w after) err status) h
+        (came_out report has
         (subst (λ o. PrintsOutcome program input (taken contents mid after) err o status) (sym e) (subst (λ l. Prints (taken contents mid after) err l 3 status) is printed)))
 
     job_error : (refusal : Refusal) → is_of_the_system refusal ≡ false → HasError program input config (taken contents before mid) refusal
@@ -77,33 +82,33 @@ module _ (config : Config) (job program input : List ℕ) (split : IsJob job pro
         → HasError program input config (taken contents before mid) error → refusal ≡ error → is_of_the_system refusal ≡ false → first ≡ status_of_refusal refusal
         → IfOk line (λ l. l.items ≡ refusal_line refusal)
         → MatchResult line (λ l. Prints (taken contents mid after) err l.items first status) (λ _. Refuses (taken contents mid after) err NoMemory status)
-        → Printed config job (taken contents before after) err status
+        → PrintedFor config program input (taken contents before after) err status
     printed_refusal refusal error line first status has e f s made printed =
         let h = job_error refusal f (subst (λ r. HasError program input config (taken contents before mid) r) (sym e) has) in
         made_line (refusal_line refusal) line first status h.1
-        (λ out p. refused program input refusal split h.0 (job_refused refusal (refusal_line refusal) first status f refl s p)) made printed
+        (λ out p. refused refusal h.0 (job_refused refusal (refusal_line refusal) first status f refl s p)) made printed
 
   module _ (out err : Taken) where
     -- the system is at fault
     system_error : (refusal : Refusal) (status : ℕ) → is_of_the_system refusal ≡ true → HasError program input config out refusal
-        → WasTold err (refusal_line refusal) → status ≡ status_of_refusal refusal → Printed config job out err status
+        → WasTold err (refusal_line refusal) → status ≡ status_of_refusal refusal → PrintedFor config program input out err status
     system_error NoMemory status f has told s = memory_refused (system_refused NoMemory status f has told s)
     system_error Output status f has told s =
-        came_out program input has.report split has.reported
+        came_out has.report has.reported
         (subst (λ o. PrintsOutcome program input out err o status) (sym has.ended) (has.value, has.means, cut_off_line status has.cut_off told s))
-    system_error refusal status f has told s = refused program input refusal split has.0 (system_refused refusal status f has.1 told s)
+    system_error refusal status f has told s = refused refusal has.0 (system_refused refusal status f has.1 told s)
 
     pub printed_system_error : (refusal error : Refusal) (status : ℕ) → HasError program input config out error → refusal ≡ error → is_of_the_system refusal ≡ true
-        → WasTold err (refusal_line refusal) → status ≡ status_of_refusal refusal → Printed config job out err status
+        → WasTold err (refusal_line refusal) → status ≡ status_of_refusal refusal → PrintedFor config program input out err status
     printed_system_error refusal error status has e f told s =
         system_error refusal status f (subst (λ r. HasError program input config out r) (sym e) has) told s
 
     -- a value's line that was written
     pub printed_value : (report : Report) → IsReported program input config report → HasWritten program input out report → outcome_of report ≡ Ended
-        → err.nothing → Printed config job out err 0
+        → err.nothing → PrintedFor config program input out err 0
     printed_value report has wrote e silent =
         let h : WroteFor program input out Ended = subst (WroteFor program input out) e wrote in
-        came_out program input report split has
+        came_out report has
         (subst (λ o. PrintsOutcome program input out err o 0) (sym e) (h.0, h.1, written h.2 silent))
 
 pub words_answered : {words : List (List ℕ)} {reader : Given} {out err : Taken} (refusal : Refusal) (status : ℕ) → RefusesBut (AreLawful words) refusal → reader.nothing

@@ -1,11 +1,11 @@
--- No byte behind the longest job that is read changes what a job means.
-use Rattle.std.specs.Prelude.{◌≡◌, ℕ, List, ◌++◌, length}
+-- What is cut off a job changes no meaning.
+use Rattle.std.specs.Prelude.{◌↔◌, ℕ, List}
 use Rattle.snesl_meaning.specs.Meaning.{Meaning, Means}
 use Rattle.snesl_console.specs.Job.{IsJob}
-use Rattle.snesl_console.specs.Reads.{longest_job}
+use Rattle.snesl_console.specs.Parts.{AreParts}
 
--- a job that is longer means what its beginning of that length means
-abbrev pub CutChangesNothing : Type 0
-CutChangesNothing =
-    (cut behind program input program' input' : List ℕ) (m : Meaning) → length cut ≡ longest_job
-    → IsJob (cut ++ behind) program input → IsJob cut program' input' → Means program input m → Means program' input' m
+-- the parts of a job, each cut behind the first byte that is too many, mean what its program and its input text do
+abbrev pub CutsChangeNothing : Type 0
+CutsChangeNothing =
+    (job program input cut_program cut_input : List ℕ) (m : Meaning) → IsJob job program input → AreParts job cut_program cut_input
+    → Means program input m ↔ Means cut_program cut_input m

@@ -1,3 +1,19 @@
 pub mod Runs
 pub mod Prints
 pub mod Cuts
+-- what the public clauses cite of the crates below
+pub use Rattle.snesl_values.specs.Counted
+pub use Rattle.snesl_values.specs.Refusals
+pub use Rattle.snesl_values.specs.declared.refusal.Refusal
+pub use Rattle.snesl_meaning.specs.Meaning
+pub use Rattle.kahn.specs.declared.outcome.Outcome
+pub use Rattle.flow_drive.specs.Configs
+pub use Rattle.snesl_network.specs.Driven
+pub use Rattle.snesl_network.specs.NodesAtRest
+pub use Rattle.snesl_network.specs.WhichDrive
+pub use Rattle.snesl_settings.specs.Settings
+pub use Rattle.snesl_console.specs.Job
+pub use Rattle.snesl_console.specs.Lines
+pub use Rattle.snesl_console.specs.Parts
+pub use Rattle.snesl_console.specs.Reads
+pub use Rattle.snesl_console.specs.Streams

@@ -1,5 +1,5 @@
 -- What the program prints for a job, and its exit status.
-use Rattle.std.specs.Prelude.{◌≡◌, ℕ, List}
+use Rattle.std.specs.Prelude.{ℕ, List}
 use Rattle.snesl_values.specs.declared.refusal.Refusal.{Refusal}
 use Rattle.snesl_values.specs.declared.refusal.Refusal.TheVariants.{BadConfig, NoMemory, Read}
 use Rattle.snesl_values.specs.Values.{Value}
@@ -13,7 +13,7 @@ use Rattle.snesl_network.specs.Driven.{WasRefused}
 use Rattle.snesl_console.specs.Job.{IsJob}
 use Rattle.snesl_console.specs.Streams.{Taken, Given}
 use Rattle.snesl_console.specs.Lines.{fault_line, stalled_line, Prints, Refuses}
-use Rattle.snesl_console.specs.Reads.{IsRead}
+use Rattle.snesl_console.specs.Reads.{IsRead, IsBrokenOff, HoldsOfJob}
 use Rattle.snesl_run.specs.declared.report.Report.{Report}
 use Rattle.snesl_run.specs.Runs.{outcome_of, value_line, EndsInFault, IsReported}
 
@@ -25,23 +25,30 @@ PrintsOutcome program input out err Ended status = (v : Value) × Means program 
 PrintsOutcome program input out err (Failed f) status = EndsInFault program input × Prints out err (fault_line f.kind f.at) 2 status
 PrintsOutcome program input out err (Stalled e) status = Prints out err stalled_line 3 status
 
--- what is printed for a job, driven so, and the exit status
-pub data Printed (config : Config) (job : List ℕ) (out err : Taken) : ℕ → Type 0 where
-  -- how the network of its program came out with its input text, as a report tells
-  came_out : {status : ℕ} (program input : List ℕ) (report : Report) → IsJob job program input → IsReported program input config report
-      → PrintsOutcome program input out err (outcome_of report) status → Printed config job out err status
+-- what is printed for a program with an input text, driven so, and the exit status
+pub data PrintedFor (config : Config) (program input : List ℕ) (out err : Taken) : ℕ → Type 0 where
+  -- how its network came out, as a report tells
+  came_out : {status : ℕ} (report : Report) → IsReported program input config report
+      → PrintsOutcome program input out err (outcome_of report) status → PrintedFor config program input out err status
   -- it was refused
-  refused : {status : ℕ} (program input : List ℕ) (refusal : Refusal) → IsJob job program input → WasRefused program input config refusal
-      → Refuses out err refusal status → Printed config job out err status
+  refused : {status : ℕ} (refusal : Refusal) → WasRefused program input config refusal → Refuses out err refusal status
+      → PrintedFor config program input out err status
+
+-- what is printed for a job, and the exit status: that of its program with its input text, of which nothing is cut
+abbrev pub Printed : Config → List ℕ → Taken → Taken → ℕ → Type 0
+Printed config job out err status =
+    (program : List ℕ) × (input : List ℕ) × IsJob job program input × PrintedFor config program input out err status
 
 -- what becomes of a job under this configuration: what was read, written and said, and the exit status
 pub data IsJobAnswered (config : Config) (reader : Given) (out err : Taken) : ℕ → Type 0 where
-  -- the job was read, and its answer printed
-  answered : {status : ℕ} (job : List ℕ) → IsRead reader job → Printed config job out err status → IsJobAnswered config reader out err status
-  -- the job could not be read
-  unread : {status : ℕ} → reader.failed → Refuses out err Read status → IsJobAnswered config reader out err status
+  -- what was read decides the answer of the job, which was printed
+  answered : {status : ℕ} (read : List ℕ) → IsRead reader read → HoldsOfJob reader read (λ job. Printed config job out err status)
+      → IsJobAnswered config reader out err status
+  -- the job could not be read any further, and what was read decides no answer
+  unread : {status : ℕ} (read : List ℕ) → IsBrokenOff reader read → Refuses out err Read status → IsJobAnswered config reader out err status
   -- memory was refused to the job
-  out_of_memory : {status : ℕ} → reader.worked → Refuses out err NoMemory status → IsJobAnswered config reader out err status
+  out_of_memory : {status : ℕ} (read : List ℕ) → IsRead reader read → Refuses out err NoMemory status
+      → IsJobAnswered config reader out err status
 
 -- what the program answers where it is given these words
 pub data Answered (words : List (List ℕ)) (reader : Given) (out err : Taken) : ℕ → Type 0 where

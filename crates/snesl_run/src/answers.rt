@@ -4,7 +4,7 @@ ghost use Rattle.std.specs.Prelude.{◌≡◌, ◌⊎◌, IfOk, IfErr, MatchResu
 ghost use Rattle.clap.specs.Walk.{texts};
 ghost use Rattle.snesl_console.specs.Streams.{given, taken};
 ghost use Rattle.snesl_console.specs.Lines.{Prints, Refuses};
-ghost use Rattle.snesl_run.specs.Prints.{Answered, Printed, IsJobAnswered};
+ghost use Rattle.snesl_run.specs.Prints.{Answered, IsJobAnswered, PrintedFor};
 ghost use Rattle.snesl_run.specs.Runs.{IsReported, HasWritten, IsErrorOf};
 ghost use Rattle.snesl_values.specs.declared.refusal.Refusal.TheVariants.{BadConfig, NoMemory};
 
@@ -12,10 +12,11 @@ use crate::report::{Report, RunError};
 use crate::runs::run;
 use flow_drive::{Config, NoGate, Outcome};
 use snesl_console::{
-    BAD_CONFIG_LINE, STALLED_LINE, complain, fault_line, print, read_job, refusal_line, split,
+    BAD_CONFIG_LINE, STALLED_LINE, complain, fault_line, print, refusal_line, split_job,
 };
 use snesl_settings::settings;
-use snesl_values::{Counted, Refusal};
+use snesl_syntax::one_answer;
+use snesl_values::{Counted, Refusal, one_input_meaning};
 use std::alloc::{AllocError, Global};
 use std::io::{Read, Write};
 use std::sync::Arc;
@@ -25,7 +26,7 @@ use std::thread::Threads;
 /// line, the first of which is the program's name; `settings` tells what they set.
 ///
 /// A job is a program, and behind the first line `---` its input text; without such a line all of it
-/// is the program. One line is printed on `out`: the value (status 0), `fault N at K` (2), `stalled` (3), or
+/// is the program ([`split_job`] says what of it is read). One line is printed on `out`: the value (status 0), `fault N at K` (2), `stalled` (3), or
 /// `refused N at K` or `refused N` (1). Where the words are refused, that is `refused 10` (1), and
 /// then the job is not read.
 ///
@@ -35,8 +36,9 @@ use std::thread::Threads;
 /// failed is tried again: of each of the three at most one call failed, of `job` only where 14 is said,
 /// and of `out` only where 12 is.
 ///
-/// At most 65,536 + 5 + 16,777,217 bytes of the job are read, since no more decides the answer: a
-/// program at its limit, the longest separator's line, and one byte over the input text's limit.
+/// What is printed is the answer of each job that begins with what was read, or of just that where the reader has ended. No
+/// byte is read that does not decide the parts of the job: where the program is too long nothing behind it is, and else
+/// no more than one byte over the input text's limit.
 pub fn answer<R: Read, W: Write, E: Write>(
     rt: &impl Threads,
     alloc: Global,
@@ -82,24 +84,27 @@ fn answer_job<R: Read, W: Write, E: Write>(
     ensures { IsJobAnswered config.now (given R.remaining job.old job.new)
         (taken W.contents out.old out.new) (taken E.contents err.old err.new) result }
 {
-    match read_job(alloc, job) {
-        Ok(job) => print_answer(rt, alloc, config, &job, out, err),
-        Err(refusal) => complain(refusal, err),
+    one_answer();
+    one_input_meaning();
+    match split_job(alloc, job) {
+        Ok((program, input)) => print_answer(rt, alloc, config, &program, &input, out, err),
+        Err(error) => complain(Refusal::from(error), err),
     }
 }
 
-// Prints the answer of a job.
+// Prints the answer of a program with its input text.
 fn print_answer<W: Write, E: Write>(
     rt: &impl Threads,
     alloc: Global,
     config: &Config,
-    job: &[u8],
+    program: &[u8],
+    input: &[u8],
     out: &mut Counted<W>,
     err: &mut Counted<E>,
 ) -> u8
-    ensures { Printed config.now job.now (taken W.contents out.old out.new) (taken E.contents err.old err.new) result }
+    ensures { PrintedFor config.now program.now input.now
+        (taken W.contents out.old out.new) (taken E.contents err.old err.new) result }
 {
-    let (program, input) = split(job);
     match run_alone(rt, alloc, program, input, config, out) {
         Ok(report) => match report.outcome() {
             Outcome::Value => 0,

@@ -1,12 +1,16 @@
-// Running a program for its input text, and answering a job.
+//! Running a program for its input text, and answering a job.
 #![tactic(auto)]
 
 pub mod answers;
-pub mod cuts;
+mod laws;
 pub mod report;
 pub mod runs;
 
 pub use answers::answer;
-pub use cuts::cut_changes_nothing;
+pub use flow_drive::{Config, Drive, Gate, NoGate, Outcome, Rested};
+pub use laws::cuts_change_nothing;
 pub use report::{Report, RunError};
 pub use runs::run;
+pub use snesl_console::{JobError, split_job};
+pub use snesl_settings::settings;
+pub use snesl_values::{Counted, Refusal};

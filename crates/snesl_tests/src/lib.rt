@@ -25,6 +25,8 @@ mod plans;
 mod running;
 #[cfg(test)]
 mod sizes;
+#[cfg(test)]
+mod splitting;
 pub mod stopping;
 #[cfg(test)]
 mod streams;

@@ -1,20 +1,17 @@
 // The plain evaluation of a job, which holds whole sequences.
 
 use anyhow::Result;
-use snesl_console::split;
+use snesl_console::split_job;
 use snesl_syntax::parse;
 use snesl_types::{check, plain};
-use snesl_values::{Datum, Fault, Refusal, read_inputs, text_of};
+use snesl_values::{Counted, Datum, Fault, Refusal, read_inputs, text_of};
 use std::alloc::Global;
-use std::io::{self, Read, Write};
+use std::io::{self, Write};
 
 /// Evaluates the job on standard input, and prints its value, `fault`, or the number of its refusal.
 pub fn print_plainly(rt: &HostRuntime) -> Result<()> {
-    let mut job = Vec::new(rt.alloc());
-    let mut stdin = rt.stdin();
-    stdin.read_to_end(&mut job)?;
-    let (program, input) = split(&job);
-    match evaluated(rt.alloc(), program, input) {
+    let (program, input) = split_job(rt.alloc(), &mut Counted::new(rt.stdin()))?;
+    match evaluated(rt.alloc(), &program, &input) {
         Ok(Ok(datum)) => print_value(rt, &datum)?,
         Ok(Err(_)) => println!(rt; "fault")?,
         Err(refusal) => println!(rt; "refused {}", refusal.number())?,

@@ -4,10 +4,10 @@
 use crate::endings::Endings;
 use crate::jobs::Trial;
 use crate::jobs::answers::job_of;
-use snesl_console::split;
+use snesl_console::split_job;
 use snesl_tables::{Row, SpellingError};
 use snesl_trials::{Expected, ran_alone};
-use snesl_values::Refusal;
+use snesl_values::{Counted, Refusal};
 use std::alloc::{AllocError, Global};
 use std::fmt;
 use std::thread::Threads;
@@ -77,9 +77,9 @@ impl Beside {
         if job.len() > LONGEST {
             return Ok(());
         }
-        let (program, input) = split(job);
-        match Expected::of(alloc, program, input) {
-            Ok(expected) => self.run_all(rt, alloc, program, input, &expected),
+        let (program, input) = split_job(alloc, &mut Counted::new(job)).map_err(|_| AllocError)?;
+        match Expected::of(alloc, &program, &input) {
+            Ok(expected) => self.run_all(rt, alloc, &program, &input, &expected),
             Err(Refusal::NoMemory) => Err(AllocError),
             Err(_) => Ok(()),
         }

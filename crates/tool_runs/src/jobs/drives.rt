@@ -3,9 +3,10 @@
 use crate::jobs::Trial;
 use crate::jobs::answers::job_of;
 use flow_drive::{Config, Drive};
-use snesl_console::split;
+use snesl_console::split_job;
 use snesl_tables::{Row, SpellingError};
 use snesl_trials::{Done, ran, ran_alone};
+use snesl_values::Counted;
 use std::alloc::{AllocError, Global};
 use std::fmt;
 use std::thread::Threads;
@@ -90,13 +91,13 @@ impl Drives {
 
     // Runs the program of a job by the drive of one thread, and by those of several, over edges of each capacity.
     fn add(&mut self, rt: &impl Threads, alloc: Global, job: &[u8]) -> Result<(), AllocError> {
-        let (program, input) = split(job);
+        let (program, input) = split_job(alloc, &mut Counted::new(job)).map_err(|_| AllocError)?;
         self.programs = self.programs.saturating_add(1);
         for capacity in CAPACITIES {
-            let serial = ran_alone(rt, alloc, program, input, capacity, 16)?;
+            let serial = ran_alone(rt, alloc, &program, &input, capacity, 16)?;
             let case = Case {
-                program,
-                input,
+                program: &program,
+                input: &input,
                 capacity,
                 serial: &serial,
             };

@@ -2,10 +2,10 @@
 
 use crate::endings::Endings;
 use flow_drive::{Config, Drive, Outcome};
-use snesl_console::split;
+use snesl_console::split_job;
 use snesl_dice::Dice;
 use snesl_trials::{Done, Expected, alone, ran};
-use snesl_values::Refusal;
+use snesl_values::{Counted, Refusal};
 use std::alloc::{AllocError, Global};
 use std::fmt;
 use std::thread::Threads;
@@ -87,13 +87,13 @@ impl Totals {
         dice: &mut Dice,
         job: &[u8],
     ) -> Result<(), Failure> {
-        let (program, input) = split(job);
+        let (program, input) = split_job(alloc, &mut Counted::new(job)).map_err(|_| Failure::NoMemory)?;
         self.programs = self.programs.saturating_add(1);
-        match Expected::of(alloc, program, input) {
+        match Expected::of(alloc, &program, &input) {
             Ok(expected) => {
                 let case = Case {
-                    program,
-                    input,
+                    program: &program,
+                    input: &input,
                     expected: &expected,
                 };
                 self.add_case(rt, alloc, dice, case)

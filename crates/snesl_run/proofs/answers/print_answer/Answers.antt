@@ -7,34 +7,34 @@ use Rattle.snesl_run.proofs.answers.print_answer.Goals as goal
 
 pub returns-in-Value : goal.returns-in-Value
 returns-in-Value g c =
-    printed_value c.args.config.now c.args.job.now c.split.result.0.now c.split.result.1.now c.split.ensures
+    printed_value c.args.config.now c.args.program.now c.args.input.now
     (taken g.W.Write.contents c.args.out.now c.run_alone.new.out) (taken g.E.Write.contents c.args.err.now c.args.err.now)
     c.in-Ok.report c.in-Ok.ensures.network c.in-Ok.ensures.wrote (sym c.outcome.ensures ∙ c.in-Value.is) refl
 
 pub returns-in-Fault : goal.returns-in-Fault
 returns-in-Fault g c =
-    printed_fault c.args.config.now c.args.job.now c.split.result.0.now c.split.result.1.now c.split.ensures
+    printed_fault c.args.config.now c.args.program.now c.args.input.now
     g.W.Write.contents c.args.out.now c.run_alone.new.out c.print_made.new.out
     (taken g.E.Write.contents c.args.err.now c.print_made.new.err)
     c.in-Fault.fault c.in-Ok.report c.fault_line.result c.print_made.result c.in-Ok.ensures.network c.in-Ok.ensures.wrote (sym c.outcome.ensures ∙ c.in-Fault.is) c.fault_line.ensures c.print_made.ensures
 
 pub returns-in-Ok : goal.returns-in-Ok
 returns-in-Ok g c =
-    printed_stall c.args.config.now c.args.job.now c.split.result.0.now c.split.result.1.now c.split.ensures
+    printed_stall c.args.config.now c.args.program.now c.args.input.now
     g.W.Write.contents c.args.out.now c.run_alone.new.out c.print.new.out
     (taken g.E.Write.contents c.args.err.now c.print.new.err)
     c.in-Stalled.edge c.in-Ok.report _ c.print.result c.in-Ok.ensures.network c.in-Ok.ensures.wrote (sym c.outcome.ensures ∙ c.in-Stalled.is) stalled_line_is c.print.ensures
 
 pub returns-then-is_of_the_system : goal.returns-then-is_of_the_system
 returns-then-is_of_the_system g c =
-    printed_system_error c.args.config.now c.args.job.now c.split.result.0.now c.split.result.1.now c.split.ensures
+    printed_system_error c.args.config.now c.args.program.now c.args.input.now
     (taken g.W.Write.contents c.args.out.now c.run_alone.new.out) (taken g.E.Write.contents c.args.err.now c.complain.new.err)
     c.refusal-refusal.result (refusal_of c.in-Err.error) c.complain.result
     c.in-Err.ensures.refused c.refusal-refusal.ensures (sym c.is_of_the_system.ensures ∙ c.if-is_of_the_system.true) c.complain.ensures.told c.complain.ensures.status
 
 pub returns : goal.returns
 returns g c =
-    printed_refusal c.args.config.now c.args.job.now c.split.result.0.now c.split.result.1.now c.split.ensures
+    printed_refusal c.args.config.now c.args.program.now c.args.input.now
     g.W.Write.contents c.args.out.now c.run_alone.new.out c.print_made-else-is_of_the_system.new.out
     (taken g.E.Write.contents c.args.err.now c.print_made-else-is_of_the_system.new.err)
     c.refusal-refusal.result (refusal_of c.in-Err.error)
