@@ -1,7 +1,7 @@
 // From the text of a program and its input to the network at rest.
 
-ghost use Rattle.std.specs.Prelude.{◌≡◌, ℕ, List, Err, IfOk, IfErr};
-ghost use Rattle.snesl_values.specs.declared.refusal.Refusal.TheVariants.{BadConfig};
+ghost use Rattle.std.specs.Prelude.{◌≡◌, ◌⊎◌, Err, IfErr, IfOk, List, ℕ};
+ghost use Rattle.snesl_values.specs.declared.refusal.Refusal.TheVariants.{BadConfig, NoThread};
 ghost use Rattle.flow_nodes.specs.StreamNodes.{node_behaviour};
 ghost use Rattle.flow_graph.specs.Graphs.{states_of, edges_of};
 ghost use Rattle.flow_graph.specs.Networks.{AreOpened};
@@ -11,7 +11,9 @@ ghost use Rattle.snesl_network.specs.Meant.{IsMeantFor, HasNoNetwork};
 ghost use Rattle.snesl_network.specs.NodesAtRest.{rest_of};
 ghost use Rattle.snesl_network.specs.WhichDrive.{WasDrivenBy};
 
-use flow_drive::{Config, DriveError, Gate, Rested, drive, rested_is_sound};
+use flow_drive::{
+    AlwaysStart, Config, DriveError, Gate, Rested, Start, drive_with, rested_is_sound,
+};
 use flow_graph::{Graph, flow_is_carried, flow_runs_to_end, graph_is_a_network};
 use flow_nodes::StreamNode;
 use snesl_flatten::flatten;
@@ -50,11 +52,31 @@ pub fn drive_program<R: Threads, G: Gate + Send + Sync + Drop + 'static>(
     ensures refused { IfErr result (WasRefused program.now input.now config.now) }
     ensures config { (IsLawful config.now → ⊥) → result ≡ Err BadConfig }
 {
+    drive_program_with(rt, alloc, program, input, config, gate, &mut AlwaysStart)
+}
+
+/// The same, where `start` is asked before each thread is started. Where it refuses one, that is answered as `NoThread`.
+pub fn drive_program_with<R: Threads, G: Gate + Send + Sync + Drop + 'static, S: Start>(
+    rt: &R,
+    alloc: Global,
+    program: &[u8],
+    input: &[u8],
+    config: &Config,
+    gate: Arc<G, Global>,
+    start: &mut S,
+) -> Result<Rested<StreamNode>, Refusal>
+    ensures rests { IfOk result
+        (λ rested. CameToRest program.now input.now config.now (rest_of rested)) }
+    ensures drive { IfOk result (λ rested. WasDrivenBy config.now.drive rested) }
+    ensures refused { IfErr result (WasRefused program.now input.now config.now) }
+    ensures config { (IsLawful config.now → ⊥) → result ≡ Err BadConfig }
+    ensures start { S.refused start.new → S.refused start.old ⊎ (result ≡ Err NoThread) }
+{
     if !config.lawful() {
         return Err(Refusal::BadConfig);
     }
     let graph = network(alloc, program, input)?;
-    driven(rt, alloc, graph, config, gate)
+    driven(rt, alloc, graph, config, gate, start)
 }
 
 // The network of a program with its input text, before any step.
@@ -73,12 +95,13 @@ fn network(alloc: Global, program: &[u8], input: &[u8]) -> Result<Graph<StreamNo
 }
 
 // Drives a network until no node can step, as each program says of which it is the network.
-fn driven<R: Threads, G: Gate + Send + Sync + Drop + 'static>(
+fn driven<R: Threads, G: Gate + Send + Sync + Drop + 'static, S: Start>(
     rt: &R,
     alloc: Global,
     graph: Graph<StreamNode>,
     config: &Config,
     gate: Arc<G, Global>,
+    start: &mut S,
 ) -> Result<Rested<StreamNode>, Refusal>
     requires lawful { IsLawful config.now }
     requires opened { AreOpened node_behaviour (states_of graph) }
@@ -89,11 +112,12 @@ fn driven<R: Threads, G: Gate + Send + Sync + Drop + 'static>(
     ensures refused { (text input : List ℕ)
         → IsMeantFor text input (states_of graph) (edges_of graph)
         → IfErr result (WasRefused text input config.now) }
+    ensures start { S.refused start.new → S.refused start.old ⊎ (result ≡ Err NoThread) }
 {
     flow_is_carried(&graph);
     flow_runs_to_end(&graph);
     one_meaning();
-    match drive(rt, alloc, graph, config, gate) {
+    match drive_with(rt, alloc, graph, config, gate, start) {
         Ok(rested) => {
             rested_is_sound(&rested);
             Ok(rested)

@@ -1,3 +1,4 @@
 pub mod Reports
 pub mod Printing
 pub mod CutParts
+pub mod Alike

@@ -1,8 +1,8 @@
 -- What a run tells, from how its network came to rest.
-use Rattle.std.proofs.Common.{◌≡◌, ℕ, List, [], ◌∷◌, ◌++◌, Bool, true, false, Result, Ok, Err, IfErr, refl, sym, ap, ◌∙◌, subst}
+use Rattle.std.proofs.Common.{◌≡◌, ℕ, List, [], ◌∷◌, ◌++◌, Bool, true, false, Result, Ok, Err, IfErr, refl, sym, ap, ◌∙◌, ◌⊎◌, inl, inr, subst, ⊎_elim}
 use Rattle.std.specs.Result.{IsErrAnd}
 use Rattle.snesl_values.specs.declared.refusal.Refusal.{Refusal}
-use Rattle.snesl_values.specs.declared.refusal.Refusal.TheVariants.{NoMemory, Output}
+use Rattle.snesl_values.specs.declared.refusal.Refusal.TheVariants.{NoMemory, NoThread, Output}
 use Rattle.snesl_values.specs.Values.{Value}
 use Rattle.kahn.specs.declared.outcome.Outcome.{Outcome}
 use Rattle.kahn.specs.declared.outcome.Outcome.TheVariants.{Value as Ended, Fault as Failed, Stalled}
@@ -11,7 +11,7 @@ use Rattle.flow_drive.specs.declared.config.Config.{Config}
 use Rattle.flow_drive.specs.Texts.{last_text}
 use Rattle.snesl_meaning.specs.Meaning.{Means, has_value}
 use Rattle.snesl_network.specs.Driven.{WasRefused}
-use Rattle.snesl_run.specs.Runs.{rest_in, outcome_of, refusal_of, value_line, CameOut, WroteFor, HasWritten, IsReported, IsCutShort, HasError, IsErrorOf}
+use Rattle.snesl_run.specs.Runs.{rest_in, outcome_of, refusal_of, value_line, CameOut, WroteFor, HasWritten, IsReported, IsCutShort, HasError, IsErrorOf, IsRefusedWith}
 use Rattle.snesl_console.specs.Streams.{Taken, IsWhole, IsCutOff, HasSent}
 use Rattle.snesl_run.specs.declared.report.Report.{Report}
 use Rattle.snesl_run.specs.declared.report.RunError.{RunError}
@@ -64,3 +64,15 @@ module _ (program input : List ℕ) (config : Config) (report : Report) (reporte
     nothing_written (Failed f) is not untouched =
         subst (WroteFor program input out) (sym is) (reported.came.fault f (subst (CameOut (rest_in report)) is reported.outcome), untouched)
     nothing_written (Stalled e) is not untouched = subst (WroteFor program input out) (sym is) untouched
+
+-- where a start of a thread was refused, and not before, the run is refused for it
+module _ {A Now Before : Type 0} where
+  pub start_refused : (refusal : Refusal) (result : Result Report RunError) → IsErrAnd result (λ error. refusal_of error ≡ refusal)
+      → (Now → Before ⊎ ((let given : Result A Refusal = Err refusal in given) ≡ Err NoThread)) → Now → Before ⊎ IsRefusedWith NoThread result
+  start_refused refusal (Ok report) is said now = absurd is
+  start_refused refusal (Err error) is said now = ⊎_elim inl (λ same. let kind : refusal ≡ NoThread = cc in inr (is ∙ kind)) (said now)
+
+  -- and where the network came to rest none was
+  pub start_kept : (rested : A) (Refused : Type 0) → (Now → Before ⊎ ((let given : Result A Refusal = Ok rested in given) ≡ Err NoThread)) → Now
+      → Before ⊎ Refused
+  start_kept rested Refused said now = ⊎_elim inl (λ same. absurd (cc)) (said now)

@@ -1,4 +1,5 @@
 pub mod Runs
+pub mod Alike
 pub mod Prints
 pub mod Cuts
 -- what the public clauses cite of the crates below

@@ -7,10 +7,10 @@ pub mod report;
 pub mod runs;
 
 pub use answers::answer;
-pub use flow_drive::{Config, Drive, Gate, NoGate, Outcome, Rested};
-pub use laws::cuts_change_nothing;
+pub use flow_drive::{AlwaysStart, Config, Drive, Gate, NoGate, Outcome, Rested, Start};
+pub use laws::{cuts_change_nothing, one_outcome};
 pub use report::{Report, RunError};
-pub use runs::run;
+pub use runs::{run, run_with};
 pub use snesl_console::{JobError, split_job};
 pub use snesl_settings::settings;
 pub use snesl_values::{Counted, Refusal};

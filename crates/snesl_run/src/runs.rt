@@ -1,15 +1,17 @@
 // Running a program for an input text.
 
-ghost use Rattle.std.specs.Prelude.{◌≡◌, ◌++◌, ◌∷◌, [], IfOk, IfErr};
-ghost use Rattle.snesl_values.specs.declared.refusal.Refusal.TheVariants.{BadConfig, NoMemory};
+ghost use Rattle.std.specs.Prelude.{◌≡◌, ◌++◌, ◌∷◌, ◌⊎◌, IfErr, IfOk, []};
+ghost use Rattle.snesl_values.specs.declared.refusal.Refusal.TheVariants.{BadConfig, NoMemory, NoThread};
 ghost use Rattle.flow_drive.specs.Configs.{IsLawful};
 ghost use Rattle.snesl_console.specs.Streams.{taken};
+ghost use Rattle.snesl_run.specs.Alike.{IsTheOneWay};
 ghost use Rattle.snesl_run.specs.Runs.{IsReported, HasWritten, IsErrorOf, IsRefusedWith};
 
+use crate::laws::one_outcome;
 use crate::report::{Report, RunError};
-use flow_drive::{Config, Gate, Outcome};
+use flow_drive::{AlwaysStart, Config, Gate, Outcome, Start};
 use snesl_console::send;
-use snesl_network::drive_program;
+use snesl_network::drive_program_with;
 use snesl_values::{Counted, Refusal};
 use std::alloc::Global;
 use std::io::Write;
@@ -22,6 +24,9 @@ use std::thread::Threads;
 /// The report has this network at rest, driven by the drive of the configuration. Where a fault is named, the program ends
 /// in a fault, perhaps in another one; where the network has stalled, some edge was too small. Then nothing is written. No
 /// call of `out` failed where a report is answered. Drives of several threads call the gate before each turn of a thread.
+///
+/// One thread and rounds come to one report at one capacity, whatever the chunk, the threads and their shares: the same
+/// outcome, with the place of a fault and the edge that a stall names.
 ///
 /// # Errors
 ///
@@ -51,8 +56,42 @@ pub fn run<R: Threads, W: Write, G: Gate + Send + Sync + Drop + 'static>(
     ensures refused { IfErr result
         (IsErrorOf program.now input.now config.now (taken W.contents out.old out.new)) }
     ensures config { (IsLawful config.now → ⊥) → IsRefusedWith BadConfig result }
+    ensures one { IfOk result (IsTheOneWay program.now input.now config.now) }
 {
-    let rested = drive_program(rt, alloc, program, input, config, gate)?;
+    run_with(
+        rt,
+        alloc,
+        program,
+        input,
+        config,
+        gate,
+        out,
+        &mut AlwaysStart,
+    )
+}
+
+/// The same, where `start` is asked before each thread is started. Where it refuses one, that is answered as `NoThread`.
+pub fn run_with<R: Threads, W: Write, G: Gate + Send + Sync + Drop + 'static, S: Start>(
+    rt: &R,
+    alloc: Global,
+    program: &[u8],
+    input: &[u8],
+    config: &Config,
+    gate: Arc<G, Global>,
+    out: &mut Counted<W>,
+    start: &mut S,
+) -> Result<Report, RunError>
+    ensures network { IfOk result (IsReported program.now input.now config.now) }
+    ensures wrote { IfOk result
+        (HasWritten program.now input.now (taken W.contents out.old out.new)) }
+    ensures refused { IfErr result
+        (IsErrorOf program.now input.now config.now (taken W.contents out.old out.new)) }
+    ensures config { (IsLawful config.now → ⊥) → IsRefusedWith BadConfig result }
+    ensures one { IfOk result (IsTheOneWay program.now input.now config.now) }
+    ensures start { S.refused start.new → S.refused start.old ⊎ IsRefusedWith NoThread result }
+{
+    one_outcome();
+    let rested = drive_program_with(rt, alloc, program, input, config, gate, start)?;
     let outcome = rested.outcome();
     match outcome {
         Outcome::Value => {

@@ -18,5 +18,5 @@ returns-in-Ok-clause-drive g c = record { rings = c.in-Ok.ensures.rings; rounds 
 pub returns-in-Err-NoThread-clause-refused : goal.returns-in-Err-NoThread-clause-refused
 returns-in-Err-NoThread-clause-refused g c text input meant = (c.in-Err-NoThread.ensures.threads (ap Err c.in-Err-NoThread.field-0-is), has_network text input (states_of c.args.graph) (edges_of c.args.graph) meant)
 
-pub drive-requires-send-T : goal.drive-requires-send-T
-drive-requires-send-T g c κs within = search nodes_cross
+pub drive_with-requires-send-T : goal.drive_with-requires-send-T
+drive_with-requires-send-T g c κs within = search nodes_cross

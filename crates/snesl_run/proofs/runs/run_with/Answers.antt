@@ -5,9 +5,9 @@ use Rattle.flow_nodes.specs.StreamNodes.{text_in}
 use Rattle.snesl_console.specs.Streams.{taken, HasSent}
 use Rattle.snesl_run.specs.Runs.{HasWritten, IsReported}
 use Rattle.snesl_run.specs.declared.report.Report.{Report}
-use Rattle.snesl_run.proofs.Reports.{run_refused, line_cut_off, line_written, nothing_written}
-use Rattle.snesl_run.proofs.runs.run.Goals.{in-Value+in_ok-line-in-Value+else-not-send, in-Fault, in-Stalled}
-use Rattle.snesl_run.proofs.runs.run.Goals as goal
+use Rattle.snesl_run.proofs.Reports.{run_refused, line_cut_off, line_written, nothing_written, start_kept, start_refused}
+use Rattle.snesl_run.proofs.runs.run_with.Goals.{in-Value+in_ok-line-in-Value+else-not-send, in-Fault, in-Stalled}
+use Rattle.snesl_run.proofs.runs.run_with.Goals as goal
 
 pub returns-in_err-rested-clause-refused : goal.returns-in_err-rested-clause-refused
 returns-in_err-rested-clause-refused g c =
@@ -46,3 +46,19 @@ returns-clause-wrote g c =
       | in-Stalled w ↦
           subst (λ out. HasWritten c.args.program.now c.args.input.now (taken g.W.Write.contents c.args.out.now out) report) (sym w.out-is) (untouched (Stalled _) w.in-Stalled.is (λ e. absurd (cc)))
     ]
+
+pub returns-clause-one : goal.returns-clause-one
+returns-clause-one g c =
+    let report : Report = record { rested = c.in_ok-rested.rested; outcome = c.outcome-outcome.result } in
+    c.one_outcome.ensures c.args.program.now c.args.input.now c.args.config.now report
+    (record { came = c.in_ok-rested.ensures.rests; drive = c.in_ok-rested.ensures.drive; outcome = c.outcome-outcome.ensures })
+
+pub returns-in_err-rested-clause-start : goal.returns-in_err-rested-clause-start
+returns-in_err-rested-clause-start g c =
+    start_refused c.in_err-rested.field-0.0 c.from_residual.result c.from_residual.ensures.1 c.in_err-rested.ensures.start
+
+pub returns-then-not-send-clause-start : goal.returns-then-not-send-clause-start
+returns-then-not-send-clause-start g c = start_kept c.in_ok-rested.rested _ c.in_ok-rested.ensures.start
+
+pub returns-clause-start : goal.returns-clause-start
+returns-clause-start g c = start_kept c.in_ok-rested.rested _ c.in_ok-rested.ensures.start

@@ -1,5 +1,5 @@
 use Rattle.snesl_network.proofs.Refusing.{not_driven}
-use Rattle.snesl_network.proofs.driving.drive_program.Goals as goal
+use Rattle.snesl_network.proofs.driving.drive_program_with.Goals as goal
 
 pub returns-in_err-graph-clause-refused : goal.returns-in_err-graph-clause-refused
 returns-in_err-graph-clause-refused g c =
