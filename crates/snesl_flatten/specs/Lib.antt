@@ -2,3 +2,14 @@ pub mod Behind
 pub mod Networks
 pub mod PlanViews
 pub mod Sources
+-- what the public clauses cite of the crates below
+pub use Rattle.snesl_values.specs.Inputs
+pub use Rattle.snesl_values.specs.declared.refusal.Refusal
+pub use Rattle.snesl_types.specs.Typed
+pub use Rattle.flow_nodes.specs.StreamNodes
+pub use Rattle.flow_graph.specs.Graphs
+pub use Rattle.flow_graph.specs.Limits
+pub use Rattle.flow_graph.specs.Networks as GraphNetworks
+pub use Rattle.flow_plans.specs.Layouts
+pub use Rattle.flow_assembly.specs.Openings
+pub use Rattle.snesl_translation.specs.Programs
