@@ -70,12 +70,6 @@ fn dealt_out<T: Transducer + Drop, E: Opening + Drop>(
     if !config.lawful() {
         return Err(DriveError::BadConfig);
     }
-    let dealt = flow_opening::deal(
-        alloc,
-        graph,
-        config.threads,
-        &config.share,
-        config.capacity,
-    )?;
+    let dealt = flow_opening::deal(alloc, graph, config.threads, &config.share, config.capacity)?;
     Ok(dealt)
 }

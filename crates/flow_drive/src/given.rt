@@ -44,13 +44,7 @@ pub fn deal_out<T: Transducer + Drop, E: Opening + Drop>(
     let given = Snapshot::of(&graph);
     let nodes = graph.nodes();
     let share = config.share.to_vec(alloc)?;
-    let dealt = deal(
-        alloc,
-        graph,
-        config.threads,
-        &share,
-        config.capacity,
-    )?;
+    let dealt = deal(alloc, graph, config.threads, &share, config.capacity)?;
     let given = Given {
         graph: given,
         nodes,

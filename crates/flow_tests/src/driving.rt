@@ -159,7 +159,11 @@ fn assert_nineteen(rt: &impl Abort, told: &Told) {
 
 // Asserts that over rings all nodes stayed in shares, and in no other drive.
 fn assert_apart(rt: &impl Abort, told: &Told, drive: Drive) {
-    let all = if drive == Drive::Rings { Some(told.nodes) } else { None };
+    let all = if drive == Drive::Rings {
+        Some(told.nodes)
+    } else {
+        None
+    };
     assert_eq!(rt; told.apart, all);
 }
 

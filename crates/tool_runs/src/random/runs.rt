@@ -87,7 +87,9 @@ impl Totals {
         dice: &mut Dice,
         job: &[u8],
     ) -> Result<(), Failure> {
-        let (program, input) = split_job(alloc, &mut Counted::new(job)).map_err(|_| Failure::NoMemory)?;
+        let (program, input) = split_job(alloc, &mut Counted::new(job)).map_err(
+            |_| Failure::NoMemory,
+        )?;
         self.programs = self.programs.saturating_add(1);
         match Expected::of(alloc, &program, &input) {
             Ok(expected) => {
