@@ -20,6 +20,8 @@ mod operators;
 mod rows;
 #[cfg(test)]
 mod scan_order;
+#[cfg(test)]
+mod settling;
 pub mod shares;
 #[cfg(test)]
 mod single_nodes;

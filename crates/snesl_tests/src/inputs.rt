@@ -19,8 +19,8 @@ use std::sync::Arc;
 use std::test::Fail;
 use std::thread::Threads;
 
-// The network of the plan of a program, for the inputs of this text.
-fn network_for(
+/// The network of the plan of a program, for the inputs of this text.
+pub fn network_for(
     rt: &impl Abort,
     alloc: Global,
     typed: &Typed<'_>,

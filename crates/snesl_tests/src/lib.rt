@@ -24,6 +24,8 @@ mod plans;
 #[cfg(test)]
 mod running;
 #[cfg(test)]
+mod settling;
+#[cfg(test)]
 mod sizes;
 #[cfg(test)]
 mod splitting;

@@ -1,0 +1,60 @@
+// The network of a program, settled by many schedules, which all end alike.
+
+ghost use Rattle.std.specs.Prelude.{◌<◌, ◌≤◌};
+ghost use Rattle.flow_messages.specs.Limits.{greatest_capacity};
+ghost use Rattle.flow_graph.specs.Graphs.{states_of};
+ghost use Rattle.flow_graph.specs.Networks.{AreOpened};
+ghost use Rattle.flow_nodes.specs.StreamNodes.{node_behaviour};
+
+use crate::inputs::network_for;
+use flow_graph::{Graph, settle};
+use flow_nodes::StreamNode;
+use snesl_syntax::parse;
+use snesl_types::check;
+use std::alloc::{AllocError, Global};
+use std::test::Fail;
+
+// The schedule of this number: so many numbers of nodes, of which some name none.
+fn schedule(alloc: Global, number: usize) -> Result<Vec<usize>, AllocError> {
+    let mut nodes = Vec::new(alloc);
+    let mut last = number;
+    for _ in 0..number {
+        last = last.wrapping_mul(75).wrapping_add(74) % 65_537;
+        nodes.push(last % 16)?;
+    }
+    Ok(nodes)
+}
+
+// How many messages were sent and how many received on each edge.
+fn counts_of(
+    alloc: Global,
+    graph: Graph<StreamNode>,
+    capacity: usize,
+    schedule: &[usize],
+) -> Result<Vec<(u64, u64)>, AllocError>
+    requires opened { AreOpened node_behaviour (states_of graph) }
+    requires some { 0 < capacity }
+    requires limit { capacity ≤ greatest_capacity }
+{
+    let settled = settle(alloc, graph, capacity, schedule)?;
+    let mut counts = Vec::new(alloc);
+    for edge in 0..settled.graph().edges() {
+        counts.push(settled.counts(edge))?;
+    }
+    Ok(counts)
+}
+
+// Wherever it comes to rest, edges that hold so few messages had the same traffic.
+#[test]
+fn counts_alike_by_any_schedule(rt: HostRuntime) -> Result<(), Fail> {
+    let alloc = rt.alloc();
+    let program = parse(alloc, b"let s = iota(100) in s ++ s")?;
+    let typed = check(alloc, &program)?;
+    let first = counts_of(alloc, network_for(&rt, alloc, &typed, b"")?, 4, &[])?;
+    for number in 1..100 {
+        let graph = network_for(&rt, alloc, &typed, b"")?;
+        let counts = counts_of(alloc, graph, 4, &schedule(alloc, number)?)?;
+        assert_eq!(rt; counts.as_slice(), first.as_slice(), "schedule {number}");
+    }
+    Ok(())
+}
