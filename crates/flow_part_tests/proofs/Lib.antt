@@ -1,3 +1,1 @@
 pub mod Bare
-pub mod Lists
-pub mod Two

@@ -1,1 +1,2 @@
 pub mod NoEnds
+pub mod Joined

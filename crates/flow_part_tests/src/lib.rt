@@ -1,18 +1,19 @@
-// Tests of the parts of which the drives are made: boxes, rings, meetings, dealing, shares, workers, openings and epochs; and both ends
-// of an edge in threads of their own.
+// Tests of the parts of which the drives are made: tables, boxes and rings, by courses over their edges; dealing, shares, workers,
+// openings and epochs; and both ends of an edge in threads of their own.
 #![tactic(auto)]
 
 #[cfg(test)]
 mod boxes;
-pub mod crossing;
+#[cfg(test)]
+mod courses;
 #[cfg(test)]
 mod deal;
 #[cfg(test)]
 mod epochs;
 #[cfg(test)]
-mod meetings;
-#[cfg(test)]
 mod messages;
+#[cfg(test)]
+mod one_thread;
 #[cfg(test)]
 mod opened;
 #[cfg(test)]
@@ -26,6 +27,10 @@ mod shares;
 #[cfg(test)]
 mod starts;
 #[cfg(test)]
+mod tables;
+#[cfg(test)]
 mod turns;
+#[cfg(test)]
+mod two_threads;
 #[cfg(test)]
 mod workers;

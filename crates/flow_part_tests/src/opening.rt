@@ -45,10 +45,8 @@ fn deal_and_gather<T: Transducer + Drop, E: Opening + Drop>(
 fn graph_without_nodes_is_dealt_to_each_share(rt: HostRuntime) -> Result<(), Fail> {
     let builder: GraphBuilder<Source> = GraphBuilder::new(rt.alloc());
     let dealt: Dealt<Source, Boxes> = deal(rt.alloc(), builder.build(), 3, &[0u8, 2], 4)?;
-    assert_eq!(rt; dealt.shares.len(), 3);
-    assert_eq!(rt; dealt.shares[2].number(), 2);
-    assert!(rt; dealt.wires.is_empty());
-    assert!(rt; dealt.layout.edges().is_empty());
+    assert!(rt; dealt.shares.len() == 3 && dealt.shares[2].number() == 2);
+    assert!(rt; dealt.wires.is_empty() && dealt.layout.edges().is_empty());
     // No pump yet.
     assert!(rt; are_fed(&dealt.shares) && are_calm(&dealt.shares));
     Ok(())
@@ -65,7 +63,6 @@ fn graph_without_nodes_is_gathered_again(rt: HostRuntime) -> Result<(), Fail> {
         &[0u8, 2],
         4,
     )?;
-    assert_eq!(rt; graph.nodes(), 0);
-    assert_eq!(rt; ends.len(), 3);
+    assert_eq!(rt; (graph.nodes(), ends.len()), (0, 3));
     Ok(())
 }

@@ -33,6 +33,14 @@ pub fn two_bare(alloc: Global) -> Result<Vec<Share<Source, Rings>>, AllocError>
     Ok(vec![in alloc; bare(alloc, 7)?, bare(alloc, 3)?]?)
 }
 
+/// The numbers of two shares.
+pub fn numbers_of(shares: &[Share<Source, Rings>]) -> Option<(usize, usize)> {
+    match shares {
+        [first, second] => Some((first.number(), second.number())),
+        _ => None,
+    }
+}
+
 /// Counts the turns of the share with number 3.
 #[derive(Drop)]
 struct Count {
@@ -55,14 +63,19 @@ fn a_share_without_nodes_calls_no_gate(rt: HostRuntime) -> Result<(), Fail> {
         turns: Cell::new(0),
     };
     let share = pump(share, 8, 2, &gate);
-    assert_eq!(rt; gate.turns.get(), 0);
-    assert_eq!(rt; share.number(), 3);
-    assert!(rt; !share.spent());
-    assert!(rt; !share.starved());
-    assert!(rt; !share.moved());
+    let once = (
+        gate.turns.get(),
+        share.number(),
+        share.spent(),
+        share.starved(),
+        share.moved(),
+    );
     let share = pump(share, 8, 1, &NoGate);
-    assert_eq!(rt; share.nodes().len(), 0);
+    let count = share.nodes().len();
     let (nodes, _) = share.into_parts();
-    assert!(rt; nodes.is_empty());
+    assert_eq!(rt;
+        (once, count, nodes.len()),
+        ((0, 3, false, false, false), 0, 0)
+    );
     Ok(())
 }

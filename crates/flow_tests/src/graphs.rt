@@ -97,10 +97,14 @@ fn nineteen_messages_in_any_order(rt: HostRuntime) -> Result<(), Fail> {
     Ok(())
 }
 
-// Takes a message from the edge of the sum.
-fn take_sum(rt: &impl Abort, table: &mut Table) -> Option<Msg> {
+// Takes a message from the edge of the sum: its integer, and -1 where it is none.
+fn take_sum(rt: &impl Abort, table: &mut Table) -> Option<i128> {
     assert!(rt; table.has_reader(2));
-    table.take(2)
+    match table.take(2) {
+        Some(Msg::Item(Item::Int(sum))) => Some(sum),
+        Some(_) => Some(-1),
+        None => None,
+    }
 }
 
 // Asserts that the addition meets the end of the shorter stream with a fault, where its sink takes nothing.
@@ -115,10 +119,12 @@ fn assert_unlike<T: Transducer + Drop>(
         kind: FaultKind::Shape,
         at: 7,
     };
-    assert_eq!(rt; wants(rt, &graph, 2), Want::Faulted(shape));
     // The sum's edge carries 2 and no end.
-    assert!(rt; matches!(take_sum(rt, &mut table), Some(Msg::Item(Item::Int(2)))));
-    assert!(rt; take_sum(rt, &mut table).is_none());
+    let sums = (take_sum(rt, &mut table), take_sum(rt, &mut table));
+    assert_eq!(rt;
+        (wants(rt, &graph, 2), sums),
+        (Want::Faulted(shape), (Some(2), None))
+    );
     Ok(())
 }
 
@@ -134,6 +140,28 @@ node 1 const 5
 node 2 sink int
 ";
 
+// Whether an edge may join these two nodes.
+fn may_join<T: Transducer + Drop>(builder: &GraphBuilder<T>, writer: usize, reader: usize) -> bool {
+    builder.may_join(Edge {
+        writer,
+        writer_port: 0,
+        reader,
+        reader_port: 0,
+    })
+}
+
+// Whether the source may be joined to the node that computes, how many edges may join units to integers, go against the order or to
+// a node itself, or to one that is not there, and whether each port has its edge.
+fn joins<T: Transducer + Drop>(builder: &GraphBuilder<T>) -> (bool, usize, bool) {
+    let mut others = 0usize;
+    for (writer, reader) in [(0, 2), (1, 0), (1, 1), (1, 3)] {
+        if may_join(builder, writer, reader) {
+            others = others.saturating_add(1);
+        }
+    }
+    (may_join(builder, 0, 1), others, builder.complete())
+}
+
 // Asserts which edges may join the three nodes, and when they are complete.
 fn assert_joins<T: Transducer + Drop>(
     rt: &impl Abort,
@@ -141,26 +169,13 @@ fn assert_joins<T: Transducer + Drop>(
 ) -> Result<(), Fail>
     requires { AreOpened T.behaviour (states_so_far builder.old) }
 {
-    let edge = |writer, reader| Edge {
-        writer,
-        writer_port: 0,
-        reader,
-        reader_port: 0,
-    };
-    assert!(rt; builder.may_join(edge(0, 1)));
-    // Units into integers, against the order, to itself, and to a node that is not there.
-    for (writer, reader) in [(0, 2), (1, 0), (1, 1), (1, 3)] {
-        assert!(rt;
-            !builder.may_join(edge(writer, reader)),
-            "{writer} to {reader}"
-        );
-    }
-    assert!(rt; !builder.complete());
+    let first = joins(builder);
     join(builder, (0, 0), (1, 0))?;
     // Both ports are taken.
-    assert!(rt; !builder.may_join(edge(0, 1)));
+    let then = joins(builder);
     join(builder, (1, 0), (2, 0))?;
-    assert!(rt; builder.complete());
+    let told = (first, then, builder.complete());
+    assert_eq!(rt; told, ((true, 0, false), (false, 0, false), true));
     Ok(())
 }
 

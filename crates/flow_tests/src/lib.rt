@@ -1,23 +1,21 @@
-// Tests of the network: edges, graphs, drives, and each node by the rows of tables.
+// Tests of the network: items, graphs, drives, and each node by the rows of tables.
 #![tactic(auto)]
 
+#[cfg(test)]
+mod bench;
 pub mod building;
 #[cfg(test)]
 mod driving;
-#[cfg(test)]
-mod feeding;
 #[cfg(test)]
 mod graphs;
 #[cfg(test)]
 mod idling;
 #[cfg(test)]
-mod network;
+mod items;
 #[cfg(test)]
 mod node_words;
 #[cfg(test)]
 mod operators;
-#[cfg(test)]
-mod rows;
 #[cfg(test)]
 mod scan_order;
 #[cfg(test)]

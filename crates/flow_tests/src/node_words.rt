@@ -1,14 +1,14 @@
 // Nodes made of words: a kind, and behind it what that kind has for parameters.
 
-ghost use Rattle.std.specs.Prelude.{◌≡◌, IfOk};
+ghost use Rattle.std.specs.Prelude.{◌≡◌, ◌≤◌, IfOk};
 ghost use Rattle.flow_nodes.specs.StreamNodes.{node_behaviour, state_of};
 
 use crate::words::{
-    WordError, binary_named, dialect_named, kind_named, message, number_of, reduction_named,
-    type_of, unary_named,
+    BINARY, DIALECTS, KINDS, REDUCTIONS, TRUTHS, UNARY, WordError, integer_of, named, number_of,
+    type_of,
 };
 use flow_base::Node;
-use flow_messages::{Item, Msg};
+use flow_messages::Kind;
 use flow_nodes::StreamNode;
 use flow_scalar::{
     Binary, Const, Fork, Iota, Length, Reduce, ScanAdd, Sink, Source, Stream, Unary, UnitsOf,
@@ -18,7 +18,8 @@ use flow_segment::{
     PartFlags, SameFlags, TheCheck,
 };
 use flow_values::{Index, Print, Seq, Tab};
-use snesl_operators::Scalar;
+use snesl_operators::{BinaryOperator, Reduction, Scalar, UnaryOperator};
+use snesl_values::{Dialect, Ty};
 use std::alloc::{AllocError, Global};
 
 /// The node of these words, at this offset in the program text, before it has read or written anything.
@@ -27,15 +28,23 @@ pub fn node_of(alloc: Global, words: &str, at: usize) -> Result<StreamNode, Word
 {
     let (kind, parameters) = words.split_once(' ').unwrap_or((words, ""));
     if parameters.is_empty() {
-        plain_node(kind, at)
-    } else {
-        match kind {
-            "print" | "tab" | "seq" | "index" => value_node(alloc, kind, parameters, at),
-            "unary" | "binary" | "reduce" | "scan_add" | "length" => {
-                computing_node(kind, parameters, at)
-            }
-            _ => scalar_node(alloc, kind, parameters, at),
+        return plain_node(kind, at);
+    }
+    match kind {
+        "print" | "tab" | "seq" | "index" => {
+            value_node(alloc, kind, type_of(alloc, parameters)?, at)
         }
+        "unary" | "binary" | "reduce" | "scan_add" | "length" => {
+            let (dialect, work) = work_of(kind, parameters)?;
+            Ok(computing_node(dialect, work, at))
+        }
+        "source" => Ok(StreamNode::Source(Source::new(alloc, stream_of(alloc, parameters)?))),
+        "const" => Ok(StreamNode::Const(Node::new(Const::new(scalar_of(parameters)?), at))),
+        "fork" => {
+            let (kind, outputs) = branches_of(parameters)?;
+            Ok(StreamNode::Fork(Node::new(Fork::new(alloc, kind, outputs), at)))
+        }
+        _ => kind_node(alloc, kind, named(&KINDS, parameters)?, at),
     }
 }
 
@@ -61,55 +70,63 @@ fn plain_node(kind: &str, at: usize) -> Result<StreamNode, WordError>
     }
 }
 
-// A node that computes: its dialect, and behind it its operator, if it has one.
-fn computing_node(kind: &str, words: &str, at: usize) -> Result<StreamNode, WordError>
-    ensures { IfOk result (λ node. node_behaviour.opening (state_of node) ≡ state_of node) }
-{
+// What a node computes.
+#[derive(Clone, Copy)]
+enum Work {
+    Unary(UnaryOperator),
+    Binary(BinaryOperator),
+    Reduce(Reduction),
+    ScanAdd,
+    Length,
+}
+
+// The dialect of a node that computes, and what: its operator stands behind the dialect, if it has one.
+fn work_of(kind: &str, words: &str) -> Result<(Dialect, Work), WordError> {
     let (dialect, word) = words.split_once(' ').unwrap_or((words, ""));
-    let dialect = dialect_named(dialect)?;
-    match kind {
-        "unary" => Ok(StreamNode::Unary(Node::new(Unary::new(dialect, unary_named(word)?), at))),
-        "binary" => Ok(StreamNode::Binary(Node::new(
-            Binary::new(dialect, binary_named(word)?),
+    let work = match kind {
+        "unary" => Work::Unary(named(&UNARY, word)?),
+        "binary" => Work::Binary(named(&BINARY, word)?),
+        "reduce" => Work::Reduce(named(&REDUCTIONS, word)?),
+        "scan_add" if word.is_empty() => Work::ScanAdd,
+        "length" if word.is_empty() => Work::Length,
+        _ => return Err(WordError::Unread),
+    };
+    Ok((named(&DIALECTS, dialect)?, work))
+}
+
+// A node that computes.
+fn computing_node(dialect: Dialect, work: Work, at: usize) -> StreamNode
+    ensures { node_behaviour.opening (state_of result) ≡ state_of result }
+{
+    match work {
+        Work::Unary(operator) => StreamNode::Unary(Node::new(Unary::new(dialect, operator), at)),
+        Work::Binary(operator) => StreamNode::Binary(Node::new(Binary::new(dialect, operator), at)),
+        Work::Reduce(reduction) => StreamNode::Reduce(Node::new(
+            Reduce::new(dialect, reduction),
             at,
-        ))),
-        "reduce" => Ok(StreamNode::Reduce(Node::new(
-            Reduce::new(dialect, reduction_named(word)?),
-            at,
-        ))),
-        "scan_add" if word.is_empty() => Ok(StreamNode::ScanAdd(Node::new(
-            ScanAdd::new(dialect),
-            at,
-        ))),
-        "length" if word.is_empty() => Ok(StreamNode::Length(Node::new(Length::new(dialect), at))),
-        _ => Err(WordError::Unread),
+        )),
+        Work::ScanAdd => StreamNode::ScanAdd(Node::new(ScanAdd::new(dialect), at)),
+        Work::Length => StreamNode::Length(Node::new(Length::new(dialect), at)),
     }
 }
 
-// A node whose parameter is a stream, a scalar or a kind.
-fn scalar_node(alloc: Global, kind: &str, word: &str, at: usize) -> Result<StreamNode, WordError>
+// A node whose parameter is the kind of its items.
+fn kind_node(alloc: Global, kind: &str, of: Kind, at: usize) -> Result<StreamNode, WordError>
     ensures { IfOk result (λ node. node_behaviour.opening (state_of node) ≡ state_of node) }
 {
     match kind {
-        "source" => Ok(StreamNode::Source(Source::new(alloc, stream_of(alloc, word)?))),
-        "const" => Ok(StreamNode::Const(Node::new(Const::new(scalar_of(alloc, word)?), at))),
-        "fork" => fork_of(alloc, word, at),
-        "sink" => Ok(StreamNode::Sink(Node::new(Sink::new(kind_named(word)?), at))),
-        "dist" => Ok(StreamNode::Dist(Node::new(Dist::new(alloc, kind_named(word)?), at))),
-        "pack" => Ok(StreamNode::Pack(Node::new(Pack::new(kind_named(word)?), at))),
-        "interleave" => Ok(StreamNode::Interleave(Node::new(
-            Interleave::new(kind_named(word)?),
-            at,
-        ))),
+        "sink" => Ok(StreamNode::Sink(Node::new(Sink::new(of), at))),
+        "dist" => Ok(StreamNode::Dist(Node::new(Dist::new(alloc, of), at))),
+        "pack" => Ok(StreamNode::Pack(Node::new(Pack::new(of), at))),
+        "interleave" => Ok(StreamNode::Interleave(Node::new(Interleave::new(of), at))),
         _ => Err(WordError::Unread),
     }
 }
 
 // A node whose parameter is a type.
-fn value_node(alloc: Global, kind: &str, words: &str, at: usize) -> Result<StreamNode, WordError>
+fn value_node(alloc: Global, kind: &str, ty: Ty, at: usize) -> Result<StreamNode, WordError>
     ensures { IfOk result (λ node. node_behaviour.opening (state_of node) ≡ state_of node) }
 {
-    let ty = type_of(alloc, words)?;
     match kind {
         "print" => Ok(StreamNode::Print(Print::new(alloc, ty, at)?)),
         "tab" => Ok(StreamNode::Tab(Node::new(Tab::new(alloc, ty)?, at))),
@@ -119,43 +136,50 @@ fn value_node(alloc: Global, kind: &str, words: &str, at: usize) -> Result<Strea
     }
 }
 
-// A Fork of a kind and a number of outputs.
-fn fork_of(alloc: Global, words: &str, at: usize) -> Result<StreamNode, WordError>
-    ensures { IfOk result (λ node. node_behaviour.opening (state_of node) ≡ state_of node) }
+// The kind of a Fork, and how many outputs it has.
+fn branches_of(words: &str) -> Result<(Kind, usize), WordError>
+    ensures { IfOk result (λ it. 2 ≤ it.1) }
 {
     let (kind, outputs) = words.split_once(' ').ok_or(WordError::Unread)?;
-    let outputs = number_of(outputs)?;
+    let (kind, outputs) = (named(&KINDS, kind)?, number_of(outputs)?);
     if outputs < 2 {
         return Err(WordError::Unread);
     }
-    let fork = Fork::new(alloc, kind_named(kind)?, outputs);
-    Ok(StreamNode::Fork(Node::new(fork, at)))
+    Ok((kind, outputs))
 }
 
-fn scalar_of(alloc: Global, word: &str) -> Result<Scalar, WordError> {
-    match message(alloc, word)? {
-        Msg::Item(Item::Bool(truth)) => Ok(Scalar::Bool(truth)),
-        Msg::Item(Item::Int(number)) => Ok(Scalar::Int(number)),
-        _ => Err(WordError::Unread),
+fn scalar_of(word: &str) -> Result<Scalar, WordError> {
+    match named(&TRUTHS, word) {
+        Ok(truth) => Ok(Scalar::Bool(truth)),
+        Err(_) => Ok(Scalar::Int(integer_of(word)?)),
     }
 }
 
 // The stream of a Source: `units` and how many, or `bools` or `ints` and each of them.
 fn stream_of(alloc: Global, words: &str) -> Result<Stream, WordError> {
     let (kind, items) = words.split_once(' ').ok_or(WordError::Unread)?;
-    if kind == "units" {
-        return Ok(Stream::Units(number_of(items)?));
-    }
-    let (mut truths, mut numbers) = (Vec::new(alloc), Vec::new(alloc));
-    for word in items.split_whitespace() {
-        match scalar_of(alloc, word)? {
-            Scalar::Bool(truth) => truths.push(truth).map_err(AllocError::from)?,
-            Scalar::Int(number) => numbers.push(number).map_err(AllocError::from)?,
-        }
-    }
     match kind {
-        "bools" if numbers.is_empty() => Ok(Stream::Bools(truths)),
-        "ints" if truths.is_empty() => Ok(Stream::Ints(numbers)),
+        "units" => Ok(Stream::Units(number_of(items)?)),
+        "bools" => Ok(Stream::Bools(bools_of(alloc, items)?)),
+        "ints" => Ok(Stream::Ints(ints_of(alloc, items)?)),
         _ => Err(WordError::Unread),
     }
+}
+
+fn bools_of(alloc: Global, words: &str) -> Result<Vec<bool>, WordError> {
+    let mut truths = Vec::new(alloc);
+    for word in words.split_whitespace() {
+        truths
+            .push(named(&TRUTHS, word)?)
+            .map_err(AllocError::from)?;
+    }
+    Ok(truths)
+}
+
+fn ints_of(alloc: Global, words: &str) -> Result<Vec<i128>, WordError> {
+    let mut numbers = Vec::new(alloc);
+    for word in words.split_whitespace() {
+        numbers.push(integer_of(word)?).map_err(AllocError::from)?;
+    }
+    Ok(numbers)
 }

@@ -53,9 +53,12 @@ fn values_of_operators(rt: HostRuntime) {
     assert_integers(&rt, Dialect::Two, i128::MIN, i128::MAX);
     for dialect in [Dialect::One, Dialect::Two] {
         let (yes, no) = (Scalar::Bool(true), Scalar::Bool(false));
-        assert_eq!(rt; BinaryOperator::EqualTruths.apply(dialect, no, no), Ok(yes));
-        assert_eq!(rt; BinaryOperator::Or.apply(dialect, no, yes), Ok(yes));
-        assert_eq!(rt; BinaryOperator::And.apply(dialect, yes, no), Ok(no));
-        assert_eq!(rt; UnaryOperator::Not.apply(dialect, yes), Ok(no));
+        let values = [
+            BinaryOperator::EqualTruths.apply(dialect, no, no),
+            BinaryOperator::Or.apply(dialect, no, yes),
+            BinaryOperator::And.apply(dialect, yes, no),
+            UnaryOperator::Not.apply(dialect, yes),
+        ];
+        assert_eq!(rt; values, [Ok(yes), Ok(yes), Ok(no), Ok(no)]);
     }
 }

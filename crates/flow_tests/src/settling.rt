@@ -8,7 +8,7 @@ ghost use Rattle.flow_nodes.specs.StreamNodes.{node_behaviour};
 
 use crate::driving::driven_under;
 use crate::sketches::{SUM_OF_FIVE, graph_of};
-use flow_drive::{Config, Drive, Outcome, Sharing};
+use flow_drive::{Config, Drive, Outcome};
 use flow_graph::{Graph, settle};
 use flow_nodes::StreamNode;
 use std::alloc::{AllocError, Global};
@@ -88,15 +88,12 @@ fn outcome_of(
     chunk: usize,
     threads: usize,
 ) -> Result<Outcome, Fail> {
-    let sharing = Sharing {
-        threads,
-        idle_turns: 64,
-        share: shares_below(alloc, threads)?,
-    };
     let config = Config {
         capacity: 1,
         chunk,
-        sharing,
+        threads,
+        idle: 64,
+        share: shares_below(alloc, threads)?,
         drive,
     };
     Ok(driven_under(rt, alloc, graph_of(alloc, WAITS)?, &config)?.outcome)

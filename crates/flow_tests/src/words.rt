@@ -2,7 +2,7 @@
 
 use flow_messages::{Item, Kind, Msg};
 use snesl_operators::{BinaryOperator, Reduction, UnaryOperator};
-use snesl_values::{Datum, Dialect, FaultKind, Ty};
+use snesl_values::{Datum, Dialect, Ty};
 use std::alloc::{AllocError, Global};
 
 /// Why words stand for nothing.
@@ -20,6 +20,68 @@ impl From<AllocError> for WordError {
     }
 }
 
+/// Flags, and the items of streams of truth values.
+pub const TRUTHS: [(&str, bool); 2] = [("F", false), ("T", true)];
+
+/// The kinds of items.
+pub const KINDS: [(&str, Kind); 4] = [
+    ("unit", Kind::Unit),
+    ("bool", Kind::Bool),
+    ("int", Kind::Int),
+    ("vec", Kind::Vec),
+];
+
+pub const DIALECTS: [(&str, Dialect); 2] = [("one", Dialect::One), ("two", Dialect::Two)];
+
+/// The operators on one scalar.
+pub const UNARY: [(&str, UnaryOperator); 2] = [
+    ("negate", UnaryOperator::Negate),
+    ("not", UnaryOperator::Not),
+];
+
+/// The operators on two scalars.
+pub const BINARY: [(&str, BinaryOperator); 6] = [
+    ("add", BinaryOperator::Add),
+    ("subtract", BinaryOperator::Subtract),
+    ("multiply", BinaryOperator::Multiply),
+    ("divide", BinaryOperator::Divide),
+    ("less", BinaryOperator::Less),
+    ("and", BinaryOperator::And),
+];
+
+pub const REDUCTIONS: [(&str, Reduction); 4] = [
+    ("sum", Reduction::Sum),
+    ("max", Reduction::Max),
+    ("all", Reduction::All),
+    ("any", Reduction::Any),
+];
+
+/// What a word names.
+pub fn named<T: Copy>(names: &[(&str, T)], word: &str) -> Result<T, WordError> {
+    for &(name, value) in names {
+        if name == word {
+            return Ok(value);
+        }
+    }
+    Err(WordError::Unread)
+}
+
+/// The number of a decimal word.
+pub fn number_of(word: &str) -> Result<usize, WordError> {
+    match word.parse::<usize>() {
+        Ok(number) => Ok(number),
+        Err(_) => Err(WordError::Unread),
+    }
+}
+
+/// The integer of a decimal word.
+pub fn integer_of(word: &str) -> Result<i128, WordError> {
+    match word.parse::<i128>() {
+        Ok(number) => Ok(number),
+        Err(_) => Err(WordError::Unread),
+    }
+}
+
 /// The message of a word: `u` for a Unit, `F` and `T` for flags, a decimal number, a vector as it is printed, and `.`
 /// for the end.
 pub fn message(alloc: Global, word: &str) -> Result<Msg, WordError> {
@@ -28,70 +90,66 @@ pub fn message(alloc: Global, word: &str) -> Result<Msg, WordError> {
         "u" => Item::Unit,
         "F" => Item::Bool(false),
         "T" => Item::Bool(true),
-        _ => match word.parse::<i128>() {
+        _ => match integer_of(word) {
             Ok(number) => Item::Int(number),
-            Err(_) => Item::of_datum(alloc, vector(alloc, word)?)?,
+            Err(_) => {
+                let items = vector(alloc, word)?.ok_or(WordError::Unread)?;
+                Item::of_datum(alloc, Datum::Vec(items))?
+            }
         },
     }))
 }
 
 // The vectors that stand in tables.
-fn vector(alloc: Global, word: &str) -> Result<Datum, WordError> {
-    let mut all = Vec::new(alloc);
-    match word {
-        "[]" => {}
-        "[1]" => all.push(Datum::Int(1)).map_err(AllocError::from)?,
-        "[170141183460469231731687303715884105727]" => {
-            all.push(Datum::Int(i128::MAX)).map_err(AllocError::from)?
-        }
-        "[8,-9]" => add(&mut all, Datum::Int(8), Datum::Int(-9))?,
-        "[1,true]" => add(&mut all, Datum::Int(1), Datum::Bool(true))?,
-        "[(1,[4,5]),(2,[])]" => {
-            let mut inner = Vec::new(alloc);
-            add(&mut inner, Datum::Int(4), Datum::Int(5))?;
-            let first = pair(alloc, 1, inner)?;
-            let second = pair(alloc, 2, Vec::new(alloc))?;
-            add(&mut all, first, second)?;
-        }
-        _ => return Err(WordError::Unread),
-    }
-    Ok(Datum::Vec(all))
+fn vector(alloc: Global, word: &str) -> Result<Option<Vec<Datum>>, AllocError> {
+    Ok(Some(match word {
+        "[]" => Vec::new(alloc),
+        "[1]" => vec![in alloc; Datum::Int(1)]?,
+        "[170141183460469231731687303715884105727]" => vec![in alloc; Datum::Int(i128::MAX)]?,
+        "[8,-9]" => vec![in alloc; Datum::Int(8), Datum::Int(-9)]?,
+        "[1,true]" => vec![in alloc; Datum::Int(1), Datum::Bool(true)]?,
+        "[(1,[4,5]),(2,[])]" => pairs(alloc)?,
+        _ => return Ok(None),
+    }))
 }
 
-fn add(all: &mut Vec<Datum>, first: Datum, second: Datum) -> Result<(), AllocError> {
-    all.push(first)?;
-    all.push(second)?;
-    Ok(())
+// The elements of `[(1,[4,5]),(2,[])]`.
+fn pairs(alloc: Global) -> Result<Vec<Datum>, AllocError> {
+    let first = pair(alloc, 1, vec![in alloc; Datum::Int(4), Datum::Int(5)]?)?;
+    Ok(vec![in alloc; first, pair(alloc, 2, Vec::new(alloc))?]?)
 }
 
 // A pair of an integer and a vector.
 fn pair(alloc: Global, first: i128, second: Vec<Datum>) -> Result<Datum, AllocError> {
-    let first = Box::new(alloc, Datum::Int(first))?;
-    Ok(Datum::Pair(first, Box::new(alloc, Datum::Vec(second))?))
+    let second = Box::new(alloc, Datum::Vec(second))?;
+    Ok(Datum::Pair(Box::new(alloc, Datum::Int(first))?, second))
 }
 
 /// The type of words in which each former stands before what it is of, as `pair int vec bool`.
 pub fn type_of(alloc: Global, words: &str) -> Result<Ty, WordError> {
     let mut types = Vec::new(alloc);
     for word in words.split_whitespace().rev() {
-        let ty = match word {
-            "int" => Ty::Int,
-            "bool" => Ty::Bool,
-            "vec" => Ty::Vec(boxed(alloc, &mut types)?),
-            "seq" => Ty::Seq(boxed(alloc, &mut types)?),
-            "pair" => {
-                let first = boxed(alloc, &mut types)?;
-                Ty::Pair(first, boxed(alloc, &mut types)?)
-            }
-            _ => return Err(WordError::Unread),
-        };
+        let ty = formed(alloc, &mut types, word)?;
         types.push(ty).map_err(AllocError::from)?;
     }
-    let ty = types.pop().ok_or(WordError::Unread)?;
-    if types.is_empty() {
-        Ok(ty)
-    } else {
-        Err(WordError::Unread)
+    match types.pop() {
+        Some(ty) if types.is_empty() => Ok(ty),
+        _ => Err(WordError::Unread),
+    }
+}
+
+// The type of a word, formed of the last of those types that its former stands before.
+fn formed(alloc: Global, types: &mut Vec<Ty>, word: &str) -> Result<Ty, WordError> {
+    match word {
+        "int" => Ok(Ty::Int),
+        "bool" => Ok(Ty::Bool),
+        "vec" => Ok(Ty::Vec(boxed(alloc, types)?)),
+        "seq" => Ok(Ty::Seq(boxed(alloc, types)?)),
+        "pair" => {
+            let first = boxed(alloc, types)?;
+            Ok(Ty::Pair(first, boxed(alloc, types)?))
+        }
+        _ => Err(WordError::Unread),
     }
 }
 
@@ -99,78 +157,4 @@ pub fn type_of(alloc: Global, words: &str) -> Result<Ty, WordError> {
 fn boxed(alloc: Global, types: &mut Vec<Ty>) -> Result<Box<Ty>, WordError> {
     let ty = types.pop().ok_or(WordError::Unread)?;
     Ok(Box::new(alloc, ty).map_err(AllocError::from)?)
-}
-
-/// The number of a decimal word.
-pub fn number_of(word: &str) -> Result<usize, WordError> {
-    word.parse::<usize>().map_err(|_| WordError::Unread)
-}
-
-/// The kind of items of this name.
-pub fn kind_named(word: &str) -> Result<Kind, WordError> {
-    Ok(match word {
-        "unit" => Kind::Unit,
-        "bool" => Kind::Bool,
-        "int" => Kind::Int,
-        "vec" => Kind::Vec,
-        _ => return Err(WordError::Unread),
-    })
-}
-
-/// The kind of faults of this name.
-pub fn fault_named(word: &str) -> Result<FaultKind, WordError> {
-    Ok(match word {
-        "divide" => FaultKind::Divide,
-        "overflow" => FaultKind::Overflow,
-        "negative_count" => FaultKind::NegativeCount,
-        "length" => FaultKind::Length,
-        "part" => FaultKind::Part,
-        "the" => FaultKind::The,
-        "empty_max" => FaultKind::EmptyMax,
-        "index" => FaultKind::Index,
-        "shape" => FaultKind::Shape,
-        _ => return Err(WordError::Unread),
-    })
-}
-
-/// The dialect of this name.
-pub fn dialect_named(word: &str) -> Result<Dialect, WordError> {
-    match word {
-        "one" => Ok(Dialect::One),
-        "two" => Ok(Dialect::Two),
-        _ => Err(WordError::Unread),
-    }
-}
-
-/// The operator on one scalar of this name.
-pub fn unary_named(word: &str) -> Result<UnaryOperator, WordError> {
-    match word {
-        "negate" => Ok(UnaryOperator::Negate),
-        "not" => Ok(UnaryOperator::Not),
-        _ => Err(WordError::Unread),
-    }
-}
-
-/// The operator on two scalars of this name.
-pub fn binary_named(word: &str) -> Result<BinaryOperator, WordError> {
-    match word {
-        "add" => Ok(BinaryOperator::Add),
-        "subtract" => Ok(BinaryOperator::Subtract),
-        "multiply" => Ok(BinaryOperator::Multiply),
-        "divide" => Ok(BinaryOperator::Divide),
-        "less" => Ok(BinaryOperator::Less),
-        "and" => Ok(BinaryOperator::And),
-        _ => Err(WordError::Unread),
-    }
-}
-
-/// The reduction of this name.
-pub fn reduction_named(word: &str) -> Result<Reduction, WordError> {
-    match word {
-        "sum" => Ok(Reduction::Sum),
-        "max" => Ok(Reduction::Max),
-        "all" => Ok(Reduction::All),
-        "any" => Ok(Reduction::Any),
-        _ => Err(WordError::Unread),
-    }
 }

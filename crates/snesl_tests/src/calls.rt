@@ -3,10 +3,11 @@
 use snesl_console::complain;
 use snesl_lexer::{Kind, Token, tokens_of};
 use snesl_syntax::{Expr, Program, Span, parse};
-use snesl_types::{check, plain};
+use snesl_trials::Expected;
+use snesl_types::check;
 use snesl_values::{
-    Counted, Datum, Dialect, Fault, FaultKind, InputError, Refusal, Ty, copy_datum, is_blank,
-    read_inputs, text_of,
+    Counted, Datum, Dialect, FaultKind, InputError, Refusal, Ty, copy_datum, is_blank, read_inputs,
+    text_of,
 };
 use std::alloc::{AllocError, Global};
 use std::io::{Read, Write};
@@ -15,52 +16,23 @@ use std::test::Fail;
 
 // The pair of a truth value and a vector of sequences, `(true,[{1,-2},{}])`.
 fn nested_datum(alloc: Global) -> Result<Datum, AllocError> {
-    let vector = Box::new(alloc, vector_of_sequences(alloc)?)?;
-    let truth = Box::new(alloc, Datum::Bool(true))?;
-    Ok(Datum::Pair(truth, vector))
+    let numbers = vec![in alloc; Datum::Int(1), Datum::Int(-2)]?;
+    let sequences = vec![in alloc; Datum::Seq(numbers), Datum::Seq(Vec::new(alloc))]?;
+    let vector = Box::new(alloc, Datum::Vec(sequences))?;
+    Ok(Datum::Pair(Box::new(alloc, Datum::Bool(true))?, vector))
 }
 
-fn vector_of_sequences(alloc: Global) -> Result<Datum, AllocError> {
-    let mut items = Vec::new(alloc);
-    items.push(sequence_of_numbers(alloc)?)?;
-    items.push(Datum::Seq(Vec::new(alloc)))?;
-    Ok(Datum::Vec(items))
-}
-
-fn sequence_of_numbers(alloc: Global) -> Result<Datum, AllocError> {
-    let mut items = Vec::new(alloc);
-    items.push(Datum::Int(1))?;
-    items.push(Datum::Int(-2))?;
-    Ok(Datum::Seq(items))
-}
-
-fn assert_text(
-    rt: &impl Abort,
-    alloc: Global,
-    datum: &Datum,
-    wanted: &[u8],
-) -> Result<(), AllocError> {
-    let text = text_of(alloc, datum)?;
-    assert_eq!(rt; text.as_slice(), wanted);
-    Ok(())
-}
-
-// Asserts the text of a copy.
-fn assert_copied(
-    rt: &impl Abort,
-    alloc: Global,
-    datum: &Datum,
-    wanted: &[u8],
-) -> Result<(), AllocError> {
+// The texts of a value and of its copy.
+fn texts_of(alloc: Global, datum: &Datum) -> Result<(Vec<u8>, Vec<u8>), AllocError> {
     let copy = copy_datum(alloc, datum)?;
-    assert_text(rt, alloc, &copy, wanted)
+    Ok((text_of(alloc, datum)?, text_of(alloc, &copy)?))
 }
 
 #[test]
 fn texts(rt: HostRuntime) -> Result<(), Fail> {
-    let datum = nested_datum(rt.alloc())?;
-    assert_text(&rt, rt.alloc(), &datum, b"(true,[{1,-2},{}])")?;
-    assert_copied(&rt, rt.alloc(), &datum, b"(true,[{1,-2},{}])")?;
+    let (text, copied) = texts_of(rt.alloc(), &nested_datum(rt.alloc())?)?;
+    let wanted = b"(true,[{1,-2},{}])".as_slice();
+    assert_eq!(rt; (text.as_slice(), copied.as_slice()), (wanted, wanted));
     Ok(())
 }
 
@@ -106,14 +78,13 @@ fn refusal_numbers(rt: HostRuntime) {
     let mut number = 0u8;
     for (refusal, at) in refusals {
         number = number.saturating_add(1);
-        assert_eq!(rt; refusal.number(), number);
-        assert_eq!(rt; refusal.at(), at);
+        assert_eq!(rt; (refusal.number(), refusal.at()), (number, at));
     }
 }
 
 #[test]
 fn dialects(rt: HostRuntime) {
-    assert_eq!(rt; Dialect::One.greatest(), 9_223_372_036_854_775_807);
+    assert!(rt; Dialect::One.greatest() == 9_223_372_036_854_775_807);
     assert!(rt; !Dialect::One.has(-9_223_372_036_854_775_809) && Dialect::Two.has(i128::MIN));
 }
 
@@ -121,27 +92,32 @@ fn dialects(rt: HostRuntime) {
 fn input_errors(rt: HostRuntime) {
     assert!(rt; is_blank(b'\t') && !is_blank(b'x'));
     let refused = read_inputs(Dialect::One, rt.alloc(), &[], b" \n=").err();
-    assert_eq!(rt; refused, Some(InputError::Bad(2)));
-    assert_eq!(rt; Refusal::from(InputError::Bad(2)), Refusal::BadInput(2));
+    let refusal = Refusal::from(InputError::Bad(2));
+    assert_eq!(rt;
+        (refused, refusal),
+        (Some(InputError::Bad(2)), Refusal::BadInput(2))
+    );
 }
 
 #[test]
 fn counted_reader(rt: HostRuntime) -> Result<(), Fail> {
     let mut reader = Counted::new(b"ab".as_slice());
-    let mut piece = [0u8; 4];
-    assert_eq!(rt; reader.read(&mut piece)?, 2);
-    assert_eq!(rt; reader.failures(), 0);
+    let read = reader.read(&mut [0u8; 4])?;
+    assert_eq!(rt; (read, reader.failures()), (2, 0));
     Ok(())
 }
 
 #[test]
 fn counted_writer(rt: HostRuntime) -> Result<(), Fail> {
     let mut writer = Counted::new(Vec::new(rt.alloc()));
-    assert_eq!(rt; writer.write(b"xyz")?, 3);
-    assert_eq!(rt; writer.write(b"")?, 0);
+    let written = (writer.write(b"xyz")?, writer.write(b"")?);
     writer.flush()?;
-    assert_eq!(rt; writer.failures(), 0);
-    assert_eq!(rt; writer.into_inner().as_slice(), b"xyz".as_slice());
+    let failures = writer.failures();
+    let taken = writer.into_inner();
+    assert_eq!(rt;
+        (written, failures, taken.as_slice()),
+        ((3, 0), 0, b"xyz".as_slice())
+    );
     Ok(())
 }
 
@@ -174,19 +150,16 @@ fn tokens(rt: HostRuntime) -> Result<(), Fail> {
     Ok(())
 }
 
-// Asserts that a text has so many tokens, and none of them is a name.
-fn assert_reserved(
-    rt: &impl Abort,
-    alloc: Global,
-    text: &[u8],
-    count: usize,
-) -> Result<(), Refusal> {
+// How many tokens a text has, and how many of them are names.
+fn counts_of(alloc: Global, text: &[u8]) -> Result<(usize, usize), Refusal> {
     let tokens = tokens_of(alloc, text)?;
-    assert_eq!(rt; tokens.len(), count);
+    let mut names = 0usize;
     for token in &tokens {
-        assert!(rt; !matches!(token.kind, Kind::Name(_)));
+        if matches!(token.kind, Kind::Name(_)) {
+            names = names.saturating_add(1);
+        }
     }
-    Ok(())
+    Ok((tokens.len(), names))
 }
 
 #[test]
@@ -200,7 +173,7 @@ fn reserved_words(rt: HostRuntime) -> Result<(), Fail> {
         (b"== < <= > >= + ++ - * / % !", 12),
     ];
     for (text, count) in rows {
-        assert_reserved(&rt, rt.alloc(), text, count)?;
+        assert_eq!(rt; counts_of(rt.alloc(), text)?, (count, 0));
     }
     Ok(())
 }
@@ -212,83 +185,64 @@ fn parsed(rt: HostRuntime) -> Result<(), Fail> {
     Ok(())
 }
 
-fn assert_parsed(rt: &impl Abort, program: &Program) {
-    assert_eq!(rt; program.dialect(), Dialect::One);
-    assert_eq!(rt; program.expr.at(), 1);
-    if let Expr::Call { arguments, .. } = &program.expr {
-        assert_eq!(rt; arguments.len(), 1);
-    } else {
-        assert!(rt; false, "the program is a call");
+// How many arguments a call has.
+fn arguments_of(expr: &Expr) -> Option<usize> {
+    match expr {
+        Expr::Call { arguments, .. } => Some(arguments.len()),
+        _ => None,
     }
+}
+
+fn assert_parsed(rt: &impl Abort, program: &Program) {
     let name = Span { at: 13, len: 1 };
-    assert_eq!(rt; name.spelled(&program.text), b"x".as_slice());
+    let read = (
+        program.dialect(),
+        program.expr.at(),
+        arguments_of(&program.expr),
+        name.spelled(&program.text),
+    );
+    assert_eq!(rt; read, (Dialect::One, 1, Some(1), b"x".as_slice()));
 }
 
 #[test]
 fn checked(rt: HostRuntime) -> Result<(), Fail> {
     let program = parse(rt.alloc(), b" input n : int; input v : [bool]; n")?;
-    assert_eq!(rt; program.declarations.len(), 2);
     assert_checked(&rt, rt.alloc(), &program)?;
     Ok(())
 }
 
 fn assert_checked(rt: &impl Abort, alloc: Global, program: &Program) -> Result<(), Refusal> {
     let typed = check(alloc, program)?;
-    assert!(rt; matches!(typed.ty(), Ty::Int));
-    assert_eq!(rt; typed.program().expr.at(), 34);
-    assert_eq!(rt; typed.decls().len(), 2);
-    assert_eq!(rt; typed.dialect(), Dialect::One);
-    Ok(())
-}
-
-// The value of a program for an input text, or its fault.
-fn evaluated(alloc: Global, text: &[u8], input: &[u8]) -> Result<Result<Datum, Fault>, Refusal> {
-    let program = parse(alloc, text)?;
-    evaluated_for(alloc, &program, input)
-}
-
-fn evaluated_for(
-    alloc: Global,
-    program: &Program,
-    input: &[u8],
-) -> Result<Result<Datum, Fault>, Refusal> {
-    let typed = check(alloc, program)?;
-    let inputs = read_inputs(typed.dialect(), alloc, typed.decls(), input)?;
-    Ok(plain(alloc, &typed, &inputs)?)
-}
-
-fn assert_value(
-    rt: &impl Abort,
-    alloc: Global,
-    (program, input): (&[u8], &[u8]),
-    wanted: &[u8],
-) -> Result<(), Refusal> {
-    match evaluated(alloc, program, input)? {
-        Ok(datum) => assert_text(rt, alloc, &datum, wanted)?,
-        Err(_) => assert!(rt; false, "a fault"),
-    }
+    let said = (
+        typed.dialect(),
+        typed.program().expr.at(),
+        typed.program().declarations.len(),
+        typed.decls().len(),
+        matches!(typed.ty(), Ty::Int),
+    );
+    assert_eq!(rt; said, (Dialect::One, 34, 2, 2, true));
     Ok(())
 }
 
 #[test]
 fn values(rt: HostRuntime) -> Result<(), Fail> {
-    // A program with an input text, and the text of its value.
-    let rows: [((&[u8], &[u8]), &[u8]); 3] = [
-        ((b" reduce_add({x * x : x in iota(4)})", b""), b"14"),
+    // A program with an input text, and the line of its value.
+    let rows: [(&[u8], &[u8], &[u8]); 3] = [
+        (b" reduce_add({x * x : x in iota(4)})", b"", b"14\n"),
         (
-            (b"dialect 2; 9223372036854775807 + 1", b""),
-            b"9223372036854775808",
+            b"dialect 2; 9223372036854775807 + 1",
+            b"",
+            b"9223372036854775808\n",
         ),
         (
-            (
-                b"input n : int; input v : [bool]; (n, v)",
-                b"n = 3; v = [true]",
-            ),
-            b"(3,[true])",
+            b"input n : int; input v : [bool]; (n, v)",
+            b"n = 3; v = [true]",
+            b"(3,[true])\n",
         ),
     ];
-    for (job, wanted) in rows {
-        assert_value(&rt, rt.alloc(), job, wanted)?;
+    for (program, input, line) in rows {
+        let expected = Expected::of(rt.alloc(), program, input)?;
+        assert_eq!(rt; expected.line(), Some(line));
     }
     Ok(())
 }
@@ -296,6 +250,7 @@ fn values(rt: HostRuntime) -> Result<(), Fail> {
 #[test]
 fn complaints(rt: HostRuntime) {
     let mut err = Counted::new(Vec::new(rt.alloc()));
-    assert_eq!(rt; complain(Refusal::NoMemory, &mut err), 4);
-    assert_eq!(rt; err.into_inner().as_slice(), b"refused 11\n".as_slice());
+    let status = complain(Refusal::NoMemory, &mut err);
+    let said = err.into_inner();
+    assert_eq!(rt; (status, said.as_slice()), (4, b"refused 11\n".as_slice()));
 }

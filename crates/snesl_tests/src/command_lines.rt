@@ -6,38 +6,58 @@ use std::alloc::{AllocError, Global};
 use std::process::Abort;
 use std::test::Fail;
 
-// Each a command line, with a bar between two words, or none for no word; and what it says: the drive, the capacity, the chunk, the
-// number of threads, the idle turns, and the share of each node.
-const LAWFUL: [(&str, &str); 13] = [
-    ("snesl", "rings 256 16 2 64 0 1"),
-    ("", "rings 256 16 2 64 0 1"),
-    ("snesl|--", "rings 256 16 2 64 0 1"),
-    ("--help", "rings 256 16 2 64 0 1"),
-    ("snesl|--drive=rings", "rings 256 16 2 64 0 1"),
-    ("snesl|--drive=rounds", "rounds 256 16 2 64 0 1"),
+// What a configuration says: the drive, the capacity, the chunk, the number of threads, the idle turns, and the share of each node.
+type Said<'a> = (Drive, [usize; 4], &'a [u8]);
+
+// Each a command line, with a bar between two words, or none for no word; and what it says.
+const LAWFUL: [(&str, Said<'static>); 13] = [
+    ("snesl", (Drive::Rings, [256, 16, 2, 64], &[0, 1])),
+    ("", (Drive::Rings, [256, 16, 2, 64], &[0, 1])),
+    ("snesl|--", (Drive::Rings, [256, 16, 2, 64], &[0, 1])),
+    ("--help", (Drive::Rings, [256, 16, 2, 64], &[0, 1])),
+    (
+        "snesl|--drive=rings",
+        (Drive::Rings, [256, 16, 2, 64], &[0, 1]),
+    ),
+    (
+        "snesl|--drive=rounds",
+        (Drive::Rounds, [256, 16, 2, 64], &[0, 1]),
+    ),
     (
         "snesl|--drive|serial|--deal|0110",
-        "serial 256 16 2 64 0 1 1 0",
+        (Drive::Serial, [256, 16, 2, 64], &[0, 1, 1, 0]),
     ),
     (
         "snesl|--deal|09af|--threads|16",
-        "rings 256 16 16 64 0 9 10 15",
+        (Drive::Rings, [256, 16, 16, 64], &[0, 9, 10, 15]),
     ),
-    ("snesl|--idle|+7|--chunk|0008", "rings 256 8 2 7 0 1"),
-    ("|--threads|3", "rings 256 16 3 64 0 1 2"),
+    (
+        "snesl|--idle|+7|--chunk|0008",
+        (Drive::Rings, [256, 8, 2, 7], &[0, 1]),
+    ),
+    ("|--threads|3", (Drive::Rings, [256, 16, 3, 64], &[0, 1, 2])),
     // The least and the greatest of each.
     (
         "snesl|--capacity|1|--chunk|1|--threads|1|--idle|1",
-        "rings 1 1 1 1 0",
+        (Drive::Rings, [1, 1, 1, 1], &[0]),
     ),
     (
         "x|--capacity=65536|--chunk=1024|--threads=16|--idle=1000000",
-        "rings 65536 1024 16 1000000 0 1 2 3 4 5 6 7 8 9 10 11 12 13 14 15",
+        (
+            Drive::Rings,
+            [65_536, 1_024, 16, 1_000_000],
+            &[0, 1, 2, 3, 4, 5, 6, 7, 8, 9, 10, 11, 12, 13, 14, 15],
+        ),
     ),
     (
         "snesl|--deal|0101010101010101010101010101010101010101010101010101010101010101",
-        "rings 256 16 2 64 0 1 0 1 0 1 0 1 0 1 0 1 0 1 0 1 0 1 0 1 0 1 0 1 0 1 0 1 0 1 0 1 0 1 0 1 0 1 0 1 0 1 0 1 0 1 0 1 0 1 0 1 0 1 0 1 0 1 0 1 0 1 0 1",
+        (Drive::Rings, [256, 16, 2, 64], &ALTERNATING),
     ),
+];
+
+const ALTERNATING: [u8; 64] = [
+    0, 1, 0, 1, 0, 1, 0, 1, 0, 1, 0, 1, 0, 1, 0, 1, 0, 1, 0, 1, 0, 1, 0, 1, 0, 1, 0, 1, 0, 1, 0, 1,
+    0, 1, 0, 1, 0, 1, 0, 1, 0, 1, 0, 1, 0, 1, 0, 1, 0, 1, 0, 1, 0, 1, 0, 1, 0, 1, 0, 1, 0, 1, 0, 1,
 ];
 
 // Each line a command line that is refused.
@@ -101,54 +121,28 @@ fn words_of<'a>(alloc: Global, line: &'a str) -> Result<Vec<&'a str>, AllocError
     Ok(words)
 }
 
-// What a configuration has.
-fn told(alloc: Global, config: &Config) -> Result<String, AllocError> {
+// Asserts what a configuration says.
+fn assert_said(rt: &impl Abort, line: &str, config: &Config, said: Said<'_>) {
     let (capacity, chunk) = (config.capacity, config.chunk);
-    let (threads, idle) = (config.threads, config.idle);
-    let drive = match config.drive {
-        Drive::Serial => "serial",
-        Drive::Rounds => "rounds",
-        Drive::Rings => "rings",
-    };
-    let mut text = format!(in alloc; "{drive} {capacity} {chunk} {threads} {idle}")?;
-    for entry in &config.share {
-        add_entry(alloc, &mut text, *entry)?;
-    }
-    Ok(text)
+    let numbers = [capacity, chunk, config.threads, config.idle];
+    let share = config.share.as_slice();
+    assert_eq!(rt; (config.drive, numbers, share), said, "{line}");
 }
 
-fn add_entry(alloc: Global, text: &mut String, entry: u8) -> Result<(), AllocError> {
-    let piece = format!(in alloc; " {entry}")?;
-    text.push_str(piece.as_str())
-}
-
-// What is made of a line: what its configuration has, or the number of its refusal.
-fn answer_of(alloc: Global, line: &str) -> Result<String, AllocError> {
+// The configuration that a line says, or the number of its refusal.
+fn config_of(alloc: Global, line: &str) -> Result<Result<Config, u8>, AllocError> {
     let words = words_of(alloc, line)?;
     match settings(alloc, &words) {
-        Ok(config) => told(alloc, &config),
-        Err(refusal) => {
-            let number = refusal.number();
-            format!(in alloc; "refused {number}")
-        }
+        Ok(config) => Ok(Ok(config)),
+        Err(refusal) => Ok(Err(refusal.number())),
     }
-}
-
-fn assert_answer(
-    rt: &impl Abort,
-    alloc: Global,
-    line: &str,
-    wanted: &str,
-) -> Result<(), AllocError> {
-    let answer = answer_of(alloc, line)?;
-    assert!(rt; answer.as_str() == wanted, "{line}: {answer}");
-    Ok(())
 }
 
 #[test]
 fn lawful_lines(rt: HostRuntime) -> Result<(), Fail> {
-    for (line, wanted) in LAWFUL {
-        assert_answer(&rt, rt.alloc(), line, wanted)?;
+    for (line, said) in LAWFUL {
+        let config = config_of(rt.alloc(), line)??;
+        assert_said(&rt, line, &config, said);
     }
     Ok(())
 }
@@ -157,7 +151,7 @@ fn lawful_lines(rt: HostRuntime) -> Result<(), Fail> {
 fn refused_lines(rt: HostRuntime) -> Result<(), Fail> {
     assert_eq!(rt; REFUSED.lines().count(), 46);
     for line in REFUSED.lines() {
-        assert_answer(&rt, rt.alloc(), line, "refused 10")?;
+        assert_eq!(rt; config_of(rt.alloc(), line)?.err(), Some(10), "{line}");
     }
     Ok(())
 }

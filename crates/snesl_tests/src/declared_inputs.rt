@@ -7,8 +7,8 @@ use std::alloc::{AllocError, Global};
 use std::process::Abort;
 use std::test::Fail;
 
-// The inputs of a program, from their text.
-fn inputs_of(alloc: Global, program: &[u8], text: &[u8]) -> Result<Inputs, Refusal> {
+/// The inputs of a program, from their text.
+pub fn inputs_of(alloc: Global, program: &[u8], text: &[u8]) -> Result<Inputs, Refusal> {
     let program = parse(alloc, program)?;
     inputs_for(alloc, &program, text)
 }
@@ -21,21 +21,20 @@ fn inputs_for(alloc: Global, program: &Program, text: &[u8]) -> Result<Inputs, R
 // Whether a program takes the inputs.
 fn takes(alloc: Global, program: &[u8], inputs: &Inputs) -> Result<bool, Refusal> {
     let program = parse(alloc, program)?;
-    fits(alloc, &program, inputs)
+    Ok(check(alloc, &program)?.fits(inputs))
 }
 
-fn fits(alloc: Global, program: &Program, inputs: &Inputs) -> Result<bool, Refusal> {
-    Ok(check(alloc, program)?.fits(inputs))
-}
-
-// Whether the inputs of a text for a program fit this program.
-fn inputs_fit(
+// Whether the inputs of a text for a program fit this program and another one.
+fn fit_both(
     alloc: Global,
     (program, text): (&[u8], &[u8]),
     other: &[u8],
-) -> Result<bool, Refusal> {
+) -> Result<(bool, bool), Refusal> {
     let inputs = inputs_of(alloc, program, text)?;
-    takes(alloc, other, &inputs)
+    Ok((
+        takes(alloc, program, &inputs)?,
+        takes(alloc, other, &inputs)?,
+    ))
 }
 
 #[test]
@@ -59,15 +58,17 @@ fn inputs_fit_their_program_alone(rt: HostRuntime) -> Result<(), Fail> {
         (b"dialect 2; 1", b"", b"1"),
     ];
     for (program, text, other) in rows {
-        assert!(rt; inputs_fit(rt.alloc(), (program, text), program)?);
-        assert!(rt; !inputs_fit(rt.alloc(), (program, text), other)?);
+        assert_eq!(rt;
+            fit_both(rt.alloc(), (program, text), other)?,
+            (true, false)
+        );
     }
     Ok(())
 }
 
-// The input of a name, if it is a number.
-fn number_named(inputs: &Inputs, name: &[u8]) -> Option<i128> {
-    match inputs.named(name) {
+// The number of an input, if it is there and is one.
+fn number_of(input: Option<&Datum>) -> Option<i128> {
+    match input {
         Some(Datum::Int(number)) => Some(*number),
         _ => None,
     }
@@ -82,35 +83,33 @@ fn names(rt: HostRuntime) -> Result<(), Fail> {
 }
 
 fn assert_names(rt: &impl Abort, inputs: &Inputs) {
-    assert_eq!(rt; number_named(inputs, b"n"), Some(3));
-    assert_eq!(rt; number_named(inputs, b"nn"), Some(5));
-    assert!(rt; inputs.named(b"m").is_none());
-    assert_eq!(rt; inputs.name(1), Some(b"n".as_slice()));
-    assert!(rt; matches!(inputs.value(0), Some(Datum::Int(5))));
-    assert!(rt; inputs.value(2).is_none());
-    assert_eq!(rt; inputs.len(), 2);
-    assert_eq!(rt; inputs.decls().len(), 2);
-    assert!(rt; !inputs.is_empty());
+    let numbers = (
+        number_of(inputs.named(b"n")),
+        number_of(inputs.named(b"nn")),
+    );
+    assert_eq!(rt; numbers, (Some(3), Some(5)));
+    let placed = (inputs.name(1), number_of(inputs.value(0)));
+    assert_eq!(rt; placed, (Some(b"n".as_slice()), Some(5)));
+    assert!(rt; inputs.named(b"m").is_none() && inputs.value(2).is_none());
+    let counts = (inputs.len(), inputs.decls().len(), inputs.is_empty());
+    assert_eq!(rt; counts, (2, 2, false));
 }
 
-// Adds a declared integer.
-fn declare(alloc: Global, decls: &mut Vec<(Vec<u8>, Ty)>, name: &[u8]) -> Result<(), AllocError> {
-    let name = name.to_vec(alloc)?;
-    decls.push((name, Ty::Int))?;
-    Ok(())
-}
-
-// The first of two inputs of one name, for these declarations.
+// The first of two inputs of one name, for two declarations of it.
 fn first_of_two(alloc: Global, decls: &[(Vec<u8>, Ty)]) -> Result<Option<i128>, Refusal> {
     let inputs = read_inputs(Dialect::Two, alloc, decls, b"n = 1; n = 2")?;
-    Ok(number_named(&inputs, b"n"))
+    Ok(number_of(inputs.named(b"n")))
+}
+
+// The declaration of an integer.
+fn declared(alloc: Global, name: &[u8]) -> Result<(Vec<u8>, Ty), AllocError> {
+    Ok((name.to_vec(alloc)?, Ty::Int))
 }
 
 #[test]
 fn the_first_of_a_name_is_meant(rt: HostRuntime) -> Result<(), Fail> {
-    let mut decls = Vec::new(rt.alloc());
-    declare(rt.alloc(), &mut decls, b"n")?;
-    declare(rt.alloc(), &mut decls, b"n")?;
-    assert_eq!(rt; first_of_two(rt.alloc(), &decls)?, Some(1));
+    let alloc = rt.alloc();
+    let decls = vec![in alloc; declared(alloc, b"n")?, declared(alloc, b"n")?]?;
+    assert_eq!(rt; first_of_two(alloc, &decls)?, Some(1));
     Ok(())
 }

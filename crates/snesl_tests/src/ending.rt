@@ -1,7 +1,7 @@
 // How runs end where the edges are small, where a network is great, and under configurations that are not lawful. What is printed
 // under lawful ones stands in the tables of `tool_runs`.
 
-use crate::running::{assert_refused, assert_value};
+use crate::running::assert_done;
 use flow_drive::Outcome;
 use snesl_trials::{Done, ran_alone};
 use snesl_values::Refusal;
@@ -10,10 +10,10 @@ use std::process::Abort;
 use std::test::Fail;
 use std::thread::Threads;
 
-// How many messages wait on the edge that is full, where the network has stalled.
+// How many messages wait on the edge that is full, where the network has stalled and nothing was written.
 fn held_by_full_edge(done: &Done) -> Option<u64> {
     match done.ending {
-        Ok(Outcome::Stalled { edge }) => {
+        Ok(Outcome::Stalled { edge }) if done.written.is_empty() => {
             let (sent, received) = *done.counts.get(edge)?;
             sent.checked_sub(received)
         }
@@ -27,43 +27,32 @@ fn stalls_where_edges_are_small(rt: HostRuntime) -> Result<(), Fail> {
     let twice = b"let s = iota(100) in s ++ s".as_slice();
     for chunk in [1, 16] {
         let small = ran_alone(&rt, rt.alloc(), twice, b"", 4, chunk)?;
-        assert!(rt; small.written.is_empty());
         assert_eq!(rt; held_by_full_edge(&small), Some(4));
     }
     Ok(())
 }
 
-// A program that calls the last of its functions with 1: `a` doubles a number, and each of these others calls the one before
-// it twice.
-fn doubling(alloc: Global, others: &str) -> Result<String, AllocError> {
-    let mut text = String::from_str(alloc, "function a(x : int) : int = x + x; ")?;
-    let mut last = 'a';
-    for name in others.chars() {
-        add_function(alloc, &mut text, name, last)?;
-        last = name;
-    }
-    text.push(last)?;
-    text.push_str("(1)")?;
-    Ok(text)
-}
-
-fn add_function(
-    alloc: Global,
-    text: &mut String,
-    name: char,
-    last: char,
-) -> Result<(), AllocError> {
-    let function = format!(in alloc; "function {name}(x : int) : int = {last}(x) + {last}(x); ")?;
-    text.push_str(function.as_str())
-}
+// `a` doubles a number, and each of the other functions calls the one before it twice.
+const ELEVEN_THAT_DOUBLE: &[u8] = b"\
+function a(x : int) : int = x + x;
+function b(x : int) : int = a(x) + a(x);
+function c(x : int) : int = b(x) + b(x);
+function d(x : int) : int = c(x) + c(x);
+function e(x : int) : int = d(x) + d(x);
+function f(x : int) : int = e(x) + e(x);
+function g(x : int) : int = f(x) + f(x);
+function h(x : int) : int = g(x) + g(x);
+function i(x : int) : int = h(x) + h(x);
+function j(x : int) : int = i(x) + i(x);
+function k(x : int) : int = j(x) + j(x);
+k(1)";
 
 // 2,047 sums, and beside them Source, Const, a Fork and Print.
 #[test]
 fn functions_that_double(rt: HostRuntime) -> Result<(), Fail> {
-    let eleven = doubling(rt.alloc(), "bcdefghijk")?;
-    let value = ran_alone(&rt, rt.alloc(), eleven.as_bytes(), b"", 256, 16)?;
-    assert_value(&rt, &value, b"2048\n");
-    assert_eq!(rt; value.nodes, 2_051);
+    let done = ran_alone(&rt, rt.alloc(), ELEVEN_THAT_DOUBLE, b"", 256, 16)?;
+    assert_done(&rt, &done, Ok(Outcome::Value), b"2048\n");
+    assert_eq!(rt; done.nodes, 2_051);
     Ok(())
 }
 
@@ -75,7 +64,7 @@ fn assert_unlawful<R: Abort + Threads>(
     (capacity, chunk): (usize, usize),
 ) -> Result<(), AllocError> {
     let done = ran_alone(rt, alloc, program, b"", capacity, chunk)?;
-    assert_refused(rt, &done, Refusal::BadConfig);
+    assert_done(rt, &done, Err(Refusal::BadConfig), b"");
     Ok(())
 }
 

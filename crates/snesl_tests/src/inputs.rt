@@ -5,7 +5,8 @@ ghost use Rattle.flow_graph.specs.Graphs.{states_of};
 ghost use Rattle.flow_graph.specs.Networks.{AreOpened};
 ghost use Rattle.flow_nodes.specs.StreamNodes.{node_behaviour};
 
-use flow_drive::{Config, NoGate, Outcome, drive};
+use flow_base::{Printing, Transducer};
+use flow_drive::{Config, NoGate, Outcome, Rested, drive};
 use flow_graph::Graph;
 use flow_nodes::StreamNode;
 use snesl_flatten::flatten;
@@ -45,6 +46,11 @@ fn network_with(
     Ok(plan.with(inputs)?)
 }
 
+// Asserts that a network ended in this text.
+fn assert_text<T: Transducer + Printing + Drop>(rt: &impl Abort, rested: Rested<T>, text: &[u8]) {
+    assert_eq!(rt; (rested.outcome(), rested.text()), (Outcome::Value, text));
+}
+
 // Asserts that the network of a program ends in this text, for the inputs of this one.
 fn assert_prints<R: Abort + Threads>(
     rt: &R,
@@ -53,11 +59,9 @@ fn assert_prints<R: Abort + Threads>(
     config: &Config,
     (input, text): (&[u8], &[u8]),
 ) -> Result<(), Fail> {
-    let gate = Arc::new(alloc, NoGate)?;
     let graph = network_for(rt, alloc, typed, input)?;
-    let rested = drive(rt, alloc, graph, config, gate)?;
-    assert_eq!(rt; rested.outcome(), Outcome::Value);
-    assert_eq!(rt; rested.text(), text);
+    let gate = Arc::new(alloc, NoGate)?;
+    assert_text(rt, drive(rt, alloc, graph, config, gate)?, text);
     Ok(())
 }
 

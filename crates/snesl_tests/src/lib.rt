@@ -1,5 +1,5 @@
-// Tests that cross crates: of the language's calls, of jobs that are answered over readers and writers that fail, and of programs
-// that run as networks.
+// Tests that cross crates: of the language's calls, of jobs over readers and writers that go wrong, and of programs that run as
+// networks.
 #![tactic(auto)]
 
 #[cfg(test)]
@@ -8,17 +8,14 @@ mod answering;
 mod calls;
 #[cfg(test)]
 mod command_lines;
-pub mod configuration;
 #[cfg(test)]
 mod declared_inputs;
 #[cfg(test)]
 mod ending;
-pub mod faltering;
-#[cfg(test)]
-mod faltering_streams;
 #[cfg(test)]
 mod inputs;
-pub mod pairs;
+#[cfg(test)]
+mod limping;
 #[cfg(test)]
 mod plans;
 #[cfg(test)]
@@ -29,7 +26,6 @@ mod settling;
 mod sizes;
 #[cfg(test)]
 mod splitting;
-pub mod stopping;
 #[cfg(test)]
 mod streams;
 #[cfg(test)]

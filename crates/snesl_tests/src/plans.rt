@@ -1,6 +1,6 @@
 // Plans, and what networks are made of, with ample memory.
 
-use crate::pairs::pair_type;
+use crate::declared_inputs::inputs_of;
 use flow_assembly::assemble;
 use flow_inputs::streams_of;
 use flow_plans::{Operation, Step};
@@ -11,7 +11,7 @@ use snesl_steps::{Steps, Wires};
 use snesl_syntax::{Program, parse};
 use snesl_translator::{Setting, translate};
 use snesl_types::check;
-use snesl_values::{Datum, Dialect, Refusal, Ty};
+use snesl_values::{Dialect, Inputs, Refusal, Ty};
 use std::alloc::{AllocError, Global};
 use std::process::Abort;
 use std::test::Fail;
@@ -43,18 +43,20 @@ fn squares(rt: HostRuntime) -> Result<(), Fail> {
 }
 
 fn assert_squares(rt: &impl Abort, steps: &[Step]) {
-    assert_eq!(rt; steps.len(), 6);
+    assert!(rt; steps.len() == 6);
     assert!(rt; matches!(steps[2].operation, Operation::Iota));
-    assert_eq!(rt; steps[4].reads.as_slice(), [3usize, 3].as_slice());
-    assert_eq!(rt; steps[5].reads.as_slice(), [2usize, 5].as_slice());
+    let reads = (steps[4].reads.as_slice(), steps[5].reads.as_slice());
+    assert_eq!(rt; reads, ([3usize, 3].as_slice(), [2usize, 5].as_slice()));
 }
 
 // Asserts that the value is a number, which stands on the stream 6.
 fn assert_one_number(rt: &impl Abort, alloc: Global, wires: &Wires) -> Result<(), AllocError> {
-    assert_eq!(rt; wires.stream(), 6);
     assert!(rt; matches!(wires.ty(alloc)?, Ty::Int));
     let numbers = wires.numbers(alloc)?;
-    assert_eq!(rt; numbers.as_slice(), [6usize].as_slice());
+    assert_eq!(rt;
+        (wires.stream(), numbers.as_slice()),
+        (6, [6usize].as_slice())
+    );
     Ok(())
 }
 
@@ -88,28 +90,30 @@ fn forms(rt: HostRuntime) -> Result<(), Fail> {
 fn nothing_to_assemble(rt: HostRuntime) -> Result<(), Fail> {
     let alloc = rt.alloc();
     let assembled = assemble(alloc, Dialect::One, Vec::new(alloc))?;
-    assert_eq!(rt; assembled.graph.nodes(), 0);
-    assert_eq!(rt; assembled.graph.edges(), 0);
-    assert_eq!(rt; assembled.places.len(), 0);
+    let sizes = (
+        assembled.graph.nodes(),
+        assembled.graph.edges(),
+        assembled.places.len(),
+    );
+    assert_eq!(rt; sizes, (0, 0, 0));
     Ok(())
 }
 
-// The pair of 7 and the sequence of `true` and `false`.
-fn pair_datum(alloc: Global) -> Result<Datum, AllocError> {
-    let truths = Box::new(alloc, truths(alloc)?)?;
-    let number = Box::new(alloc, Datum::Int(7))?;
-    Ok(Datum::Pair(number, truths))
-}
-
-fn truths(alloc: Global) -> Result<Datum, AllocError> {
-    let mut truths = Vec::new(alloc);
-    truths.push(Datum::Bool(true))?;
-    truths.push(Datum::Bool(false))?;
-    Ok(Datum::Seq(truths))
+// What the value of the first input puts on the edges of its type.
+fn streams_of_first(
+    rt: &impl Abort,
+    alloc: Global,
+    inputs: &Inputs,
+) -> Result<Vec<Stream>, AllocError> {
+    let (Some((_, ty)), Some(datum)) = (inputs.decls().first(), inputs.value(0)) else {
+        return Ok(Vec::new(alloc));
+    };
+    assert!(rt; is_value(ty, datum));
+    streams_of(alloc, ty, datum)
 }
 
 fn assert_streams(rt: &impl Abort, streams: &[Stream]) {
-    assert_eq!(rt; streams.len(), 3);
+    assert!(rt; streams.len() == 3);
     assert!(rt; matches!(&streams[0], Stream::Ints(all) if all.as_slice() == [7i128].as_slice()));
     assert!(rt;
         matches!(&streams[1], Stream::Bools(all) if all.as_slice() == [false, false, true].as_slice())
@@ -122,10 +126,8 @@ fn assert_streams(rt: &impl Abort, streams: &[Stream]) {
 // The pair stands on three edges.
 #[test]
 fn streams(rt: HostRuntime) -> Result<(), Fail> {
-    let ty = pair_type(rt.alloc())?;
-    let datum = pair_datum(rt.alloc())?;
-    assert!(rt; is_value(&ty, &datum));
-    let streams = streams_of(rt.alloc(), &ty, &datum)?;
-    assert_streams(&rt, &streams);
+    let program = b"input p : (int, {bool}); p".as_slice();
+    let inputs = inputs_of(rt.alloc(), program, b"p = (7, {true, false})")?;
+    assert_streams(&rt, &streams_of_first(&rt, rt.alloc(), &inputs)?);
     Ok(())
 }

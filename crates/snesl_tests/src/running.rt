@@ -1,27 +1,57 @@
-// What is asserted of runs over memory.
+// Runs of programs over memory, and what is asserted of them.
 
-use flow_drive::Outcome;
-use snesl_run::{Report, RunError};
+use crate::limping::{LimpingWriter, Trouble};
+use flow_drive::{Config, Gate, Outcome};
+use snesl_run::{Report, RunError, run};
 use snesl_trials::Done;
-use snesl_values::Refusal;
+use snesl_values::{Counted, Refusal};
+use std::alloc::Global;
 use std::process::Abort;
+use std::sync::Arc;
+use std::thread::Threads;
 
-/// How a run ended.
-pub fn ending(answer: &Result<Report, RunError>) -> Result<Outcome, Refusal> {
-    match answer {
-        Ok(report) => Ok(report.outcome()),
-        Err(error) => Err(error.refusal()),
+/// What a run wrote, how many calls of its writer failed, how it ended, and how many rounds and epochs it had: none where it
+/// was refused.
+#[derive(Drop)]
+pub struct Ran {
+    pub written: Vec<u8>,
+    pub failures: u64,
+    pub ending: Result<Outcome, Refusal>,
+    pub turns: (u64, u64),
+}
+
+/// Runs a program without inputs, over a writer of which some calls may go wrong.
+pub fn ran_over<G: Gate + Send + Sync + Drop + 'static>(
+    rt: &impl Threads,
+    alloc: Global,
+    program: &[u8],
+    config: &Config,
+    gate: Arc<G, Global>,
+    trouble: Trouble,
+) -> Ran {
+    let mut out = Counted::new(LimpingWriter::new(alloc, trouble));
+    let answer = run(rt, alloc, program, b"", config, gate, &mut out);
+    let (ending, turns) = ended(answer);
+    Ran {
+        failures: out.failures(),
+        written: out.into_inner().taken,
+        ending,
+        turns,
     }
 }
 
-/// Asserts that a run ended in a value, and wrote this line.
-pub fn assert_value(rt: &impl Abort, done: &Done, line: &[u8]) {
-    assert_eq!(rt; done.ending, Ok(Outcome::Value));
-    assert_eq!(rt; done.written.as_slice(), line);
+// How a run ended, and how many rounds and epochs it had.
+fn ended(answer: Result<Report, RunError>) -> (Result<Outcome, Refusal>, (u64, u64)) {
+    match answer {
+        Ok(report) => {
+            let rested = report.rested();
+            (Ok(report.outcome()), (rested.rounds(), rested.epochs()))
+        }
+        Err(error) => (Err(error.refusal()), (0, 0)),
+    }
 }
 
-/// Asserts that a run was refused so, and wrote nothing.
-pub fn assert_refused(rt: &impl Abort, done: &Done, refusal: Refusal) {
-    assert_eq!(rt; done.ending, Err(refusal));
-    assert!(rt; done.written.is_empty());
+/// Asserts how a run ended, and what it wrote.
+pub fn assert_done(rt: &impl Abort, done: &Done, ending: Result<Outcome, Refusal>, written: &[u8]) {
+    assert_eq!(rt; (done.ending, done.written.as_slice()), (ending, written));
 }

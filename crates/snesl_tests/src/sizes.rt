@@ -1,6 +1,7 @@
 // How large networks are, and how many messages go over their edges. The numbers are counted by hand.
 
-use crate::running::assert_value;
+use crate::running::assert_done;
+use flow_drive::Outcome;
 use snesl_trials::{Done, ran_alone};
 use std::alloc::{AllocError, Global};
 use std::process::Abort;
@@ -8,13 +9,7 @@ use std::test::Fail;
 use std::thread::Threads;
 
 // How many nodes and edges a network has, and how many messages were sent and received over all of its edges.
-#[derive(Clone, Copy, Debug, PartialEq, Eq)]
-struct Size {
-    nodes: usize,
-    edges: usize,
-    sent: u64,
-    received: u64,
-}
+type Size = (usize, usize, u64, u64);
 
 fn size_of(done: &Done) -> Size {
     let (mut sent, mut received) = (0u64, 0u64);
@@ -22,12 +17,7 @@ fn size_of(done: &Done) -> Size {
         sent = sent.saturating_add(put);
         received = received.saturating_add(taken);
     }
-    Size {
-        nodes: done.nodes,
-        edges: done.counts.len(),
-        sent,
-        received,
-    }
+    (done.nodes, done.counts.len(), sent, received)
 }
 
 // Asserts that a program writes this line, and has a network of this size, whatever the edges hold.
@@ -41,39 +31,29 @@ fn assert_sized<R: Abort + Threads>(
     for capacity in [1, 2, 4, 256] {
         for chunk in [1, 16] {
             let done = ran_alone(rt, alloc, program, b"", capacity, chunk)?;
-            assert_value(rt, &done, line);
+            assert_done(rt, &done, Ok(Outcome::Value), line);
             assert_eq!(rt; size_of(&done), size);
         }
     }
     Ok(())
 }
 
-// Source, Const, Iota, Reduce and Print. Each stream has one reader: the control stream and the constant of one item and
-// the end, the flags of six and the end, the numbers of five and the end, and the sum of one and the end.
 #[test]
-fn nineteen_messages(rt: HostRuntime) -> Result<(), Fail> {
-    let size = Size {
-        nodes: 5,
-        edges: 5,
-        sent: 19,
-        received: 19,
-    };
-    let program = b"reduce_add(iota(5))".as_slice();
-    assert_sized(&rt, rt.alloc(), program, b"10\n", size)?;
-    Ok(())
-}
-
-// Source, Const, Iota, a Fork of its flags and one of its numbers, UnitsOf, whose Units go into a Sink, the product, Reduce
-// and Print. Over the edges go 2, 2, 7, 6, twice 7 from the first Fork, twice 6 from the second, 6, 6 and 2 messages.
-#[test]
-fn sum_of_squares(rt: HostRuntime) -> Result<(), Fail> {
-    let size = Size {
-        nodes: 10,
-        edges: 11,
-        sent: 57,
-        received: 57,
-    };
-    let program = b"reduce_add({x * x : x in iota(5)})".as_slice();
-    assert_sized(&rt, rt.alloc(), program, b"30\n", size)?;
+fn sizes(rt: HostRuntime) -> Result<(), Fail> {
+    let rows: [(&[u8], &[u8], Size); 2] = [
+        // Source, Const, Iota, Reduce and Print. Each stream has one reader: the control stream and the constant of one item and
+        // the end, the flags of six and the end, the numbers of five and the end, and the sum of one and the end.
+        (b"reduce_add(iota(5))", b"10\n", (5, 5, 19, 19)),
+        // Source, Const, Iota, a Fork of its flags and one of its numbers, UnitsOf, whose Units go into a Sink, the product,
+        // Reduce and Print. Over the edges go 2, 2, 7, 6, twice 7 from the first Fork, twice 6 from the second, 6, 6 and 2.
+        (
+            b"reduce_add({x * x : x in iota(5)})",
+            b"30\n",
+            (10, 11, 57, 57),
+        ),
+    ];
+    for (program, line, size) in rows {
+        assert_sized(&rt, rt.alloc(), program, line, size)?;
+    }
     Ok(())
 }

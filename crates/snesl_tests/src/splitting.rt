@@ -1,7 +1,7 @@
 // How much of a job is read, and what is cut off its parts.
 
 use crate::answering::{Reply, answered, assert_reply};
-use crate::stopping::StoppingReader;
+use crate::limping::{SOUND, Trouble};
 use snesl_run::split_job;
 use snesl_values::Counted;
 use std::alloc::{AllocError, Global};
@@ -16,14 +16,8 @@ const INPUT: usize = 16_777_216;
 
 // Answers the job over a reader that gives one byte a call, and fails behind so many calls.
 fn over_reader(rt: &impl Threads, alloc: Global, job: &[u8], reads: usize) -> Reply {
-    let reader = StoppingReader::new(job, reads);
-    let (printed, complaint) = (Vec::new(alloc), Vec::new(alloc));
-    let answer = answered(rt, alloc, &["snesl"], reader, printed, complaint);
-    Reply {
-        printed: answer.printed.into_inner(),
-        complaint: answer.complaint.into_inner(),
-        status: answer.status,
-    }
+    let troubles = [Trouble::behind(reads), SOUND, SOUND];
+    answered(rt, alloc, &["snesl"], job, troubles)
 }
 
 // So many blanks, and then these bytes.

@@ -1,12 +1,11 @@
 // Runs in threads of their own: workers side by side, and how many rounds and epochs there are. What several threads make of
 // programs stands in the tables of `tool_runs`.
 
-use crate::configuration::in_threads;
-use crate::running::ending;
+use crate::limping::SOUND;
+use crate::running::{Ran, ran_over};
 use flow_drive::{Config, Drive, Gate, Outcome};
-use snesl_run::{Report, RunError, run};
-use snesl_values::{Counted, Refusal};
-use std::alloc::Global;
+use snesl_trials::in_threads;
+use std::alloc::{AllocError, Global};
 use std::process::Abort;
 use std::sync::Arc;
 use std::sync::atomic::{AtomicU64, Ordering};
@@ -124,43 +123,23 @@ impl Gate for Counting {
 // The drives of several threads.
 const THREADED: [Drive; 2] = [Drive::Rounds, Drive::Rings];
 
-// What a run wrote, how it ended, and how many rounds and epochs it had: none where it was refused.
-#[derive(Drop)]
-struct Turned {
-    written: Vec<u8>,
-    ending: Result<Outcome, Refusal>,
-    turns: (u64, u64),
-}
-
-fn turns(answer: &Result<Report, RunError>) -> (u64, u64) {
-    match answer {
-        Ok(report) => (report.rested().rounds(), report.rested().epochs()),
-        Err(_) => (0, 0),
-    }
-}
-
-// Runs a program without inputs, over memory, and keeps its gate.
+// Runs a program without inputs, and keeps its gate.
 fn ran<G: Gate + Send + Sync + Drop + 'static>(
     rt: &impl Threads,
     alloc: Global,
     program: &[u8],
     config: &Config,
     gate: &Arc<G, Global>,
-) -> Result<Turned, Fail> {
-    let gate = Arc::try_clone(gate)?;
-    let mut out = Counted::new(Vec::new(alloc));
-    let answer = run(rt, alloc, program, b"", config, gate, &mut out);
-    Ok(Turned {
-        written: out.into_inner(),
-        ending: ending(&answer),
-        turns: turns(&answer),
-    })
+) -> Result<Ran, AllocError> {
+    Ok(ran_over(rt, alloc, program, config, Arc::try_clone(gate)?, SOUND))
 }
 
 // Asserts that a run ended in a value, and wrote this line.
-fn assert_value(rt: &impl Abort, done: &Turned, line: &[u8]) {
-    assert_eq!(rt; done.ending, Ok(Outcome::Value));
-    assert_eq!(rt; done.written.as_slice(), line);
+fn assert_line(rt: &impl Abort, ran: &Ran, line: &[u8]) {
+    assert_eq!(rt;
+        (ran.ending, ran.written.as_slice()),
+        (Ok(Outcome::Value), line)
+    );
 }
 
 // Asserts that each of two workers sees the other come.
@@ -171,8 +150,11 @@ fn assert_side_by_side<R: Abort + Threads>(
 ) -> Result<(), Fail> {
     let gate = Arc::new(alloc, SideBySide::new())?;
     let program = b"{reduce_add({x + y : y in iota(x)}) : x in iota(4)}";
-    let done = ran(rt, alloc, program, config, &gate)?;
-    assert_value(rt, &done, b"{0,1,5,12}\n");
+    assert_line(
+        rt,
+        &ran(rt, alloc, program, config, &gate)?,
+        b"{0,1,5,12}\n",
+    );
     // On one thread the share that is pumped first never sees the other.
     assert!(rt; gate.first.saw() && gate.second.saw());
     Ok(())
@@ -188,12 +170,16 @@ fn workers_run_side_by_side(rt: HostRuntime) -> Result<(), Fail> {
 }
 
 // Asserts that a run took as many rounds, or else epochs, as its gate has counted; it was not refused, so it has some.
-fn assert_counted(rt: &impl Abort, done: &Turned, gate: &Counting, (least, most): (u64, u64)) {
-    let (rounds, epochs) = done.turns;
-    let took = rounds.max(epochs);
-    assert!(rt; rounds == 0 || epochs == 0);
-    assert_eq!(rt; took, gate.count.load(Ordering::SeqCst));
-    assert!(rt; took >= least && took <= most);
+fn assert_counted(rt: &impl Abort, ran: &Ran, gate: &Counting, (least, most): (u64, u64)) {
+    let (rounds, epochs) = ran.turns;
+    let counted = gate.count.load(Ordering::SeqCst);
+    let turns = if epochs == 0 {
+        (counted, 0)
+    } else {
+        (0, counted)
+    };
+    assert_eq!(rt; (rounds, epochs), turns);
+    assert!(rt; counted >= least && counted <= most);
 }
 
 // Runs a program over a gate that counts, and asserts that there are so many rounds or epochs.
@@ -204,11 +190,11 @@ fn counted<R: Abort + Threads>(
     config: &Config,
     gate: Counting,
     range: (u64, u64),
-) -> Result<Turned, Fail> {
+) -> Result<Ran, AllocError> {
     let gate = Arc::new(alloc, gate)?;
-    let done = ran(rt, alloc, program, config, &gate)?;
-    assert_counted(rt, &done, &gate, range);
-    Ok(done)
+    let ran = ran(rt, alloc, program, config, &gate)?;
+    assert_counted(rt, &ran, &gate, range);
+    Ok(ran)
 }
 
 // Share 0 waits for what the first node writes, which comes late in share 1: it ends its epoch with nothing moved, and has another.
@@ -218,9 +204,8 @@ fn a_late_share_is_waited_for(rt: HostRuntime) -> Result<(), Fail> {
     let config = in_threads(rt.alloc(), Drive::Rings, 256, 2, &share)?;
     let program = b"let s = iota(100) in s ++ s";
     let late = Counting::new(100_000);
-    let done = counted(&rt, rt.alloc(), program, &config, late, (2, u64::MAX))?;
-    assert_eq!(rt; done.ending, Ok(Outcome::Value));
-    assert_eq!(rt; done.written.len(), 582);
+    let ran = counted(&rt, rt.alloc(), program, &config, late, (2, u64::MAX))?;
+    assert_eq!(rt; (ran.ending, ran.written.len()), (Ok(Outcome::Value), 582));
     Ok(())
 }
 
@@ -231,8 +216,8 @@ fn rounds_and_epochs_are_counted(rt: HostRuntime) -> Result<(), Fail> {
     let program = b"reduce_add(iota(5))";
     for drive in THREADED {
         let config = in_threads(rt.alloc(), drive, 1, 16, &share)?;
-        let done = counted(&rt, rt.alloc(), program, &config, Counting::new(0), (1, 38))?;
-        assert_value(&rt, &done, b"10\n");
+        let ran = counted(&rt, rt.alloc(), program, &config, Counting::new(0), (1, 38))?;
+        assert_line(&rt, &ran, b"10\n");
     }
     Ok(())
 }

@@ -1,52 +1,46 @@
-// Types by hand: whether they are concrete, and whether two are the same.
+// Types: whether they are concrete, and whether two are the same.
 
-use snesl_values::{Ty, copy_ty};
-use std::alloc::{AllocError, Global};
+use snesl_syntax::{Program, parse};
+use snesl_types::check;
+use snesl_values::{Refusal, Ty, copy_ty};
+use std::alloc::Global;
 use std::process::Abort;
 use std::test::Fail;
 
-fn vector_of(alloc: Global, of: Ty) -> Result<Ty, AllocError> {
-    Ok(Ty::Vec(Box::new(alloc, of)?))
+// Inputs of six types.
+const SIX: &[u8] = b"\
+input a : int;
+input b : [int];
+input c : (bool, [int]);
+input d : {int};
+input e : {(bool, [int])};
+input f : (int, {(bool, [int])});
+1";
+
+// Whether a type and its copy are concrete.
+fn are_concrete(alloc: Global, ty: &Ty) -> Result<(bool, bool), Refusal> {
+    let copy = copy_ty(alloc, ty)?;
+    Ok((ty.concrete(), copy.concrete()))
 }
 
-fn sequence_of(alloc: Global, of: Ty) -> Result<Ty, AllocError> {
-    Ok(Ty::Seq(Box::new(alloc, of)?))
-}
-
-fn pair_of(alloc: Global, first: Ty, second: Ty) -> Result<Ty, AllocError> {
-    let first = Box::new(alloc, first)?;
-    let second = Box::new(alloc, second)?;
-    Ok(Ty::Pair(first, second))
-}
-
-// Asserts of a type and of its copy whether they are concrete.
-fn assert_concrete(
-    rt: &impl Abort,
-    alloc: Global,
-    ty: &Ty,
-    concrete: bool,
-) -> Result<(), AllocError> {
-    assert!(rt; ty.concrete() == concrete);
-    assert!(rt; copy_ty(alloc, ty)?.concrete() == concrete);
+// Asserts that the first three types are concrete, and that no two are the same.
+fn assert_types(rt: &impl Abort, alloc: Global, decls: &[(Vec<u8>, Ty)]) -> Result<(), Refusal> {
+    for (number, (_, ty)) in decls.iter().enumerate() {
+        assert_eq!(rt; are_concrete(alloc, ty)?, (number < 3, number < 3));
+        for (other, (_, another)) in decls.iter().enumerate() {
+            assert!(rt; ty.is(another) == (number == other), "{number} and {other}");
+        }
+    }
     Ok(())
+}
+
+fn assert_six(rt: &impl Abort, alloc: Global, program: &Program) -> Result<(), Refusal> {
+    let typed = check(alloc, program)?;
+    assert_eq!(rt; typed.decls().len(), 6);
+    assert_types(rt, alloc, typed.decls())
 }
 
 #[test]
-fn concrete(rt: HostRuntime) -> Result<(), Fail> {
-    let alloc = rt.alloc();
-    let pair = pair_of(alloc, Ty::Bool, vector_of(alloc, Ty::Int)?)?;
-    assert_concrete(&rt, alloc, &pair, true)?;
-    let sequence = sequence_of(alloc, pair)?;
-    assert_concrete(&rt, alloc, &sequence, false)?;
-    let nested = pair_of(alloc, Ty::Int, sequence)?;
-    assert_concrete(&rt, alloc, &nested, false)?;
-    Ok(())
-}
-
-#[test]
-fn same(rt: HostRuntime) -> Result<(), Fail> {
-    let vector = vector_of(rt.alloc(), Ty::Int)?;
-    let sequence = sequence_of(rt.alloc(), Ty::Int)?;
-    assert!(rt; vector.is(&vector) && !vector.is(&sequence) && !sequence.is(&Ty::Int));
-    Ok(())
+fn six_types(rt: HostRuntime) -> Result<(), Fail> {
+    Ok(assert_six(&rt, rt.alloc(), &parse(rt.alloc(), SIX)?)?)
 }

@@ -1,86 +1,83 @@
 // Runs over writers that stop working.
 
-use crate::running::ending;
-use crate::stopping::{Stop, StoppingWriter};
+use crate::limping::{Stop, Trouble};
+use crate::running::{Ran, ran_over};
 use flow_drive::{NoGate, Outcome};
-use snesl_run::run;
 use snesl_trials::alone;
-use snesl_values::{Counted, Fault, FaultKind, Refusal};
+use snesl_values::{Fault, FaultKind, Refusal};
 use std::alloc::{AllocError, Global};
+use std::process::Abort;
 use std::sync::Arc;
 use std::test::Fail;
 use std::thread::Threads;
 
-// What was taken by a writer, how many of its calls failed, and how the run ended.
-#[derive(Drop)]
-struct Written {
-    taken: Vec<u8>,
-    failures: u64,
-    ending: Result<Outcome, Refusal>,
-}
-
-// Runs a program over edges of four messages, and a writer that takes so many bytes and then stops.
-fn run_over(
+// Runs a program over edges of four messages, and such a writer.
+fn ran(
     rt: &impl Threads,
     alloc: Global,
     program: &[u8],
-    bytes: usize,
-    stop: Stop,
-) -> Result<Written, AllocError> {
+    trouble: Trouble,
+) -> Result<Ran, AllocError> {
     let gate = Arc::new(alloc, NoGate)?;
     let config = alone(alloc, 4, 16)?;
-    let mut out = Counted::new(StoppingWriter::new(Vec::new(alloc), bytes, stop));
-    let answer = run(rt, alloc, program, b"", &config, gate, &mut out);
-    Ok(Written {
-        failures: out.failures(),
-        taken: out.into_inner().into_taken(),
-        ending: ending(&answer),
-    })
+    Ok(ran_over(rt, alloc, program, &config, gate, trouble))
 }
+
+// Asserts how a run ends, what its writer has taken, and how many calls of it failed.
+fn assert_ran<R: Abort + Threads>(
+    rt: &R,
+    alloc: Global,
+    program: &[u8],
+    trouble: Trouble,
+    wanted: (Result<Outcome, Refusal>, &[u8], u64),
+) -> Result<(), AllocError> {
+    let ran = ran(rt, alloc, program, trouble)?;
+    assert_eq!(rt; (ran.ending, ran.written.as_slice(), ran.failures), wanted);
+    Ok(())
+}
+
+const LINE: &[u8] = b"{0,1,2,3}\n";
 
 // The writer has taken a beginning of the line, and was called no more once a call had failed.
 #[test]
 fn writers_that_stop(rt: HostRuntime) -> Result<(), Fail> {
-    let line = b"{0,1,2,3}\n".as_slice();
-    for bytes in 0..line.len() {
-        for stop in [Stop::Fails, Stop::TakesNothing] {
-            let cut = run_over(&rt, rt.alloc(), b"iota(4)", bytes, stop)?;
-            assert_eq!(rt; cut.ending, Err(Refusal::Output));
-            assert_eq!(rt; cut.taken.as_slice(), &line[..bytes]);
-            assert_eq!(rt; cut.failures, 1);
+    for bytes in 0..LINE.len() {
+        for stop in [Stop::Fails, Stop::MovesNothing] {
+            let trouble = Trouble {
+                stop,
+                ..Trouble::behind(bytes)
+            };
+            let wanted = (Err(Refusal::Output), &LINE[..bytes], 1);
+            assert_ran(&rt, rt.alloc(), b"iota(4)", trouble, wanted)?;
         }
     }
     Ok(())
 }
 
+// A writer that works for just the line, and where there is no value, one that works at no call, which is not called.
 #[test]
-fn a_writer_that_takes_the_line(rt: HostRuntime) -> Result<(), Fail> {
-    let line = b"{0,1,2,3}\n".as_slice();
-    let whole = run_over(&rt, rt.alloc(), b"iota(4)", line.len(), Stop::Fails)?;
-    assert_eq!(rt; whole.ending, Ok(Outcome::Value));
-    assert_eq!(rt; whole.taken.as_slice(), line);
-    assert_eq!(rt; whole.failures, 0);
-    Ok(())
-}
-
-// Where there is no value, a writer that works at no call is not called.
-#[test]
-fn nothing_to_write_of_a_fault(rt: HostRuntime) -> Result<(), Fail> {
-    let faulted = run_over(&rt, rt.alloc(), b"1 / 0", 0, Stop::Fails)?;
+fn writers_that_are_enough(rt: HostRuntime) -> Result<(), Fail> {
+    let whole = (Ok(Outcome::Value), LINE, 0);
+    assert_ran(
+        &rt,
+        rt.alloc(),
+        b"iota(4)",
+        Trouble::behind(LINE.len()),
+        whole,
+    )?;
     let division = Fault {
         kind: FaultKind::Divide,
         at: 2,
     };
-    assert_eq!(rt; faulted.ending, Ok(Outcome::Fault(division)));
-    assert_eq!(rt; faulted.failures, 0);
+    let fault = (Ok(Outcome::Fault(division)), b"".as_slice(), 0);
+    assert_ran(&rt, rt.alloc(), b"1 / 0", Trouble::behind(0), fault)?;
     Ok(())
 }
 
 #[test]
 fn nothing_to_write_of_a_stall(rt: HostRuntime) -> Result<(), Fail> {
     let twice = b"let s = iota(100) in s ++ s";
-    let stalled = run_over(&rt, rt.alloc(), twice, 0, Stop::Fails)?;
-    assert!(rt; matches!(stalled.ending, Ok(Outcome::Stalled { .. })));
-    assert_eq!(rt; stalled.failures, 0);
+    let stalled = ran(&rt, rt.alloc(), twice, Trouble::behind(0))?;
+    assert!(rt; matches!(stalled.ending, Ok(Outcome::Stalled { .. })) && stalled.failures == 0);
     Ok(())
 }

@@ -27,6 +27,14 @@ impl Expected {
         Ok(Expected { line })
     }
 
+    /// The line of the value, with its line feed.
+    pub fn line(&self) -> Option<&[u8]> {
+        match &self.line {
+            Some(line) => Some(line),
+            None => None,
+        }
+    }
+
     /// Whether a run may end so: in the value of evaluation, in a fault where that has one, or with nothing written where
     /// it has stalled or the network is too big.
     pub fn allows(&self, done: &Done) -> bool {

@@ -1,8 +1,10 @@
-//! Programs run over memory as networks, and what plain evaluation allows of such a run.
+//! Programs run over memory as networks, what plain evaluation allows of such a run, and configurations.
 #![tactic(auto)]
 
+mod configuration;
 mod expected;
 mod running;
 
+pub use configuration::in_threads;
 pub use expected::Expected;
 pub use running::{Done, alone, ran, ran_alone};

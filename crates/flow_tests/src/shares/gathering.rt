@@ -34,9 +34,12 @@ fn outcome_of(rt: &impl Threads, alloc: Global, graph: Graph<StreamNode>) -> Res
 fn graph_comes_back(rt: HostRuntime) -> Result<(), Fail> {
     let alloc = rt.alloc();
     let sum = graph_of(alloc, SUM_OF_FIVE)?;
-    let (graph, counts) = dealt_and_gathered(alloc, sum, 3, &[2u8, 0, 2])?;
-    assert_eq!(rt; counts.as_slice(), [2, 0, 3].as_slice());
-    assert_eq!(rt; (graph.nodes(), graph.edges()), (5, 5));
-    assert_eq!(rt; outcome_of(&rt, alloc, graph)?, Outcome::Value);
+    let (graph, counts) = dealt_and_gathered(alloc, sum, &[2u8, 0, 2])?;
+    let sizes = (graph.nodes(), graph.edges());
+    let outcome = outcome_of(&rt, alloc, graph)?;
+    assert_eq!(rt;
+        (counts, sizes, outcome),
+        ([2, 0, 3], (5, 5), Outcome::Value)
+    );
     Ok(())
 }

@@ -40,8 +40,7 @@ fn pumped<T: Transducer + Drop, E: Ends + Drop>(
     assert!(rt; shares.len() == 16);
     let share = shares.swap_remove(0);
     let share = pump(share, config, &NoGate);
-    assert_eq!(rt; share.nodes().len(), 1);
-    assert!(rt; share.moved() && !share.spent() && !share.starved());
+    assert!(rt; share.nodes().len() == 1 && share.moved() && !share.spent() && !share.starved());
     share.into_parts().1
 }
 
@@ -51,8 +50,7 @@ fn share_over_boxes_is_not_spent(rt: HostRuntime) -> Result<(), Fail> {
     let shares = deal(rt.alloc(), graph_of(rt.alloc(), SUM_OF_FIVE)?, &config)?;
     let mut ends = pumped(&rt, shares, &config);
     // The source has put its one message on the only edge that it writes.
-    assert!(rt; ends.has_writer(0) && !ends.has_reader(0));
-    assert!(rt; !ends.room(0));
+    assert!(rt; ends.has_writer(0) && !ends.has_reader(0) && !ends.room(0));
     Ok(())
 }
 

@@ -10,35 +10,30 @@ use flow_deal::{deal_nodes, gather};
 use flow_graph::{Graph, Placed};
 use std::alloc::{AllocError, Global};
 
-// How many nodes each share has.
-fn counts_in<T: Transducer>(
-    alloc: Global,
-    dealt: &[Vec<Placed<T>>],
-) -> Result<Vec<usize>, AllocError> {
-    let mut counts = Vec::new(alloc);
-    for nodes in dealt {
-        counts.push(nodes.len())?;
+// How many nodes each of three shares has.
+fn counts_in<T: Transducer>(dealt: &[Vec<Placed<T>>]) -> [usize; 3] {
+    match dealt {
+        [first, second, third] => [first.len(), second.len(), third.len()],
+        _ => [0; 3],
     }
-    Ok(counts)
 }
 
-/// The graph, whose nodes were dealt out to so many shares and gathered again, and how many each share had. Its only error is
-/// that memory was refused.
+/// The graph, whose nodes were dealt out to three shares and gathered again, and how many each share had. Its only error is that
+/// memory was refused.
 pub fn dealt_and_gathered<T: Transducer + Drop>(
     alloc: Global,
     graph: Graph<T>,
-    threads: usize,
     share: &[u8],
-) -> Result<(Graph<T>, Vec<usize>), AllocError>
+) -> Result<(Graph<T>, [usize; 3]), AllocError>
     requires named { 0 < length share.now }
-    requires shares { All (λ s. s < threads) share.now }
+    requires shares { All (λ s. s < 3) share.now }
     ensures states { IfOk result (λ made. states_of made.0 ≡ states_of graph) }
     ensures edges { IfOk result (λ made. edges_of made.0 ≡ edges_of graph) }
 {
     let (nodes, layout) = graph.take_apart();
     let count = nodes.len();
-    let dealt = deal_nodes(alloc, nodes, threads, share)?;
-    let counts = counts_in(alloc, &dealt)?;
+    let dealt = deal_nodes(alloc, nodes, 3, share)?;
+    let counts = counts_in(&dealt);
     let nodes = gather(alloc, dealt, count, share)?;
     Ok((layout.put_together(nodes), counts))
 }

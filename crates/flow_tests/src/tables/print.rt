@@ -115,38 +115,38 @@ ends
 node print int
 in T
 prints
-faults shape 7
+faults Shape 7
 
 node print int
 in .
 prints
-faults shape 7
+faults Shape 7
 
 node print int
 in 1 2
 prints 1
-faults shape 7
+faults Shape 7
 
 node print vec bool
 in [1]
 prints
-faults shape 7
+faults Shape 7
 
 node print seq int
 in F .
 in 1
 prints {1
-faults shape 7
+faults Shape 7
 
 node print seq int
 in F T .
 in 1 2
 prints {1}
-faults shape 7
+faults Shape 7
 
 node print pair int int
 in 1 .
 in .
 prints (1
-faults shape 7
+faults Shape 7
 ";

@@ -21,7 +21,7 @@ ends
 node const T
 in u 1 u .
 out T
-faults shape 7
+faults Shape 7
 
 # Operators.
 
@@ -33,7 +33,7 @@ ends
 node unary one negate
 in 1 -9223372036854775808 .
 out -1
-faults overflow 7
+faults Overflow 7
 
 node unary one not
 in T F .
@@ -50,13 +50,13 @@ node binary one divide
 in -7 1 1 .
 in 2 0 1 .
 out -3
-faults divide 7
+faults Divide 7
 
 node binary one add
 in 1 2 .
 in 1 .
 out 2
-faults shape 7
+faults Shape 7
 
 # Copies and sinks.
 
@@ -79,7 +79,7 @@ ends
 
 node sink bool
 in T u
-faults shape 7
+faults Shape 7
 
 # Counts.
 
@@ -93,7 +93,7 @@ node iota
 in 1 -1 .
 out F T
 out 0
-faults negative_count 7
+faults NegativeCount 7
 
 node units_of
 in F F T T F T .
@@ -117,7 +117,7 @@ node scan_add one
 in F F T F F F T .
 in 9223372036854775807 1 9223372036854775807 1 1 .
 out 0 9223372036854775807 0 9223372036854775807
-faults overflow 7
+faults Overflow 7
 
 # A scan adds with the element that the sum is written for, and not with its flag.
 
@@ -131,7 +131,7 @@ node scan_add one
 in F F F
 in 9223372036854775807 1 1
 out 0 9223372036854775807
-faults overflow 7
+faults Overflow 7
 
 # Reductions.
 
@@ -145,7 +145,7 @@ node reduce one max
 in F F T T F T .
 in -2 -1 9 .
 out -1
-faults empty_max 7
+faults EmptyMax 7
 
 node reduce one all
 in F F T T F T .
@@ -165,13 +165,13 @@ node reduce one sum
 in F .
 in 1 .
 out
-faults shape 7
+faults Shape 7
 
 node reduce one sum
 in F T .
 in 1 1 .
 out 1
-faults shape 7
+faults Shape 7
 
 # Items of another kind at the first and at the second port.
 
@@ -179,93 +179,93 @@ node reduce one sum
 in 3 .
 in 1 .
 out
-faults shape 7
+faults Shape 7
 
 node reduce one sum
 in F T .
 in T .
 out
-faults shape 7
+faults Shape 7
 
 node binary one and
 in T .
 in 1 .
 out
-faults shape 7
+faults Shape 7
 
 node length one
 in F .
 out
-faults shape 7
+faults Shape 7
 
 # An item of another kind is a fault, at whichever port it comes.
 
 node const 5
 in T
 out
-faults shape 7
+faults Shape 7
 
 node unary one negate
 in T
 out
-faults shape 7
+faults Shape 7
 
 node unary one not
 in 1
 out
-faults shape 7
+faults Shape 7
 
 node binary one add
 in F
 in 1
 out
-faults shape 7
+faults Shape 7
 
 node binary one add
 in 1
 in [1]
 out
-faults shape 7
+faults Shape 7
 
 node fork unit 2
 in u [1]
 out u
 out u
-faults shape 7
+faults Shape 7
 
 node iota
 in u
 out
 out
-faults shape 7
+faults Shape 7
 
 node units_of
 in F 1
 out u
-faults shape 7
+faults Shape 7
 
 node scan_add one
 in u
 in 1
 out
-faults shape 7
+faults Shape 7
 
 node scan_add one
 in F
 in F
 out
-faults shape 7
+faults Shape 7
 
 node reduce one all
 in F
 in 1
 out
-faults shape 7
+faults Shape 7
 
 node length one
 in F 1
 out
-faults shape 7
+faults Shape 7
 
 # Integers over 64 bits. Where nothing is computed they pass, and so they do where the value of the first dialect lies in
 # its range.
@@ -293,21 +293,22 @@ node iota
 in -9223372036854775809
 out
 out
-faults negative_count 7
+faults NegativeCount 7
 
 # More numbers than 64 bits count: the first of them.
+
 node iota
 in 9223372036854775808
+steps 6
 out F F F
 out 0 1
-steps 6
 writes 1
 
 node iota
 in 170141183460469231731687303715884105727
+steps 6
 out F F F
 out 0 1
-steps 6
 writes 1
 
 node binary one less
@@ -333,65 +334,65 @@ ends
 node unary one negate
 in 9223372036854775807 9223372036854775808 -9223372036854775808
 out -9223372036854775807 -9223372036854775808
-faults overflow 7
+faults Overflow 7
 
 node unary one negate
 in 9223372036854775809
 out
-faults overflow 7
+faults Overflow 7
 
 node unary two negate
 in -9223372036854775808 9223372036854775809 170141183460469231731687303715884105727 -170141183460469231731687303715884105728
 out 9223372036854775808 -9223372036854775809 -170141183460469231731687303715884105727
-faults overflow 7
+faults Overflow 7
 
 node binary one add
 in 9223372036854775807 -9223372036854775808 9223372036854775806 9223372036854775807
 in 0 0 1 1
 out 9223372036854775807 -9223372036854775808 9223372036854775807
-faults overflow 7
+faults Overflow 7
 
 node binary one add
 in -9223372036854775807 -9223372036854775808
 in -1 -1
 out -9223372036854775808
-faults overflow 7
+faults Overflow 7
 
 node binary two add
 in 9223372036854775807 -9223372036854775808 170141183460469231731687303715884105726 170141183460469231731687303715884105727
 in 1 -1 1 1
 out 9223372036854775808 -9223372036854775809 170141183460469231731687303715884105727
-faults overflow 7
+faults Overflow 7
 
 node binary two add
 in -170141183460469231731687303715884105727 -170141183460469231731687303715884105728
 in -1 -1
 out -170141183460469231731687303715884105728
-faults overflow 7
+faults Overflow 7
 
 node binary one multiply
 in 4611686018427387904 4611686018427387904
 in -2 2
 out -9223372036854775808
-faults overflow 7
+faults Overflow 7
 
 node binary two multiply
 in 4611686018427387904 9223372036854775808 9223372036854775808
 in 2 -18446744073709551616 18446744073709551616
 out 9223372036854775808 -170141183460469231731687303715884105728
-faults overflow 7
+faults Overflow 7
 
 node binary one divide
 in -9223372036854775808 -9223372036854775808
 in 1 -1
 out -9223372036854775808
-faults overflow 7
+faults Overflow 7
 
 node binary two divide
 in -9223372036854775808 -170141183460469231731687303715884105728 -170141183460469231731687303715884105728
 in -1 1 -1
 out 9223372036854775808 -170141183460469231731687303715884105728
-faults overflow 7
+faults Overflow 7
 
 node scan_add one
 in F F F F
@@ -403,49 +404,49 @@ node scan_add one
 in F F F
 in -9223372036854775808 -1 0
 out 0 -9223372036854775808
-faults overflow 7
+faults Overflow 7
 
 node scan_add one
 in F F
 in 9223372036854775808 0
 out 0
-faults overflow 7
+faults Overflow 7
 
 node scan_add two
 in F F F F F
 in 9223372036854775807 1 170141183460469231722463931679029329919 1 0
 out 0 9223372036854775807 9223372036854775808 170141183460469231731687303715884105727
-faults overflow 7
+faults Overflow 7
 
 node scan_add two
 in F F F F
 in -9223372036854775808 -170141183460469231722463931679029329920 -1 0
 out 0 -9223372036854775808 -170141183460469231731687303715884105728
-faults overflow 7
+faults Overflow 7
 
 node reduce one sum
 in F F T F F T F F
 in 9223372036854775806 1 -9223372036854775807 -1 9223372036854775807 1
 out 9223372036854775807 -9223372036854775808
-faults overflow 7
+faults Overflow 7
 
 node reduce one sum
 in F
 in -9223372036854775809
 out
-faults overflow 7
+faults Overflow 7
 
 node reduce two sum
 in F F T F F T F F T F F
 in 9223372036854775807 1 170141183460469231731687303715884105726 1 -170141183460469231731687303715884105727 -1 170141183460469231731687303715884105727 1
 out 9223372036854775808 170141183460469231731687303715884105727 -170141183460469231731687303715884105728
-faults overflow 7
+faults Overflow 7
 
 node reduce two sum
 in F F
 in -170141183460469231731687303715884105728 -1
 out
-faults overflow 7
+faults Overflow 7
 
 node reduce two max
 in F F F T .
@@ -461,5 +462,5 @@ ends
 node length two
 in F 1
 out
-faults shape 7
+faults Shape 7
 ";

@@ -28,7 +28,7 @@ ends
 node same_flags
 in F T .
 in F F T .
-faults length 7
+faults Length 7
 
 node the_check
 in F T F T .
@@ -36,11 +36,11 @@ ends
 
 node the_check
 in F F T .
-faults the 7
+faults The 7
 
 node the_check
 in T .
-faults the 7
+faults The 7
 
 # Items.
 
@@ -104,7 +104,7 @@ in F .
 in F T .
 out
 out F
-faults part 7
+faults Part 7
 
 node part_flags
 in F T .
@@ -112,53 +112,53 @@ in T .
 in F T .
 out F
 out T
-faults part 7
+faults Part 7
 
 # An item of another kind is a fault, at whichever port it comes.
 
 node flag_of_bool
 in 1
 out
-faults shape 7
+faults Shape 7
 
 node the_check
 in F 1
-faults shape 7
+faults Shape 7
 
 node same_flags
 in F
 in 1
-faults shape 7
+faults Shape 7
 
 node concat_flags
 in F
 in u
 out
-faults shape 7
+faults Shape 7
 
 node append_flags
 in T
 in 1
 out
-faults shape 7
+faults Shape 7
 
 node pack int
 in T
 in T
 out
-faults shape 7
+faults Shape 7
 
 node dist int
 in 1
 in 1
 out
-faults shape 7
+faults Shape 7
 
 node dist int
 in [1]
 in F
 out
-faults shape 7
+faults Shape 7
 
 node interleave int
 in F
@@ -166,7 +166,7 @@ in
 in u
 in
 out
-faults shape 7
+faults Shape 7
 
 node interleave_groups
 in F
@@ -174,13 +174,13 @@ in
 in 1
 in
 out
-faults shape 7
+faults Shape 7
 
 node pack_groups
 in T
 in 1
 out
-faults shape 7
+faults Shape 7
 
 node part_flags
 in F
@@ -188,7 +188,7 @@ in 1
 in
 out
 out
-faults shape 7
+faults Shape 7
 
 # Integers over 64 bits pass.
 

@@ -22,13 +22,13 @@ node seq int
 in [1,true] .
 out
 out
-faults shape 7
+faults Shape 7
 
 node seq int
 in 1 .
 out
 out
-faults shape 7
+faults Shape 7
 
 # What an index leads to.
 
@@ -51,21 +51,21 @@ in [(1,[4,5]),(2,[])] .
 in 2 .
 out
 out
-faults index 7
+faults Index 7
 
 node index pair int vec int
 in [(1,[4,5]),(2,[])] .
 in -1 .
 out
 out
-faults index 7
+faults Index 7
 
 node index pair int vec int
 in [(1,[4,5]),(2,[])] .
 in T .
 out
 out
-faults shape 7
+faults Shape 7
 
 # A vector of other elements, before any index.
 
@@ -73,7 +73,7 @@ node index bool
 in [(1,[4,5]),(2,[])] .
 in .
 out
-faults shape 7
+faults Shape 7
 
 # Vectors of elements.
 
@@ -97,26 +97,26 @@ node tab int
 in F T F .
 in 1 T .
 out [1]
-faults shape 7
+faults Shape 7
 
 node tab vec bool
 in T F .
 in [1] .
 out []
-faults shape 7
+faults Shape 7
 
 node tab int
 in F .
 in .
 out
-faults shape 7
+faults Shape 7
 
 node tab seq int
 in F .
 in .
 in .
 out
-faults shape 7
+faults Shape 7
 
 # A vector of integers where one of truth values is due: the integer behind it is not asked for.
 
@@ -125,7 +125,7 @@ in F
 in [1]
 in
 out
-faults shape 7
+faults Shape 7
 
 # Integers over 64 bits pass, and an index over them is beyond each vector.
 
@@ -151,11 +151,11 @@ node index int
 in [8,-9]
 in 18446744073709551616
 out
-faults index 7
+faults Index 7
 
 node index int
 in [8,-9]
 in -170141183460469231731687303715884105728
 out
-faults index 7
+faults Index 7
 ";

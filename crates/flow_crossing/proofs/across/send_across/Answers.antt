@@ -1,0 +1,23 @@
+use Rattle.std.proofs.Common.{◌≡◌, List, length, sym, ap, subst, ◌∙◌, arith, IfOk}
+use Rattle.flow_messages.specs.Signals.{signals, ended}
+use Rattle.flow_messages.specs.declared.message.Msg.{Msg}
+use Rattle.flow_rings.specs.Edge.{received}
+use Rattle.flow_crossing.proofs.across.send_across.Goals as goal
+
+pub returns-clause-taken : goal.returns-clause-taken
+returns-clause-taken g c =
+    let writer = c.join-writer.ensures.first in
+    let reader = c.join-writer.ensures.second in
+    let met = c.meet-held.ensures in
+    let closed = ap (λ (ms : List Msg). ended (signals ms)) met.reader.1 ∙ reader.1.0 in
+    let all = c.all_was_received.ensures.writer c.meet-held.new.writer c.meet-held.new.reader met.fifo closed in
+    let kept = subst (λ r. IfOk r (λ v. v.items ≡ received c.join-writer.result.1.0)) c.in_ok-taken.was reader.1.1 in
+    kept ∙ sym met.reader.1 ∙ all.0 ∙ met.writer.1 ∙ writer.1
+
+pub returns-clause-empty : goal.returns-clause-empty
+returns-clause-empty g c =
+    let met = c.meet-held.ensures in
+    let closed = ap (λ (ms : List Msg). ended (signals ms)) met.reader.1 ∙ c.join-writer.ensures.second.1.0 in
+    let all = c.all_was_received.ensures.writer c.meet-held.new.writer c.meet-held.new.reader met.fifo closed in
+    let count = met.count ∙ ap length all.1 in
+    (count, omega (arith, count, met.whole, met.writer.0.1, c.join-writer.ensures.first.0.1, c.in_ok-writer.ensures.writer.2))

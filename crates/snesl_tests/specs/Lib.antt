@@ -1,2 +1,0 @@
-pub mod Faltering
-pub mod Stopping
