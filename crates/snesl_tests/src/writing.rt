@@ -11,15 +11,15 @@ use std::sync::Arc;
 use std::test::Fail;
 use std::thread::Threads;
 
-// Runs a program over edges of four messages, and such a writer.
+// Runs a program over edges that hold so many messages, and such a writer.
 fn ran(
     rt: &impl Threads,
     alloc: Global,
-    program: &[u8],
+    (program, capacity): (&[u8], usize),
     trouble: Trouble,
 ) -> Result<Ran, AllocError> {
     let gate = Arc::new(alloc, NoGate)?;
-    let config = alone(alloc, 4, 16)?;
+    let config = alone(alloc, capacity, 16)?;
     Ok(ran_over(rt, alloc, program, &config, gate, trouble))
 }
 
@@ -27,7 +27,7 @@ fn ran(
 fn assert_ran<R: Abort + Threads>(
     rt: &R,
     alloc: Global,
-    program: &[u8],
+    program: (&[u8], usize),
     trouble: Trouble,
     wanted: (Result<Outcome, Refusal>, &[u8], u64),
 ) -> Result<(), AllocError> {
@@ -36,21 +36,57 @@ fn assert_ran<R: Abort + Threads>(
     Ok(())
 }
 
-const LINE: &[u8] = b"{0,1,2,3}\n";
-
-// The writer has taken a beginning of the line, and was called no more once a call had failed.
-#[test]
-fn writers_that_stop(rt: HostRuntime) -> Result<(), Fail> {
-    for bytes in 0..LINE.len() {
+// Asserts that a writer that stops, wherever in the line, has taken a beginning of it, and was called no more once a call had
+// failed.
+fn assert_cut<R: Abort + Threads>(
+    rt: &R,
+    alloc: Global,
+    program: (&[u8], usize),
+    line: &[u8],
+) -> Result<(), AllocError> {
+    for bytes in 0..line.len() {
         for stop in [Stop::Fails, Stop::MovesNothing] {
             let trouble = Trouble {
                 stop,
                 ..Trouble::behind(bytes)
             };
-            let wanted = (Err(Refusal::Output), &LINE[..bytes], 1);
-            assert_ran(&rt, rt.alloc(), b"iota(4)", trouble, wanted)?;
+            let wanted = (Err(Refusal::Output), &line[..bytes], 1);
+            assert_ran(rt, alloc, program, trouble, wanted)?;
         }
     }
+    Ok(())
+}
+
+// A program of few elements, what its edges hold, and its line.
+const FEW: (&[u8], usize) = (b"iota(4)", 4);
+
+const LINE: &[u8] = b"{0,1,2,3}\n";
+
+// A sequence appended to itself, over edges that hold it.
+const TWICE: (&[u8], usize) = (b"let s = iota(100) in s ++ s", 256);
+
+#[test]
+fn writers_that_stop(rt: HostRuntime) -> Result<(), Fail> {
+    assert_cut(&rt, rt.alloc(), FEW, LINE)?;
+    Ok(())
+}
+
+// The numbers below a hundred, twice, as a line of 582 bytes.
+fn hundred_twice(alloc: Global) -> Result<String, AllocError> {
+    let mut line = String::from_str(alloc, "{0")?;
+    for number in 1..200u32 {
+        let text = format!(in alloc; ",{}", number % 100)?;
+        line.push_str(text.as_str())?;
+    }
+    line.push_str("}\n")?;
+    Ok(line)
+}
+
+#[test]
+fn a_long_line_that_is_cut(rt: HostRuntime) -> Result<(), Fail> {
+    let line = hundred_twice(rt.alloc())?;
+    assert_eq!(rt; line.len(), 582);
+    assert_cut(&rt, rt.alloc(), TWICE, line.as_bytes())?;
     Ok(())
 }
 
@@ -58,26 +94,20 @@ fn writers_that_stop(rt: HostRuntime) -> Result<(), Fail> {
 #[test]
 fn writers_that_are_enough(rt: HostRuntime) -> Result<(), Fail> {
     let whole = (Ok(Outcome::Value), LINE, 0);
-    assert_ran(
-        &rt,
-        rt.alloc(),
-        b"iota(4)",
-        Trouble::behind(LINE.len()),
-        whole,
-    )?;
+    let trouble = Trouble::behind(LINE.len());
+    assert_ran(&rt, rt.alloc(), FEW, trouble, whole)?;
     let division = Fault {
         kind: FaultKind::Divide,
         at: 2,
     };
     let fault = (Ok(Outcome::Fault(division)), b"".as_slice(), 0);
-    assert_ran(&rt, rt.alloc(), b"1 / 0", Trouble::behind(0), fault)?;
+    assert_ran(&rt, rt.alloc(), (b"1 / 0", 4), Trouble::behind(0), fault)?;
     Ok(())
 }
 
 #[test]
 fn nothing_to_write_of_a_stall(rt: HostRuntime) -> Result<(), Fail> {
-    let twice = b"let s = iota(100) in s ++ s";
-    let stalled = ran(&rt, rt.alloc(), twice, Trouble::behind(0))?;
+    let stalled = ran(&rt, rt.alloc(), (TWICE.0, 4), Trouble::behind(0))?;
     assert!(rt; matches!(stalled.ending, Ok(Outcome::Stalled { .. })) && stalled.failures == 0);
     Ok(())
 }
