@@ -29,16 +29,17 @@ const OTHER_SHARES: [(usize, &[u8]); 2] = [(2, &[1, 1, 0, 0]), (3, &[2, 0, 1])];
 #[derive(Clone, Copy, Debug)]
 pub struct Drives {
     programs: usize,
+    runs: usize,
     /// How many runs ended otherwise.
     pub differing: usize,
 }
 
 impl fmt::Display for Drives {
     fn fmt<W: fmt::Write>(&self, f: &mut fmt::Formatter<W>) -> fmt::Result {
-        let (programs, differing) = (self.programs, self.differing);
+        let (programs, runs, differing) = (self.programs, self.runs, self.differing);
         write!(
             f,
-            "{programs} programs by every drive, {differing} runs differ"
+            "{programs} programs by every drive in {runs} runs, {differing} differ"
         )
     }
 }
@@ -85,6 +86,7 @@ impl Drives {
     pub fn none() -> Drives {
         Drives {
             programs: 0,
+            runs: 0,
             differing: 0,
         }
     }
@@ -185,6 +187,7 @@ impl Drives {
         way: Way<'_>,
     ) -> Result<(), AllocError> {
         let config = config(alloc, case.capacity, way)?;
+        self.runs = self.runs.saturating_add(1);
         let done = ran(rt, alloc, case.program, case.input, &config)?;
         if done.ending.is_err() || done != *case.serial {
             self.differing = self.differing.saturating_add(1);
