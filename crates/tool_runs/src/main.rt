@@ -1,20 +1,23 @@
 // Runs that try the language's implementation as a whole, and that time it.
 //
 // The first word of the command line says what is done. `jobs`, or no word, answers the tables of jobs in the folder that the
-// program runs in (`jobs.rt`). `random` makes programs and runs them (`random.rt`). `drives`, `graph` and `plain` give the figures
-// of docs/PROMISES.md (`figures.rt`), the first two over as many elements as the second word says, a thousand where there is
-// none. `all` does all of this in turn. The status is 1 where something differs.
+// program runs in (`jobs.rt`). `nodes` feeds the nodes that take memory (`nodes.rt`). `random` makes programs and runs them
+// (`random.rt`). `drives`, `graph` and `plain` give the figures of docs/PROMISES.md (`figures.rt`), the first two over as many
+// elements as the second word says, a thousand where there is none. `all` does all of this in turn. `job` prints the random job of
+// the seed that the second word says. The status is 1 where something differs.
 #![tactic(auto)]
 
 mod endings;
 mod figures;
 mod jobs;
+mod nodes;
 mod random;
 
 use anyhow::{Context, Result, bail};
 use figures::{print_plainly, time_drives, time_graph};
 use jobs::{table_names, try_jobs};
-use random::{Wish, try_programs};
+use nodes::try_nodes;
+use random::{Wish, print_job, try_programs};
 use std::env::{self, Args};
 
 // Over how many elements the figures go where no word tells.
@@ -24,7 +27,9 @@ const ELEMENTS: u64 = 1_000;
 #[derive(Clone, Copy)]
 enum Task {
     Jobs,
+    Nodes,
     Random(Wish),
+    Job(u64),
     Drives(u64),
     Graph(u64),
     Plain,
@@ -34,12 +39,15 @@ enum Task {
 fn main(rt: HostRuntime) -> Result<()> {
     match task_of(env::args(&rt)?)? {
         Task::Jobs => try_jobs(&rt, &table_names(&rt)?),
+        Task::Nodes => try_nodes(&rt),
         Task::Random(wish) => try_programs(&rt, wish),
+        Task::Job(seed) => print_job(&rt, seed),
         Task::Drives(count) => time_drives(&rt, count),
         Task::Graph(count) => time_graph(&rt, count),
         Task::Plain => print_plainly(&rt),
         Task::All => {
             try_jobs(&rt, &table_names(&rt)?)?;
+            try_nodes(&rt)?;
             try_programs(&rt, Wish::usual())?;
             time_drives(&rt, ELEMENTS)?;
             time_graph(&rt, ELEMENTS)?;
@@ -56,12 +64,14 @@ fn task_of(mut words: Args) -> Result<Task> {
     };
     match first.as_str() {
         "jobs" => Ok(Task::Jobs),
+        "nodes" => Ok(Task::Nodes),
         "random" => Ok(Task::Random(wish_of(&mut words)?)),
+        "job" => Ok(Task::Job(number_of(words.next())?)),
         "drives" => Ok(Task::Drives(count_of(&mut words)?)),
         "graph" => Ok(Task::Graph(count_of(&mut words)?)),
         "plain" => Ok(Task::Plain),
         "all" => Ok(Task::All),
-        _ => bail!("the first word is jobs, random, drives, graph, plain or all"),
+        _ => bail!("the first word is jobs, nodes, random, job, drives, graph, plain or all"),
     }
 }
 

@@ -52,6 +52,14 @@ pub fn try_programs<R: Print + Clock + AllocGlobal + Threads>(rt: &R, wish: Wish
     }
 }
 
+/// Prints the job of a seed, or nothing where it would be too long.
+pub fn print_job<R: Print + AllocGlobal>(rt: &R, seed: u64) -> Result<()> {
+    if let Some(text) = random_job(rt.alloc(), seed)? {
+        print!(rt; "{text}")?;
+    }
+    Ok(())
+}
+
 // Tries so many programs as are quick.
 fn try_some<R: Print + AllocGlobal + Threads>(rt: &R, seed: u64) -> Result<()> {
     let mut totals = Totals::none();
