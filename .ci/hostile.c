@@ -1,0 +1,136 @@
+/* Preloaded to a program (.ci/preloaded.py): a system that gives less than is asked for. Calls are counted by kind, from 1 on,
+   and the environment says which of them are refused. No header is needed.
+
+     HOSTILE_GROWTH=n        the growth of memory of this number is refused
+     HOSTILE_START=n         the start of a thread of this number is
+     HOSTILE_READ=n          the read of standard input of this number fails
+     HOSTILE_READ_MOST=b     a read of standard input gives no more bytes than this
+     HOSTILE_WRITE=n         the write to standard output of this number fails,
+     HOSTILE_EMPTY_WRITE=n   or takes no byte
+     HOSTILE_WRITE_MOST=b    a write to standard output takes no more bytes than this
+     HOSTILE_ERROR=e         the error of a read or a write that fails
+     HOSTILE_COUNTS=d        the descriptor of a file of one page, whose first words are the counts: as `enum word` lists them
+
+   Memory is counted as the program and the C library ask for it by malloc, calloc and realloc, also where a thread is started. */
+typedef unsigned long size;
+extern void *__libc_malloc(size);
+extern void *__libc_calloc(size, size);
+extern void *__libc_realloc(void *, size);
+extern long __read(int, void *, size);
+extern long __write(int, const void *, size);
+extern int *__errno_location(void);
+extern void *dlsym(void *, const char *);
+extern void *mmap(void *, size, int, int, int, long);
+extern char *getenv(const char *);
+extern int getpid(void);
+extern int gettid(void);
+
+enum { STANDARD_INPUT, STANDARD_OUTPUT };
+enum { TRY_AGAIN = 11, NO_MEMORY = 12 };
+enum { PAGE = 4096, READ_AND_WRITE = 3, SHARED = 1 };
+#define NEXT_LIBRARY ((void *)-1L)
+#define NO_MAPPING ((void *)-1L)
+
+/* The counts, and what was refused. A growth within the start of a thread is told apart, and one of a thread that was started. */
+enum word { GROWTHS, STARTS, READS, WRITES, REFUSED, WORDS };
+enum refused { A_GROWTH = 1, A_GROWTH_IN_A_START = 2, A_GROWTH_OF_A_WORKER = 4, A_START = 8, A_READ = 16, A_WRITE = 32 };
+
+static long own_words[WORDS];
+static long *words;
+static long growth, start, failing_read, most_read, failing_write, empty_write, most_written, error;
+static __thread int in_a_start __attribute__((tls_model("initial-exec")));
+
+/* The number in a variable of the environment, and 0 where there is none. */
+static long number_in(const char *name) {
+    const char *digits = getenv(name);
+    long number = 0;
+    while (digits && *digits >= '0' && *digits <= '9')
+        number = 10 * number + (*digits++ - '0');
+    return number;
+}
+
+/* The first call comes before there is a second thread. */
+static void set_up(void) {
+    long file = number_in("HOSTILE_COUNTS");
+    void *page = file ? mmap(0, PAGE, READ_AND_WRITE, SHARED, (int)file, 0) : NO_MAPPING;
+    growth = number_in("HOSTILE_GROWTH");
+    start = number_in("HOSTILE_START");
+    failing_read = number_in("HOSTILE_READ");
+    most_read = number_in("HOSTILE_READ_MOST");
+    failing_write = number_in("HOSTILE_WRITE");
+    empty_write = number_in("HOSTILE_EMPTY_WRITE");
+    most_written = number_in("HOSTILE_WRITE_MOST");
+    error = number_in("HOSTILE_ERROR");
+    words = page == NO_MAPPING ? own_words : page;
+}
+
+/* The number of a call of this kind. */
+static long number_of(enum word kind) {
+    if (!words)
+        set_up();
+    return __sync_add_and_fetch(&words[kind], 1);
+}
+
+static int refuse(enum refused what, long with) {
+    __sync_or_and_fetch(&words[REFUSED], what);
+    *__errno_location() = (int)with;
+    return 1;
+}
+
+static int growth_is_refused(void) {
+    if (number_of(GROWTHS) != growth)
+        return 0;
+    if (gettid() != getpid())
+        return refuse(A_GROWTH_OF_A_WORKER, NO_MEMORY);
+    return refuse(in_a_start ? A_GROWTH_IN_A_START : A_GROWTH, NO_MEMORY);
+}
+
+void *malloc(size bytes) { return growth_is_refused() ? 0 : __libc_malloc(bytes); }
+
+void *calloc(size count, size bytes) { return growth_is_refused() ? 0 : __libc_calloc(count, bytes); }
+
+void *realloc(void *memory, size bytes) { return growth_is_refused() ? 0 : __libc_realloc(memory, bytes); }
+
+int pthread_create(void *thread, const void *attributes, void *(*routine)(void *), void *argument) {
+    static int (*create)(void *, const void *, void *(*)(void *), void *);
+    int status;
+    if (number_of(STARTS) == start) {
+        refuse(A_START, TRY_AGAIN);
+        return TRY_AGAIN;
+    }
+    if (!create)
+        create = dlsym(NEXT_LIBRARY, "pthread_create");
+    in_a_start = 1;
+    status = create(thread, attributes, routine, argument);
+    in_a_start = 0;
+    return status;
+}
+
+/* As many of these bytes as one call may move. */
+static size at_most(size bytes, long most) { return most && bytes > (size)most ? (size)most : bytes; }
+
+long read(int file, void *bytes, size count) {
+    if (file != STANDARD_INPUT)
+        return __read(file, bytes, count);
+    if (number_of(READS) == failing_read) {
+        refuse(A_READ, error);
+        return -1;
+    }
+    return __read(file, bytes, at_most(count, most_read));
+}
+
+long write(int file, const void *bytes, size count) {
+    long number;
+    if (file != STANDARD_OUTPUT)
+        return __write(file, bytes, count);
+    number = number_of(WRITES);
+    if (number == failing_write) {
+        refuse(A_WRITE, error);
+        return -1;
+    }
+    if (number == empty_write) {
+        refuse(A_WRITE, error);
+        return 0;
+    }
+    return __write(file, bytes, at_most(count, most_written));
+}

@@ -1,0 +1,92 @@
+"""Runs programs under a system that gives less than is asked for: hostile.c, preloaded to them.
+
+    library = compiled(folder)
+    ran = run(program, [b"--drive", b"serial"], b"1 + 2", library, GROWTH=3)
+
+The names of the words behind the library are those of hostile.c without what they begin with.
+"""
+
+import os
+import struct
+import subprocess
+import sys
+import tempfile
+from dataclasses import dataclass
+
+HERE = os.path.dirname(os.path.abspath(__file__))
+SECONDS = 60
+# The counts, `enum word` of hostile.c, and what was refused, `enum refused`.
+WORDS = struct.Struct("5q")
+A_GROWTH, A_GROWTH_IN_A_START, A_GROWTH_OF_A_WORKER, A_START, A_READ, A_WRITE = (1 << bit for bit in range(6))
+
+
+@dataclass(frozen=True)
+class Ran:
+    """What a program printed and said, and its status; its calls by kind, and what was refused to it."""
+
+    printed: bytes
+    said: bytes
+    status: int
+    growths: int
+    starts: int
+    reads: int
+    writes: int
+    refused: int
+
+    def answer(self):
+        return self.printed, self.said, self.status
+
+
+def says_refused(number, printed=b""):
+    """The answer of a refusal of the system: nothing but a line on standard error, and status 4. Where the writer failed a
+    beginning of the line was printed."""
+    return printed, b"refused %d\n" % number, 4
+
+
+def may_answer(ran, right, in_threads):
+    """Whether a run gave the right answer, or in its place the refusal that is due to what was refused."""
+    no_memory, no_thread = says_refused(11), says_refused(13)
+    allowed = {
+        0: [right],
+        # A growth before the thread is made may be a part of its start, and is then refused as that.
+        A_GROWTH: [right, no_memory, no_thread] if in_threads else [right, no_memory],
+        A_GROWTH_OF_A_WORKER: [right, no_memory],
+        A_GROWTH_IN_A_START: [no_thread],
+        A_START: [no_thread],
+        A_READ: [says_refused(14)],
+        A_WRITE: [says_refused(12, ran.printed)],
+    }
+    return ran.answer() in allowed[ran.refused] and right[0].startswith(ran.printed)
+
+
+def compiled(folder):
+    """The path of the preloaded library, which the kit's C compiler makes of hostile.c."""
+    path = os.path.join(folder, "hostile.so")
+    kit = os.path.dirname(subprocess.check_output(["rt", "doc"], text=True).strip())
+    compiler = os.path.join(kit, "toolchain", "bin", "clang")
+    if not os.access(compiler, os.X_OK):
+        sys.exit(f"the kit has no C compiler {compiler}, so nothing was tried")
+    words = ["-O1", "-w", "-fno-builtin", "-shared", "-fPIC", "-nostdlib", "-fuse-ld=lld", "-o", path]
+    subprocess.run([compiler, *words, os.path.join(HERE, "hostile.c")], check=True)
+    return path
+
+
+def run(program, words, job, library, seconds=SECONDS, **refusals):
+    """What came of a program with these words, and this job on standard input.
+
+    The job is read from a file: what a read of a pipe gives, and so how often memory grows, is a matter of luck."""
+    environment = {f"HOSTILE_{name}": str(number) for name, number in refusals.items()}
+    with tempfile.TemporaryFile() as counts, tempfile.TemporaryFile() as file:
+        counts.truncate(4096)
+        file.write(job)
+        file.seek(0)
+        child = subprocess.run(
+            [program, *words],
+            stdin=file,
+            capture_output=True,
+            env={"LD_PRELOAD": library, "HOSTILE_COUNTS": str(counts.fileno()), **environment},
+            pass_fds=[counts.fileno()],
+            timeout=seconds,
+        )
+        counted = WORDS.unpack(os.pread(counts.fileno(), WORDS.size, 0))
+    return Ran(child.stdout, child.stderr, child.returncode, *counted)
