@@ -15,7 +15,7 @@ returns-in-Ok g c =
     (printed_jobs c.one_answer.ensures.one c.one_input_meaning.ensures.one c.args.config.now out err reader split.0
     c.in-Ok.program.items c.in-Ok.input.items c.print_answer.result
     (subst (λ l. PrintedFor c.args.config.now l c.in-Ok.input.items out err c.print_answer.result) c.deref.ensures.value
-    (subst (λ l. PrintedFor c.args.config.now c.deref.result.now l out err c.print_answer.result) c.deref-2.ensures.value c.print_answer.ensures))
+    (subst (λ l. PrintedFor c.args.config.now c.deref.result.now l out err c.print_answer.result) c.deref-in-Ok.ensures.value c.print_answer.ensures))
     split.2)
 
 pub returns-in-Err : goal.returns-in-Err
