@@ -1,0 +1,14 @@
+//! Callers of public crates, as a stranger would write them. docs/CALLING.md shows them.
+//!
+//! Each module is named after what it calls, and is proved from the contracts of public crates. A function here
+//! is short, and does one thing.
+#![tactic(auto)]
+
+pub mod edges;
+pub mod scalar;
+pub mod segment;
+pub mod syntax;
+#[cfg(test)]
+mod tests;
+pub mod types;
+pub mod values;

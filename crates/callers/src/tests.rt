@@ -1,0 +1,58 @@
+// Each caller runs.
+use crate::edges::messages;
+use crate::scalar::negated;
+use crate::segment::printed;
+use crate::syntax::is_program;
+use crate::types::value_of;
+use crate::values::value_text;
+use flow_edges::{Item, Msg};
+use snesl_values::{FaultKind, Ty, text_of};
+use std::test::Fail;
+
+// A program of five nodes and five edges.
+const SUM: &[u8] = b"reduce_add(iota(5))";
+
+#[test]
+fn an_input_text_gives_a_value_to_its_name(rt: HostRuntime) -> Result<(), Fail> {
+    let alloc = rt.alloc();
+    let mut decls = Vec::new(alloc);
+    decls.push((Vec::from_slice(alloc, b"n")?, Ty::Int))?;
+    let text = value_text(alloc, &decls, b"n = -07", b"n")?.ok_or("none")?;
+    assert_eq!(rt; text.as_slice(), b"-7".as_slice());
+    assert!(rt; value_text(alloc, &decls, b"n = 1", b"m")?.is_none());
+    assert!(rt; value_text(alloc, &decls, b"n = x", b"n").is_err());
+    Ok(())
+}
+
+#[test]
+fn a_text_is_a_program_or_none(rt: HostRuntime) -> Result<(), Fail> {
+    assert!(rt; is_program(rt.alloc(), SUM)?);
+    assert!(rt; !is_program(rt.alloc(), b"reduce_add(")?);
+    Ok(())
+}
+
+#[test]
+fn a_program_has_a_value_or_a_fault(rt: HostRuntime) -> Result<(), Fail> {
+    let alloc = rt.alloc();
+    let sum = value_of(alloc, SUM, b"")?.ok().ok_or("a fault")?;
+    assert_eq!(rt; text_of(alloc, &sum)?.as_slice(), b"10".as_slice());
+    let fault = value_of(alloc, b"1 / 0", b"")?.err().ok_or("a value")?;
+    assert_eq!(rt; (fault.kind, fault.at), (FaultKind::Divide, 2));
+    Ok(())
+}
+
+#[test]
+fn messages_come_in_order(rt: HostRuntime) -> Result<(), Fail> {
+    let (one, two, end) = messages(rt.alloc(), Item::Bool(true), Item::Int(5))?;
+    assert!(rt; matches!(&one, Msg::Item(Item::Bool(true))));
+    assert!(rt; matches!(&two, Msg::Item(Item::Int(5))));
+    assert!(rt; end.is_end());
+    Ok(())
+}
+
+#[test]
+fn nodes_read_and_write(rt: HostRuntime) -> Result<(), Fail> {
+    assert!(rt; matches!(&negated(false), Msg::Item(Item::Bool(true))));
+    assert_eq!(rt; printed(rt.alloc(), -12)?.as_slice(), b"-12".as_slice());
+    Ok(())
+}
