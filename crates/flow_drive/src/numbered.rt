@@ -5,7 +5,6 @@ ghost use Rattle.flow_graph.specs.Edges.{edge_at};
 ghost use Rattle.flow_graph.specs.Graphs.{edges_of};
 ghost use Rattle.flow_graph.specs.Layouts.{edges_in};
 ghost use Rattle.flow_graph.specs.Networks.{state_at};
-ghost use Rattle.flow_graph.specs.Places.{placed_state};
 ghost use Rattle.flow_deal.specs.Deals.{share_of};
 ghost use Rattle.flow_drive.specs.Parts.{states_at, edges_at, traffic_at, gathered_traffic, shares_states, shares_traffic};
 
@@ -14,7 +13,7 @@ use crate::parts::{Gathered, Parts};
 use crate::ring_shares::RingShares;
 use flow_base::Transducer;
 use flow_deal::share_of;
-use flow_graph::{Edge, Placed};
+use flow_graph::Edge;
 use flow_messages::CountedEnds;
 use flow_rings::Rings;
 use flow_shares::Share;
@@ -105,7 +104,7 @@ impl<T: Transducer> RingShares<T> {
         ensures { T.state result.now ≡ state_at T.behaviour (shares_states self.now) number }
     {
         let share = self.of_node(number);
-        transducer_of(&share.nodes()[self.places[number]])
+        share.nodes()[self.places[number]].node()
     }
 
     /// How many messages were sent on the edge, and how many were received from it, as the shares of its two nodes count.
@@ -128,11 +127,4 @@ impl<T: Transducer> RingShares<T> {
     {
         &self.shares[share_of(&self.share, node)]
     }
-}
-
-// The transducer of a node.
-fn transducer_of<T: Transducer>(placed: &Placed<T>) -> &T
-    ensures { T.state result.now ≡ placed_state placed.now }
-{
-    unreachable!()
 }

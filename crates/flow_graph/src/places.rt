@@ -54,6 +54,13 @@ impl<T: Transducer> Placed<T> {
         self.number
     }
 
+    /// Its transducer.
+    pub fn node(&self) -> &T
+        ensures { T.state result.now ≡ placed_state self.now }
+    {
+        &self.node
+    }
+
     /// The edges at its input ports, in the order of the ports.
     pub fn inputs(&self) -> &[usize]
         ensures { result.now ≡ self.now.inputs.items }
