@@ -68,18 +68,12 @@ pub fn named<T: Copy>(names: &[(&str, T)], word: &str) -> Result<T, WordError> {
 
 /// The number of a decimal word.
 pub fn number_of(word: &str) -> Result<usize, WordError> {
-    match word.parse::<usize>() {
-        Ok(number) => Ok(number),
-        Err(_) => Err(WordError::Unread),
-    }
+    word.parse::<usize>().map_err(|_| WordError::Unread)
 }
 
 /// The integer of a decimal word.
 pub fn integer_of(word: &str) -> Result<i128, WordError> {
-    match word.parse::<i128>() {
-        Ok(number) => Ok(number),
-        Err(_) => Err(WordError::Unread),
-    }
+    word.parse::<i128>().map_err(|_| WordError::Unread)
 }
 
 /// The message of a word: `u` for a Unit, `F` and `T` for flags, a decimal number, a vector as it is printed, and `.`
