@@ -4,5 +4,5 @@ use Rattle.flow_tests.proofs.idling.idle_turns_in_rounds.Goals as goal
 pub counted-requires-send-T : goal.counted-requires-send-T
 counted-requires-send-T g c κs = search nodes_cross
 
-pub counted-requires-send-T-2 : goal.counted-requires-send-T-2
-counted-requires-send-T-2 g c κs = search nodes_cross
+pub counted-requires-2-send-T : goal.counted-requires-2-send-T
+counted-requires-2-send-T g c κs = search nodes_cross
