@@ -27,6 +27,8 @@ mod sizes;
 #[cfg(test)]
 mod splitting;
 #[cfg(test)]
+mod starting;
+#[cfg(test)]
 mod streams;
 #[cfg(test)]
 mod threads;

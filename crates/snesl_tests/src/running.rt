@@ -2,7 +2,7 @@
 
 use crate::limping::{LimpingWriter, Trouble};
 use flow_drive::{Config, Gate, Outcome};
-use snesl_run::{Report, RunError, run};
+use snesl_run::{AlwaysStart, Report, RunError, Start, run_with};
 use snesl_trials::Done;
 use snesl_values::{Counted, Refusal};
 use std::alloc::Global;
@@ -29,8 +29,21 @@ pub fn ran_over<G: Gate + Send + Sync + Drop + 'static>(
     gate: Arc<G, Global>,
     trouble: Trouble,
 ) -> Ran {
+    ran_with(rt, alloc, program, config, gate, trouble, &mut AlwaysStart)
+}
+
+/// The same, where starts of threads may be refused.
+pub fn ran_with<G: Gate + Send + Sync + Drop + 'static, S: Start>(
+    rt: &impl Threads,
+    alloc: Global,
+    program: &[u8],
+    config: &Config,
+    gate: Arc<G, Global>,
+    trouble: Trouble,
+    start: &mut S,
+) -> Ran {
     let mut out = Counted::new(LimpingWriter::new(alloc, trouble));
-    let answer = run(rt, alloc, program, b"", config, gate, &mut out);
+    let answer = run_with(rt, alloc, program, b"", config, gate, &mut out, start);
     let (ending, turns) = ended(answer);
     Ran {
         failures: out.failures(),

@@ -12,11 +12,12 @@ use flow_nodes::StreamNode;
 use snesl_syntax::parse;
 use snesl_types::check;
 use std::alloc::{AllocError, Global};
+use std::process::Abort;
 use std::test::Fail;
 
-// The schedule of this number: so many numbers of nodes, of which some name none.
+// The schedule of this number: 99, which names no node, and so many numbers, of which some name none either.
 fn schedule(alloc: Global, number: usize) -> Result<Vec<usize>, AllocError> {
-    let mut nodes = Vec::new(alloc);
+    let mut nodes = vec![in alloc; 99; 1]?;
     let mut last = number;
     for _ in 0..number {
         last = last.wrapping_mul(75).wrapping_add(74) % 65_537;
@@ -44,17 +45,40 @@ fn counts_of(
     Ok(counts)
 }
 
-// Wherever it comes to rest, edges that hold so few messages had the same traffic.
-#[test]
-fn counts_alike_by_any_schedule(rt: HostRuntime) -> Result<(), Fail> {
-    let alloc = rt.alloc();
-    let program = parse(alloc, b"let s = iota(100) in s ++ s")?;
+// The traffic of a program that settles by no schedule. Asserts that it is the same by ninety-nine others.
+fn settled_alike(
+    rt: &impl Abort,
+    alloc: Global,
+    text: &[u8],
+    capacity: usize,
+) -> Result<Vec<(u64, u64)>, Fail>
+    requires some { 0 < capacity }
+    requires limit { capacity ≤ greatest_capacity }
+{
+    let program = parse(alloc, text)?;
     let typed = check(alloc, &program)?;
-    let first = counts_of(alloc, network_for(&rt, alloc, &typed, b"")?, 4, &[])?;
+    let first = counts_of(alloc, network_for(rt, alloc, &typed, b"")?, capacity, &[])?;
     for number in 1..100 {
-        let graph = network_for(&rt, alloc, &typed, b"")?;
-        let counts = counts_of(alloc, graph, 4, &schedule(alloc, number)?)?;
+        let graph = network_for(rt, alloc, &typed, b"")?;
+        let counts = counts_of(alloc, graph, capacity, &schedule(alloc, number)?)?;
         assert_eq!(rt; counts.as_slice(), first.as_slice(), "schedule {number}");
     }
+    Ok(first)
+}
+
+#[test]
+fn a_stall_by_any_schedule(rt: HostRuntime) -> Result<(), Fail> {
+    settled_alike(&rt, rt.alloc(), b"let s = iota(100) in s ++ s", 4)?;
+    Ok(())
+}
+
+#[test]
+fn a_sum_by_any_schedule(rt: HostRuntime) -> Result<(), Fail> {
+    let (mut sent, mut received) = (0u64, 0u64);
+    for (put, taken) in settled_alike(&rt, rt.alloc(), b"reduce_add(iota(5))", 1)? {
+        sent = sent.saturating_add(put);
+        received = received.saturating_add(taken);
+    }
+    assert_eq!(rt; (sent, received), (19, 19));
     Ok(())
 }

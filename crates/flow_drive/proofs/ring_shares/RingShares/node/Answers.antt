@@ -45,4 +45,4 @@ returns g c =
     let are : c.nodes.result.now ≡ nodes_at dealt s = nodes_found self.shares.items s share c.nodes.result.now l (c.of_node-share.ensures share) c.nodes.ensures in
     let place : c.index.result.now ≡ get_or self.places.items number 0 = c.index.ensures ∙ get_or_default self.places.items number c.index.result.now 0 c.requires in
     let is = c.index-nodes-index.is ∙ ap (λ l. get_or l c.index.result.now x) are ∙ ap (λ i. get_or (nodes_at dealt s) i x) place in
-    c.transducer_of.ensures ∙ state_found self.share.items self.places.items dealt number c.requires self.rest.lie x is
+    c.node.ensures ∙ state_found self.share.items self.places.items dealt number c.requires self.rest.lie x is
