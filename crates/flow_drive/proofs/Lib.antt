@@ -2,8 +2,5 @@ pub mod Refused
 pub mod Rests
 pub mod Texts
 pub mod Holding
-pub mod AtRest
 pub mod Gathered
 pub mod Dealt
-pub mod Apart
-pub mod Noted
