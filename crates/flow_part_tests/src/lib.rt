@@ -25,8 +25,6 @@ mod rings;
 #[cfg(test)]
 mod shares;
 #[cfg(test)]
-mod starts;
-#[cfg(test)]
 mod tables;
 #[cfg(test)]
 mod turns;

@@ -2,14 +2,16 @@
 
 use crate::limping::SOUND;
 use crate::running::ran_with;
-use flow_drive::{Drive, NoGate, Outcome};
+use flow_drive::{Drive, Gate, Outcome};
 use snesl_run::Start;
 use snesl_trials::in_threads;
 use snesl_values::Refusal;
 use std::alloc::{AllocError, Global};
 use std::process::Abort;
 use std::sync::Arc;
+use std::sync::atomic::{AtomicU64, Ordering};
 use std::test::Fail;
+use std::thread;
 use std::thread::Threads;
 
 // Says no to one start, behind so many.
@@ -36,8 +38,23 @@ impl Start for Refusing {
     }
 }
 
+// Counts turns, each of which takes a while.
+#[derive(Drop)]
+struct Slow {
+    turns: AtomicU64,
+}
+
+impl Gate for Slow {
+    fn turn(&self, _: usize, _: usize) {
+        for _ in 0..1_000 {
+            thread::yield_now();
+        }
+        self.turns.fetch_add(1, Ordering::SeqCst);
+    }
+}
+
 // Asserts what a run in three threads answers whose start is refused behind so many: no thread and an empty writer, or the value
-// where it makes no such start.
+// where it makes no such start. Each thread that was started has made a turn, so it was joined.
 fn assert_refused<R: Abort + Threads>(
     rt: &R,
     alloc: Global,
@@ -50,15 +67,22 @@ fn assert_refused<R: Abort + Threads>(
         said_no: false,
     };
     let config = in_threads(alloc, drive, 1, 3, &[0, 1, 2])?;
-    let gate = Arc::new(alloc, NoGate)?;
+    let gate = Arc::new(
+        alloc,
+        Slow {
+            turns: AtomicU64::new(0),
+        },
+    )?;
     let program = b"reduce_add(iota(5))";
-    let ran = ran_with(rt, alloc, program, &config, gate, SOUND, &mut start);
+    let shared = Arc::try_clone(&gate)?;
+    let ran = ran_with(rt, alloc, program, &config, shared, SOUND, &mut start);
     let wanted: (Result<Outcome, Refusal>, &[u8]) = if start.said_no {
         (Err(Refusal::NoThread), b"")
     } else {
         (Ok(Outcome::Value), b"10\n")
     };
     assert_eq!(rt; (ran.ending, ran.written.as_slice()), wanted);
+    assert!(rt; !start.said_no || gate.turns.load(Ordering::SeqCst) >= behind as u64);
     Ok(())
 }
 
