@@ -2,7 +2,7 @@
 use Rattle.std.proofs.Common.{◌≡◌, ℕ, List, ap, ◌∙◌, subst}
 use Rattle.snesl_values.specs.declared.dialect.Dialect.{Dialect}
 use Rattle.snesl_values.specs.Inputs.{Declaration, InputAnswer, InputMeans}
-use Rattle.snesl_grammar.specs.declared.program.Program.{Program}
+use Rattle.snesl_types.specs.Program.{Program}
 use Rattle.snesl_types.specs.GrammarView.{program_of as tree_of}
 use Rattle.snesl_types.specs.Programs.{HasTyping}
 use Rattle.snesl_types.specs.Tree.{ProgramTree}

@@ -4,8 +4,7 @@ ghost use Rattle.flow_scalar.specs.Cells.{flag};
 ghost use Rattle.flow_scalar.specs.Signals.{signal_of, carry};
 
 use flow_edges::{Item, Msg};
-use flow_scalar::{Node, Transducer, Unary};
-use snesl_operators::UnaryOperator;
+use flow_scalar::{Node, Transducer, Unary, UnaryOperator};
 use snesl_values::Dialect;
 
 /// What a node for `not` writes where it has read a truth value. It takes no memory.

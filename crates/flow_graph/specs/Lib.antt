@@ -20,7 +20,13 @@ pub mod FlowTheorems
 pub mod Replacements
 -- what the public clauses cite of the crates below
 pub use Rattle.snesl_values.specs.declared.refusal.Refusal
+pub use Rattle.kahn.specs.declared.outcome.Outcome
 pub use Rattle.kahn.specs.declared.want.Want
+pub use Rattle.kahn.specs.Configurations
+pub use Rattle.kahn.specs.Outcomes
+pub use Rattle.kahn.specs.Runs
 pub use Rattle.flow_messages.specs.Ends
+pub use Rattle.flow_messages.specs.Limits as EdgeLimits
 pub use Rattle.flow_messages.specs.Signals
 pub use Rattle.flow_base.specs.Transducers
+pub use Rattle.flow_base.specs.Visits as NodeVisits

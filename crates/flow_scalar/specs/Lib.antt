@@ -29,5 +29,6 @@ pub use Rattle.flow_messages.specs.declared.message.Kind
 pub use Rattle.flow_messages.specs.Cells
 pub use Rattle.flow_messages.specs.Signals
 pub use Rattle.flow_base.specs.Machines
+pub use Rattle.flow_base.specs.Nodes
 pub use Rattle.flow_base.specs.Ranges
 pub use Rattle.flow_base.specs.Transducers

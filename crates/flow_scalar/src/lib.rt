@@ -30,6 +30,7 @@ pub use reduce::Reduce;
 pub use scalars::{item_of, kind_of, scalar_of};
 pub use scan_add::ScanAdd;
 pub use sink::Sink;
+pub use snesl_operators::{BinaryOperator, Reduction, Scalar, ScalarType, UnaryOperator};
 pub use source::{Source, Stream};
 pub use unary::Unary;
 pub use units_of::UnitsOf;

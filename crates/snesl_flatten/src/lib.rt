@@ -8,4 +8,5 @@ mod plan;
 mod steps;
 
 pub use flattening::flatten;
+pub use flow_nodes::StreamNode;
 pub use plan::Plan;

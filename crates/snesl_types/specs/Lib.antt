@@ -17,6 +17,7 @@ pub use Rattle.snesl_values.specs.Types
 pub use Rattle.snesl_tree.specs.Tree
 pub use Rattle.snesl_tree.specs.Spelling
 pub use Rattle.snesl_tree.specs.View
+pub use Rattle.snesl_grammar.specs.declared.program.Program
 pub use Rattle.snesl_grammar.specs.View as GrammarView
 pub use Rattle.snesl_evaluation.specs.Eval
 pub use Rattle.snesl_evaluation.specs.Results
