@@ -24,6 +24,7 @@ pub use Rattle.kahn.specs.declared.outcome.Outcome
 pub use Rattle.kahn.specs.declared.want.Want
 pub use Rattle.kahn.specs.Configurations
 pub use Rattle.kahn.specs.Outcomes
+pub use Rattle.kahn.specs.Processes
 pub use Rattle.kahn.specs.Runs
 pub use Rattle.flow_messages.specs.Ends
 pub use Rattle.flow_messages.specs.Limits as EdgeLimits
