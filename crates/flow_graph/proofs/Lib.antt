@@ -20,4 +20,5 @@ pub mod VisitedGraphs
 pub mod Passes
 pub mod Dropped
 pub mod Alike
+pub mod Schedules
 pub mod Settling

@@ -14,6 +14,7 @@ pub mod Visits
 pub mod Over
 pub mod MaximalRuns
 pub mod Alike
+pub mod Schedules
 pub mod Settling
 pub mod Flows
 pub mod FlowTheorems

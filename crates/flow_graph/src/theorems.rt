@@ -1,6 +1,7 @@
 // What holds of every graph. The functions do nothing: their contracts are the theorems.
 ghost use Rattle.flow_messages.specs.Ends.{View};
 ghost use Rattle.flow_graph.specs.Alike.{RunsRestAlike};
+ghost use Rattle.flow_graph.specs.Schedules.{SchedulesEndAlike};
 ghost use Rattle.flow_graph.specs.Graphs.{states_of, edges_of};
 ghost use Rattle.flow_graph.specs.Laws.{IsNetwork, IsWithinLimits, Opens, WritesOpen};
 ghost use Rattle.flow_graph.specs.FlowTheorems.{RowsMakeAFlow, FlowHasRows, FlowIsCarried, FlowIsBegun, EndedHasFlow, FlowNeverStalls, FlowRunsToEnd, EndedIsLawful, EndedRunIsLawful, OneFlow};
@@ -63,4 +64,10 @@ pub fn one_flow<T: Transducer>(graph: &Graph<T>)
 /// language for parallel programming", 1974).
 pub fn runs_rest_alike<T: Transducer>()
     ensures { RunsRestAlike T.behaviour }
+{}
+
+/// Whatever turns a schedule gave to nodes first, a maximal run from there ends where one from the start ends, and nowhere
+/// else (Kahn 1974). So [`settle`](crate::settle) ends there by each schedule.
+pub fn schedules_end_alike<T: Transducer>()
+    ensures { SchedulesEndAlike T.behaviour }
 {}
