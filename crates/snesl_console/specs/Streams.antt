@@ -1,5 +1,5 @@
 -- What a call did to a reader and to a writer.
-use Rattle.std.specs.Prelude.{◌≡◌, ℕ, ◌⊎◌, List, ◌++◌, Bool, true, false, Option}
+use Rattle.std.specs.Prelude.{◌≡◌, ℕ, ◌<◌, ◌⊎◌, List, ◌++◌, length, Bool, true, false, Option}
 use Rattle.std.specs.Io.KnownBytes.{Appends, Consumes, IsAtEnd}
 use Rattle.snesl_values.specs.declared.counted.Counted.{Counted}
 use Rattle.snesl_values.specs.Counted.{counted_inner, failures_of, HasWorked, HasFailed}
@@ -51,9 +51,10 @@ given remaining old new = record {
 abbrev pub IsWhole : Taken → List ℕ → Type 0
 IsWhole out bytes = out.these bytes × out.worked
 
--- the writer took a beginning of the bytes, and one call failed
+-- the writer took a beginning of the bytes and not all of them, and one call failed
 abbrev pub IsCutOff : Taken → List ℕ → Type 0
-IsCutOff out bytes = (front : List ℕ) × (rest : List ℕ) × (bytes ≡ front ++ rest) × out.these front × out.failed
+IsCutOff out bytes =
+    (front : List ℕ) × (rest : List ℕ) × (bytes ≡ front ++ rest) × (0 < length rest) × out.these front × out.failed
 
 -- all bytes were taken, or they were cut off
 abbrev pub HasSent : Taken → List ℕ → Bool → Type 0

@@ -16,6 +16,7 @@ pub fn in_threads(
 ) -> Result<Config, AllocError>
     ensures capacity { IfOk result (λ config. config.capacity ≡ capacity) }
     ensures threads { IfOk result (λ config. config.threads ≡ threads) }
+    ensures share { IfOk result (λ config. config.share.items ≡ share.now) }
     ensures drive { IfOk result (λ config. config.drive ≡ drive) }
 {
     Ok(Config {

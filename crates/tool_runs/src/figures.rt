@@ -1,4 +1,4 @@
-// The times that docs/PROMISES.md sets beside one another.
+// The times that docs/TIMES.md sets beside one another.
 //
 // Programs by each drive (`drives.rt`), a network built by hand, in one thread (`graph.rt`), and the job on standard input by
 // evaluation, without a network (`plain.rt`). What comes out goes to standard output, and what it took to standard error.

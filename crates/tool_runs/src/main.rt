@@ -2,7 +2,7 @@
 //
 // The first word of the command line says what is done. `jobs`, or no word, answers the tables of jobs in the folder that the
 // program runs in (`jobs.rt`). `nodes` feeds the nodes that take memory (`nodes.rt`). `random` makes programs and runs them
-// (`random.rt`). `drives`, `graph` and `plain` give the figures of docs/PROMISES.md (`figures.rt`), the first two over as many
+// (`random.rt`). `drives`, `graph` and `plain` give the figures of docs/TIMES.md (`figures.rt`), the first two over as many
 // elements as the second word says, a thousand where there is none. `all` does all of this in turn. `job` prints the random job of
 // the seed that the second word says. The status is 1 where something differs.
 #![tactic(auto)]
