@@ -1,7 +1,7 @@
 -- Visits of nodes, one after another, and what follows where all nodes that are not over were visited.
 use Rattle.std.proofs.Common.{◌≡◌, ℕ, ◌-◌, ◌<◌, Option, Bool, true, false, List, [], ◌∷◌, ◌++◌, ◌⊎◌, ◌||◌, refl, sym, ◌∙◌, ap, subst, inl, inr, arith}
-use Rattle.std.proofs.lemmas.List.Elements.{Contains-push_cases}
-use Rattle.std.specs.List.{Contains}
+use Rattle.std.proofs.lemmas.List.Elements.{Contains-push_cases, Contains-append_left, Contains-append_right, All-nil, All-append, All-weaker}
+use Rattle.std.specs.List.{All, Contains}
 use Rattle.kahn.specs.declared.want.Want.{Want}
 use Rattle.kahn.specs.declared.want.Want.TheVariants.{Read, Write}
 use Rattle.kahn.specs.Processes.{Process, Event, Reads, Writes, Settles}
@@ -34,15 +34,24 @@ over_no_write w q over is = let x : is_over (Write q) ≡ true = ap is_over (sym
 
 module _ {State Message : Type 0} (P : Process State Message) (net : Network State) (limit : Option ℕ) where
   pub visited_none : (c : Configuration State Message) → IsVisited P net limit [] c c false
-  visited_none c = record { reaches = ([], refl); calm = λ h. (refl, λ a has can. absurd (omega (arith, has.1))); busy = λ h. cc }
+  visited_none c = record { reaches = ([], refl); own = All-nil (λ a. Contains [] (actor net a)); calm = λ h. (refl, λ a has can. absurd (omega (arith, has.1))); busy = λ h. cc }
 
   -- one node more
   pub visited_push : (nodes : List ℕ) (k : ℕ) (c d e : Configuration State Message) (any one : Bool) → IsVisited P net limit nodes c d any → IsVisited P net limit (k ∷ []) d e one → IsVisited P net limit (nodes ++ k ∷ []) c e (any || one)
   visited_push nodes k c d e any one s t =
-      record { reaches = all; calm = calm any one s t; busy = busy any one s t }
+      record { reaches = all; own = own; calm = calm any one s t; busy = busy any one s t }
     where
       all : Reaches P net limit c e
       all = reaches_then P net limit c d e s.reaches t.reaches
+
+      Among : Event Message → Type 0
+      Among a = Contains (nodes ++ k ∷ []) (actor net a)
+
+      own : All (λ a. Contains (nodes ++ k ∷ []) (actor net a)) all.0
+      own =
+          All-append Among s.reaches.0 t.reaches.0
+          (All-weaker (λ a. Contains nodes (actor net a)) Among (λ a has. Contains-append_left nodes (k ∷ []) (actor net a) has) s.reaches.0 s.own)
+          (All-weaker (λ a. Contains (k ∷ []) (actor net a)) Among (λ a has. Contains-append_right nodes (k ∷ []) (actor net a) has) t.reaches.0 t.own)
 
       calm : (any one : Bool) → IsVisited P net limit nodes c d any → IsVisited P net limit (k ∷ []) d e one → (any || one) ≡ false → (e ≡ c) × ((a : Event Message) → Contains (nodes ++ k ∷ []) (actor net a) → Can P net limit e a → ⊥)
       calm true one s t h = absurd (cc)

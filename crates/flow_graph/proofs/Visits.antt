@@ -1,14 +1,14 @@
 -- A visit of a node over both ends of each edge is a run of the network.
 use Rattle.std.proofs.Common.{◌≡◌, ℕ, ◌-◌, ◌<◌, ◌≤◌, Bool, true, false, cond, eqb, ltb, List, [], ◌∷◌, ◌++◌, length, get_or, set, Some, ◌⊎◌, inl, inr, refl, sym, ◌∙◌, ap, subst, arith, append-nil, eq-eqb, lt-ltb}
-use Rattle.std.specs.List.{Contains}
+use Rattle.std.specs.List.{All, Contains}
 use Rattle.std.proofs.lemmas.Bool.{cases_Bool, and_from, and_parts, ltb-true, eqb-true}
 use Rattle.std.proofs.lemmas.List.{length-map}
-use Rattle.std.proofs.lemmas.List.Elements.{Contains-push_cases}
+use Rattle.std.proofs.lemmas.List.Elements.{Contains-push_cases, All-nil, All-cons}
 use Rattle.kahn.specs.declared.want.Want.{Want}
 use Rattle.kahn.specs.declared.want.Want.TheVariants.{Read, Write, Ended, Faulted}
 use Rattle.kahn.specs.Basics.{Begins}
 use Rattle.kahn.specs.Processes.{Process, Event, Reads, Writes, Does, reads, writes}
-use Rattle.kahn.specs.Networks.{Network, IsWired, AllLawful, actor}
+use Rattle.kahn.specs.Networks.{Network, IsWired, AllLawful, AllBy, actor}
 use Rattle.kahn.specs.Configurations.{Configuration, IsReached, IsSound, moved}
 use Rattle.kahn.specs.Runs.{Can, Run}
 use Rattle.kahn.specs.HistoryTheorems.{extended, goes_in, comes_out, on_edges, after_history, IsOwnRun}
@@ -33,6 +33,12 @@ use Rattle.flow_graph.proofs.Nets.{lawful_net}
 use Rattle.flow_graph.proofs.Reached.{same_but, state_written}
 use Rattle.flow_graph.proofs.Seats.{state_here, input_here, output_here, states_after, openings_same}
 use Rattle.flow_graph.proofs.Carried.{read_own, read_other, sent_own, sent_other}
+
+-- events of one node are events of the nodes of the list that has it alone
+all_of_one : {State : Type 0} (net : Network State) (k : ℕ) (events : List (Event Signal)) → AllBy net (λ n. n ≡ k) events → All (λ a. Contains (k ∷ []) (actor net a)) events
+all_of_one net k [] own = All-nil (λ a. Contains (k ∷ []) (actor net a))
+all_of_one net k (a ∷ more) (same, own) =
+    All-cons (λ a. Contains (k ∷ []) (actor net a)) a more (0, omega arith, sym same) (all_of_one net k more own)
 
 -- the one element of a list of one
 pub contains_one : (k j : ℕ) → Contains (k ∷ []) j → j ≡ k
@@ -191,6 +197,7 @@ module _ {S : Type 0} (b : Behaviour S) (laws : BehaviourLaws b) (states : List 
   pub visited_run : IsVisited P net (Some capacity) (node ∷ []) c d any
   visited_run = record {
     reaches = (on_edges net node h, subst (λ x. Run P net (Some capacity) (on_edges net node h) c x) (sym after) own_run.run);
+    own = all_of_one net node (on_edges net node h) own_run.own;
     calm = λ none. (
       unchanged none,
       λ act has can. stuck none (P.want s) refl (visited.stuck none) act (contains_one node (actor net act) has) (subst (λ x. Can P net (Some capacity) x act) (unchanged none) can),

@@ -1,6 +1,6 @@
 -- What the visits of some nodes make of a network: each makes some steps, or none where it can make none.
 use Rattle.std.specs.Prelude.{◌≡◌, ℕ, ◌<◌, Bool, true, false, List, Option, Some}
-use Rattle.std.specs.List.{Contains}
+use Rattle.std.specs.List.{All, Contains}
 use Rattle.kahn.specs.Processes.{Process, Event}
 use Rattle.kahn.specs.Networks.{Network, actor}
 use Rattle.kahn.specs.Configurations.{Configuration, moved, IsSound}
@@ -13,6 +13,8 @@ use Rattle.flow_graph.specs.Networks.{network_of, configuration_of}
 -- From c to d each of these nodes was visited, and `any` says whether one of them made a step.
 pub record IsVisited {State Message : Type 0} (P : Process State Message) (net : Network State) (limit : Option ℕ) (nodes : List ℕ) (c d : Configuration State Message) (any : Bool) : Type 0 where
   pub reaches : Reaches P net limit c d
+  -- each step is one of these nodes
+  pub own : All (λ a. Contains nodes (actor net a)) reaches.0
   -- where none made a step nothing changed, and none of them can step
   pub calm : any ≡ false → (d ≡ c) × ((a : Event Message) → Contains nodes (actor net a) → Can P net limit d a → ⊥)
   -- where one made a step there are more messages
