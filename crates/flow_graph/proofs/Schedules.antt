@@ -18,7 +18,7 @@ module _ {S : Type 0} (b : Behaviour S) (net : Network S) (capacity : ℕ) where
   turn_reaches : (k : ℕ) (c between d : Configuration S Signal) (stepped : Bool) → Turn b.process net (Some capacity) k c between stepped
       → Reaches b.process net (Some capacity) between d → Reaches b.process net (Some capacity) c d
   turn_reaches k c between d true turn (events, run) =
-      (turn.0 ∷ events, (turn.2.0, subst (λ x. Run b.process net (Some capacity) events x d) turn.2.1 run))
+      (turn.0 ∷ events, (turn.2, subst (λ x. Run b.process net (Some capacity) events x d) turn.3 run))
   turn_reaches k c between d false turn reaches = subst (λ x. Reaches b.process net (Some capacity) x d) turn.0 reaches
 
   -- the turns of a schedule are a run
@@ -36,7 +36,7 @@ module _ {S : Type 0} (b : Behaviour S) (capacity : ℕ) (states : List S) (edge
   end_alike schedule c last events scheduled maximal =
       let done = schedule_reaches b net_of capacity schedule (start net_of) c scheduled in
       let on = all_runs_go_on b.process net_of network.wired (Some capacity) done.0 events (start net_of) c last maximal done.1 in
-      let left : Maximal b.process net_of (Some capacity) on.0 c last = record { run = on.1.0; rest = maximal.rest } in
+      let left : Maximal b.process net_of (Some capacity) on.0 c last = record { run = on.1; rest = maximal.rest } in
       record {
         run = (on.0, left);
         only = λ other d again. runs_end_alike b.process net_of network.wired (Some capacity) other on.0 c d last again left;

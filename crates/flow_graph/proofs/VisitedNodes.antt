@@ -10,9 +10,9 @@ use Rattle.kahn.specs.Configurations.{Configuration, moved, start}
 use Rattle.kahn.specs.Runs.{Can, next, Run, Reaches, AtRest}
 use Rattle.kahn.specs.Turns.{IsSwept}
 use Rattle.kahn.proofs.Basics.{updated_other}
-use Rattle.kahn.proofs.Finite.{most_events}
+use Rattle.kahn.proofs.Finite.{most_events, run_then}
 use Rattle.kahn.proofs.Traffic.{moved_run}
-use Rattle.kahn.proofs.Turns.{reaches_then, swept_falls}
+use Rattle.kahn.proofs.Turns.{swept_falls}
 use Rattle.flow_graph.specs.Visits.{IsVisited}
 use Rattle.flow_graph.specs.Over.{is_over}
 
@@ -42,7 +42,7 @@ module _ {State Message : Type 0} (P : Process State Message) (net : Network Sta
       record { reaches = all; own = own; calm = calm any one s t; busy = busy any one s t }
     where
       all : Reaches P net limit c e
-      all = reaches_then P net limit c d e s.reaches t.reaches
+      all = (s.reaches.0 ++ t.reaches.0, run_then P net limit s.reaches.0 t.reaches.0 c d e s.reaches.1 t.reaches.1)
 
       Among : Event Message → Type 0
       Among a = Contains (nodes ++ k ∷ []) (actor net a)
