@@ -3,16 +3,26 @@ use Rattle.std.proofs.lemmas.List.{take_all}
 use Rattle.std.proofs.Math.Seq.{take-suc}
 use Rattle.flow_graph.specs.Graphs.{states_of, edges_of}
 use Rattle.flow_graph.proofs.Nets.{graph_wired}
-use Rattle.flow_graph.proofs.Shapes.{shape_then}
+use Rattle.flow_graph.proofs.Shapes.{shape_refl, shape_then}
 use Rattle.flow_graph.specs.Visits.{Visits}
 use Rattle.flow_graph.proofs.VisitedNodes.{or_moved, or_calm}
-use Rattle.flow_graph.proofs.VisitedGraphs.{visits_push}
+use Rattle.flow_graph.proofs.VisitedGraphs.{visits_none, visits_push}
 use Rattle.flow_graph.proofs.pass.pass_over.Goals as goal
 use Rattle.flow_graph.proofs.pass.pass_over.Goals.{then-branch, else-branch+then-is_over, else-branch+else-is_over}
 
 pub returns-in_err-visit-clause-shape : goal.returns-in_err-visit-clause-shape
 returns-in_err-visit-clause-shape g c =
     shape_then g.E.Ends.same g.E.Ends.view g.met.E.Ends.same_trans c.args.graph.now c.args.ends.now c.loop-node.graph c.loop-node.ends c.visit.new.self c.visit.new.ends c.loop-node.invariant.shape c.visit.ensures.shape
+
+pub loop-node-init : goal.loop-node-init
+loop-node-init g c =
+    let graph = c.args.graph.now in
+    let ends = c.args.ends.now in
+    record {
+      shape = shape_refl g.E.Ends.same g.E.Ends.view g.met.E.Ends.same_refl graph ends;
+      visits = visits_none g.T.Transducer.behaviour (g.E.WholeEnds.capacity ends) (states_of graph) (edges_of graph) (g.E.Ends.view ends);
+      some = λ h. cc;
+    }
 
 pub loop-node-preserved : goal.loop-node-preserved
 loop-node-preserved g c =
