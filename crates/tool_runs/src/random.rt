@@ -1,10 +1,11 @@
-// Makes random programs, and runs each by plain evaluation and by the drives, which are to agree.
+// Makes random programs, and runs each by plain evaluation, by the drives and by schedules, which are to agree.
 //
 // With no further word on the command line the programs are those of a fixed seed, few enough to be quick, and each build
 // prints the same line. `--seconds N` goes on for so many seconds, from the seed that the clock gives or that `--seed S` tells.
 // The first program of which a run ends otherwise is printed with its seed, and then the status is 1. Program number k of
 // a seed S is the first of the seed S + k.
 
+mod replays;
 mod runs;
 
 use anyhow::{Result, bail};
@@ -96,7 +97,7 @@ fn try_one<R: Print + AllocGlobal + Threads>(rt: &R, totals: &mut Totals, seed: 
     let Some(text) = random_job(rt.alloc(), seed)? else {
         return Ok(());
     };
-    match tried(rt, rt.alloc(), totals, seed, text.as_bytes()) {
+    match tried(rt, rt.alloc(), totals, seed, text.as_str()) {
         Ok(()) => Ok(()),
         Err(Failure::NoMemory) => bail!("out of memory"),
         Err(Failure::Differs(difference)) => {
@@ -112,7 +113,7 @@ fn tried(
     alloc: Global,
     totals: &mut Totals,
     seed: u64,
-    job: &[u8],
+    job: &str,
 ) -> Result<(), Failure> {
     let mut dice = Dice::new(seed.wrapping_add(u64::MAX / 2));
     totals.add(rt, alloc, &mut dice, job)

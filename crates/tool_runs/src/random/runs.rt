@@ -1,6 +1,10 @@
-// Programs by plain evaluation and by the drives of several threads.
+// Programs by plain evaluation, by the drives of several threads and by schedules.
+
+ghost use Rattle.std.specs.Prelude.{◌<◌, ◌≤◌};
+ghost use Rattle.flow_messages.specs.Limits.{greatest_capacity};
 
 use crate::endings::Endings;
+use crate::random::replays::{Replay, random_schedule};
 use flow_drive::{Config, Drive, Outcome};
 use snesl_console::split_job;
 use snesl_dice::Dice;
@@ -45,17 +49,19 @@ impl From<AllocError> for Failure {
 pub struct Totals {
     /// How many programs were run.
     pub programs: usize,
+    second: usize,
     endings: Endings,
     long: usize,
+    replays: usize,
 }
 
 impl fmt::Display for Totals {
     fn fmt<W: fmt::Write>(&self, f: &mut fmt::Formatter<W>) -> fmt::Result {
-        let (programs, long) = (self.programs, self.long);
+        let (programs, second) = (self.programs, self.second);
+        let (endings, long, replays) = (self.endings, self.long, self.replays);
         write!(
             f,
-            "{programs} programs in {}, {long} run once for their length",
-            self.endings
+            "{programs} programs, {second} of the second dialect, in {endings}, {long} run once for their length, {replays} replays by schedules"
         )
     }
 }
@@ -73,24 +79,30 @@ impl Totals {
     pub fn none() -> Totals {
         Totals {
             programs: 0,
+            second: 0,
             endings: Endings::none(),
             long: 0,
+            replays: 0,
         }
     }
 
-    /// Runs the program of a job by plain evaluation, by one thread, and by the drives of several threads under random
-    /// configurations. The error is that a run ends otherwise than it is to, or that memory was refused.
+    /// Runs the program of a job by plain evaluation, by one thread, by the drives of several threads under random
+    /// configurations, and by random schedules. The error is that a run ends otherwise than it is to, or that memory was
+    /// refused.
     pub fn add(
         &mut self,
         rt: &impl Threads,
         alloc: Global,
         dice: &mut Dice,
-        job: &[u8],
+        job: &str,
     ) -> Result<(), Failure> {
-        let (program, input) = split_job(alloc, &mut Counted::new(job)).map_err(
+        let (program, input) = split_job(alloc, &mut Counted::new(job.as_bytes())).map_err(
             |_| Failure::NoMemory,
         )?;
         self.programs = self.programs.saturating_add(1);
+        if job.starts_with("dialect 2;") {
+            self.second = self.second.saturating_add(1);
+        }
         match Expected::of(alloc, &program, &input) {
             Ok(expected) => {
                 let case = Case {
@@ -104,7 +116,8 @@ impl Totals {
         }
     }
 
-    // Runs a program over wide edges, and then by the drives of several threads if it is not too long.
+    // Runs a program over wide edges, in one thread and by a schedule, and then by the drives of several threads if it is
+    // not too long.
     fn add_case(
         &mut self,
         rt: &impl Threads,
@@ -118,6 +131,7 @@ impl Totals {
             return Ok(());
         }
         check(alloc, case, &wide, &config, &wide)?;
+        self.replay(alloc, dice, case, WIDE, &wide)?;
         if wide.messages() > MANY {
             self.long = self.long.saturating_add(1);
             return Ok(());
@@ -128,7 +142,7 @@ impl Totals {
         Ok(())
     }
 
-    // Runs a program over edges of some capacity, by one thread and by the drives of several.
+    // Runs a program over edges of some capacity, by one thread, by a schedule and by the drives of several threads.
     fn compare(
         &mut self,
         rt: &impl Threads,
@@ -141,6 +155,7 @@ impl Totals {
         let config = alone(alloc, capacity, CHUNK)?;
         let first = self.ran(rt, alloc, case, &config)?;
         check(alloc, case, wide, &config, &first)?;
+        self.replay(alloc, dice, case, capacity, &first)?;
         for drive in &DRIVES {
             let config = random_config(alloc, dice, *drive, capacity)?;
             let done = self.ran(rt, alloc, case, &config)?;
@@ -149,6 +164,28 @@ impl Totals {
             }
         }
         Ok(())
+    }
+
+    // Settles the network of a program by a random schedule, which is to end as one thread did over edges of the same
+    // capacity.
+    fn replay(
+        &mut self,
+        alloc: Global,
+        dice: &mut Dice,
+        case: Case<'_>,
+        capacity: usize,
+        first: &Done,
+    ) -> Result<(), Failure>
+        requires some { 0 < capacity }
+        requires limit { capacity ≤ greatest_capacity }
+    {
+        self.replays = self.replays.saturating_add(1);
+        let schedule = random_schedule(alloc, dice, first.nodes)?;
+        match Replay::of(alloc, case.program, case.input, capacity, &schedule) {
+            Ok(replay) if replay.is_as(first) => Ok(()),
+            Ok(replay) => Err(unlike(alloc, capacity, first, &schedule, &replay)),
+            Err(refusal) => Err(refused(alloc, refusal)),
+        }
     }
 
     // Runs a program, and counts the run.
@@ -191,8 +228,11 @@ fn may_stall(wide: &Done, capacity: usize) -> bool {
     most > capacity as u64 || most >= WIDE as u64
 }
 
-// What is said of a program that is refused.
+// What is said of a program that is refused, unless memory was.
 fn refused(alloc: Global, refusal: Refusal) -> Failure {
+    if refusal == Refusal::NoMemory {
+        return Failure::NoMemory;
+    }
     match format!(in alloc; "refused: {refusal:?}") {
         Ok(text) => Failure::Differs(text),
         Err(_) => Failure::NoMemory,
@@ -211,8 +251,29 @@ fn difference(alloc: Global, case: Case<'_>, wide: &Done, config: &Config, done:
     }
 }
 
+// What is said of a schedule that ends otherwise than one thread did.
+fn unlike(
+    alloc: Global,
+    capacity: usize,
+    first: &Done,
+    schedule: &[usize],
+    replay: &Replay,
+) -> Failure {
+    let (nodes, counts) = (first.nodes, &first.counts);
+    let text = format!(in alloc;
+        "over edges of {capacity} one thread gives {first}, {nodes} nodes, {counts:?}\nthe schedule {schedule:?}\ngives {replay}"
+    );
+    match text {
+        Ok(text) => Failure::Differs(text),
+        Err(_) => Failure::NoMemory,
+    }
+}
+
 // A capacity from 1 to 8, or a wide one.
-fn random_capacity(dice: &mut Dice) -> usize {
+fn random_capacity(dice: &mut Dice) -> usize
+    ensures some { 0 < result }
+    ensures limit { result ≤ greatest_capacity }
+{
     match dice.below(9) {
         0 => WIDE,
         small => small,
