@@ -1,2 +1,4 @@
 pub mod Values
 pub mod Types
+pub mod Flatten
+pub mod Run

@@ -5,6 +5,8 @@
 #![tactic(auto)]
 
 pub mod edges;
+pub mod flatten;
+pub mod run;
 pub mod scalar;
 pub mod segment;
 pub mod syntax;

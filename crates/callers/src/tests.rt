@@ -1,5 +1,7 @@
 // Each caller runs.
 use crate::edges::messages;
+use crate::flatten::network_of;
+use crate::run::line_of;
 use crate::scalar::negated;
 use crate::segment::printed;
 use crate::syntax::is_program;
@@ -54,5 +56,20 @@ fn messages_come_in_order(rt: HostRuntime) -> Result<(), Fail> {
 fn nodes_read_and_write(rt: HostRuntime) -> Result<(), Fail> {
     assert!(rt; matches!(&negated(false), Msg::Item(Item::Bool(true))));
     assert_eq!(rt; printed(rt.alloc(), -12)?.as_slice(), b"-12".as_slice());
+    Ok(())
+}
+
+#[test]
+fn a_program_has_a_network(rt: HostRuntime) -> Result<(), Fail> {
+    let graph = network_of(rt.alloc(), SUM, b"")?;
+    assert_eq!(rt; (graph.nodes(), graph.edges()), (5, 5));
+    Ok(())
+}
+
+#[test]
+fn a_program_runs_to_a_line(rt: HostRuntime) -> Result<(), Fail> {
+    let line = line_of(&rt, rt.alloc(), SUM, b"")?.ok_or("none")?;
+    assert_eq!(rt; line.as_slice(), b"10\n".as_slice());
+    assert!(rt; line_of(&rt, rt.alloc(), b"1 / 0", b"")?.is_none());
     Ok(())
 }

@@ -1,0 +1,24 @@
+-- The network of a program for an input text.
+use Rattle.std.specs.Prelude.{ℕ, List, Ok}
+use Rattle.snesl_values.specs.Inputs.{Declaration, Environment, InputMeans, spells}
+use Rattle.snesl_values.specs.Types.{Ty}
+use Rattle.snesl_syntax.specs.Parse.{Parses}
+use Rattle.snesl_types.specs.Programs.{HasTyping}
+use Rattle.snesl_types.specs.Tree.{ProgramTree}
+use Rattle.flow_graph.specs.declared.edge.Edge.{Edge}
+use Rattle.snesl_flatten.specs.GraphNetworks.{AreOpened}
+use Rattle.snesl_flatten.specs.Networks.{NodeState, NetworkMeans}
+use Rattle.snesl_flatten.specs.StreamNodes.{node_behaviour}
+
+-- The text is a typed program, the input text spells values for its inputs, and the nodes stand before their first step. The
+-- network completes exactly when the program has a value for these, and then prints that value.
+pub record IsNetworkOf (text input : List ℕ) (states : List NodeState) (edges : List Edge) : Type 0 where
+  pub program : ProgramTree
+  pub inputs : List Declaration
+  pub ty : Ty
+  pub environment : Environment
+  pub parses : Parses text (Ok program)
+  pub types : HasTyping text program inputs ty
+  pub reads : InputMeans program.dialect inputs input (spells environment)
+  pub opened : AreOpened node_behaviour states
+  pub means : NetworkMeans text program environment states edges
