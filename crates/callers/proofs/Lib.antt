@@ -1,3 +1,5 @@
 mod Checked
 mod Passing
 mod Running
+mod Carrying
+mod Resting

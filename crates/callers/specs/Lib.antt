@@ -2,3 +2,4 @@ pub mod Values
 pub mod Types
 pub mod Flatten
 pub mod Run
+pub mod Drive

@@ -4,8 +4,10 @@
 //! is short, and does one thing.
 #![tactic(auto)]
 
+pub mod drive;
 pub mod edges;
 pub mod flatten;
+pub mod graph;
 pub mod run;
 pub mod scalar;
 pub mod segment;

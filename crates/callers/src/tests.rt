@@ -1,14 +1,20 @@
 // Each caller runs.
+use crate::drive::outcome_on_two_threads;
 use crate::edges::messages;
 use crate::flatten::network_of;
+use crate::graph::carried;
 use crate::run::line_of;
 use crate::scalar::negated;
 use crate::segment::printed;
 use crate::syntax::is_program;
 use crate::types::value_of;
 use crate::values::value_text;
-use flow_edges::{Item, Msg};
-use snesl_values::{FaultKind, Ty, text_of};
+use flow_drive::Outcome;
+use flow_edges::{Item, Kind, Msg};
+use flow_scalar::{Node, Sink, Source, Stream};
+use snesl_flatten::StreamNode;
+use snesl_values::{FaultKind, Refusal, Ty, text_of};
+use std::alloc::Global;
 use std::test::Fail;
 
 // A program of five nodes and five edges.
@@ -71,5 +77,29 @@ fn a_program_runs_to_a_line(rt: HostRuntime) -> Result<(), Fail> {
     let line = line_of(&rt, rt.alloc(), SUM, b"")?.ok_or("none")?;
     assert_eq!(rt; line.as_slice(), b"10\n".as_slice());
     assert!(rt; line_of(&rt, rt.alloc(), b"1 / 0", b"")?.is_none());
+    Ok(())
+}
+
+// What is carried from three units to a reader of items of this kind.
+fn carried_units(alloc: Global, kind: Kind) -> Result<Option<(u64, u64)>, Refusal> {
+    let units = StreamNode::Source(Source::new(alloc, Stream::Units(3)));
+    let reader = StreamNode::Sink(Node::new(Sink::new(kind), 0));
+    carried(alloc, units, reader, 1)
+}
+
+// Three units and the end.
+#[test]
+fn all_is_carried_to_a_reader_of_its_kind(rt: HostRuntime) -> Result<(), Fail> {
+    assert_eq!(rt; carried_units(rt.alloc(), Kind::Unit)?, Some((4, 4)));
+    assert_eq!(rt; carried_units(rt.alloc(), Kind::Int)?, None);
+    Ok(())
+}
+
+#[test]
+fn two_threads_drive_a_network(rt: HostRuntime) -> Result<(), Fail> {
+    let alloc = rt.alloc();
+    let graph = network_of(alloc, SUM, b"")?;
+    let outcome = outcome_on_two_threads(&rt, alloc, graph)?;
+    assert_eq!(rt; outcome, Outcome::Value);
     Ok(())
 }
