@@ -1,4 +1,8 @@
 // Each caller runs.
+ghost use Rattle.flow_graph.specs.Graphs.{states_of};
+ghost use Rattle.flow_graph.specs.Networks.{AreOpened};
+ghost use Rattle.snesl_flatten.specs.StreamNodes.{node_behaviour};
+
 use crate::drive::outcome_on_two_threads;
 use crate::edges::messages;
 use crate::flatten::network_of;
@@ -9,13 +13,15 @@ use crate::segment::printed;
 use crate::syntax::is_program;
 use crate::types::value_of;
 use crate::values::value_text;
-use flow_drive::Outcome;
+use flow_drive::{DriveError, Outcome};
 use flow_edges::{Item, Kind, Msg};
+use flow_graph::Graph;
 use flow_scalar::{Node, Sink, Source, Stream};
 use snesl_flatten::StreamNode;
 use snesl_values::{FaultKind, Refusal, Ty, text_of};
 use std::alloc::Global;
 use std::test::Fail;
+use std::thread::Threads;
 
 // A program of five nodes and five edges.
 const SUM: &[u8] = b"reduce_add(iota(5))";
@@ -95,11 +101,16 @@ fn all_is_carried_to_a_reader_of_its_kind(rt: HostRuntime) -> Result<(), Fail> {
     Ok(())
 }
 
+// How two threads leave the network of a program.
+fn driven(rt: &impl Threads, alloc: Global, graph: Graph<StreamNode>) -> Result<Outcome, DriveError>
+    requires { AreOpened node_behaviour (states_of graph) }
+{
+    outcome_on_two_threads(rt, alloc, graph)
+}
+
 #[test]
 fn two_threads_drive_a_network(rt: HostRuntime) -> Result<(), Fail> {
-    let alloc = rt.alloc();
-    let graph = network_of(alloc, SUM, b"")?;
-    let outcome = outcome_on_two_threads(&rt, alloc, graph)?;
-    assert_eq!(rt; outcome, Outcome::Value);
+    let graph = network_of(rt.alloc(), SUM, b"")?;
+    assert_eq!(rt; driven(&rt, rt.alloc(), graph)?, Outcome::Value);
     Ok(())
 }
