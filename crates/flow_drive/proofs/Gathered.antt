@@ -1,38 +1,30 @@
--- A graph that was gathered of shares at rest is sound, and no node can step there. Over boxes it is where a maximal run
+-- A graph that was gathered of shares at rest over boxes is sound, and no node can step there: it is where a maximal run
 -- of its network ends.
 use Rattle.std.proofs.Common.{◌≡◌, ℕ, zero, suc, ◌<◌, ◌≤◌, ◌⊎◌, inl, inr, true, List, [], ◌∷◌, length, length-append, map, get_or, Some, refl, sym, ap, subst, arith}
 use Rattle.std.proofs.Math.Path.{fun_ext}
 use Rattle.std.proofs.lemmas.Bool.{cases_lt}
 use Rattle.std.proofs.lemmas.List.{get_or_past, length-map, get_or-map}
-use Rattle.kahn.specs.Configurations.{IsSound}
-use Rattle.kahn.specs.Runs.{AtRest}
 use Rattle.flow_messages.specs.Ends.{View}
 use Rattle.flow_base.specs.declared.transducer.Transducer.{Ghosts}
 use Rattle.flow_graph.specs.declared.edge.Edge.{Edge}
 use Rattle.flow_graph.specs.declared.graph.Graph.{Graph}
 use Rattle.flow_graph.specs.Edges.{edge_at}
 use Rattle.flow_graph.specs.Graphs.{states_of, edges_of}
-use Rattle.flow_graph.specs.Networks.{configuration_of}
 use Rattle.flow_graph.specs.Places.{states_in}
 use Rattle.flow_graph.specs.Shapes.{IsSameNetwork}
 use Rattle.flow_boxes.specs.declared.boxes.Boxes.{Boxes}
 use Rattle.flow_boxes.specs.Contents.{Contents, contents, view_of}
 use Rattle.flow_boxes.specs.Rounds.{IsLinked}
-use Rattle.flow_rings.specs.declared.rings.Rings.{Rings}
-use Rattle.flow_rings.specs.Rings.{ends_of}
 use Rattle.flow_meetings.specs.BoxMeetings.{BoxesJoin}
-use Rattle.flow_meetings.specs.RingMeetings.{RingsJoin}
 use Rattle.flow_deal.specs.Deals.{share_of}
 use Rattle.flow_round_laws.specs.Joints.{no_contents, boxes_at, views_of, writer_boxes, reader_boxes, joined_view, HaveMet}
 use Rattle.flow_round_laws.specs.JoinedTheorems.{AllMet}
-use Rattle.flow_round_laws.specs.RoundTheorems.{net_of}
 use Rattle.flow_opening.specs.Settings.{Setting, moved_by}
 use Rattle.flow_rounds.specs.Standing.{seen}
 use Rattle.flow_rounds.proofs.Gathers.{HaveComeToRest}
-use Rattle.flow_epochs.proofs.Gathers.{HaveRested}
 use Rattle.flow_drive.specs.declared.lines.SharedLines.{SharedLines}
 use Rattle.flow_drive.specs.declared.lines.Lines.{Lines}
-use Rattle.flow_drive.specs.declared.lines.Lines.TheVariants.{Whole, Shared, Joined}
+use Rattle.flow_drive.specs.declared.lines.Lines.TheVariants.{Whole, Shared}
 use Rattle.flow_drive.specs.Drives.{EndsMaximalRun, IsSoundAt, RestsAt}
 use Rattle.flow_drive.specs.Edges.{seen_by, traffic_by, AreJoined, traffic_in, moved_on, AreThere}
 use Rattle.flow_drive.proofs.Rests.{run_sound, run_rests}
@@ -100,17 +92,10 @@ module _ (share : List ℕ) (edges : List Edge) (boxes : List Boxes) (most : ℕ
 abbrev BoxesThere : List Edge → Lines → Type 0
 BoxesThere edges (Whole table) = Unit {0}
 BoxesThere edges (Shared boxes) = AreJoined view_of boxes.share.items edges boxes.ends.items BoxesJoin boxes.capacity
-BoxesThere edges (Joined rings) = Unit {0}
-
--- and where they are those of rings
-abbrev RingsThere : List Edge → Lines → Type 0
-RingsThere edges (Whole table) = Unit {0}
-RingsThere edges (Shared boxes) = Unit {0}
-RingsThere edges (Joined rings) = AreJoined ends_of rings.share.items edges rings.ends.items RingsJoin rings.capacity
 
 -- what holds of the ends in a setting holds of the edges that a graph gathered there has
 module _ {X : Type 0} {t : Ghosts X} (setting : Setting t) (share : List ℕ) (edges : List Edge) (capacity : ℕ) (same_share : share ≡ setting.share) (same_edges : edges ≡ setting.edges) (same_capacity : capacity ≡ setting.capacity) where
-  of_lines : (Q : List ℕ → List Edge → ℕ → Type 0) → Q setting.share setting.edges setting.capacity → Q share edges capacity
+  pub of_lines : (Q : List ℕ → List Edge → ℕ → Type 0) → Q setting.share setting.edges setting.capacity → Q share edges capacity
   of_lines Q q = subst (λ s. Q s edges capacity) (sym same_share) (subst (λ e. Q setting.share e capacity) (sym same_edges) (subst (λ n. Q setting.share setting.edges n) (sym same_capacity) q))
 
 -- over boxes
@@ -133,7 +118,6 @@ module _ {X : Type 0} {t : Ghosts X} (setting : Setting t) (graph : Graph X t) (
   are_there = record {
     whole = λ table is. absurd (cc is);
     shared = λ other is. ∣ subst (λ lines. BoxesThere (edges_of graph) lines) is boxes_there ∣₁;
-    joined = λ rings is. absurd (cc is);
   }
 
   pub run : EndsMaximalRun t.behaviour setting.capacity (states_in setting.nodes) setting.edges (states_of graph) traffic
@@ -154,41 +138,3 @@ module _ {X : Type 0} {t : Ghosts X} (setting : Setting t) (graph : Graph X t) (
   pub rests : RestsAt t.behaviour (states_of graph) (edges_of graph) shared.capacity traffic
   rests = subst (λ n. RestsAt t.behaviour (states_of graph) (edges_of graph) n traffic) (sym capacity)
       (run_rests t.behaviour setting.capacity (states_in setting.nodes) setting.edges (states_of graph) (edges_of graph) traffic same run)
-
--- over rings
-module _ {X : Type 0} {t : Ghosts X} (setting : Setting t) (graph : Graph X t) (shared : SharedLines Rings)
-    (same : IsSameNetwork t.behaviour (states_in setting.nodes) setting.edges (states_of graph) (edges_of graph))
-    (rested : HaveRested setting (states_of graph) shared.ends.items)
-    (share : shared.share.items ≡ setting.share) (capacity : shared.capacity ≡ setting.capacity) where
-  abbrev rings : List Rings
-  rings = shared.ends.items
-
-  abbrev ring_traffic : View
-  ring_traffic = traffic_in (edges_of graph) (Joined shared)
-
-  of_shared : (Q : List ℕ → List Edge → ℕ → Type 0) → Q setting.share setting.edges setting.capacity → Q shared.share.items (edges_of graph) shared.capacity
-  of_shared = of_lines setting shared.share.items (edges_of graph) shared.capacity share same.same_edges capacity
-
-  rings_there : AreJoined ends_of shared.share.items (edges_of graph) rings RingsJoin shared.capacity
-  rings_there = of_shared (λ s e n. AreJoined ends_of s e rings RingsJoin n) (record { writers = rested.writers; readers = rested.readers; joined = rested.joined; met = rested.met })
-
-  pub are_joined : AreThere (edges_of graph) (Joined shared)
-  are_joined = record {
-    whole = λ table is. absurd (cc is);
-    shared = λ boxes is. absurd (cc is);
-    joined = λ other is. ∣ subst (λ lines. RingsThere (edges_of graph) lines) is rings_there ∣₁;
-  }
-
-  pub rings_sound : IsSoundAt t.behaviour (states_of graph) (edges_of graph) ring_traffic
-  rings_sound =
-      subst (λ net. ∥ IsSound t.behaviour.process net (configuration_of t.behaviour (states_of graph) ring_traffic) ∥₁) (sym same.network)
-      (of_shared (λ s e n. ∥ IsSound t.behaviour.process (net_of setting.nodes setting.edges) (configuration_of t.behaviour (states_of graph) (traffic_by ends_of s e rings)) ∥₁) rested.sound)
-
-  pub rings_rest : RestsAt t.behaviour (states_of graph) (edges_of graph) shared.capacity ring_traffic
-  rings_rest =
-      subst (λ net. AtRest t.behaviour.process net (Some shared.capacity) (configuration_of t.behaviour (states_of graph) ring_traffic)) (sym same.network)
-      (of_shared (λ s e n. AtRest t.behaviour.process (net_of setting.nodes setting.edges) (Some n) (configuration_of t.behaviour (states_of graph) (traffic_by ends_of s e rings))) rested.rest)
-
-  -- as many messages went over the edges of the graph
-  pub rings_moved : (Q : ℕ → Type 0) → Q (moved_by setting (seen_by ends_of rings)) → Q (moved_on (edges_of graph) ring_traffic)
-  rings_moved Q q = of_shared (λ s e n. Q (moved_on e (traffic_by ends_of s e rings))) q

@@ -15,14 +15,13 @@ use Rattle.flow_messages.proofs.Waiting.{waits-length}
 use Rattle.flow_graph.specs.declared.edge.Edge.{Edge}
 use Rattle.flow_graph.specs.Edges.{edge_at}
 use Rattle.flow_boxes.specs.Contents.{view_of}
-use Rattle.flow_rings.specs.Rings.{ends_of as ring_ends}
 use Rattle.flow_deal.specs.Deals.{share_of}
 use Rattle.flow_round_laws.specs.Joints.{no_ends}
 use Rattle.flow_round_laws.specs.JoinedTheorems.{AllMet}
 use Rattle.flow_round_laws.proofs.Parts.{any_of}
 use Rattle.flow_round_laws.proofs.Views.{sent_at, received_at, none_sent}
 use Rattle.flow_drive.specs.declared.lines.Lines.{Lines}
-use Rattle.flow_drive.specs.declared.lines.Lines.TheVariants.{Whole, Shared, Joined}
+use Rattle.flow_drive.specs.declared.lines.Lines.TheVariants.{Whole, Shared}
 use Rattle.flow_drive.specs.Edges.{seen_by, traffic_by, AreJoined, traffic_in, capacity_in, AreThere}
 
 -- no line holds more than its capacity
@@ -33,7 +32,7 @@ table_fits capacity (l ∷ lines) even (suc e) = table_fits capacity lines (λ k
 
 -- where the ends of all edges have met, no edge holds more than the capacity
 module _ {Y : Type 0} (view : Y → View) (share : List ℕ) (edges : List Edge) (ends : List Y) (most : ℕ) (met : AllMet share edges (seen_by view ends) most) (e : ℕ) where
-  ends_fit : (e < length edges) ⊎ (length edges ≤ e) → let traffic = traffic_by view share edges ends in length (traffic.sent e) ≤ length (traffic.received e) + most
+  pub ends_fit : (e < length edges) ⊎ (length edges ≤ e) → let traffic = traffic_by view share edges ends in length (traffic.sent e) ≤ length (traffic.received e) + most
   ends_fit (inl l) =
       omega (arith, ap length (sent_at share edges (seen_by view ends) e l), ap length (received_at share edges (seen_by view ends) e l), (met e l).fits)
   ends_fit (inr above) = omega (arith, ap length (none_sent share edges (seen_by view ends) e above))
@@ -44,8 +43,6 @@ lines_fit edges (Whole table) there e =
     omega (arith, table_fits table.capacity table.lines.items table.even e, ap length ((whole_table table).coming e), waits-length (capacity_of table) (ends_of table) e (whole_table table))
 lines_fit edges (Shared boxes) there e =
     ∥∥₁_elim (there.shared boxes refl) (hlevel props) (λ joined. ends_fit view_of boxes.share.items edges boxes.ends.items boxes.capacity joined.met e (cases_lt e (length edges)))
-lines_fit edges (Joined rings) there e =
-    ∥∥₁_elim (there.joined rings refl) (hlevel props) (λ joined. ends_fit ring_ends rings.share.items edges rings.ends.items rings.capacity joined.met e (cases_lt e (length edges)))
 
 -- the ends of an edge, in the shares of its two nodes
 module _ {Y : Type 0} (view : Y → View) (joins : Y → Y → ℕ → Type 0) (join_ends : (a b : Y) (e : ℕ) → joins a b e → ((view a).writes e ≡ true) × ((view b).reads e ≡ true))

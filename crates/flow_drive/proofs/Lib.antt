@@ -2,5 +2,8 @@ pub mod Refused
 pub mod Rests
 pub mod Texts
 pub mod Holding
+pub mod AtRest
 pub mod Gathered
 pub mod Dealt
+pub mod Apart
+pub mod Noted

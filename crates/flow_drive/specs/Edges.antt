@@ -1,5 +1,5 @@
--- The edges of a graph at rest: both ends of each in one table, or in shares, over boxes or over rings.
-use Rattle.std.specs.Prelude.{◌≡◌, ℕ, ◌+◌, ◌<◌, List, [], length, map, slice_index_or}
+-- The edges of a graph at rest: both ends of each in shares, or in one table.
+use Rattle.std.specs.Prelude.{◌≡◌, ℕ, ◌+◌, ◌<◌, List, length, map, slice_index_or}
 use Rattle.kahn.specs.Basics.{total}
 use Rattle.flow_messages.specs.Ends.{View}
 use Rattle.flow_messages.specs.Tables.{ends_of, capacity_of}
@@ -9,15 +9,12 @@ use Rattle.flow_graph.specs.Edges.{edge_at}
 use Rattle.flow_graph.specs.Visits.{HasAllEnds}
 use Rattle.flow_boxes.specs.declared.boxes.Boxes.{Boxes}
 use Rattle.flow_boxes.specs.Contents.{view_of}
-use Rattle.flow_rings.specs.declared.rings.Rings.{Rings}
-use Rattle.flow_rings.specs.Rings.{ends_of as ring_ends}
 use Rattle.flow_meetings.specs.BoxMeetings.{BoxesJoin}
-use Rattle.flow_meetings.specs.RingMeetings.{RingsJoin}
 use Rattle.flow_deal.specs.Deals.{share_of}
 use Rattle.flow_round_laws.specs.Joints.{no_ends, joined_view}
 use Rattle.flow_round_laws.specs.JoinedTheorems.{AllMet}
 use Rattle.flow_drive.specs.declared.lines.Lines.{Lines}
-use Rattle.flow_drive.specs.declared.lines.Lines.TheVariants.{Whole, Shared, Joined}
+use Rattle.flow_drive.specs.declared.lines.Lines.TheVariants.{Whole, Shared}
 use Rattle.flow_drive.specs.declared.lines.SharedLines.{SharedLines}
 
 module _ {Y : Type 0} (view : Y → View) where
@@ -45,17 +42,10 @@ module _ {Y : Type 0} (view : Y → View) where
       pub joined : (e : ℕ) (d : Y) → e < length edges → joins (slice_index_or ends (writer e) d) (slice_index_or ends (reader e) d) e
       pub met : AllMet share edges (seen_by ends) most
 
--- which share has each node, where there are shares
-abbrev pub share_in : Lines → List ℕ
-share_in (Whole table) = []
-share_in (Shared boxes) = boxes.share.items
-share_in (Joined rings) = rings.share.items
-
 -- what was sent and received on these edges
 abbrev pub traffic_in : List Edge → Lines → View
 traffic_in edges (Whole table) = ends_of table
 traffic_in edges (Shared boxes) = traffic_by view_of boxes.share.items edges boxes.ends.items
-traffic_in edges (Joined rings) = traffic_by ring_ends rings.share.items edges rings.ends.items
 
 -- how many messages were sent and received on these edges in all, where this was
 abbrev pub moved_on : List Edge → View → ℕ
@@ -65,16 +55,8 @@ moved_on edges traffic = total (λ e. length (traffic.sent e) + length (traffic.
 abbrev pub capacity_in : Lines → ℕ
 capacity_in (Whole table) = capacity_of table
 capacity_in (Shared boxes) = boxes.capacity
-capacity_in (Joined rings) = rings.capacity
-
--- the ends are those of rings
-abbrev pub AreOfRings : Lines → Type 0
-AreOfRings (Whole table) = ⊥
-AreOfRings (Shared boxes) = ⊥
-AreOfRings (Joined rings) = Unit {0}
 
 -- Both ends of each of these edges are there, and have met.
 pub record AreThere (edges : List Edge) (lines : Lines) : Type 0 where
   pub whole : (table : Table) → lines ≡ Whole table → HasAllEnds (length edges) (ends_of table)
   pub shared : (boxes : SharedLines Boxes) → lines ≡ Shared boxes → ∥ AreJoined view_of boxes.share.items edges boxes.ends.items BoxesJoin boxes.capacity ∥₁
-  pub joined : (rings : SharedLines Rings) → lines ≡ Joined rings → ∥ AreJoined ring_ends rings.share.items edges rings.ends.items RingsJoin rings.capacity ∥₁

@@ -3,6 +3,8 @@ pub mod Configs
 pub mod Drives
 pub mod Epochs
 pub mod Edges
+pub mod Apart
+pub mod Parts
 pub mod Refusals
 pub mod Resteds
 pub mod Driven

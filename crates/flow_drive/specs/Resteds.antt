@@ -1,31 +1,36 @@
 -- What contracts see of a graph at rest.
 use Rattle.std.specs.Prelude.{◌≡◌, ℕ, List}
 use Rattle.flow_messages.specs.Ends.{View}
+use Rattle.flow_messages.specs.declared.ends.Ends.{Ghosts as EndsGhosts}
 use Rattle.flow_rings.specs.declared.rings.Rings.{Rings}
 use Rattle.flow_rings.specs.Rings.{ends_of}
 use Rattle.flow_meetings.specs.RingMeetings.{RingsJoin}
 use Rattle.flow_base.specs.declared.transducer.Transducer.{Ghosts}
 use Rattle.flow_graph.specs.declared.edge.Edge.{Edge}
-use Rattle.flow_graph.specs.Graphs.{states_of, edges_of}
-use Rattle.flow_drive.specs.Edges.{traffic_by, AreJoined, share_in, traffic_in, moved_on, capacity_in, AreOfRings}
+use Rattle.flow_shares.specs.declared.share.Share.{Share}
+use Rattle.flow_opening.specs.Deals.{nodes_in, ends_in}
+use Rattle.flow_opening.specs.Settings.{AreFed}
+use Rattle.flow_drive.specs.Apart.{HaveStates, traffic_apart}
+use Rattle.flow_drive.specs.Edges.{AreJoined, moved_on}
+use Rattle.flow_drive.specs.Parts.{states_at, edges_at, traffic_at, capacity_at, share_at, AreApart}
 use Rattle.flow_drive.specs.declared.rested.Rested.{Rested}
 
 module _ {X : Type 0} {t : Ghosts X} where
   -- the states of its nodes
   abbrev pub rested_states : Rested X t → List t.State
-  rested_states rested = states_of rested.graph
+  rested_states rested = states_at rested.parts
 
   -- its edges
   abbrev pub rested_edges : Rested X t → List Edge
-  rested_edges rested = edges_of rested.graph
+  rested_edges rested = edges_at rested.parts
 
   -- what was sent and received on its edges
   abbrev pub traffic_of : Rested X t → View
-  traffic_of rested = traffic_in (rested_edges rested) rested.lines
+  traffic_of rested = traffic_at rested.parts
 
   -- how many messages each edge held at most
   abbrev pub rested_capacity : Rested X t → ℕ
-  rested_capacity rested = capacity_in rested.lines
+  rested_capacity rested = capacity_at rested.parts
 
   -- how many rounds it took
   abbrev pub rested_rounds : Rested X t → ℕ
@@ -39,14 +44,22 @@ module _ {X : Type 0} {t : Ghosts X} where
   abbrev pub moved_of : Rested X t → ℕ
   moved_of rested = moved_on (rested_edges rested) (traffic_of rested)
 
-  -- the ends of its edges are those of rings
+  -- it was driven over rings, and its nodes stayed in their shares
   abbrev pub IsOverRings : Rested X t → Type 0
-  IsOverRings rested = AreOfRings rested.lines
+  IsOverRings rested = AreApart rested.parts
 
-  -- These are the ring ends of its shares, by the shares' numbers.
-  pub record AreTheRings (rested : Rested X t) (rings : List Rings) : Type 0 where
+  -- which share has each of its nodes, where it was driven over rings
+  abbrev pub rested_share : Rested X t → List ℕ
+  rested_share rested = share_at rested.parts
+
+  -- These are its shares, by their numbers, at rest.
+  pub record AreTheShares {u : EndsGhosts Rings} (rested : Rested X t) (shares : List (Share X Rings t u)) : Type 0 where
     pub over : IsOverRings rested
-    -- what was sent and received is what they say
-    pub traffic : traffic_of rested ≡ traffic_by ends_of (share_in rested.lines) (rested_edges rested) rings
-    -- both ends of each edge are among them, and are the two of one edge
-    pub joined : ∥ AreJoined ends_of (share_in rested.lines) (rested_edges rested) rings RingsJoin (rested_capacity rested) ∥₁
+    -- they have all nodes, and the states of these are those of the network
+    pub nodes : ∥ HaveStates (rested_share rested) (rested_edges rested) (nodes_in shares) (rested_states rested) ∥₁
+    -- what was sent and received is what their ends say
+    pub traffic : traffic_of rested ≡ traffic_apart (rested_share rested) (rested_edges rested) shares
+    -- both ends of each edge are among theirs, are the two of one edge, and have met
+    pub joined : ∥ AreJoined ends_of (rested_share rested) (rested_edges rested) (ends_in shares) RingsJoin (rested_capacity rested) ∥₁
+    -- memory was refused to none of them
+    pub fed : AreFed shares

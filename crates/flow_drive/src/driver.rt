@@ -15,6 +15,7 @@ ghost use Rattle.flow_drive.specs.declared.driver.DriveError.TheVariants.{BadCon
 use crate::config::{Config, Drive};
 use crate::joined::drive_rings;
 use crate::lines::Lines;
+use crate::parts::{Gathered, Parts};
 use crate::rested::Rested;
 use crate::rounds::drive_rounds;
 use flow_base::Transducer;
@@ -160,9 +161,12 @@ fn drive_serial<T: Transducer + Drop>(
     let mut ends = Table::new(alloc, graph.edges(), config.capacity)?;
     let mut graph = graph;
     run_serial(alloc, &mut graph, &mut ends, config.chunk)?;
-    Ok(Rested {
+    let gathered = Gathered {
         graph,
         lines: Lines::Whole(ends),
+    };
+    Ok(Rested {
+        parts: Parts::Together(gathered),
         rounds: 0,
         epochs: 0,
     })

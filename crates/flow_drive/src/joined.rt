@@ -15,12 +15,14 @@ ghost use Rattle.flow_drive.specs.Resteds.{rested_states, rested_edges, rested_c
 
 use crate::config::Config;
 use crate::given::{Given, deal_out};
-use crate::lines::{Lines, SharedLines};
+use crate::parts::Parts;
+use crate::places::places_of;
 use crate::rested::Rested;
+use crate::ring_shares::RingShares;
 use flow_base::Transducer;
 use flow_epochs::run_epochs;
 use flow_graph::Graph;
-use flow_opening::{Dealt, gather_graph};
+use flow_opening::Dealt;
 use flow_rings::Rings;
 use flow_shares::Gate;
 use flow_workers::{Start, WorkError};
@@ -59,7 +61,7 @@ pub fn drive_rings<
     run_dealt(rt, alloc, given, dealt, config, gate, start)
 }
 
-// Runs the shares of a graph that was just dealt out, and gathers them.
+// Runs the shares of a graph that was just dealt out.
 fn run_dealt<
     R: Threads,
     T: Transducer + Send + Drop + 'static,
@@ -105,11 +107,16 @@ fn run_dealt<
         gate,
         start,
     )?;
-    let (graph, rings) = gather_graph(alloc, shares, layout, given.nodes, &given.share)?;
-    let joined = SharedLines::new(given.share, rings, given.capacity);
+    let places = places_of(alloc, &shares, given.nodes)?;
+    let apart = RingShares {
+        places,
+        layout,
+        share: given.share,
+        shares,
+        capacity: given.capacity,
+    };
     Ok(Rested {
-        graph,
-        lines: Lines::Joined(joined),
+        parts: Parts::Apart(apart),
         rounds: 0,
         epochs: count,
     })

@@ -8,10 +8,14 @@ mod epochs;
 mod given;
 mod joined;
 mod lines;
+mod numbered;
 mod outcome;
+mod parts;
+mod places;
 mod pumping;
 mod queries;
 mod rested;
+mod ring_shares;
 mod rounds;
 mod theorems;
 

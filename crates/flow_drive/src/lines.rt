@@ -1,4 +1,4 @@
-// The edges of graphs at rest.
+// The edges of graphs at rest whose nodes were gathered.
 ghost use Rattle.std.specs.Prelude.{◌≡◌, ◌<◌, true, length, slice_index_or};
 ghost use Rattle.std.specs.Io.Iter.{u64_saturate};
 ghost use Rattle.flow_deal.specs.Deals.{share_of};
@@ -7,7 +7,6 @@ use flow_boxes::Boxes;
 use flow_deal::share_of;
 use flow_graph::Edge;
 use flow_messages::{CountedEnds, Table};
-use flow_rings::Rings;
 
 /// The edges of a graph at rest: what was sent and received on them, and what they hold.
 #[derive(Drop)]
@@ -16,8 +15,6 @@ pub enum Lines {
     Whole(Table),
     /// The ends are in the boxes of shares.
     Shared(SharedLines<Boxes>),
-    /// The ends are those of rings, in shares.
-    Joined(SharedLines<Rings>),
 }
 
 /// The ends that the shares of a graph have, by the shares' numbers.

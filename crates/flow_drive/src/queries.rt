@@ -2,15 +2,15 @@
 ghost use Rattle.std.specs.Prelude.{◌≡◌, ◌<◌, ℕ, List, Option, length, MatchOption};
 ghost use Rattle.std.specs.Io.Iter.{u64_saturate};
 ghost use Rattle.flow_drive.specs.Drives.{ComesOut};
-ghost use Rattle.flow_drive.specs.Resteds.{rested_states, rested_edges, rested_capacity, rested_rounds, rested_epochs, traffic_of, IsOverRings, AreTheRings};
+ghost use Rattle.flow_drive.specs.Resteds.{rested_states, rested_edges, rested_capacity, rested_rounds, rested_epochs, traffic_of, IsOverRings, AreTheShares};
 ghost use Rattle.flow_drive.specs.Texts.{last_text, IsTold};
 
-use crate::lines::Lines;
 use crate::outcome::{first_to_write, standing_fault};
+use crate::parts::Parts;
 use crate::rested::Rested;
 use flow_base::{Printing, Transducer};
-use flow_messages::CountedEnds;
 use flow_rings::Rings;
+use flow_shares::Share;
 use kahn::Outcome;
 
 impl<T: Transducer> Rested<T> {
@@ -19,10 +19,10 @@ impl<T: Transducer> Rested<T> {
     pub fn outcome(&self) -> Outcome
         ensures { ComesOut T.behaviour (rested_states self.now) (rested_edges self.now) (rested_capacity self.now) (traffic_of self.now) result }
     {
-        if let Some(fault) = standing_fault(&self.graph) {
+        if let Some(fault) = standing_fault(&self.parts) {
             return Outcome::Fault(fault);
         }
-        match first_to_write(&self.graph) {
+        match first_to_write(&self.parts) {
             Some(edge) => Outcome::Stalled { edge },
             None => Outcome::Value,
         }
@@ -32,14 +32,14 @@ impl<T: Transducer> Rested<T> {
     pub fn nodes(&self) -> usize
         ensures { result ≡ length (rested_states self.now) }
     {
-        self.graph.nodes()
+        self.parts.nodes()
     }
 
     /// How many edges it has.
     pub fn edges(&self) -> usize
         ensures { result ≡ length (rested_edges self.now) }
     {
-        self.graph.edges()
+        self.parts.edges()
     }
 
     /// How many messages were sent on the edge, and how many were received from it. A count stays at `u64::MAX`.
@@ -48,12 +48,7 @@ impl<T: Transducer> Rested<T> {
         ensures sent { result.0 ≡ u64_saturate (length ((traffic_of self.now).sent edge)) }
         ensures received { result.1 ≡ u64_saturate (length ((traffic_of self.now).received edge)) }
     {
-        let ends = self.graph.edge(edge);
-        match &self.lines {
-            Lines::Whole(table) => (table.sent_count(edge), table.received_count(edge)),
-            Lines::Shared(shared) => shared.counts(ends, edge),
-            Lines::Joined(joined) => joined.counts(ends, edge),
-        }
+        self.parts.counts(edge)
     }
 
     /// How many rounds it took, after each of which the threads were joined and the messages carried over: none, in one
@@ -72,13 +67,14 @@ impl<T: Transducer> Rested<T> {
         self.epochs
     }
 
-    /// The ring ends of each share, by the shares' numbers: of a graph that was driven over rings, and of no other.
-    pub fn rings(&self) -> Option<&[Rings]>
-        ensures { MatchOption result (IsOverRings self.now → ⊥) (λ rings. AreTheRings self.now rings.now) }
+    /// The shares, by their numbers, with all nodes and both ends of every edge, at rest and met: of a graph that was
+    /// driven over rings, and of no other.
+    pub fn rings(&self) -> Option<&[Share<T, Rings>]>
+        ensures { MatchOption result (IsOverRings self.now → ⊥) (λ shares. AreTheShares self.now shares.now) }
     {
-        match &self.lines {
-            Lines::Joined(joined) => Some(&joined.ends),
-            _ => None,
+        match &self.parts {
+            Parts::Apart(shares) => Some(&shares.shares),
+            Parts::Together(_) => None,
         }
     }
 }
@@ -89,8 +85,8 @@ impl<T: Printing> Rested<T> {
         ensures { (text_in : T.State → Option (List ℕ)) → IsTold T.state T.printed text_in → result.now ≡ last_text text_in (rested_states self.now) }
     {
         let mut last: &[u8] = &[];
-        for node in 0..self.graph.nodes() {
-            if let Some(text) = self.graph.node(node).printed() {
+        for node in 0..self.parts.nodes() {
+            if let Some(text) = self.parts.node(node).printed() {
                 last = text;
             }
         }

@@ -17,6 +17,7 @@ ghost use Rattle.flow_drive.specs.Resteds.{rested_states, rested_edges, rested_c
 use crate::config::Config;
 use crate::given::{Given, deal_out};
 use crate::lines::{Lines, SharedLines};
+use crate::parts::{Gathered, Parts};
 use crate::rested::Rested;
 use flow_base::Transducer;
 use flow_boxes::Boxes;
@@ -106,9 +107,12 @@ fn run_dealt<
     )?;
     let (graph, boxes) = gather_graph(alloc, shares, layout, given.nodes, &given.share)?;
     let shared = SharedLines::new(given.share, boxes, given.capacity);
-    Ok(Rested {
+    let gathered = Gathered {
         graph,
         lines: Lines::Shared(shared),
+    };
+    Ok(Rested {
+        parts: Parts::Together(gathered),
         rounds: count,
         epochs: 0,
     })

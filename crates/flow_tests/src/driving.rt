@@ -38,6 +38,8 @@ pub struct Told {
     pub rounds: u64,
     pub epochs: u64,
     pub text: Vec<u8>,
+    /// How many nodes its shares have, where it was driven over rings.
+    pub apart: Option<usize>,
 }
 
 // How many messages were sent and how many received on each edge.
@@ -52,6 +54,15 @@ fn counts_of<T: Transducer>(
     Ok(counts)
 }
 
+// How many nodes its shares have, where it was driven over rings.
+fn nodes_apart<T: Transducer>(rested: &Rested<T>) -> Option<usize> {
+    let mut nodes: usize = 0;
+    for share in rested.rings()? {
+        nodes = nodes.saturating_add(share.nodes().len());
+    }
+    Some(nodes)
+}
+
 fn told_of<T: Transducer + Printing>(
     alloc: Global,
     rested: &Rested<T>,
@@ -63,6 +74,7 @@ fn told_of<T: Transducer + Printing>(
         rounds: rested.rounds(),
         epochs: rested.epochs(),
         text: rested.text().to_vec(alloc)?,
+        apart: nodes_apart(rested),
     })
 }
 
@@ -160,13 +172,19 @@ fn assert_ends<R: Threads + Abort>(
 ) -> Result<(), Fail> {
     for way in WAYS {
         let told = driven(rt, alloc, sketch, capacity, way)?;
+        // Over rings, and by no other drive, all nodes stay in shares.
+        let apart = if way.0 == Drive::Rings {
+            Some(nodes)
+        } else {
+            None
+        };
         let end = (
-            told.nodes,
+            (told.nodes, told.apart),
             told.outcome,
             told.counts.as_slice(),
             told.text.as_slice(),
         );
-        assert_eq!(rt; end, (nodes, outcome, counts, text));
+        assert_eq!(rt; end, ((nodes, apart), outcome, counts, text));
         assert!(rt;
             are_turns(&told, way.0),
             "{} rounds, {} epochs",

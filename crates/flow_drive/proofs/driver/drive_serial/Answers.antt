@@ -17,8 +17,8 @@ run_serial-requires-clause-reached g c =
     let fresh = rw c.edges.ensures at c.in_ok-ends.ensures.fresh in
     reached_first g.T.Transducer.behaviour table.capacity (states_of graph) (edges_of graph) (ends_of table) c.requires.opened fresh
 
-pub invariant_of-result : goal.invariant_of-result
-invariant_of-result g c =
+pub invariant_of-gathered : goal.invariant_of-gathered
+invariant_of-gathered g c =
     let b = g.T.Transducer.behaviour in
     let graph = c.args.graph in
     let table = c.in_ok-ends.ends in
@@ -36,7 +36,6 @@ invariant_of-result g c =
         whole = λ t is. subst (λ lines. HasAllEnds (length edges') (traffic_in edges' lines)) is
             (all_ends_still c.edges.result (length edges') (ends_of table) view (sym (c.edges.ensures ∙ count)) shape.ends (fresh_all_ends c.edges.result (ends_of table) c.in_ok-ends.ensures.fresh));
         shared = λ boxes is. absurd (cc is);
-        joined = λ rings is. absurd (cc is);
       };
       sound = run_sound b (capacity_of ends') states edges states' edges' view shape.network run (graph_wired graph);
       rest = run_rests b (capacity_of ends') states edges states' edges' view shape.network run;

@@ -3,5 +3,5 @@ use Rattle.flow_drive.proofs.joined.run_dealt.Given as goal
 abbrev pub ghost-run_epochs : goal.ghost-run_epochs
 ghost-run_epochs g a = g.setting
 
-abbrev pub ghost-gather_graph : goal.ghost-gather_graph
-ghost-gather_graph g a = g.setting
+abbrev pub ghost-places_of : goal.ghost-places_of
+ghost-places_of g a = g.setting

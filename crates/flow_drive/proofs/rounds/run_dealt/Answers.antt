@@ -19,8 +19,8 @@ run_rounds-requires g c κs within =
     let wires = subst (λ w. AreWires g.setting.share g.setting.edges w) (sym c.deref.ensures.value) clauses.1.1.0 in
     (within.0, (within.1.0, (within.1.1.0, (within.1.1.1, (bounds.0, (bounds.1.0, (bounds.1.1.0, (bounds.1.1.1.0, (bounds.1.1.1.1.0, (lawful.chunk.some, (lawful.idle.some, (wires, clauses.1.1.1.1.0))))))))))))
 
-pub invariant_of-result : goal.invariant_of-result
-invariant_of-result g c =
+pub invariant_of-gathered : goal.invariant_of-gathered
+invariant_of-gathered g c =
     let given = c.requires.1.1.1.1.1.1.1.1.1.1.0 in
     let graph = c.in_ok-graph.graph in
     let shared = c.new-shared.result in

@@ -1,6 +1,11 @@
-use Rattle.flow_graph.specs.Graphs.{edges_of}
-use Rattle.flow_drive.proofs.Holding.{lines_fit}
+use Rattle.flow_drive.proofs.AtRest.{are_sound, are_at_rest, all_fit}
 use Rattle.flow_drive.proofs.theorems.rested_is_sound.Goals as goal
 
+pub returns-clause-sound : goal.returns-clause-sound
+returns-clause-sound g c = are_sound c.args.rested.now.parts
+
+pub returns-clause-rest : goal.returns-clause-rest
+returns-clause-rest g c = are_at_rest c.args.rested.now.parts
+
 pub returns-clause-fits : goal.returns-clause-fits
-returns-clause-fits g c e = lines_fit (edges_of c.args.rested.now.graph) c.args.rested.now.lines c.args.rested.now.there e
+returns-clause-fits g c e = all_fit c.args.rested.now.parts e

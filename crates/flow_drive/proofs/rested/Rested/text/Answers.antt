@@ -1,8 +1,8 @@
 use Rattle.std.proofs.Common.{◌≡◌, ℕ, ◌<◌, ◌+◌, List, length, take, arith, sym, ◌∙◌, ap}
 use Rattle.std.proofs.Math.Seq.{take-length}
 use Rattle.std.specs.Option.{unwrap_or, option_map}
-use Rattle.flow_graph.specs.Graphs.{states_of}
 use Rattle.flow_graph.specs.Networks.{state_at}
+use Rattle.flow_drive.specs.Resteds.{rested_states}
 use Rattle.flow_drive.specs.Texts.{last_text}
 use Rattle.flow_drive.proofs.Texts.{next_text}
 use Rattle.flow_drive.proofs.rested.Rested.text.Goals as goal
@@ -10,7 +10,7 @@ use Rattle.flow_drive.proofs.rested.Rested.text.Goals.{in-Some, in_default}
 
 pub loop-node-preserved : goal.loop-node-preserved
 loop-node-preserved g c text_in told =
-    let states = states_of c.args.self.now.graph in
+    let states = rested_states c.args.self.now in
     let k = c.loop-node.node in
     let b = g.T.Transducer.behaviour in
     let inside : k < length states = omega (arith, c.loop-node-test.true, c.nodes-node-end.ensures) in
@@ -28,6 +28,6 @@ loop-node-preserved g c text_in told =
 
 pub returns : goal.returns
 returns g c text_in told =
-    let states = states_of c.args.self.now.graph in
+    let states = rested_states c.args.self.now in
     let all : c.loop-node.node ≡ length states = omega (arith, c.loop-node-test.false, c.nodes-node-end.ensures, c.loop-node.auto.node-end) in
     c.loop-node.invariant text_in told ∙ ap (λ n. last_text text_in (take n states)) all ∙ ap (λ l. last_text text_in l) (take-length states)

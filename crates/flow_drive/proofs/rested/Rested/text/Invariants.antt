@@ -1,5 +1,5 @@
 use Rattle.std.proofs.Common.{◌≡◌, ℕ, List, Option, take}
-use Rattle.flow_graph.specs.Graphs.{states_of}
+use Rattle.flow_drive.specs.Resteds.{rested_states}
 use Rattle.flow_drive.specs.Texts.{last_text, IsTold}
 use Rattle.flow_drive.proofs.rested.Rested.text.Given as goal
 
@@ -8,4 +8,4 @@ abbrev pub invariant-loop-node : goal.invariant-loop-node
 invariant-loop-node g l =
     (text_in : g.T.Transducer.State → Option (List ℕ))
     → IsTold g.T.Transducer.state g.T.Printing.printed text_in
-    → l.last ≡ last_text text_in (take l.node (states_of l.self.graph))
+    → l.last ≡ last_text text_in (take l.node (rested_states l.self))

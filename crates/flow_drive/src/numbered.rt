@@ -1,0 +1,130 @@
+// The nodes and edges of graphs at rest, by their numbers.
+ghost use Rattle.std.specs.Prelude.{◌≡◌, ◌<◌, length, slice_index_or};
+ghost use Rattle.std.specs.Io.Iter.{u64_saturate};
+ghost use Rattle.flow_graph.specs.Edges.{edge_at};
+ghost use Rattle.flow_graph.specs.Graphs.{edges_of};
+ghost use Rattle.flow_graph.specs.Layouts.{edges_in};
+ghost use Rattle.flow_graph.specs.Networks.{state_at};
+ghost use Rattle.flow_deal.specs.Deals.{share_of};
+ghost use Rattle.flow_drive.specs.Parts.{states_at, edges_at, traffic_at, gathered_traffic, shares_states, shares_traffic};
+
+use crate::lines::Lines;
+use crate::parts::{Gathered, Parts};
+use crate::ring_shares::RingShares;
+use flow_base::Transducer;
+use flow_deal::share_of;
+use flow_graph::Edge;
+use flow_messages::CountedEnds;
+use flow_rings::Rings;
+use flow_shares::Share;
+
+impl<T: Transducer> Parts<T> {
+    /// How many nodes there are.
+    pub fn nodes(&self) -> usize
+        ensures { result ≡ length (states_at self.now) }
+    {
+        match self {
+            Parts::Together(gathered) => gathered.graph.nodes(),
+            Parts::Apart(shares) => shares.places.len(),
+        }
+    }
+
+    /// The node of this number.
+    pub fn node(&self, number: usize) -> &T
+        requires { number < length (states_at self.now) }
+        ensures { T.state result.now ≡ state_at T.behaviour (states_at self.now) number }
+    {
+        match self {
+            Parts::Together(gathered) => gathered.graph.node(number),
+            Parts::Apart(shares) => shares.node(number),
+        }
+    }
+
+    /// How many edges there are.
+    pub fn edges(&self) -> usize
+        ensures { result ≡ length (edges_at self.now) }
+    {
+        match self {
+            Parts::Together(gathered) => gathered.graph.edges(),
+            Parts::Apart(shares) => shares.layout.edges().len(),
+        }
+    }
+
+    /// The edge of this number.
+    pub fn edge(&self, number: usize) -> Edge
+        requires { number < length (edges_at self.now) }
+        ensures { result ≡ edge_at (edges_at self.now) number }
+    {
+        match self {
+            Parts::Together(gathered) => gathered.graph.edge(number),
+            Parts::Apart(shares) => shares.edge(number),
+        }
+    }
+
+    /// How many messages were sent on the edge, and how many were received from it.
+    pub fn counts(&self, edge: usize) -> (u64, u64)
+        requires { edge < length (edges_at self.now) }
+        ensures sent { result.0 ≡ u64_saturate (length ((traffic_at self.now).sent edge)) }
+        ensures received { result.1 ≡ u64_saturate (length ((traffic_at self.now).received edge)) }
+    {
+        match self {
+            Parts::Together(gathered) => gathered.counts(edge),
+            Parts::Apart(shares) => shares.counts(edge),
+        }
+    }
+}
+
+impl<T: Transducer> Gathered<T> {
+    /// How many messages were sent on the edge, and how many were received from it.
+    pub fn counts(&self, edge: usize) -> (u64, u64)
+        requires { edge < length (edges_of self.now.graph) }
+        ensures sent { result.0 ≡ u64_saturate (length ((gathered_traffic self.now).sent edge)) }
+        ensures received { result.1 ≡ u64_saturate (length ((gathered_traffic self.now).received edge)) }
+    {
+        let ends = self.graph.edge(edge);
+        match &self.lines {
+            Lines::Whole(table) => (table.sent_count(edge), table.received_count(edge)),
+            Lines::Shared(shared) => shared.counts(ends, edge),
+        }
+    }
+}
+
+impl<T: Transducer> RingShares<T> {
+    /// The edge of this number.
+    pub fn edge(&self, number: usize) -> Edge
+        requires { number < length (edges_in self.now.layout) }
+        ensures { result ≡ edge_at (edges_in self.now.layout) number }
+    {
+        self.layout.edges()[number]
+    }
+
+    /// The node of this number, where it lies in its share.
+    pub fn node(&self, number: usize) -> &T
+        requires { number < length self.now.places.items }
+        ensures { T.state result.now ≡ state_at T.behaviour (shares_states self.now) number }
+    {
+        let share = self.of_node(number);
+        share.nodes()[self.places[number]].node()
+    }
+
+    /// How many messages were sent on the edge, and how many were received from it, as the shares of its two nodes count.
+    pub fn counts(&self, edge: usize) -> (u64, u64)
+        requires { edge < length (edges_in self.now.layout) }
+        ensures sent { result.0 ≡ u64_saturate (length ((shares_traffic self.now).sent edge)) }
+        ensures received { result.1 ≡ u64_saturate (length ((shares_traffic self.now).received edge)) }
+    {
+        let nodes = self.edge(edge);
+        let writer = self.of_node(nodes.writer).ends();
+        let reader = self.of_node(nodes.reader).ends();
+        (writer.sent_count(edge), reader.received_count(edge))
+    }
+
+    // The share that has this node.
+    fn of_node(&self, node: usize) -> &Share<T, Rings>
+        requires { share_of self.now.share.items node < length self.now.shares.items }
+        ensures { (d : _) → result.now
+            ≡ slice_index_or self.now.shares.items (share_of self.now.share.items node) d }
+    {
+        &self.shares[share_of(&self.share, node)]
+    }
+}

@@ -1,0 +1,30 @@
+// The nodes and edges of graphs at rest.
+ghost use Rattle.flow_graph.specs.Graphs.{states_of, edges_of};
+ghost use Rattle.flow_drive.specs.Drives.{IsSoundAt, RestsAt};
+ghost use Rattle.flow_drive.specs.Edges.{traffic_in, capacity_in, AreThere};
+
+use crate::lines::Lines;
+use crate::ring_shares::RingShares;
+use flow_base::Transducer;
+use flow_graph::Graph;
+
+/// The nodes and edges of a graph at rest.
+#[derive(Drop)]
+pub enum Parts<T: Transducer> {
+    /// The nodes are in one graph.
+    Together(Gathered<T>),
+    /// The nodes stayed in their shares, over rings.
+    Apart(RingShares<T>),
+}
+
+/// A graph at rest, and its edges.
+#[derive(Drop)]
+pub struct Gathered<T: Transducer> {
+    /// The graph.
+    pub graph: Graph<T>,
+    /// Its edges, as its drive left them.
+    pub lines: Lines,
+    ghost there: { AreThere (edges_of graph) lines },
+    ghost sound: { IsSoundAt T.behaviour (states_of graph) (edges_of graph) (traffic_in (edges_of graph) lines) },
+    ghost rest: { RestsAt T.behaviour (states_of graph) (edges_of graph) (capacity_in lines) (traffic_in (edges_of graph) lines) },
+}
