@@ -1,5 +1,5 @@
 -- Nodes that stay in their shares: they have the states of the network that was dealt out, and where they rest it rests.
-use Rattle.std.proofs.Common.{◌≡◌, ℕ, ◌<◌, List, length, map, get_or, Some, refl, sym, ◌∙◌, ap, subst, arith, ext_get_or}
+use Rattle.std.proofs.Common.{◌≡◌, ℕ, ◌+◌, ◌<◌, ◌≤◌, List, length, map, get_or, Some, refl, sym, ◌∙◌, ap, subst, arith, ext_get_or}
 use Rattle.std.proofs.lemmas.List.{get_or-map, length-map}
 use Rattle.std.proofs.lemmas.List.FromFn.{length-map-range_with_len, get_or-map-range_with_len}
 use Rattle.kahn.specs.Configurations.{Configuration, IsSound}
@@ -33,6 +33,10 @@ use Rattle.flow_epochs.proofs.Lists.{ends_are}
 use Rattle.flow_drive.specs.Apart.{AreItsPlaces, AreThePlaces, HavePlaces, state_in_place, states_in_places, states_apart, traffic_apart, RestApart}
 use Rattle.flow_drive.specs.Edges.{seen_by, moved_on}
 use Rattle.flow_drive.proofs.Gathered.{of_lines}
+
+-- a part is no more than the whole
+pub part_of : (a b c : ℕ) → a + b ≤ c → a ≤ c
+part_of a b c all = omega arith
 
 module _ {X : Type 0} {t : Ghosts X} (share places : List ℕ) (dealt : List (List (Placed X t))) where
   -- there are as many states as places, and each is that of the node at its place

@@ -1,21 +1,32 @@
 -- What holds of the nodes and edges of a graph at rest, in one graph or in shares.
-use Rattle.std.proofs.Common.{◌≡◌, ℕ, ◌+◌, ◌≤◌, List, length}
+use Rattle.std.proofs.Common.{◌≡◌, ℕ, ◌+◌, ◌<◌, ◌≤◌, List, length, sym, ◌∙◌, ap, subst, arith}
 use Rattle.std.proofs.lemmas.Bool.{cases_lt}
 use Rattle.std.proofs.Props.{props}
 use mathlib.Core.Logic.{∥∥₁_elim}
 use Rattle.kahn.specs.Networks.{IsWired}
 use Rattle.flow_base.specs.declared.transducer.Transducer.{Ghosts}
+use Rattle.flow_graph.specs.declared.edge.Edge.{Edge}
+use Rattle.flow_graph.specs.Edges.{edge_at}
 use Rattle.flow_graph.specs.Graphs.{edges_of}
 use Rattle.flow_graph.specs.Layouts.{edges_in}
 use Rattle.flow_graph.specs.Networks.{network_of}
 use Rattle.flow_graph.proofs.Nets.{graph_wired}
 use Rattle.flow_rings.specs.Rings.{ends_of}
-use Rattle.flow_opening.specs.Deals.{ends_in}
+use Rattle.flow_meetings.specs.RingMeetings.{RingsJoin}
+use Rattle.flow_opening.specs.Deals.{nodes_in, ends_in}
 use Rattle.flow_drive.specs.declared.parts.Parts.{Parts}
 use Rattle.flow_drive.specs.declared.parts.Parts.TheVariants.{Together, Apart}
+use Rattle.flow_drive.specs.declared.rested.Rested.{Rested}
+use Rattle.flow_drive.specs.declared.ring_shares.RingShares.{RingShares}
+use Rattle.flow_drive.specs.Apart.{HaveStates, traffic_apart}
 use Rattle.flow_drive.specs.Drives.{IsSoundAt, RestsAt}
-use Rattle.flow_drive.specs.Parts.{states_at, edges_at, traffic_at, capacity_at}
+use Rattle.flow_drive.specs.Edges.{AreJoined}
+use Rattle.flow_drive.specs.Parts.{states_at, edges_at, traffic_at, capacity_at, share_at, AreApart}
+use Rattle.flow_drive.specs.Resteds.{AreTheShares}
 use Rattle.flow_drive.proofs.Holding.{lines_fit, ends_fit}
+
+between : (a b c : ℕ) → a < b → b < c → a < c
+between a b c less more = omega arith
 
 module _ {X : Type 0} {t : Ghosts X} where
   pub are_sound : (parts : Parts X t) → IsSoundAt t.behaviour (states_at parts) (edges_at parts) (traffic_at parts)
@@ -36,3 +47,19 @@ module _ {X : Type 0} {t : Ghosts X} where
   all_fit (Apart shares) e =
       ∥∥₁_elim shares.rest.joined (hlevel props)
       (λ joined. ends_fit ends_of shares.share.items (edges_in shares.layout) (ends_in shares.shares.items) shares.capacity joined.met e (cases_lt e (length (edges_in shares.layout))))
+
+  -- the writer of an edge is one of the nodes
+  pub writer_among : (parts : Parts X t) (e : ℕ) → e < length (edges_at parts) → (edge : Edge) → edge ≡ edge_at (edges_at parts) e → edge.writer < length (states_at parts)
+  writer_among parts e l edge is =
+      let wired = are_wired parts in
+      subst (λ (k : Edge). k.writer < length (states_at parts)) (sym is) (between _ _ _ (wired.forward e l) (wired.inside e l))
+
+  -- the shares of a graph that was driven over rings
+  pub are_the_shares : (rested : Rested X t) (shares : RingShares X t) → rested.parts ≡ Apart shares → AreTheShares rested shares.shares.items
+  are_the_shares rested shares is = record {
+    over = subst (λ (parts : Parts X t). AreApart parts) (sym is) tt;
+    nodes = subst (λ (parts : Parts X t). ∥ HaveStates (share_at parts) (edges_at parts) (nodes_in shares.shares.items) (states_at parts) ∥₁) (sym is) shares.rest.nodes;
+    traffic = ap (λ (parts : Parts X t). traffic_at parts) is ∙ sym (ap (λ (parts : Parts X t). traffic_apart (share_at parts) (edges_at parts) shares.shares.items) is);
+    joined = subst (λ (parts : Parts X t). ∥ AreJoined ends_of (share_at parts) (edges_at parts) (ends_in shares.shares.items) RingsJoin (capacity_at parts) ∥₁) (sym is) shares.rest.joined;
+    fed = shares.rest.fed;
+  }

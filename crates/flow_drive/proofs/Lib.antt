@@ -7,3 +7,4 @@ pub mod Gathered
 pub mod Dealt
 pub mod Apart
 pub mod Noted
+pub mod Found

@@ -1,5 +1,5 @@
 -- The places of nodes in their shares, noted one share after another, and one node after another.
-use Rattle.std.proofs.Common.{◌≡◌, ℕ, ◌+◌, ◌<◌, ◌⊎◌, inl, inr, List, length, get_or, set, sym, ◌∙◌, ap, subst, arith, length-set, get_or-set_same, get_or-set_other}
+use Rattle.std.proofs.Common.{◌≡◌, ℕ, ◌+◌, ◌<◌, ◌≤◌, ◌⊎◌, inl, inr, List, length, get_or, set, sym, ◌∙◌, ap, subst, arith, length-set, get_or-set_same, get_or-set_other}
 use Rattle.std.proofs.lemmas.Bool.{cases_eq}
 use Rattle.flow_messages.specs.declared.ends.Ends.{Ghosts as EndsGhosts}
 use Rattle.flow_base.specs.declared.transducer.Transducer.{Ghosts}
@@ -11,7 +11,8 @@ use Rattle.flow_shares.specs.declared.share.Share.{Share}
 use Rattle.flow_round_laws.specs.Joints.{nodes_at}
 use Rattle.flow_round_laws.proofs.Seats.{number_is}
 use Rattle.flow_opening.specs.Deals.{nodes_in}
-use Rattle.flow_epochs.proofs.Lists.{nodes_are}
+use Rattle.flow_opening.specs.Settings.{Setting}
+use Rattle.flow_epochs.proofs.Lists.{count_dealt, nodes_are}
 use Rattle.flow_drive.specs.Apart.{AreItsPlaces}
 
 -- the nodes of a share that was found
@@ -73,3 +74,44 @@ module _ {X : Type 0} {t : Ghosts X} (share : List ℕ) (nodes : List (Placed X 
   -- all shares were noted
   pub noted_all : (places : List ℕ) → AreNoted (length dealt) 0 places → AreItsPlaces share nodes dealt deals places
   noted_all places noted = record { count = noted.count; each = λ k l. noted.before k l (deals.inside k l).0 }
+
+both : (a b : ℕ) → a ≤ b → b ≤ a → a ≡ b
+both a b less more = omega arith
+
+module _ {X Y : Type 0} {t : Ghosts X} {u : EndsGhosts Y} (setting : Setting t) (shares : List (Share X Y t u)) (deals : AreDealt setting.share setting.nodes (nodes_in shares)) where
+  abbrev NotedTo : ℕ → ℕ → List ℕ → Type 0
+  NotedTo = AreNoted setting.share setting.nodes (nodes_in shares) deals
+
+  -- share s, with these nodes
+  module _ (s : ℕ) (l : s < length shares) (own : Share X Y t u) (found : own ≡ get_or shares s own) (nodes : List (Placed X t)) (of : nodes ≡ own.nodes.items) where
+    are : nodes ≡ nodes_at (nodes_in shares) s
+    are = nodes_found shares s own nodes l found of
+
+    low : s < length (nodes_in shares)
+    low = subst (λ n. s < n) (sym (count_dealt shares)) l
+
+    -- one of its nodes was found, with this number
+    module _ (i : ℕ) (below : i < length nodes) (x : Placed X t) (is : x ≡ get_or nodes i x) (number : ℕ) (named : number ≡ x.number) where
+      inside : i < length (nodes_at (nodes_in shares) s)
+      inside = subst (λ (ns : List (Placed X t)). i < length ns) are below
+
+      it : x ≡ get_or (nodes_at (nodes_in shares) s) i x
+      it = is ∙ ap (λ ns. get_or ns i x) are
+
+      pub note_below : number < length setting.nodes
+      note_below = subst (λ n. n < length setting.nodes) (sym named) (number_below setting.share setting.nodes (nodes_in shares) deals setting.edges setting.fit s i low inside x it)
+
+      pub note_next : (places : List ℕ) → NotedTo s i places → NotedTo s (i + 1) (set places number i)
+      note_next places noted =
+          subst (λ n. NotedTo s (i + 1) (set places n i)) (sym named)
+          (noted_next setting.share setting.nodes (nodes_in shares) deals setting.edges setting.fit s i low inside x it places noted)
+
+    pub note_share : (i : ℕ) → i ≤ length nodes → length nodes ≤ i → (places : List ℕ) → NotedTo s i places → NotedTo (s + 1) 0 places
+    note_share i most least places noted =
+        noted_share setting.share setting.nodes (nodes_in shares) deals s places
+        (subst (λ n. NotedTo s n places) (both i (length nodes) most least ∙ ap (λ (ns : List (Placed X t)). length ns) are) noted)
+
+  pub note_all : (s : ℕ) → s ≤ length shares → length shares ≤ s → (places : List ℕ) → NotedTo s 0 places → AreItsPlaces setting.share setting.nodes (nodes_in shares) deals places
+  note_all s most least places noted =
+      noted_all setting.share setting.nodes (nodes_in shares) deals places
+      (subst (λ n. NotedTo n 0 places) (both s (length shares) most least ∙ sym (count_dealt shares)) noted)

@@ -12,13 +12,39 @@ pub mod Dealings
 pub mod Pumped
 pub mod Givens
 pub mod Texts
--- what the public clauses cite of the crates below
+-- what the public clauses cite of the crates below, and what the words above are made of: of networks and their runs
 pub use Rattle.kahn.specs.declared.outcome.Outcome
+pub use Rattle.kahn.specs.Configurations
+pub use Rattle.kahn.specs.Outcomes
+pub use Rattle.kahn.specs.Runs
 pub use Rattle.flow_messages.specs.Ends
+pub use Rattle.flow_messages.specs.declared.ends.Ends as EndsTrait
+pub use Rattle.flow_messages.specs.Signals
 pub use Rattle.flow_base.specs.Transducers
+pub use Rattle.flow_base.specs.declared.transducer.Transducer
+pub use Rattle.flow_graph.specs.Alike
 pub use Rattle.flow_graph.specs.Graphs
+pub use Rattle.flow_graph.specs.MaximalRuns
 pub use Rattle.flow_graph.specs.Networks
-pub use Rattle.flow_shares.specs.Shares
+pub use Rattle.flow_graph.specs.Shapes
+-- of shares, and of the ends that they have
+pub use Rattle.flow_rings.specs.declared.rings.Rings as RingEnds
+pub use Rattle.flow_rings.specs.Rings
+pub use Rattle.flow_boxes.specs.declared.boxes.Boxes
+pub use Rattle.flow_meetings.specs.declared.everywhere.Wire
+pub use Rattle.flow_meetings.specs.BoxMeetings
+pub use Rattle.flow_meetings.specs.Met
+pub use Rattle.flow_meetings.specs.RingMeetings
+pub use Rattle.flow_deal.specs.Deals
+pub use Rattle.flow_shares.specs.declared.share.Share
+pub use Rattle.flow_shares.specs.Lending
+pub use Rattle.flow_shares.specs.Looks
 pub use Rattle.flow_shares.specs.Pumps
+pub use Rattle.flow_shares.specs.Shares
+pub use Rattle.flow_workers.specs.declared.error.WorkError
+pub use Rattle.flow_round_laws.specs.Joints
+pub use Rattle.flow_round_laws.specs.JoinedTheorems
+pub use Rattle.flow_opening.specs.Deals as ShareDeals
+pub use Rattle.flow_opening.specs.Open
 pub use Rattle.flow_opening.specs.Settings
 pub use Rattle.flow_epochs.specs.Epochs as ShareEpochs

@@ -23,7 +23,7 @@ use flow_graph::{Graph, run_serial};
 use flow_messages::Table;
 use flow_shares::Gate;
 use flow_workers::{AlwaysStart, Start, WorkError};
-use std::alloc::{AllocError, Global};
+use std::alloc::{AllocError, AllocFailed, Global};
 use std::sync::Arc;
 use std::thread::Threads;
 use thiserror::Error;
@@ -51,6 +51,14 @@ impl From<AllocError> for DriveError {
     ghost from_gives = { λ _ error. error ≡ NoMemory };
 
     fn from(_: AllocError) -> Self {
+        DriveError::NoMemory
+    }
+}
+
+impl<T: Drop> From<AllocFailed<T>> for DriveError {
+    ghost from_gives = { λ _ error. error ≡ NoMemory };
+
+    fn from(_: AllocFailed<T>) -> Self {
         DriveError::NoMemory
     }
 }

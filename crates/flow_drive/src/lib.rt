@@ -23,8 +23,11 @@ pub use config::{Config, Drive, MAX_CHUNK, MAX_IDLE_TURNS, MAX_SHARE, MAX_THREAD
 pub use dealing::{deal, deal_rings};
 pub use driver::{DriveError, drive, drive_with};
 pub use epochs::{epoch, epoch_with};
+pub use flow_base::{Printing, Transducer};
 pub use flow_boxes::Boxes;
 pub use flow_graph::runs_rest_alike;
+pub use flow_messages::Ends;
+pub use flow_opening::are_fed;
 pub use flow_rings::Rings;
 pub use flow_shares::{Gate, NoGate, Share};
 pub use flow_workers::{AlwaysStart, Start};

@@ -1,4 +1,4 @@
-// The nodes and edges of graphs at rest, by their numbers.
+// What graphs at rest have, by the numbers of nodes and edges.
 ghost use Rattle.std.specs.Prelude.{◌≡◌, ◌<◌, length, slice_index_or};
 ghost use Rattle.std.specs.Io.Iter.{u64_saturate};
 ghost use Rattle.flow_graph.specs.Edges.{edge_at};
@@ -6,10 +6,10 @@ ghost use Rattle.flow_graph.specs.Graphs.{edges_of};
 ghost use Rattle.flow_graph.specs.Layouts.{edges_in};
 ghost use Rattle.flow_graph.specs.Networks.{state_at};
 ghost use Rattle.flow_deal.specs.Deals.{share_of};
-ghost use Rattle.flow_drive.specs.Parts.{states_at, edges_at, traffic_at, gathered_traffic, shares_states, shares_traffic};
+ghost use Rattle.flow_drive.specs.Parts.{gathered_traffic, shares_states, shares_traffic};
 
 use crate::lines::Lines;
-use crate::parts::{Gathered, Parts};
+use crate::parts::Gathered;
 use crate::ring_shares::RingShares;
 use flow_base::Transducer;
 use flow_deal::share_of;
@@ -17,62 +17,6 @@ use flow_graph::Edge;
 use flow_messages::CountedEnds;
 use flow_rings::Rings;
 use flow_shares::Share;
-
-impl<T: Transducer> Parts<T> {
-    /// How many nodes there are.
-    pub fn nodes(&self) -> usize
-        ensures { result ≡ length (states_at self.now) }
-    {
-        match self {
-            Parts::Together(gathered) => gathered.graph.nodes(),
-            Parts::Apart(shares) => shares.places.len(),
-        }
-    }
-
-    /// The node of this number.
-    pub fn node(&self, number: usize) -> &T
-        requires { number < length (states_at self.now) }
-        ensures { T.state result.now ≡ state_at T.behaviour (states_at self.now) number }
-    {
-        match self {
-            Parts::Together(gathered) => gathered.graph.node(number),
-            Parts::Apart(shares) => shares.node(number),
-        }
-    }
-
-    /// How many edges there are.
-    pub fn edges(&self) -> usize
-        ensures { result ≡ length (edges_at self.now) }
-    {
-        match self {
-            Parts::Together(gathered) => gathered.graph.edges(),
-            Parts::Apart(shares) => shares.layout.edges().len(),
-        }
-    }
-
-    /// The edge of this number.
-    pub fn edge(&self, number: usize) -> Edge
-        requires { number < length (edges_at self.now) }
-        ensures { result ≡ edge_at (edges_at self.now) number }
-    {
-        match self {
-            Parts::Together(gathered) => gathered.graph.edge(number),
-            Parts::Apart(shares) => shares.edge(number),
-        }
-    }
-
-    /// How many messages were sent on the edge, and how many were received from it.
-    pub fn counts(&self, edge: usize) -> (u64, u64)
-        requires { edge < length (edges_at self.now) }
-        ensures sent { result.0 ≡ u64_saturate (length ((traffic_at self.now).sent edge)) }
-        ensures received { result.1 ≡ u64_saturate (length ((traffic_at self.now).received edge)) }
-    {
-        match self {
-            Parts::Together(gathered) => gathered.counts(edge),
-            Parts::Apart(shares) => shares.counts(edge),
-        }
-    }
-}
 
 impl<T: Transducer> Gathered<T> {
     /// How many messages were sent on the edge, and how many were received from it.

@@ -5,21 +5,21 @@ ghost use Rattle.kahn.specs.Outcomes.{NamesFault};
 ghost use Rattle.flow_messages.specs.Ends.{View};
 ghost use Rattle.flow_graph.specs.Networks.{network_of, configuration_of};
 ghost use Rattle.flow_drive.specs.Drives.{WantsToWrite, IsFirstToWrite};
-ghost use Rattle.flow_drive.specs.Parts.{states_at, edges_at};
+ghost use Rattle.flow_drive.specs.Resteds.{rested_states, rested_edges};
 
-use crate::parts::Parts;
+use crate::rested::Rested;
 use flow_base::Transducer;
 use kahn::Want;
 use kahn::faults::named;
 use snesl_values::Fault;
 
 /// The fault that is named of all to which nodes have come.
-pub fn standing_fault<T: Transducer>(parts: &Parts<T>) -> Option<Fault>
-    ensures { (view : View) → let net = network_of T.behaviour (states_at parts.now) (edges_at parts.now) in let c = configuration_of T.behaviour (states_at parts.now) view in MatchOption result (NoneFaulted T.behaviour.process net c) (λ fault. NamesFault T.behaviour.process net c fault) }
+pub fn standing_fault<T: Transducer>(rested: &Rested<T>) -> Option<Fault>
+    ensures { (view : View) → let net = network_of T.behaviour (rested_states rested.now) (rested_edges rested.now) in let c = configuration_of T.behaviour (rested_states rested.now) view in MatchOption result (NoneFaulted T.behaviour.process net c) (λ fault. NamesFault T.behaviour.process net c fault) }
 {
     let mut standing: Option<Fault> = None;
-    for node in 0..parts.nodes() {
-        if let Want::Faulted(fault) = parts.node(node).want() {
+    for node in 0..rested.nodes() {
+        if let Want::Faulted(fault) = rested.node(node).want() {
             standing = Some(match standing {
                 None => fault,
                 Some(other) => named(other, fault),
@@ -30,12 +30,12 @@ pub fn standing_fault<T: Transducer>(parts: &Parts<T>) -> Option<Fault>
 }
 
 /// The first edge whose writer wants to write to it.
-pub fn first_to_write<T: Transducer>(parts: &Parts<T>) -> Option<usize>
-    ensures { MatchOption result ((e : ℕ) → e < length (edges_at parts.now) → WantsToWrite T.behaviour (states_at parts.now) (edges_at parts.now) e → ⊥) (λ e. IsFirstToWrite T.behaviour (states_at parts.now) (edges_at parts.now) e) }
+pub fn first_to_write<T: Transducer>(rested: &Rested<T>) -> Option<usize>
+    ensures { MatchOption result ((e : ℕ) → e < length (rested_edges rested.now) → WantsToWrite T.behaviour (rested_states rested.now) (rested_edges rested.now) e → ⊥) (λ e. IsFirstToWrite T.behaviour (rested_states rested.now) (rested_edges rested.now) e) }
 {
-    for number in 0..parts.edges() {
-        let edge = parts.edge(number);
-        if let Want::Write(port) = parts.node(edge.writer).want() {
+    for number in 0..rested.edges() {
+        let edge = rested.edge(number);
+        if let Want::Write(port) = rested.node(edge.writer).want() {
             if port == edge.writer_port {
                 return Some(number);
             }

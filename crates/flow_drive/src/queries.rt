@@ -1,6 +1,8 @@
 // What can be asked of a graph at rest.
 ghost use Rattle.std.specs.Prelude.{◌≡◌, ◌<◌, ℕ, List, Option, length, MatchOption};
 ghost use Rattle.std.specs.Io.Iter.{u64_saturate};
+ghost use Rattle.flow_graph.specs.Edges.{edge_at};
+ghost use Rattle.flow_graph.specs.Networks.{state_at};
 ghost use Rattle.flow_drive.specs.Drives.{ComesOut};
 ghost use Rattle.flow_drive.specs.Resteds.{rested_states, rested_edges, rested_capacity, rested_rounds, rested_epochs, traffic_of, IsOverRings, AreTheShares};
 ghost use Rattle.flow_drive.specs.Texts.{last_text, IsTold};
@@ -9,6 +11,7 @@ use crate::outcome::{first_to_write, standing_fault};
 use crate::parts::Parts;
 use crate::rested::Rested;
 use flow_base::{Printing, Transducer};
+use flow_graph::Edge;
 use flow_rings::Rings;
 use flow_shares::Share;
 use kahn::Outcome;
@@ -19,10 +22,10 @@ impl<T: Transducer> Rested<T> {
     pub fn outcome(&self) -> Outcome
         ensures { ComesOut T.behaviour (rested_states self.now) (rested_edges self.now) (rested_capacity self.now) (traffic_of self.now) result }
     {
-        if let Some(fault) = standing_fault(&self.parts) {
+        if let Some(fault) = standing_fault(self) {
             return Outcome::Fault(fault);
         }
-        match first_to_write(&self.parts) {
+        match first_to_write(self) {
             Some(edge) => Outcome::Stalled { edge },
             None => Outcome::Value,
         }
@@ -32,14 +35,42 @@ impl<T: Transducer> Rested<T> {
     pub fn nodes(&self) -> usize
         ensures { result ≡ length (rested_states self.now) }
     {
-        self.parts.nodes()
+        match &self.parts {
+            Parts::Together(gathered) => gathered.graph.nodes(),
+            Parts::Apart(shares) => shares.places.len(),
+        }
+    }
+
+    // The node of this number.
+    pub(crate) fn node(&self, number: usize) -> &T
+        requires { number < length (rested_states self.now) }
+        ensures { T.state result.now ≡ state_at T.behaviour (rested_states self.now) number }
+    {
+        match &self.parts {
+            Parts::Together(gathered) => gathered.graph.node(number),
+            Parts::Apart(shares) => shares.node(number),
+        }
     }
 
     /// How many edges it has.
     pub fn edges(&self) -> usize
         ensures { result ≡ length (rested_edges self.now) }
     {
-        self.parts.edges()
+        match &self.parts {
+            Parts::Together(gathered) => gathered.graph.edges(),
+            Parts::Apart(shares) => shares.layout.edges().len(),
+        }
+    }
+
+    // The edge of this number.
+    pub(crate) fn edge(&self, number: usize) -> Edge
+        requires { number < length (rested_edges self.now) }
+        ensures { result ≡ edge_at (rested_edges self.now) number }
+    {
+        match &self.parts {
+            Parts::Together(gathered) => gathered.graph.edge(number),
+            Parts::Apart(shares) => shares.edge(number),
+        }
     }
 
     /// How many messages were sent on the edge, and how many were received from it. A count stays at `u64::MAX`.
@@ -48,7 +79,10 @@ impl<T: Transducer> Rested<T> {
         ensures sent { result.0 ≡ u64_saturate (length ((traffic_of self.now).sent edge)) }
         ensures received { result.1 ≡ u64_saturate (length ((traffic_of self.now).received edge)) }
     {
-        self.parts.counts(edge)
+        match &self.parts {
+            Parts::Together(gathered) => gathered.counts(edge),
+            Parts::Apart(shares) => shares.counts(edge),
+        }
     }
 
     /// How many rounds it took, after each of which the threads were joined and the messages carried over: none, in one
@@ -85,8 +119,8 @@ impl<T: Printing> Rested<T> {
         ensures { (text_in : T.State → Option (List ℕ)) → IsTold T.state T.printed text_in → result.now ≡ last_text text_in (rested_states self.now) }
     {
         let mut last: &[u8] = &[];
-        for node in 0..self.parts.nodes() {
-            if let Some(text) = self.parts.node(node).printed() {
+        for node in 0..self.nodes() {
+            if let Some(text) = self.node(node).printed() {
                 last = text;
             }
         }

@@ -1,4 +1,4 @@
-use Rattle.std.proofs.Common.{ℕ, ◌≡◌, ◌<◌, ◌≤◌, refl, sym, subst, arith, inl, rules}
+use Rattle.std.proofs.Common.{ℕ, ◌<◌, ◌≤◌, refl, sym, subst, inl, rules}
 use Rattle.flow_graph.specs.Layouts.{edges_in}
 use Rattle.flow_workers.specs.declared.error.WorkError.TheVariants.{NoThread}
 use Rattle.flow_workers.proofs.Refused.{none_refused}
@@ -8,8 +8,7 @@ use Rattle.flow_opening.specs.Open.{AreWires}
 use Rattle.flow_opening.specs.Settings.{AreFed}
 use Rattle.flow_epochs.specs.Epochs.{moved_in}
 use Rattle.flow_drive.specs.Apart.{AreThePlaces}
-use Rattle.flow_drive.specs.Givens.{IsOfSetting}
-use Rattle.flow_drive.proofs.Apart.{rest_apart, network_apart, moved_apart}
+use Rattle.flow_drive.proofs.Apart.{part_of, rest_apart, network_apart, moved_apart}
 use Rattle.flow_drive.proofs.Refused.{nothing_made}
 use Rattle.flow_drive.proofs.joined.run_dealt.Goals as goal
 
@@ -29,8 +28,8 @@ places_of-requires g c κs within =
 pub invariant_of-apart : goal.invariant_of-apart
 invariant_of-apart g c =
     let laws = (g.met.T.Transducer g.world.𝓛 g.world.𝓜 g.world.𝓡 ((λ s x. x), (λ x. x), (λ x. x), λ x. x)).laws in
-    let given : IsOfSetting g.setting c.args.given = search rules in
-    let layout : edges_in c.args.dealt.layout ≡ g.setting.edges = search rules in
+    let given = c.requires.1.1.1.1.1.1.1.1.1.1.0 in
+    let layout = c.requires.1.1.1.1.1.1.1.1.1.1.1.1.0 in
     let shares = c.in_ok-shares.shares.items in
     let made = c.in_ok-shares.ensures in
     let places = c.in_ok-places.places.items in
@@ -43,8 +42,8 @@ invariant_of-apart g c =
 pub returns-clause-network : goal.returns-clause-network
 returns-clause-network g c =
     let laws = (g.met.T.Transducer g.world.𝓛 g.world.𝓜 g.world.𝓡 ((λ s x. x), (λ x. x), (λ x. x), λ x. x)).laws in
-    let given : IsOfSetting g.setting c.args.given = search rules in
-    let layout : edges_in c.args.dealt.layout ≡ g.setting.edges = search rules in
+    let given = c.requires.1.1.1.1.1.1.1.1.1.1.0 in
+    let layout = c.requires.1.1.1.1.1.1.1.1.1.1.1.1.0 in
     let shares = c.in_ok-shares.shares.items in
     let made = c.in_ok-shares.ensures in
     let places = c.in_ok-places.places.items in
@@ -54,29 +53,29 @@ returns-clause-network g c =
 pub returns-clause-least : goal.returns-clause-least
 returns-clause-least g c =
     let laws = (g.met.T.Transducer g.world.𝓛 g.world.𝓜 g.world.𝓡 ((λ s x. x), (λ x. x), (λ x. x), λ x. x)).laws in
-    let given : IsOfSetting g.setting c.args.given = search rules in
-    let layout : edges_in c.args.dealt.layout ≡ g.setting.edges = search rules in
+    let given = c.requires.1.1.1.1.1.1.1.1.1.1.0 in
+    let layout = c.requires.1.1.1.1.1.1.1.1.1.1.1.1.0 in
     let shares = c.in_ok-shares.shares.items in
     let made = c.in_ok-shares.ensures in
     let places = c.in_ok-places.places.items in
     let known = subst (λ l. AreThePlaces g.setting l places) c.deref-2.ensures.value c.in_ok-places.ensures in
-    let none : moved_in g.setting c.args.dealt.shares.items ≡ 0 = search rules in
+    let none = c.requires.1.1.1.1.1.1.1.1.1.1.1.1.1.1.1 in
     let count = c.in_ok-shares.count in
     moved_apart laws refl g.setting shares made.graph places known c.args.given.share.items (edges_in c.args.dealt.layout) c.args.given.capacity given.share layout given.capacity (λ n. 0 < n → 0 < count)
-    (λ some. made.least (omega (arith, none, some)))
+    (λ some. made.least (subst (λ n. n < moved_in g.setting shares) (sym none) some))
 
 pub returns-clause-most : goal.returns-clause-most
 returns-clause-most g c =
     let laws = (g.met.T.Transducer g.world.𝓛 g.world.𝓜 g.world.𝓡 ((λ s x. x), (λ x. x), (λ x. x), λ x. x)).laws in
-    let given : IsOfSetting g.setting c.args.given = search rules in
-    let layout : edges_in c.args.dealt.layout ≡ g.setting.edges = search rules in
+    let given = c.requires.1.1.1.1.1.1.1.1.1.1.0 in
+    let layout = c.requires.1.1.1.1.1.1.1.1.1.1.1.1.0 in
     let shares = c.in_ok-shares.shares.items in
     let made = c.in_ok-shares.ensures in
     let places = c.in_ok-places.places.items in
     let known = subst (λ l. AreThePlaces g.setting l places) c.deref-2.ensures.value c.in_ok-places.ensures in
     let count = c.in_ok-shares.count in
     moved_apart laws refl g.setting shares made.graph places known c.args.given.share.items (edges_in c.args.dealt.layout) c.args.given.capacity given.share layout given.capacity (λ n. count ≤ n)
-    (omega (arith, made.most))
+    (part_of count (moved_in g.setting c.args.dealt.shares.items) _ made.most)
 
 pub returns-clause-refused : goal.returns-clause-refused
 returns-clause-refused g c now = inl (none_refused _ NoThread c.in_ok-shares.ensures.refused now)

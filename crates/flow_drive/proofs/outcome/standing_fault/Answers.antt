@@ -5,7 +5,7 @@ use Rattle.kahn.specs.declared.want.Want.TheVariants.{Faulted}
 use Rattle.kahn.specs.Configurations.{NoneFaulted}
 use Rattle.kahn.specs.Outcomes.{NamesFault}
 use Rattle.kahn.proofs.Outcomes.{NamesBelow, NoneBelow, none_still, named_still, named_newly, named_next, names_from}
-use Rattle.flow_drive.specs.Parts.{states_at, edges_at}
+use Rattle.flow_drive.specs.Resteds.{rested_states, rested_edges}
 use Rattle.flow_graph.specs.Networks.{state_at, network_of, configuration_of}
 use Rattle.flow_drive.proofs.outcome.standing_fault.Goals as goal
 use Rattle.flow_drive.proofs.outcome.standing_fault.Goals.{in-Faulted+in-None, in-Faulted+in-Some, in_default}
@@ -22,7 +22,7 @@ pub loop-node-preserved : goal.loop-node-preserved
 loop-node-preserved g c =
     let b = g.T.Transducer.behaviour in
     let n = c.loop-node.node in
-    let states = states_at c.args.parts.now in
+    let states = rested_states c.args.rested.now in
     let want : ℕ → Want = λ k. b.process.want (state_at b states k) in
     let here : want n ≡ c.want.result = ap b.process.want (sym c.node.ensures) ∙ sym c.want.ensures in
     elim c.match-want.branch [
@@ -43,7 +43,7 @@ all_known P net c (Some f) below = names_from P net 0 c f below
 pub returns : goal.returns
 returns g c view =
     let b = g.T.Transducer.behaviour in
-    let states = states_at c.args.parts.now in
+    let states = rested_states c.args.rested.now in
     let count : c.loop-node.node ≡ length states = omega (arith, c.loop-node-test.false, c.nodes-node-end.ensures, c.loop-node.auto.node-end) in
-    all_known b.process (network_of b states (edges_at c.args.parts.now)) (configuration_of b states view) c.loop-node.standing
+    all_known b.process (network_of b states (rested_edges c.args.rested.now)) (configuration_of b states view) c.loop-node.standing
     (subst (λ n. Stands (λ k. b.process.want (state_at b states k)) n c.loop-node.standing) count c.loop-node.invariant)

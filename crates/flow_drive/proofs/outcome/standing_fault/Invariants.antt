@@ -1,11 +1,11 @@
 use Rattle.std.proofs.Common.{MatchOption}
 use Rattle.kahn.proofs.Outcomes.{NamesBelow, NoneBelow}
-use Rattle.flow_drive.specs.Parts.{states_at}
+use Rattle.flow_drive.specs.Resteds.{rested_states}
 use Rattle.flow_graph.specs.Networks.{state_at}
 use Rattle.flow_drive.proofs.outcome.standing_fault.Given as goal
 
 -- the fault that is named of those to which the nodes so far have come
 abbrev pub invariant-loop-node : goal.invariant-loop-node
 invariant-loop-node g l =
-    MatchOption l.standing (NoneBelow (λ k. g.T.Transducer.behaviour.process.want (state_at g.T.Transducer.behaviour (states_at l.parts) k)) l.node)
-    (λ fault. NamesBelow (λ k. g.T.Transducer.behaviour.process.want (state_at g.T.Transducer.behaviour (states_at l.parts) k)) l.node fault)
+    MatchOption l.standing (NoneBelow (λ k. g.T.Transducer.behaviour.process.want (state_at g.T.Transducer.behaviour (rested_states l.rested) k)) l.node)
+    (λ fault. NamesBelow (λ k. g.T.Transducer.behaviour.process.want (state_at g.T.Transducer.behaviour (rested_states l.rested) k)) l.node fault)
