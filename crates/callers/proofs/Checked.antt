@@ -1,6 +1,6 @@
 -- What was found of a typed program is so of the text that it was parsed from.
 use Rattle.std.proofs.Common.{◌≡◌, ℕ, List, ap, ◌∙◌, subst}
-use Rattle.snesl_values.specs.declared.dialect.Dialect.{Dialect}
+use Rattle.snesl_values.specs.Dialect.{Dialect}
 use Rattle.snesl_values.specs.Inputs.{Declaration, InputAnswer, InputMeans}
 use Rattle.snesl_types.specs.Program.{Program}
 use Rattle.snesl_types.specs.GrammarView.{program_of as tree_of}

@@ -1,8 +1,8 @@
 -- What comes of a run that writes to an empty vector, in the caller's thread.
 use Rattle.std.proofs.Common.{◌≡◌, ℕ, List, [], ◌++◌, None, Some, inl, inr, Vec, ap, ◌∙◌, subst}
 use Rattle.std.specs.Global.{Global}
-use Rattle.snesl_values.specs.declared.counted.Counted.{Counted}
-use Rattle.snesl_values.specs.declared.fault.Fault.{Fault}
+use Rattle.snesl_values.specs.Counted.{Counted}
+use Rattle.snesl_values.specs.Fault.{Fault}
 use Rattle.flow_drive.specs.declared.config.Config.{Config}
 use Rattle.flow_drive.specs.declared.config.Drive.TheVariants.{Serial}
 use Rattle.snesl_run.specs.Configs.{IsLawful, StartsThreads}

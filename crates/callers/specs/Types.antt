@@ -1,7 +1,7 @@
 -- The value of a program for an input text.
 use Rattle.std.specs.Prelude.{ℕ, List, Result, Ok}
-use Rattle.snesl_values.specs.declared.datum.Datum.{Datum}
-use Rattle.snesl_values.specs.declared.fault.Fault.{Fault}
+use Rattle.snesl_values.specs.Datum.{Datum}
+use Rattle.snesl_values.specs.Fault.{Fault}
 use Rattle.snesl_values.specs.Inputs.{Declaration, Environment, InputMeans, spells}
 use Rattle.snesl_values.specs.Types.{Ty}
 use Rattle.snesl_syntax.specs.Parse.{Parses}

@@ -1,7 +1,7 @@
 -- What an input text says of a name.
 use Rattle.std.specs.Prelude.{◌≡◌, ◌⊎◌, ℕ, List, Option, option_map, Vec}
 use Rattle.std.specs.Global.{Global}
-use Rattle.snesl_values.specs.declared.dialect.Dialect.TheVariants.{One}
+use Rattle.snesl_values.specs.Dialect.TheVariants.{One}
 use Rattle.snesl_values.specs.declared.inputs.InputError.{InputError}
 use Rattle.snesl_values.specs.declared.inputs.InputError.TheVariants.{Bad, NoMemory}
 use Rattle.snesl_values.specs.Inputs.{Declaration, Environment, InputMeans, spells, refused_at, value_in}

@@ -2,7 +2,7 @@
 use Rattle.std.specs.Prelude.{◌≡◌, ℕ, zero, suc, ◌+◌, List, [], ◌∷◌, ◌++◌, length, replicate, Option, Some, option_map, refl}
 use Rattle.std.specs.List.{slice_get}
 use Rattle.std.proofs.Common.{◌∙◌, ap, subst, arith, length-append}
-use Rattle.snesl_values.specs.declared.dialect.Dialect.{Dialect}
+use Rattle.snesl_data.specs.declared.dialect.Dialect.{Dialect}
 use Rattle.flow_messages.specs.declared.message.Kind.{Kind}
 use Rattle.flow_rows.specs.Lists.{bind, each}
 use Rattle.flow_plans.specs.declared.operation.Operation.{Operation as OperationData}

@@ -1,8 +1,8 @@
 -- What the exit of a `?` returns.
 use Rattle.std.proofs.Common.{◌≡◌, Result, Ok, Err, sym, subst}
 use Rattle.std.specs.Result.{IfOk, OnOk, IfErr, IsErr, IsErrAnd}
-use Rattle.snesl_values.specs.declared.refusal.Refusal.{Refusal}
-use Rattle.snesl_values.specs.declared.refusal.Refusal.TheVariants.{TooBig, NoMemory}
+use Rattle.snesl_data.specs.declared.refusal.Refusal.{Refusal}
+use Rattle.snesl_data.specs.declared.refusal.Refusal.TheVariants.{TooBig, NoMemory}
 
 -- nothing is given
 pub none_given : {A E : Type 0} (P : A → Type 0) (r : Result A E) → IsErr r → IfOk r P

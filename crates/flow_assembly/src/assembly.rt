@@ -1,7 +1,7 @@
 // The graph of a plan.
 
 ghost use Rattle.std.specs.Prelude.{◌≡◌, ◌<◌, ◌≤◌, ◌⊎◌, [], length, IfOk, IfErr};
-ghost use Rattle.snesl_values.specs.declared.refusal.Refusal.TheVariants.{TooBig, NoMemory};
+ghost use Rattle.snesl_data.specs.declared.refusal.Refusal.TheVariants.{TooBig, NoMemory};
 ghost use Rattle.flow_graph.specs.Graphs.{states_of, edges_of, states_so_far, edges_so_far};
 ghost use Rattle.flow_graph.specs.Limits.{most_nodes, most_edges};
 ghost use Rattle.flow_graph.specs.Networks.{AreOpened};
@@ -18,7 +18,7 @@ use crate::plan::Plan;
 use flow_graph::Graph;
 use flow_nodes::StreamNode;
 use flow_plans::Step;
-use snesl_values::{Dialect, Refusal};
+use snesl_data::{Dialect, Refusal};
 use std::alloc::Global;
 
 /// The network of a plan.

@@ -2,7 +2,7 @@
 
 ghost use Rattle.std.specs.Prelude.{◌≡◌, ℕ, ◌+◌, ◌<◌, ◌≤◌, ◌⊎◌, [], length, drop, Some, OnOk, IfErr};
 ghost use Rattle.std.specs.List.{slice_get};
-ghost use Rattle.snesl_values.specs.declared.refusal.Refusal.TheVariants.{TooBig, NoMemory};
+ghost use Rattle.snesl_data.specs.declared.refusal.Refusal.TheVariants.{TooBig, NoMemory};
 ghost use Rattle.flow_graph.specs.Graphs.{states_so_far, edges_so_far};
 ghost use Rattle.flow_plans.specs.Layouts.{times, uses, behind, all_behind, layout, stream_to};
 ghost use Rattle.flow_plans.specs.Ports.{AreWired, kinds_after};
@@ -14,7 +14,7 @@ use crate::network::{Network, Port};
 use crate::nodes::{fork_of, kinds_written, node_of, sink_of};
 use crate::plan::Plan;
 use flow_messages::Kind;
-use snesl_values::Refusal;
+use snesl_data::Refusal;
 
 impl Network {
     /// Adds the step of this number, behind all before it: its transducer, and what stands behind the streams that it

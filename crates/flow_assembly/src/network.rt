@@ -1,7 +1,7 @@
 // A network that is being built.
 
 ghost use Rattle.std.specs.Prelude.{◌≡◌, ◌+◌, ◌<◌, ◌^◌, ◌⊎◌, ◌++◌, ◌∷◌, [], length, drop, slice_set, IfOk, OnOk, IfErr};
-ghost use Rattle.snesl_values.specs.declared.refusal.Refusal.TheVariants.{TooBig, NoMemory};
+ghost use Rattle.snesl_data.specs.declared.refusal.Refusal.TheVariants.{TooBig, NoMemory};
 ghost use Rattle.flow_graph.specs.Graphs.{states_so_far, edges_so_far};
 ghost use Rattle.flow_graph.specs.Limits.{most_nodes, most_edges};
 ghost use Rattle.flow_graph.specs.Networks.{MayJoin};
@@ -11,7 +11,7 @@ ghost use Rattle.flow_assembly.specs.Ready.{ports_of};
 
 use flow_graph::{Edge, GraphBuilder};
 use flow_nodes::StreamNode;
-use snesl_values::Refusal;
+use snesl_data::Refusal;
 use std::alloc::{AllocError, Global};
 
 /// An output port of a node.

@@ -20,7 +20,7 @@ use flow_segment::{
     PartFlags, SameFlags, TheCheck,
 };
 use flow_values::{Index, Print, Seq, Tab};
-use snesl_values::{Dialect, copy_ty};
+use snesl_data::{Dialect, copy_ty};
 use std::alloc::{AllocError, Global};
 
 /// The transducer of the operation in a program of the dialect, in its opening state. Its faults are at this offset. Its

@@ -1,7 +1,7 @@
 // The steps of a plan, and how often they read each stream.
 
 ghost use Rattle.std.specs.Prelude.{◌≡◌, ℕ, ◌+◌, ◌<◌, ◌≤◌, ◌⊎◌, length, slice_index_or, IfOk, OnOk, IfErr};
-ghost use Rattle.snesl_values.specs.declared.refusal.Refusal.TheVariants.{TooBig, NoMemory};
+ghost use Rattle.snesl_data.specs.declared.refusal.Refusal.TheVariants.{TooBig, NoMemory};
 ghost use Rattle.flow_graph.specs.Limits.{most_edges};
 ghost use Rattle.flow_plans.specs.Layouts.{times};
 ghost use Rattle.flow_plans.specs.Views.{steps_of};
@@ -9,7 +9,7 @@ ghost use Rattle.flow_assembly.specs.Ready.{plan_of, IsCounted, IsTooBig};
 
 use flow_graph::MAX_EDGES;
 use flow_plans::Step;
-use snesl_values::{Dialect, Refusal};
+use snesl_data::{Dialect, Refusal};
 use std::alloc::{AllocError, Global};
 
 /// The steps of a plan in a program of the dialect, with how often they read each stream.

@@ -1,9 +1,9 @@
 -- What is left to a machine, as a run: what a first item, and an item more, make of it.
 use Rattle.std.specs.Prelude.{◌≡◌, ℕ, zero, suc, ◌<◌, [], ◌∷◌, Bool, true, false, cond, Result, Ok, Err, refl, ◌↔◌}
 use Rattle.std.proofs.Common.{sym, ap, subst}
-use Rattle.snesl_values.specs.declared.dialect.Dialect.{Dialect}
-use Rattle.snesl_values.specs.declared.fault.FaultKind.{FaultKind}
-use Rattle.snesl_values.specs.declared.fault.FaultKind.TheVariants.{Shape}
+use Rattle.snesl_data.specs.declared.dialect.Dialect.{Dialect}
+use Rattle.snesl_data.specs.declared.fault.FaultKind.{FaultKind}
+use Rattle.snesl_data.specs.declared.fault.FaultKind.TheVariants.{Shape}
 use Rattle.flow_messages.specs.Cells.{Cell, flag, int, is_of}
 use Rattle.flow_base.specs.Lists.{Lists, push, with_port, First, First-full, IsFull, NothingAt}
 use Rattle.flow_base.specs.Ports.{at_port, take_away, nothing_at, first_of_list, First-from}

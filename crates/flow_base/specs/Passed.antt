@@ -1,7 +1,7 @@
 -- A transducer that keeps its promises: which ends have passed, and of which kind and in which range its items are.
 use Rattle.std.specs.Prelude.{◌≡◌, ℕ, ◌<◌, List, [], ◌∷◌, true, refl}
 use Rattle.std.proofs.Common.{inl, inr, sym, ◌∙◌, ap, subst}
-use Rattle.snesl_values.specs.declared.dialect.Dialect.{Dialect}
+use Rattle.snesl_data.specs.declared.dialect.Dialect.{Dialect}
 use Rattle.kahn.specs.declared.want.Want.TheVariants.{Read, Write}
 use Rattle.kahn.specs.Processes.{Event, Reads, Writes, Does, reads, writes, HasEnd}
 use Rattle.kahn.proofs.Prefix.{reads_first, reads_later, writes_first, writes_later}

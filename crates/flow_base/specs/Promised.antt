@@ -1,7 +1,7 @@
 -- A behaviour that keeps promises keeps the laws of transducers.
 use Rattle.std.specs.Prelude.{◌≡◌, ℕ, ◌<◌, List, [], Bool, true, false, refl}
 use Rattle.std.proofs.Common.{sym, ◌∙◌, ap, subst, append-nil}
-use Rattle.snesl_values.specs.declared.fault.Fault.{Fault}
+use Rattle.snesl_data.specs.declared.fault.Fault.{Fault}
 use Rattle.kahn.specs.declared.want.Want.TheVariants.{Read, Write, Ended, Faulted}
 use Rattle.kahn.specs.Basics.{Begins}
 use Rattle.kahn.specs.Processes.{Event, Does, reads, writes, HasEnd, IsLawful, RunsToEnd}

@@ -1,9 +1,9 @@
 -- Transducers: sequential processes over signals (Kahn 1974), their ports, and the law that ties what goes
 -- out to what came in.
 use Rattle.std.specs.Prelude.{◌≡◌, ℕ, ◌<◌, Bool, false, List, [], ◌∷◌, cond, nat_lt}
-use Rattle.snesl_values.specs.declared.dialect.Dialect.{Dialect}
-use Rattle.snesl_values.specs.declared.fault.Fault.{Fault}
-use Rattle.snesl_values.specs.declared.fault.FaultKind.TheVariants.{Shape}
+use Rattle.snesl_data.specs.declared.dialect.Dialect.{Dialect}
+use Rattle.snesl_data.specs.declared.fault.Fault.{Fault}
+use Rattle.snesl_data.specs.declared.fault.FaultKind.TheVariants.{Shape}
 use Rattle.kahn.specs.declared.want.Want.{Want}
 use Rattle.kahn.specs.declared.want.Want.TheVariants.{Read, Write, Ended, Faulted}
 use Rattle.kahn.specs.Basics.{Begins}

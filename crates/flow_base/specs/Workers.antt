@@ -1,6 +1,6 @@
 -- What the calls of a worker answer and leave.
 use Rattle.std.specs.Prelude.{◌≡◌, Result, Ok, Err}
-use Rattle.snesl_values.specs.declared.fault.FaultKind.{FaultKind}
+use Rattle.snesl_data.specs.declared.fault.FaultKind.{FaultKind}
 use Rattle.flow_base.specs.declared.worker.Ask.{Ask}
 use Rattle.flow_base.specs.declared.worker.Ask.TheVariants.{Begin, Take, Give}
 use Rattle.flow_base.specs.declared.worker.Stop.{Stop}

@@ -13,7 +13,7 @@ use crate::transducer::{Port, Side, Transducer};
 use crate::worker::{Ask, Stop, Worker};
 use flow_messages::{Ends, Msg};
 use kahn::Want;
-use snesl_values::{Fault, FaultKind};
+use snesl_data::{Fault, FaultKind};
 use std::alloc::AllocError;
 
 /// How far a node is.

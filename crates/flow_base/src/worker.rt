@@ -4,7 +4,7 @@ ghost use Rattle.std.specs.Prelude.{◌≡◌, false, IfOk, OnErr, IsOk};
 ghost use Rattle.flow_base.specs.Computed.{ComputesRow};
 
 use flow_messages::{Item, Kind};
-use snesl_values::FaultKind;
+use snesl_data::FaultKind;
 use std::alloc::AllocError;
 
 /// What a worker wants next.

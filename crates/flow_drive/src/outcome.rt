@@ -11,7 +11,7 @@ use crate::rested::Rested;
 use flow_base::Transducer;
 use kahn::Want;
 use kahn::faults::named;
-use snesl_values::Fault;
+use snesl_data::Fault;
 
 /// The fault that is named of all to which nodes have come.
 pub fn standing_fault<T: Transducer>(rested: &Rested<T>) -> Option<Fault>

@@ -1,5 +1,5 @@
 -- what the contracts cite: of messages, and of the ends of edges
-pub use Rattle.snesl_values.specs.Values
+pub use Rattle.snesl_data.specs.Values
 pub use Rattle.flow_messages.specs.declared.message.Item
 pub use Rattle.flow_messages.specs.declared.message.Kind
 pub use Rattle.flow_messages.specs.declared.message.Msg

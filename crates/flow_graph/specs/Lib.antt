@@ -20,7 +20,7 @@ pub mod Flows
 pub mod FlowTheorems
 pub mod Replacements
 -- what the public clauses cite of the crates below
-pub use Rattle.snesl_values.specs.declared.refusal.Refusal
+pub use Rattle.snesl_data.specs.declared.refusal.Refusal
 pub use Rattle.kahn.specs.declared.outcome.Outcome
 pub use Rattle.kahn.specs.declared.want.Want
 pub use Rattle.kahn.specs.Configurations

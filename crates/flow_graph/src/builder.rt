@@ -1,6 +1,6 @@
 // How graphs are built.
 ghost use Rattle.std.specs.Prelude.{◌≡◌, ◌++◌, ◌∷◌, [], ◌↔◌, ◌⊎◌, IsTrue, IfOk, OnErr, IfErr, length};
-ghost use Rattle.snesl_values.specs.declared.refusal.Refusal.TheVariants.{TooBig, NoMemory};
+ghost use Rattle.snesl_data.specs.declared.refusal.Refusal.TheVariants.{TooBig, NoMemory};
 ghost use Rattle.flow_graph.specs.Limits.{most_nodes, most_edges};
 ghost use Rattle.flow_graph.specs.Networks.{AreOpened, MayJoin, IsJoined};
 ghost use Rattle.flow_graph.specs.Graphs.{states_of, edges_of, states_so_far, edges_so_far};
@@ -10,7 +10,7 @@ use crate::graph::{Graph, GraphBuilder};
 use crate::placed::Placed;
 use crate::wiring::Wiring;
 use flow_base::Transducer;
-use snesl_values::Refusal;
+use snesl_data::Refusal;
 use std::alloc::Global;
 
 impl<T: Transducer + Drop> GraphBuilder<T> {

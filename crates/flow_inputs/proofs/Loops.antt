@@ -5,8 +5,8 @@ use Rattle.std.proofs.Common.{Result, Ok, Err, get_or, take, drop, sym, ap, ◌�
 use Rattle.std.specs.Result.{IfOk, IsErr}
 use Rattle.std.proofs.Math.Path.{ap₂}
 use Rattle.std.proofs.lemmas.List.{at_drop_more, map_more, map_push, length-map, take_all}
-use Rattle.snesl_values.specs.declared.datum.Datum.{Datum}
-use Rattle.snesl_values.specs.Values.{Value, value_of}
+use Rattle.snesl_data.specs.declared.datum.Datum.{Datum}
+use Rattle.snesl_data.specs.Values.{Value, value_of}
 use Rattle.flow_messages.specs.Cells.{Cell}
 use Rattle.flow_base.specs.Flags.{F, T, elements, flags, joined, lengths}
 use Rattle.flow_base.specs.Segments.{elements-append, elements-add}

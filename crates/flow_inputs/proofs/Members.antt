@@ -3,10 +3,10 @@ use Rattle.std.specs.Prelude.{◌≡◌, ℕ, zero, suc, ◌<◌, ℤ, Bool, tru
 use Rattle.std.specs.Borrow.{Bor}
 use Rattle.std.proofs.Common.{get_or, arith, ap, ◌∙◌}
 use Rattle.std.proofs.Math.Path.{ap₂}
-use Rattle.snesl_values.specs.declared.datum.Datum.{Datum}
-use Rattle.snesl_values.specs.declared.datum.Datum.TheVariants.{Int, Bool as BoolDatum}
-use Rattle.snesl_values.specs.Types.{Ty, int, bool, pair, vec, seq}
-use Rattle.snesl_values.specs.Values.{Value, a_pair, a_vec, a_seq, value_of}
+use Rattle.snesl_data.specs.declared.datum.Datum.{Datum}
+use Rattle.snesl_data.specs.declared.datum.Datum.TheVariants.{Int, Bool as BoolDatum}
+use Rattle.snesl_data.specs.Types.{Ty, int, bool, pair, vec, seq}
+use Rattle.snesl_data.specs.Values.{Value, a_pair, a_vec, a_seq, value_of}
 use Rattle.flow_messages.specs.Cells.{datum}
 use Rattle.flow_base.specs.Flags.{joined}
 use Rattle.flow_values.specs.Shapes.{is_a, all_are, cell_for, first_of, second_of, elements_of}

@@ -1,13 +1,13 @@
 // Parts of values, side by side.
 
 ghost use Rattle.std.specs.Prelude.{◌≡◌, ◌++◌, ◌∷◌, [], map, IfOk, OnOk};
-ghost use Rattle.snesl_values.specs.Values.{value_of};
+ghost use Rattle.snesl_data.specs.Values.{value_of};
 ghost use Rattle.flow_messages.specs.Cells.{flag};
 ghost use Rattle.flow_base.specs.Flags.{T, elements, flags, joined, lengths};
 ghost use Rattle.flow_values.specs.Shapes.{first_of, second_of, elements_of};
 ghost use Rattle.flow_inputs.specs.Data.{values_at};
 
-use snesl_values::Datum;
+use snesl_data::Datum;
 use std::alloc::{AllocError, Global};
 
 // The first part of a pair.

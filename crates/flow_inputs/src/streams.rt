@@ -1,8 +1,8 @@
 // A value as the streams of its edges.
 
 ghost use Rattle.std.specs.Prelude.{◌≡◌, ◌++◌, ◌∷◌, [], true, map, IfOk, OnOk};
-ghost use Rattle.snesl_values.specs.Types.{ty_of, int as int_type, bool as bool_type};
-ghost use Rattle.snesl_values.specs.Values.{value_of, values_of};
+ghost use Rattle.snesl_data.specs.Types.{ty_of, int as int_type, bool as bool_type};
+ghost use Rattle.snesl_data.specs.Values.{value_of, values_of};
 ghost use Rattle.flow_messages.specs.Cells.{flag, int as int_cell, datum as vector_cell};
 ghost use Rattle.flow_scalar.specs.Streams.{stream_cells, stream_kind};
 ghost use Rattle.flow_values.specs.Shapes.{is_a, all_are, cell_for, kinds_of};
@@ -11,7 +11,7 @@ ghost use Rattle.flow_inputs.specs.Data.{values_at};
 
 use crate::parts::{elements, firsts, flags, seconds};
 use flow_scalar::Stream;
-use snesl_values::{Datum, Ty, copy_datum};
+use snesl_data::{Datum, Ty, copy_datum};
 use std::alloc::{AllocError, Global};
 
 /// What a value of the type puts on the edges of the type, edge by edge. The error is that memory was refused.

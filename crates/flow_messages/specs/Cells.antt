@@ -1,6 +1,6 @@
 -- What an item carries, without the places in memory where it lies.
 use Rattle.std.specs.Prelude.{ℤ, Bool, true, false}
-use Rattle.snesl_values.specs.Values.{Value, value_of}
+use Rattle.snesl_data.specs.Values.{Value, value_of}
 use Rattle.flow_messages.specs.declared.message.Item.{Item}
 use Rattle.flow_messages.specs.declared.message.Item.TheVariants.{Unit as UnitItem, Bool as BoolItem, Int as IntItem, Vec as VecItem}
 use Rattle.flow_messages.specs.declared.message.Kind.{Kind}

@@ -1,10 +1,10 @@
 // What an edge carries.
 ghost use Rattle.std.specs.Prelude.{◌≡◌, false, IfOk, IsOk};
-ghost use Rattle.snesl_values.specs.Values.{value_of};
+ghost use Rattle.snesl_data.specs.Values.{value_of};
 ghost use Rattle.flow_messages.specs.Cells.{cell_of, datum as datum_cell, is_of};
 ghost use Rattle.flow_messages.specs.Signals.{signal_of, is_stop};
 
-use snesl_values::{Datum, copy_datum};
+use snesl_data::{Datum, copy_datum};
 use std::alloc::{AllocError, Global};
 
 /// What kind of items a stream carries.

@@ -2,10 +2,10 @@
 use denote.Param.Send.{IsSend, arg_send, param_send, sendable}
 use denote.Param.SendFields.{variants_send}
 use Rattle.std.proofs.Crossing.{crosses}
-use Rattle.snesl_values.proofs.datum.Datum.TheLaws.TheKnot as datum_knot
-use Rattle.snesl_values.proofs.ty.Ty.TheLaws.TheKnot as ty_knot
-use Rattle.snesl_values.specs.contracts.datum.Datum as datum
-use Rattle.snesl_values.specs.contracts.ty.Ty as ty
+use Rattle.snesl_data.proofs.datum.Datum.TheLaws.TheKnot as datum_knot
+use Rattle.snesl_data.proofs.ty.Ty.TheLaws.TheKnot as ty_knot
+use Rattle.snesl_data.specs.contracts.datum.Datum as datum
+use Rattle.snesl_data.specs.contracts.ty.Ty as ty
 use Rattle.flow_nodes.specs.contracts.stream_node.StreamNode as stream_node
 
 -- each as it stands in a field, where a search comes to it

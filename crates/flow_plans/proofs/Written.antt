@@ -2,8 +2,8 @@
 use Rattle.std.specs.Prelude.{◌≡◌, ◌==◌, List, [], ◌∷◌, map, sum, length, replicate, Option, Some}
 use Rattle.std.proofs.Common.{sym, ◌∙◌, ap}
 use Rattle.std.proofs.lemmas.List.{length-replicate}
-use Rattle.snesl_values.specs.Types.{seq}
-use Rattle.snesl_values.specs.Values.{Value}
+use Rattle.snesl_data.specs.Types.{seq}
+use Rattle.snesl_data.specs.Values.{Value}
 use Rattle.snesl_operators.specs.Operators.{same_truth}
 use Rattle.flow_messages.specs.Cells.{Cell}
 use Rattle.flow_base.specs.Flags.{flags, joined, lengths}

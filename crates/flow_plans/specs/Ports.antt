@@ -1,7 +1,7 @@
 -- The ports of the transducer of an operation: the kinds of the streams that it reads, and of those that it writes.
 use Rattle.std.specs.Prelude.{◌≡◌, ℕ, List, [], ◌∷◌, ◌++◌, replicate, Some}
 use Rattle.std.specs.List.{slice_get}
-use Rattle.snesl_values.specs.Types.{seq}
+use Rattle.snesl_data.specs.Types.{seq}
 use Rattle.snesl_operators.specs.Operators.{type_of, unary_operand, binary_operand, binary_result}
 use Rattle.flow_messages.specs.declared.message.Kind.{Kind}
 use Rattle.flow_messages.specs.declared.message.Kind.TheVariants.{Unit as UnitKind, Bool as BoolKind, Int as IntKind, Vec as VecKind}

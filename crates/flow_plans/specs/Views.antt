@@ -1,7 +1,7 @@
 -- Plans as the program's data hold them.
 use Rattle.std.specs.Prelude.{List, [], ◌∷◌, map}
-use Rattle.snesl_values.specs.declared.dialect.Dialect.{Dialect}
-use Rattle.snesl_values.specs.Types.{ty_of}
+use Rattle.snesl_data.specs.declared.dialect.Dialect.{Dialect}
+use Rattle.snesl_data.specs.Types.{ty_of}
 use Rattle.flow_messages.specs.Cells.{unit}
 use Rattle.flow_messages.specs.declared.message.Kind.TheVariants.{Unit as UnitKind}
 use Rattle.flow_plans.specs.declared.operation.Operation.{Operation as OperationData}

@@ -1,8 +1,8 @@
 // The steps of a plan.
 
 use flow_messages::Kind;
+use snesl_data::Ty;
 use snesl_operators::{BinaryOperator, Reduction, Scalar, UnaryOperator};
-use snesl_values::Ty;
 
 /// Which transducer a step is. All compute in the dialect of the program.
 #[derive(Debug, Drop)]

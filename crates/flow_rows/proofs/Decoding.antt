@@ -2,7 +2,7 @@
 use Rattle.std.specs.Prelude.{◌≡◌, ℕ, zero, suc, ℤ, Bool, true, false, List, [], ◌∷◌, map, replicate, Option, Some, None, option_map, refl}
 use Rattle.std.specs.List.{list_all}
 use Rattle.std.proofs.Common.{sym, ◌∙◌, ap, subst, map-id}
-use Rattle.snesl_values.specs.Values.{Value}
+use Rattle.snesl_data.specs.Values.{Value}
 use Rattle.snesl_operators.specs.declared.scalar.Scalar.{Scalar}
 use Rattle.flow_messages.specs.Cells.{Cell, unit, flag, int, datum, is_of}
 use Rattle.flow_messages.specs.declared.message.Kind.{Kind}

@@ -3,9 +3,9 @@ use Rattle.std.specs.Prelude.{◌≡◌, ℕ, zero, suc, ◌+◌, ℤ, pos, Bool
 use Rattle.std.specs.Result.{result_ok}
 use Rattle.std.proofs.Common.{arith, sym, ◌∙◌, ap}
 use Rattle.std.proofs.lemmas.List.Sums.{sum_by-cons}
-use Rattle.snesl_values.specs.declared.dialect.Dialect.{Dialect}
-use Rattle.snesl_values.specs.Types.{Ty, vec, seq}
-use Rattle.snesl_values.specs.Values.{Value}
+use Rattle.snesl_data.specs.declared.dialect.Dialect.{Dialect}
+use Rattle.snesl_data.specs.Types.{Ty, vec, seq}
+use Rattle.snesl_data.specs.Values.{Value}
 use Rattle.snesl_operators.specs.Operators.{ranged, unary_value, binary_value}
 use Rattle.snesl_operators.specs.Reductions.{reduced, scanned}
 use Rattle.snesl_operators.specs.declared.scalar.Scalar.{Scalar}

@@ -5,10 +5,10 @@ use Rattle.std.specs.Result.{result_ok}
 use Rattle.std.proofs.Common.{sym, ◌∙◌, ap, subst, map-id}
 use Rattle.std.proofs.Math.Path.{ap₂}
 use Rattle.std.proofs.lemmas.List.Elements.{All-nil, All-cons, All-head, All-tail}
-use Rattle.snesl_values.specs.declared.dialect.Dialect.{Dialect}
-use Rattle.snesl_values.specs.declared.fault.FaultKind.{FaultKind}
-use Rattle.snesl_values.specs.declared.fault.FaultKind.TheVariants.{Overflow}
-use Rattle.snesl_values.specs.Integers.{is_integer, IsInteger}
+use Rattle.snesl_data.specs.declared.dialect.Dialect.{Dialect}
+use Rattle.snesl_data.specs.declared.fault.FaultKind.{FaultKind}
+use Rattle.snesl_data.specs.declared.fault.FaultKind.TheVariants.{Overflow}
+use Rattle.snesl_data.specs.Integers.{is_integer, IsInteger}
 use Rattle.snesl_operators.specs.Operators.{ranged, unary_value, binary_value}
 use Rattle.snesl_operators.specs.Reductions.{reduced, scanned}
 use Rattle.snesl_operators.specs.declared.scalar.Scalar.{Scalar}

@@ -2,8 +2,8 @@
 use Rattle.std.specs.Prelude.{◌≡◌, suc, ℤ, true, List, [], ◌∷◌, map, Some, option_map, refl}
 use Rattle.std.proofs.Common.{sym, ◌∙◌, ap, subst}
 use Rattle.std.proofs.Math.Path.{ap₂}
-use Rattle.snesl_values.specs.Types.{Ty, vec, seq, is_concrete}
-use Rattle.snesl_values.specs.Values.{Value, an_int, a_bool, a_pair, a_vec, a_seq, list_of, values_of}
+use Rattle.snesl_data.specs.Types.{Ty, vec, seq, is_concrete}
+use Rattle.snesl_data.specs.Values.{Value, an_int, a_bool, a_pair, a_vec, a_seq, list_of, values_of}
 use Rattle.flow_messages.specs.Cells.{Cell, int, datum}
 use Rattle.flow_base.specs.Lists.{Lists}
 use Rattle.flow_base.specs.Flags.{flags, joined, lengths}

@@ -1,8 +1,8 @@
 -- What a list of cells encodes, or nothing where it encodes nothing such.
 use Rattle.std.specs.Prelude.{ℕ, zero, suc, ℤ, Bool, true, false, List, [], ◌∷◌, map, take, drop, Option, Some, None, option_map}
 use Rattle.std.specs.List.{list_all}
-use Rattle.snesl_values.specs.Types.{Ty, int, bool, pair, vec, seq}
-use Rattle.snesl_values.specs.Values.{Value, an_int, a_bool, a_pair, a_seq, values_of}
+use Rattle.snesl_data.specs.Types.{Ty, int, bool, pair, vec, seq}
+use Rattle.snesl_data.specs.Values.{Value, an_int, a_bool, a_pair, a_seq, values_of}
 use Rattle.snesl_operators.specs.declared.scalar.Scalar.{Scalar}
 use Rattle.flow_messages.specs.Cells.{Cell, unit, flag, int as int_cell, datum, is_of}
 use Rattle.flow_messages.specs.declared.message.Kind.{Kind}

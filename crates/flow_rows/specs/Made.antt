@@ -2,9 +2,9 @@
 -- allows, or not as many as it has inputs.
 use Rattle.std.specs.Prelude.{ℕ, zero, ℤ, pos, negsuc, ◌==◌, List, [], ◌∷◌, map, sum, length, replicate, Option, Some, None, option_map}
 use Rattle.std.specs.Result.{result_ok}
-use Rattle.snesl_values.specs.declared.dialect.Dialect.{Dialect}
-use Rattle.snesl_values.specs.Types.{Ty, vec, seq, is_concrete}
-use Rattle.snesl_values.specs.Values.{Value, a_vec, values_of}
+use Rattle.snesl_data.specs.declared.dialect.Dialect.{Dialect}
+use Rattle.snesl_data.specs.Types.{Ty, vec, seq, is_concrete}
+use Rattle.snesl_data.specs.Values.{Value, a_vec, values_of}
 use Rattle.snesl_operators.specs.Operators.{ranged, unary_value, binary_value, same_truth}
 use Rattle.snesl_operators.specs.Reductions.{reduced, scanned}
 use Rattle.snesl_operators.specs.declared.scalar.Scalar.{Scalar}

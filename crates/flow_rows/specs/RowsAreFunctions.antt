@@ -1,7 +1,7 @@
 -- The rows of the transducers are partial functions on the columns that come in.
 use Rattle.std.specs.Prelude.{◌≡◌, ◌↔◌, ℕ, List, Option, Some}
-use Rattle.snesl_values.specs.declared.dialect.Dialect.{Dialect}
-use Rattle.snesl_values.specs.Types.{Ty, seq}
+use Rattle.snesl_data.specs.declared.dialect.Dialect.{Dialect}
+use Rattle.snesl_data.specs.Types.{Ty, seq}
 use Rattle.snesl_operators.specs.declared.scalar.Scalar.{Scalar}
 use Rattle.snesl_operators.specs.declared.operator.UnaryOperator.{UnaryOperator}
 use Rattle.snesl_operators.specs.declared.operator.BinaryOperator.{BinaryOperator}

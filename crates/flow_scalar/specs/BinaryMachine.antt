@@ -1,8 +1,8 @@
 -- An operator on two scalars, as a machine.
 use Rattle.std.specs.Prelude.{◌≡◌, false, Result, Ok}
-use Rattle.snesl_values.specs.declared.dialect.Dialect.{Dialect}
-use Rattle.snesl_values.specs.declared.dialect.Dialect.TheVariants.{One}
-use Rattle.snesl_values.specs.declared.fault.FaultKind.{FaultKind}
+use Rattle.snesl_data.specs.declared.dialect.Dialect.{Dialect}
+use Rattle.snesl_data.specs.declared.dialect.Dialect.TheVariants.{One}
+use Rattle.snesl_data.specs.declared.fault.FaultKind.{FaultKind}
 use Rattle.snesl_operators.specs.Operators.{type_of, ScalarInRange, binary_operand, binary_result, binary_value}
 use Rattle.snesl_operators.specs.Reductions.{and_then}
 use Rattle.snesl_operators.specs.declared.scalar.Scalar.{Scalar}

@@ -1,6 +1,6 @@
 -- The machine of Fork: an item that comes goes to each output, one after another.
 use Rattle.std.specs.Prelude.{◌≡◌, ℕ, zero, suc, ◌+◌, ◌-◌, Bool, true, false, Option, Some, None, Ok}
-use Rattle.snesl_values.specs.declared.dialect.Dialect.{Dialect}
+use Rattle.snesl_data.specs.declared.dialect.Dialect.{Dialect}
 use Rattle.flow_messages.specs.Cells.{Cell, cell_of, is_of}
 use Rattle.flow_messages.specs.declared.message.Item.{Item}
 use Rattle.flow_messages.specs.declared.message.Kind.{Kind}

@@ -1,9 +1,9 @@
 -- The machine of Iota: a flag and a number for each number below the one that is read.
 use Rattle.std.specs.Prelude.{◌==◌, if◌then◌else◌, ℕ, ◌+◌, ◌*◌, ℤ, pos, negsuc, ◌+ℤ◌, ◌-ℤ◌, int_lt, Bool, false, cond, not, Result, Ok, Err}
-use Rattle.snesl_values.specs.declared.dialect.Dialect.{Dialect}
-use Rattle.snesl_values.specs.declared.fault.FaultKind.{FaultKind}
-use Rattle.snesl_values.specs.declared.fault.FaultKind.TheVariants.{NegativeCount}
-use Rattle.snesl_values.specs.Integers.{IsInteger}
+use Rattle.snesl_data.specs.declared.dialect.Dialect.{Dialect}
+use Rattle.snesl_data.specs.declared.fault.FaultKind.{FaultKind}
+use Rattle.snesl_data.specs.declared.fault.FaultKind.TheVariants.{NegativeCount}
+use Rattle.snesl_data.specs.Integers.{IsInteger}
 use Rattle.flow_messages.specs.Cells.{flag, int}
 use Rattle.flow_messages.specs.declared.message.Kind.{Kind}
 use Rattle.flow_messages.specs.declared.message.Kind.TheVariants.{Bool as BoolKind, Int as IntKind}

@@ -1,10 +1,10 @@
 -- How many elements each segment has, as a machine.
 use Rattle.std.specs.Prelude.{ℕ, zero, suc, min, pos, false, cond, Result, Ok, Err}
-use Rattle.snesl_values.specs.declared.dialect.Dialect.{Dialect}
-use Rattle.snesl_values.specs.declared.dialect.Dialect.TheVariants.{One}
-use Rattle.snesl_values.specs.declared.fault.FaultKind.{FaultKind}
-use Rattle.snesl_values.specs.declared.fault.FaultKind.TheVariants.{Overflow}
-use Rattle.snesl_values.specs.Integers.{greatest_integer, is_integer, IsInteger}
+use Rattle.snesl_data.specs.declared.dialect.Dialect.{Dialect}
+use Rattle.snesl_data.specs.declared.dialect.Dialect.TheVariants.{One}
+use Rattle.snesl_data.specs.declared.fault.FaultKind.{FaultKind}
+use Rattle.snesl_data.specs.declared.fault.FaultKind.TheVariants.{Overflow}
+use Rattle.snesl_data.specs.Integers.{greatest_integer, is_integer, IsInteger}
 use Rattle.flow_messages.specs.Cells.{int}
 use Rattle.flow_messages.specs.declared.message.Kind.TheVariants.{Bool as BoolKind, Int as IntKind}
 use Rattle.flow_base.specs.Machines.{Taking, on_flag, Move, begins, takes, gives, Machine, one_write}

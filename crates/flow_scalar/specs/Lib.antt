@@ -19,7 +19,7 @@ pub mod UnaryMachine
 pub mod UnitsOfMachine
 pub mod laws
 -- what the public clauses cite of the crates below
-pub use Rattle.snesl_values.specs.declared.dialect.Dialect
+pub use Rattle.snesl_data.specs.declared.dialect.Dialect
 pub use Rattle.snesl_operators.specs.declared.operator.BinaryOperator
 pub use Rattle.snesl_operators.specs.declared.operator.Reduction
 pub use Rattle.snesl_operators.specs.declared.operator.UnaryOperator

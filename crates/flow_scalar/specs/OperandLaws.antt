@@ -1,8 +1,8 @@
 -- Where items lead that carry operands, and where values lead.
 use Rattle.std.specs.Prelude.{◌≡◌, Result, Ok, Err, IfOk, refl}
 use Rattle.std.proofs.Common.{sym, subst}
-use Rattle.snesl_values.specs.declared.dialect.Dialect.{Dialect}
-use Rattle.snesl_values.specs.declared.fault.FaultKind.{FaultKind}
+use Rattle.snesl_data.specs.declared.dialect.Dialect.{Dialect}
+use Rattle.snesl_data.specs.declared.fault.FaultKind.{FaultKind}
 use Rattle.snesl_operators.specs.Operators.{type_of, ScalarInRange}
 use Rattle.snesl_operators.specs.Reductions.{and_then}
 use Rattle.snesl_operators.specs.declared.scalar.Scalar.{Scalar}

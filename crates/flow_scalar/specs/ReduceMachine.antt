@@ -1,9 +1,9 @@
 -- The machine of Reduce: the elements of a segment are reduced as they come, and the value is written at its end.
 use Rattle.std.specs.Prelude.{◌≡◌, ℕ, zero, false, Option, Some, None, IfSome, Result, Ok, Err}
-use Rattle.snesl_values.specs.declared.dialect.Dialect.{Dialect}
-use Rattle.snesl_values.specs.declared.dialect.Dialect.TheVariants.{One}
-use Rattle.snesl_values.specs.declared.fault.FaultKind.{FaultKind}
-use Rattle.snesl_values.specs.declared.fault.FaultKind.TheVariants.{Shape}
+use Rattle.snesl_data.specs.declared.dialect.Dialect.{Dialect}
+use Rattle.snesl_data.specs.declared.dialect.Dialect.TheVariants.{One}
+use Rattle.snesl_data.specs.declared.fault.FaultKind.{FaultKind}
+use Rattle.snesl_data.specs.declared.fault.FaultKind.TheVariants.{Shape}
 use Rattle.snesl_operators.specs.Operators.{type_of, ScalarInRange}
 use Rattle.snesl_operators.specs.Reductions.{and_then, reduction_type, reduced_nothing, reduced_more, reduced_all}
 use Rattle.snesl_operators.specs.declared.scalar.Scalar.{Scalar}

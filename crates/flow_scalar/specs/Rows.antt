@@ -1,8 +1,8 @@
 -- The rows: what each transducer reads and writes, in whole instances.
 use Rattle.std.specs.Prelude.{◌≡◌, ℕ, pos, Bool, true, false, List, [], ◌∷◌, map, replicate, Ok, ◌<◌, zero, suc, ℤ, ◌+ℤ◌, length}
 use Rattle.std.specs.List.{All}
-use Rattle.snesl_values.specs.declared.dialect.Dialect.{Dialect}
-use Rattle.snesl_values.specs.Integers.{IsInteger}
+use Rattle.snesl_data.specs.declared.dialect.Dialect.{Dialect}
+use Rattle.snesl_data.specs.Integers.{IsInteger}
 use Rattle.snesl_operators.specs.Operators.{unary_value, binary_value}
 use Rattle.snesl_operators.specs.declared.scalar.Scalar.{Scalar}
 use Rattle.snesl_operators.specs.declared.operator.UnaryOperator.{UnaryOperator}

@@ -1,7 +1,7 @@
 -- Scalars and the cells of the items that carry them.
 use Rattle.std.specs.Prelude.{◌≡◌, true, Some, IfSome, refl}
 use Rattle.std.proofs.Common.{ap, subst}
-use Rattle.snesl_values.specs.declared.dialect.Dialect.{Dialect}
+use Rattle.snesl_data.specs.declared.dialect.Dialect.{Dialect}
 use Rattle.snesl_operators.specs.Operators.{type_of, ScalarInRange}
 use Rattle.snesl_operators.specs.declared.scalar.Scalar.{Scalar}
 use Rattle.snesl_operators.specs.declared.scalar.Scalar.TheVariants.{Int, Bool as Truth}

@@ -1,9 +1,9 @@
 -- The machine of ScanAdd: an element is added to the sum when the next one of its segment comes.
 use Rattle.std.specs.Prelude.{ℕ, zero, ℤ, pos, ◌+ℤ◌, false, Result, Ok}
-use Rattle.snesl_values.specs.declared.dialect.Dialect.{Dialect}
-use Rattle.snesl_values.specs.declared.dialect.Dialect.TheVariants.{One}
-use Rattle.snesl_values.specs.declared.fault.FaultKind.{FaultKind}
-use Rattle.snesl_values.specs.Integers.{IsInteger}
+use Rattle.snesl_data.specs.declared.dialect.Dialect.{Dialect}
+use Rattle.snesl_data.specs.declared.dialect.Dialect.TheVariants.{One}
+use Rattle.snesl_data.specs.declared.fault.FaultKind.{FaultKind}
+use Rattle.snesl_data.specs.Integers.{IsInteger}
 use Rattle.snesl_operators.specs.Operators.{ranged}
 use Rattle.snesl_operators.specs.Reductions.{and_then}
 use Rattle.flow_messages.specs.Cells.{int}

@@ -1,6 +1,6 @@
 -- What a stream holds: so many items of one kind.
 use Rattle.std.specs.Prelude.{◌≡◌, ℕ, zero, suc, true, List, [], ◌∷◌, map, replicate, refl}
-use Rattle.snesl_values.specs.Values.{value_of}
+use Rattle.snesl_data.specs.Values.{value_of}
 use Rattle.flow_messages.specs.Cells.{Cell, unit, flag, int, datum, is_of}
 use Rattle.flow_messages.specs.declared.message.Kind.{Kind}
 use Rattle.flow_messages.specs.declared.message.Kind.TheVariants.{Unit as UnitKind, Bool as BoolKind, Int as IntKind, Vec as VecKind}

@@ -1,8 +1,8 @@
 -- An operator on one scalar, as a machine.
 use Rattle.std.specs.Prelude.{◌≡◌, false, Option, Some, None, IfSome, Result, Ok}
-use Rattle.snesl_values.specs.declared.dialect.Dialect.{Dialect}
-use Rattle.snesl_values.specs.declared.dialect.Dialect.TheVariants.{One}
-use Rattle.snesl_values.specs.declared.fault.FaultKind.{FaultKind}
+use Rattle.snesl_data.specs.declared.dialect.Dialect.{Dialect}
+use Rattle.snesl_data.specs.declared.dialect.Dialect.TheVariants.{One}
+use Rattle.snesl_data.specs.declared.fault.FaultKind.{FaultKind}
 use Rattle.snesl_operators.specs.Operators.{type_of, ScalarInRange, unary_operand, unary_value}
 use Rattle.snesl_operators.specs.Reductions.{and_then}
 use Rattle.snesl_operators.specs.declared.scalar.Scalar.{Scalar}

@@ -6,8 +6,8 @@ use crate::operand::operand_of;
 use crate::scalars::{item_of, kind_of};
 use flow_base::{Ask, Stop, Worker};
 use flow_messages::{Item, Kind};
+use snesl_data::Dialect;
 use snesl_operators::{BinaryOperator, Scalar};
-use snesl_values::Dialect;
 use std::alloc::AllocError;
 
 /// How far an instance is.
@@ -48,7 +48,7 @@ impl Binary {
 }
 
 impl Worker for Binary {
-    ghost use Rattle.snesl_values.specs.declared.dialect.Dialect.{Dialect};
+    ghost use Rattle.snesl_data.specs.declared.dialect.Dialect.{Dialect};
     ghost use Rattle.snesl_operators.specs.declared.operator.BinaryOperator.{BinaryOperator};
     ghost use Rattle.flow_scalar.specs.declared.binary.Progress.{Progress};
     ghost use Rattle.flow_scalar.specs.BinaryMachine.{binary_machine, binary_view};

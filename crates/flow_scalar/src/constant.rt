@@ -5,8 +5,8 @@ ghost use Rattle.std.specs.Prelude.{◌≡◌, false};
 use crate::scalars::{item_of, kind_of};
 use flow_base::{Ask, Stop, Worker};
 use flow_messages::{Item, Kind};
+use snesl_data::FaultKind;
 use snesl_operators::Scalar;
-use snesl_values::FaultKind;
 use std::alloc::AllocError;
 
 /// Writes a scalar once for each Unit. Each Unit is an instance.

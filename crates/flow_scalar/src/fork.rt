@@ -5,7 +5,7 @@ ghost use Rattle.flow_scalar.specs.ForkMachine.{fork_ports, idle};
 
 use flow_base::{Ask, Stop, Worker};
 use flow_messages::{Item, Kind};
-use snesl_values::FaultKind;
+use snesl_data::FaultKind;
 use std::alloc::{AllocError, Global};
 
 /// Reads items of one kind and writes each to every output, the outputs in order. Each item is an instance. An item of

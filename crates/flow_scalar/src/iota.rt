@@ -5,7 +5,7 @@ ghost use Rattle.flow_scalar.specs.IotaMachine.{number_after};
 
 use flow_base::{Ask, Stop, Worker};
 use flow_messages::{Item, Kind};
-use snesl_values::FaultKind;
+use snesl_data::FaultKind;
 use std::alloc::AllocError;
 
 /// Writes for each integer n a segment of the numbers 0 to n - 1. Each integer is an instance.

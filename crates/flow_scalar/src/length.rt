@@ -5,7 +5,7 @@ ghost use Rattle.flow_scalar.specs.LengthMachine.{one_more, length_ended};
 
 use flow_base::{Ask, Stop, Worker};
 use flow_messages::{Item, Kind};
-use snesl_values::{Dialect, FaultKind};
+use snesl_data::{Dialect, FaultKind};
 use std::alloc::AllocError;
 
 /// Reads a segment of flags, and writes how many elements they stand for. Each segment is an instance.
@@ -64,7 +64,7 @@ impl Length {
 }
 
 impl Worker for Length {
-    ghost use Rattle.snesl_values.specs.declared.dialect.Dialect.{Dialect};
+    ghost use Rattle.snesl_data.specs.declared.dialect.Dialect.{Dialect};
     ghost use Rattle.flow_scalar.specs.declared.length.Count.{Count};
     ghost use Rattle.flow_scalar.specs.LengthMachine.{length_machine, length_view};
     ghost use Rattle.flow_scalar.specs.laws.Length.{length_laws};

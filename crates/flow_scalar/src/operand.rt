@@ -5,8 +5,8 @@ ghost use Rattle.flow_messages.specs.Cells.{cell_of};
 ghost use Rattle.flow_scalar.specs.Operands.{operand_in};
 
 use flow_messages::Item;
+use snesl_data::FaultKind;
 use snesl_operators::{Scalar, ScalarType};
-use snesl_values::FaultKind;
 
 /// The scalar of this type that the item carries. `Shape` where it carries none.
 #[inline(always)]

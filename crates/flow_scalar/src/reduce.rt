@@ -5,8 +5,8 @@ ghost use Rattle.std.specs.Prelude.{◌≡◌};
 use crate::scalars::{item_of, kind_of, scalar_of};
 use flow_base::{Ask, Stop, Worker};
 use flow_messages::{Item, Kind};
+use snesl_data::{Dialect, FaultKind};
 use snesl_operators::{Reduction, Scalar};
-use snesl_values::{Dialect, FaultKind};
 use std::alloc::AllocError;
 
 /// Writes for each segment what its elements reduce to. Each segment is an instance.
@@ -87,7 +87,7 @@ impl Reduce {
 }
 
 impl Worker for Reduce {
-    ghost use Rattle.snesl_values.specs.declared.dialect.Dialect.{Dialect};
+    ghost use Rattle.snesl_data.specs.declared.dialect.Dialect.{Dialect};
     ghost use Rattle.snesl_operators.specs.declared.operator.Reduction.{Reduction};
     ghost use Rattle.flow_scalar.specs.ReduceMachine.{reduce_machine, reduce_view};
     ghost use Rattle.flow_scalar.specs.laws.Reduce.{reduce_laws};

@@ -4,8 +4,8 @@ ghost use Rattle.std.specs.Prelude.{◌≡◌};
 
 use flow_base::{Ask, Stop, Worker};
 use flow_messages::{Item, Kind};
+use snesl_data::{Dialect, FaultKind};
 use snesl_operators::sum;
-use snesl_values::{Dialect, FaultKind};
 use std::alloc::AllocError;
 
 /// Writes for each element of a segment the sum of those before it. Each segment is an instance.
@@ -78,7 +78,7 @@ impl ScanAdd {
 }
 
 impl Worker for ScanAdd {
-    ghost use Rattle.snesl_values.specs.declared.dialect.Dialect.{Dialect};
+    ghost use Rattle.snesl_data.specs.declared.dialect.Dialect.{Dialect};
     ghost use Rattle.flow_scalar.specs.declared.scan_add.Stage.{Stage};
     ghost use Rattle.flow_scalar.specs.ScanAddMachine.{scan_add_machine, scan_add_view};
     ghost use Rattle.flow_scalar.specs.laws.ScanAdd.{scan_add_laws};

@@ -4,7 +4,7 @@ ghost use Rattle.std.specs.Prelude.{◌≡◌, false, IfOk, OnErr, IsOk};
 
 use flow_base::{Ask, Stop, Worker};
 use flow_messages::{Item, Kind};
-use snesl_values::FaultKind;
+use snesl_data::FaultKind;
 use std::alloc::AllocError;
 
 /// Reads items of one kind and writes nothing. Each item is an instance. An item of another kind is a fault of kind

@@ -2,7 +2,7 @@
 
 ghost use Rattle.std.specs.Prelude.{◌≡◌, ◌<◌, false, IfOk, OnOk, OnErr, IsOk, IsSome, option_map};
 ghost use Rattle.std.specs.List.{slice_get};
-ghost use Rattle.snesl_values.specs.declared.dialect.Dialect.{Dialect};
+ghost use Rattle.snesl_data.specs.declared.dialect.Dialect.{Dialect};
 ghost use Rattle.flow_messages.specs.Cells.{cell_of, is_of};
 ghost use Rattle.flow_messages.specs.Signals.{signal_of};
 ghost use Rattle.flow_base.specs.Ranges.{AllOf, SignalsInRange};
@@ -13,7 +13,7 @@ ghost use Rattle.flow_scalar.specs.SourceBehaviour.{is_vector, source_opened, so
 use flow_base::{Port, Side, Transducer};
 use flow_messages::{Item, Kind, Msg};
 use kahn::Want;
-use snesl_values::{Datum, copy_datum};
+use snesl_data::{Datum, copy_datum};
 use std::alloc::{AllocError, Global};
 
 /// The items of a stream, all of one kind.

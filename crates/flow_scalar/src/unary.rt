@@ -6,8 +6,8 @@ use crate::operand::operand_of;
 use crate::scalars::{item_of, kind_of};
 use flow_base::{Ask, Stop, Worker};
 use flow_messages::{Item, Kind};
+use snesl_data::Dialect;
 use snesl_operators::{Scalar, UnaryOperator};
-use snesl_values::Dialect;
 use std::alloc::AllocError;
 
 /// Writes the operator's value at each item. Each item is an instance.
@@ -38,7 +38,7 @@ impl Unary {
 
 impl Worker for Unary {
     ghost use Rattle.std.specs.Prelude.{Option};
-    ghost use Rattle.snesl_values.specs.declared.dialect.Dialect.{Dialect};
+    ghost use Rattle.snesl_data.specs.declared.dialect.Dialect.{Dialect};
     ghost use Rattle.snesl_operators.specs.declared.scalar.Scalar.{Scalar};
     ghost use Rattle.snesl_operators.specs.declared.operator.UnaryOperator.{UnaryOperator};
     ghost use Rattle.flow_scalar.specs.UnaryMachine.{unary_machine, unary_view};

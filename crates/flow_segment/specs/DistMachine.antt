@@ -1,6 +1,6 @@
 -- An item for each element of a segment: the machine.
 use Rattle.std.specs.Prelude.{◌≡◌, ℕ, zero, true, false, Bool, Option, Some, None, Ok}
-use Rattle.snesl_values.specs.declared.dialect.Dialect.{Dialect}
+use Rattle.snesl_data.specs.declared.dialect.Dialect.{Dialect}
 use Rattle.flow_messages.specs.Cells.{Cell, cell_of, is_of}
 use Rattle.flow_messages.specs.declared.message.Item.{Item}
 use Rattle.flow_messages.specs.declared.message.Kind.{Kind}

@@ -13,8 +13,8 @@ pub mod PartFlagsMachine
 pub mod Rows
 pub mod laws
 -- what the public clauses cite of the crates below
-pub use Rattle.snesl_values.specs.Types
-pub use Rattle.snesl_values.specs.Values
+pub use Rattle.snesl_data.specs.Types
+pub use Rattle.snesl_data.specs.Values
 pub use Rattle.flow_messages.specs.declared.message.Kind
 pub use Rattle.flow_messages.specs.Cells
 pub use Rattle.flow_messages.specs.Signals

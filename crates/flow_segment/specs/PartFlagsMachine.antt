@@ -1,6 +1,6 @@
 -- Segments, parted at truth values: the machine.
 use Rattle.std.specs.Prelude.{ℕ, Ok, Err}
-use Rattle.snesl_values.specs.declared.fault.FaultKind.TheVariants.{Part as PartFault}
+use Rattle.snesl_data.specs.declared.fault.FaultKind.TheVariants.{Part as PartFault}
 use Rattle.flow_base.specs.Flags.{F, T}
 use Rattle.flow_base.specs.Machines.{Move, begins, takes, gives, on_flag, Machine, one_write}
 use Rattle.flow_segment.specs.FlagTables.{FlagTable, over_flags}

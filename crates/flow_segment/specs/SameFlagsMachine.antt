@@ -1,6 +1,6 @@
 -- Two streams of the same flags: the machine.
 use Rattle.std.specs.Prelude.{true, false, Ok, Err}
-use Rattle.snesl_values.specs.declared.fault.FaultKind.TheVariants.{Length}
+use Rattle.snesl_data.specs.declared.fault.FaultKind.TheVariants.{Length}
 use Rattle.flow_base.specs.Machines.{on_flag, Move, begins, takes, Machine}
 use Rattle.flow_segment.specs.FlagTables.{FlagTable, over_flags}
 use Rattle.flow_segment.specs.Rows.{SameFlagsRow}

@@ -1,6 +1,6 @@
 -- Segments of one element: the machine.
 use Rattle.std.specs.Prelude.{Ok, Err}
-use Rattle.snesl_values.specs.declared.fault.FaultKind.TheVariants.{The}
+use Rattle.snesl_data.specs.declared.fault.FaultKind.TheVariants.{The}
 use Rattle.flow_base.specs.Machines.{on_flag, Move, begins, takes, Machine}
 use Rattle.flow_segment.specs.FlagTables.{FlagTable, over_flags}
 use Rattle.flow_segment.specs.Rows.{TheCheckRow}

@@ -4,7 +4,7 @@ ghost use Rattle.std.specs.Prelude.{◌≡◌};
 
 use flow_base::{Ask, Stop, Worker};
 use flow_messages::{Item, Kind};
-use snesl_values::FaultKind;
+use snesl_data::FaultKind;
 use std::alloc::{AllocError, Global};
 
 /// Reads an item and a segment, and writes the item once for each element of the segment. Each such pair is an

@@ -4,7 +4,7 @@ ghost use Rattle.std.specs.Prelude.{◌≡◌};
 
 use flow_base::{Ask, Stop, Worker};
 use flow_messages::{Item, Kind};
-use snesl_values::FaultKind;
+use snesl_data::FaultKind;
 use std::alloc::AllocError;
 
 /// What a worker over flags does in a stage.

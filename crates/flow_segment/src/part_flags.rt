@@ -1,7 +1,7 @@
 // Segments, parted at truth values.
 
 use crate::over_flags::{OverFlags, Stage, Step};
-use snesl_values::FaultKind;
+use snesl_data::FaultKind;
 
 /// Reads segments with a truth value for each element, and parts them: a false stands for an element of a part, and a
 /// true ends it. A segment is an instance.

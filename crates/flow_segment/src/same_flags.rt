@@ -1,7 +1,7 @@
 // Two streams of the same flags.
 
 use crate::over_flags::{OverFlags, Stage, Step};
-use snesl_values::FaultKind;
+use snesl_data::FaultKind;
 
 /// Reads a flag of the first stream and the same flag of the second, and writes nothing. Each pair of flags is an
 /// instance.

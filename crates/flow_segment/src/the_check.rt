@@ -1,7 +1,7 @@
 // Segments of one element.
 
 use crate::over_flags::{OverFlags, Stage, Step};
-use snesl_values::FaultKind;
+use snesl_data::FaultKind;
 
 /// Reads segments of exactly one element each, and writes nothing. Each segment is an instance.
 ///

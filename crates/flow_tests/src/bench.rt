@@ -17,7 +17,7 @@ use crate::words::{WordError, message, number_of};
 use flow_base::{Printing, Transducer};
 use flow_messages::{Item, Msg};
 use kahn::Want;
-use snesl_values::{Datum, text_of};
+use snesl_data::{Datum, text_of};
 use std::alloc::{AllocError, Global};
 use std::str::SplitWhitespace;
 

@@ -9,7 +9,7 @@ use flow_base::{Printing, Transducer};
 use flow_drive::{Config, Drive, DriveError, NoGate, Outcome, Rested, drive};
 use flow_graph::Graph;
 use flow_nodes::StreamNode;
-use snesl_values::{Fault, FaultKind};
+use snesl_data::{Fault, FaultKind};
 use std::alloc::{AllocError, Global};
 use std::process::Abort;
 use std::sync::Arc;

@@ -9,7 +9,7 @@ use flow_base::Transducer;
 use flow_graph::{Edge, Graph, GraphBuilder, Moved, step_once};
 use flow_messages::{Ends, Item, Msg, Table};
 use kahn::Want;
-use snesl_values::{Fault, FaultKind};
+use snesl_data::{Fault, FaultKind};
 use std::alloc::Global;
 use std::process::Abort;
 use std::test::Fail;

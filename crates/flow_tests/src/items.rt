@@ -2,7 +2,7 @@
 
 use flow_messages::{Item, Kind};
 use kahn::faults::{named, named_fault};
-use snesl_values::{Datum, Fault, FaultKind};
+use snesl_data::{Datum, Fault, FaultKind};
 use std::alloc::{AllocError, Global};
 use std::test::Fail;
 

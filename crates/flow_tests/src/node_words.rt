@@ -18,8 +18,8 @@ use flow_segment::{
     PartFlags, SameFlags, TheCheck,
 };
 use flow_values::{Index, Print, Seq, Tab};
+use snesl_data::{Dialect, Ty};
 use snesl_operators::{BinaryOperator, Reduction, Scalar, UnaryOperator};
-use snesl_values::{Dialect, Ty};
 use std::alloc::{AllocError, Global};
 
 /// The node of these words, at this offset in the program text, before it has read or written anything.

@@ -1,7 +1,7 @@
 // Operators on scalars, called directly.
 
+use snesl_data::{Dialect, FaultKind};
 use snesl_operators::{BinaryOperator, Scalar, UnaryOperator};
-use snesl_values::{Dialect, FaultKind};
 use std::process::Abort;
 
 // Asserts values of operators in a dialect whose integers reach from `least` to `greatest`.

@@ -3,7 +3,7 @@
 
 use crate::driving::{WAYS, driven};
 use flow_drive::Outcome;
-use snesl_values::{Fault, FaultKind};
+use snesl_data::{Fault, FaultKind};
 use std::test::Fail;
 
 // The sums at offset 0 of the quotients at offset 35, of which the third has no value, and its sum neither.

@@ -1,8 +1,8 @@
 // What the words of a table stand for: messages, types, kinds and operators.
 
 use flow_messages::{Item, Kind, Msg};
+use snesl_data::{Datum, Dialect, Ty};
 use snesl_operators::{BinaryOperator, Reduction, UnaryOperator};
-use snesl_values::{Datum, Dialect, Ty};
 use std::alloc::{AllocError, Global};
 
 /// Why words stand for nothing.

@@ -1,8 +1,8 @@
 -- What the Print of a network has gathered once all nodes have ended.
 use Rattle.std.specs.Prelude.{◌≡◌, ℕ, suc, ◌<◌, true, List, [], ◌∷◌, length}
-use Rattle.snesl_values.specs.Types.{Ty}
-use Rattle.snesl_values.specs.Values.{Value}
-use Rattle.snesl_values.specs.Text.{text}
+use Rattle.snesl_data.specs.Types.{Ty}
+use Rattle.snesl_data.specs.Values.{Value}
+use Rattle.snesl_data.specs.Text.{text}
 use Rattle.kahn.specs.Configurations.{IsComplete}
 use Rattle.flow_messages.specs.Cells.{Cell}
 use Rattle.flow_messages.specs.Ends.{View}

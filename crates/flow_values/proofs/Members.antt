@@ -1,8 +1,8 @@
 -- Values of a type, one after another.
 use Rattle.std.proofs.Common.{◌≡◌, ℕ, zero, suc, ◌+◌, ◌<◌, Bool, true, false, ◌&&◌, List, [], ◌∷◌, length, take, map, get_or, refl, sym, ap, ◌∙◌, arith}
-use Rattle.snesl_values.specs.declared.datum.Datum.{Datum}
-use Rattle.snesl_values.specs.Types.{Ty}
-use Rattle.snesl_values.specs.Values.{value_of, values_of}
+use Rattle.snesl_data.specs.declared.datum.Datum.{Datum}
+use Rattle.snesl_data.specs.Types.{Ty}
+use Rattle.snesl_data.specs.Values.{value_of, values_of}
 use Rattle.flow_values.specs.Shapes.{is_a, all_are}
 
 -- whether all of these are of the type

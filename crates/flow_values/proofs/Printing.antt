@@ -1,10 +1,10 @@
 -- What is ahead of a value that is printed, as it grows.
 use Rattle.std.proofs.Common.{◌≡◌, ℕ, zero, suc, ◌+◌, ◌-◌, ◌<◌, ◌≤◌, ◌^◌, List, [], ◌∷◌, ◌++◌, length, take, codes, refl, sym, ap, ◌∙◌, subst, arith, Result, Ok, Err, OnOk, Bool, true, false, cond, nat_lt, Option, Some, None, append_assoc, length-append}
 use Rattle.std.proofs.Math.Path.{ap₂}
-use Rattle.snesl_values.specs.Types.{Ty, int, bool, pair, vec, seq}
+use Rattle.snesl_data.specs.Types.{Ty, int, bool, pair, vec, seq}
 use Rattle.std.specs.List.{slice_get}
 use Rattle.std.proofs.lemmas.Bool.Decides.{nat_tests}
-use Rattle.snesl_values.specs.declared.fault.FaultKind.TheVariants.{Shape}
+use Rattle.snesl_data.specs.declared.fault.FaultKind.TheVariants.{Shape}
 use Rattle.kahn.specs.declared.want.Want.TheVariants.{Read, Ended, Faulted}
 use Rattle.flow_messages.specs.Signals.{stop}
 use Rattle.flow_messages.specs.Cells.{Cell, flag, int as int_cell, datum, is_of}

@@ -1,9 +1,9 @@
 -- What is due for a sequence, element by element.
 use Rattle.std.proofs.Common.{◌≡◌, ℕ, zero, suc, ◌+◌, ◌<◌, true, List, [], ◌∷◌, ◌++◌, length, take, map, get_or, Vec, Global, sym, ap, ◌∙◌, arith, append_assoc, append-nil, length-append}
-use Rattle.snesl_values.specs.declared.datum.Datum.{Datum, Seq as SeqDatum}
-use Rattle.snesl_values.specs.Types.{Ty, pair, seq}
-use Rattle.snesl_values.specs.Values.{value_of, values_of}
-use Rattle.snesl_values.proofs.Data.{value_of-Seq, list_values}
+use Rattle.snesl_data.specs.declared.datum.Datum.{Datum, Seq as SeqDatum}
+use Rattle.snesl_data.specs.Types.{Ty, pair, seq}
+use Rattle.snesl_data.specs.Values.{value_of, values_of}
+use Rattle.snesl_data.proofs.Data.{value_of-Seq, list_values}
 use Rattle.flow_base.specs.Flags.{F}
 use Rattle.flow_base.specs.Segments.{joined_by}
 use Rattle.flow_values.specs.Shapes.{is_a, all_are, kinds_of}

@@ -6,11 +6,11 @@ use Rattle.std.specs.Int.{FitsUnsigned}
 use Rattle.std.proofs.Math.IntN.{nat_abs}
 use Rattle.std.proofs.lemmas.Int.{ints}
 use Rattle.std.proofs.lemmas.Bool.Decides.{nat_tests}
-use Rattle.snesl_values.specs.declared.datum.Datum.{Datum}
-use Rattle.snesl_values.specs.declared.fault.FaultKind.TheVariants.{Shape}
-use Rattle.snesl_values.specs.Types.{Ty, seq}
-use Rattle.snesl_values.specs.Values.{Value, Values, a_vec, list_of, value_of, values_of}
-use Rattle.snesl_values.proofs.Data.{list_values}
+use Rattle.snesl_data.specs.declared.datum.Datum.{Datum}
+use Rattle.snesl_data.specs.declared.fault.FaultKind.TheVariants.{Shape}
+use Rattle.snesl_data.specs.Types.{Ty, seq}
+use Rattle.snesl_data.specs.Values.{Value, Values, a_vec, list_of, value_of, values_of}
+use Rattle.snesl_data.proofs.Data.{list_values}
 use Rattle.flow_messages.specs.Cells.{Cell, unit, flag, int, datum}
 use Rattle.flow_base.specs.Workers.{IsReading}
 use Rattle.flow_values.specs.Shapes.{is_a, all_are}

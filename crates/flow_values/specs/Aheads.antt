@@ -1,13 +1,13 @@
 -- What is still to be printed, as it stands in memory.
 use Rattle.std.specs.Prelude.{◌≡◌, ℕ, true, false, List, [], ◌∷◌, ◌++◌, Bool, Option, Some, None, Result, Ok, Err}
-use Rattle.snesl_values.specs.Types.{ty_of}
-use Rattle.snesl_values.specs.declared.fault.FaultKind.TheVariants.{Shape}
+use Rattle.snesl_data.specs.Types.{ty_of}
+use Rattle.snesl_data.specs.declared.fault.FaultKind.TheVariants.{Shape}
 use Rattle.flow_base.specs.declared.worker.Stop.{Stop}
 use Rattle.flow_base.specs.declared.worker.Stop.TheVariants.{Faulted, OutOfMemory}
 use Rattle.flow_values.specs.PrintMachine.{Pending, whole, further, Reading, reading, next, checked, port_of, Step, within, closing, stuck, PrintState, print_state}
 use Rattle.flow_values.specs.Shapes.{kind_at, kinds_of}
 use Rattle.flow_messages.specs.Cells.{Cell, is_of}
-use Rattle.snesl_values.specs.Types.{Ty}
+use Rattle.snesl_data.specs.Types.{Ty}
 use Rattle.flow_values.specs.declared.pending.Pending.{Pending as PendingInMemory}
 use Rattle.flow_values.specs.declared.pending.Pending.TheVariants.{Whole, Second, Further}
 use Rattle.flow_values.specs.declared.ahead.Ahead.{Ahead}

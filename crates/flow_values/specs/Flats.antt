@@ -1,7 +1,7 @@
 -- What values put on the edges of their type.
 use Rattle.std.specs.Prelude.{◌≡◌, ℕ, ◌<◌, ◌+◌, ◌==◌, List, [], ◌∷◌, ◌++◌, length, map, cond}
-use Rattle.snesl_values.specs.Types.{Ty, pair, seq}
-use Rattle.snesl_values.specs.Values.{Value}
+use Rattle.snesl_data.specs.Types.{Ty, pair, seq}
+use Rattle.snesl_data.specs.Values.{Value}
 use Rattle.flow_messages.specs.Cells.{Cell}
 use Rattle.flow_base.specs.Lists.{Lists}
 use Rattle.flow_base.specs.Flags.{T, elements, flags, joined, lengths}

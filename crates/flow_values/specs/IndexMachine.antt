@@ -1,10 +1,10 @@
 -- An element of each vector: the machine. Its parameter is the type of the elements.
 use Rattle.std.specs.Prelude.{◌≡◌, ℕ, zero, true, false, Bool, List, [], ◌∷◌, Option, Some, None, cond, length, map, Result, Ok, Err}
-use Rattle.snesl_values.specs.declared.dialect.Dialect.{Dialect}
-use Rattle.snesl_values.specs.declared.fault.FaultKind.{FaultKind}
-use Rattle.snesl_values.specs.declared.fault.FaultKind.TheVariants.{Shape, Index}
-use Rattle.snesl_values.specs.Types.{Ty, bool}
-use Rattle.snesl_values.specs.Values.{Value, Values, a_vec, value_of, values_of}
+use Rattle.snesl_data.specs.declared.dialect.Dialect.{Dialect}
+use Rattle.snesl_data.specs.declared.fault.FaultKind.{FaultKind}
+use Rattle.snesl_data.specs.declared.fault.FaultKind.TheVariants.{Shape, Index}
+use Rattle.snesl_data.specs.Types.{Ty, bool}
+use Rattle.snesl_data.specs.Values.{Value, Values, a_vec, value_of, values_of}
 use Rattle.flow_messages.specs.Cells.{Cell, datum}
 use Rattle.flow_messages.specs.declared.message.Kind.{Kind}
 use Rattle.flow_messages.specs.declared.message.Kind.TheVariants.{Int as IntKind, Vec as VecKind}

@@ -1,8 +1,8 @@
 -- Values of concrete types as items, one for each edge, and what may stand at each place among them.
 use Rattle.std.specs.Prelude.{◌≡◌, ℕ, zero, ◌-◌, Bool, true, false, List, [], ◌∷◌, ◌++◌, Option, Some, None, cond, nat_lt}
 use Rattle.std.specs.List.{slice_get}
-use Rattle.snesl_values.specs.Types.{Ty, int, bool, pair, vec}
-use Rattle.snesl_values.specs.Values.{Value, an_int, a_bool, a_pair}
+use Rattle.snesl_data.specs.Types.{Ty, int, bool, pair, vec}
+use Rattle.snesl_data.specs.Values.{Value, an_int, a_bool, a_pair}
 use Rattle.flow_messages.specs.Cells.{Cell, flag, int as int_cell, datum}
 use Rattle.flow_values.specs.Shapes.{is_a, cell_for, first_of, second_of}
 use Rattle.flow_values.specs.Flats.{width}

@@ -1,6 +1,6 @@
 -- Where the edges of a type are.
 use Rattle.std.specs.Prelude.{ℕ, ◌+◌, ◌<◌, ◌^◌}
-use Rattle.snesl_values.specs.Types.{Ty}
+use Rattle.snesl_data.specs.Types.{Ty}
 use Rattle.flow_values.specs.Flats.{width}
 
 -- the ports of the type from this port on are numbers that a word holds, and so are the brackets around its parts

@@ -1,8 +1,8 @@
 -- The rows: what each transducer reads and writes, in whole instances.
 use Rattle.std.specs.Prelude.{◌≡◌, ℕ, ◌<◌, ℤ, pos, negsuc, true, List, [], ◌∷◌, Option, Some, None, map}
 use Rattle.std.specs.List.{slice_get}
-use Rattle.snesl_values.specs.Types.{Ty, vec, seq, is_concrete}
-use Rattle.snesl_values.specs.Values.{Value, Values, a_vec, list_of, values_of}
+use Rattle.snesl_data.specs.Types.{Ty, vec, seq, is_concrete}
+use Rattle.snesl_data.specs.Values.{Value, Values, a_vec, list_of, values_of}
 use Rattle.flow_messages.specs.Cells.{Cell, int, datum}
 use Rattle.flow_base.specs.Lists.{Lists}
 use Rattle.flow_values.specs.Shapes.{is_a, all_are}

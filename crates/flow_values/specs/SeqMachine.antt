@@ -1,10 +1,10 @@
 -- The elements of each vector as a sequence: the machine. Its parameter is the type of the elements, and its state the
 -- items that are due; with none of them a vector may come.
 use Rattle.std.specs.Prelude.{true, false, Bool, List, [], ◌∷◌, cond, length, Result, Ok, Err}
-use Rattle.snesl_values.specs.declared.fault.FaultKind.{FaultKind}
-use Rattle.snesl_values.specs.declared.fault.FaultKind.TheVariants.{Shape}
-use Rattle.snesl_values.specs.Types.{Ty, bool, seq}
-use Rattle.snesl_values.specs.Values.{a_vec}
+use Rattle.snesl_data.specs.declared.fault.FaultKind.{FaultKind}
+use Rattle.snesl_data.specs.declared.fault.FaultKind.TheVariants.{Shape}
+use Rattle.snesl_data.specs.Types.{Ty, bool, seq}
+use Rattle.snesl_data.specs.Values.{a_vec}
 use Rattle.flow_messages.specs.Cells.{Cell, datum}
 use Rattle.flow_messages.specs.declared.message.Kind.TheVariants.{Vec as VecKind}
 use Rattle.flow_base.specs.Machines.{Move, begins, gives, on_kind, Machine}

@@ -1,11 +1,11 @@
 -- The elements of each sequence as a vector: the machine. Its parameter is the type of the elements.
 use Rattle.std.specs.Prelude.{◌≡◌, ℕ, suc, Bool, true, false, List, [], ◌∷◌, ◌++◌, Some, None, cond, nat_lt, length, map, Result, Ok, Err}
-use Rattle.snesl_values.specs.declared.dialect.Dialect.{Dialect}
-use Rattle.snesl_values.specs.declared.fault.FaultKind.{FaultKind}
-use Rattle.snesl_values.specs.declared.fault.FaultKind.TheVariants.{Shape}
-use Rattle.snesl_values.specs.Types.{Ty, bool, seq, is_concrete}
-use Rattle.snesl_values.specs.declared.datum.Datum.{Datum}
-use Rattle.snesl_values.specs.Values.{Value, a_vec, value_of, values_of}
+use Rattle.snesl_data.specs.declared.dialect.Dialect.{Dialect}
+use Rattle.snesl_data.specs.declared.fault.FaultKind.{FaultKind}
+use Rattle.snesl_data.specs.declared.fault.FaultKind.TheVariants.{Shape}
+use Rattle.snesl_data.specs.Types.{Ty, bool, seq, is_concrete}
+use Rattle.snesl_data.specs.declared.datum.Datum.{Datum}
+use Rattle.snesl_data.specs.Values.{Value, a_vec, value_of, values_of}
 use Rattle.flow_messages.specs.declared.message.Item.{Item}
 use Rattle.flow_messages.specs.Cells.{Cell, datum, cell_of}
 use Rattle.flow_messages.specs.declared.message.Kind.TheVariants.{Vec as VecKind}

@@ -1,7 +1,7 @@
 -- The transducers over values of a type, each with its states and its laws.
 use Rattle.std.specs.Prelude.{map}
-use Rattle.snesl_values.specs.Types.{ty_of}
-use Rattle.snesl_values.specs.Values.{value_of}
+use Rattle.snesl_data.specs.Types.{ty_of}
+use Rattle.snesl_data.specs.Values.{value_of}
 use Rattle.flow_messages.specs.Cells.{cell_of}
 use Rattle.flow_base.specs.Members.{NodeOf, node_of}
 use Rattle.flow_base.specs.declared.node.Node.{Node}

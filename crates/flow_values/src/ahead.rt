@@ -1,7 +1,7 @@
 // What is still to be read of a value that is printed, and the text so far.
 
 ghost use Rattle.std.specs.Prelude.{◌≡◌, ◌+◌, ◌++◌, [], ◌∷◌, false, true, List, IfOk, OnOk, Result};
-ghost use Rattle.snesl_values.specs.Types.{ty_of, seq};
+ghost use Rattle.snesl_data.specs.Types.{ty_of, seq};
 ghost use Rattle.flow_messages.specs.Cells.{cell_of};
 ghost use Rattle.flow_values.specs.Places.{Fits};
 ghost use Rattle.flow_values.specs.PrintMachine.{closes, entered, next};
@@ -12,7 +12,7 @@ use crate::pending::{Flags, Pending, Place};
 use crate::shapes::{edge_count, is_value};
 use flow_base::Stop;
 use flow_messages::Item;
-use snesl_values::{Datum, FaultKind, Ty, copy_ty, text_of};
+use snesl_data::{Datum, FaultKind, Ty, copy_ty, text_of};
 use std::alloc::{AllocError, Global};
 
 /// What is still to be read, the next as the last, and the text so far.

@@ -1,8 +1,8 @@
 // Items that are due, in the order in which they are written.
 
 ghost use Rattle.std.specs.Prelude.{◌≡◌, ◌<◌, ◌^◌, ◌+◌, ◌∷◌, ◌++◌, [], true, map, OnOk};
-ghost use Rattle.snesl_values.specs.Types.{ty_of, seq};
-ghost use Rattle.snesl_values.specs.Values.{value_of, values_of};
+ghost use Rattle.snesl_data.specs.Types.{ty_of, seq};
+ghost use Rattle.snesl_data.specs.Values.{value_of, values_of};
 ghost use Rattle.flow_values.specs.Shapes.{is_a, all_are};
 ghost use Rattle.flow_values.specs.Flats.{width};
 ghost use Rattle.flow_values.specs.Dues.{due, due_cell, dues_of, segment_dues, output_of};
@@ -10,7 +10,7 @@ ghost use Rattle.flow_messages.specs.Cells.{cell_of};
 
 use crate::shapes::edge_count;
 use flow_messages::Item;
-use snesl_values::{Datum, Ty, copy_datum};
+use snesl_data::{Datum, Ty, copy_datum};
 use std::alloc::{AllocError, Global};
 use std::collections::VecDeque;
 

@@ -1,8 +1,8 @@
 // An element of each vector.
 
 ghost use Rattle.std.specs.Prelude.{◌≡◌, [], true, map, option_map, IfOk};
-ghost use Rattle.snesl_values.specs.Types.{Ty as ElementType, ty_of};
-ghost use Rattle.snesl_values.specs.Values.{value_of, values_of};
+ghost use Rattle.snesl_data.specs.Types.{Ty as ElementType, ty_of};
+ghost use Rattle.snesl_data.specs.Values.{value_of, values_of};
 ghost use Rattle.flow_values.specs.Shapes.{kinds_of};
 ghost use Rattle.flow_values.specs.Rows.{element_at};
 ghost use Rattle.flow_values.specs.IndexMachine.{writing, holds_such};
@@ -12,7 +12,7 @@ use crate::shapes::{kind_at, kinds};
 use crate::vectors::vector_in;
 use flow_base::{Ask, Stop, Worker};
 use flow_messages::{Item, Kind};
-use snesl_values::{Datum, FaultKind, Ty};
+use snesl_data::{Datum, FaultKind, Ty};
 use std::alloc::{AllocError, Global};
 use std::collections::VecDeque;
 

@@ -1,9 +1,9 @@
 // What is still to be read of a value that is printed.
 
-ghost use Rattle.snesl_values.specs.Types.{ty_of, seq};
+ghost use Rattle.snesl_data.specs.Types.{ty_of, seq};
 ghost use Rattle.flow_values.specs.Places.{Fits};
 
-use snesl_values::Ty;
+use snesl_data::Ty;
 
 /// The edges of a type from a port on, and the brackets that are closed behind a value that comes there.
 #[derive(Drop)]

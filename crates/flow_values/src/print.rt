@@ -1,7 +1,7 @@
 // The end of the streams of a value: its text.
 
 ghost use Rattle.std.specs.Prelude.{◌≡◌, false, [], ◌∷◌, ◌++◌, List, IfOk, OnOk, OnErr, IsOk};
-ghost use Rattle.snesl_values.specs.Types.{ty_of};
+ghost use Rattle.snesl_data.specs.Types.{ty_of};
 ghost use Rattle.flow_messages.specs.Cells.{cell_of};
 ghost use Rattle.flow_messages.specs.Signals.{signal_of};
 ghost use Rattle.flow_values.specs.Shapes.{kinds_of};
@@ -15,7 +15,7 @@ use crate::shapes::{kind_at, kinds};
 use flow_base::{Port, Side, Stop, Transducer};
 use flow_messages::{Item, Kind, Msg};
 use kahn::Want;
-use snesl_values::{Fault, FaultKind, Ty, copy_ty};
+use snesl_data::{Fault, FaultKind, Ty, copy_ty};
 use std::alloc::{AllocError, Global};
 
 /// Reads one value of a type, item by item in the order of its text, and keeps the text. Then each input has to end, in

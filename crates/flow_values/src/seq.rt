@@ -1,7 +1,7 @@
 // The elements of vectors, as sequences.
 
 ghost use Rattle.std.specs.Prelude.{◌≡◌, List, [], map, IfOk};
-ghost use Rattle.snesl_values.specs.Types.{Ty as ElementType, ty_of, seq};
+ghost use Rattle.snesl_data.specs.Types.{Ty as ElementType, ty_of, seq};
 ghost use Rattle.flow_values.specs.Shapes.{kinds_of};
 ghost use Rattle.flow_values.specs.Dues.{DueCell, due_cell};
 
@@ -10,7 +10,7 @@ use crate::shapes::{add_kinds, kind_at};
 use crate::vectors::vector_in;
 use flow_base::{Ask, Stop, Worker};
 use flow_messages::{Item, Kind};
-use snesl_values::Ty;
+use snesl_data::Ty;
 use std::alloc::{AllocError, Global};
 use std::collections::VecDeque;
 

@@ -1,15 +1,15 @@
 // Values of a type, and the edges of a type.
 
 ghost use Rattle.std.specs.Prelude.{◌≡◌, ◌<◌, ◌^◌, ◌++◌, map, length, IfOk, OnOk};
-ghost use Rattle.snesl_values.specs.Types.{ty_of};
-ghost use Rattle.snesl_values.specs.Values.{value_of, values_of};
+ghost use Rattle.snesl_data.specs.Types.{ty_of};
+ghost use Rattle.snesl_data.specs.Values.{value_of, values_of};
 ghost use Rattle.flow_messages.specs.Cells.{cell_of};
 ghost use Rattle.flow_values.specs.Shapes.{is_a, all_are, ShapesAreTested, kinds_of, kind_at};
 ghost use Rattle.flow_values.specs.Flats.{width};
 ghost use Rattle.flow_values.specs.Parts.{part_fits};
 
 use flow_messages::{Item, Kind};
-use snesl_values::{Datum, Ty};
+use snesl_data::{Datum, Ty};
 use std::alloc::{AllocError, Global};
 
 /// Whether the value is one of the type.

@@ -1,8 +1,8 @@
 // The elements of sequences, as vectors.
 
 ghost use Rattle.std.specs.Prelude.{◌≡◌, [], map, List, IfOk};
-ghost use Rattle.snesl_values.specs.Types.{Ty as ElementType, ty_of, seq};
-ghost use Rattle.snesl_values.specs.Values.{Value, value_of, a_pair};
+ghost use Rattle.snesl_data.specs.Types.{Ty as ElementType, ty_of, seq};
+ghost use Rattle.snesl_data.specs.Values.{Value, value_of, a_pair};
 ghost use Rattle.flow_messages.specs.Cells.{cell_of};
 ghost use Rattle.flow_base.specs.Workers.{Takes};
 ghost use Rattle.flow_values.specs.Shapes.{kinds_of};
@@ -13,7 +13,7 @@ ghost use Rattle.flow_values.specs.TabMachine.{Step, start, step_in, staged, fla
 use crate::shapes::{add_kinds, is_value, kind_at, part_fits};
 use flow_base::{Ask, Stop, Worker};
 use flow_messages::{Item, Kind};
-use snesl_values::{Datum, FaultKind, Ty};
+use snesl_data::{Datum, FaultKind, Ty};
 use std::alloc::{AllocError, Global};
 use std::collections::VecDeque;
 use std::mem;

@@ -1,14 +1,14 @@
 // Vectors that are read.
 
 ghost use Rattle.std.specs.Prelude.{◌≡◌, true, false, map, IfOk, IfErr, OnErr};
-ghost use Rattle.snesl_values.specs.Types.{ty_of};
-ghost use Rattle.snesl_values.specs.Values.{Values, value_of, values_of, a_vec};
+ghost use Rattle.snesl_data.specs.Types.{ty_of};
+ghost use Rattle.snesl_data.specs.Values.{Values, value_of, values_of, a_vec};
 ghost use Rattle.flow_messages.specs.Cells.{cell_of, datum};
 ghost use Rattle.flow_values.specs.Shapes.{all_are};
 
 use crate::shapes::are_values;
 use flow_messages::Item;
-use snesl_values::{Datum, FaultKind, Ty};
+use snesl_data::{Datum, FaultKind, Ty};
 
 /// The elements of the vector that the item is, where they are of this type. Otherwise `Shape`.
 pub fn vector_in(element: &Ty, item: Item) -> Result<Vec<Datum>, FaultKind>

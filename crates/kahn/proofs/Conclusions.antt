@@ -1,7 +1,7 @@
 -- The theorems, put together.
 use Rattle.std.proofs.lemmas.Bool.{cases_lt}
 use Rattle.std.proofs.Common.{ℕ, ◌+◌, ◌≤◌, Some, None, List, [], ◌∷◌, length, refl, ap, arith, length-append, ◌≡◌, ◌<◌, ◌⊎◌, inl, inr, sym, ◌∙◌, subst, append-nil}
-use Rattle.snesl_values.specs.declared.fault.Fault.{Fault}
+use Rattle.snesl_data.specs.declared.fault.Fault.{Fault}
 use Rattle.kahn.specs.declared.want.Want.TheVariants.{Faulted}
 use Rattle.kahn.specs.declared.outcome.Outcome.{Outcome}
 use Rattle.kahn.specs.Basics.{Begins}

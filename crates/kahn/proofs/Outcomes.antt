@@ -2,7 +2,7 @@
 use Rattle.std.proofs.Common.{[], ◌∷◌, ◌≡◌, ℕ, zero, suc, ◌<◌, ◌≤◌, Some, ◌⊎◌, refl, sym, ◌∙◌, ap, inl, inr, arith, List, subst}
 use Rattle.std.proofs.lemmas.Bool.{cases_eq, cases_lt}
 use Rattle.std.proofs.lemmas.List.Elements.{All-contains}
-use Rattle.snesl_values.specs.declared.fault.Fault.{Fault}
+use Rattle.snesl_data.specs.declared.fault.Fault.{Fault}
 use Rattle.kahn.specs.declared.want.Want.{Want}
 use Rattle.kahn.specs.declared.want.Want.TheVariants.{Read, Write, Ended, Faulted}
 use Rattle.kahn.specs.declared.outcome.Outcome.{Outcome}

@@ -1,6 +1,6 @@
 -- Configurations: where a network stands in a run, and which of them are sound, complete or blocked.
 use Rattle.std.specs.Prelude.{◌≡◌, ℕ, ◌+◌, ◌-◌, ◌<◌, ◌≤◌, List, [], ◌++◌, length}
-use Rattle.snesl_values.specs.declared.fault.Fault.{Fault}
+use Rattle.snesl_data.specs.declared.fault.Fault.{Fault}
 use Rattle.kahn.specs.declared.want.Want.TheVariants.{Write, Ended, Faulted}
 use Rattle.kahn.specs.Basics.{Begins, total}
 use Rattle.kahn.specs.Processes.{Process, Event, Does, reads, writes}

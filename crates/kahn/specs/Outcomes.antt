@@ -1,7 +1,7 @@
 -- How a network came out that is at rest.
 use Rattle.std.specs.Prelude.{◌≡◌, ◌↔◌, ℕ, ◌<◌, List}
 use Rattle.std.specs.List.{Contains}
-use Rattle.snesl_values.specs.declared.fault.Fault.{Fault}
+use Rattle.snesl_data.specs.declared.fault.Fault.{Fault}
 use Rattle.kahn.specs.declared.want.Want.TheVariants.{Faulted}
 use Rattle.kahn.specs.declared.outcome.Outcome.{Outcome}
 use Rattle.kahn.specs.declared.outcome.Outcome.TheVariants.{Value, Fault as Failed, Stalled}

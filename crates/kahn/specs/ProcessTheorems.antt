@@ -1,6 +1,6 @@
 -- What holds of every lawful process: the statements, each of which is the contract of a function in src/.
 use Rattle.std.specs.Prelude.{◌≡◌, ℕ, ◌<◌, List}
-use Rattle.snesl_values.specs.declared.fault.Fault.{Fault}
+use Rattle.snesl_data.specs.declared.fault.Fault.{Fault}
 use Rattle.kahn.specs.declared.want.Want.TheVariants.{Ended, Faulted}
 use Rattle.kahn.specs.Basics.{Begins}
 use Rattle.kahn.specs.Processes.{Process, Event, Does, reads, writes, RunsToEnd}

@@ -1,7 +1,7 @@
 -- What holds of every network of lawful processes that is at rest: the statements, each of which is the
 -- contract of a function in src/.
 use Rattle.std.specs.Prelude.{◌≡◌, ℕ, ◌<◌, ◌≤◌, ◌⊎◌, List, length, Some}
-use Rattle.snesl_values.specs.declared.fault.Fault.{Fault}
+use Rattle.snesl_data.specs.declared.fault.Fault.{Fault}
 use Rattle.kahn.specs.declared.outcome.Outcome.{Outcome}
 use Rattle.kahn.specs.declared.outcome.Outcome.TheVariants.{Fault as Failed}
 use Rattle.kahn.specs.Processes.{Process, Event}

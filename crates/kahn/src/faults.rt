@@ -3,7 +3,7 @@
 ghost use Rattle.std.specs.Prelude.{◌≡◌, [], ◌∷◌, MatchOption};
 ghost use Rattle.kahn.specs.Faults.{IsNamedOf};
 
-use snesl_values::{Fault, FaultKind};
+use snesl_data::{Fault, FaultKind};
 
 /// The one of two faults that is named: not of kind `Shape` where the other is of another kind, else that of
 /// the lesser offset, else that of the lesser number.

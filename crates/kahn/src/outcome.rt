@@ -1,6 +1,6 @@
 //! How a run came out.
 
-use snesl_values::Fault;
+use snesl_data::Fault;
 
 /// How a network came out that is at rest.
 #[derive(Clone, Copy, Debug, PartialEq, Eq)]

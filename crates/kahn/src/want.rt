@@ -1,6 +1,6 @@
 //! What a process wants.
 
-use snesl_values::Fault;
+use snesl_data::Fault;
 
 /// What a process does next.
 #[derive(Clone, Copy, Debug, PartialEq, Eq)]

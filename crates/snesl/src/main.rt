@@ -2,8 +2,8 @@
 #![tactic(auto)]
 
 use snesl_console::complain;
+use snesl_data::{Counted, Refusal};
 use snesl_run::answer;
-use snesl_values::{Counted, Refusal};
 use std::alloc::{AllocError, Global};
 use std::env::{self, FillError};
 use std::io::{self, ErrorKind, Read, Write};

@@ -1,9 +1,9 @@
 -- The lines that take no memory.
 use Rattle.std.proofs.Common.{◌≡◌, ◌≢◌, ℕ, true, List, [], ◌∷◌, ◌++◌, codes, refl, sym, ap, ◌∙◌, arith}
 use Rattle.std.proofs.lemmas.Fmt.{decimal_digit, decimal_step}
-use Rattle.snesl_values.specs.declared.refusal.Refusal.{Refusal}
-use Rattle.snesl_values.specs.declared.refusal.Refusal.TheVariants.{BadConfig, NoMemory, Output, NoThread, Read, Short}
-use Rattle.snesl_values.specs.Refusals.{is_of_the_system}
+use Rattle.snesl_data.specs.declared.refusal.Refusal.{Refusal}
+use Rattle.snesl_data.specs.declared.refusal.Refusal.TheVariants.{BadConfig, NoMemory, Output, NoThread, Read, Short}
+use Rattle.snesl_data.specs.Refusals.{is_of_the_system}
 use Rattle.snesl_console.specs.Lines.{refusal_line, stalled_line}
 
 abbrev line_with : List ℕ → List ℕ

@@ -1,8 +1,8 @@
 -- What becomes of lines that are printed.
 use Rattle.std.proofs.Common.{◌≡◌, ℕ, true, false, List, ◌⊎◌, inl, inr, codes, sym, ap, ◌∙◌, subst}
-use Rattle.snesl_values.specs.declared.refusal.Refusal.{Refusal}
-use Rattle.snesl_values.specs.declared.refusal.Refusal.TheVariants.{BadConfig, NoMemory, Output}
-use Rattle.snesl_values.specs.Refusals.{is_of_the_system, status_of_refusal}
+use Rattle.snesl_data.specs.declared.refusal.Refusal.{Refusal}
+use Rattle.snesl_data.specs.declared.refusal.Refusal.TheVariants.{BadConfig, NoMemory, Output}
+use Rattle.snesl_data.specs.Refusals.{is_of_the_system, status_of_refusal}
 use Rattle.snesl_console.specs.Streams.{Taken, IsCutOff, WasTold}
 use Rattle.snesl_console.specs.Lines.{refusal_line, Prints, cut_off, Refuses, of_the_job, of_the_system}
 use Rattle.snesl_console.proofs.OwnLines.{bad_config_line}

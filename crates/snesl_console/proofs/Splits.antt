@@ -4,8 +4,8 @@ use Rattle.std.specs.Global.{Global}
 use Rattle.std.specs.Io.KnownBytes.{Consumes}
 use Rattle.std.specs.Result.{IsErrAnd}
 use Rattle.std.proofs.lemmas.List.{get_or_append_left, length-take-le, length-drop, take-append-le, nil_from_length}
-use Rattle.snesl_values.specs.declared.counted.Counted.{Counted}
-use Rattle.snesl_values.specs.Counted.{counted_inner, failures_of}
+use Rattle.snesl_data.specs.declared.counted.Counted.{Counted}
+use Rattle.snesl_data.specs.Counted.{counted_inner, failures_of}
 use Rattle.snesl_console.specs.declared.job.JobError.{JobError}
 use Rattle.snesl_console.specs.declared.job.JobError.TheVariants.{Read, NoMemory}
 use Rattle.snesl_console.specs.Job.{EndsLine, NoSeparatorBefore}

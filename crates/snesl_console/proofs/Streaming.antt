@@ -4,7 +4,7 @@ use Rattle.std.proofs.lemmas.Bool.Decides.{eqb_tells}
 use Rattle.std.proofs.lemmas.List.{length-drop, take-append-drop}
 use Rattle.std.proofs.Math.Seq.{take-length}
 use Rattle.std.specs.Io.KnownBytes.{Appends, Keeps, Consumes}
-use Rattle.snesl_values.specs.Counted.{one_more, counted, HasFailed}
+use Rattle.snesl_data.specs.Counted.{one_more, counted, HasFailed}
 
 pub appends_none : (a : Option (List ℕ)) → Appends a a []
 appends_none None = tt

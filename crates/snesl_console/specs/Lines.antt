@@ -1,10 +1,10 @@
 -- The lines that are printed, and how.
 use Rattle.std.specs.Prelude.{◌≡◌, ℕ, true, false, List, ◌∷◌, [], ◌++◌, Option, Some, None, decimal, codes}
-use Rattle.snesl_values.specs.declared.fault.FaultKind.{FaultKind}
-use Rattle.snesl_values.specs.declared.refusal.Refusal.{Refusal}
-use Rattle.snesl_values.specs.declared.refusal.Refusal.TheVariants.{Output}
-use Rattle.snesl_values.specs.Faults.{number_of_fault}
-use Rattle.snesl_values.specs.Refusals.{number_of_refusal, offset_of_refusal, is_of_the_system, status_of_refusal}
+use Rattle.snesl_data.specs.declared.fault.FaultKind.{FaultKind}
+use Rattle.snesl_data.specs.declared.refusal.Refusal.{Refusal}
+use Rattle.snesl_data.specs.declared.refusal.Refusal.TheVariants.{Output}
+use Rattle.snesl_data.specs.Faults.{number_of_fault}
+use Rattle.snesl_data.specs.Refusals.{number_of_refusal, offset_of_refusal, is_of_the_system, status_of_refusal}
 use Rattle.snesl_console.specs.Streams.{Taken, IsWhole, IsCutOff, WasTold}
 
 -- ` at K` where there is an offset

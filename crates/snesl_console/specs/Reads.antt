@@ -1,8 +1,8 @@
 -- What is read of a job, and what becomes of it.
 use Rattle.std.specs.Prelude.{◌≡◌, ◌<◌, ◌≤◌, ◌⊎◌, ℕ, List, [], ◌++◌, length, Result, Ok, Err, Vec}
 use Rattle.std.specs.Global.{Global}
-use Rattle.snesl_values.specs.declared.refusal.Refusal.{Refusal}
-use Rattle.snesl_values.specs.declared.refusal.Refusal.TheVariants as refusals
+use Rattle.snesl_data.specs.declared.refusal.Refusal.{Refusal}
+use Rattle.snesl_data.specs.declared.refusal.Refusal.TheVariants as refusals
 use Rattle.snesl_console.specs.declared.job.JobError.{JobError}
 use Rattle.snesl_console.specs.declared.job.JobError.TheVariants.{NoMemory, Read}
 use Rattle.snesl_console.specs.Parts.{AreNeeded, AreParts, IsOpen, most_of_input}

@@ -1,8 +1,8 @@
 -- What a call did to a reader and to a writer.
 use Rattle.std.specs.Prelude.{◌≡◌, ℕ, ◌<◌, ◌⊎◌, List, ◌++◌, length, Bool, true, false, Option}
 use Rattle.std.specs.Io.KnownBytes.{Appends, Consumes, IsAtEnd}
-use Rattle.snesl_values.specs.declared.counted.Counted.{Counted}
-use Rattle.snesl_values.specs.Counted.{counted_inner, failures_of, HasWorked, HasFailed}
+use Rattle.snesl_data.specs.declared.counted.Counted.{Counted}
+use Rattle.snesl_data.specs.Counted.{counted_inner, failures_of, HasWorked, HasFailed}
 
 -- what a writer took
 pub record Taken : Type 1 where

@@ -8,7 +8,7 @@ ghost use Rattle.snesl_console.specs.Reads.{HasSplit};
 
 use crate::beginning::{Beginning, LONGEST_PROGRAM, look, parts_at_end};
 use crate::reading::{new_piece, read_input, read_more};
-use snesl_values::{Counted, Refusal};
+use snesl_data::{Counted, Refusal};
 use std::alloc::{AllocError, Global};
 use std::io::Read;
 use thiserror::Error;

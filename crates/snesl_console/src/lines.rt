@@ -1,11 +1,11 @@
 // The lines that are printed.
 
 ghost use Rattle.std.specs.Prelude.{◌≡◌, ◌++◌, IfOk, OnOk, IsTrue};
-ghost use Rattle.snesl_values.specs.Refusals.{is_of_the_system};
+ghost use Rattle.snesl_data.specs.Refusals.{is_of_the_system};
 ghost use Rattle.snesl_console.specs.Lines.{fault_line, refusal_line, place_text};
 
 use itoa::Buffer;
-use snesl_values::{Fault, Refusal};
+use snesl_data::{Fault, Refusal};
 use std::alloc::{AllocError, Global};
 
 // This line and the next ones stand here whole, so that they can be said where memory is refused.

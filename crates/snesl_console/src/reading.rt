@@ -5,7 +5,7 @@ ghost use Rattle.snesl_console.specs.Streams.{given};
 ghost use Rattle.snesl_console.specs.Reads.{HasReadMore, HasReadInput};
 
 use crate::job::JobError;
-use snesl_values::Counted;
+use snesl_data::Counted;
 use std::alloc::{AllocError, Global};
 use std::io::Read;
 

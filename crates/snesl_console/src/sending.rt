@@ -1,12 +1,12 @@
 // Sending bytes to a writer.
 
 ghost use Rattle.std.specs.Prelude.{◌≡◌, IsTrue};
-ghost use Rattle.snesl_values.specs.Refusals.{is_of_the_system, status_of_refusal};
+ghost use Rattle.snesl_data.specs.Refusals.{is_of_the_system, status_of_refusal};
 ghost use Rattle.snesl_console.specs.Streams.{taken, HasSent, WasTold};
 ghost use Rattle.snesl_console.specs.Lines.{Prints, refusal_line};
 
 use crate::lines::system_line;
-use snesl_values::{Counted, Refusal};
+use snesl_data::{Counted, Refusal};
 use std::io::Write;
 
 /// Whether the writer took all bytes; else it took a beginning of them, and exactly one call failed. A write that fails, or

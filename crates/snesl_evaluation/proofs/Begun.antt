@@ -1,8 +1,8 @@
 -- Items in parts, seen from behind a part that is begun.
 use Rattle.std.proofs.Common.{◌≡◌, ℕ, zero, suc, ◌<◌, ◌≤◌, ◌≢◌, Bool, true, false, List, [], ◌∷◌, ◌++◌, map, drop, length, slice_get, Option, Some, None, refl, sym, ap, ◌∙◌, append_assoc, arith}
-use Rattle.snesl_values.specs.declared.fault.FaultKind.{FaultKind}
-use Rattle.snesl_values.specs.declared.fault.FaultKind.TheVariants.{Part}
-use Rattle.snesl_values.specs.Values.{Value}
+use Rattle.snesl_data.specs.declared.fault.FaultKind.{FaultKind}
+use Rattle.snesl_data.specs.declared.fault.FaultKind.TheVariants.{Part}
+use Rattle.snesl_data.specs.Values.{Value}
 use Rattle.snesl_evaluation.specs.Answer.{Answer, gives, faults, go, or_fault}
 use Rattle.snesl_evaluation.specs.Builtins.{into_first, parts_answer, sequence}
 

@@ -1,8 +1,8 @@
 -- The items of data.
 use Rattle.std.proofs.Common.{◌≡◌, ℕ, map, Vec, Global, ap, ◌∙◌}
-use Rattle.snesl_values.specs.declared.datum.Datum.{Datum, Vec as VecDatum, Seq as SeqDatum}
-use Rattle.snesl_values.specs.Values.{value_of}
-use Rattle.snesl_values.proofs.Data.{value_of-Seq, value_of-Vec, list_values}
+use Rattle.snesl_data.specs.declared.datum.Datum.{Datum, Vec as VecDatum, Seq as SeqDatum}
+use Rattle.snesl_data.specs.Values.{value_of}
+use Rattle.snesl_data.proofs.Data.{value_of-Seq, value_of-Vec, list_values}
 use Rattle.snesl_evaluation.specs.Answer.{gives}
 use Rattle.snesl_evaluation.specs.Builtins.{items_at, elements_at}
 

@@ -1,8 +1,8 @@
 -- The calls of declarations, seen from the last one.
 use Rattle.std.proofs.Common.{◌≡◌, ℕ, ◌+◌, ◌≤◌, List, [], ◌∷◌, ◌++◌, map, true, false, if◌then◌else◌, Option, Some, None, IfSome, IfNone, refl, ap, ◌∙◌, arith}
 use Rattle.std.specs.Str.{bytes_eq}
-use Rattle.snesl_values.specs.declared.dialect.Dialect.{Dialect}
-use Rattle.snesl_values.specs.Values.{Value}
+use Rattle.snesl_data.specs.declared.dialect.Dialect.{Dialect}
+use Rattle.snesl_data.specs.Values.{Value}
 use Rattle.snesl_tree.specs.declared.declaration.Function.{Function}
 use Rattle.snesl_tree.specs.Spelling.{spelling}
 use Rattle.std.proofs.lemmas.List.{map-append}

@@ -1,11 +1,11 @@
 -- Derived forms have the answers of what they mean.
 use Rattle.std.proofs.Common.{◌≡◌, ℕ, true, false, List, [], ◌∷◌, ◌++◌, Some, if◌then◌else◌, refl, sym, ap, ◌∙◌}
 use Rattle.std.proofs.lemmas.Slice.Eq.{bytes_eq-Decides}
-use Rattle.snesl_values.specs.declared.dialect.Dialect.{Dialect}
-use Rattle.snesl_values.specs.declared.fault.FaultKind.TheVariants.{Shape}
+use Rattle.snesl_data.specs.declared.dialect.Dialect.{Dialect}
+use Rattle.snesl_data.specs.declared.fault.FaultKind.TheVariants.{Shape}
 use Rattle.snesl_values.specs.Inputs.{Environment, value_in}
-use Rattle.snesl_values.specs.Values.{Value, an_int, a_bool, a_pair, a_vec, a_seq}
-use Rattle.snesl_values.proofs.Data.{list_values}
+use Rattle.snesl_data.specs.Values.{Value, an_int, a_bool, a_pair, a_vec, a_seq}
+use Rattle.snesl_data.proofs.Data.{list_values}
 use Rattle.snesl_tree.specs.declared.operator.Builtin.TheVariants.{Concat, The}
 use Rattle.snesl_tree.specs.declared.operator.Prefix.TheVariants.{Not}
 use Rattle.snesl_tree.specs.Spelling.{spelling}

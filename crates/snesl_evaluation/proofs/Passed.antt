@@ -1,10 +1,10 @@
 -- What `?` passes on, and the parameters of a call.
 use Rattle.std.proofs.Common.{◌≡◌, ◌≢◌, ℕ, List, [], ◌∷◌, map, length, Result, Ok, Err, IsErrAnd, zip, refl, sym, ap, subst, arith}
-use Rattle.snesl_values.specs.declared.fault.FaultKind.{FaultKind}
-use Rattle.snesl_values.specs.declared.fault.FaultKind.TheVariants.{Shape}
-use Rattle.snesl_values.specs.declared.datum.Datum.{Datum}
+use Rattle.snesl_data.specs.declared.fault.FaultKind.{FaultKind}
+use Rattle.snesl_data.specs.declared.fault.FaultKind.TheVariants.{Shape}
+use Rattle.snesl_data.specs.declared.datum.Datum.{Datum}
 use Rattle.snesl_values.specs.Inputs.{Environment}
-use Rattle.snesl_values.specs.Values.{Value, value_of}
+use Rattle.snesl_data.specs.Values.{Value, value_of}
 use Rattle.snesl_tree.specs.declared.declaration.Typing.{Typing}
 use Rattle.snesl_tree.specs.Spelling.{spelling}
 use Rattle.snesl_tree.specs.View.{typed_of}

@@ -4,9 +4,9 @@ use Rattle.std.specs.List.{cons_option, list_all}
 use Rattle.std.proofs.lemmas.Bool.{eqb-true}
 use Rattle.std.specs.Str.{bytes_eq}
 use Rattle.std.proofs.lemmas.List.{length-map}
-use Rattle.snesl_values.specs.declared.fault.FaultKind.TheVariants.{Length}
+use Rattle.snesl_data.specs.declared.fault.FaultKind.TheVariants.{Length}
 use Rattle.snesl_values.specs.Inputs.{Environment, value_in}
-use Rattle.snesl_values.specs.Values.{Value, value_of}
+use Rattle.snesl_data.specs.Values.{Value, value_of}
 use Rattle.snesl_evaluation.specs.declared.scope.Column.{Column}
 use Rattle.snesl_evaluation.specs.Answer.{gives, faults}
 use Rattle.snesl_evaluation.specs.Eval.{Columns, beside, height, rows_of, in_step}

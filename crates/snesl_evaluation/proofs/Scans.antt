@@ -1,8 +1,8 @@
 -- One step of a scan.
 use Rattle.std.proofs.Common.{◌≡◌, ℕ, zero, suc, ◌+◌, ◌<◌, List, [], ◌∷◌, ◌++◌, length, drop, get_or, map, Result, Ok, Err, ℤ, ◌+ℤ◌, refl, sym, ap, ◌∙◌, append_assoc, arith}
-use Rattle.snesl_values.specs.declared.dialect.Dialect.{Dialect}
-use Rattle.snesl_values.specs.declared.fault.FaultKind.{FaultKind}
-use Rattle.snesl_values.specs.Values.{Value, an_int}
+use Rattle.snesl_data.specs.declared.dialect.Dialect.{Dialect}
+use Rattle.snesl_data.specs.declared.fault.FaultKind.{FaultKind}
+use Rattle.snesl_data.specs.Values.{Value, an_int}
 use Rattle.snesl_operators.specs.Operators.{ranged}
 use Rattle.snesl_operators.specs.Reductions.{and_then, scanned_from}
 use Rattle.snesl_evaluation.specs.Answer.{Answer, gives, faults, go, answer_at}

@@ -1,8 +1,8 @@
 -- One step over the rows of a comprehension.
 use Rattle.std.proofs.Common.{◌≡◌, ℕ, suc, ◌+◌, ◌<◌, true, List, [], ◌∷◌, ◌++◌, drop, refl, sym, ap, ◌∙◌, append_assoc, arith}
-use Rattle.snesl_values.specs.declared.fault.FaultKind.{FaultKind}
+use Rattle.snesl_data.specs.declared.fault.FaultKind.{FaultKind}
 use Rattle.snesl_values.specs.Inputs.{Environment}
-use Rattle.snesl_values.specs.Values.{Value}
+use Rattle.snesl_data.specs.Values.{Value}
 use Rattle.snesl_evaluation.specs.Answer.{Answer, gives, faults, go, go_all, go_join}
 use Rattle.snesl_evaluation.specs.Eval.{Columns, rows_of}
 use Rattle.snesl_evaluation.specs.Scopes.{row_at}

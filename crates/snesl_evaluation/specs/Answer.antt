@@ -1,6 +1,6 @@
 -- Answers: what evaluation ends in.
 use Rattle.std.specs.Prelude.{ℕ, List, [], ◌∷◌, ◌++◌, Option, Some, None, Result, Ok, Err}
-use Rattle.snesl_values.specs.declared.fault.FaultKind.{FaultKind}
+use Rattle.snesl_data.specs.declared.fault.FaultKind.{FaultKind}
 
 -- a result, or the first fault from the left with its offset
 pub data Answer (A : Type 0) : Type 0 where

@@ -1,10 +1,10 @@
 -- What operators and built-in functions give at values.
 use Rattle.std.specs.Prelude.{ℕ, List, [], ◌∷◌, ◌++◌, map, length, slice_get, ℤ, pos, negsuc, Bool, true, false, Result}
 use Rattle.std.specs.List.{range_with_len}
-use Rattle.snesl_values.specs.declared.dialect.Dialect.{Dialect}
-use Rattle.snesl_values.specs.declared.fault.FaultKind.{FaultKind}
-use Rattle.snesl_values.specs.declared.fault.FaultKind.TheVariants.{NegativeCount, Part as PartFault, The as TheFault, Index as IndexFault, Shape}
-use Rattle.snesl_values.specs.Values.{Value, an_int, a_bool, a_pair, a_vec, a_seq, list_of, values_of}
+use Rattle.snesl_data.specs.declared.dialect.Dialect.{Dialect}
+use Rattle.snesl_data.specs.declared.fault.FaultKind.{FaultKind}
+use Rattle.snesl_data.specs.declared.fault.FaultKind.TheVariants.{NegativeCount, Part as PartFault, The as TheFault, Index as IndexFault, Shape}
+use Rattle.snesl_data.specs.Values.{Value, an_int, a_bool, a_pair, a_vec, a_seq, list_of, values_of}
 use Rattle.snesl_operators.specs.declared.operator.UnaryOperator.{UnaryOperator}
 use Rattle.snesl_operators.specs.declared.operator.UnaryOperator.TheVariants as unary
 use Rattle.snesl_operators.specs.declared.operator.BinaryOperator.{BinaryOperator}

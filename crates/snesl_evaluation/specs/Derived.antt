@@ -1,8 +1,8 @@
 -- What derived forms mean.
 use Rattle.std.specs.Prelude.{◌≡◌, ℕ, List, ◌∷◌, true}
-use Rattle.snesl_values.specs.declared.dialect.Dialect.{Dialect}
+use Rattle.snesl_data.specs.declared.dialect.Dialect.{Dialect}
 use Rattle.snesl_values.specs.Inputs.{Environment}
-use Rattle.snesl_values.specs.Values.{Value}
+use Rattle.snesl_data.specs.Values.{Value}
 use Rattle.snesl_tree.specs.declared.operator.Builtin.TheVariants.{Concat, The}
 use Rattle.snesl_tree.specs.declared.operator.Operator.TheVariants.{Append}
 use Rattle.snesl_tree.specs.declared.operator.Prefix.TheVariants.{Not}

@@ -1,9 +1,9 @@
 -- What the results of the evaluator say.
 use Rattle.std.specs.Prelude.{◌≡◌, ℕ, Result, Ok, Err}
-use Rattle.snesl_values.specs.declared.datum.Datum.{Datum}
-use Rattle.snesl_values.specs.declared.fault.Fault.{Fault}
-use Rattle.snesl_values.specs.declared.fault.FaultKind.{FaultKind}
-use Rattle.snesl_values.specs.Values.{Value, value_of}
+use Rattle.snesl_data.specs.declared.datum.Datum.{Datum}
+use Rattle.snesl_data.specs.declared.fault.Fault.{Fault}
+use Rattle.snesl_data.specs.declared.fault.FaultKind.{FaultKind}
+use Rattle.snesl_data.specs.Values.{Value, value_of}
 use Rattle.snesl_evaluation.specs.declared.halt.Halt.{Halt}
 use Rattle.snesl_evaluation.specs.declared.halt.Halt.TheVariants.{NoMemory, Faulted}
 use Rattle.snesl_evaluation.specs.Answer.{Answer, gives, faults}

@@ -1,10 +1,10 @@
 -- What names and calls mean where the evaluator stands.
 use Rattle.std.specs.Prelude.{◌≡◌, ℕ, suc, ◌+◌, ◌==◌, Bool, List, [], ◌∷◌, ◌++◌, map, length, zip, filter_map, option_map, slice_get}
 use Rattle.std.specs.List.{list_all}
-use Rattle.snesl_values.specs.declared.dialect.Dialect.{Dialect}
-use Rattle.snesl_values.specs.declared.fault.FaultKind.TheVariants.{Shape}
+use Rattle.snesl_data.specs.declared.dialect.Dialect.{Dialect}
+use Rattle.snesl_data.specs.declared.fault.FaultKind.TheVariants.{Shape}
 use Rattle.snesl_values.specs.Inputs.{Environment, environment_of}
-use Rattle.snesl_values.specs.Values.{Value, value_of}
+use Rattle.snesl_data.specs.Values.{Value, value_of}
 use Rattle.snesl_tree.specs.declared.declaration.Declaration.{Declaration}
 use Rattle.snesl_tree.specs.declared.declaration.Declaration.TheVariants.{Input, Function as FunctionDeclaration}
 use Rattle.snesl_tree.specs.declared.declaration.Function.{Function}

@@ -1,8 +1,8 @@
 // Built-in functions at data.
 
 ghost use Rattle.std.specs.Prelude.{◌∷◌, [], map};
-ghost use Rattle.snesl_values.specs.declared.dialect.Dialect.{Dialect};
-ghost use Rattle.snesl_values.specs.Values.{a_vec, value_of, values_of};
+ghost use Rattle.snesl_data.specs.declared.dialect.Dialect.{Dialect};
+ghost use Rattle.snesl_data.specs.Values.{a_vec, value_of, values_of};
 ghost use Rattle.snesl_tree.specs.declared.operator.Builtin.TheVariants as builtin;
 ghost use Rattle.snesl_evaluation.specs.Answer.{gives, go, go_join};
 ghost use Rattle.snesl_evaluation.specs.Builtins.{applied, elements_at, int_at, iota_answer, items_at, part_answer, reduce_answer, scan_answer, seq_answer, sequence, the_answer};
@@ -14,9 +14,9 @@ use crate::parts::{elements, integer, items, sequence_of, vector_of};
 use crate::sequences::{
     add_copies, count_up, integers, joined, parts, reduce, scalars, scan_add, truths,
 };
+use snesl_data::{Datum, Dialect, FaultKind, copy_datum};
 use snesl_operators::Reduction;
 use snesl_tree::Builtin;
-use snesl_values::{Datum, Dialect, FaultKind, copy_datum};
 use std::alloc::Global;
 
 // A built-in at its arguments.

@@ -2,7 +2,7 @@
 
 ghost use Rattle.std.specs.Prelude.{◌≡◌, ◌∷◌, true, map, if◌then◌else◌, IfOk, option_map, option_to_list};
 ghost use Rattle.snesl_values.specs.Inputs.{environment_of};
-ghost use Rattle.snesl_values.specs.Values.{a_pair, value_of};
+ghost use Rattle.snesl_data.specs.Values.{a_pair, value_of};
 ghost use Rattle.snesl_tree.specs.Spelling.{spelling};
 ghost use Rattle.snesl_grammar.specs.View.{program_of};
 ghost use Rattle.snesl_tree.specs.View.{binders_of, tree_of, trees_of};
@@ -18,9 +18,10 @@ use crate::halt::{Halt, fault};
 use crate::operators::{binary, prefix};
 use crate::parts::{add, add_found, filtered, into_items, pair, sequence_of, truth};
 use crate::scope::{Column, Scope, Setting, add_column, height, look_up};
+use snesl_data::{Datum, Fault, FaultKind};
 use snesl_grammar::Program;
 use snesl_tree::{Binder, Builtin, Declaration, Expr, Function, Operator, Prefix, Span};
-use snesl_values::{Datum, Fault, FaultKind, Inputs};
+use snesl_values::Inputs;
 use std::alloc::{AllocError, Global};
 
 /// Evaluates a program by its definition, with all of each sequence in memory. It is slow, and

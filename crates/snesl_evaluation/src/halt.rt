@@ -4,7 +4,7 @@ ghost use Rattle.std.specs.Prelude.{◌≡◌};
 ghost use Rattle.snesl_evaluation.specs.Results.{fault_of};
 ghost use Rattle.snesl_evaluation.specs.declared.halt.Halt.TheVariants.{NoMemory};
 
-use snesl_values::{Fault, FaultKind};
+use snesl_data::{Fault, FaultKind};
 use std::alloc::{AllocError, AllocFailed};
 
 // Why there is no value.

@@ -1,8 +1,8 @@
 // Operators at data.
 
 ghost use Rattle.std.specs.Prelude.{map, slice_get};
-ghost use Rattle.snesl_values.specs.declared.fault.FaultKind.TheVariants.{Index as IndexFault};
-ghost use Rattle.snesl_values.specs.Values.{value_of};
+ghost use Rattle.snesl_data.specs.declared.fault.FaultKind.TheVariants.{Index as IndexFault};
+ghost use Rattle.snesl_data.specs.Values.{value_of};
 ghost use Rattle.snesl_evaluation.specs.Answer.{go, or_fault};
 ghost use Rattle.snesl_evaluation.specs.Builtins.{append_answer, binary_answer, elements_at, equal_answer, int_at, item_answer, prefix_answer, scalar_answer, scalars_answer, unary_answer};
 ghost use Rattle.snesl_evaluation.specs.Results.{Answers};
@@ -10,9 +10,9 @@ ghost use Rattle.snesl_evaluation.specs.Results.{Answers};
 use crate::halt::{Halt, fault};
 use crate::parts::{datum_of, elements, integer, items, scalar, sequence_of};
 use crate::sequences::add_copies;
+use snesl_data::{Datum, Dialect, FaultKind, copy_datum};
 use snesl_operators::{BinaryOperator, Scalar, UnaryOperator};
 use snesl_tree::{Operator, Prefix};
-use snesl_values::{Datum, Dialect, FaultKind, copy_datum};
 use std::alloc::Global;
 
 // The scalar, or its fault at this offset.

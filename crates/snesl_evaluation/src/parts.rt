@@ -1,13 +1,13 @@
 // Data and their parts. A datum of another kind is `Shape` at the offset that is given.
 
 ghost use Rattle.std.specs.Prelude.{◌≡◌, ◌++◌, ◌∷◌, [], map, option_map, option_to_list, IfOk, OnOk};
-ghost use Rattle.snesl_values.specs.Values.{a_pair, a_vec, value_of, values_of};
+ghost use Rattle.snesl_data.specs.Values.{a_pair, a_vec, value_of, values_of};
 ghost use Rattle.snesl_evaluation.specs.Builtins.{elements_at, int_at, items_at, scalar_at, scalar_value, sequence, truth_at};
 ghost use Rattle.snesl_evaluation.specs.Results.{Answers};
 
 use crate::halt::{Halt, fault};
+use snesl_data::{Datum, FaultKind};
 use snesl_operators::Scalar;
-use snesl_values::{Datum, FaultKind};
 use std::alloc::{AllocError, Global};
 
 pub fn integer(at: usize, datum: &Datum) -> Result<i128, Halt>

@@ -3,15 +3,16 @@
 ghost use Rattle.std.specs.Prelude.{◌≡◌, ℕ, List, [], ◌∷◌, ◌++◌, map, option_map, slice_get, true, zip, None, if◌then◌else◌, IfOk, OnOk};
 ghost use Rattle.std.specs.Str.{bytes_eq};
 ghost use Rattle.snesl_values.specs.Inputs.{value_in};
-ghost use Rattle.snesl_values.specs.Values.{value_of};
+ghost use Rattle.snesl_data.specs.Values.{value_of};
 ghost use Rattle.snesl_tree.specs.Spelling.{spelling};
 ghost use Rattle.snesl_evaluation.specs.Eval.{in_step, named, rows_of};
 ghost use Rattle.snesl_evaluation.specs.Results.{Answers};
 ghost use Rattle.snesl_evaluation.specs.Scopes.{are_level, column_of, environment_in, first_height, names_of, row_at};
 
 use crate::halt::{Halt, fault};
+use snesl_data::{Datum, Dialect, FaultKind, copy_datum};
 use snesl_tree::{Declaration, Span, Typing};
-use snesl_values::{Datum, Dialect, FaultKind, Inputs, copy_datum};
+use snesl_values::Inputs;
 use std::alloc::{AllocError, Global};
 
 // What stays the same in one body: the dialect of the program, the text, in which names are

@@ -1,8 +1,8 @@
 // Sequences made of others.
 
 ghost use Rattle.std.specs.Prelude.{◌≡◌, ◌++◌, ◌∷◌, [], ◌+◌, ◌+ℤ◌, map, slice_get, IfOk, OnOk};
-ghost use Rattle.snesl_values.specs.declared.fault.FaultKind.TheVariants.{Part as PartFault};
-ghost use Rattle.snesl_values.specs.Values.{an_int, value_of};
+ghost use Rattle.snesl_data.specs.declared.fault.FaultKind.TheVariants.{Part as PartFault};
+ghost use Rattle.snesl_data.specs.Values.{an_int, value_of};
 ghost use Rattle.snesl_operators.specs.Operators.{ranged};
 ghost use Rattle.snesl_operators.specs.Reductions.{reduced, scanned};
 ghost use Rattle.snesl_evaluation.specs.Answer.{answer_at, gives, go, go_all, go_join, or_fault};
@@ -11,8 +11,8 @@ ghost use Rattle.snesl_evaluation.specs.Results.{Answers};
 
 use crate::halt::{Halt, fault};
 use crate::parts::{add, integer, items, scalar, sequence_of, truth};
+use snesl_data::{Datum, Dialect, FaultKind, copy_datum};
 use snesl_operators::{Reduction, Scalar, sum};
-use snesl_values::{Datum, Dialect, FaultKind, copy_datum};
 use std::alloc::{AllocError, Global};
 use std::mem;
 

@@ -1,11 +1,11 @@
 -- What the calls that add a program's steps add up to.
 use Rattle.std.proofs.Common.{◌≡◌, ℕ, zero, List, [], ◌∷◌, ◌++◌, map, Result, Ok, Err, refl, subst, ◌∙◌, append-nil}
 use Rattle.std.specs.Result.{IsErr, IsErrAnd}
-use Rattle.snesl_values.specs.declared.dialect.Dialect.{Dialect}
-use Rattle.snesl_values.specs.declared.refusal.Refusal.{Refusal}
-use Rattle.snesl_values.specs.declared.refusal.Refusal.TheVariants.{TooBig, NoMemory}
+use Rattle.snesl_data.specs.declared.dialect.Dialect.{Dialect}
+use Rattle.snesl_data.specs.declared.refusal.Refusal.{Refusal}
+use Rattle.snesl_data.specs.declared.refusal.Refusal.TheVariants.{TooBig, NoMemory}
 use Rattle.snesl_values.specs.Inputs.{Declaration}
-use Rattle.snesl_values.specs.Types.{Ty}
+use Rattle.snesl_data.specs.Types.{Ty}
 use Rattle.snesl_tree.specs.Tree.{Tree}
 use Rattle.snesl_tree.specs.View.{tree_of, declaration_of}
 use Rattle.snesl_tree.specs.declared.declaration.Declaration.{Declaration as DeclarationData}

@@ -3,7 +3,7 @@ use Rattle.std.proofs.Common.{◌≡◌, ◌≢◌, ℕ, zero, suc, ◌+◌, Lis
 use Rattle.std.proofs.lemmas.List.{get_or-map}
 use Rattle.std.proofs.Math.ListN.{length-set}
 use Rattle.std.specs.List.{slice_get}
-use Rattle.snesl_values.specs.Types.{Ty}
+use Rattle.snesl_data.specs.Types.{Ty}
 use Rattle.snesl_values.specs.Inputs.{Declaration}
 use Rattle.snesl_tree.specs.Tree.{ProgramTree}
 use Rattle.flow_messages.specs.Cells.{Cell}

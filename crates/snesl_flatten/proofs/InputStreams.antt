@@ -6,9 +6,9 @@ use Rattle.std.proofs.lemmas.Option.{slice_get-map, slice_get-get_or}
 use Rattle.std.specs.Global.{Global}
 use Rattle.std.specs.List.{slice_get}
 use Rattle.std.specs.Option.{option_map, IsSome}
-use Rattle.snesl_values.specs.declared.dialect.Dialect.{Dialect}
-use Rattle.snesl_values.specs.declared.ty.Ty.{Ty as TyTree}
-use Rattle.snesl_values.specs.Values.{Value}
+use Rattle.snesl_data.specs.declared.dialect.Dialect.{Dialect}
+use Rattle.snesl_data.specs.declared.ty.Ty.{Ty as TyTree}
+use Rattle.snesl_data.specs.Values.{Value}
 use Rattle.snesl_values.specs.Inputs.{Declaration, Environment, Fits, declared, declaration_of}
 use Rattle.flow_scalar.specs.Streams.{stream_cells, stream_kind}
 use Rattle.flow_scalar.specs.declared.source.Stream.{Stream}

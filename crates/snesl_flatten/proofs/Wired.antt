@@ -5,7 +5,7 @@ use Rattle.std.proofs.Props.{props}
 use Rattle.std.specs.Result.{IsErr, IsErrAnd}
 use mathlib.Core.HLevel.{hedberg}
 use denote.Enum.Bare.{sameb}
-use Rattle.snesl_values.specs.declared.refusal.Refusal.{Refusal}
+use Rattle.snesl_data.specs.declared.refusal.Refusal.{Refusal}
 use Rattle.snesl_types.specs.declared.typed.Typed.{Typed}
 use Rattle.snesl_types.specs.Typed.{typed_inputs, typed_text, typed_tree, typed_ty}
 use Rattle.flow_messages.specs.declared.message.Kind.{Kind}

@@ -4,7 +4,7 @@ pub mod PlanViews
 pub mod Sources
 -- what the public clauses cite of the crates below
 pub use Rattle.snesl_values.specs.Inputs
-pub use Rattle.snesl_values.specs.declared.refusal.Refusal
+pub use Rattle.snesl_data.specs.declared.refusal.Refusal
 pub use Rattle.snesl_types.specs.Typed
 pub use Rattle.flow_nodes.specs.StreamNodes
 pub use Rattle.flow_graph.specs.Graphs

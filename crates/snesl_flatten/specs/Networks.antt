@@ -1,9 +1,9 @@
 -- The network of a program, and what it means.
 use Rattle.std.specs.Prelude.{◌≡◌, ℕ, List, length}
-use Rattle.snesl_values.specs.declared.fault.FaultKind.{FaultKind}
+use Rattle.snesl_data.specs.declared.fault.FaultKind.{FaultKind}
 use Rattle.snesl_values.specs.Inputs.{Declaration, Environment}
-use Rattle.snesl_values.specs.Values.{Value}
-use Rattle.snesl_values.specs.Text.{text as text_of_value}
+use Rattle.snesl_data.specs.Values.{Value}
+use Rattle.snesl_data.specs.Text.{text as text_of_value}
 use Rattle.snesl_tree.specs.Tree.{ProgramTree}
 use Rattle.snesl_evaluation.specs.Answer.{gives, faults}
 use Rattle.snesl_evaluation.specs.Eval.{program_value}

@@ -1,7 +1,7 @@
 // From programs to plans.
 
 ghost use Rattle.std.specs.Prelude.{◌≡◌, ◌<◌, ◌≤◌, ◌⊎◌, Err, IfOk, IfErr, length};
-ghost use Rattle.snesl_values.specs.declared.refusal.Refusal.TheVariants.{TooBig, NoMemory};
+ghost use Rattle.snesl_data.specs.declared.refusal.Refusal.TheVariants.{TooBig, NoMemory};
 ghost use Rattle.snesl_types.specs.Typed.{typed_inputs, typed_text, typed_tree};
 ghost use Rattle.flow_nodes.specs.StreamNodes.{node_behaviour};
 ghost use Rattle.flow_graph.specs.Limits.{most_nodes, most_edges};
@@ -14,8 +14,8 @@ ghost use Rattle.snesl_flatten.specs.PlanViews.{planned, plan_states, plan_edges
 use crate::plan::Plan;
 use crate::steps::steps_of_program;
 use flow_assembly::assemble;
+use snesl_data::Refusal;
 use snesl_types::Typed;
-use snesl_values::Refusal;
 use snesl_wiring::plans_are_wired;
 use std::alloc::Global;
 

@@ -8,7 +8,8 @@ ghost use Rattle.snesl_flatten.specs.Sources.{all_kinds};
 
 use flow_inputs::streams_of;
 use flow_scalar::Stream;
-use snesl_values::{Inputs, Ty, inputs_fit};
+use snesl_data::Ty;
+use snesl_values::{Inputs, inputs_fit};
 use std::alloc::{AllocError, Global};
 
 // What the values of inputs put on the edges of their types, one after another. The error is that memory was refused.

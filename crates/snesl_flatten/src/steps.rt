@@ -1,7 +1,7 @@
 // The steps of a program.
 
 ghost use Rattle.std.specs.Prelude.{◌≡◌, ◌<◌, ◌⊎◌, length, IfOk, IfErr, Err};
-ghost use Rattle.snesl_values.specs.declared.refusal.Refusal.TheVariants.{TooBig, NoMemory};
+ghost use Rattle.snesl_data.specs.declared.refusal.Refusal.TheVariants.{TooBig, NoMemory};
 ghost use Rattle.snesl_values.specs.Inputs.{declared};
 ghost use Rattle.snesl_tree.specs.View.{tree_of};
 ghost use Rattle.snesl_types.specs.Typed.{typed_dialect, typed_inputs, typed_text, typed_tree};
@@ -15,12 +15,12 @@ ghost use Rattle.snesl_flatten.specs.Behind.{printed};
 
 use crate::offsets::first_offset;
 use flow_plans::{Operation, Step};
+use snesl_data::{Refusal, Ty};
 use snesl_scopes::Scope;
 use snesl_steps::{Binding, Steps, Wires};
 use snesl_translator::{Setting, translate};
 use snesl_tree::Expr;
 use snesl_types::Typed;
-use snesl_values::{Refusal, Ty};
 use std::alloc::Global;
 
 // The steps of a program whose inputs are not set. `TooBig` where they are more than a graph has nodes.

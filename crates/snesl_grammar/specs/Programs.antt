@@ -1,7 +1,7 @@
 -- Which tokens are a program, and which begin one.
 use Rattle.std.specs.Prelude.{ℕ, suc, pos, max, ◌≤◌, List, [], ◌∷◌, ◌++◌}
-use Rattle.snesl_values.specs.declared.dialect.Dialect.{Dialect}
-use Rattle.snesl_values.specs.declared.dialect.Dialect.TheVariants.{One, Two}
+use Rattle.snesl_data.specs.declared.dialect.Dialect.{Dialect}
+use Rattle.snesl_data.specs.declared.dialect.Dialect.TheVariants.{One, Two}
 use Rattle.snesl_lexer.specs.declared.token.Kind.TheVariants.{Integer, Dialect as DialectWord, Input, Function, LeftParen, RightParen, Colon, Semicolon, Comma, Equals}
 use Rattle.snesl_lexer.specs.declared.token.Token.{Token}
 use Rattle.snesl_tree.specs.declared.span.Span.{Span}

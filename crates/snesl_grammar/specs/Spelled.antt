@@ -1,6 +1,6 @@
 -- Which programs a text spells.
 use Rattle.std.specs.Prelude.{ℕ, ◌≤◌, List, length, map}
-use Rattle.snesl_values.specs.declared.dialect.Dialect.{Dialect}
+use Rattle.snesl_data.specs.declared.dialect.Dialect.{Dialect}
 use Rattle.snesl_lexer.specs.declared.token.Token.{Token}
 use Rattle.snesl_lexer.specs.Lexical.{dialect_of, Tokens}
 use Rattle.snesl_tree.specs.declared.declaration.Declaration.{Declaration}

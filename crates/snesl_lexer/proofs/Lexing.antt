@@ -3,8 +3,8 @@ use Rattle.std.proofs.Common.{◌≡◌, ℕ, suc, pos, ◌+◌, ◌-◌, ◌*�
 use Rattle.std.proofs.lemmas.Bool.{lt-leb, cases_lt, not-true, eqb-false}
 use Rattle.std.proofs.Common.{length-drop, inl, inr, take_all}
 use Rattle.std.specs.List.{AllByRecursion, prefix_len}
-use Rattle.snesl_values.specs.declared.dialect.Dialect.{Dialect}
-use Rattle.snesl_values.specs.Integers.{greatest_integer}
+use Rattle.snesl_data.specs.declared.dialect.Dialect.{Dialect}
+use Rattle.snesl_data.specs.Integers.{greatest_integer}
 use Rattle.snesl_lexer.specs.declared.token.Kind.{Kind}
 use Rattle.snesl_lexer.specs.declared.token.Kind.TheVariants.{Integer}
 use Rattle.snesl_lexer.specs.declared.token.Token.{Token}
@@ -12,7 +12,7 @@ use Rattle.snesl_lexer.specs.declared.lexer.First.TheVariants.{Blank, Found, Bad
 use Rattle.snesl_lexer.specs.Tables.{kind_in}
 use Rattle.snesl_lexer.specs.Signs.{one_byte_signs, two_byte_signs, longer_sign, sign_token}
 use Rattle.snesl_lexer.proofs.Tables.{kind_in_passes}
-use Rattle.snesl_values.specs.Characters.{value_from}
+use Rattle.snesl_data.specs.Characters.{value_from}
 use Rattle.snesl_lexer.specs.Lexical.{number, first, Tokens, none_left, skips, takes, BadAt, bad_here, bad_later, bad_behind, IsWithin}
 
 value_from-grows : (n : ℕ) (cs : List ℕ) → n ≤ value_from n cs

@@ -8,8 +8,8 @@ use Rattle.std.proofs.lemmas.List.Sums.{prefix_len-le-length}
 use Rattle.std.proofs.Math.Seq.{take-nil}
 use Rattle.std.proofs.lemmas.List.{length-take-le}
 use Rattle.std.proofs.lemmas.List.Folds.{length-prefix_len}
-use Rattle.snesl_values.specs.declared.dialect.Dialect.{Dialect}
-use Rattle.snesl_values.specs.Integers.{greatest_integer}
+use Rattle.snesl_data.specs.declared.dialect.Dialect.{Dialect}
+use Rattle.snesl_data.specs.Integers.{greatest_integer}
 use Rattle.snesl_lexer.specs.declared.token.Kind.{Kind}
 use Rattle.snesl_lexer.specs.declared.token.Kind.TheVariants.{Integer}
 use Rattle.snesl_lexer.specs.declared.lexer.First.{First}
@@ -17,8 +17,8 @@ use Rattle.snesl_lexer.specs.declared.lexer.First.TheVariants.{Blank, Found, Bad
 use Rattle.snesl_lexer.specs.Tables.{kind_in}
 use Rattle.snesl_lexer.specs.Words.{word_kind}
 use Rattle.snesl_lexer.specs.Signs.{one_byte_signs, two_byte_signs, longer_sign, sign_token}
-use Rattle.snesl_values.specs.Blanks.{is_blank}
-use Rattle.snesl_values.specs.Characters.{is_word, value_from}
+use Rattle.snesl_data.specs.Blanks.{is_blank}
+use Rattle.snesl_data.specs.Characters.{is_word, value_from}
 use Rattle.snesl_lexer.specs.Lexical.{number, head_or, first}
 use Rattle.snesl_lexer.specs.Lexemes.{IsWord, IsDigits, Meaning, token, too_great, Lexeme, a_word, an_integer, an_excess, a_sign, a_long_sign, IsLongest, BeginsWithNone, StandsFirst, FirstIsLongest}
 use Rattle.snesl_lexer.proofs.Tables.{kind_in_passes}

@@ -7,13 +7,13 @@ use Rattle.snesl_lexer.specs.declared.token.Kind.TheVariants as kinds
 use Rattle.snesl_lexer.specs.declared.token.Token.{Token}
 use Rattle.snesl_lexer.specs.declared.lexer.First.{First}
 use Rattle.snesl_lexer.specs.declared.lexer.First.TheVariants.{Blank, Found, Bad}
-use Rattle.snesl_values.specs.declared.dialect.Dialect.{Dialect}
-use Rattle.snesl_values.specs.declared.dialect.Dialect.TheVariants.{One, Two}
-use Rattle.snesl_values.specs.declared.refusal.Refusal.{Refusal}
-use Rattle.snesl_values.specs.declared.refusal.Refusal.TheVariants as refusals
-use Rattle.snesl_values.specs.Integers.{greatest_integer}
-use Rattle.snesl_values.specs.Blanks.{is_blank}
-use Rattle.snesl_values.specs.Characters.{is_word, value_from}
+use Rattle.snesl_data.specs.declared.dialect.Dialect.{Dialect}
+use Rattle.snesl_data.specs.declared.dialect.Dialect.TheVariants.{One, Two}
+use Rattle.snesl_data.specs.declared.refusal.Refusal.{Refusal}
+use Rattle.snesl_data.specs.declared.refusal.Refusal.TheVariants as refusals
+use Rattle.snesl_data.specs.Integers.{greatest_integer}
+use Rattle.snesl_data.specs.Blanks.{is_blank}
+use Rattle.snesl_data.specs.Characters.{is_word, value_from}
 use Rattle.snesl_lexer.specs.Words.{word_kind}
 use Rattle.snesl_lexer.specs.Signs.{sign_token}
 

@@ -3,9 +3,9 @@
 ghost use Rattle.std.specs.Prelude.{◌≡◌, ◌<◌, ◌≤◌, [], ◌∷◌, length, Some, None, IsTrue, IfOk, IfErr, MatchOption};
 ghost use Rattle.std.specs.List.{AllByRecursion, prefix_len};
 ghost use Rattle.std.specs.Char.{is_ascii_digit};
-ghost use Rattle.snesl_values.specs.declared.dialect.Dialect.TheVariants.{Two};
-ghost use Rattle.snesl_values.specs.Integers.{greatest_integer};
-ghost use Rattle.snesl_values.specs.Blanks.{is_blank};
+ghost use Rattle.snesl_data.specs.declared.dialect.Dialect.TheVariants.{Two};
+ghost use Rattle.snesl_data.specs.Integers.{greatest_integer};
+ghost use Rattle.snesl_data.specs.Blanks.{is_blank};
 ghost use Rattle.snesl_lexer.specs.Tables.{kind_in};
 ghost use Rattle.snesl_lexer.specs.Words.{word_kind};
 ghost use Rattle.snesl_lexer.specs.Signs.{one_byte_signs, two_byte_signs, sign_token};
@@ -14,7 +14,7 @@ ghost use Rattle.snesl_lexer.specs.Lexemes.{FirstIsLongest};
 ghost use Rattle.snesl_lexer.specs.Readings.{HaveOneReading, TokensNameTheirDialect};
 
 use crate::token::{Kind, Token};
-use snesl_values::{Dialect, Refusal, digits_len, is_blank, word_len};
+use snesl_data::{Dialect, Refusal, digits_len, is_blank, word_len};
 use std::alloc::Global;
 
 /// What stands first in bytes.

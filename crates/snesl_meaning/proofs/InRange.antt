@@ -4,9 +4,9 @@ use Rattle.std.specs.List.{list_all, AllByRecursion}
 use Rattle.std.specs.Option.{unwrap_or}
 use Rattle.std.specs.Str.{bytes_eq}
 use Rattle.std.proofs.lemmas.Bool.{le-leb, and_parts}
-use Rattle.snesl_values.specs.declared.dialect.Dialect.{Dialect}
-use Rattle.snesl_values.specs.declared.dialect.Dialect.TheVariants.{One, Two}
-use Rattle.snesl_values.specs.Integers.{is_integer}
+use Rattle.snesl_data.specs.declared.dialect.Dialect.{Dialect}
+use Rattle.snesl_data.specs.declared.dialect.Dialect.TheVariants.{One, Two}
+use Rattle.snesl_data.specs.Integers.{is_integer}
 use Rattle.snesl_lexer.specs.declared.token.Kind.{Kind}
 use Rattle.snesl_lexer.specs.declared.token.Kind.TheVariants as kinds
 use Rattle.snesl_lexer.specs.declared.token.Token.{Token}

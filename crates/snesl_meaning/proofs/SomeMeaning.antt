@@ -1,8 +1,8 @@
 -- A program and an input text have a meaning.
 use Rattle.std.proofs.Common.{ℕ, List, Result, Ok, Err, ◌⊎◌, inl, inr}
-use Rattle.snesl_values.specs.declared.refusal.Refusal.{Refusal}
-use Rattle.snesl_values.specs.declared.refusal.Refusal.TheVariants.{BadInput}
-use Rattle.snesl_values.specs.Types.{Ty}
+use Rattle.snesl_data.specs.declared.refusal.Refusal.{Refusal}
+use Rattle.snesl_data.specs.declared.refusal.Refusal.TheVariants.{BadInput}
+use Rattle.snesl_data.specs.Types.{Ty}
 use Rattle.snesl_values.specs.Inputs.{InputAnswer, InputMeans, SomeInputMeaning, spells, refused_at}
 use Rattle.snesl_tree.specs.Tree.{ProgramTree}
 use Rattle.snesl_syntax.specs.Parse.{Parses, HaveSomeAnswer}

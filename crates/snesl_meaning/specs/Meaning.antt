@@ -1,10 +1,10 @@
 -- What a program means for an input text.
 use Rattle.std.specs.Prelude.{◌≡◌, ℕ, List, Ok, Err}
-use Rattle.snesl_values.specs.declared.fault.FaultKind.{FaultKind}
-use Rattle.snesl_values.specs.declared.refusal.Refusal.{Refusal}
-use Rattle.snesl_values.specs.declared.refusal.Refusal.TheVariants.{BadInput}
-use Rattle.snesl_values.specs.Types.{Ty}
-use Rattle.snesl_values.specs.Values.{Value}
+use Rattle.snesl_data.specs.declared.fault.FaultKind.{FaultKind}
+use Rattle.snesl_data.specs.declared.refusal.Refusal.{Refusal}
+use Rattle.snesl_data.specs.declared.refusal.Refusal.TheVariants.{BadInput}
+use Rattle.snesl_data.specs.Types.{Ty}
+use Rattle.snesl_data.specs.Values.{Value}
 use Rattle.snesl_values.specs.Inputs.{Environment, InputMeans, spells, refused_at}
 use Rattle.snesl_tree.specs.Tree.{ProgramTree}
 use Rattle.snesl_syntax.specs.Parse.{Parses}

@@ -1,10 +1,10 @@
 -- The network that was made of a typed program is that of the program text with its input.
 use Rattle.std.proofs.Common.{◌≡◌, ℕ, List, Ok, ◌⊎◌, inl, inr, sym, ap, ◌∙◌, subst}
-use Rattle.snesl_values.specs.declared.dialect.Dialect.{Dialect}
+use Rattle.snesl_data.specs.declared.dialect.Dialect.{Dialect}
 use Rattle.snesl_values.specs.declared.inputs.InputError.{InputError}
 use Rattle.snesl_values.specs.declared.inputs.InputError.TheVariants.{Bad, NoMemory as NoInputMemory}
-use Rattle.snesl_values.specs.declared.refusal.Refusal.{Refusal}
-use Rattle.snesl_values.specs.declared.refusal.Refusal.TheVariants.{TooBig, NoMemory}
+use Rattle.snesl_data.specs.declared.refusal.Refusal.{Refusal}
+use Rattle.snesl_data.specs.declared.refusal.Refusal.TheVariants.{TooBig, NoMemory}
 use Rattle.snesl_values.specs.Inputs.{Declaration, Environment, InputAnswer, InputMeans, spells, refused_at, refusal_of}
 use Rattle.snesl_tree.specs.Tree.{ProgramTree}
 use Rattle.snesl_grammar.specs.declared.program.Program.{Program}

@@ -2,8 +2,8 @@
 use Rattle.std.proofs.Common.{◌≡◌, ℕ, List, Result, Ok, Err, inr, sym, subst}
 use Rattle.std.specs.Result.{IsErrAnd}
 use Rattle.std.specs.Prelude.{IfErr}
-use Rattle.snesl_values.specs.declared.refusal.Refusal.{Refusal}
-use Rattle.snesl_values.specs.declared.refusal.Refusal.TheVariants.{TooBig, BadConfig, NoMemory, NoThread, Output, Short}
+use Rattle.snesl_data.specs.declared.refusal.Refusal.{Refusal}
+use Rattle.snesl_data.specs.declared.refusal.Refusal.TheVariants.{TooBig, BadConfig, NoMemory, NoThread, Output, Short}
 use Rattle.snesl_tree.specs.Tree.{ProgramTree}
 use Rattle.snesl_syntax.specs.Parse.{Parses, IsOfText, IsRight}
 use Rattle.snesl_types.specs.Programs.{IsFirstViolation}

@@ -3,10 +3,10 @@ use Rattle.std.proofs.Common.{◌≡◌, ℕ, ◌+◌, ◌<◌, ◌≤◌, List,
 use Rattle.std.proofs.Math.Logic.{∥∥₁_elim}
 use Rattle.std.proofs.Props.{props}
 use mathlib.Core.Sum.{⊎_set}
-use Rattle.snesl_values.specs.declared.fault.Fault.{Fault}
-use Rattle.snesl_values.specs.declared.fault.FaultKind.{FaultKind}
-use Rattle.snesl_values.specs.Values.{Value}
-use Rattle.snesl_values.specs.Text.{text as text_of_value}
+use Rattle.snesl_data.specs.declared.fault.Fault.{Fault}
+use Rattle.snesl_data.specs.declared.fault.FaultKind.{FaultKind}
+use Rattle.snesl_data.specs.Values.{Value}
+use Rattle.snesl_data.specs.Text.{text as text_of_value}
 use Rattle.snesl_evaluation.specs.Answer.{Answer, gives, faults}
 use Rattle.snesl_evaluation.specs.Eval.{program_value}
 use Rattle.snesl_meaning.specs.Meaning.{Means, evaluated, meaning_of, has_value, has_fault, HaveOneMeaning}

@@ -1,6 +1,6 @@
 -- The network of a program before any step, and why there may be none.
 use Rattle.std.specs.Prelude.{List, ℕ}
-use Rattle.snesl_values.specs.declared.refusal.Refusal.{Refusal}
+use Rattle.snesl_data.specs.declared.refusal.Refusal.{Refusal}
 use Rattle.flow_graph.specs.declared.edge.Edge.{Edge}
 use Rattle.flow_drive.specs.declared.config.Config.{Config}
 use Rattle.snesl_flatten.specs.Networks.{NodeState, NetworkMeans}

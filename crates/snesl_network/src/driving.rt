@@ -1,7 +1,7 @@
 // From the text of a program and its input to the network at rest.
 
 ghost use Rattle.std.specs.Prelude.{◌≡◌, ◌⊎◌, Err, IfErr, IfOk, List, ℕ};
-ghost use Rattle.snesl_values.specs.declared.refusal.Refusal.TheVariants.{BadConfig, NoThread};
+ghost use Rattle.snesl_data.specs.declared.refusal.Refusal.TheVariants.{BadConfig, NoThread};
 ghost use Rattle.flow_nodes.specs.StreamNodes.{node_behaviour};
 ghost use Rattle.flow_graph.specs.Graphs.{states_of, edges_of};
 ghost use Rattle.flow_graph.specs.Networks.{AreOpened};
@@ -16,11 +16,12 @@ use flow_drive::{
 };
 use flow_graph::{Graph, flow_is_carried, flow_runs_to_end, graph_is_a_network};
 use flow_nodes::StreamNode;
+use snesl_data::Refusal;
 use snesl_flatten::flatten;
 use snesl_meaning::one_meaning;
 use snesl_syntax::parse;
 use snesl_types::check;
-use snesl_values::{Refusal, read_inputs};
+use snesl_values::read_inputs;
 use std::alloc::Global;
 use std::sync::Arc;
 use std::thread::Threads;

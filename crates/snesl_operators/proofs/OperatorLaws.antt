@@ -3,10 +3,10 @@ use Rattle.std.proofs.Common.{◌≡◌, zero, suc, ◌≤◌, ℤ, pos, negsuc,
 use Rattle.std.specs.Prelude.{int_div, int_rem}
 use Rattle.std.proofs.lemmas.Bool.{leb-true, le-leb}
 use lib.Signed.{mag, mag_rem}
-use Rattle.snesl_values.specs.declared.dialect.Dialect.{Dialect}
-use Rattle.snesl_values.specs.declared.fault.FaultKind.{FaultKind}
-use Rattle.snesl_values.specs.declared.fault.FaultKind.TheVariants.{Overflow, Shape}
-use Rattle.snesl_values.specs.Integers.{is_integer, IsInteger, greatest_integer}
+use Rattle.snesl_data.specs.declared.dialect.Dialect.{Dialect}
+use Rattle.snesl_data.specs.declared.fault.FaultKind.{FaultKind}
+use Rattle.snesl_data.specs.declared.fault.FaultKind.TheVariants.{Overflow, Shape}
+use Rattle.snesl_data.specs.Integers.{is_integer, IsInteger, greatest_integer}
 use Rattle.snesl_operators.specs.Operators.{type_of, ScalarInRange, ranged, quotient, remainder, an_integer, unary_value, binary_value, unary_operand, binary_operand, binary_result}
 use Rattle.snesl_operators.specs.declared.scalar.Scalar.{Scalar}
 use Rattle.snesl_operators.specs.declared.scalar.Scalar.TheVariants.{Int, Bool as Truth}

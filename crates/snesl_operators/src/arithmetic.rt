@@ -1,10 +1,10 @@
 // Arithmetic that refuses what does not lie in the range of a dialect.
 
 ghost use Rattle.std.specs.Prelude.{◌≡◌, MatchOption, Err, ◌+ℤ◌, ◌-ℤ◌, ◌*ℤ◌, neg_ℤ};
-ghost use Rattle.snesl_values.specs.declared.fault.FaultKind.TheVariants.{Overflow};
+ghost use Rattle.snesl_data.specs.declared.fault.FaultKind.TheVariants.{Overflow};
 ghost use Rattle.snesl_operators.specs.Operators.{ranged, quotient, remainder};
 
-use snesl_values::{Dialect, FaultKind};
+use snesl_data::{Dialect, FaultKind};
 
 // The number, where there is one and it lies in the range.
 #[inline(always)]

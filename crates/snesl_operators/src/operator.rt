@@ -7,7 +7,7 @@ ghost use Rattle.snesl_operators.specs.declared.scalar.Scalar.TheVariants.{Int, 
 
 use crate::arithmetic::{difference, negative, product, quotient, remainder, sum};
 use crate::scalar::{Scalar, ScalarType};
-use snesl_values::{Dialect, FaultKind};
+use snesl_data::{Dialect, FaultKind};
 
 /// An operator on one scalar.
 #[derive(Clone, Copy, Debug, PartialEq, Eq)]

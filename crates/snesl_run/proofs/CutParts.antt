@@ -17,8 +17,8 @@ use Rattle.snesl_run.specs.Prints.{Printed, PrintedFor, came_out, refused}
 use Rattle.snesl_syntax.specs.Parse.{HaveOneAnswer, Parses, too_long}
 use Rattle.snesl_tree.specs.Tree.{ProgramTree}
 use Rattle.snesl_values.specs.Inputs.{InputMeans, OneInputMeaning, greatest_input_length, refused_at, spells, too_long as input_too_long}
-use Rattle.snesl_values.specs.declared.refusal.Refusal.TheVariants.{BadConfig, NoMemory, NoThread, Output, Short, TooBig, TooLong}
-use Rattle.snesl_values.specs.declared.refusal.Refusal.{Refusal}
+use Rattle.snesl_data.specs.declared.refusal.Refusal.TheVariants.{BadConfig, NoMemory, NoThread, Output, Short, TooBig, TooLong}
+use Rattle.snesl_data.specs.declared.refusal.Refusal.{Refusal}
 
 no_tree : {A : Type 0} → HaveOneAnswer → (program : List ℕ) (t : ProgramTree) → Parses program (Ok t) → greatest_length < length program → A
 no_tree answers program t p h = absurd (let e = answers program (Ok t) (Err TooLong) p (too_long h) in cc)

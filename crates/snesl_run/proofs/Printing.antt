@@ -2,11 +2,11 @@
 use Rattle.std.proofs.Common.{◌≡◌, ℕ, true, false, List, Option, Result, Ok, Err, Vec, IfOk, MatchResult, inl, inr, refl, sym, ap, ◌∙◌, subst}
 use Rattle.std.specs.Global.{Global}
 use Rattle.std.specs.declared.alloc.AllocError.{AllocError}
-use Rattle.snesl_values.specs.declared.counted.Counted.{Counted}
-use Rattle.snesl_values.specs.declared.fault.Fault.{Fault}
-use Rattle.snesl_values.specs.declared.refusal.Refusal.{Refusal}
-use Rattle.snesl_values.specs.declared.refusal.Refusal.TheVariants.{NoMemory, Output, Read}
-use Rattle.snesl_values.specs.Refusals.{is_of_the_system, status_of_refusal}
+use Rattle.snesl_data.specs.declared.counted.Counted.{Counted}
+use Rattle.snesl_data.specs.declared.fault.Fault.{Fault}
+use Rattle.snesl_data.specs.declared.refusal.Refusal.{Refusal}
+use Rattle.snesl_data.specs.declared.refusal.Refusal.TheVariants.{NoMemory, Output, Read}
+use Rattle.snesl_data.specs.Refusals.{is_of_the_system, status_of_refusal}
 use Rattle.kahn.specs.declared.outcome.Outcome.TheVariants.{Value as Ended, Fault as Failed, Stalled}
 use Rattle.flow_drive.specs.declared.config.Config.{Config}
 use Rattle.snesl_settings.specs.Settings.{AreLawful, RefusesBut}

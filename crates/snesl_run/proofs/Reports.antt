@@ -1,9 +1,9 @@
 -- What a run tells, from how its network came to rest.
 use Rattle.std.proofs.Common.{◌≡◌, ℕ, List, [], ◌∷◌, ◌++◌, Bool, true, false, Result, Ok, Err, IfErr, refl, sym, ap, ◌∙◌, ◌⊎◌, inl, inr, subst, ⊎_elim}
 use Rattle.std.specs.Result.{IsErrAnd}
-use Rattle.snesl_values.specs.declared.refusal.Refusal.{Refusal}
-use Rattle.snesl_values.specs.declared.refusal.Refusal.TheVariants.{NoMemory, NoThread, Output}
-use Rattle.snesl_values.specs.Values.{Value}
+use Rattle.snesl_data.specs.declared.refusal.Refusal.{Refusal}
+use Rattle.snesl_data.specs.declared.refusal.Refusal.TheVariants.{NoMemory, NoThread, Output}
+use Rattle.snesl_data.specs.Values.{Value}
 use Rattle.kahn.specs.declared.outcome.Outcome.{Outcome}
 use Rattle.kahn.specs.declared.outcome.Outcome.TheVariants.{Value as Ended, Fault as Failed, Stalled}
 use Rattle.flow_nodes.specs.StreamNodes.{text_in}

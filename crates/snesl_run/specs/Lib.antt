@@ -3,9 +3,9 @@ pub mod Alike
 pub mod Prints
 pub mod Cuts
 -- what the public clauses cite of the crates below
-pub use Rattle.snesl_values.specs.Counted
-pub use Rattle.snesl_values.specs.Refusals
-pub use Rattle.snesl_values.specs.declared.refusal.Refusal
+pub use Rattle.snesl_data.specs.Counted
+pub use Rattle.snesl_data.specs.Refusals
+pub use Rattle.snesl_data.specs.declared.refusal.Refusal
 pub use Rattle.snesl_meaning.specs.Meaning
 pub use Rattle.kahn.specs.declared.outcome.Outcome
 pub use Rattle.flow_drive.specs.Configs

@@ -6,7 +6,7 @@ ghost use Rattle.snesl_console.specs.Streams.{given, taken};
 ghost use Rattle.snesl_console.specs.Lines.{Prints, Refuses};
 ghost use Rattle.snesl_run.specs.Prints.{Answered, IsJobAnswered, PrintedFor};
 ghost use Rattle.snesl_run.specs.Runs.{IsReported, HasWritten, IsErrorOf};
-ghost use Rattle.snesl_values.specs.declared.refusal.Refusal.TheVariants.{BadConfig, NoMemory};
+ghost use Rattle.snesl_data.specs.declared.refusal.Refusal.TheVariants.{BadConfig, NoMemory};
 
 use crate::report::{Report, RunError};
 use crate::runs::run;
@@ -14,9 +14,10 @@ use flow_drive::{Config, NoGate, Outcome};
 use snesl_console::{
     BAD_CONFIG_LINE, STALLED_LINE, complain, fault_line, print, refusal_line, split_job,
 };
+use snesl_data::{Counted, Refusal};
 use snesl_settings::settings;
 use snesl_syntax::one_answer;
-use snesl_values::{Counted, Refusal, one_input_meaning};
+use snesl_values::one_input_meaning;
 use std::alloc::{AllocError, Global};
 use std::io::{Read, Write};
 use std::sync::Arc;

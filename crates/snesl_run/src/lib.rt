@@ -12,5 +12,5 @@ pub use laws::{cuts_change_nothing, one_outcome};
 pub use report::{Report, RunError};
 pub use runs::{run, run_with};
 pub use snesl_console::{JobError, split_job};
+pub use snesl_data::{Counted, Refusal};
 pub use snesl_settings::settings;
-pub use snesl_values::{Counted, Refusal};

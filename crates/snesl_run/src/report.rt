@@ -5,7 +5,7 @@ ghost use Rattle.snesl_run.specs.Runs.{outcome_of, refusal_of};
 
 use flow_drive::{Outcome, Rested};
 use flow_nodes::StreamNode;
-use snesl_values::Refusal;
+use snesl_data::Refusal;
 use thiserror::Error;
 
 /// How a run ended that was not refused.

@@ -1,7 +1,7 @@
 // Running a program for an input text.
 
 ghost use Rattle.std.specs.Prelude.{◌≡◌, ◌++◌, ◌∷◌, ◌⊎◌, IfErr, IfOk, []};
-ghost use Rattle.snesl_values.specs.declared.refusal.Refusal.TheVariants.{BadConfig, NoMemory, NoThread};
+ghost use Rattle.snesl_data.specs.declared.refusal.Refusal.TheVariants.{BadConfig, NoMemory, NoThread};
 ghost use Rattle.flow_drive.specs.Configs.{IsLawful};
 ghost use Rattle.snesl_console.specs.Streams.{taken};
 ghost use Rattle.snesl_run.specs.Alike.{IsTheOneWay};
@@ -11,8 +11,8 @@ use crate::laws::one_outcome;
 use crate::report::{Report, RunError};
 use flow_drive::{AlwaysStart, Config, Gate, Outcome, Start};
 use snesl_console::send;
+use snesl_data::{Counted, Refusal};
 use snesl_network::drive_program_with;
-use snesl_values::{Counted, Refusal};
 use std::alloc::Global;
 use std::io::Write;
 use std::sync::Arc;

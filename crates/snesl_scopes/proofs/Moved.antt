@@ -4,7 +4,7 @@ use Rattle.std.proofs.Common.{get_or, drop, sym, ap, ◌∙◌, subst, append_as
 use Rattle.std.specs.Result.{IsErr, IsErrAnd}
 use Rattle.std.proofs.Math.Path.{fun_ext, ap₂}
 use Rattle.std.proofs.lemmas.List.{at_drop_more}
-use Rattle.snesl_values.specs.declared.refusal.Refusal.{Refusal}
+use Rattle.snesl_data.specs.declared.refusal.Refusal.{Refusal}
 use Rattle.flow_plans.specs.Plans.{Step}
 use Rattle.snesl_translation.specs.Wires.{Wires, Bound}
 use Rattle.snesl_translation.specs.Makings.{Making, done, and_then}

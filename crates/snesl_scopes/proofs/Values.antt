@@ -1,8 +1,8 @@
 -- Values that are moved part by part.
 use Rattle.std.proofs.Common.{◌≡◌, ℕ, ◌∷◌, [], Result, Ok, Err, sym, ap, ◌∙◌, subst}
 use Rattle.std.specs.Result.{IsErr, IsErrAnd}
-use Rattle.snesl_values.specs.declared.refusal.Refusal.{Refusal}
-use Rattle.snesl_values.specs.Types.{bool}
+use Rattle.snesl_data.specs.declared.refusal.Refusal.{Refusal}
+use Rattle.snesl_data.specs.Types.{bool}
 use Rattle.flow_messages.specs.declared.message.Kind.TheVariants.{Bool as BoolKind}
 use Rattle.flow_plans.specs.Plans.{dist, pack_groups}
 use Rattle.snesl_translation.specs.Wires.{Wires, wire, two, segments, stream_of}

@@ -11,8 +11,8 @@ use crate::part::{Part, names};
 use crate::scope::{Scope, is_bound};
 use flow_messages::Kind;
 use flow_plans::Operation;
+use snesl_data::Refusal;
 use snesl_steps::{Binding, Steps, Wires, copy_wires, kind_of, pair_wires, sequence_wires};
-use snesl_values::Refusal;
 
 // How values go into the part.
 #[derive(Clone, Copy)]

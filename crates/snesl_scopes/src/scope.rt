@@ -6,8 +6,8 @@ ghost use Rattle.snesl_translation.specs.Translation.{is_bound, wires_named};
 ghost use Rattle.snesl_steps.specs.Views.{bindings_of, wires_of};
 ghost use Rattle.snesl_scopes.specs.Scopes.{bound_of};
 
+use snesl_data::Ty;
 use snesl_steps::{Binding, Wires, copy_wires};
-use snesl_values::Ty;
 use std::alloc::{AllocError, Global};
 
 /// What the names in scope stand for, the innermost first.

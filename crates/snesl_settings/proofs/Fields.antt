@@ -1,7 +1,7 @@
 -- The values of the options determine what a configuration is.
 use Rattle.std.proofs.Common.{◌≡◌, ◌∙◌, ◌<◌, ℕ, List, Option, Some, None, Ok, Err, inl, inr, length, subst, sym}
 use Rattle.std.specs.Prelude.{Result, IfErr, IsErrAnd}
-use Rattle.snesl_values.specs.declared.refusal.Refusal.{Refusal}
+use Rattle.snesl_data.specs.declared.refusal.Refusal.{Refusal}
 use Rattle.std.specs.List.{All}
 use Rattle.clap.specs.Words.{Row, Text, first_of, matches_of}
 use Rattle.flow_drive.specs.Configs.{IsLawful, IsWithin}

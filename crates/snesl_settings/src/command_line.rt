@@ -3,7 +3,7 @@
 ghost use Rattle.std.specs.Prelude.{◌≡◌, ◌⊎◌, IfOk, IfErr};
 ghost use Rattle.clap.specs.Walk.{texts};
 ghost use Rattle.clap.specs.Words.{first_of, found_of, rows_of};
-ghost use Rattle.snesl_values.specs.declared.refusal.Refusal.TheVariants.{BadConfig, NoMemory};
+ghost use Rattle.snesl_data.specs.declared.refusal.Refusal.TheVariants.{BadConfig, NoMemory};
 ghost use Rattle.flow_drive.specs.Configs.{IsLawful};
 ghost use Rattle.flow_drive.specs.declared.config.Config.{Config as ConfigSpec};
 ghost use Rattle.snesl_settings.specs.Settings.{AreLawful, HasFields, RefusesBut, SaysSo};
@@ -13,7 +13,7 @@ use crate::values::{drive_said, number_said, share_said};
 use clap::ArgMatches;
 use flow_drive::{Config, MAX_CHUNK, MAX_IDLE_TURNS, MAX_THREADS};
 use flow_messages::MAX_CAPACITY;
-use snesl_values::Refusal;
+use snesl_data::Refusal;
 use std::alloc::Global;
 
 /// The configuration that the words of a command line say, the first of which is the program's name. These are the

@@ -4,12 +4,12 @@ ghost use Rattle.std.specs.Prelude.{◌≡◌, [], false, IfOk, IfErr, option_ma
 ghost use Rattle.clap.specs.Walk.{texts};
 ghost use Rattle.clap.specs.Words.{app_of, fault_of, first_of, found_of, kind_of, matches_of, rows_of, rule_of};
 ghost use Rattle.clap.specs.declared.error.kind.ErrorKind.TheVariants.{OutOfMemory};
-ghost use Rattle.snesl_values.specs.declared.refusal.Refusal.TheVariants.{BadConfig, NoMemory};
+ghost use Rattle.snesl_data.specs.declared.refusal.Refusal.TheVariants.{BadConfig, NoMemory};
 ghost use Rattle.snesl_settings.specs.Settings.{RefusesBut, command_line, option_named};
 
 use clap::error::ErrorKind;
 use clap::{Arg, ArgMatches, Command, Error};
-use snesl_values::Refusal;
+use snesl_data::Refusal;
 use std::alloc::{AllocError, Global};
 
 // What clap finds for the options in the words, the first of which is the program's name.

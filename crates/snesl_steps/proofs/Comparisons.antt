@@ -1,6 +1,6 @@
 -- The comparisons of a comprehension's sequences, one after another.
 use Rattle.std.proofs.Common.{◌≡◌, ℕ, ◌+◌, ◌<◌, List, [], ◌∷◌, Err, length, drop, get_or, ap, ◌∙◌, subst}
-use Rattle.snesl_values.specs.declared.refusal.Refusal.{Refusal}
+use Rattle.snesl_data.specs.declared.refusal.Refusal.{Refusal}
 use Rattle.flow_plans.specs.Plans.{same_flags}
 use Rattle.snesl_translation.specs.Wires.{stream_of}
 use Rattle.snesl_translation.specs.Makings.{Making, tested}

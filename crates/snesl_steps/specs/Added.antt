@@ -1,7 +1,7 @@
 -- What a call adds to the steps of a plan.
 use Rattle.std.specs.Prelude.{◌≡◌, ℕ, List, ◌<◌, ◌+◌, ◌++◌, length, Result, Ok, Err}
-use Rattle.snesl_values.specs.declared.refusal.Refusal.{Refusal}
-use Rattle.snesl_values.specs.declared.refusal.Refusal.TheVariants.{TooBig, NoMemory}
+use Rattle.snesl_data.specs.declared.refusal.Refusal.{Refusal}
+use Rattle.snesl_data.specs.declared.refusal.Refusal.TheVariants.{TooBig, NoMemory}
 use Rattle.flow_graph.specs.Limits.{most_nodes}
 use Rattle.flow_plans.specs.Plans.{Step}
 use Rattle.snesl_translation.specs.Makings.{Making}

@@ -1,7 +1,7 @@
 -- Streams and steps as the program's data hold them.
 use Rattle.std.specs.Prelude.{ℕ, List, map}
-use Rattle.snesl_values.specs.declared.dialect.Dialect.{Dialect}
-use Rattle.snesl_values.specs.Types.{ty_of}
+use Rattle.snesl_data.specs.declared.dialect.Dialect.{Dialect}
+use Rattle.snesl_data.specs.Types.{ty_of}
 use Rattle.flow_plans.specs.Plans.{Step}
 use Rattle.flow_plans.specs.Views.{steps_of}
 use Rattle.snesl_translation.specs.Wires.{Wires, wire, two, segments, Bound}

@@ -1,7 +1,7 @@
 // The steps of built-in functions.
 
 ghost use Rattle.std.specs.Prelude.{◌≡◌, ◌∷◌, [], map};
-ghost use Rattle.snesl_values.specs.Types.{ty_of};
+ghost use Rattle.snesl_data.specs.Types.{ty_of};
 ghost use Rattle.snesl_tree.specs.declared.operator.Builtin.TheVariants.{Iota, ScanAdd, The, Tab, Seq};
 ghost use Rattle.snesl_translation.specs.Translation.{call_streams, parted, reduction};
 ghost use Rattle.snesl_steps.specs.Views.{dialect_of_steps, next_in, wires_of};
@@ -11,9 +11,9 @@ use crate::forms::{concatenate, item_of};
 use crate::steps::Steps;
 use crate::wires::{Wires, copy_wires, sequence_wires};
 use flow_plans::Operation;
+use snesl_data::{Refusal, Ty, copy_ty};
 use snesl_operators::Reduction;
 use snesl_tree::Builtin;
-use snesl_values::{Refusal, Ty, copy_ty};
 
 /// A built-in function at its arguments. The errors are those of `Steps::step`.
 #[inline(never)]

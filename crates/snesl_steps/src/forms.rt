@@ -2,7 +2,7 @@
 
 ghost use Rattle.std.specs.Prelude.{◌≡◌, ◌∷◌, []};
 ghost use Rattle.std.specs.Prelude.{map};
-ghost use Rattle.snesl_values.specs.Types.{ty_of};
+ghost use Rattle.snesl_data.specs.Types.{ty_of};
 ghost use Rattle.flow_plans.specs.Plans.{const, units_of, index};
 ghost use Rattle.snesl_translation.specs.Makings.{stepped};
 ghost use Rattle.snesl_translation.specs.Wires.{type_of_wires, item_type, stream_of};
@@ -14,9 +14,9 @@ ghost use Rattle.snesl_steps.specs.Added.{Adds};
 use crate::steps::Steps;
 use crate::wires::{Binding, Wires, copy_wires, kind_of, pair_wires, sequence_wires};
 use flow_plans::Operation;
+use snesl_data::{Refusal, Ty, copy_ty};
 use snesl_operators::{BinaryOperator, Scalar, UnaryOperator};
 use snesl_tree::{Operator, Prefix};
-use snesl_values::{Refusal, Ty, copy_ty};
 
 /// A constant, of this type, for each Unit of a control stream. The errors are those of `Steps::step`.
 #[inline(never)]

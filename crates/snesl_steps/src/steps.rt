@@ -8,7 +8,7 @@ use flow_graph::MAX_NODES;
 use flow_messages::Kind;
 use flow_plans::{Operation, Step};
 use flow_values::kinds;
-use snesl_values::{Dialect, Refusal, Ty};
+use snesl_data::{Dialect, Refusal, Ty};
 use std::alloc::Global;
 
 /// The steps of a plan so far. It stops where there would be more than a graph has nodes.
@@ -25,7 +25,7 @@ pub struct Steps {
 
 impl Steps {
     ghost use Rattle.std.specs.Prelude.{◌≡◌, []};
-    ghost use Rattle.snesl_values.specs.Types.{ty_of, bool};
+    ghost use Rattle.snesl_data.specs.Types.{ty_of, bool};
     ghost use Rattle.flow_plans.specs.Views.{operation_of, steps_of};
     ghost use Rattle.snesl_translation.specs.Makings.{stepped, tested};
     ghost use Rattle.snesl_translation.specs.Moving.{flags_stepped};

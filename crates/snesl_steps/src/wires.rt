@@ -1,13 +1,13 @@
 // The streams of values.
 
 ghost use Rattle.std.specs.Prelude.{◌≡◌, ◌+◌, ◌++◌, IfOk, OnOk};
-ghost use Rattle.snesl_values.specs.Types.{ty_of};
+ghost use Rattle.snesl_data.specs.Types.{ty_of};
 ghost use Rattle.flow_values.specs.Flats.{width};
 ghost use Rattle.snesl_translation.specs.Wires.{type_of_wires, numbers_of, wires_from, kind_of_type, stream_of, first_wires, second_wires, item_wires, two, segments};
 ghost use Rattle.snesl_steps.specs.Views.{wires_of};
 
 use flow_messages::Kind;
-use snesl_values::{Ty, copy_ty};
+use snesl_data::{Ty, copy_ty};
 use std::alloc::{AllocError, Global};
 
 /// The numbers of the streams that carry values of a type.

@@ -2,8 +2,8 @@
 use Rattle.std.proofs.Common.{◌≡◌, ℕ, ◌+◌, ◌≤◌, List, [], ◌∷◌, ◌++◌, Option, Some, None, Result, Ok, Err, refl, sym, ◌∙◌, ap, subst, arith, append_assoc}
 use Rattle.std.proofs.lemmas.List.{append-nil}
 use Rattle.snesl_lexer.specs.declared.token.Token.{Token}
-use Rattle.snesl_values.specs.declared.refusal.Refusal.{Refusal}
-use Rattle.snesl_values.specs.declared.refusal.Refusal.TheVariants.{Syntax}
+use Rattle.snesl_data.specs.declared.refusal.Refusal.{Refusal}
+use Rattle.snesl_data.specs.declared.refusal.Refusal.TheVariants.{Syntax}
 use Rattle.snesl_tree.specs.Tree.{ProgramTree}
 use Rattle.snesl_expressions.specs.Readers.{Stop, unexpected, beyond_depth, Reader, step, bind, go}
 use Rattle.snesl_expressions.proofs.Reading.{bind_ok, within_unexpected, within_deeper, goes_on, ends_with, go_more, go_front}

@@ -1,8 +1,8 @@
 -- Each text has an answer.
 use Rattle.std.proofs.Common.{ℕ, ◌≤◌, List, length, Result, Ok, Err, inl, inr, arith}
 use Rattle.std.proofs.lemmas.Bool.{cases_lt}
-use Rattle.snesl_values.specs.declared.refusal.Refusal.{Refusal}
-use Rattle.snesl_values.specs.declared.refusal.Refusal.TheVariants.{TooLong, Lex}
+use Rattle.snesl_data.specs.declared.refusal.Refusal.{Refusal}
+use Rattle.snesl_data.specs.declared.refusal.Refusal.TheVariants.{TooLong, Lex}
 use Rattle.snesl_lexer.specs.declared.token.Token.{Token}
 use Rattle.snesl_lexer.specs.Readings.{Reads}
 use Rattle.snesl_lexer.proofs.OneReading.{one_reading}

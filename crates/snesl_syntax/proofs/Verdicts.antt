@@ -1,8 +1,8 @@
 -- From the reader's answer to the grammar's, and to the one for the bytes.
 use Rattle.std.proofs.Common.{◌≡◌, ℕ, ◌≤◌, List, ◌++◌, length, Result, Ok, Err, refl, sym, ◌∙◌, ap, subst, arith}
 use Rattle.std.specs.Result.{IsErrAnd, IfOk, IfErr}
-use Rattle.snesl_values.specs.declared.refusal.Refusal.{Refusal}
-use Rattle.snesl_values.specs.declared.refusal.Refusal.TheVariants.{Lex, NoMemory}
+use Rattle.snesl_data.specs.declared.refusal.Refusal.{Refusal}
+use Rattle.snesl_data.specs.declared.refusal.Refusal.TheVariants.{Lex, NoMemory}
 use Rattle.snesl_lexer.specs.declared.token.Token.{Token}
 use Rattle.snesl_lexer.specs.Lexical.{dialect_of, IsBadOf, Tokens}
 use Rattle.snesl_lexer.proofs.OneReading.{one_tokens, no_both, one_bad}

@@ -1,7 +1,7 @@
 -- Whole programs are read as the grammar says, where they are behind their dialect.
 use Rattle.std.proofs.Common.{◌≡◌, ℕ, zero, suc, pos, ◌≤◌, List, [], ◌∷◌, ◌++◌, Option, Some, None, Ok, refl, sym, ◌∙◌, ap, subst, arith, append_assoc}
-use Rattle.snesl_values.specs.declared.dialect.Dialect.{Dialect}
-use Rattle.snesl_values.specs.declared.dialect.Dialect.TheVariants.{One, Two}
+use Rattle.snesl_data.specs.declared.dialect.Dialect.{Dialect}
+use Rattle.snesl_data.specs.declared.dialect.Dialect.TheVariants.{One, Two}
 use Rattle.snesl_lexer.specs.declared.token.Kind.{Kind}
 use Rattle.snesl_lexer.specs.declared.token.Kind.TheVariants.{Integer, Semicolon, Dialect as DialectWord}
 use Rattle.snesl_lexer.specs.declared.token.Token.{Token}

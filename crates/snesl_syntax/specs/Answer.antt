@@ -1,7 +1,7 @@
 -- The answer that a reader gives for the tokens of a text.
 use Rattle.std.specs.Prelude.{ℕ, List, [], ◌∷◌, Option, Some, None, Result, Ok, Err}
-use Rattle.snesl_values.specs.declared.refusal.Refusal.{Refusal}
-use Rattle.snesl_values.specs.declared.refusal.Refusal.TheVariants.{Syntax, Deep}
+use Rattle.snesl_data.specs.declared.refusal.Refusal.{Refusal}
+use Rattle.snesl_data.specs.declared.refusal.Refusal.TheVariants.{Syntax, Deep}
 use Rattle.snesl_lexer.specs.declared.token.Token.{Token}
 use Rattle.snesl_expressions.specs.Readers.{Stop, unexpected, beyond_depth, Reader, step}
 

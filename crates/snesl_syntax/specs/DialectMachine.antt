@@ -1,7 +1,7 @@
 -- The states that the reader of whole programs is in, and what its functions return.
 use Rattle.std.specs.Prelude.{◌≡◌, Option, Some, None, Result, Ok, Err}
-use Rattle.snesl_values.specs.declared.refusal.Refusal.{Refusal}
-use Rattle.snesl_values.specs.declared.refusal.Refusal.TheVariants as refusals
+use Rattle.snesl_data.specs.declared.refusal.Refusal.{Refusal}
+use Rattle.snesl_data.specs.declared.refusal.Refusal.TheVariants as refusals
 use Rattle.snesl_tree.specs.Tree.{ProgramTree}
 use Rattle.snesl_expressions.specs.Readers.{Reader}
 use Rattle.snesl_expressions.specs.Machine.{State, expressions}

@@ -7,7 +7,7 @@ pub mod DialectMachine
 pub mod Answer
 pub mod Parse
 -- what the public clauses cite of the crates below
-pub use Rattle.snesl_values.specs.declared.refusal.Refusal
+pub use Rattle.snesl_data.specs.declared.refusal.Refusal
 pub use Rattle.snesl_grammar.specs.declared.program.Program
 pub use Rattle.snesl_grammar.specs.Limits
 pub use Rattle.snesl_grammar.specs.View as GrammarView

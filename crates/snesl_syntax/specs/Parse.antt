@@ -1,7 +1,7 @@
 -- What parsing answers.
 use Rattle.std.specs.Prelude.{◌≡◌, ◌↔◌, ℕ, ◌≤◌, ◌<◌, List, [], ◌∷◌, ◌++◌, length, Result, Ok, Err}
-use Rattle.snesl_values.specs.declared.refusal.Refusal.{Refusal}
-use Rattle.snesl_values.specs.declared.refusal.Refusal.TheVariants.{TooLong, Lex, Syntax, Deep, NoMemory}
+use Rattle.snesl_data.specs.declared.refusal.Refusal.{Refusal}
+use Rattle.snesl_data.specs.declared.refusal.Refusal.TheVariants.{TooLong, Lex, Syntax, Deep, NoMemory}
 use Rattle.snesl_lexer.specs.declared.token.Token.{Token}
 use Rattle.snesl_lexer.specs.Lexical.{dialect_of, Tokens, BadAt}
 use Rattle.snesl_grammar.specs.declared.program.Program.{Program}

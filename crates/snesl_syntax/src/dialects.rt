@@ -9,9 +9,9 @@ ghost use Rattle.snesl_syntax.specs.ProgramMachine.{program_state};
 ghost use Rattle.snesl_syntax.specs.DialectMachine.{reader, dialect_state, IsThisProgram};
 
 use crate::programs::{Parsed, ProgramMachine};
+use snesl_data::Dialect;
 use snesl_expressions::StepError;
 use snesl_lexer::{Kind, Token};
-use snesl_values::Dialect;
 use std::alloc::{AllocError, Global};
 
 /// The reader of a program between two tokens, by what may come next.

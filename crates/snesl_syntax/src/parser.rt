@@ -1,7 +1,7 @@
 // From the bytes of a text to a program.
 
 ghost use Rattle.std.specs.Prelude.{◌≡◌, Result, IfOk, IfErr};
-ghost use Rattle.snesl_values.specs.declared.refusal.Refusal.{Refusal};
+ghost use Rattle.snesl_data.specs.declared.refusal.Refusal.{Refusal};
 ghost use Rattle.snesl_tree.specs.Tree.{ProgramTree};
 ghost use Rattle.snesl_grammar.specs.Limits.{greatest_depth};
 ghost use Rattle.snesl_syntax.specs.Answer.{answer};
@@ -10,10 +10,10 @@ ghost use Rattle.snesl_syntax.specs.Parse.{Answers, Parses, HaveOneAnswer, HaveS
 
 use crate::dialects::{DialectMachine, Whole};
 use crate::limits::GREATEST_LENGTH;
+use snesl_data::Refusal;
 use snesl_expressions::StepError;
 use snesl_grammar::Program;
 use snesl_lexer::{Token, tokens_of};
-use snesl_values::Refusal;
 use std::alloc::Global;
 
 // The machine's answer for the tokens of a text of so many bytes.

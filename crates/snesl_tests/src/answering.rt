@@ -1,8 +1,8 @@
 // One job, answered over a reader and writers of which some calls go wrong.
 
 use crate::limping::{LimpingReader, LimpingWriter, Trouble};
+use snesl_data::Counted;
 use snesl_run::answer;
-use snesl_values::Counted;
 use std::alloc::Global;
 use std::process::Abort;
 use std::thread::Threads;

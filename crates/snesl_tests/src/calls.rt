@@ -1,14 +1,12 @@
 // Each public call once, with ample memory.
 
 use snesl_console::complain;
+use snesl_data::{Counted, Datum, Dialect, FaultKind, Refusal, Ty, copy_datum, is_blank, text_of};
 use snesl_lexer::{Kind, Token, tokens_of};
 use snesl_syntax::{Expr, Program, Span, parse};
 use snesl_trials::Expected;
 use snesl_types::check;
-use snesl_values::{
-    Counted, Datum, Dialect, FaultKind, InputError, Refusal, Ty, copy_datum, is_blank, read_inputs,
-    text_of,
-};
+use snesl_values::{InputError, read_inputs};
 use std::alloc::{AllocError, Global};
 use std::io::{Read, Write};
 use std::process::Abort;

@@ -1,8 +1,9 @@
 // Inputs, and the declarations for which they were read. What texts spell stands in the tables of `tool_runs`.
 
+use snesl_data::{Datum, Dialect, Refusal, Ty};
 use snesl_syntax::{Program, parse};
 use snesl_types::check;
-use snesl_values::{Datum, Dialect, Inputs, Refusal, Ty, read_inputs};
+use snesl_values::{Inputs, read_inputs};
 use std::alloc::{AllocError, Global};
 use std::process::Abort;
 use std::test::Fail;

@@ -3,8 +3,8 @@
 
 use crate::running::assert_done;
 use flow_drive::Outcome;
+use snesl_data::Refusal;
 use snesl_trials::{Done, ran_alone};
-use snesl_values::Refusal;
 use std::alloc::{AllocError, Global};
 use std::process::Abort;
 use std::test::Fail;

@@ -2,9 +2,9 @@
 
 use crate::limping::{LimpingWriter, Trouble};
 use flow_drive::{Config, Gate, Outcome};
+use snesl_data::{Counted, Refusal};
 use snesl_run::{AlwaysStart, Report, RunError, Start, run_with};
 use snesl_trials::Done;
-use snesl_values::{Counted, Refusal};
 use std::alloc::Global;
 use std::process::Abort;
 use std::sync::Arc;

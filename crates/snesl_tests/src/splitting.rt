@@ -2,8 +2,8 @@
 
 use crate::answering::{Reply, answered, assert_reply};
 use crate::limping::{SOUND, Trouble};
+use snesl_data::Counted;
 use snesl_run::split_job;
-use snesl_values::Counted;
 use std::alloc::{AllocError, Global};
 use std::test::Fail;
 use std::thread::Threads;

@@ -3,9 +3,9 @@
 use crate::limping::SOUND;
 use crate::running::ran_with;
 use flow_drive::{Drive, Gate, Outcome};
+use snesl_data::Refusal;
 use snesl_run::Start;
 use snesl_trials::in_threads;
-use snesl_values::Refusal;
 use std::alloc::{AllocError, Global};
 use std::process::Abort;
 use std::sync::Arc;

@@ -1,8 +1,8 @@
 // Types: whether they are concrete, and whether two are the same.
 
+use snesl_data::{Refusal, Ty, copy_ty};
 use snesl_syntax::{Program, parse};
 use snesl_types::check;
-use snesl_values::{Refusal, Ty, copy_ty};
 use std::alloc::Global;
 use std::process::Abort;
 use std::test::Fail;

@@ -3,8 +3,8 @@
 use crate::limping::{Stop, Trouble};
 use crate::running::{Ran, ran_over};
 use flow_drive::{NoGate, Outcome};
+use snesl_data::{Fault, FaultKind, Refusal};
 use snesl_trials::alone;
-use snesl_values::{Fault, FaultKind, Refusal};
 use std::alloc::{AllocError, Global};
 use std::process::Abort;
 use std::sync::Arc;

@@ -2,9 +2,9 @@
 use Rattle.std.specs.Prelude.{◌≡◌, ℕ, ◌+◌, List, [], ◌∷◌, ◌++◌, map, length, Some, option_map, refl}
 use Rattle.std.proofs.Common.{sym, ap, ◌∙◌, subst, length-append, append_assoc}
 use Rattle.std.proofs.Math.Path.{ap₂}
-use Rattle.snesl_values.specs.declared.dialect.Dialect.{Dialect}
-use Rattle.snesl_values.specs.Types.{Ty, seq}
-use Rattle.snesl_values.specs.Values.{Value}
+use Rattle.snesl_data.specs.declared.dialect.Dialect.{Dialect}
+use Rattle.snesl_data.specs.Types.{Ty, seq}
+use Rattle.snesl_data.specs.Values.{Value}
 use Rattle.snesl_tree.specs.declared.operator.Operator.TheVariants.{Append}
 use Rattle.flow_base.specs.Columns.{Columns}
 use Rattle.flow_base.specs.Flags.{flags, joined, lengths}

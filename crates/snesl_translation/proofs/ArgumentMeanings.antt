@@ -1,7 +1,7 @@
 -- What the steps of several expressions make: streams that carry a row of values for each instance.
 use Rattle.std.specs.Prelude.{◌≡◌, ℕ, List, ◌++◌, length, Option, Some, None}
-use Rattle.snesl_values.specs.Types.{Ty}
-use Rattle.snesl_values.specs.Values.{Value}
+use Rattle.snesl_data.specs.Types.{Ty}
+use Rattle.snesl_data.specs.Values.{Value}
 use Rattle.snesl_values.specs.Inputs.{Environment}
 use Rattle.snesl_types.specs.Contexts.{Context}
 use Rattle.flow_base.specs.Columns.{Columns}

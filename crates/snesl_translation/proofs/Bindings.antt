@@ -3,8 +3,8 @@ use Rattle.std.specs.Prelude.{◌≡◌, ℕ, zero, suc, Bool, true, false, ◌|
 use Rattle.std.specs.Str.{bytes_eq}
 use Rattle.std.proofs.Common.{arith, sym, ap, ◌∙◌, subst}
 use Rattle.std.proofs.lemmas.Slice.Eq.{bytes_eq-Decides}
-use Rattle.snesl_values.specs.Types.{Ty, int, bool}
-use Rattle.snesl_values.specs.Values.{Value, an_int, a_bool}
+use Rattle.snesl_data.specs.Types.{Ty, int, bool}
+use Rattle.snesl_data.specs.Values.{Value, an_int, a_bool}
 use Rattle.snesl_values.specs.Inputs.{Environment, value_in}
 use Rattle.snesl_operators.specs.declared.scalar.Scalar.{Scalar}
 use Rattle.snesl_operators.specs.declared.scalar.Scalar.TheVariants.{Int, Bool as Truth}

@@ -2,7 +2,7 @@
 use Rattle.std.specs.Prelude.{◌≡◌, ℕ, Bool, true, false, cond, List, [], ◌∷◌, ◌++◌, map, length, Option, Some, option_map, refl}
 use Rattle.std.specs.Str.{bytes_eq}
 use Rattle.std.proofs.Common.{sym, ap, ◌∙◌, subst}
-use Rattle.snesl_values.specs.Types.{Ty, is_concrete}
+use Rattle.snesl_data.specs.Types.{Ty, is_concrete}
 use Rattle.snesl_values.specs.Inputs.{Environment, value_in}
 use Rattle.snesl_types.specs.Contexts.{Binding, open_to, shut, Context, found, inside, shut_if_streamed}
 use Rattle.flow_messages.specs.Cells.{flag}

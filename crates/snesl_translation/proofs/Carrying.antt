@@ -4,8 +4,8 @@ use Rattle.std.specs.List.{slice_get}
 use Rattle.std.proofs.Common.{arith, sym, ap, ◌∙◌, subst, length-append, append_assoc, append-nil}
 use Rattle.std.proofs.Math.Path.{ap₂}
 use Rattle.std.proofs.lemmas.Bool.{and_parts}
-use Rattle.snesl_values.specs.Types.{Ty, int, bool, pair, vec, seq}
-use Rattle.snesl_values.specs.Values.{Value, a_pair, a_seq, list_of, values_of}
+use Rattle.snesl_data.specs.Types.{Ty, int, bool, pair, vec, seq}
+use Rattle.snesl_data.specs.Values.{Value, a_pair, a_seq, list_of, values_of}
 use Rattle.flow_messages.specs.Cells.{Cell}
 use Rattle.flow_base.specs.Columns.{Columns}
 use Rattle.flow_base.specs.Flags.{flags, joined, lengths}

@@ -3,9 +3,9 @@ use Rattle.std.specs.Prelude.{◌≡◌, ℕ, suc, Bool, true, false, not, if◌
 use Rattle.std.specs.Result.{result_ok}
 use Rattle.std.proofs.Common.{sym, ap, ◌∙◌, subst, append-nil}
 use Rattle.std.proofs.Math.Path.{ap₂}
-use Rattle.snesl_values.specs.declared.dialect.Dialect.{Dialect}
-use Rattle.snesl_values.specs.Types.{Ty, bool, seq}
-use Rattle.snesl_values.specs.Values.{Value, an_int, a_bool, a_pair, a_vec, a_seq}
+use Rattle.snesl_data.specs.declared.dialect.Dialect.{Dialect}
+use Rattle.snesl_data.specs.Types.{Ty, bool, seq}
+use Rattle.snesl_data.specs.Values.{Value, an_int, a_bool, a_pair, a_vec, a_seq}
 use Rattle.snesl_values.specs.Inputs.{Environment}
 use Rattle.snesl_operators.specs.Operators.{unary_value}
 use Rattle.snesl_operators.specs.declared.scalar.Scalar.TheVariants.{Bool as Truth}

@@ -6,9 +6,9 @@ use Rattle.std.proofs.Common.{arith, sym, ap, ◌∙◌, subst, append-nil}
 use Rattle.std.proofs.Math.Path.{ap₂}
 use Rattle.std.proofs.lemmas.Bool.{eqb-true}
 use Rattle.std.proofs.lemmas.List.FromFn.{length-map-range_with_len}
-use Rattle.snesl_values.specs.declared.dialect.Dialect.{Dialect}
-use Rattle.snesl_values.specs.Types.{Ty, int, pair, vec, seq, is_concrete}
-use Rattle.snesl_values.specs.Values.{Value, an_int, a_vec, values_of}
+use Rattle.snesl_data.specs.declared.dialect.Dialect.{Dialect}
+use Rattle.snesl_data.specs.Types.{Ty, int, pair, vec, seq, is_concrete}
+use Rattle.snesl_data.specs.Values.{Value, an_int, a_vec, values_of}
 use Rattle.snesl_operators.specs.Operators.{ranged}
 use Rattle.snesl_tree.specs.declared.operator.Builtin.TheVariants.{Iota, Length, The, Tab, Seq, Fst, Snd}
 use Rattle.flow_messages.specs.Cells.{int as int_cell, datum}

@@ -1,8 +1,8 @@
 -- Each value as often as its number: what `distributed` makes.
 use Rattle.std.specs.Prelude.{◌≡◌, ℕ, zero, suc, true, List, [], ◌∷◌, ◌++◌, map, length, replicate, Some, option_map, refl}
 use Rattle.std.proofs.Common.{sym, ap, ◌∙◌, subst}
-use Rattle.snesl_values.specs.Types.{Ty, pair, is_concrete}
-use Rattle.snesl_values.specs.Values.{Value}
+use Rattle.snesl_data.specs.Types.{Ty, pair, is_concrete}
+use Rattle.snesl_data.specs.Values.{Value}
 use Rattle.flow_messages.specs.Cells.{Cell}
 use Rattle.flow_base.specs.Columns.{Columns}
 use Rattle.flow_base.specs.Flags.{flags}

@@ -1,8 +1,8 @@
 -- What makings do, whatever they give, and what moving a value has in common with moving others.
 use Rattle.std.specs.Prelude.{◌≡◌, ℕ, true, List, [], ◌∷◌, ◌++◌, map, length, Some, refl}
 use Rattle.std.proofs.Common.{arith, sym, ap, ◌∙◌, subst, length-append, append_assoc, append-nil}
-use Rattle.snesl_values.specs.Types.{Ty, int, bool, pair, vec, seq}
-use Rattle.snesl_values.specs.Values.{Value, an_int, a_bool, a_vec}
+use Rattle.snesl_data.specs.Types.{Ty, int, bool, pair, vec, seq}
+use Rattle.snesl_data.specs.Values.{Value, an_int, a_bool, a_vec}
 use Rattle.flow_messages.specs.Cells.{Cell, is_of}
 use Rattle.flow_base.specs.Columns.{Columns}
 use Rattle.flow_base.specs.Flags.{flags, joined, lengths}

@@ -1,9 +1,9 @@
 -- Items where truth values are true: filters, and the items of literals.
 use Rattle.std.specs.Prelude.{◌≡◌, ℕ, suc, Bool, true, false, List, [], ◌∷◌, ◌++◌, map, length, replicate, zip, Option, Some, None, option_map, refl}
 use Rattle.std.proofs.Common.{sym, ap, ◌∙◌, subst}
-use Rattle.snesl_values.specs.declared.dialect.Dialect.TheVariants.{One}
-use Rattle.snesl_values.specs.Types.{Ty, bool, seq}
-use Rattle.snesl_values.specs.Values.{Value, an_int, a_bool, a_pair, a_vec, a_seq}
+use Rattle.snesl_data.specs.declared.dialect.Dialect.TheVariants.{One}
+use Rattle.snesl_data.specs.Types.{Ty, bool, seq}
+use Rattle.snesl_data.specs.Values.{Value, an_int, a_bool, a_pair, a_vec, a_seq}
 use Rattle.snesl_values.specs.Inputs.{Environment}
 use Rattle.snesl_operators.specs.declared.scalar.Scalar.TheVariants.{Bool as Truth}
 use Rattle.snesl_types.specs.Contexts.{Context}

@@ -2,8 +2,8 @@
 use Rattle.std.specs.Prelude.{◌≡◌, ℕ, Bool, true, false, ◌&&◌, ◌||◌, List, [], ◌∷◌, ◌++◌, map, length, replicate, zip, Option, Some, None, option_map, refl}
 use Rattle.std.specs.Str.{bytes_eq}
 use Rattle.std.proofs.Common.{arith, sym, ap, ◌∙◌, subst, append-nil}
-use Rattle.snesl_values.specs.Types.{Ty, pair}
-use Rattle.snesl_values.specs.Values.{Value, a_pair}
+use Rattle.snesl_data.specs.Types.{Ty, pair}
+use Rattle.snesl_data.specs.Values.{Value, a_pair}
 use Rattle.snesl_values.specs.Inputs.{Environment}
 use Rattle.snesl_types.specs.Contexts.{Context}
 use Rattle.flow_messages.specs.Cells.{unit}

@@ -4,10 +4,10 @@ use Rattle.std.specs.Result.{result_ok}
 use Rattle.std.proofs.Common.{sym, ap, ◌∙◌, subst, length-append, append_assoc}
 use Rattle.std.proofs.Math.Path.{ap₂}
 use Rattle.std.proofs.lemmas.List.Sums.{sum_by-cons}
-use Rattle.snesl_values.specs.declared.dialect.Dialect.{Dialect}
-use Rattle.snesl_values.specs.declared.fault.FaultKind.{FaultKind}
-use Rattle.snesl_values.specs.Types.{Ty, int, seq}
-use Rattle.snesl_values.specs.Values.{Value, an_int, list_of, values_of}
+use Rattle.snesl_data.specs.declared.dialect.Dialect.{Dialect}
+use Rattle.snesl_data.specs.declared.fault.FaultKind.{FaultKind}
+use Rattle.snesl_data.specs.Types.{Ty, int, seq}
+use Rattle.snesl_data.specs.Values.{Value, an_int, list_of, values_of}
 use Rattle.snesl_operators.specs.Operators.{type_of, ranged}
 use Rattle.snesl_operators.specs.Reductions.{and_then as result_then, reduction_type, reduced, scanned_from, scanned}
 use Rattle.snesl_operators.specs.declared.scalar.Scalar.{Scalar}

@@ -1,10 +1,10 @@
 -- Elements of vectors, at whole lists of instances.
 use Rattle.std.specs.Prelude.{◌≡◌, ℕ, ℤ, pos, negsuc, List, [], ◌∷◌, map, length, Option, Some, None, option_map, refl}
 use Rattle.std.proofs.Common.{sym, ap, ◌∙◌, subst, map-id}
-use Rattle.snesl_values.specs.declared.dialect.Dialect.{Dialect}
-use Rattle.snesl_values.specs.declared.fault.FaultKind.{FaultKind}
-use Rattle.snesl_values.specs.Types.{Ty, int, vec}
-use Rattle.snesl_values.specs.Values.{Value, an_int, values_of}
+use Rattle.snesl_data.specs.declared.dialect.Dialect.{Dialect}
+use Rattle.snesl_data.specs.declared.fault.FaultKind.{FaultKind}
+use Rattle.snesl_data.specs.Types.{Ty, int, vec}
+use Rattle.snesl_data.specs.Values.{Value, an_int, values_of}
 use Rattle.snesl_tree.specs.declared.operator.Operator.TheVariants.{Index}
 use Rattle.flow_messages.specs.Cells.{datum}
 use Rattle.flow_base.specs.Columns.{Columns}

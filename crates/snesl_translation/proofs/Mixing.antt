@@ -3,8 +3,8 @@ use Rattle.std.specs.Prelude.{◌≡◌, ℕ, ◌+◌, List, [], ◌∷◌, ◌+
 use Rattle.std.proofs.Common.{sym, ap, ◌∙◌, subst, length-append, append_assoc}
 use Rattle.std.proofs.Math.Path.{ap₂}
 use Rattle.std.proofs.lemmas.List.Sums.{sum_by-cons}
-use Rattle.snesl_values.specs.Types.{Ty, pair, seq}
-use Rattle.snesl_values.specs.Values.{Value}
+use Rattle.snesl_data.specs.Types.{Ty, pair, seq}
+use Rattle.snesl_data.specs.Values.{Value}
 use Rattle.flow_messages.specs.Cells.{Cell}
 use Rattle.flow_base.specs.Columns.{Columns}
 use Rattle.flow_base.specs.Flags.{flags, joined, lengths}

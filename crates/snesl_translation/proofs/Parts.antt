@@ -5,9 +5,9 @@ use Rattle.std.proofs.Common.{arith, sym, ap, ◌∙◌, subst, length-append}
 use Rattle.std.proofs.Math.Path.{ap₂}
 use Rattle.std.proofs.lemmas.Bool.{eqb-true, eq-eqb}
 use Rattle.std.proofs.lemmas.List.Sums.{sum_by-cons}
-use Rattle.snesl_values.specs.declared.dialect.Dialect.{Dialect}
-use Rattle.snesl_values.specs.Types.{Ty, bool, pair, seq}
-use Rattle.snesl_values.specs.Values.{Value, a_bool, list_of, values_of}
+use Rattle.snesl_data.specs.declared.dialect.Dialect.{Dialect}
+use Rattle.snesl_data.specs.Types.{Ty, bool, pair, seq}
+use Rattle.snesl_data.specs.Values.{Value, a_bool, list_of, values_of}
 use Rattle.snesl_tree.specs.declared.operator.Builtin.TheVariants.{Part}
 use Rattle.flow_messages.specs.Cells.{Cell, flag}
 use Rattle.flow_base.specs.Columns.{Columns}

@@ -1,10 +1,10 @@
 -- Expressions of constants, names, pairs, bindings and calls mean what their parts say.
 use Rattle.std.specs.Prelude.{◌≡◌, ℕ, ℤ, Bool, List, [], ◌∷◌, ◌++◌, length, Option, Some, None, refl}
 use Rattle.std.proofs.Common.{sym, subst}
-use Rattle.snesl_values.specs.declared.dialect.Dialect.{Dialect}
-use Rattle.snesl_values.specs.declared.fault.FaultKind.TheVariants.{Shape}
-use Rattle.snesl_values.specs.Types.{Ty, int, bool, pair}
-use Rattle.snesl_values.specs.Values.{Value, a_pair}
+use Rattle.snesl_data.specs.declared.dialect.Dialect.{Dialect}
+use Rattle.snesl_data.specs.declared.fault.FaultKind.TheVariants.{Shape}
+use Rattle.snesl_data.specs.Types.{Ty, int, bool, pair}
+use Rattle.snesl_data.specs.Values.{Value, a_pair}
 use Rattle.snesl_values.specs.Inputs.{Environment, value_in}
 use Rattle.snesl_operators.specs.declared.scalar.Scalar.TheVariants.{Int, Bool as Truth}
 use Rattle.snesl_tree.specs.declared.span.Span.{Span}

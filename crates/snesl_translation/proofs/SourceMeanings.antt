@@ -1,7 +1,7 @@
 -- What the steps of a comprehension's sources make: streams that carry, for each name, the sequence that it goes through.
 use Rattle.std.specs.Prelude.{◌≡◌, ℕ, List, [], ◌∷◌, ◌++◌, length, map, replicate, Option, Some, None}
-use Rattle.snesl_values.specs.Types.{seq}
-use Rattle.snesl_values.specs.Values.{Value}
+use Rattle.snesl_data.specs.Types.{seq}
+use Rattle.snesl_data.specs.Values.{Value}
 use Rattle.snesl_values.specs.Inputs.{Declaration, Environment}
 use Rattle.snesl_evaluation.specs.Eval.{Columns as Sequences}
 use Rattle.snesl_types.specs.Contexts.{Context}

@@ -1,7 +1,7 @@
 -- What the streams of a plan carry.
 use Rattle.std.specs.Prelude.{◌≡◌, ℕ, true, List, [], ◌∷◌, ◌++◌, length, replicate, Option, Some, None}
-use Rattle.snesl_values.specs.Types.{Ty}
-use Rattle.snesl_values.specs.Values.{Value, values_of}
+use Rattle.snesl_data.specs.Types.{Ty}
+use Rattle.snesl_data.specs.Values.{Value, values_of}
 use Rattle.flow_messages.specs.Cells.{unit}
 use Rattle.flow_base.specs.Columns.{Columns}
 use Rattle.flow_values.specs.Shapes.{all_are}

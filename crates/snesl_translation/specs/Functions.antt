@@ -1,7 +1,7 @@
 -- The translation of calls: the body of a function is translated anew for each call, over the streams of the arguments.
 use Rattle.std.specs.Prelude.{ℕ, List, [], ◌∷◌, if◌then◌else◌}
 use Rattle.std.specs.Str.{bytes_eq}
-use Rattle.snesl_values.specs.declared.dialect.Dialect.{Dialect}
+use Rattle.snesl_data.specs.declared.dialect.Dialect.{Dialect}
 use Rattle.snesl_tree.specs.Spelling.{spelling}
 use Rattle.snesl_tree.specs.Tree.{Typed, DeclarationTree, declares_input, declares_function}
 use Rattle.snesl_translation.specs.Wires.{Wires, Bound}

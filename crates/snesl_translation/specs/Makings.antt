@@ -1,6 +1,6 @@
 -- Making steps: what a translation adds to a plan.
 use Rattle.std.specs.Prelude.{ℕ, ◌+◌, List, [], ◌∷◌, ◌++◌}
-use Rattle.snesl_values.specs.Types.{Ty}
+use Rattle.snesl_data.specs.Types.{Ty}
 use Rattle.flow_values.specs.Flats.{width}
 use Rattle.flow_plans.specs.Plans.{Operation, Step}
 use Rattle.snesl_translation.specs.Wires.{Wires, wires_from}

@@ -1,7 +1,7 @@
 -- What a translation means: at any list of instances at once, its steps go where the answers at the instances do.
 use Rattle.std.specs.Prelude.{◌≡◌, ℕ, true, List, [], ◌∷◌, length, map, replicate, zip, Option, Some}
-use Rattle.snesl_values.specs.Types.{Ty}
-use Rattle.snesl_values.specs.Values.{Value}
+use Rattle.snesl_data.specs.Types.{Ty}
+use Rattle.snesl_data.specs.Values.{Value}
 use Rattle.snesl_values.specs.Inputs.{Environment, value_in}
 use Rattle.snesl_types.specs.Contexts.{open_to, Context, found}
 use Rattle.flow_base.specs.Columns.{Columns}

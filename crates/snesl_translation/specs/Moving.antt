@@ -1,6 +1,6 @@
 -- How values go into the parts of a program that run more often, or less often: over all streams of a value.
 use Rattle.std.specs.Prelude.{ℕ, List, [], ◌∷◌, if◌then◌else◌}
-use Rattle.snesl_values.specs.Types.{bool}
+use Rattle.snesl_data.specs.Types.{bool}
 use Rattle.flow_messages.specs.declared.message.Kind.TheVariants.{Bool as BoolKind}
 use Rattle.flow_plans.specs.Plans.{Operation, dist, pack, pack_groups, concat_flags, interleave, interleave_groups}
 use Rattle.snesl_translation.specs.Wires.{Wires, wire, two, segments, kind_of_type, stream_of, first_wires, second_wires, item_wires, Bound}

@@ -1,8 +1,8 @@
 -- The plan of a program: sources of its inputs, its expression under a control stream of one Unit, and a Print of the value.
 use Rattle.std.specs.Prelude.{◌≡◌, ℕ, zero, suc, ◌+◌, ◌-◌, List, [], ◌∷◌, ◌++◌, Some, None, slice_index_or}
-use Rattle.snesl_values.specs.declared.fault.FaultKind.{FaultKind}
-use Rattle.snesl_values.specs.Types.{Ty}
-use Rattle.snesl_values.specs.Values.{Value}
+use Rattle.snesl_data.specs.declared.fault.FaultKind.{FaultKind}
+use Rattle.snesl_data.specs.Types.{Ty}
+use Rattle.snesl_data.specs.Values.{Value}
 use Rattle.snesl_values.specs.Inputs.{Declaration, Environment, Fits}
 use Rattle.snesl_tree.specs.Tree.{Tree, integer, truth, name, binary, prefix, call, apply, group, pair, binding, choice, literal, filter, each, ProgramTree}
 use Rattle.snesl_evaluation.specs.Answer.{gives, faults}

@@ -1,6 +1,6 @@
 -- The names and the sequences of a comprehension's sources.
 use Rattle.std.specs.Prelude.{ℕ, List, [], ◌∷◌, map, zip}
-use Rattle.snesl_values.specs.Values.{Value}
+use Rattle.snesl_data.specs.Values.{Value}
 use Rattle.snesl_values.specs.Inputs.{Declaration}
 use Rattle.snesl_evaluation.specs.Eval.{Columns as Sequences}
 use Rattle.snesl_translation.specs.FreeNames.{Names, without}

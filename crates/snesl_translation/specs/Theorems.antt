@@ -1,8 +1,8 @@
 -- The translation means what evaluation says.
 use Rattle.std.specs.Prelude.{◌≡◌, ℕ, List, length, Some}
-use Rattle.snesl_values.specs.declared.dialect.Dialect.{Dialect}
-use Rattle.snesl_values.specs.Types.{Ty}
-use Rattle.snesl_values.specs.Values.{Value}
+use Rattle.snesl_data.specs.declared.dialect.Dialect.{Dialect}
+use Rattle.snesl_data.specs.Types.{Ty}
+use Rattle.snesl_data.specs.Values.{Value}
 use Rattle.snesl_tree.specs.Tree.{Tree, DeclarationTree}
 use Rattle.snesl_evaluation.specs.Eval.{Calls, eval, calls_after}
 use Rattle.snesl_types.specs.Contexts.{Context, Signature, Signatures, function_named}

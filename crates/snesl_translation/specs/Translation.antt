@@ -1,8 +1,8 @@
 -- The translation of expressions: the steps that they become under a control stream, which has one Unit for each instance.
 use Rattle.std.specs.Prelude.{ℕ, Bool, true, false, List, [], ◌∷◌, ◌++◌, if◌then◌else◌}
 use Rattle.std.specs.Str.{bytes_eq}
-use Rattle.snesl_values.specs.declared.dialect.Dialect.{Dialect}
-use Rattle.snesl_values.specs.Types.{Ty, int, bool, pair as pair_of, vec, seq}
+use Rattle.snesl_data.specs.declared.dialect.Dialect.{Dialect}
+use Rattle.snesl_data.specs.Types.{Ty, int, bool, pair as pair_of, vec, seq}
 use Rattle.snesl_operators.specs.declared.scalar.Scalar.TheVariants.{Int, Bool as Truth}
 use Rattle.snesl_operators.specs.declared.operator.UnaryOperator.TheVariants as unaries
 use Rattle.snesl_operators.specs.declared.operator.BinaryOperator.{BinaryOperator}

@@ -1,6 +1,6 @@
 -- The streams of a value: which numbers the edges of its type have.
 use Rattle.std.specs.Prelude.{ℕ, zero, suc, ◌+◌, List, [], ◌∷◌, ◌++◌}
-use Rattle.snesl_values.specs.Types.{Ty, int, bool, pair, vec, seq}
+use Rattle.snesl_data.specs.Types.{Ty, int, bool, pair, vec, seq}
 use Rattle.flow_messages.specs.declared.message.Kind.{Kind}
 use Rattle.flow_messages.specs.declared.message.Kind.TheVariants.{Unit as UnitKind, Bool as BoolKind, Int as IntKind, Vec as VecKind}
 use Rattle.flow_values.specs.Flats.{width}

@@ -1,6 +1,6 @@
 -- The steps of an expression where the translator stands.
 use Rattle.std.specs.Prelude.{ℕ}
-use Rattle.snesl_values.specs.declared.dialect.Dialect.{Dialect}
+use Rattle.snesl_data.specs.declared.dialect.Dialect.{Dialect}
 use Rattle.snesl_tree.specs.Tree.{Tree}
 use Rattle.snesl_translation.specs.Wires.{Wires}
 use Rattle.snesl_translation.specs.Makings.{Making}

@@ -1,6 +1,6 @@
 -- Which function a call means, where the translator stands.
 use Rattle.std.specs.Prelude.{◌≡◌, ℕ, List, map}
-use Rattle.snesl_values.specs.declared.dialect.Dialect.{Dialect}
+use Rattle.snesl_data.specs.declared.dialect.Dialect.{Dialect}
 use Rattle.snesl_tree.specs.declared.declaration.Declaration.{Declaration}
 use Rattle.snesl_tree.specs.declared.declaration.Function.{Function}
 use Rattle.snesl_tree.specs.View.{declaration_of, tree_of, typed_of}

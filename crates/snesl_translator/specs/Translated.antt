@@ -1,7 +1,7 @@
 -- The translation of an expression where the translator stands.
 use Rattle.std.specs.Prelude.{ℕ, true, List, [], ◌∷◌, ◌++◌, map}
-use Rattle.snesl_values.specs.declared.dialect.Dialect.{Dialect}
-use Rattle.snesl_values.specs.Types.{bool}
+use Rattle.snesl_data.specs.declared.dialect.Dialect.{Dialect}
+use Rattle.snesl_data.specs.Types.{bool}
 use Rattle.snesl_operators.specs.declared.scalar.Scalar.TheVariants.{Bool as Truth}
 use Rattle.flow_plans.specs.Plans.{const}
 use Rattle.snesl_tree.specs.Tree.{Tree, Trees, Binders}

@@ -11,13 +11,13 @@ ghost use Rattle.snesl_steps.specs.Added.{Adds};
 ghost use Rattle.snesl_scopes.specs.Scopes.{bound_of};
 ghost use Rattle.snesl_translator.specs.Translated.{always_true};
 
+use snesl_data::{Refusal, Ty};
 use snesl_operators::Scalar;
 use snesl_scopes::{Scope, look_up};
 use snesl_steps::{
     Steps, Wires, append, apply_built_in, concatenate, constant, pair_wires, sequence_wires,
 };
 use snesl_tree::{Builtin, Span};
-use snesl_values::{Refusal, Ty};
 
 // The streams of a name.
 #[inline(never)]

@@ -12,10 +12,10 @@ ghost use Rattle.snesl_translator.specs.Rows.{each_opened, rows_of, where_opened
 
 use crate::frames::{bind_items, flags_of_first};
 use flow_plans::Operation;
+use snesl_data::{Refusal, Ty};
 use snesl_scopes::{Part, Scope, distribute_all, keep_all};
 use snesl_steps::{Binding, Steps, Wires, same_lengths, unit_for_each};
 use snesl_tree::{Binder, Expr};
-use snesl_values::{Refusal, Ty};
 
 // What such a part sees: the flags that its values stand under, its own names, those from outside, and its control stream.
 #[derive(Drop)]

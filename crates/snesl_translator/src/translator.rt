@@ -19,13 +19,13 @@ use crate::forms::{always_true, flat, named, one_of, paired, sequence};
 use crate::frames::{bind_parameters, one_bound};
 use crate::functions::find_function;
 use crate::rows::{Rows, open_each, open_where, part_of, part_where};
+use snesl_data::{Refusal, Ty};
 use snesl_operators::Scalar;
 use snesl_scopes::Scope;
 use snesl_steps::{
     Binding, Steps, Wires, append, apply_built_in, apply_operator, apply_prefix, constant,
 };
 use snesl_tree::{Binder, Builtin, Declaration, Expr, Function, Operator, Prefix, Span};
-use snesl_values::{Refusal, Ty};
 
 /// What stays the same in one body: the text, in which names are spelled, and the declarations whose functions may be
 /// called.

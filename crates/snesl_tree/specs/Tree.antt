@@ -1,6 +1,6 @@
 -- Programs as trees.
 use Rattle.std.specs.Prelude.{ℕ, suc, max, ℤ, Bool, List}
-use Rattle.snesl_values.specs.declared.dialect.Dialect.{Dialect}
+use Rattle.snesl_data.specs.declared.dialect.Dialect.{Dialect}
 use Rattle.snesl_tree.specs.declared.operator.Builtin.{Builtin}
 use Rattle.snesl_tree.specs.declared.operator.Operator.{Operator}
 use Rattle.snesl_tree.specs.declared.operator.Prefix.{Prefix}

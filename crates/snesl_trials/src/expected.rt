@@ -2,9 +2,10 @@
 
 use crate::running::Done;
 use flow_drive::Outcome;
+use snesl_data::{Datum, Refusal, text_of};
 use snesl_syntax::parse;
 use snesl_types::{check, plain};
-use snesl_values::{Datum, Refusal, read_inputs, text_of};
+use snesl_values::read_inputs;
 use std::alloc::{AllocError, Global};
 use std::fmt;
 

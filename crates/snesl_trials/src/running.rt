@@ -4,8 +4,8 @@ ghost use Rattle.flow_drive.specs.declared.config.Drive.TheVariants.{Serial};
 
 use flow_drive::{Config, Drive, NoGate, Outcome, Rested};
 use flow_nodes::StreamNode;
+use snesl_data::{Counted, Refusal};
 use snesl_run::run;
-use snesl_values::{Counted, Refusal};
 use std::alloc::{AllocError, Global};
 use std::fmt;
 use std::sync::Arc;

@@ -3,12 +3,12 @@ use Rattle.std.proofs.Common.{◌≡◌, ◌≢◌, ℕ, suc, zero, ◌+◌, ◌
 use Rattle.std.specs.Prelude.{neg_ℤ, int_div, int_lt, slice_get, if◌then◌else◌}
 use Rattle.std.specs.List.{range_with_len}
 use Rattle.std.proofs.lemmas.Bool.{leb-true, le-leb}
-use Rattle.snesl_values.specs.declared.dialect.Dialect.{Dialect}
-use Rattle.snesl_values.specs.declared.fault.FaultKind.{FaultKind}
-use Rattle.snesl_values.specs.declared.fault.FaultKind.TheVariants.{Overflow, Index as IndexFault, Shape}
-use Rattle.snesl_values.specs.Integers.{IsInteger, is_integer, greatest_integer}
-use Rattle.snesl_values.specs.Types.{Ty, int, bool, pair, vec, seq, is_concrete, is_same}
-use Rattle.snesl_values.specs.Values.{Value, an_int, a_bool, a_pair, a_vec, a_seq, Values, no_values, more_values, list_of, values_of, HasType, AllHaveType}
+use Rattle.snesl_data.specs.declared.dialect.Dialect.{Dialect}
+use Rattle.snesl_data.specs.declared.fault.FaultKind.{FaultKind}
+use Rattle.snesl_data.specs.declared.fault.FaultKind.TheVariants.{Overflow, Index as IndexFault, Shape}
+use Rattle.snesl_data.specs.Integers.{IsInteger, is_integer, greatest_integer}
+use Rattle.snesl_data.specs.Types.{Ty, int, bool, pair, vec, seq, is_concrete, is_same}
+use Rattle.snesl_data.specs.Values.{Value, an_int, a_bool, a_pair, a_vec, a_seq, Values, no_values, more_values, list_of, values_of, HasType, AllHaveType}
 use Rattle.snesl_operators.specs.declared.scalar.Scalar.{Scalar}
 use Rattle.snesl_operators.specs.declared.scalar.Scalar.TheVariants.{Int, Bool as Truth}
 use Rattle.snesl_operators.specs.declared.operator.Reduction.{Reduction}
@@ -25,7 +25,7 @@ use Rattle.snesl_tree.specs.declared.operator.Prefix.{Prefix}
 use Rattle.snesl_tree.specs.declared.operator.Prefix.TheVariants.{Negate, Not}
 use Rattle.snesl_evaluation.specs.Answer.{Answer, gives, faults, go, go_all, go_join, or_fault, answer_at}
 use Rattle.snesl_evaluation.specs.Builtins.{int_at, truth_at, scalar_at, items_at, elements_at, each_at, sequence, seq_answer, scalar_answer, item_answer, append_answer, prefix_answer, binary_answer, numbers_below, iota_answer, reduce_answer, scan_answer, into_first, parts_answer, part_answer, the_answer, applied}
-use Rattle.snesl_values.proofs.SameTypes.{same_eq}
+use Rattle.snesl_data.proofs.SameTypes.{same_eq}
 use Rattle.snesl_types.specs.Forms.{operator_result, prefix_result, result_of}
 use Rattle.snesl_types.specs.Soundness.{HaveTypes, Safe}
 

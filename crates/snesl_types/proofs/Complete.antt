@@ -1,12 +1,12 @@
 -- What the rules say of an expression is what checking answers.
 use Rattle.std.proofs.Common.{◌≡◌, ℕ, Bool, true, false, cond, not, List, [], ◌∷◌, ◌++◌, Option, Some, None, is_some, Ok, Err, refl, sym, ap, append_assoc, ◌∙◌}
 use Rattle.std.proofs.lemmas.List.{append-nil}
-use Rattle.snesl_values.specs.declared.dialect.Dialect.{Dialect}
-use Rattle.snesl_values.specs.declared.refusal.Refusal.{Refusal}
-use Rattle.snesl_values.specs.declared.refusal.Refusal.TheVariants.{Mismatch, Streamed, TooBig, NoMemory}
+use Rattle.snesl_data.specs.declared.dialect.Dialect.{Dialect}
+use Rattle.snesl_data.specs.declared.refusal.Refusal.{Refusal}
+use Rattle.snesl_data.specs.declared.refusal.Refusal.TheVariants.{Mismatch, Streamed, TooBig, NoMemory}
 use Rattle.snesl_values.specs.Inputs.{Declaration}
-use Rattle.snesl_values.specs.Integers.{is_integer}
-use Rattle.snesl_values.specs.Types.{Ty, int, bool, pair, vec, seq, is_concrete, is_same}
+use Rattle.snesl_data.specs.Integers.{is_integer}
+use Rattle.snesl_data.specs.Types.{Ty, int, bool, pair, vec, seq, is_concrete, is_same}
 use Rattle.snesl_tree.specs.declared.operator.Builtin.{Builtin}
 use Rattle.snesl_tree.specs.declared.operator.Builtin.TheVariants.{Tab}
 use Rattle.snesl_tree.specs.declared.span.Span.{Span}
@@ -19,7 +19,7 @@ use Rattle.snesl_types.specs.Typing.{Types, Gives, AllTypes, BindersType, Condit
 use Rattle.snesl_types.specs.Violations.{AreAlike, Violates, AnyViolates, BindersViolate, big_type, unbound, streamed, left_violates, right_violates, operands_mismatch, operand_violates, operand_mismatch, argument_violates, arguments_mismatch, tab_streamed, call_violates, call_unbound, call_mismatch, inner_violates, first_part_violates, second_part_violates, value_violates, binding_violates, choice_violates, positive_violates, negative_violates, choice_mismatch, item_violates, items_mismatch, filtered_violates, filter_violates, filter_mismatch, binder_violates, condition_violates, body_violates, condition_mismatch, binder_missing, first_violates, later_violates, source_violates, bound_twice, binder_mismatch, later_binder_violates}
 use Rattle.snesl_types.specs.Verdicts.{sized, rule, verdict, verdicts, binders_verdict, condition_verdict, of_binding, or_refused, of_builtin, of_function, of_items, of_choice, of_filter, of_each, of_binder, both_of}
 use Rattle.snesl_types.proofs.Outcomes.{then_ok, then_err, both_ok, left_err, right_err}
-use Rattle.snesl_values.proofs.SameTypes.{and_left, and_right, same_self, same_eq}
+use Rattle.snesl_data.proofs.SameTypes.{and_left, and_right, same_self, same_eq}
 use Rattle.snesl_types.proofs.Same.{not_true, are_same_self, are_same_eq, all_same_of, all_same_are}
 
 small_ok : (t : Ty) → is_small t ≡ true → small_type t ≡ Ok t

@@ -1,9 +1,9 @@
 -- One step over arguments, items or binders whose types are found in order.
 use Rattle.std.proofs.Common.{◌≡◌, ◌⊎◌, inl, inr, ℕ, zero, suc, ◌+◌, ◌<◌, ◌≤◌, List, [], ◌∷◌, ◌++◌, map, drop, length, get_or, Result, Ok, Err, refl, sym, ap, ◌∙◌, arith}
-use Rattle.snesl_values.specs.declared.refusal.Refusal.{Refusal}
-use Rattle.snesl_values.specs.declared.refusal.Refusal.TheVariants.{NoMemory}
+use Rattle.snesl_data.specs.declared.refusal.Refusal.{Refusal}
+use Rattle.snesl_data.specs.declared.refusal.Refusal.TheVariants.{NoMemory}
 use Rattle.snesl_values.specs.Inputs.{Declaration}
-use Rattle.snesl_values.specs.Types.{Ty}
+use Rattle.snesl_data.specs.Types.{Ty}
 use Rattle.snesl_tree.specs.declared.expr.Expr.{Expr}
 use Rattle.snesl_tree.specs.declared.expr.Binder.{Binder}
 use Rattle.snesl_tree.specs.View.{tree_of, trees_of, binders_of}

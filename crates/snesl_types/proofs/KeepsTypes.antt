@@ -4,11 +4,11 @@ use Rattle.std.specs.Prelude.{if◌then◌else◌, ◌==◌}
 use Rattle.std.specs.List.{list_all}
 use Rattle.std.specs.Str.{bytes_eq}
 use Rattle.std.proofs.lemmas.List.{append-nil}
-use Rattle.snesl_values.specs.declared.dialect.Dialect.{Dialect}
-use Rattle.snesl_values.specs.declared.fault.FaultKind.TheVariants.{Length as LengthFault, Shape}
+use Rattle.snesl_data.specs.declared.dialect.Dialect.{Dialect}
+use Rattle.snesl_data.specs.declared.fault.FaultKind.TheVariants.{Length as LengthFault, Shape}
 use Rattle.snesl_values.specs.Inputs.{Declaration, Environment, value_in, Fits as FitsInputs}
-use Rattle.snesl_values.specs.Types.{Ty, bool, pair, seq, is_concrete}
-use Rattle.snesl_values.specs.Values.{Value, a_pair, HasType}
+use Rattle.snesl_data.specs.Types.{Ty, bool, pair, seq, is_concrete}
+use Rattle.snesl_data.specs.Values.{Value, a_pair, HasType}
 use Rattle.snesl_tree.specs.Spelling.{spelling}
 use Rattle.snesl_tree.specs.Tree.{Tree, Trees, Binders, binder}
 use Rattle.snesl_evaluation.specs.Answer.{Answer, gives, faults, go, go_all, go_join, or_fault}

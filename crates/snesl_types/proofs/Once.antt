@@ -1,7 +1,7 @@
 -- Facts about types that have at most one proof.
-use Rattle.snesl_values.specs.declared.dialect.Dialect.{Dialect}
-use Rattle.snesl_values.specs.Types.{Ty}
-use Rattle.snesl_values.specs.Values.{Value, HasType}
+use Rattle.snesl_data.specs.declared.dialect.Dialect.{Dialect}
+use Rattle.snesl_data.specs.Types.{Ty}
+use Rattle.snesl_data.specs.Values.{Value, HasType}
 use Rattle.snesl_values.proofs.Once.{HasType-prop}
 use Rattle.snesl_evaluation.specs.Answer.{Answer, gives, faults}
 use Rattle.snesl_types.specs.Soundness.{Safe}

@@ -1,7 +1,7 @@
 -- What answers say, and what their parts say of the whole.
 use Rattle.std.proofs.Common.{◌≡◌, Result, Ok, Err, ap, ◌∙◌}
-use Rattle.snesl_values.specs.declared.refusal.Refusal.{Refusal}
-use Rattle.snesl_values.specs.declared.refusal.Refusal.TheVariants.{NoMemory}
+use Rattle.snesl_data.specs.declared.refusal.Refusal.{Refusal}
+use Rattle.snesl_data.specs.declared.refusal.Refusal.TheVariants.{NoMemory}
 use Rattle.snesl_types.specs.Programs.{and_then}
 use Rattle.snesl_types.specs.Verdicts.{both_of}
 

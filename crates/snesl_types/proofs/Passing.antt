@@ -1,8 +1,8 @@
 -- Answers that are passed on.
 use Rattle.std.proofs.Common.{◌≡◌, ◌⊎◌, inl, inr, Result, Ok, Err, sym, ap, subst, ◌∙◌}
 use Rattle.std.specs.Result.{IfErr, IsErr, IsErrAnd}
-use Rattle.snesl_values.specs.declared.refusal.Refusal.{Refusal}
-use Rattle.snesl_values.specs.declared.refusal.Refusal.TheVariants.{NoMemory}
+use Rattle.snesl_data.specs.declared.refusal.Refusal.{Refusal}
+use Rattle.snesl_data.specs.declared.refusal.Refusal.TheVariants.{NoMemory}
 use Rattle.snesl_types.specs.Programs.{and_then}
 use Rattle.snesl_types.specs.Verdicts.{IsAnswer, both_of}
 

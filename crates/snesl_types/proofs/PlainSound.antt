@@ -3,10 +3,10 @@ use Rattle.std.proofs.Common.{◌≡◌, Result, Ok, Err, subst, sym}
 use Rattle.std.proofs.Math.Logic.{∥∥₁_elim}
 use Rattle.std.specs.Prelude.{IfOk}
 use Rattle.std.specs.declared.alloc.AllocError.{AllocError}
-use Rattle.snesl_values.specs.declared.datum.Datum.{Datum}
-use Rattle.snesl_values.specs.declared.fault.Fault.{Fault}
+use Rattle.snesl_data.specs.declared.datum.Datum.{Datum}
+use Rattle.snesl_data.specs.declared.fault.Fault.{Fault}
 use Rattle.snesl_values.specs.Inputs.{Environment, Fits}
-use Rattle.snesl_values.specs.Values.{HasType}
+use Rattle.snesl_data.specs.Values.{HasType}
 use Rattle.snesl_evaluation.specs.Eval.{program_value}
 use Rattle.snesl_evaluation.specs.Results.{IsAnswer}
 use Rattle.snesl_types.specs.declared.typed.Typed.{Typed}

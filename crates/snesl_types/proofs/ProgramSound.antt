@@ -2,11 +2,11 @@
 use Rattle.std.proofs.Common.{◌≡◌, ◌⊎◌, inl, inr, ℕ, ◌<◌, ◌≤◌, Bool, true, false, cond, List, [], ◌∷◌, ◌++◌, Option, Some, None, Result, Ok, Err, refl, sym, ap, subst, ◌∙◌, arith}
 use Rattle.std.specs.Prelude.{nat_le}
 use Rattle.std.proofs.lemmas.Bool.{leb-true, leb-false}
-use Rattle.snesl_values.specs.declared.dialect.Dialect.{Dialect}
-use Rattle.snesl_values.specs.declared.refusal.Refusal.{Refusal}
-use Rattle.snesl_values.specs.declared.refusal.Refusal.TheVariants.{Name, Mismatch, TooBig, NoMemory}
+use Rattle.snesl_data.specs.declared.dialect.Dialect.{Dialect}
+use Rattle.snesl_data.specs.declared.refusal.Refusal.{Refusal}
+use Rattle.snesl_data.specs.declared.refusal.Refusal.TheVariants.{Name, Mismatch, TooBig, NoMemory}
 use Rattle.snesl_values.specs.Inputs.{Declaration}
-use Rattle.snesl_values.specs.Types.{Ty, is_same}
+use Rattle.snesl_data.specs.Types.{Ty, is_same}
 use Rattle.snesl_tree.specs.declared.span.Span.{Span}
 use Rattle.snesl_tree.specs.Spelling.{spelling}
 use Rattle.snesl_tree.specs.Tree.{Tree, TypeTree, Typed, DeclarationTree, declares_input, declares_function, ProgramTree}
@@ -16,7 +16,7 @@ use Rattle.snesl_types.specs.Ranges.{IsInRange, DeclarationsInRange, ProgramInRa
 use Rattle.snesl_types.specs.Typing.{Types}
 use Rattle.snesl_types.specs.Programs.{and_then, written_type, Declared, with_inputs, with_function, named, NamesType, no_names, more_names, NamesViolate, named_twice, type_refused, later_names_violate, signature_of, FunctionTypes, function_type, FunctionViolates, function_twice, parameter_violates, result_refused, function_body_violates, function_mismatch, DeclarationsType, no_declarations, input_declared, function_declared, DeclarationsViolate, input_violates, function_violates, behind_input_violates, behind_function_violates, are_few, nothing_declared, ProgramTypes, ProgramViolates, many_declarations, declaration_violates, expression_violates, big_expression, HasTyping, HaveOneTyping, HaveSomeTyping, IsFirstViolation, IsMemoryIfTyped}
 use Rattle.snesl_types.specs.Verdicts.{verdict, new_name, name_verdict, names_verdict, of_body, function_verdict, capped, with_capped_function, declarations_verdict, expression_verdict, program_verdict}
-use Rattle.snesl_values.proofs.SameTypes.{same_eq, same_of}
+use Rattle.snesl_data.proofs.SameTypes.{same_eq, same_of}
 use Rattle.snesl_types.proofs.Outcomes.{Outcome, given, violated, out_of_range, then_outcome}
 use Rattle.snesl_types.proofs.Sound.{tree_sound}
 use Rattle.snesl_types.proofs.ProgramAnswers.{capped_all, size_capped, with_capped, names_complete, function_complete, program_complete, violation_complete}

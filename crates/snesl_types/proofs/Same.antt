@@ -1,7 +1,7 @@
 -- Types that are the same.
 use Rattle.std.proofs.Common.{◌≡◌, Bool, true, false, List, [], ◌∷◌, refl, ap, ◌∙◌}
-use Rattle.snesl_values.specs.Types.{Ty, is_same}
-use Rattle.snesl_values.proofs.SameTypes.{and_true, and_left, and_right, same_self, same_eq, same_of}
+use Rattle.snesl_data.specs.Types.{Ty, is_same}
+use Rattle.snesl_data.proofs.SameTypes.{and_true, and_left, and_right, same_self, same_eq, same_of}
 use Rattle.snesl_types.specs.Typing.{AllAre}
 use Rattle.snesl_types.specs.Verdicts.{are_same, all_same}
 

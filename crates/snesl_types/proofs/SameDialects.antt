@@ -1,9 +1,9 @@
 -- The test for one dialect.
 use Rattle.std.proofs.Common.{rules, ◌≡◌, Bool, true, refl, sym, ap, ◌∙◌}
 use denote.Enum.Bare.{sameb, same_true}
-use Rattle.snesl_values.specs.contracts.dialect.Dialect.{the_type}
-use Rattle.snesl_values.specs.declared.dialect.Dialect.{Dialect}
-use Rattle.snesl_values.specs.declared.dialect.Dialect.TheVariants.{One, Two}
+use Rattle.snesl_data.specs.contracts.dialect.Dialect.{the_type}
+use Rattle.snesl_data.specs.declared.dialect.Dialect.{Dialect}
+use Rattle.snesl_data.specs.declared.dialect.Dialect.TheVariants.{One, Two}
 
 same_itself : (a : Dialect) → sameb the_type a a ≡ true
 same_itself One = refl

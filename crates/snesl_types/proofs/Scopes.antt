@@ -1,11 +1,11 @@
 -- Expressions in the scope of a comprehension.
 use Rattle.std.proofs.Common.{◌≡◌, ℕ, ◌⊎◌, List, [], ◌++◌, Some, None, Result, Ok, Err, Vec, Box, Global, refl, sym, ap, subst, ◌∙◌}
 use Rattle.std.specs.Result.{IsErr, IsErrAnd}
-use Rattle.snesl_values.specs.declared.refusal.Refusal.{Refusal}
-use Rattle.snesl_values.specs.declared.refusal.Refusal.TheVariants.{NoMemory}
-use Rattle.snesl_values.specs.declared.ty.Ty.{Ty as TyTree}
+use Rattle.snesl_data.specs.declared.refusal.Refusal.{Refusal}
+use Rattle.snesl_data.specs.declared.refusal.Refusal.TheVariants.{NoMemory}
+use Rattle.snesl_data.specs.declared.ty.Ty.{Ty as TyTree}
 use Rattle.snesl_values.specs.Inputs.{Declaration}
-use Rattle.snesl_values.specs.Types.{Ty, ty_of}
+use Rattle.snesl_data.specs.Types.{Ty, ty_of}
 use Rattle.snesl_tree.specs.declared.expr.Expr.{Expr, Each}
 use Rattle.snesl_tree.specs.declared.expr.Binder.{Binder}
 use Rattle.snesl_tree.specs.Tree.{Tree, Binders, Condition, each, always, only_where}

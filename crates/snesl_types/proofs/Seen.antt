@@ -1,8 +1,8 @@
 -- Names past the edge of a comprehension's body.
 use Rattle.std.proofs.Common.{◌≡◌, ℕ, Bool, true, false, cond, List, [], ◌∷◌, ◌++◌, Option, Some, None, refl, ap, ◌∙◌}
 use Rattle.std.specs.Str.{bytes_eq}
-use Rattle.snesl_values.specs.Types.{is_concrete}
-use Rattle.snesl_values.specs.Types.{Ty}
+use Rattle.snesl_data.specs.Types.{is_concrete}
+use Rattle.snesl_data.specs.Types.{Ty}
 use Rattle.snesl_values.specs.Inputs.{Declaration}
 use Rattle.snesl_types.specs.Contexts.{Binding, open_to, shut, Context, opened, inside, shut_if_streamed, found, type_in}
 use Rattle.snesl_types.specs.Names.{seen}

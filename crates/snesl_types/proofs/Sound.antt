@@ -1,12 +1,12 @@
 -- What checking answers for an expression is what the rules say of it.
 use Rattle.std.proofs.Common.{◌≡◌, ℕ, ℤ, Bool, true, false, ◌&&◌, cond, List, [], ◌∷◌, ◌++◌, Option, Some, None, is_some, Result, Ok, Err, refl, sym, ap, subst, append_assoc, ◌∙◌}
 use Rattle.std.proofs.lemmas.List.{append-nil}
-use Rattle.snesl_values.specs.declared.dialect.Dialect.{Dialect}
-use Rattle.snesl_values.specs.declared.refusal.Refusal.{Refusal}
-use Rattle.snesl_values.specs.declared.refusal.Refusal.TheVariants.{Mismatch, Streamed, TooBig, NoMemory}
+use Rattle.snesl_data.specs.declared.dialect.Dialect.{Dialect}
+use Rattle.snesl_data.specs.declared.refusal.Refusal.{Refusal}
+use Rattle.snesl_data.specs.declared.refusal.Refusal.TheVariants.{Mismatch, Streamed, TooBig, NoMemory}
 use Rattle.snesl_values.specs.Inputs.{Declaration}
-use Rattle.snesl_values.specs.Integers.{is_integer}
-use Rattle.snesl_values.specs.Types.{Ty, int, bool, pair, vec, seq, is_same}
+use Rattle.snesl_data.specs.Integers.{is_integer}
+use Rattle.snesl_data.specs.Types.{Ty, int, bool, pair, vec, seq, is_same}
 use Rattle.snesl_tree.specs.declared.operator.Builtin.{Builtin}
 use Rattle.snesl_tree.specs.declared.operator.Operator.{Operator}
 use Rattle.snesl_tree.specs.declared.operator.Prefix.{Prefix}
@@ -22,7 +22,7 @@ use Rattle.snesl_types.specs.Typing.{Types, Gives, AllTypes, BindersType, Condit
 use Rattle.snesl_types.specs.Violations.{Violates, AnyViolates, BindersViolate, big_type, unbound, streamed, left_violates, right_violates, operands_mismatch, operand_violates, operand_mismatch, argument_violates, arguments_mismatch, tab_streamed, call_violates, call_unbound, call_mismatch, inner_violates, first_part_violates, second_part_violates, value_violates, binding_violates, choice_violates, positive_violates, negative_violates, choice_mismatch, item_violates, items_mismatch, filtered_violates, filter_violates, filter_mismatch, binder_violates, condition_violates, body_violates, condition_mismatch, binder_missing, first_violates, later_violates, source_violates, bound_twice, binder_mismatch, later_binder_violates}
 use Rattle.snesl_types.specs.Verdicts.{sized, rule, verdict, verdicts, binders_verdict, condition_verdict, of_binding, or_refused, of_builtin, of_function, of_items, of_each, of_binder, are_same, all_same}
 use Rattle.snesl_types.proofs.Outcomes.{Outcome, given, violated, out_of_range, then_outcome, both_outcome}
-use Rattle.snesl_values.proofs.SameTypes.{and_true, and_left, and_right, same_eq, same_of}
+use Rattle.snesl_data.proofs.SameTypes.{and_true, and_left, and_right, same_eq, same_of}
 use Rattle.snesl_types.proofs.Same.{are_same_self, are_same_eq, all_same_of, all_same_are}
 
 -- a condition has violations of its own only where there is one

@@ -1,6 +1,6 @@
 -- Sizes of types, and types that are the same.
 use Rattle.std.proofs.Common.{◌≡◌, ◌<◌, arith, Bool, true, false, ◌&&◌, List, [], ◌∷◌, length, map, ap, refl, suc}
-use Rattle.snesl_values.specs.Types.{Ty, int, bool, pair, vec, seq, is_same}
+use Rattle.snesl_data.specs.Types.{Ty, int, bool, pair, vec, seq, is_same}
 use Rattle.snesl_types.specs.Sizes.{type_size}
 use Rattle.snesl_types.specs.Verdicts.{are_same}
 

@@ -1,11 +1,11 @@
 -- Which refusals typing has.
 use Rattle.std.proofs.Common.{◌≡◌, ℕ, Bool, true, false, List, Result, Ok, Err}
 use Rattle.std.specs.Prelude.{if◌then◌else◌}
-use Rattle.snesl_values.specs.declared.dialect.Dialect.{Dialect}
-use Rattle.snesl_values.specs.declared.refusal.Refusal.{Refusal}
-use Rattle.snesl_values.specs.declared.refusal.Refusal.TheVariants.{Name, Mismatch, Streamed, TooBig}
+use Rattle.snesl_data.specs.declared.dialect.Dialect.{Dialect}
+use Rattle.snesl_data.specs.declared.refusal.Refusal.{Refusal}
+use Rattle.snesl_data.specs.declared.refusal.Refusal.TheVariants.{Name, Mismatch, Streamed, TooBig}
 use Rattle.snesl_values.specs.Inputs.{Declaration}
-use Rattle.snesl_values.specs.Types.{Ty, vec, pair, seq, is_concrete}
+use Rattle.snesl_data.specs.Types.{Ty, vec, pair, seq, is_concrete}
 use Rattle.snesl_tree.specs.declared.span.Span.{Span}
 use Rattle.snesl_tree.specs.Tree.{Tree, Trees, Binders, TypeTree, int_type, bool_type, pair_type, vector_type, sequence_type, Typed, DeclarationTree, ProgramTree}
 use Rattle.snesl_types.specs.Contexts.{Context, Signatures}

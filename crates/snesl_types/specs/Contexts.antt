@@ -1,7 +1,7 @@
 -- What the names of a program stand for while it is checked.
 use Rattle.std.specs.Prelude.{ℕ, if◌then◌else◌, List, [], ◌∷◌, map, Option, Some, None}
 use Rattle.std.specs.Str.{bytes_eq}
-use Rattle.snesl_values.specs.Types.{Ty, is_concrete}
+use Rattle.snesl_data.specs.Types.{Ty, is_concrete}
 use Rattle.snesl_values.specs.Inputs.{Declaration}
 
 -- what a variable stands for: a value of a type, or one of a streamed type that a comprehension's body must not use

@@ -11,9 +11,9 @@ pub mod Views
 pub mod Typed
 pub mod Soundness
 -- what the public clauses cite of the crates below
-pub use Rattle.snesl_values.specs.declared.refusal.Refusal
+pub use Rattle.snesl_data.specs.declared.refusal.Refusal
 pub use Rattle.snesl_values.specs.Inputs
-pub use Rattle.snesl_values.specs.Types
+pub use Rattle.snesl_data.specs.Types
 pub use Rattle.snesl_tree.specs.Tree
 pub use Rattle.snesl_tree.specs.Spelling
 pub use Rattle.snesl_tree.specs.View

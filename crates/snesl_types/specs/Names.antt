@@ -1,8 +1,8 @@
 -- The names that the checker sees.
 use Rattle.std.specs.Prelude.{ℕ, Bool, true, false, List, ◌∷◌, ◌++◌, map, Option, Some, None, Result, Box}
 use Rattle.std.specs.Global.{Global}
-use Rattle.snesl_values.specs.declared.refusal.Refusal.{Refusal}
-use Rattle.snesl_values.specs.Types.{Ty, ty_of}
+use Rattle.snesl_data.specs.declared.refusal.Refusal.{Refusal}
+use Rattle.snesl_data.specs.Types.{Ty, ty_of}
 use Rattle.snesl_values.specs.Inputs.{Declaration, declared}
 use Rattle.snesl_tree.specs.Spelling.{spelling}
 use Rattle.snesl_tree.specs.Tree.{Tree, Trees, Binders, Condition, always, only_where}

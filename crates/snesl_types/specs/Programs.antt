@@ -1,10 +1,10 @@
 -- Which programs have a type, and which rule a program violates first.
 use Rattle.std.specs.Prelude.{◌≡◌, ℕ, suc, ◌<◌, ◌≤◌, nat_le, Bool, true, false, ◌&&◌, if◌then◌else◌, List, [], ◌∷◌, ◌++◌, map, Some, None, Result, Ok, Err, ◌⊎◌}
-use Rattle.snesl_values.specs.declared.dialect.Dialect.{Dialect}
-use Rattle.snesl_values.specs.declared.refusal.Refusal.{Refusal}
-use Rattle.snesl_values.specs.declared.refusal.Refusal.TheVariants.{Name, Mismatch, Streamed, TooBig, NoMemory}
+use Rattle.snesl_data.specs.declared.dialect.Dialect.{Dialect}
+use Rattle.snesl_data.specs.declared.refusal.Refusal.{Refusal}
+use Rattle.snesl_data.specs.declared.refusal.Refusal.TheVariants.{Name, Mismatch, Streamed, TooBig, NoMemory}
 use Rattle.snesl_values.specs.Inputs.{Declaration}
-use Rattle.snesl_values.specs.Types.{Ty, int, bool, pair, vec, seq, is_concrete}
+use Rattle.snesl_data.specs.Types.{Ty, int, bool, pair, vec, seq, is_concrete}
 use Rattle.snesl_tree.specs.declared.span.Span.{Span}
 use Rattle.snesl_tree.specs.Spelling.{spelling}
 use Rattle.snesl_tree.specs.Tree.{Tree, TypeTree, int_type, bool_type, pair_type, vector_type, sequence_type, Typed, DeclarationTree, declares_input, declares_function, ProgramTree}

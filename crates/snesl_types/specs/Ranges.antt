@@ -1,7 +1,7 @@
 -- Programs whose integers are integers of their dialect.
 use Rattle.std.specs.Prelude.{List, [], ◌∷◌}
-use Rattle.snesl_values.specs.declared.dialect.Dialect.{Dialect}
-use Rattle.snesl_values.specs.Integers.{IsInteger}
+use Rattle.snesl_data.specs.declared.dialect.Dialect.{Dialect}
+use Rattle.snesl_data.specs.Integers.{IsInteger}
 use Rattle.snesl_tree.specs.Tree.{Tree, Trees, Binders, Condition, integer, truth, name, binary, prefix, call, apply, group, pair as pair_tree, binding, choice, literal, filter, each, none, both, none_bound, binder, always, only_where, DeclarationTree, declares_input, declares_function, ProgramTree}
 
 abbrev mutual

@@ -1,7 +1,7 @@
 -- Sizes of types and of expressions, and their limits.
 use Rattle.std.specs.Prelude.{ℕ, suc, ◌+◌, nat_le, Bool, if◌then◌else◌, List, [], ◌∷◌}
 use Rattle.std.specs.Str.{bytes_eq}
-use Rattle.snesl_values.specs.Types.{Ty, int, bool, pair, vec, seq}
+use Rattle.snesl_data.specs.Types.{Ty, int, bool, pair, vec, seq}
 use Rattle.snesl_tree.specs.Spelling.{spelling}
 use Rattle.snesl_tree.specs.Tree.{Tree, Trees, Binders, Condition, integer, truth, name, binary, prefix, call, apply, group, pair as pair_tree, binding, choice, literal, filter, each, none, both, none_bound, binder, always, only_where}
 

@@ -1,11 +1,11 @@
 -- A typed program gives a value of its type, or a fault that types cannot rule out.
 use Rattle.std.specs.Prelude.{◌≡◌, ◌≢◌, ℕ, List, [], ◌∷◌, Some, Result, Ok, Err}
-use Rattle.snesl_values.specs.declared.dialect.Dialect.{Dialect}
-use Rattle.snesl_values.specs.declared.datum.Datum.{Datum}
-use Rattle.snesl_values.specs.declared.fault.Fault.{Fault}
-use Rattle.snesl_values.specs.declared.fault.FaultKind.TheVariants.{Shape}
-use Rattle.snesl_values.specs.Types.{Ty}
-use Rattle.snesl_values.specs.Values.{Value, value_of, HasType}
+use Rattle.snesl_data.specs.declared.dialect.Dialect.{Dialect}
+use Rattle.snesl_data.specs.declared.datum.Datum.{Datum}
+use Rattle.snesl_data.specs.declared.fault.Fault.{Fault}
+use Rattle.snesl_data.specs.declared.fault.FaultKind.TheVariants.{Shape}
+use Rattle.snesl_data.specs.Types.{Ty}
+use Rattle.snesl_data.specs.Values.{Value, value_of, HasType}
 use Rattle.snesl_values.specs.Inputs.{Environment, Fits as FitsInputs}
 use Rattle.snesl_tree.specs.Tree.{Tree, ProgramTree}
 use Rattle.snesl_evaluation.specs.Answer.{Answer, gives, faults}

@@ -1,7 +1,7 @@
 -- What callers see of a typed program.
 use Rattle.std.specs.Prelude.{ℕ, List}
-use Rattle.snesl_values.specs.declared.dialect.Dialect.{Dialect}
-use Rattle.snesl_values.specs.Types.{Ty, ty_of}
+use Rattle.snesl_data.specs.declared.dialect.Dialect.{Dialect}
+use Rattle.snesl_data.specs.Types.{Ty, ty_of}
 use Rattle.snesl_values.specs.Inputs.{Declaration, declared}
 use Rattle.snesl_grammar.specs.declared.program.Program.{Program}
 use Rattle.snesl_tree.specs.Tree.{ProgramTree}

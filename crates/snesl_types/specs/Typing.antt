@@ -1,9 +1,9 @@
 -- Which expressions have a type.
 use Rattle.std.specs.Prelude.{◌≡◌, ℕ, ℤ, Bool, true, List, [], ◌∷◌, ◌++◌, Some, None}
-use Rattle.snesl_values.specs.declared.dialect.Dialect.{Dialect}
-use Rattle.snesl_values.specs.Integers.{IsInteger}
+use Rattle.snesl_data.specs.declared.dialect.Dialect.{Dialect}
+use Rattle.snesl_data.specs.Integers.{IsInteger}
 use Rattle.snesl_values.specs.Inputs.{Declaration}
-use Rattle.snesl_values.specs.Types.{Ty, int, bool, pair, seq}
+use Rattle.snesl_data.specs.Types.{Ty, int, bool, pair, seq}
 use Rattle.snesl_tree.specs.declared.operator.Builtin.{Builtin}
 use Rattle.snesl_tree.specs.declared.operator.Operator.{Operator}
 use Rattle.snesl_tree.specs.declared.operator.Prefix.{Prefix}

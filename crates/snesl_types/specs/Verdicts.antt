@@ -1,12 +1,12 @@
 -- The rules as functions: the type of an expression, or what it is refused for. That these answers and the
 -- rules agree is proved.
 use Rattle.std.specs.Prelude.{◌≡◌, ℕ, ◌⊎◌, min, nat_le, Bool, true, false, ◌&&◌, if◌then◌else◌, List, [], ◌∷◌, ◌++◌, Option, Some, None, is_some, Result, Ok, Err}
-use Rattle.snesl_values.specs.declared.dialect.Dialect.{Dialect}
-use Rattle.snesl_values.specs.declared.refusal.Refusal.{Refusal}
-use Rattle.snesl_values.specs.declared.refusal.Refusal.TheVariants.{Name, Mismatch, Streamed, TooBig, NoMemory}
+use Rattle.snesl_data.specs.declared.dialect.Dialect.{Dialect}
+use Rattle.snesl_data.specs.declared.refusal.Refusal.{Refusal}
+use Rattle.snesl_data.specs.declared.refusal.Refusal.TheVariants.{Name, Mismatch, Streamed, TooBig, NoMemory}
 use Rattle.snesl_values.specs.Inputs.{Declaration}
-use Rattle.snesl_values.specs.Integers.{is_integer}
-use Rattle.snesl_values.specs.Types.{Ty, int, bool, pair, seq, is_same}
+use Rattle.snesl_data.specs.Integers.{is_integer}
+use Rattle.snesl_data.specs.Types.{Ty, int, bool, pair, seq, is_same}
 use Rattle.snesl_tree.specs.declared.operator.Builtin.{Builtin}
 use Rattle.snesl_tree.specs.declared.span.Span.{Span}
 use Rattle.snesl_tree.specs.Spelling.{spelling}

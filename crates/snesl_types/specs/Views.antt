@@ -1,7 +1,7 @@
 -- The declarations that the checker gathers.
 use Rattle.std.specs.Prelude.{ℕ, List}
-use Rattle.snesl_values.specs.Types.{Ty, ty_of}
-use Rattle.snesl_values.specs.declared.ty.Ty.{Ty as TyTree}
+use Rattle.snesl_data.specs.Types.{Ty, ty_of}
+use Rattle.snesl_data.specs.declared.ty.Ty.{Ty as TyTree}
 use Rattle.snesl_values.specs.Inputs.{declared}
 use Rattle.snesl_types.specs.declared.declarations.Declarations.{Declarations}
 use Rattle.snesl_types.specs.Programs.{Declared}

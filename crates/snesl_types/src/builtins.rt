@@ -1,13 +1,13 @@
 // The types of the results of built-in functions.
 
 ghost use Rattle.std.specs.Prelude.{◌≡◌, [], ◌∷◌, map};
-ghost use Rattle.snesl_values.specs.Types.{ty_of, int, bool, pair, vec, seq};
+ghost use Rattle.snesl_data.specs.Types.{ty_of, int, bool, pair, vec, seq};
 ghost use Rattle.snesl_tree.specs.declared.operator.Builtin.TheVariants.{Tab};
 ghost use Rattle.snesl_types.specs.Verdicts.{IsAnswer, of_builtin};
 
 use crate::forms::sequence_of;
+use snesl_data::{Refusal, Ty, copy_ty};
 use snesl_tree::Builtin;
-use snesl_values::{Refusal, Ty, copy_ty};
 use std::alloc::Global;
 
 // The type of a built-in's result.

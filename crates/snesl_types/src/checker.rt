@@ -7,16 +7,16 @@ ghost use Rattle.snesl_types.specs.Typed.{program_of, typed_inputs, typed_ty};
 ghost use Rattle.snesl_types.specs.Verdicts.{IsAnswer, program_verdict, expression_verdict};
 ghost use Rattle.snesl_types.specs.Views.{declared_in, typing_in};
 ghost use Rattle.snesl_tree.specs.View.{tree_of};
-ghost use Rattle.snesl_values.specs.Types.{ty_of};
+ghost use Rattle.snesl_data.specs.Types.{ty_of};
 
 use crate::declarations::{Declarations, declarations_of, few};
 use crate::expressions::type_of;
 use crate::names::{Names, Scope};
 use crate::sizes::size_of;
 use crate::typed::Typed;
+use snesl_data::{Dialect, Refusal, Ty};
 use snesl_grammar::Program;
 use snesl_tree::Expr;
-use snesl_values::{Dialect, Refusal, Ty};
 use std::alloc::Global;
 
 /// The greatest size of the final expression with its calls written out.

@@ -1,7 +1,7 @@
 // The declarations of a program.
 
 ghost use Rattle.std.specs.Prelude.{◌≡◌, [], map, IfOk};
-ghost use Rattle.snesl_values.specs.Types.{ty_of};
+ghost use Rattle.snesl_data.specs.Types.{ty_of};
 ghost use Rattle.snesl_values.specs.Inputs.{declared, declaration_of};
 ghost use Rattle.snesl_tree.specs.Spelling.{spelling};
 ghost use Rattle.snesl_tree.specs.View.{tree_of, type_tree, typed_of, declaration_of as declaration_tree};
@@ -16,8 +16,8 @@ use crate::expressions::type_of;
 use crate::forms::{pair_of, sequence_of, small};
 use crate::names::{Function, Names, Scope, function_named, type_in};
 use crate::sizes::size_of;
+use snesl_data::{Dialect, Refusal, Ty};
 use snesl_tree::{Declaration, Function as WrittenFunction, Typing, WrittenType};
-use snesl_values::{Dialect, Refusal, Ty};
 use std::alloc::Global;
 
 /// The greatest number of functions, and of inputs.

@@ -1,7 +1,7 @@
 // The types of expressions.
 
 ghost use Rattle.std.specs.Prelude.{[], map};
-ghost use Rattle.snesl_values.specs.Types.{ty_of};
+ghost use Rattle.snesl_data.specs.Types.{ty_of};
 ghost use Rattle.snesl_values.specs.Inputs.{declared};
 ghost use Rattle.snesl_tree.specs.Spelling.{spelling};
 ghost use Rattle.snesl_tree.specs.Tree.{binding, choice};
@@ -16,8 +16,8 @@ use crate::forms::{
     prefix_type, small,
 };
 use crate::names::{Meaning, Names, Scope, function_named, look_up, type_in};
+use snesl_data::{Refusal, Ty, copy_ty};
 use snesl_tree::{Binder, Expr, Span};
-use snesl_values::{Refusal, Ty, copy_ty};
 use std::alloc::Global;
 
 // The type of an expression.

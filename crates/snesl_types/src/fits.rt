@@ -3,7 +3,7 @@
 ghost use Rattle.std.specs.Prelude.{◌≡◌, ◌↔◌, IsTrue};
 ghost use Rattle.snesl_values.specs.Inputs.{declaration_of, declared};
 
-use snesl_values::Ty;
+use snesl_data::Ty;
 
 // Whether these are the same declarations, in the same order.
 pub(crate) fn same_decls(decls: &[(Vec<u8>, Ty)], others: &[(Vec<u8>, Ty)]) -> bool

@@ -1,8 +1,8 @@
 // The tables of types: what operators, built-in functions and forms take and give.
 
 ghost use Rattle.std.specs.Prelude.{◌≡◌, ◌+◌, ◌<◌, map, Ok, IfSome, IfNone};
-ghost use Rattle.snesl_values.specs.declared.refusal.Refusal.TheVariants.{Mismatch};
-ghost use Rattle.snesl_values.specs.Types.{ty_of, int, bool, pair, vec, seq, is_same};
+ghost use Rattle.snesl_data.specs.declared.refusal.Refusal.TheVariants.{Mismatch};
+ghost use Rattle.snesl_data.specs.Types.{ty_of, int, bool, pair, vec, seq, is_same};
 ghost use Rattle.snesl_values.specs.Inputs.{declared};
 ghost use Rattle.snesl_tree.specs.View.{binders_of};
 ghost use Rattle.snesl_types.specs.Forms.{operator_result, prefix_result};
@@ -10,8 +10,8 @@ ghost use Rattle.snesl_types.specs.Programs.{small_type};
 ghost use Rattle.snesl_types.specs.Sizes.{type_size};
 ghost use Rattle.snesl_types.specs.Verdicts.{IsAnswer, or_refused, are_same, all_same as all_are, of_items, of_choice, of_filter, of_each};
 
+use snesl_data::{Refusal, Ty, copy_ty};
 use snesl_tree::{Binder, Operator, Prefix};
-use snesl_values::{Refusal, Ty, copy_ty};
 use std::alloc::Global;
 
 /// The greatest size of a type.

@@ -1,14 +1,14 @@
 // The names that an expression sees.
 
 ghost use Rattle.std.specs.Prelude.{◌≡◌, map, Some, option_map};
-ghost use Rattle.snesl_values.specs.Types.{ty_of};
+ghost use Rattle.snesl_data.specs.Types.{ty_of};
 ghost use Rattle.snesl_values.specs.Inputs.{declared};
 ghost use Rattle.snesl_tree.specs.Spelling.{spelling};
 ghost use Rattle.snesl_types.specs.Contexts.{open_to, found, type_in as type_among, function_named as function_among};
 ghost use Rattle.snesl_types.specs.Names.{context_of, meaning_of, seen, signature_in, signatures_in};
 
+use snesl_data::{Dialect, Ty};
 use snesl_tree::Span;
-use snesl_values::{Dialect, Ty};
 
 // What a call sees of a declared function: its name, its parameters with their types, and the type of its result.
 #[derive(Debug, Drop)]

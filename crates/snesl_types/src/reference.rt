@@ -8,8 +8,9 @@ ghost use Rattle.snesl_types.specs.Soundness.{IsSound, TypedExpressionsAreSound,
 ghost use Rattle.snesl_types.specs.Typed.{typed_dialect, typed_inputs, typed_text, typed_tree, typed_ty};
 
 use crate::typed::Typed;
+use snesl_data::{Datum, Fault};
 use snesl_evaluation::evaluate;
-use snesl_values::{Datum, Fault, Inputs, inputs_fit};
+use snesl_values::{Inputs, inputs_fit};
 use std::alloc::{AllocError, Global};
 
 /// Evaluates a typed program by its definition, with all of each sequence in memory. It is slow, and

@@ -1,14 +1,15 @@
 // Programs that have a type.
 
 ghost use Rattle.std.specs.Prelude.{◌≡◌, ◌↔◌, IsTrue};
-ghost use Rattle.snesl_values.specs.Types.{ty_of};
+ghost use Rattle.snesl_data.specs.Types.{ty_of};
 ghost use Rattle.snesl_values.specs.Inputs.{declarations_of, declared, dialect_of};
 ghost use Rattle.snesl_grammar.specs.View.{program_of as tree_of_program};
 ghost use Rattle.snesl_types.specs.Programs.{HasTyping};
 
 use crate::fits::same_decls;
+use snesl_data::{Dialect, Ty};
 use snesl_grammar::Program;
-use snesl_values::{Dialect, Inputs, Ty};
+use snesl_values::Inputs;
 
 /// A program with its inputs and its type. It keeps that the program has this type.
 #[derive(Debug, Drop)]

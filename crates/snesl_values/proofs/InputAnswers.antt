@@ -1,7 +1,7 @@
 -- What the reader of an input text answers.
 use Rattle.std.proofs.Common.{◌≡◌, ℕ, ◌≤◌, List, length, Result, Ok, Err, IfOk, IfErr, ◌⊎◌, inl, inr, refl, ap, ◌∙◌}
 use Rattle.std.specs.Result.{IsOk, IsErrAnd}
-use Rattle.snesl_values.specs.declared.dialect.Dialect.{Dialect}
+use Rattle.snesl_data.specs.declared.dialect.Dialect.{Dialect}
 use Rattle.snesl_values.specs.declared.environment.Inputs.{Inputs}
 use Rattle.snesl_values.specs.declared.inputs.InputError.{InputError}
 use Rattle.snesl_values.specs.declared.inputs.InputError.TheVariants.{Bad, NoMemory}

@@ -1,11 +1,11 @@
 -- Declared inputs in an input text.
 use Rattle.std.proofs.Common.{◌≡◌, ℕ, suc, ◌+◌, ◌-◌, ◌≤◌, ◌<◌, Vec, Global, take, take_all, get_or, drop-cons, length-drop, length-append, add-one, List, [], ◌∷◌, ◌++◌, length, drop, map, Option, Some, None, ◌⊎◌, inl, inr, refl, sym, ap, ◌∙◌, subst, append_assoc, append-nil, arith}
-use Rattle.snesl_values.specs.declared.dialect.Dialect.{Dialect}
-use Rattle.snesl_values.specs.Values.{Value, HasType}
+use Rattle.snesl_data.specs.declared.dialect.Dialect.{Dialect}
+use Rattle.snesl_data.specs.Values.{Value, HasType}
 use Rattle.snesl_values.specs.InputTokens.{Token, word, next_at, next_token, Reads, none, Takes}
 use Rattle.snesl_values.specs.Inputs.{Declaration, Environment, Fits, equals, semicolon, value_tokens, entry_tokens, further_entries, environment_tokens, AreEntries, IsLawful, MayFollow, StopsAt, declared, declaration_of, entry_of}
 use Rattle.snesl_values.specs.declared.environment.Input.{Input}
-use Rattle.snesl_values.specs.declared.ty.Ty.{Ty as TyTree}
+use Rattle.snesl_data.specs.declared.ty.Ty.{Ty as TyTree}
 use Rattle.snesl_values.specs.Wants.{Want, one, perhaps, a_value, Fills, entry_wants, further_wants, wants_of, IsEntry, AllRead, IsStop, IsStopOf}
 use Rattle.snesl_values.specs.declared.inputs.InputError.{InputError}
 use Rattle.snesl_values.specs.declared.inputs.InputError.TheVariants.{Bad, NoMemory}

@@ -1,12 +1,12 @@
 -- Items that were read, and the size of types.
 use Rattle.std.proofs.Common.{◌≡◌, ℕ, suc, ◌+◌, List, [], ◌∷◌, ◌++◌, refl, sym, ap, ◌∙◌, append_assoc, append-nil, map, subst, arith, ◌≤◌}
-use Rattle.snesl_values.specs.declared.dialect.Dialect.{Dialect}
-use Rattle.snesl_values.specs.Types.{Ty, int, bool, pair, vec, seq}
-use Rattle.snesl_values.specs.Values.{Value, a_vec, a_seq, a_pair, value_of, Values, values_of, HasType, AllHaveType}
+use Rattle.snesl_data.specs.declared.dialect.Dialect.{Dialect}
+use Rattle.snesl_data.specs.Types.{Ty, int, bool, pair, vec, seq}
+use Rattle.snesl_data.specs.Values.{Value, a_vec, a_seq, a_pair, value_of, Values, values_of, HasType, AllHaveType}
 use Rattle.snesl_values.specs.InputTokens.{Token, sign, Reads, Takes}
 use Rattle.snesl_values.specs.Inputs.{value_tokens, items_tokens, further_tokens, comma, left_paren, right_paren, left_bracket, left_brace}
 use Rattle.snesl_values.specs.Wants.{IsRead, AreRead}
-use Rattle.snesl_values.specs.declared.datum.Datum.{Datum}
+use Rattle.snesl_data.specs.declared.datum.Datum.{Datum}
 use Rattle.snesl_values.proofs.InputReads.{reads-append}
 
 -- how many parts a type has

@@ -1,7 +1,7 @@
 -- A text means one thing.
 use Rattle.std.proofs.Common.{◌≡◌, ℕ, ◌+◌, List, [], ◌∷◌, ◌++◌, Some, None, inl, inr, refl, sym, ap, ◌∙◌, subst, append_assoc, append-nil, arith}
-use Rattle.snesl_values.specs.declared.dialect.Dialect.{Dialect}
-use Rattle.snesl_values.specs.Values.{Value}
+use Rattle.snesl_data.specs.declared.dialect.Dialect.{Dialect}
+use Rattle.snesl_data.specs.Values.{Value}
 use Rattle.snesl_values.specs.InputTokens.{Token, Lexeme, word, next_at, next_token, Reads, none, more}
 use Rattle.snesl_values.specs.Inputs.{Declaration, Environment, Fits, equals, semicolon, entry_tokens, further_entries, environment_tokens, AreEntries, Spells, IsLawful, MayFollow, StopsAt, InputAnswer, spells, refused_at, InputMeans, too_long, lawful, unlawful}
 use Rattle.snesl_values.proofs.InputReads.{first_next}

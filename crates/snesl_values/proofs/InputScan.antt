@@ -6,11 +6,11 @@ use Rattle.std.proofs.lemmas.List.Sums.{prefix_len-le-length}
 use Rattle.std.proofs.lemmas.List.Folds.{length-prefix_len}
 use Rattle.std.specs.Char.{is_ascii_digit, is_ascii_alphabetic}
 use Rattle.std.proofs.lemmas.Bool.Decides.{nat_tests}
-use Rattle.snesl_values.specs.Blanks.{is_blank}
-use Rattle.snesl_values.specs.declared.dialect.Dialect.{Dialect}
-use Rattle.snesl_values.specs.declared.dialect.Dialect.TheVariants.{Two}
-use Rattle.snesl_values.specs.Integers.{greatest_integer, IsInteger}
-use Rattle.snesl_values.specs.Characters.{is_word, value_from}
+use Rattle.snesl_data.specs.Blanks.{is_blank}
+use Rattle.snesl_data.specs.declared.dialect.Dialect.{Dialect}
+use Rattle.snesl_data.specs.declared.dialect.Dialect.TheVariants.{Two}
+use Rattle.snesl_data.specs.Integers.{greatest_integer, IsInteger}
+use Rattle.snesl_data.specs.Characters.{is_word, value_from}
 use Rattle.snesl_values.specs.InputTokens.{Token, Lexeme, word, integer, sign, bad, is_sign, negated, minus_lexeme, first, next, next_at, next_token, Reads, none, more, Takes, digits_at, number_of, IsNumber}
 
 abbrev pub rest_of : List ℕ → ℕ → List ℕ

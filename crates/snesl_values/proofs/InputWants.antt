@@ -1,13 +1,13 @@
 -- How the wants of a reader are met.
 use Rattle.std.proofs.Common.{◌≡◌, ℕ, pos, true, false, List, [], ◌∷◌, ◌++◌, Some, codes, ◌⊎◌, inl, inr, refl, sym, ap, ◌∙◌, subst, append_assoc, arith, ℤ, ⊎_elim, Result, Ok, Err, IfErr}
 use Rattle.std.specs.Result.{IsErrAnd}
-use Rattle.snesl_values.specs.declared.dialect.Dialect.{Dialect}
-use Rattle.snesl_values.specs.declared.dialect.Dialect.TheVariants.{One, Two}
-use Rattle.snesl_values.specs.Integers.{IsInteger}
+use Rattle.snesl_data.specs.declared.dialect.Dialect.{Dialect}
+use Rattle.snesl_data.specs.declared.dialect.Dialect.TheVariants.{One, Two}
+use Rattle.snesl_data.specs.Integers.{IsInteger}
 use Rattle.snesl_values.specs.declared.inputs.InputError.{InputError}
 use Rattle.snesl_values.specs.declared.inputs.InputError.TheVariants.{Bad, NoMemory}
-use Rattle.snesl_values.specs.Types.{Ty, int, bool, pair, vec, seq}
-use Rattle.snesl_values.specs.Values.{Value, an_int, a_bool, a_pair, a_vec, a_seq, Values, no_values, more_values, HasType, AllHaveType}
+use Rattle.snesl_data.specs.Types.{Ty, int, bool, pair, vec, seq}
+use Rattle.snesl_data.specs.Values.{Value, an_int, a_bool, a_pair, a_vec, a_seq, Values, no_values, more_values, HasType, AllHaveType}
 use Rattle.snesl_values.specs.InputTokens.{Token, word, integer, sign, next_at, next_token, Reads, none}
 use Rattle.snesl_values.specs.Inputs.{value_tokens, items_tokens, further_tokens, left_paren, right_paren, comma, left_bracket, right_bracket, left_brace, right_brace, StopsAt}
 use Rattle.snesl_values.specs.Wants.{Want, one, perhaps, a_value, items, further_items, Fills, IsStop}

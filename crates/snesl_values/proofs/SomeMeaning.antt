@@ -3,10 +3,10 @@ use Rattle.std.proofs.Common.{◌≡◌, ℕ, zero, suc, ℤ, ◌+◌, ◌≤◌
 use Rattle.std.proofs.lemmas.Bool.{eqb-true, eqb-false, cases_lt}
 use Rattle.std.proofs.lemmas.Slice.Eq.{bytes_eq-Decides}
 use Rattle.std.specs.Str.{bytes_eq}
-use Rattle.snesl_values.specs.declared.dialect.Dialect.{Dialect}
-use Rattle.snesl_values.specs.Integers.{is_integer, IsInteger}
-use Rattle.snesl_values.specs.Types.{Ty, int, bool, pair, vec, seq}
-use Rattle.snesl_values.specs.Values.{Value, an_int, a_bool, a_pair, a_vec, a_seq, Values, values_of, AllHaveType}
+use Rattle.snesl_data.specs.declared.dialect.Dialect.{Dialect}
+use Rattle.snesl_data.specs.Integers.{is_integer, IsInteger}
+use Rattle.snesl_data.specs.Types.{Ty, int, bool, pair, vec, seq}
+use Rattle.snesl_data.specs.Values.{Value, an_int, a_bool, a_pair, a_vec, a_seq, Values, values_of, AllHaveType}
 use Rattle.snesl_values.specs.InputTokens.{Token, word, integer, sign, bad, next_at, next_token, Reads, none, Takes}
 use Rattle.snesl_values.specs.Inputs.{greatest_input_length, Declaration, Environment, equals, semicolon, comma, left_paren, right_paren, left_bracket, left_brace, StopsAt, IsLawful, InputAnswer, spells, refused_at, InputMeans, too_long, lawful, unlawful}
 use Rattle.snesl_values.specs.Wants.{Want, one, a_value, items, further_items, Fills, entry_wants, further_wants, IsRead, AreRead, IsEntry, AllRead}

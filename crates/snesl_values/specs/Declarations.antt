@@ -1,11 +1,11 @@
 -- Declared inputs and their values.
 use Rattle.std.specs.Prelude.{◌≡◌, ℕ, List, [], ◌∷◌, map, Vec}
 use Rattle.std.specs.Global.{Global}
-use Rattle.snesl_values.specs.declared.dialect.Dialect.{Dialect}
+use Rattle.snesl_data.specs.declared.dialect.Dialect.{Dialect}
 use Rattle.snesl_values.specs.declared.environment.Input.{Input}
-use Rattle.snesl_values.specs.declared.ty.Ty.{Ty as TyTree}
-use Rattle.snesl_values.specs.Types.{Ty, ty_of}
-use Rattle.snesl_values.specs.Values.{Value, HasType, value_of}
+use Rattle.snesl_data.specs.declared.ty.Ty.{Ty as TyTree}
+use Rattle.snesl_data.specs.Types.{Ty, ty_of}
+use Rattle.snesl_data.specs.Values.{Value, HasType, value_of}
 
 -- a declared name and its type
 abbrev pub Declaration : Type 0

@@ -2,10 +2,10 @@
 use Rattle.std.specs.Prelude.{◌≡◌, ℕ, zero, suc, ◌+◌, ◌==◌, ◌<◌, ◌≤◌, ℤ, pos, negsuc, Bool, true, false, if◌then◌else◌, List, [], ◌∷◌, length, drop, Option, Some, None, option_map, codes}
 use Rattle.std.specs.List.{take_while, prefix_len, list_any}
 use Rattle.std.specs.Char.{is_ascii_digit, is_ascii_alphabetic}
-use Rattle.snesl_values.specs.Blanks.{is_blank}
-use Rattle.snesl_values.specs.Characters.{is_word, value_from}
-use Rattle.snesl_values.specs.declared.dialect.Dialect.{Dialect}
-use Rattle.snesl_values.specs.Integers.{IsInteger}
+use Rattle.snesl_data.specs.Blanks.{is_blank}
+use Rattle.snesl_data.specs.Characters.{is_word, value_from}
+use Rattle.snesl_data.specs.declared.dialect.Dialect.{Dialect}
+use Rattle.snesl_data.specs.Integers.{IsInteger}
 
 -- a word, an integer, a sign of one byte, or a token that no lawful text has
 pub data Token : Type 0 where

@@ -1,13 +1,19 @@
-pub mod Integers
-pub mod Types
-pub mod Values
-pub mod Faults
-pub mod Refusals
-pub mod Text
-pub mod Blanks
-pub mod Characters
 pub mod InputTokens
 pub mod Declarations
 pub mod Inputs
 pub mod Wants
-pub mod Counted
+-- what the contracts cite: dialects, types, values and their text, faults, refusals, and counts of failures
+pub use Rattle.snesl_data.specs.declared.dialect.Dialect
+pub use Rattle.snesl_data.specs.declared.ty.Ty as TypeOf
+pub use Rattle.snesl_data.specs.declared.datum.Datum
+pub use Rattle.snesl_data.specs.declared.fault.Fault
+pub use Rattle.snesl_data.specs.declared.fault.FaultKind
+pub use Rattle.snesl_data.specs.declared.refusal.Refusal
+pub use Rattle.snesl_data.specs.declared.counted.Counted
+pub use Rattle.snesl_data.specs.Integers
+pub use Rattle.snesl_data.specs.Types
+pub use Rattle.snesl_data.specs.Values
+pub use Rattle.snesl_data.specs.Faults
+pub use Rattle.snesl_data.specs.Refusals
+pub use Rattle.snesl_data.specs.Text
+pub use Rattle.snesl_data.specs.Counted as Counts

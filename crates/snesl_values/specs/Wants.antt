@@ -1,10 +1,10 @@
 -- What the reader of an input text still wants, and what its parts answer.
 use Rattle.std.specs.Prelude.{◌≡◌, ◌≢◌, ℕ, ◌<◌, ◌≤◌, List, [], ◌∷◌, ◌++◌, ◌⊎◌, length, None}
-use Rattle.snesl_values.specs.declared.dialect.Dialect.{Dialect}
+use Rattle.snesl_data.specs.declared.dialect.Dialect.{Dialect}
 use Rattle.snesl_values.specs.declared.inputs.InputError.{InputError}
 use Rattle.snesl_values.specs.declared.inputs.InputError.TheVariants.{Bad, NoMemory}
-use Rattle.snesl_values.specs.Types.{Ty}
-use Rattle.snesl_values.specs.Values.{Value, Values, HasType, AllHaveType}
+use Rattle.snesl_data.specs.Types.{Ty}
+use Rattle.snesl_data.specs.Values.{Value, Values, HasType, AllHaveType}
 use Rattle.snesl_values.specs.InputTokens.{Token, word, sign, next_at, next_token, Reads}
 use Rattle.snesl_values.specs.Inputs.{Declaration, Environment, equals, semicolon, value_tokens, items_tokens, further_tokens, entry_tokens, StopsAt, Spells, IsLawful}
 

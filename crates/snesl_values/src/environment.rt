@@ -3,9 +3,7 @@
 ghost use Rattle.std.specs.Prelude.{map};
 ghost use Rattle.snesl_values.specs.Declarations.{declared, entry_of, Fits};
 
-use crate::datum::Datum;
-use crate::dialect::Dialect;
-use crate::ty::Ty;
+use snesl_data::{Datum, Dialect, Ty};
 
 // A declared name and its value.
 #[derive(Debug, Drop)]
@@ -27,7 +25,7 @@ pub struct Inputs {
 impl Inputs {
     ghost use Rattle.std.specs.Prelude.{◌≡◌, ◌↔◌, [], length, IsTrue, option_map};
     ghost use Rattle.std.specs.List.{slice_get};
-    ghost use Rattle.snesl_values.specs.Values.{value_of};
+    ghost use Rattle.snesl_data.specs.Values.{value_of};
     ghost use Rattle.snesl_values.specs.Inputs.{dialect_of, declarations_of, environment_of, value_in};
 
     /// The dialect in which the inputs were read.

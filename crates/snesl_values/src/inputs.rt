@@ -6,12 +6,10 @@ ghost use Rattle.snesl_values.specs.Inputs.{dialect_of, declarations_of, environ
 ghost use Rattle.snesl_values.specs.Wants.{entry_wants, IsStop, IsStopOf, IsEntry, AllRead};
 ghost use Rattle.snesl_values.specs.declared.inputs.InputError.TheVariants.{Bad, NoMemory};
 
-use crate::dialect::Dialect;
 use crate::environment::{Input, Inputs};
 use crate::reader::{expect_sign, expect_word, read_value};
-use crate::refusal::Refusal;
 use crate::scan::{behind_sign, skip_blanks};
-use crate::ty::{Ty, copy_ty};
+use snesl_data::{Dialect, Refusal, Ty, copy_ty};
 use std::alloc::{AllocError, AllocFailed, Global};
 use thiserror::Error;
 

@@ -1,28 +1,16 @@
-// Types, values, faults, refusals, the text of a value, input texts, and counted readers and writers.
+//! Types, values, faults, refusals, the text of a value, input texts, and counted readers and writers.
+//!
+//! Input texts are read here; all else is passed on from `snesl_data`, with the words of its contracts (`specs/Lib.antt`).
 #![tactic(auto)]
 
-pub mod blank;
-pub mod characters;
-pub mod counted;
-pub mod datum;
-pub mod dialect;
 pub mod environment;
-pub mod fault;
 pub mod inputs;
 mod reader;
-pub mod refusal;
 mod scan;
-pub mod text;
-pub mod ty;
 
-pub use blank::is_blank;
-pub use characters::{digits_len, word_len};
-pub use counted::Counted;
-pub use datum::{Datum, copy_datum};
-pub use dialect::Dialect;
 pub use environment::Inputs;
-pub use fault::{Fault, FaultKind};
 pub use inputs::{InputError, inputs_fit, one_input_meaning, read_inputs};
-pub use refusal::Refusal;
-pub use text::text_of;
-pub use ty::{Ty, copy_ty};
+pub use snesl_data::{
+    Counted, Datum, Dialect, Fault, FaultKind, Refusal, Ty, copy_datum, copy_ty, digits_len,
+    is_blank, text_of, word_len,
+};

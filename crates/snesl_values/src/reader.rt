@@ -3,15 +3,13 @@
 ghost use Rattle.std.specs.Prelude.{◌≡◌, ◌≤◌, ◌∷◌, [], ◌⊎◌, map, length, IsTrue, IfOk, IfErr};
 ghost use Rattle.snesl_values.specs.InputTokens.{word, sign, is_sign, Takes};
 ghost use Rattle.snesl_values.specs.Inputs.{left_paren, comma, right_paren};
-ghost use Rattle.snesl_values.specs.Types.{ty_of, bool, pair};
-ghost use Rattle.snesl_values.specs.Values.{value_of, values_of, a_bool, a_pair};
+ghost use Rattle.snesl_data.specs.Types.{ty_of, bool, pair};
+ghost use Rattle.snesl_data.specs.Values.{value_of, values_of, a_bool, a_pair};
 ghost use Rattle.snesl_values.specs.Wants.{one, a_value, items, IsStop, IsRead, AreRead};
 
-use crate::datum::Datum;
-use crate::dialect::Dialect;
 use crate::inputs::InputError;
 use crate::scan::{behind_sign, behind_word, integer_at, skip_blanks};
-use crate::ty::Ty;
+use snesl_data::{Datum, Dialect, Ty};
 use std::alloc::Global;
 
 // The offset behind the sign of this byte, which has to come next.

@@ -1,9 +1,9 @@
 -- Operators and built-in functions, by the types of their operands and arguments.
 use Rattle.std.specs.Prelude.{◌≡◌, ℕ, Bool, true, false, List, [], ◌∷◌, length, Some, None, refl, if◌then◌else◌}
 use Rattle.std.proofs.Common.{sym, subst}
-use Rattle.snesl_values.specs.declared.dialect.Dialect.{Dialect}
-use Rattle.snesl_values.specs.Types.{Ty, int, bool, pair, vec, seq, is_concrete, is_same}
-use Rattle.snesl_values.proofs.SameTypes.{same_eq}
+use Rattle.snesl_data.specs.declared.dialect.Dialect.{Dialect}
+use Rattle.snesl_data.specs.Types.{Ty, int, bool, pair, vec, seq, is_concrete, is_same}
+use Rattle.snesl_data.proofs.SameTypes.{same_eq}
 use Rattle.snesl_operators.specs.Operators.{binary_operand, binary_result}
 use Rattle.snesl_operators.specs.declared.operator.BinaryOperator.{BinaryOperator}
 use Rattle.snesl_operators.specs.declared.operator.BinaryOperator.TheVariants as binaries

@@ -1,7 +1,7 @@
 -- Expressions of two parts, bindings, and choices.
 use Rattle.std.specs.Prelude.{ℕ, List, [], ◌∷◌, ◌++◌, length, refl}
-use Rattle.snesl_values.specs.declared.dialect.Dialect.{Dialect}
-use Rattle.snesl_values.specs.Types.{Ty, bool}
+use Rattle.snesl_data.specs.declared.dialect.Dialect.{Dialect}
+use Rattle.snesl_data.specs.Types.{Ty, bool}
 use Rattle.snesl_tree.specs.declared.operator.Prefix.TheVariants.{Not}
 use Rattle.snesl_types.specs.Contexts.{Context, bound as bound_to}
 use Rattle.flow_messages.specs.declared.message.Kind.{Kind}

@@ -2,7 +2,7 @@
 use Rattle.std.specs.Prelude.{◌≡◌, ℕ, Bool, true, false, cond, List, [], ◌∷◌, ◌++◌, length, Some, refl}
 use Rattle.std.specs.Str.{bytes_eq}
 use Rattle.std.proofs.Common.{sym, subst}
-use Rattle.snesl_values.specs.Types.{Ty, seq}
+use Rattle.snesl_data.specs.Types.{Ty, seq}
 use Rattle.snesl_values.specs.Inputs.{Declaration}
 use Rattle.snesl_types.specs.Contexts.{open_to, Context, opened, found, inside}
 use Rattle.flow_messages.specs.declared.message.Kind.{Kind}

@@ -1,6 +1,6 @@
 -- Sequences: one behind another, joined, parted, and filtered.
 use Rattle.std.specs.Prelude.{ℕ, List, length, refl}
-use Rattle.snesl_values.specs.Types.{Ty, bool, pair, seq}
+use Rattle.snesl_data.specs.Types.{Ty, bool, pair, seq}
 use Rattle.snesl_types.specs.Contexts.{Context}
 use Rattle.flow_messages.specs.declared.message.Kind.{Kind}
 use Rattle.flow_messages.specs.declared.message.Kind.TheVariants.{Unit as UnitKind, Bool as BoolKind}

@@ -2,7 +2,7 @@
 use Rattle.std.specs.Prelude.{◌≡◌, ℕ, ◌+◌, List, [], ◌∷◌, ◌++◌, length, Some, refl}
 use Rattle.std.specs.List.{slice_get}
 use Rattle.std.proofs.Common.{sym, ap, ◌∙◌, subst, length-append, append-nil}
-use Rattle.snesl_values.specs.Types.{Ty, bool}
+use Rattle.snesl_data.specs.Types.{Ty, bool}
 use Rattle.flow_messages.specs.declared.message.Kind.{Kind}
 use Rattle.flow_values.specs.Shapes.{kinds_of}
 use Rattle.flow_plans.specs.Plans.{Operation, Step}

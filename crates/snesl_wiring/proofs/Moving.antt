@@ -1,7 +1,7 @@
 -- Values that are moved fit the types that they had.
 use Rattle.std.specs.Prelude.{◌≡◌, ℕ, true, List, length, refl}
 use Rattle.std.proofs.Common.{sym}
-use Rattle.snesl_values.specs.Types.{Ty, bool, is_concrete}
+use Rattle.snesl_data.specs.Types.{Ty, bool, is_concrete}
 use Rattle.flow_messages.specs.declared.message.Kind.{Kind}
 use Rattle.flow_messages.specs.declared.message.Kind.TheVariants.{Bool as BoolKind}
 use Rattle.flow_values.specs.laws.Kinds.{both_true}

@@ -1,7 +1,7 @@
 -- The plan of a typed program is wired.
 use Rattle.std.specs.Prelude.{◌≡◌, ℕ, zero, suc, List, [], ◌∷◌, ◌++◌, length, refl}
 use Rattle.std.proofs.Common.{sym, ap, ◌∙◌, subst, length-append, append_assoc, append-nil}
-use Rattle.snesl_values.specs.Types.{Ty}
+use Rattle.snesl_data.specs.Types.{Ty}
 use Rattle.snesl_values.specs.Inputs.{Declaration}
 use Rattle.snesl_tree.specs.Tree.{ProgramTree}
 use Rattle.snesl_types.specs.Contexts.{opened}

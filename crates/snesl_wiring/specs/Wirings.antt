@@ -1,6 +1,6 @@
 -- The plans of typed programs are wired: each step reads streams that there are, of the kinds of its ports.
 use Rattle.std.specs.Prelude.{◌≡◌, ℕ, List, []}
-use Rattle.snesl_values.specs.Types.{Ty}
+use Rattle.snesl_data.specs.Types.{Ty}
 use Rattle.snesl_tree.specs.Tree.{ProgramTree}
 use Rattle.snesl_types.specs.Programs.{Declared, ProgramTypes}
 use Rattle.flow_messages.specs.Cells.{Cell}

@@ -16,7 +16,7 @@ use flow_scalar::{Fork, Source, Stream};
 use flow_segment::Dist;
 use flow_values::{Index, Print as Printer, Seq, Tab};
 use inlets::{Inlet, flags, numbers, pairs, pairs_type, vector, vectors};
-use snesl_values::Ty;
+use snesl_data::Ty;
 
 // The place of each node in a program text.
 const AT: usize = 7;

@@ -1,7 +1,7 @@
 -- An operator on two scalars keeps to the laws of machines.
 use Rattle.std.specs.Prelude.{◌≡◌, zero, suc, List, [], ◌∷◌, map, Ok, refl, ◌↔◌}
 use Rattle.std.proofs.Common.{arith, sym, subst}
-use Rattle.snesl_values.specs.declared.dialect.Dialect.{Dialect}
+use Rattle.snesl_data.specs.declared.dialect.Dialect.{Dialect}
 use Rattle.snesl_operators.specs.Operators.{binary_operand, binary_result, binary_value}
 use Rattle.snesl_operators.specs.declared.scalar.Scalar.{Scalar}
 use Rattle.snesl_operators.specs.declared.operator.BinaryOperator.{BinaryOperator}

@@ -3,9 +3,9 @@ use Rattle.std.specs.Prelude.{◌≡◌, ◌≤◌, ℕ, zero, suc, ℤ, pos, ne
 use Rattle.std.proofs.Common.{arith, sym, ◌∙◌, ap, subst}
 use Rattle.std.proofs.lemmas.Bool.Decides.{nat_tests}
 use Rattle.std.proofs.lemmas.Int.{ints}
-use Rattle.snesl_values.specs.declared.dialect.Dialect.{Dialect}
-use Rattle.snesl_values.specs.declared.dialect.Dialect.TheVariants.{One, Two}
-use Rattle.snesl_values.specs.Integers.{greatest_integer, IsInteger}
+use Rattle.snesl_data.specs.declared.dialect.Dialect.{Dialect}
+use Rattle.snesl_data.specs.declared.dialect.Dialect.TheVariants.{One, Two}
+use Rattle.snesl_data.specs.Integers.{greatest_integer, IsInteger}
 use Rattle.flow_messages.specs.Cells.{Cell, flag, int}
 use Rattle.flow_base.specs.Flags.{F, T, elements, flags, joined}
 use Rattle.flow_base.specs.Columns.{Columns, push_column, rows_from}

@@ -5,9 +5,9 @@ use Rattle.std.proofs.Common.{arith, sym, ap, subst}
 use Rattle.std.proofs.Math.Path.{subst₂}
 use Rattle.std.proofs.lemmas.Bool.Decides.{nat_tests}
 use Rattle.std.proofs.lemmas.List.Elements.{All-nil, All-cons, All-head, All-tail}
-use Rattle.snesl_values.specs.declared.dialect.Dialect.{Dialect}
-use Rattle.snesl_values.specs.declared.fault.FaultKind.TheVariants.{Overflow}
-use Rattle.snesl_values.specs.Integers.{greatest_integer, is_integer, IsInteger}
+use Rattle.snesl_data.specs.declared.dialect.Dialect.{Dialect}
+use Rattle.snesl_data.specs.declared.fault.FaultKind.TheVariants.{Overflow}
+use Rattle.snesl_data.specs.Integers.{greatest_integer, is_integer, IsInteger}
 use Rattle.flow_messages.specs.Cells.{Cell, flag, int}
 use Rattle.flow_base.specs.Flags.{F, T, elements, flags}
 use Rattle.flow_base.specs.Columns.{Columns, columns, push_column, At}

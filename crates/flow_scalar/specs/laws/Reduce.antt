@@ -1,9 +1,9 @@
 -- The runs of Reduce are its row.
 use Rattle.std.specs.Prelude.{◌≡◌, ℕ, zero, suc, Bool, true, false, cond, List, [], ◌∷◌, ◌++◌, length, map, Option, Some, None, IfSome, Result, Ok, Err, IfOk, refl, ◌↔◌}
 use Rattle.std.proofs.Common.{arith, sym, ◌∙◌, ap, subst}
-use Rattle.snesl_values.specs.declared.dialect.Dialect.{Dialect}
-use Rattle.snesl_values.specs.declared.fault.FaultKind.{FaultKind}
-use Rattle.snesl_values.specs.declared.fault.FaultKind.TheVariants.{Shape}
+use Rattle.snesl_data.specs.declared.dialect.Dialect.{Dialect}
+use Rattle.snesl_data.specs.declared.fault.FaultKind.{FaultKind}
+use Rattle.snesl_data.specs.declared.fault.FaultKind.TheVariants.{Shape}
 use Rattle.snesl_operators.specs.Operators.{type_of, ScalarInRange}
 use Rattle.snesl_operators.specs.Reductions.{and_then, reduction_type, reduced_nothing, reduced_more, reduced_all, reduced_from}
 use Rattle.snesl_operators.proofs.ReductionLaws.{nothing_type, nothing_range, more_type, more_shape, more_range}

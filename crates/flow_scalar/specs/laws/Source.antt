@@ -4,7 +4,7 @@ use Rattle.std.specs.List.{slice_get}
 use Rattle.std.proofs.Common.{arith, sym, ◌∙◌, ap}
 use Rattle.std.proofs.Math.Path.{ap₂}
 use Rattle.std.proofs.lemmas.Option.{slice_get_within}
-use Rattle.snesl_values.specs.declared.dialect.Dialect.{Dialect}
+use Rattle.snesl_data.specs.declared.dialect.Dialect.{Dialect}
 use Rattle.flow_messages.specs.Cells.{Cell, is_of}
 use Rattle.flow_messages.specs.Signals.{Signal, carry, stop}
 use Rattle.flow_messages.specs.declared.message.Kind.{Kind}

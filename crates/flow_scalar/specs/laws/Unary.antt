@@ -1,7 +1,7 @@
 -- An operator on one scalar keeps to the laws of machines.
 use Rattle.std.specs.Prelude.{◌≡◌, zero, suc, List, [], ◌∷◌, Option, Some, None, Ok, refl, ◌↔◌}
 use Rattle.std.proofs.Common.{arith, sym, subst}
-use Rattle.snesl_values.specs.declared.dialect.Dialect.{Dialect}
+use Rattle.snesl_data.specs.declared.dialect.Dialect.{Dialect}
 use Rattle.snesl_operators.specs.Operators.{unary_operand, unary_value}
 use Rattle.snesl_operators.specs.declared.scalar.Scalar.{Scalar}
 use Rattle.snesl_operators.specs.declared.operator.UnaryOperator.{UnaryOperator}

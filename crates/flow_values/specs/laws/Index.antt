@@ -2,10 +2,10 @@
 use Rattle.std.specs.Prelude.{◌≡◌, ℕ, zero, suc, ◌<◌, ℤ, pos, negsuc, Bool, true, false, cond, List, [], ◌∷◌, Option, Some, None, map, Ok, Err, refl}
 use Rattle.std.specs.List.{slice_get}
 use Rattle.std.proofs.Common.{arith, sym, ◌∙◌, ap, subst}
-use Rattle.snesl_values.specs.declared.dialect.Dialect.{Dialect}
-use Rattle.snesl_values.specs.declared.fault.FaultKind.TheVariants.{Shape}
-use Rattle.snesl_values.specs.Types.{Ty}
-use Rattle.snesl_values.specs.Values.{Value, Values, a_vec, no_values, more_values, list_of}
+use Rattle.snesl_data.specs.declared.dialect.Dialect.{Dialect}
+use Rattle.snesl_data.specs.declared.fault.FaultKind.TheVariants.{Shape}
+use Rattle.snesl_data.specs.Types.{Ty}
+use Rattle.snesl_data.specs.Values.{Value, Values, a_vec, no_values, more_values, list_of}
 use Rattle.flow_messages.specs.Cells.{Cell, unit, flag, int, datum, is_of}
 use Rattle.flow_messages.specs.declared.message.Kind.TheVariants.{Vec as VecKind}
 use Rattle.flow_base.specs.Lists.{Lists}

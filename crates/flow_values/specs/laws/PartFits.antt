@@ -4,8 +4,8 @@ use Rattle.std.specs.List.{slice_get}
 use Rattle.std.proofs.Common.{inl, inr, arith, sym, ◌∙◌, ap}
 use Rattle.std.proofs.lemmas.Bool.{cases_lt}
 use Rattle.std.proofs.lemmas.Bool.Decides.{nat_tests}
-use Rattle.snesl_values.specs.Types.{Ty, int, bool, pair, vec, seq, is_concrete}
-use Rattle.snesl_values.specs.Values.{Value, an_int, a_bool, a_pair, a_vec}
+use Rattle.snesl_data.specs.Types.{Ty, int, bool, pair, vec, seq, is_concrete}
+use Rattle.snesl_data.specs.Values.{Value, an_int, a_bool, a_pair, a_vec}
 use Rattle.flow_messages.specs.Cells.{Cell, flag, int as int_cell, datum, is_of}
 use Rattle.flow_values.specs.Shapes.{is_a, kinds_of, kind_at}
 use Rattle.flow_values.specs.Flats.{width}

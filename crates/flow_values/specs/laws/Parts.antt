@@ -2,8 +2,8 @@
 use Rattle.std.specs.Prelude.{◌≡◌, ℕ, suc, ◌+◌, Bool, true, false, List, [], ◌∷◌, ◌++◌, Some, None, cond, length, refl}
 use Rattle.std.proofs.Common.{arith, sym, ◌∙◌, ap, append_assoc, length-append}
 use Rattle.std.proofs.Math.Path.{ap₂}
-use Rattle.snesl_values.specs.Types.{Ty, int, bool, pair, vec, seq, is_concrete}
-use Rattle.snesl_values.specs.Values.{Value, an_int, a_bool, a_pair, a_vec}
+use Rattle.snesl_data.specs.Types.{Ty, int, bool, pair, vec, seq, is_concrete}
+use Rattle.snesl_data.specs.Values.{Value, an_int, a_bool, a_pair, a_vec}
 use Rattle.flow_messages.specs.Cells.{Cell, flag, int as int_cell, datum}
 use Rattle.flow_base.specs.Lists.{Lists}
 use Rattle.flow_values.specs.Shapes.{is_a, kinds_of, cell_for, first_of, second_of}

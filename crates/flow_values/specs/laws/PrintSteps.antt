@@ -1,9 +1,9 @@
 -- What is still to be read of a value, and what an item in front of it leaves.
 use Rattle.std.specs.Prelude.{◌≡◌, ℕ, suc, ◌+◌, Bool, true, false, List, [], ◌∷◌, ◌++◌, Option, Some, None, cond, codes, length, refl, ◌↔◌}
 use Rattle.std.proofs.Common.{arith, sym, ◌∙◌, ap, subst, append_assoc, append-nil}
-use Rattle.snesl_values.specs.Types.{Ty, int, bool, pair, vec, seq}
-use Rattle.snesl_values.specs.Values.{Value, Values, an_int, a_bool, a_pair, a_vec, a_seq, no_values, more_values, list_of}
-use Rattle.snesl_values.specs.Text.{text, further_text}
+use Rattle.snesl_data.specs.Types.{Ty, int, bool, pair, vec, seq}
+use Rattle.snesl_data.specs.Values.{Value, Values, an_int, a_bool, a_pair, a_vec, a_seq, no_values, more_values, list_of}
+use Rattle.snesl_data.specs.Text.{text, further_text}
 use Rattle.flow_messages.specs.Cells.{Cell, flag, int as int_cell, datum}
 use Rattle.flow_base.specs.Lists.{Lists, push}
 use Rattle.flow_base.specs.Flags.{F, T, elements}

@@ -1,10 +1,10 @@
 -- What Seq keeps to: its table, and its row as the runs of the table.
 use Rattle.std.specs.Prelude.{◌≡◌, suc, Bool, true, false, cond, List, [], ◌∷◌, map, Ok, Err, refl}
 use Rattle.std.proofs.Common.{arith, sym, ap, subst}
-use Rattle.snesl_values.specs.declared.dialect.Dialect.{Dialect}
-use Rattle.snesl_values.specs.declared.fault.FaultKind.TheVariants.{Shape}
-use Rattle.snesl_values.specs.Types.{Ty, vec, seq}
-use Rattle.snesl_values.specs.Values.{Value, Values, a_vec, values_of}
+use Rattle.snesl_data.specs.declared.dialect.Dialect.{Dialect}
+use Rattle.snesl_data.specs.declared.fault.FaultKind.TheVariants.{Shape}
+use Rattle.snesl_data.specs.Types.{Ty, vec, seq}
+use Rattle.snesl_data.specs.Values.{Value, Values, a_vec, values_of}
 use Rattle.flow_messages.specs.Cells.{Cell, unit, flag, int, datum, is_of}
 use Rattle.flow_messages.specs.declared.message.Kind.TheVariants.{Vec as VecKind}
 use Rattle.flow_base.specs.Lists.{Lists}

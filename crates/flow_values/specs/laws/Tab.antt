@@ -2,11 +2,11 @@
 use Rattle.std.specs.Prelude.{◌≡◌, ℕ, zero, suc, ◌+◌, ◌<◌, Bool, true, false, List, [], ◌∷◌, ◌++◌, Some, None, cond, nat_lt, length, map, Result, Ok, Err, refl}
 use Rattle.std.proofs.Common.{arith, sym, ◌∙◌, ap, subst, append_assoc, append-nil, length-append}
 use Rattle.std.proofs.lemmas.Bool.Decides.{nat_tests}
-use Rattle.snesl_values.specs.declared.dialect.Dialect.{Dialect}
-use Rattle.snesl_values.specs.declared.fault.FaultKind.{FaultKind}
-use Rattle.snesl_values.specs.declared.fault.FaultKind.TheVariants.{Shape}
-use Rattle.snesl_values.specs.Types.{Ty, int, bool, pair, vec, seq, is_concrete}
-use Rattle.snesl_values.specs.Values.{Value, Values, an_int, a_bool, a_pair, a_vec, a_seq, no_values, more_values, list_of, values_of}
+use Rattle.snesl_data.specs.declared.dialect.Dialect.{Dialect}
+use Rattle.snesl_data.specs.declared.fault.FaultKind.{FaultKind}
+use Rattle.snesl_data.specs.declared.fault.FaultKind.TheVariants.{Shape}
+use Rattle.snesl_data.specs.Types.{Ty, int, bool, pair, vec, seq, is_concrete}
+use Rattle.snesl_data.specs.Values.{Value, Values, an_int, a_bool, a_pair, a_vec, a_seq, no_values, more_values, list_of, values_of}
 use Rattle.flow_messages.specs.Cells.{Cell, flag, datum, is_of}
 use Rattle.flow_base.specs.Lists.{Lists, push}
 use Rattle.flow_base.specs.Flags.{F, T}

@@ -2,9 +2,10 @@
 
 use anyhow::Result;
 use snesl_console::split_job;
+use snesl_data::{Counted, Datum, Fault, Refusal, text_of};
 use snesl_syntax::parse;
 use snesl_types::{check, plain};
-use snesl_values::{Counted, Datum, Fault, Refusal, read_inputs, text_of};
+use snesl_values::read_inputs;
 use std::alloc::Global;
 use std::io::{self, Write};
 

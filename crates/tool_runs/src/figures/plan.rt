@@ -9,8 +9,8 @@ use flow_graph::{Edge, Graph, GraphBuilder};
 use flow_messages::Kind;
 use flow_nodes::StreamNode;
 use flow_scalar::{Binary, Const, Fork, Iota, Reduce, Sink, Source, Stream, UnitsOf};
+use snesl_data::Dialect;
 use snesl_operators::{BinaryOperator, Reduction, Scalar};
-use snesl_values::Dialect;
 use std::alloc::Global;
 use std::io::{self, Error, ErrorKind};
 

@@ -1,9 +1,9 @@
 // The jobs of tables, answered over memory.
 
 use crate::jobs::Trial;
+use snesl_data::Counted;
 use snesl_run::answer;
 use snesl_tables::{Row, SpellingError, spelled};
-use snesl_values::Counted;
 use std::alloc::{AllocError, Global};
 use std::fmt;
 use std::thread::Threads;

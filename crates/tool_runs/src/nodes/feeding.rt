@@ -4,7 +4,7 @@ use crate::nodes::inlets::Inlet;
 use flow_base::{Printing, Transducer};
 use flow_messages::{Item, Msg};
 use kahn::Want;
-use snesl_values::text_of;
+use snesl_data::text_of;
 use std::alloc::{AllocError, Global};
 use std::fmt;
 

@@ -1,7 +1,7 @@
 // What comes in at the inputs of nodes.
 
 use flow_messages::{Item, Msg};
-use snesl_values::{Datum, Ty};
+use snesl_data::{Datum, Ty};
 use std::alloc::{AllocError, Global};
 
 /// The messages that come in at an input, the next as the first that was not read.

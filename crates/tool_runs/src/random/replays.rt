@@ -12,12 +12,13 @@ use flow_graph::{Edge, Graph, Settled, settle};
 use flow_nodes::StreamNode;
 use kahn::Want;
 use kahn::faults::named;
+use snesl_data::{Fault, Refusal};
 use snesl_dice::Dice;
 use snesl_flatten::flatten;
 use snesl_syntax::parse;
 use snesl_trials::Done;
 use snesl_types::check;
-use snesl_values::{Fault, Refusal, read_inputs};
+use snesl_values::read_inputs;
 use std::alloc::{AllocError, Global};
 use std::fmt;
 

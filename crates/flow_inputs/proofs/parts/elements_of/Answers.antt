@@ -1,6 +1,6 @@
 use Rattle.std.proofs.Common.{map, sym, ap, ◌∙◌}
-use Rattle.snesl_values.specs.Values.{value_of}
-use Rattle.snesl_values.proofs.Data.{value_of-Vec, value_of-Seq, list_values}
+use Rattle.snesl_data.specs.Values.{value_of}
+use Rattle.snesl_data.proofs.Data.{value_of-Vec, value_of-Seq, list_values}
 use Rattle.flow_values.specs.Shapes.{elements_of}
 use Rattle.flow_inputs.proofs.parts.elements_of.Goals as goal
 

@@ -1,6 +1,6 @@
 use Rattle.std.specs.Borrow.{Bor}
-use Rattle.snesl_values.specs.declared.datum.Datum.{Datum}
-use Rattle.snesl_values.specs.Values.{value_of}
+use Rattle.snesl_data.specs.declared.datum.Datum.{Datum}
+use Rattle.snesl_data.specs.Values.{value_of}
 use Rattle.flow_values.specs.Shapes.{second_of}
 use Rattle.flow_inputs.proofs.Loops.{one_more, all_seen, none_given}
 use Rattle.flow_inputs.proofs.parts.seconds.Goals as goal

@@ -1,7 +1,7 @@
 use Rattle.std.proofs.Common.{◌≡◌, ◌++◌, ◌∷◌, [], true, map, OnOk, sym, ap, ◌∙◌, subst, arith, append_assoc}
 use Rattle.std.proofs.Math.Path.{ap₂}
-use Rattle.snesl_values.specs.Types.{ty_of, pair, vec, seq}
-use Rattle.snesl_values.specs.Values.{values_of}
+use Rattle.snesl_data.specs.Types.{ty_of, pair, vec, seq}
+use Rattle.snesl_data.specs.Values.{values_of}
 use Rattle.flow_base.specs.Flags.{flags, joined, lengths}
 use Rattle.flow_scalar.specs.Streams.{stream_cells}
 use Rattle.flow_values.specs.Shapes.{all_are, elements_of, first_of, second_of}

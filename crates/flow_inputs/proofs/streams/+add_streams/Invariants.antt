@@ -1,4 +1,4 @@
-use Rattle.snesl_values.specs.Types.{ty_of}
+use Rattle.snesl_data.specs.Types.{ty_of}
 use Rattle.flow_values.specs.Flats.{width}
 use Rattle.flow_inputs.proofs.streams.+add_streams.Given as goal
 

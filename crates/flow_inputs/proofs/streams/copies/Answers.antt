@@ -1,6 +1,6 @@
 use Rattle.std.proofs.Common.{ap}
-use Rattle.snesl_values.specs.declared.datum.Datum.{Datum}
-use Rattle.snesl_values.specs.Values.{value_of}
+use Rattle.snesl_data.specs.declared.datum.Datum.{Datum}
+use Rattle.snesl_data.specs.Values.{value_of}
 use Rattle.flow_messages.specs.Cells.{datum}
 use Rattle.flow_inputs.proofs.Loops.{one_more, all_seen, none_given}
 use Rattle.flow_inputs.proofs.streams.copies.Goals as goal

@@ -1,5 +1,5 @@
 use Rattle.std.proofs.Common.{◌≡◌, map, take}
-use Rattle.snesl_values.specs.Values.{value_of}
+use Rattle.snesl_data.specs.Values.{value_of}
 use Rattle.flow_messages.specs.Cells.{datum}
 use Rattle.flow_inputs.specs.Data.{values_at}
 use Rattle.flow_inputs.proofs.streams.copies.Given as goal

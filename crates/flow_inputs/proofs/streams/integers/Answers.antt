@@ -1,4 +1,4 @@
-use Rattle.snesl_values.specs.Types.{int}
+use Rattle.snesl_data.specs.Types.{int}
 use Rattle.flow_inputs.proofs.Members.{member_is}
 use Rattle.std.proofs.Common.{◌≡◌, ◌++◌, ◌∷◌, [], ap, ◌∙◌, rules}
 use mir.Val.{to_z, of_z}

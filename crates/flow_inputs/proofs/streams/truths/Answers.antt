@@ -1,4 +1,4 @@
-use Rattle.snesl_values.specs.Types.{bool}
+use Rattle.snesl_data.specs.Types.{bool}
 use Rattle.flow_inputs.proofs.Members.{member_is}
 use Rattle.flow_messages.specs.Cells.{flag}
 use Rattle.flow_values.specs.Shapes.{cell_for}

@@ -1,8 +1,8 @@
 use Rattle.std.proofs.Common.{◌≡◌, ◌+◌, ◌++◌, ◌&&◌, true, map, OnOk, sym, ap, ◌∙◌, subst, arith, length-append}
 use Rattle.std.proofs.Math.Path.{ap₂}
-use Rattle.snesl_values.specs.Types.{ty_of, pair, seq}
-use Rattle.snesl_values.specs.Values.{value_of, values_of}
-use Rattle.snesl_values.proofs.Data.{value_of-Seq}
+use Rattle.snesl_data.specs.Types.{ty_of, pair, seq}
+use Rattle.snesl_data.specs.Values.{value_of, values_of}
+use Rattle.snesl_data.proofs.Data.{value_of-Seq}
 use Rattle.flow_values.specs.Shapes.{is_a, all_are, kinds_of}
 use Rattle.flow_values.specs.Flats.{width}
 use Rattle.flow_values.specs.laws.Kinds.{both_true}

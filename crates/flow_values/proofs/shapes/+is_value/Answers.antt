@@ -1,8 +1,8 @@
 use Rattle.std.proofs.Common.{map, sym, ap, ◌∙◌}
 use Rattle.std.proofs.Math.Path.{ap₂}
-use Rattle.snesl_values.specs.Types.{ty_of, vec, seq}
-use Rattle.snesl_values.specs.Values.{value_of, values_of}
-use Rattle.snesl_values.proofs.Data.{value_of-Seq, value_of-Vec}
+use Rattle.snesl_data.specs.Types.{ty_of, vec, seq}
+use Rattle.snesl_data.specs.Values.{value_of, values_of}
+use Rattle.snesl_data.proofs.Data.{value_of-Seq, value_of-Vec}
 use Rattle.flow_values.specs.Shapes.{is_a, all_are}
 use Rattle.flow_values.proofs.Members.{one_is_not, one_more_is}
 use Rattle.flow_values.proofs.shapes.+is_value.Goals as goal

@@ -1,6 +1,6 @@
 use Rattle.std.proofs.Common.{◌≡◌, map, take, true}
-use Rattle.snesl_values.specs.Types.{ty_of}
-use Rattle.snesl_values.specs.Values.{value_of, values_of}
+use Rattle.snesl_data.specs.Types.{ty_of}
+use Rattle.snesl_data.specs.Values.{value_of, values_of}
 use Rattle.flow_values.specs.Shapes.{all_are}
 use Rattle.flow_values.proofs.shapes.+is_value.Given as goal
 

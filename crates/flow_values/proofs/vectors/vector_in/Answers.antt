@@ -1,7 +1,7 @@
 use Rattle.std.proofs.Common.{◌≡◌, ◌∙◌, false, sym, ap, map}
-use Rattle.snesl_values.specs.Types.{ty_of}
-use Rattle.snesl_values.specs.Values.{value_of, values_of, a_vec}
-use Rattle.snesl_values.proofs.Data.{value_of-Vec}
+use Rattle.snesl_data.specs.Types.{ty_of}
+use Rattle.snesl_data.specs.Values.{value_of, values_of, a_vec}
+use Rattle.snesl_data.proofs.Data.{value_of-Vec}
 use Rattle.flow_messages.specs.Cells.{cell_of, datum}
 use Rattle.flow_values.specs.Shapes.{all_are}
 use Rattle.flow_values.proofs.VectorSteps.{same_vector}

@@ -1,7 +1,7 @@
 use Rattle.snesl_console.proofs.job.split_by_pieces.Given as goal
 use Rattle.snesl_console.specs.Beginnings.{IsScanned}
 use Rattle.snesl_console.specs.Parts.{AreNeeded}
-use Rattle.snesl_values.specs.Counted.{counted_inner, failures_of}
+use Rattle.snesl_data.specs.Counted.{counted_inner, failures_of}
 use Rattle.std.proofs.Common.{length, ◌-◌, ◌≡◌, ◌≤◌}
 use Rattle.std.specs.Io.KnownBytes.{Consumes}
 

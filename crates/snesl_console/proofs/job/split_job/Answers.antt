@@ -3,7 +3,7 @@ use Rattle.snesl_console.proofs.Splits.{memory_refused}
 use Rattle.snesl_console.proofs.Streaming.{consumes_none}
 use Rattle.snesl_console.proofs.job.split_job.Goals as goal
 use Rattle.snesl_console.specs.Streams.{given}
-use Rattle.snesl_values.specs.Counted.{counted_inner}
+use Rattle.snesl_data.specs.Counted.{counted_inner}
 use Rattle.std.proofs.Common.{[], refl}
 
 pub returns-in_err-piece : goal.returns-in_err-piece

@@ -1,5 +1,5 @@
 use Rattle.snesl_console.proofs.reading.read_input.Given as goal
-use Rattle.snesl_values.specs.Counted.{counted_inner, failures_of}
+use Rattle.snesl_data.specs.Counted.{counted_inner, failures_of}
 use Rattle.std.proofs.Common.{List, length, ◌++◌, ◌-◌, ◌≡◌, ◌≤◌, ℕ}
 use Rattle.std.specs.Io.KnownBytes.{Consumes}
 

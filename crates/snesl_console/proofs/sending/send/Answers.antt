@@ -1,5 +1,5 @@
 use Rattle.std.proofs.Common.{◌++◌, ◌∙◌, take, length}
-use Rattle.snesl_values.specs.Counted.{counted_inner, failures_of}
+use Rattle.snesl_data.specs.Counted.{counted_inner, failures_of}
 use Rattle.snesl_console.proofs.Streaming.{appends_more, moved_on, not_counted}
 use Rattle.snesl_console.proofs.sending.send.Goals as goal
 

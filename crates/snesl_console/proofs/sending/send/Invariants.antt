@@ -1,6 +1,6 @@
 use Rattle.std.proofs.Common.{◌≡◌, ℕ, List, ◌++◌, length}
 use Rattle.std.specs.Io.KnownBytes.{Appends}
-use Rattle.snesl_values.specs.Counted.{counted_inner, failures_of}
+use Rattle.snesl_data.specs.Counted.{counted_inner, failures_of}
 use Rattle.snesl_console.proofs.sending.send.Given as goal
 
 abbrev pub invariant-loop-rest : goal.invariant-loop-rest

@@ -1,7 +1,7 @@
 use Rattle.std.proofs.Common.{◌≡◌, ◌+◌, ◌∷◌, ◌++◌, if◌then◌else◌, map, drop, zip, Option, option_map, option_to_list, Err, Vec, Global, sym, ap, ◌∙◌, subst, arith}
-use Rattle.snesl_values.specs.declared.datum.Datum.{Datum}
+use Rattle.snesl_data.specs.declared.datum.Datum.{Datum}
 use Rattle.snesl_values.specs.Inputs.{Environment}
-use Rattle.snesl_values.specs.Values.{a_pair, value_of}
+use Rattle.snesl_data.specs.Values.{a_pair, value_of}
 use Rattle.snesl_tree.specs.Spelling.{spelling}
 use Rattle.snesl_tree.specs.View.{tree_of, trees_of, binders_of, declaration_of}
 use Rattle.snesl_tree.specs.declared.expr.Expr.{Expr, Each}

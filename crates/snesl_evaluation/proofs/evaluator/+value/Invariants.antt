@@ -3,7 +3,7 @@ use Rattle.std.proofs.Common.{ℕ, List}
 use denote.Param.Weighed
 use Rattle.snesl_tree.proofs.expr.Binder.TheLaws
 use Rattle.snesl_tree.specs.declared.expr.Binder.{Binder}
-use Rattle.snesl_values.specs.Values.{value_of}
+use Rattle.snesl_data.specs.Values.{value_of}
 use Rattle.snesl_tree.specs.declared.expr.Expr.{size-Expr}
 use Rattle.snesl_tree.specs.View.{tree_of, trees_of, binders_of}
 use Rattle.snesl_evaluation.specs.Answer.{go, gives}

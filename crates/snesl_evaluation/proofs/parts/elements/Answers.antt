@@ -1,5 +1,5 @@
 use Rattle.std.proofs.Common.{map, sym, ap, ◌∙◌}
-use Rattle.snesl_values.specs.Values.{value_of}
+use Rattle.snesl_data.specs.Values.{value_of}
 use Rattle.snesl_evaluation.specs.Answer.{gives}
 use Rattle.snesl_evaluation.specs.Builtins.{elements_at}
 use Rattle.snesl_evaluation.proofs.Data.{elements_at-Vec}

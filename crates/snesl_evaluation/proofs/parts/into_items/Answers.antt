@@ -1,5 +1,5 @@
 use Rattle.std.proofs.Common.{ap, ◌∙◌}
-use Rattle.snesl_values.specs.Values.{value_of}
+use Rattle.snesl_data.specs.Values.{value_of}
 use Rattle.snesl_evaluation.specs.Builtins.{items_at}
 use Rattle.snesl_evaluation.proofs.Data.{items_at-Seq}
 use Rattle.snesl_evaluation.proofs.parts.into_items.Goals as goal

@@ -1,4 +1,4 @@
-use Rattle.snesl_values.proofs.Data.{value_of-Vec}
+use Rattle.snesl_data.proofs.Data.{value_of-Vec}
 use Rattle.snesl_evaluation.proofs.parts.vector_of.Goals as goal
 
 pub returns : goal.returns

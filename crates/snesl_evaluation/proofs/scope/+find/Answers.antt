@@ -1,7 +1,7 @@
 use Rattle.std.proofs.Common.{option_map, map, Bor, sym, ap, ◌∙◌}
-use Rattle.snesl_values.specs.declared.datum.Datum.{Datum}
+use Rattle.snesl_data.specs.declared.datum.Datum.{Datum}
 use Rattle.snesl_values.specs.Inputs.{value_in}
-use Rattle.snesl_values.specs.Values.{value_of}
+use Rattle.snesl_data.specs.Values.{value_of}
 use Rattle.snesl_evaluation.specs.Scopes.{column_of, environment_in, row_at}
 use Rattle.snesl_evaluation.proofs.Rows.{value_in-some, value_in-none}
 use Rattle.snesl_evaluation.proofs.scope.+find.Goals as goal

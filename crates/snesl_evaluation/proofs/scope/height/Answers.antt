@@ -1,5 +1,5 @@
 use Rattle.std.proofs.Common.{ℕ, Err, map, if◌then◌else◌, sym, ap, ◌∙◌, subst}
-use Rattle.snesl_values.specs.declared.fault.FaultKind.TheVariants.{Length}
+use Rattle.snesl_data.specs.declared.fault.FaultKind.TheVariants.{Length}
 use Rattle.snesl_evaluation.specs.Answer.{gives, faults}
 use Rattle.snesl_evaluation.specs.Eval.{rows_of, in_step}
 use Rattle.snesl_evaluation.specs.Results.{Answers}

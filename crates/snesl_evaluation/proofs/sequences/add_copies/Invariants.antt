@@ -1,5 +1,5 @@
 use Rattle.std.proofs.Common.{◌≡◌, map, take, ◌++◌}
-use Rattle.snesl_values.specs.Values.{value_of}
+use Rattle.snesl_data.specs.Values.{value_of}
 use Rattle.snesl_evaluation.proofs.sequences.add_copies.Given as goal
 
 abbrev pub invariant-loop-datum : goal.invariant-loop-datum

@@ -3,7 +3,7 @@ use Rattle.std.proofs.lemmas.Int.{ints as signed}
 use Rattle.std.proofs.lemmas.List.FromFn.{map-range_with_len_more}
 use mir.Val.{to_z}
 use mir.Syntax.{w128}
-use Rattle.snesl_values.specs.Values.{an_int, value_of}
+use Rattle.snesl_data.specs.Values.{an_int, value_of}
 use Rattle.snesl_evaluation.proofs.sequences.count_up.Goals as goal
 
 pub loop-i-preserved : goal.loop-i-preserved

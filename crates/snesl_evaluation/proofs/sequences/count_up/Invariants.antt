@@ -1,5 +1,5 @@
 use Rattle.std.proofs.Common.{◌≡◌, map}
-use Rattle.snesl_values.specs.Values.{value_of}
+use Rattle.snesl_data.specs.Values.{value_of}
 use Rattle.snesl_evaluation.specs.Builtins.{numbers_below}
 use Rattle.snesl_evaluation.proofs.sequences.count_up.Given as goal
 

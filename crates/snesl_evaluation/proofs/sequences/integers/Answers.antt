@@ -1,7 +1,7 @@
 use Rattle.std.proofs.Common.{◌≡◌, ◌+◌, ◌∷◌, ◌++◌, [], ℤ, map, drop, Vec, Global, sym, ap, ◌∙◌, arith, rules}
 use mir.Val.{to_z, of_z}
 use mir.Syntax.{w128}
-use Rattle.snesl_values.specs.Values.{value_of}
+use Rattle.snesl_data.specs.Values.{value_of}
 use Rattle.snesl_evaluation.specs.Answer.{go_all}
 use Rattle.snesl_evaluation.specs.Builtins.{int_at}
 use Rattle.snesl_evaluation.proofs.Passed.{halt_passes}

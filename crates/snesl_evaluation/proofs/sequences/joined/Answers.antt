@@ -1,6 +1,6 @@
 use Rattle.std.proofs.Common.{◌+◌, List, Bor, map, drop, Vec, Global, sym, ap, ◌∙◌, arith}
-use Rattle.snesl_values.specs.declared.datum.Datum.{Datum}
-use Rattle.snesl_values.specs.Values.{value_of}
+use Rattle.snesl_data.specs.declared.datum.Datum.{Datum}
+use Rattle.snesl_data.specs.Values.{value_of}
 use Rattle.snesl_evaluation.specs.Answer.{go_join}
 use Rattle.snesl_evaluation.specs.Builtins.{items_at}
 use Rattle.snesl_evaluation.proofs.Passed.{halt_passes}

@@ -1,8 +1,8 @@
 use Rattle.std.proofs.Common.{rules, ◌≡◌, ◌≢◌, ◌<◌, ◌≤◌, ◌+◌, ◌∷◌, ◌++◌, [], ℕ, suc, true, false, map, drop, length, get_or, slice_get, Err, Vec, Global, drop-cons, sym, ap, ◌∙◌, subst, arith}
 use Rattle.std.proofs.lemmas.List.{length-map}
-use Rattle.snesl_values.specs.declared.datum.Datum.{Datum}
-use Rattle.snesl_values.specs.declared.fault.FaultKind.TheVariants.{Part}
-use Rattle.snesl_values.specs.Values.{value_of}
+use Rattle.snesl_data.specs.declared.datum.Datum.{Datum}
+use Rattle.snesl_data.specs.declared.fault.FaultKind.TheVariants.{Part}
+use Rattle.snesl_data.specs.Values.{value_of}
 use Rattle.snesl_evaluation.specs.Answer.{go, gives, or_fault}
 use Rattle.snesl_evaluation.specs.Builtins.{parts_answer, sequence}
 use Rattle.snesl_evaluation.specs.Results.{Answers}

@@ -1,5 +1,5 @@
 use Rattle.std.proofs.Common.{◌≡◌, map, drop}
-use Rattle.snesl_values.specs.Values.{value_of}
+use Rattle.snesl_data.specs.Values.{value_of}
 use Rattle.snesl_evaluation.specs.Answer.{go, gives}
 use Rattle.snesl_evaluation.specs.Builtins.{parts_answer, sequence}
 use Rattle.snesl_evaluation.proofs.Begun.{behind}

@@ -1,6 +1,6 @@
 use Rattle.std.proofs.Common.{◌+◌, map, drop, Vec, Global, sym, ap, ◌∙◌, arith}
 use Rattle.snesl_operators.specs.declared.scalar.Scalar.{Scalar}
-use Rattle.snesl_values.specs.Values.{value_of}
+use Rattle.snesl_data.specs.Values.{value_of}
 use Rattle.snesl_evaluation.specs.Answer.{go_all}
 use Rattle.snesl_evaluation.specs.Builtins.{scalar_at}
 use Rattle.snesl_evaluation.proofs.Passed.{halt_passes}

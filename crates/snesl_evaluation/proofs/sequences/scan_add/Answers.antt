@@ -2,8 +2,8 @@ use Rattle.std.proofs.Common.{rules, ◌≡◌, ◌≢◌, ◌+◌, ◌+ℤ◌, 
 use Rattle.std.proofs.lemmas.Bool.{eqb-false}
 use mir.Val.{to_z, of_z}
 use mir.Syntax.{w128}
-use Rattle.snesl_values.specs.declared.datum.Datum.{Datum}
-use Rattle.snesl_values.specs.Values.{an_int, value_of}
+use Rattle.snesl_data.specs.declared.datum.Datum.{Datum}
+use Rattle.snesl_data.specs.Values.{an_int, value_of}
 use Rattle.snesl_operators.specs.Operators.{ranged}
 use Rattle.snesl_operators.specs.Reductions.{scanned, scanned_from}
 use Rattle.snesl_evaluation.specs.Answer.{answer_at, gives, go}

@@ -1,5 +1,5 @@
 use Rattle.std.proofs.Common.{◌+◌, Bool, map, drop, Vec, Global, sym, ap, ◌∙◌, arith}
-use Rattle.snesl_values.specs.Values.{value_of}
+use Rattle.snesl_data.specs.Values.{value_of}
 use Rattle.snesl_evaluation.specs.Answer.{go_all}
 use Rattle.snesl_evaluation.specs.Builtins.{truth_at}
 use Rattle.snesl_evaluation.proofs.Passed.{halt_passes}

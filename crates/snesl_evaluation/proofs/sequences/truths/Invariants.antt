@@ -1,5 +1,5 @@
 use Rattle.std.proofs.Common.{◌≡◌, map, drop, ◌++◌}
-use Rattle.snesl_values.specs.Values.{value_of}
+use Rattle.snesl_data.specs.Values.{value_of}
 use Rattle.snesl_evaluation.specs.Answer.{go, go_all, gives}
 use Rattle.snesl_evaluation.specs.Builtins.{truth_at}
 use Rattle.snesl_evaluation.proofs.sequences.truths.Given as goal

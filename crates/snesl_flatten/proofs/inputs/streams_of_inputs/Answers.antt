@@ -1,7 +1,7 @@
 use Rattle.std.proofs.Common.{◌≡◌, ◌+◌, suc, take, map, sym, subst, ◌∙◌, ap, arith}
 use Rattle.std.proofs.lemmas.List.{length-map}
 use Rattle.std.specs.Option.{option_map}
-use Rattle.snesl_values.specs.Values.{value_of}
+use Rattle.snesl_data.specs.Values.{value_of}
 use Rattle.snesl_values.specs.Inputs.{Fits, declared, declaration_of, dialect_of, environment_of}
 use Rattle.flow_scalar.specs.Streams.{stream_cells, stream_kind}
 use Rattle.snesl_translation.specs.Programs.{columns_of}

@@ -1,7 +1,7 @@
 use Rattle.std.proofs.Common.{◌≡◌, ◌≤◌, drop, IsTrue}
 use Rattle.std.specs.List.{AllByRecursion}
 use Rattle.std.specs.Char.{is_ascii_digit}
-use Rattle.snesl_values.specs.Characters.{value_from}
+use Rattle.snesl_data.specs.Characters.{value_from}
 use Rattle.snesl_lexer.proofs.lexer.number.Given as goal
 
 abbrev pub invariant-loop-c : goal.invariant-loop-c

@@ -1,6 +1,6 @@
 use Rattle.std.proofs.Common.{◌≡◌, ◌∷◌, [], Err, ap, ◌∙◌, subst}
 use Rattle.std.proofs.Math.Path.{ap₂}
-use Rattle.snesl_values.specs.Types.{ty_of, bool, pair}
+use Rattle.snesl_data.specs.Types.{ty_of, bool, pair}
 use Rattle.flow_plans.specs.Plans.{part_flags}
 use Rattle.snesl_translation.specs.Wires.{segments, stream_of, first_wires, second_wires, item_wires}
 use Rattle.snesl_translation.specs.Makings.{stepped}

@@ -1,6 +1,6 @@
 use Rattle.std.proofs.Common.{◌≡◌, ℕ, [], ◌∷◌, Ok, refl, sym, ap, subst, ◌∙◌}
 use Rattle.flow_plans.specs.Plans.{concat_flags, interleave_groups}
-use Rattle.snesl_values.specs.Types.{bool}
+use Rattle.snesl_data.specs.Types.{bool}
 use Rattle.snesl_translation.specs.Makings.{Making, done, and_then}
 use Rattle.snesl_translation.specs.Moving.{flags_stepped, mixed}
 use Rattle.snesl_translation.specs.Wires.{Wires as WiresOf, first_wires, item_wires, second_wires, segments, stream_of, two, wire}

@@ -1,5 +1,5 @@
 use Rattle.std.proofs.Common.{Ok, Err}
-use Rattle.snesl_values.specs.Types.{bool}
+use Rattle.snesl_data.specs.Types.{bool}
 use Rattle.snesl_translation.specs.Wires.{wire, segments}
 use Rattle.snesl_steps.specs.Views.{wires_of}
 use Rattle.snesl_steps.proofs.Adding.{made_then, then_done, refused_first, exits, exits_first}

@@ -1,5 +1,5 @@
 use Rattle.std.proofs.Common.{ap, ◌∙◌}
-use Rattle.snesl_values.specs.Types.{bool}
+use Rattle.snesl_data.specs.Types.{bool}
 use Rattle.snesl_translation.specs.Wires.{wire, segments, stream_of, item_wires}
 use Rattle.snesl_steps.specs.Views.{wires_of}
 use Rattle.snesl_steps.proofs.Adding.{exits_first, then_done}

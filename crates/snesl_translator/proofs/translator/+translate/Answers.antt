@@ -1,8 +1,8 @@
 use Rattle.std.proofs.Common.{◌≡◌, ℕ, true, List, [], ◌∷◌, ◌++◌, map, Ok, Err, Vec, Global, arith, sym, ap, subst, ◌∙◌}
 use denote.Param.Weighed.{at_most, most}
 use Rattle.flow_plans.specs.Plans.{const, the_check}
-use Rattle.snesl_values.specs.declared.dialect.Dialect.{Dialect}
-use Rattle.snesl_values.specs.Types.{bool}
+use Rattle.snesl_data.specs.declared.dialect.Dialect.{Dialect}
+use Rattle.snesl_data.specs.Types.{bool}
 use Rattle.snesl_operators.specs.declared.scalar.Scalar.TheVariants.{Bool as Truth}
 use Rattle.snesl_tree.specs.Spelling.{spelling}
 use Rattle.snesl_tree.specs.Tree.{Tree, Binders, apply, always, binding, call, choice, each, filter, literal, only_where}

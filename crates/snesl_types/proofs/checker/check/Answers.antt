@@ -1,4 +1,4 @@
-use Rattle.snesl_values.specs.Types.{ty_of}
+use Rattle.snesl_data.specs.Types.{ty_of}
 use Rattle.snesl_grammar.specs.View.{program_of}
 use Rattle.snesl_types.specs.Programs.{IsFirstViolation, IsMemoryIfTyped}
 use Rattle.snesl_types.specs.Views.{declared_in}

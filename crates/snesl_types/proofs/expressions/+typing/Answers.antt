@@ -1,6 +1,6 @@
 use Rattle.std.proofs.Common.{◌≡◌, ◌⊎◌, ℕ, ◌+◌, [], ◌++◌, map, drop, Vec, Global, Ok, Err, sym, ap, ◌∙◌, subst, arith}
-use Rattle.snesl_values.specs.declared.ty.Ty.{Ty as TyTree}
-use Rattle.snesl_values.specs.Types.{ty_of}
+use Rattle.snesl_data.specs.declared.ty.Ty.{Ty as TyTree}
+use Rattle.snesl_data.specs.Types.{ty_of}
 use Rattle.snesl_tree.specs.Tree.{call, apply, literal}
 use Rattle.snesl_tree.specs.View.{tree_of, trees_of, binders_of}
 use Rattle.snesl_tree.proofs.Arguments.{tree_of-Call, tree_of-Apply, tree_of-Literal}
@@ -8,7 +8,7 @@ use Rattle.snesl_types.specs.Names.{context_of, ruled_in, typed_in, all_typed_in
 use Rattle.snesl_types.specs.Contexts.{opened, inside}
 use Rattle.snesl_values.specs.Inputs.{declared}
 use Rattle.snesl_types.specs.Verdicts.{IsAnswer, of_each}
-use Rattle.snesl_values.specs.declared.refusal.Refusal.TheVariants.{NoMemory}
+use Rattle.snesl_data.specs.declared.refusal.Refusal.TheVariants.{NoMemory}
 use Rattle.snesl_types.proofs.Scopes.{tree_of-Each, Within, each_condition_refused, each_body_refused, each_answered}
 use Rattle.snesl_types.proofs.InOrder.{refusal_passes, map_push, types_given, types_refused, types_all, binders_refused, binders_all}
 use Rattle.snesl_types.proofs.Passing.{refused_by, refused_first, answered_second}

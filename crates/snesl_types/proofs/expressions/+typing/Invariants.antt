@@ -1,5 +1,5 @@
 use Rattle.std.proofs.Common.{◌≡◌, ℕ, ◌+◌, ◌*◌, max, drop, [], map}
-use Rattle.snesl_values.specs.Types.{ty_of}
+use Rattle.snesl_data.specs.Types.{ty_of}
 use Rattle.snesl_values.specs.Inputs.{declared}
 use Rattle.snesl_tree.specs.declared.expr.Expr.{size-Expr}
 use Rattle.snesl_tree.specs.View.{trees_of, binders_of}

@@ -1,7 +1,7 @@
 use Rattle.std.proofs.Common.{◌≡◌, sym, ap, ◌∙◌}
 use Rattle.std.proofs.lemmas.Slice.Eq.{bytes_eq-Decides}
-use Rattle.snesl_values.specs.Types.{ty_of}
-use Rattle.snesl_values.proofs.SameTypes.{same_eq, same_of}
+use Rattle.snesl_data.specs.Types.{ty_of}
+use Rattle.snesl_data.proofs.SameTypes.{same_eq, same_of}
 use Rattle.snesl_types.proofs.fits.same_decl.Goals as goal
 
 pub returns-then-eq : goal.returns-then-eq

@@ -1,5 +1,5 @@
 use Rattle.std.proofs.Common.{◌≡◌, drop, map}
-use Rattle.snesl_values.specs.Types.{ty_of}
+use Rattle.snesl_data.specs.Types.{ty_of}
 use Rattle.snesl_types.specs.Verdicts.{all_same}
 use Rattle.snesl_types.proofs.forms.all_same.Given as goal
 

@@ -1,4 +1,4 @@
-use Rattle.snesl_values.specs.Types.{ty_of}
+use Rattle.snesl_data.specs.Types.{ty_of}
 use Rattle.snesl_values.specs.Inputs.{declaration_of}
 use Rattle.snesl_types.proofs.TypeSizes.{differ_in_length}
 use Rattle.snesl_types.proofs.forms.arguments_fit.Goals as goal

@@ -1,5 +1,5 @@
 use Rattle.std.proofs.Common.{◌≡◌, drop, map}
-use Rattle.snesl_values.specs.Types.{ty_of}
+use Rattle.snesl_data.specs.Types.{ty_of}
 use Rattle.snesl_values.specs.Inputs.{declared}
 use Rattle.snesl_types.specs.Verdicts.{are_same}
 use Rattle.snesl_types.proofs.forms.arguments_fit.Given as goal

@@ -1,7 +1,7 @@
 use Rattle.std.proofs.Common.{◌≤◌, ℕ, List, [], ◌∷◌, length, Result, arith}
-use Rattle.snesl_values.specs.declared.refusal.Refusal.{Refusal}
-use Rattle.snesl_values.specs.declared.ty.Ty.{Ty as TyTree}
-use Rattle.snesl_values.specs.Types.{Ty, ty_of}
+use Rattle.snesl_data.specs.declared.refusal.Refusal.{Refusal}
+use Rattle.snesl_data.specs.declared.ty.Ty.{Ty as TyTree}
+use Rattle.snesl_data.specs.Types.{Ty, ty_of}
 use Rattle.snesl_tree.specs.declared.expr.Binder.{Binder}
 use Rattle.snesl_tree.specs.View.{binders_of}
 use Rattle.snesl_types.specs.Verdicts.{IsAnswer, of_filter, of_each}

@@ -1,5 +1,5 @@
 use Rattle.std.proofs.Common.{sym, ap, ◌∙◌}
-use Rattle.snesl_values.specs.Types.{ty_of}
+use Rattle.snesl_data.specs.Types.{ty_of}
 use Rattle.snesl_values.specs.Inputs.{declared}
 use Rattle.snesl_tree.specs.Spelling.{spelling}
 use Rattle.snesl_types.specs.Contexts.{found, inside, type_in}

@@ -1,10 +1,10 @@
 use Rattle.std.proofs.Common.{◌≡◌, ◌∷◌, [], map, arith, sym, ap, ◌∙◌, subst}
-use Rattle.snesl_values.specs.Types.{ty_of, pair, vec, seq, int}
-use Rattle.snesl_values.specs.Values.{value_of, values_of, AllHaveType, a_pair, a_vec, a_seq}
+use Rattle.snesl_data.specs.Types.{ty_of, pair, vec, seq, int}
+use Rattle.snesl_data.specs.Values.{value_of, values_of, AllHaveType, a_pair, a_vec, a_seq}
 use Rattle.snesl_values.specs.InputTokens.{Reads, none}
 use Rattle.snesl_values.specs.Inputs.{left_paren, comma, right_paren, left_bracket, left_brace, StopsAt}
 use Rattle.snesl_values.specs.Wants.{one, a_value, items, further_items, Fills, IsStop, IsRead}
-use Rattle.snesl_values.proofs.Data.{value_of-Seq, value_of-Vec}
+use Rattle.snesl_data.proofs.Data.{value_of-Seq, value_of-Vec}
 use Rattle.snesl_values.proofs.InputWants.{passed_on, stop_of, pair_stops, vec_stops, seq_stops, after_one, after_value, first_item, later_item, no_integer}
 use Rattle.snesl_values.proofs.InputItems.{leading_tokens, have_type-push, mapped-push, items_read, item_read, vec_read, seq_read, pair_read}
 use Rattle.snesl_values.proofs.reader.+values.Goals as goal

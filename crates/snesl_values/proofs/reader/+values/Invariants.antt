@@ -1,6 +1,6 @@
 use Rattle.std.proofs.Common.{ℕ, ◌+◌, ◌*◌, ◌-◌, ◌≤◌, List, ◌∷◌, map, length}
-use Rattle.snesl_values.specs.Types.{ty_of}
-use Rattle.snesl_values.specs.Values.{value_of, values_of, AllHaveType}
+use Rattle.snesl_data.specs.Types.{ty_of}
+use Rattle.snesl_data.specs.Values.{value_of, values_of, AllHaveType}
 use Rattle.snesl_values.specs.InputTokens.{Reads}
 use Rattle.snesl_values.specs.Inputs.{StopsAt}
 use Rattle.snesl_values.specs.Wants.{Want, a_value, items, further_items, Fills}

@@ -1,5 +1,5 @@
 use Rattle.std.proofs.Common.{◌∷◌, subst, sym}
-use Rattle.snesl_values.specs.Types.{bool}
+use Rattle.snesl_data.specs.Types.{bool}
 use Rattle.snesl_values.specs.Inputs.{StopsAt}
 use Rattle.snesl_values.specs.Wants.{Fills, a_value}
 use Rattle.snesl_values.proofs.InputWants.{no_truth}

@@ -3,7 +3,7 @@ use Rattle.std.specs.List.{prefix_len}
 use Rattle.std.proofs.lemmas.Bool.{both_ways}
 use Rattle.std.proofs.lemmas.Bool.Decides.{Decides-eqb}
 use Rattle.std.proofs.lemmas.Slice.Eq.{slice_eq-Decides}
-use Rattle.snesl_values.specs.Characters.{is_word}
+use Rattle.snesl_data.specs.Characters.{is_word}
 use Rattle.snesl_values.proofs.InputScan.{rest_is, word_taken, another_word}
 use Rattle.snesl_values.proofs.scan.behind_word.Goals as goal
 use Rattle.snesl_values.proofs.scan.behind_word.Goals.{then-start-text-via-then-start-text, then-start-text-via-else-start-text+then-not-is_ascii_alphabetic}

@@ -1,9 +1,9 @@
 use Rattle.std.proofs.Common.{◌≡◌, ◌≤◌, suc, drop, IsTrue}
 use Rattle.std.specs.List.{AllByRecursion}
 use Rattle.std.specs.Char.{is_ascii_digit}
-use Rattle.snesl_values.specs.declared.dialect.Dialect.TheVariants.{Two}
-use Rattle.snesl_values.specs.Integers.{greatest_integer}
-use Rattle.snesl_values.specs.Characters.{value_from}
+use Rattle.snesl_data.specs.declared.dialect.Dialect.TheVariants.{Two}
+use Rattle.snesl_data.specs.Integers.{greatest_integer}
+use Rattle.snesl_data.specs.Characters.{value_from}
 use Rattle.snesl_values.proofs.scan.magnitude.Given as goal
 
 abbrev pub invariant-loop-c : goal.invariant-loop-c

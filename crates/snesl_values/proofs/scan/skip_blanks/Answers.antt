@@ -1,6 +1,6 @@
 use Rattle.std.proofs.Common.{◌+◌, ap, sym, ◌∙◌}
 use Rattle.std.specs.List.{prefix_len}
-use Rattle.snesl_values.specs.Blanks.{is_blank}
+use Rattle.snesl_data.specs.Blanks.{is_blank}
 use Rattle.snesl_values.proofs.InputScan.{rest_is, next_at-is}
 use Rattle.snesl_values.proofs.scan.skip_blanks.Goals as goal
 

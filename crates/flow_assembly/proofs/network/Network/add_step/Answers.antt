@@ -5,7 +5,7 @@ use Rattle.flow_nodes.specs.StreamNodes.{state_of}
 use Rattle.flow_plans.specs.Layouts.{all_behind}
 use Rattle.flow_plans.specs.Ports.{kinds_written}
 use Rattle.flow_plans.specs.Views.{operation_of, step_of}
-use Rattle.snesl_values.specs.declared.refusal.Refusal.TheVariants.{TooBig, NoMemory}
+use Rattle.snesl_data.specs.declared.refusal.Refusal.TheVariants.{TooBig, NoMemory}
 use Rattle.flow_assembly.specs.Ready.{plan_of, ports_of}
 use Rattle.flow_assembly.proofs.Counting.{step_now}
 use Rattle.flow_assembly.proofs.Fitting.{passed_on}

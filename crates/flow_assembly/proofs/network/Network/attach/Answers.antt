@@ -1,5 +1,5 @@
 use Rattle.std.proofs.Common.{◌++◌, ◌∷◌, [], length, refl, sym, ◌∙◌, ap, subst, inl, inr}
-use Rattle.snesl_values.specs.declared.refusal.Refusal.TheVariants.{TooBig}
+use Rattle.snesl_data.specs.declared.refusal.Refusal.TheVariants.{TooBig}
 use Rattle.flow_graph.specs.Graphs.{states_so_far, edges_so_far}
 use Rattle.flow_graph.specs.Networks.{MayJoin}
 use Rattle.flow_nodes.specs.StreamNodes.{node_behaviour, state_of}

@@ -1,6 +1,6 @@
 use Rattle.std.proofs.Common.{◌≡◌, ◌+◌, ◌∙◌, sym, ap, subst, arith, drop, length, get_or, refl}
 use Rattle.flow_messages.specs.declared.message.Kind.TheVariants.{Unit as UnitKind}
-use Rattle.snesl_values.specs.declared.refusal.Refusal.TheVariants.{TooBig}
+use Rattle.snesl_data.specs.declared.refusal.Refusal.TheVariants.{TooBig}
 use Rattle.flow_plans.specs.Layouts.{uses, all_behind}
 use Rattle.flow_graph.specs.Graphs.{states_so_far, edges_so_far}
 use Rattle.flow_assembly.specs.Ready.{plan_of, IsPutTo, ComeNext}

@@ -10,7 +10,7 @@ use Rattle.flow_assembly.proofs.Putting.{left_to_come, one_behind, put_may, none
 use Rattle.flow_assembly.proofs.Fitting.{passed_on}
 use Rattle.flow_assembly.proofs.Refused.{none_done, same_error}
 use Rattle.flow_assembly.specs.Joined.{supplier, port_after}
-use Rattle.snesl_values.specs.declared.refusal.Refusal.TheVariants.{TooBig}
+use Rattle.snesl_data.specs.declared.refusal.Refusal.TheVariants.{TooBig}
 use Rattle.flow_assembly.proofs.network.Network.put_behind.Goals as goal
 
 pub attach-requires-clause-opened : goal.attach-requires-clause-opened

@@ -1,5 +1,5 @@
 use Rattle.std.proofs.Common.{refl, ap, ◌∙◌, arith, length, get_or}
-use Rattle.snesl_values.specs.declared.refusal.Refusal.TheVariants.{TooBig}
+use Rattle.snesl_data.specs.declared.refusal.Refusal.TheVariants.{TooBig}
 use Rattle.flow_assembly.proofs.Fitting.{passed_on}
 use Rattle.flow_assembly.proofs.Refused.{none_given, same_error}
 use Rattle.flow_assembly.proofs.Counting.{counted_next, counted_all, counted_big}

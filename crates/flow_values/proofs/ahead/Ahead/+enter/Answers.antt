@@ -1,5 +1,5 @@
 use Rattle.std.proofs.Common.{◌≡◌, ◌+◌, ap, ◌∙◌, suc, true, subst, sym, arith}
-use Rattle.snesl_values.specs.Types.{ty_of, pair}
+use Rattle.snesl_data.specs.Types.{ty_of, pair}
 use Rattle.flow_values.specs.Flats.{width}
 use Rattle.flow_values.specs.Places.{Fits}
 use Rattle.flow_values.specs.PrintMachine.{whole, entered}

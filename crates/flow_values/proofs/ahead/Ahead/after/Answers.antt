@@ -1,5 +1,5 @@
 use Rattle.std.proofs.Common.{◌≡◌, ◌∙◌, ◌++◌, [], List, ℕ, Some, ap, sym, codes, subst}
-use Rattle.snesl_values.specs.Types.{ty_of}
+use Rattle.snesl_data.specs.Types.{ty_of}
 use Rattle.flow_messages.specs.Cells.{cell_of}
 use Rattle.flow_values.specs.PrintMachine.{Pending, reading, next}
 use Rattle.flow_values.specs.Aheads.{pending_of, stack}

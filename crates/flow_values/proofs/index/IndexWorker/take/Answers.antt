@@ -1,6 +1,6 @@
 use Rattle.std.proofs.Common.{◌∙◌, sym, ap}
-use Rattle.snesl_values.specs.Types.{ty_of}
-use Rattle.snesl_values.specs.Values.{value_of}
+use Rattle.snesl_data.specs.Types.{ty_of}
+use Rattle.snesl_data.specs.Values.{value_of}
 use Rattle.flow_values.specs.IndexMachine.{holds_such}
 use Rattle.flow_values.proofs.VectorSteps.{held_element}
 use Rattle.flow_values.proofs.index.IndexWorker.take.Goals as goal

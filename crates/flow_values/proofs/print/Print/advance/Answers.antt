@@ -1,5 +1,5 @@
 use Rattle.std.proofs.Common.{◌++◌, ◌-◌, ◌∙◌, ap, take, length}
-use Rattle.snesl_values.specs.Types.{ty_of}
+use Rattle.snesl_data.specs.Types.{ty_of}
 use Rattle.flow_values.proofs.Printing.{advanced}
 use Rattle.flow_values.proofs.print.Print.advance.Goals as goal
 

@@ -1,5 +1,5 @@
 use Rattle.std.proofs.Common.{◌∙◌, ◌-◌, ap, sym, length}
-use Rattle.snesl_values.specs.Types.{ty_of}
+use Rattle.snesl_data.specs.Types.{ty_of}
 use Rattle.std.specs.List.{slice_get}
 use Rattle.flow_messages.specs.Cells.{cell_of, is_of}
 use Rattle.flow_values.specs.Shapes.{kinds_of, kind_at}

@@ -1,5 +1,5 @@
 use Rattle.std.proofs.Common.{◌≡◌, ◌==◌, ◌∙◌, [], true, false, length, ap, sym, subst}
-use Rattle.snesl_values.specs.Types.{ty_of}
+use Rattle.snesl_data.specs.Types.{ty_of}
 use Rattle.flow_messages.specs.Cells.{cell_of}
 use Rattle.flow_messages.specs.Signals.{signal_of}
 use Rattle.flow_values.specs.PrintMachine.{read_at}

@@ -1,7 +1,7 @@
 use Rattle.std.proofs.Common.{◌≡◌, ◌∙◌, ◌++◌, Ok, sym, ap, subst, map}
 use Rattle.std.proofs.Math.Path.{ap₂}
-use Rattle.snesl_values.specs.Types.{ty_of}
-use Rattle.snesl_values.specs.Values.{value_of}
+use Rattle.snesl_data.specs.Types.{ty_of}
+use Rattle.snesl_data.specs.Values.{value_of}
 use Rattle.flow_messages.specs.Cells.{cell_of}
 use Rattle.flow_base.specs.Workers.{Takes}
 use Rattle.flow_values.specs.Dues.{due_cell, segment_dues}

@@ -1,6 +1,6 @@
 use Rattle.std.proofs.Common.{◌≡◌, ◌∙◌, ap, map, refl, subst, Err}
-use Rattle.snesl_values.specs.Types.{ty_of}
-use Rattle.snesl_values.specs.Values.{value_of}
+use Rattle.snesl_data.specs.Types.{ty_of}
+use Rattle.snesl_data.specs.Values.{value_of}
 use Rattle.flow_messages.specs.Cells.{cell_of}
 use Rattle.flow_values.specs.Parts.{built}
 use Rattle.flow_values.specs.TabMachine.{Makes}

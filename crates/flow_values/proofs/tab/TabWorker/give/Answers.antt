@@ -1,8 +1,8 @@
 use Rattle.std.proofs.Common.{◌∙◌, sym, ap, map}
-use Rattle.snesl_values.specs.Values.{value_of, values_of, a_vec}
-use Rattle.snesl_values.proofs.Data.{value_of-Vec}
+use Rattle.snesl_data.specs.Values.{value_of, values_of, a_vec}
+use Rattle.snesl_data.proofs.Data.{value_of-Vec}
 use Rattle.flow_messages.specs.Cells.{cell_of, datum}
-use Rattle.snesl_values.specs.Types.{ty_of}
+use Rattle.snesl_data.specs.Types.{ty_of}
 use Rattle.flow_base.specs.Machines.{told_of, after_of}
 use Rattle.flow_values.specs.TabMachine.{step_in, tab_move}
 use Rattle.flow_values.specs.declared.tab.Stage.{Stage}

@@ -1,6 +1,6 @@
 use Rattle.std.proofs.Common.{◌∙◌, sym, ap, subst, map}
-use Rattle.snesl_values.specs.Types.{Ty, ty_of}
-use Rattle.snesl_values.specs.Values.{value_of}
+use Rattle.snesl_data.specs.Types.{Ty, ty_of}
+use Rattle.snesl_data.specs.Values.{value_of}
 use Rattle.flow_messages.specs.Cells.{cell_of}
 use Rattle.flow_base.specs.Workers.{Takes}
 use Rattle.flow_base.specs.Machines.{given_of, with_parameters}

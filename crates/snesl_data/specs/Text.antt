@@ -1,7 +1,7 @@
 -- The text of a value, as a program prints it: no blanks, and single commas between items.
 use Rattle.std.specs.Prelude.{ℕ, true, false, List, [], ◌++◌, codes}
 use Rattle.std.specs.Fmt.{signed_decimal}
-use Rattle.snesl_values.specs.Values.{Value, an_int, a_bool, a_pair, a_vec, a_seq, Values, no_values, more_values}
+use Rattle.snesl_data.specs.Values.{Value, an_int, a_bool, a_pair, a_vec, a_seq, Values, no_values, more_values}
 
 abbrev mutual
   -- `-14`, `true`, `(1,2)`, `[1,2]` for a vector and `{1,2}` for a sequence

@@ -1,10 +1,10 @@
 use Rattle.std.proofs.Common.{◌≡◌, ◌++◌, map, codes, OnOk, sym, ap, ◌∙◌, subst, arith}
-use Rattle.snesl_values.specs.Values.{value_of, values_of, a_vec, a_seq}
-use Rattle.snesl_values.specs.Text.{text, items_text}
-use Rattle.snesl_values.proofs.Data.{value_of-Seq, value_of-Vec}
-use Rattle.snesl_values.proofs.Texts.{first_turn, later_turn, bracketed}
-use Rattle.snesl_values.proofs.text.+texts.Goals as goal
-use Rattle.snesl_values.proofs.text.+texts.Goals.{append_items-then-i-gt0+in_ok-extend_from_slice, append_items-else-i-gt0}
+use Rattle.snesl_data.specs.Values.{value_of, values_of, a_vec, a_seq}
+use Rattle.snesl_data.specs.Text.{text, items_text}
+use Rattle.snesl_data.proofs.Data.{value_of-Seq, value_of-Vec}
+use Rattle.snesl_data.proofs.Texts.{first_turn, later_turn, bracketed}
+use Rattle.snesl_data.proofs.text.+texts.Goals as goal
+use Rattle.snesl_data.proofs.text.+texts.Goals.{append_items-then-i-gt0+in_ok-extend_from_slice, append_items-else-i-gt0}
 
 pub append_items-loop-i-preserved : goal.append_items-loop-i-preserved
 append_items-loop-i-preserved t c =

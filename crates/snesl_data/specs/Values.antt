@@ -1,10 +1,10 @@
 -- Values and their types.
 use Rattle.std.specs.Prelude.{Bool, List, [], ◌∷◌, ℤ}
-use Rattle.snesl_values.specs.declared.datum.Datum.{Datum, Row_of-Datum, end_of-Datum, more_of-Datum}
-use Rattle.snesl_values.specs.declared.datum.Datum.TheVariants.{Int, Bool as BoolDatum, Pair', Vec', Seq'}
-use Rattle.snesl_values.specs.declared.dialect.Dialect.{Dialect}
-use Rattle.snesl_values.specs.Integers.{IsInteger}
-use Rattle.snesl_values.specs.Types.{Ty, int, bool, pair, vec, seq}
+use Rattle.snesl_data.specs.declared.datum.Datum.{Datum, Row_of-Datum, end_of-Datum, more_of-Datum}
+use Rattle.snesl_data.specs.declared.datum.Datum.TheVariants.{Int, Bool as BoolDatum, Pair', Vec', Seq'}
+use Rattle.snesl_data.specs.declared.dialect.Dialect.{Dialect}
+use Rattle.snesl_data.specs.Integers.{IsInteger}
+use Rattle.snesl_data.specs.Types.{Ty, int, bool, pair, vec, seq}
 
 mutual
   -- a value

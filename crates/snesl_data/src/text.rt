@@ -2,8 +2,8 @@
 
 ghost use Rattle.std.specs.Prelude.{◌≡◌, ◌++◌, map, IfOk, OnOk};
 ghost use Rattle.std.specs.Fmt.{signed_decimal};
-ghost use Rattle.snesl_values.specs.Values.{value_of, values_of};
-ghost use Rattle.snesl_values.specs.Text.{text, items_text};
+ghost use Rattle.snesl_data.specs.Values.{value_of, values_of};
+ghost use Rattle.snesl_data.specs.Text.{text, items_text};
 
 use crate::datum::Datum;
 use itoa::Buffer;

@@ -1,6 +1,6 @@
 -- Types that are the same.
 use Rattle.std.proofs.Common.{◌≡◌, Bool, true, false, ◌&&◌, refl, sym, ap, ◌∙◌}
-use Rattle.snesl_values.specs.Types.{Ty, int, bool, pair, vec, seq, is_same}
+use Rattle.snesl_data.specs.Types.{Ty, int, bool, pair, vec, seq, is_same}
 
 pub and_true : {a b : Bool} → a ≡ true → b ≡ true → (a && b) ≡ true
 and_true {b = b} e f = ap (λ x. x && b) e ∙ f

@@ -1,7 +1,7 @@
 -- The number of each fault.
 use Rattle.std.specs.Prelude.{ℕ}
-use Rattle.snesl_values.specs.declared.fault.FaultKind.{FaultKind}
-use Rattle.snesl_values.specs.declared.fault.FaultKind.TheVariants.{Divide, Overflow, NegativeCount, Length, Part, The, EmptyMax, Index, Shape}
+use Rattle.snesl_data.specs.declared.fault.FaultKind.{FaultKind}
+use Rattle.snesl_data.specs.declared.fault.FaultKind.TheVariants.{Divide, Overflow, NegativeCount, Length, Part, The, EmptyMax, Index, Shape}
 
 abbrev pub number_of_fault : FaultKind → ℕ
 number_of_fault Divide = 1

@@ -1,7 +1,7 @@
 use Rattle.std.proofs.Common.{map, sym, ap, ◌∙◌}
-use Rattle.snesl_values.specs.Values.{value_of, values_of, a_seq, a_vec}
-use Rattle.snesl_values.proofs.Data.{value_of-Seq, value_of-Vec}
-use Rattle.snesl_values.proofs.datum.+copy_datum.Goals as goal
+use Rattle.snesl_data.specs.Values.{value_of, values_of, a_seq, a_vec}
+use Rattle.snesl_data.proofs.Data.{value_of-Seq, value_of-Vec}
+use Rattle.snesl_data.proofs.datum.+copy_datum.Goals as goal
 
 pub copy_datum-returns-in_ok-items-in-Seq : goal.copy_datum-returns-in_ok-items-in-Seq
 copy_datum-returns-in_ok-items-in-Seq t c =

@@ -1,7 +1,7 @@
 // Blanks, which part the tokens of programs and of input texts.
 
 ghost use Rattle.std.specs.Prelude.{◌≡◌};
-ghost use Rattle.snesl_values.specs.Blanks.{is_blank};
+ghost use Rattle.snesl_data.specs.Blanks.{is_blank};
 
 /// Whether a byte is a space, a tab, a line feed or a carriage return.
 pub fn is_blank(byte: u8) -> bool

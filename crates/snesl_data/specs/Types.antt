@@ -1,7 +1,7 @@
 -- Types.
 use Rattle.std.specs.Prelude.{Bool, true, false, ◌&&◌}
-use Rattle.snesl_values.specs.declared.ty.Ty.{Ty as TyTree}
-use Rattle.snesl_values.specs.declared.ty.Ty.TheVariants.{Int, Bool as BoolTy, Pair', Vec', Seq'}
+use Rattle.snesl_data.specs.declared.ty.Ty.{Ty as TyTree}
+use Rattle.snesl_data.specs.declared.ty.Ty.TheVariants.{Int, Bool as BoolTy, Pair', Vec', Seq'}
 
 -- a type
 pub data Ty : Type 0 where

@@ -1,7 +1,7 @@
 -- What counted readers and writers count.
 use Rattle.std.specs.Prelude.{◌≡◌, ℕ, suc, min, Bool, true, false, ◌&&◌, ◌==◌, nat_lt, if◌then◌else◌, Ok, Err}
 use Rattle.std.specs.declared.result.Result.{Result}
-use Rattle.snesl_values.specs.declared.counted.Counted.{Counted}
+use Rattle.snesl_data.specs.declared.counted.Counted.{Counted}
 
 -- the reader or writer inside
 abbrev pub counted_inner : {T : Type 0} → Counted T → T

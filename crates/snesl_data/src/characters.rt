@@ -3,7 +3,7 @@
 ghost use Rattle.std.specs.Prelude.{◌≡◌, ◌≤◌, length};
 ghost use Rattle.std.specs.List.{prefix_len};
 ghost use Rattle.std.specs.Char.{is_ascii_digit};
-ghost use Rattle.snesl_values.specs.Characters.{is_word};
+ghost use Rattle.snesl_data.specs.Characters.{is_word};
 
 // Whether the byte may stand in a word behind the first letter.
 fn is_word(b: u8) -> bool

@@ -1,7 +1,7 @@
 // Refusals.
 
 ghost use Rattle.std.specs.Prelude.{◌≡◌};
-ghost use Rattle.snesl_values.specs.Refusals.{number_of_refusal, offset_of_refusal, is_of_the_system, status_of_refusal};
+ghost use Rattle.snesl_data.specs.Refusals.{number_of_refusal, offset_of_refusal, is_of_the_system, status_of_refusal};
 
 use std::alloc::{AllocError, AllocFailed};
 
@@ -100,7 +100,7 @@ impl Refusal {
 }
 
 impl From<AllocError> for Refusal {
-    ghost use Rattle.snesl_values.specs.declared.refusal.Refusal.TheVariants.{NoMemory};
+    ghost use Rattle.snesl_data.specs.declared.refusal.Refusal.TheVariants.{NoMemory};
 
     ghost from_gives = { λ _ refusal. refusal ≡ NoMemory };
 
@@ -110,7 +110,7 @@ impl From<AllocError> for Refusal {
 }
 
 impl<T: Drop> From<AllocFailed<T>> for Refusal {
-    ghost use Rattle.snesl_values.specs.declared.refusal.Refusal.TheVariants.{NoMemory};
+    ghost use Rattle.snesl_data.specs.declared.refusal.Refusal.TheVariants.{NoMemory};
 
     ghost from_gives = { λ _ refusal. refusal ≡ NoMemory };
 

@@ -1,7 +1,7 @@
 // Faults.
 
 ghost use Rattle.std.specs.Prelude.{◌≡◌};
-ghost use Rattle.snesl_values.specs.Faults.{number_of_fault};
+ghost use Rattle.snesl_data.specs.Faults.{number_of_fault};
 
 /// What went wrong while a program was evaluated.
 #[derive(Clone, Copy, Debug, PartialEq, Eq)]

@@ -1,7 +1,7 @@
 // Values.
 
 ghost use Rattle.std.specs.Prelude.{◌≡◌, map, IfOk};
-ghost use Rattle.snesl_values.specs.Values.{value_of};
+ghost use Rattle.snesl_data.specs.Values.{value_of};
 
 use std::alloc::{AllocError, Global};
 

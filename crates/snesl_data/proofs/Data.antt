@@ -1,8 +1,8 @@
 -- Data as values.
 use Rattle.std.proofs.Common.{◌≡◌, List, [], ◌∷◌, map, Vec, Global, refl, ap, ◌∙◌}
 use mathlib.Core.Former.{Count}
-use Rattle.snesl_values.specs.declared.datum.Datum.{Datum, Vec as VecDatum, Vec', Seq as SeqDatum, Seq', Row_of-Datum, end_of-Datum, more_of-Datum, items-the_row-Datum, items_hidden-the_row-Datum-0}
-use Rattle.snesl_values.specs.Values.{Value, a_vec, a_seq, Values, values_of, list_of, value_of, row_values}
+use Rattle.snesl_data.specs.declared.datum.Datum.{Datum, Vec as VecDatum, Vec', Seq as SeqDatum, Seq', Row_of-Datum, end_of-Datum, more_of-Datum, items-the_row-Datum, items_hidden-the_row-Datum-0}
+use Rattle.snesl_data.specs.Values.{Value, a_vec, a_seq, Values, values_of, list_of, value_of, row_values}
 
 row_listed : (n : Count) (row : Row_of-Datum n) → row_values row ≡ values_of (map value_of (items-the_row-Datum n row))
 row_listed n end_of-Datum = refl

@@ -1,7 +1,7 @@
 -- The integers of the language: 64 bits with a sign, and 128 in the second dialect.
 use Rattle.std.specs.Prelude.{ℕ, suc, Bool, IsTrue, nat_le, ℤ, pos, negsuc}
-use Rattle.snesl_values.specs.declared.dialect.Dialect.{Dialect}
-use Rattle.snesl_values.specs.declared.dialect.Dialect.TheVariants.{One, Two}
+use Rattle.snesl_data.specs.declared.dialect.Dialect.{Dialect}
+use Rattle.snesl_data.specs.declared.dialect.Dialect.TheVariants.{One, Two}
 
 -- the greatest integer of a dialect, which is also its greatest literal
 abbrev pub greatest_integer : Dialect → ℕ

@@ -1,7 +1,7 @@
 // Types.
 
 ghost use Rattle.std.specs.Prelude.{◌≡◌, IfOk};
-ghost use Rattle.snesl_values.specs.Types.{ty_of, is_concrete, is_same};
+ghost use Rattle.snesl_data.specs.Types.{ty_of, is_concrete, is_same};
 
 use std::alloc::{AllocError, Global};
 

@@ -1,7 +1,7 @@
 -- The number of each refusal, the offset that it names, and where it is said.
 use Rattle.std.specs.Prelude.{ℕ, Bool, true, false, if◌then◌else◌, Option, Some, None}
-use Rattle.snesl_values.specs.declared.refusal.Refusal.{Refusal}
-use Rattle.snesl_values.specs.declared.refusal.Refusal.TheVariants.{TooLong, Lex, Syntax, Deep, Name, Mismatch, Streamed, BadInput, TooBig, BadConfig, NoMemory, Output, NoThread, Read, Short}
+use Rattle.snesl_data.specs.declared.refusal.Refusal.{Refusal}
+use Rattle.snesl_data.specs.declared.refusal.Refusal.TheVariants.{TooLong, Lex, Syntax, Deep, Name, Mismatch, Streamed, BadInput, TooBig, BadConfig, NoMemory, Output, NoThread, Read, Short}
 
 abbrev pub number_of_refusal : Refusal → ℕ
 number_of_refusal TooLong = 1

@@ -1,7 +1,7 @@
 use Rattle.std.proofs.Common.{◌≡◌, ◌++◌, map, take}
-use Rattle.snesl_values.specs.Values.{value_of, values_of}
-use Rattle.snesl_values.specs.Text.{items_text}
-use Rattle.snesl_values.proofs.text.+texts.Given as goal
+use Rattle.snesl_data.specs.Values.{value_of, values_of}
+use Rattle.snesl_data.specs.Text.{items_text}
+use Rattle.snesl_data.proofs.text.+texts.Given as goal
 
 abbrev pub invariant-append_items-loop-i : goal.invariant-append_items-loop-i
 invariant-append_items-loop-i l =

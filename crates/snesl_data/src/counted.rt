@@ -3,7 +3,7 @@
 ghost use Rattle.std.specs.Prelude.{◌≡◌, length};
 ghost use Rattle.std.specs.Io.{ReadsAtMost, WritesAtMost};
 ghost use Rattle.std.specs.Io.KnownBytes.{Keeps, ReadConsumes, WriteAppends};
-ghost use Rattle.snesl_values.specs.Counted.{counted_inner, failures_of, one_more, counted, read_failed, write_failed, flush_failed};
+ghost use Rattle.snesl_data.specs.Counted.{counted_inner, failures_of, one_more, counted, read_failed, write_failed, flush_failed};
 
 use std::io::{self, Read, Write};
 

@@ -1,7 +1,7 @@
 // The dialects of the language.
 
 ghost use Rattle.std.specs.Prelude.{◌≡◌, pos};
-ghost use Rattle.snesl_values.specs.Integers.{greatest_integer, is_integer};
+ghost use Rattle.snesl_data.specs.Integers.{greatest_integer, is_integer};
 
 /// Which integers a program has.
 #[derive(Clone, Copy, Debug, PartialEq, Eq)]

@@ -1,0 +1,9 @@
+pub mod Integers
+pub mod Types
+pub mod Values
+pub mod Faults
+pub mod Refusals
+pub mod Text
+pub mod Blanks
+pub mod Characters
+pub mod Counted

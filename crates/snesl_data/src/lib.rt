@@ -1,0 +1,24 @@
+//! Dialects, types, values, faults and refusals of Streaming NESL, the text of a value, and counted readers and writers.
+//!
+//! Everything stands on this crate. The door for a stranger is `snesl_values`, which passes it on beside input texts.
+#![tactic(auto)]
+
+pub mod blank;
+pub mod characters;
+pub mod counted;
+pub mod datum;
+pub mod dialect;
+pub mod fault;
+pub mod refusal;
+pub mod text;
+pub mod ty;
+
+pub use blank::is_blank;
+pub use characters::{digits_len, word_len};
+pub use counted::Counted;
+pub use datum::{Datum, copy_datum};
+pub use dialect::Dialect;
+pub use fault::{Fault, FaultKind};
+pub use refusal::Refusal;
+pub use text::text_of;
+pub use ty::{Ty, copy_ty};
