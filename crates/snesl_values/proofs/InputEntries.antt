@@ -1,10 +1,9 @@
 -- Declared inputs in an input text.
-use Rattle.std.proofs.Common.{◌≡◌, ℕ, suc, ◌+◌, ◌-◌, ◌≤◌, ◌<◌, Vec, Global, take, take_all, get_or, drop-cons, length-drop, length-append, add-one, List, [], ◌∷◌, ◌++◌, length, drop, map, Option, Some, None, ◌⊎◌, inl, inr, refl, sym, ap, ◌∙◌, subst, append_assoc, append-nil, arith}
+use Rattle.std.proofs.Common.{◌≡◌, ℕ, suc, ◌+◌, ◌-◌, ◌≤◌, ◌<◌, Vec, Global, take, take_all, get_or, drop-cons, length-drop, length-append, add-one, List, [], ◌∷◌, ◌++◌, length, drop, Option, Some, None, ◌⊎◌, inl, inr, refl, sym, ap, ◌∙◌, subst, append_assoc, append-nil, arith}
 use Rattle.snesl_data.specs.declared.dialect.Dialect.{Dialect}
 use Rattle.snesl_data.specs.Values.{Value, HasType}
 use Rattle.snesl_values.specs.InputTokens.{Token, word, next_at, next_token, Reads, none, Takes}
-use Rattle.snesl_values.specs.Inputs.{Declaration, Environment, Fits, equals, semicolon, value_tokens, entry_tokens, further_entries, environment_tokens, AreEntries, IsLawful, MayFollow, StopsAt, declared, declaration_of, entry_of}
-use Rattle.snesl_values.specs.declared.environment.Input.{Input}
+use Rattle.snesl_values.specs.Inputs.{Declaration, Environment, Fits, equals, semicolon, value_tokens, entry_tokens, further_entries, environment_tokens, AreEntries, IsLawful, MayFollow, StopsAt, declared, declaration_of}
 use Rattle.snesl_data.specs.declared.ty.Ty.{Ty as TyTree}
 use Rattle.snesl_values.specs.Wants.{Want, one, perhaps, a_value, Fills, entry_wants, further_wants, wants_of, IsEntry, AllRead, IsStop, IsStopOf}
 use Rattle.snesl_values.specs.declared.inputs.InputError.{InputError}
@@ -255,10 +254,6 @@ none_declared (y ∷ ys) e = absurd (omega arith)
 
 pub none_left : (ds : List (Vec ℕ Global × TyTree)) (k : ℕ) → length ds ≤ k → declared (drop k ds) ≡ []
 none_left ds k h = none_declared (drop k ds) (omega (arith, length-drop k ds))
-
-pub entries-push : (all : List Input) (input : Input) → map entry_of (all ++ input ∷ []) ≡ map entry_of all ++ entry_of input ∷ []
-entries-push [] input = refl
-entries-push (x ∷ all) input = ap (λ l. entry_of x ∷ l) (entries-push all input)
 
 -- the error of a part, as that of a whole text
 pub stop_whole : (dialect : Dialect) → (text : List ℕ) (part : List Want) (ds : List Declaration) (place : ℕ) (e : InputError)

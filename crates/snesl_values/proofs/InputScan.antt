@@ -1,5 +1,5 @@
 -- What stands first in bytes, and single tokens of an input text.
-use Rattle.std.proofs.Common.{◌≡◌, ℕ, suc, ℤ, pos, ◌+◌, ◌-◌, ◌*◌, ◌/◌, ◌≤◌, ◌<◌, Bool, true, false, cond, eqb, List, [], ◌∷◌, length, take, drop, get_or, IsTrue, Option, Some, None, option_map, IfSome, IfNone, refl, sym, ap, ◌∙◌, subst, arith, drop-cons, length-drop, take_all, ⊎_elim, ◌⊎◌, inl, inr, leb, one-add, add-one}
+use Rattle.std.proofs.Common.{◌≡◌, ℕ, suc, ℤ, pos, ◌+◌, ◌-◌, ◌*◌, ◌≤◌, ◌<◌, Bool, true, false, cond, eqb, List, [], ◌∷◌, length, take, drop, get_or, IsTrue, Option, Some, None, option_map, IfSome, IfNone, refl, sym, ap, ◌∙◌, subst, arith, drop-cons, length-drop, take_all, ⊎_elim, ◌⊎◌, inl, inr, leb, one-add, add-one}
 use Rattle.std.proofs.lemmas.Bool.{lt-leb, cond-true, cond-false, eqb-true, cases_lt}
 use Rattle.std.specs.List.{AllByRecursion, prefix_len, take_while}
 use Rattle.std.proofs.lemmas.List.Sums.{prefix_len-le-length}
@@ -185,7 +185,7 @@ too_large : (v : ℕ) → (suc (greatest_integer Two)) < v → None ≡ cond (le
 too_large v h = sym (ap (λ b. cond b (Some v) None) (lt-leb v (suc (greatest_integer Two)) h))
 
 pub early : (cs : List ℕ) (i v : ℕ) → i < length cs → value_from v (drop i cs) ≡ value_from 0 cs
-    → ((suc (greatest_integer Two)) - (get_or cs i 0 - 48)) / 10 < v → None ≡ cond (leb (value_from 0 cs) (suc (greatest_integer Two))) (Some (value_from 0 cs)) None
+    → suc (greatest_integer Two) < 10 * v + (get_or cs i 0 - 48) → None ≡ cond (leb (value_from 0 cs) (suc (greatest_integer Two))) (Some (value_from 0 cs)) None
 early cs i v h same over =
     let d : ℕ = get_or cs i 0 - 48 in
     let next : value_from v (drop i cs) ≡ value_from (10 * v + (get_or cs i 0 - 48)) (drop (suc i) cs) = ap (value_from v) (drop-cons cs i 0 h) in

@@ -12,7 +12,7 @@ use Rattle.snesl_values.specs.Inputs.{greatest_input_length, Declaration, Enviro
 use Rattle.snesl_values.specs.Wants.{Want, one, a_value, items, further_items, Fills, entry_wants, further_wants, IsRead, AreRead, IsEntry, AllRead}
 use Rattle.snesl_values.proofs.InputScan.{Coming, nothing_comes, comes, coming}
 use Rattle.snesl_values.proofs.InputReads.{reads-append, first_next}
-use Rattle.snesl_values.proofs.InputWants.{Closes, after_one, after_value, another_one, no_integer, no_truth, pair_stops, vec_stops, seq_stops, first_item, later_item}
+use Rattle.snesl_values.proofs.InputWants.{after_one, after_value, another_one, no_integer, no_truth, pair_stops, vec_stops, seq_stops, first_item, later_item}
 use Rattle.snesl_values.proofs.InputItems.{leading_tokens, have_type-push, items_read, item_read, vec_read, seq_read, pair_read}
 use Rattle.snesl_values.proofs.InputEntries.{stops_lawful, SoFar, first_so_far, next_so_far, all_read_closed, all_read_open, none_read}
 

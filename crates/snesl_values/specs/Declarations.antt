@@ -2,10 +2,9 @@
 use Rattle.std.specs.Prelude.{◌≡◌, ℕ, List, [], ◌∷◌, map, Vec}
 use Rattle.std.specs.Global.{Global}
 use Rattle.snesl_data.specs.declared.dialect.Dialect.{Dialect}
-use Rattle.snesl_values.specs.declared.environment.Input.{Input}
 use Rattle.snesl_data.specs.declared.ty.Ty.{Ty as TyTree}
 use Rattle.snesl_data.specs.Types.{Ty, ty_of}
-use Rattle.snesl_data.specs.Values.{Value, HasType, value_of}
+use Rattle.snesl_data.specs.Values.{Value, HasType}
 
 -- a declared name and its type
 abbrev pub Declaration : Type 0
@@ -29,7 +28,3 @@ declaration_of pair = (pair.0.items, ty_of pair.1)
 -- the same for all of them
 abbrev pub declared : List (Vec ℕ Global × TyTree) → List Declaration
 declared = map declaration_of
-
--- a name and the value that was read for it
-abbrev pub entry_of : Input → List ℕ × Value
-entry_of input = (input.name.items, value_of input.value)

@@ -1,67 +1,23 @@
 -- What an input text spells, and where it is refused.
-use Rattle.std.specs.Prelude.{◌≡◌, ℕ, ◌<◌, ◌≤◌, true, false, List, [], ◌∷◌, ◌++◌, ◌⊎◌, map, length, codes, Option, Some, None, if◌then◌else◌}
+use Rattle.std.specs.Prelude.{◌≡◌, ℕ, ◌<◌, ◌≤◌, List, [], ◌∷◌, ◌++◌, ◌⊎◌, length, Option, Some, None, if◌then◌else◌}
 use Rattle.std.specs.Str.{bytes_eq}
+use Rattle.std.specs.Arc.{arc_value}
 use Rattle.snesl_data.specs.declared.dialect.Dialect.{Dialect}
 use Rattle.snesl_values.specs.declared.environment.Inputs.{Inputs}
 use Rattle.snesl_values.specs.declared.inputs.InputError.{InputError}
 use Rattle.snesl_values.specs.declared.inputs.InputError.TheVariants.{Bad, NoMemory}
 use Rattle.snesl_data.specs.declared.refusal.Refusal.{Refusal}
 use Rattle.snesl_data.specs.declared.refusal.Refusal.TheVariants as refusals
-pub use Rattle.snesl_values.specs.Declarations.{Declaration, Environment, Fits, declaration_of, declared, entry_of}
-use Rattle.snesl_data.specs.Values.{Value, an_int, a_bool, a_pair, a_vec, a_seq, Values, no_values, more_values}
-use Rattle.snesl_values.specs.InputTokens.{Token, word, integer, sign, next_at, next_token, Reads}
+pub use Rattle.snesl_values.specs.Declarations.{Declaration, Environment, Fits, declaration_of, declared}
+pub use Rattle.snesl_values.specs.Spellings.{equals, semicolon, comma, left_paren, right_paren, left_bracket, right_bracket, left_brace, right_brace, value_tokens, items_tokens, further_tokens}
+use Rattle.snesl_values.specs.declared.places.Placed.{Placed}
+use Rattle.snesl_values.specs.Entries.{environment_at}
+use Rattle.snesl_data.specs.Values.{Value}
+use Rattle.snesl_values.specs.InputTokens.{Token, word, next_at, next_token, Reads}
 
 -- the greatest length of an input text, in bytes
 abbrev pub greatest_input_length : ℕ
 greatest_input_length = 16777216
-
--- the signs = ; , ( ) [ ] { }
-abbrev pub equals : Token
-equals = sign 61
-
-abbrev pub semicolon : Token
-semicolon = sign 59
-
-abbrev pub comma : Token
-comma = sign 44
-
-abbrev pub left_paren : Token
-left_paren = sign 40
-
-abbrev pub right_paren : Token
-right_paren = sign 41
-
-abbrev pub left_bracket : Token
-left_bracket = sign 91
-
-abbrev pub right_bracket : Token
-right_bracket = sign 93
-
-abbrev pub left_brace : Token
-left_brace = sign 123
-
-abbrev pub right_brace : Token
-right_brace = sign 125
-
-abbrev mutual
-  -- the tokens that spell a value: `-14`, `true`, `(1,2)`, `[1,2]` for a vector and `{1,2}` for a sequence
-  pub value_tokens : Value → List Token
-  value_tokens (an_int n) = integer n ∷ []
-  value_tokens (a_bool true) = word (codes "true") ∷ []
-  value_tokens (a_bool false) = word (codes "false") ∷ []
-  value_tokens (a_pair a b) = left_paren ∷ (value_tokens a ++ (comma ∷ (value_tokens b ++ (right_paren ∷ []))))
-  value_tokens (a_vec vs) = left_bracket ∷ (items_tokens vs ++ (right_bracket ∷ []))
-  value_tokens (a_seq vs) = left_brace ∷ (items_tokens vs ++ (right_brace ∷ []))
-
-  -- the items, with a comma before each but the first
-  pub items_tokens : Values → List Token
-  items_tokens no_values = []
-  items_tokens (more_values v vs) = value_tokens v ++ further_tokens vs
-
-  -- the items, with a comma before each
-  pub further_tokens : Values → List Token
-  further_tokens no_values = []
-  further_tokens (more_values v vs) = comma ∷ (value_tokens v ++ further_tokens vs)
 
 -- `name = value`
 abbrev pub entry_tokens : List ℕ × Value → List Token
@@ -146,9 +102,17 @@ declarations_of inputs = declared inputs.decls.items
 unfoldable pub dialect_of : Inputs → Dialect
 dialect_of inputs = inputs.dialect
 
--- the names and values that were read
+-- the text in which they were read
+unfoldable pub text_in : Inputs → List ℕ
+text_in inputs = (arc_value inputs.text).items
+
+-- the names and the places of their values in the text
+unfoldable pub placed_in : Inputs → List Placed
+placed_in inputs = inputs.all.items
+
+-- the names and the values that are spelled at their places
 unfoldable pub environment_of : Inputs → Environment
-environment_of inputs = map entry_of inputs.all.items
+environment_of inputs = environment_at (arc_value inputs.text).items inputs.all.items
 
 -- the value of the first entry of this name
 abbrev pub value_in : List ℕ → Environment → Option Value

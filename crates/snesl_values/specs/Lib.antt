@@ -1,5 +1,10 @@
 pub mod InputTokens
+pub mod Spellings
 pub mod Declarations
+pub mod Marks
+pub mod Places
+pub mod Pendings
+pub mod Entries
 pub mod Inputs
 pub mod Wants
 -- what the contracts cite: dialects, types, values and their text, faults, refusals, and counts of failures

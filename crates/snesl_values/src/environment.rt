@@ -1,32 +1,33 @@
-// The values of declared inputs.
+// The values of declared inputs, kept as the text that spells them.
 
-ghost use Rattle.std.specs.Prelude.{map};
-ghost use Rattle.snesl_values.specs.Declarations.{declared, entry_of, Fits};
+ghost use Rattle.std.specs.Arc.{arc_value};
+ghost use Rattle.snesl_values.specs.Declarations.{declared, Fits};
+ghost use Rattle.snesl_values.specs.Entries.{environment_at, ArePlaced};
 
+use crate::builder::datum_at;
+use crate::places::Placed;
 use snesl_data::{Datum, Dialect, Ty};
-
-// A declared name and its value.
-#[derive(Debug, Drop)]
-pub(crate) struct Input {
-    pub(crate) name: Vec<u8>,
-    pub(crate) value: Datum,
-}
+use std::alloc::{AllocError, Global};
+use std::sync::Arc;
 
 /// The values of a program's declared inputs, in the order of declaration, with the dialect and the
-/// declarations for which they were read. It keeps that the values are of these names and types.
-#[derive(Debug, Drop)]
+/// declarations for which they were read. They are kept as the text that spells them, which may be
+/// shared, and the place of each in it. It keeps that the values are of these names and types.
+#[derive(Drop)]
 pub struct Inputs {
     pub(crate) dialect: Dialect,
     pub(crate) decls: Vec<(Vec<u8>, Ty)>,
-    pub(crate) all: Vec<Input>,
-    pub(crate) ghost fit: { ∥ Fits dialect (declared decls.items) (map entry_of all.items) ∥₁ },
+    pub(crate) text: Arc<Vec<u8>>,
+    pub(crate) all: Vec<Placed>,
+    pub(crate) ghost placed: { ∥ ArePlaced dialect (arc_value text).items (declared decls.items) all.items ∥₁ },
+    pub(crate) ghost fit: { ∥ Fits dialect (declared decls.items) (environment_at (arc_value text).items all.items) ∥₁ },
 }
 
 impl Inputs {
-    ghost use Rattle.std.specs.Prelude.{◌≡◌, ◌↔◌, [], length, IsTrue, option_map};
+    ghost use Rattle.std.specs.Prelude.{◌≡◌, ◌<◌, ◌↔◌, [], length, IsTrue, IfOk, Some, option_map};
     ghost use Rattle.std.specs.List.{slice_get};
     ghost use Rattle.snesl_data.specs.Values.{value_of};
-    ghost use Rattle.snesl_values.specs.Inputs.{dialect_of, declarations_of, environment_of, value_in};
+    ghost use Rattle.snesl_values.specs.Inputs.{dialect_of, declarations_of, environment_of, text_in, placed_in};
 
     /// The dialect in which the inputs were read.
     #[tactic(auto, unfolding(crate::specs::Inputs::dialect_of))]
@@ -70,28 +71,35 @@ impl Inputs {
         Some(&input.name)
     }
 
-    /// The value of the input of this number, counted from 0 in the order of declaration, if there
-    /// are so many.
+    /// The value of the input of this number, counted from 0 in the order of declaration, as a tree
+    /// in memory of its own.
+    ///
+    /// # Errors
+    ///
+    /// `AllocError` where memory is refused.
     #[tactic(auto, unfolding(crate::specs::Inputs::environment_of))]
-    pub fn value(&self, number: usize) -> Option<&Datum>
-        ensures { option_map (λ datum. value_of datum.now) result ≡ option_map (λ entry. entry.1) (slice_get (environment_of self.now) number) }
+    pub fn datum(&self, alloc: Global, number: usize) -> Result<Datum, AllocError>
+        requires { number < length (environment_of self.now) }
+        ensures { IfOk result (λ datum. option_map (λ entry. entry.1) (slice_get (environment_of self.now) number) ≡ Some (value_of datum)) }
     {
-        match self.all.get(number) {
-            Some(input) => Some(&input.value),
-            None => None,
-        }
+        datum_at(alloc, &self.text, self.all[number].place)
     }
 
-    /// The value of the first input of this name, if there is one.
-    #[tactic(auto, unfolding(crate::specs::Inputs::environment_of))]
-    pub fn named(&self, name: &[u8]) -> Option<&Datum>
-        ensures { option_map (λ datum. value_of datum.now) result ≡ value_in name.now (environment_of self.now) }
+    /// The text that spells the inputs, which others may share.
+    #[tactic(auto, unfolding(crate::specs::Inputs::text_in))]
+    pub fn text(&self) -> &Arc<Vec<u8>>
+        ensures { (arc_value result.now).items ≡ text_in self.now }
     {
-        for input in &self.all {
-            if input.name.as_slice() == name {
-                return Some(&input.value);
-            }
-        }
-        None
+        &self.text
+    }
+
+    /// Where the value of the input of this number begins, counted from 0 in the order of
+    /// declaration: an offset in bytes from the start of the text, if there are so many inputs.
+    #[tactic(auto, unfolding(crate::specs::Inputs::placed_in))]
+    pub fn place(&self, number: usize) -> Option<usize>
+        ensures { result ≡ option_map (λ placed. placed.place) (slice_get (placed_in self.now) number) }
+    {
+        let input = self.all.get(number)?;
+        Some(input.place)
     }
 }

@@ -1,16 +1,17 @@
 // Input texts.
 
-ghost use Rattle.std.specs.Prelude.{◌≡◌, ℕ, ◌≤◌, [], ◌⊎◌, length, map, IfOk, IfErr, IsOk, Err};
-ghost use Rattle.snesl_values.specs.Declarations.{Environment, declared, declaration_of, entry_of, Fits};
-ghost use Rattle.snesl_values.specs.Inputs.{dialect_of, declarations_of, environment_of, spells, refused_at, InputMeans, OneInputMeaning, SomeInputMeaning};
-ghost use Rattle.snesl_values.specs.Wants.{entry_wants, IsStop, IsStopOf, IsEntry, AllRead};
+ghost use Rattle.std.specs.Prelude.{◌≡◌, ℕ, ◌⊎◌, IfOk, IfErr, IsOk, Err};
+ghost use Rattle.snesl_values.specs.Declarations.{Environment, declared, Fits};
+ghost use Rattle.snesl_values.specs.Entries.{environment_at, ArePlaced};
+ghost use Rattle.snesl_values.specs.Inputs.{dialect_of, declarations_of, environment_of, text_in, placed_in, spells, refused_at, InputMeans, OneInputMeaning, SomeInputMeaning};
 ghost use Rattle.snesl_values.specs.declared.inputs.InputError.TheVariants.{Bad, NoMemory};
 
-use crate::environment::{Input, Inputs};
-use crate::reader::{expect_sign, expect_word, read_value};
-use crate::scan::{behind_sign, skip_blanks};
+use crate::environment::Inputs;
+use crate::places::read_places;
+use crate::scan::skip_blanks;
 use snesl_data::{Dialect, Refusal, Ty, copy_ty};
 use std::alloc::{AllocError, AllocFailed, Global};
+use std::sync::Arc;
 use thiserror::Error;
 
 /// The greatest length of an input text, in bytes.
@@ -65,6 +66,9 @@ impl From<InputError> for Refusal {
 /// line feeds and carriage returns may stand before, between and after tokens, and the longest
 /// token is taken.
 ///
+/// The text is read once and copied once. What it takes of memory beside the copy does not hang on
+/// the values: it keeps the place of each, and builds none.
+///
 /// # Errors
 ///
 /// - `Bad(at)`: the text is not lawful. `at` is the offset, in bytes from 0, of the first token that
@@ -95,15 +99,18 @@ pub fn read_inputs(
     if bytes.len() > GREATEST_INPUT_LENGTH {
         return Err(InputError::Bad(GREATEST_INPUT_LENGTH));
     }
-    let (all, behind) = read_all(dialect, alloc, decls, bytes)?;
+    let (all, behind) = read_places(dialect, alloc, decls, bytes)?;
     let end = skip_blanks(bytes, behind);
     if end < bytes.len() {
         return Err(InputError::Bad(end));
     }
     let decls = copy_decls(alloc, decls)?;
+    let copy = Vec::from_slice(alloc, bytes)?;
+    let text = Arc::new(alloc, copy)?;
     Ok(Inputs {
         dialect,
         decls,
+        text,
         all,
     })
 }
@@ -121,56 +128,16 @@ fn copy_decls(alloc: Global, decls: &[(Vec<u8>, Ty)]) -> Result<Vec<(Vec<u8>, Ty
     Ok(copies)
 }
 
-// The values of the declarations, read from the start of a text, and the offset behind them.
-fn read_all(
-    dialect: Dialect,
-    alloc: Global,
-    decls: &[(Vec<u8>, Ty)],
-    text: &[u8],
-) -> Result<(Vec<Input>, usize), InputError>
-    ensures read { IfOk result (λ found. AllRead dialect text.now (declared decls.now) (map entry_of found.0.items) found.1) }
-    ensures stops { IfErr result (IsStopOf dialect (declared decls.now) text.now) }
-{
-    let mut all = Vec::new(alloc);
-    if decls.is_empty() {
-        return Ok((all, 0));
-    }
-    let (input, mut at) = read_entry(dialect, alloc, text, 0, &decls[0])?;
-    all.push(input)?;
-    for declaration in &decls[1..] {
-        let start = expect_sign(dialect, text, at, b';')?;
-        let (input, end) = read_entry(dialect, alloc, text, start, declaration)?;
-        all.push(input)?;
-        at = end;
-    }
-    match behind_sign(text, at, b';') {
-        Some(end) => Ok((all, end)),
-        None => Ok((all, at)),
-    }
-}
-
-// The declared input that comes next, and the offset behind it.
-fn read_entry(
-    dialect: Dialect,
-    alloc: Global,
-    text: &[u8],
-    at: usize,
-    declaration: &(Vec<u8>, Ty),
-) -> Result<(Input, usize), InputError>
-    requires { at ≤ length text.now }
-    ensures read { IfOk result (λ found. IsEntry dialect text.now at (declaration_of declaration.now) (entry_of found.0) found.1) }
-    ensures stops { IfErr result (IsStop dialect (entry_wants (declaration_of declaration.now) []) text.now at) }
-{
-    let behind_name = expect_word(dialect, text, at, &declaration.0)?;
-    let start = expect_sign(dialect, text, behind_name, b'=')?;
-    let (value, end) = read_value(dialect, alloc, text, start, &declaration.1)?;
-    let name = Vec::from_slice(alloc, &declaration.0)?;
-    Ok((Input { name, value }, end))
-}
-
 /// A law and no code to run: the values are of the declarations for which they were read.
 pub fn inputs_fit(inputs: &Inputs)
     ensures { Fits (dialect_of inputs.now) (declarations_of inputs.now) (environment_of inputs.now) }
+{}
+
+/// A law and no code to run: from each place on the text spells a value of the declared type, and
+/// these values, beside the names, are the inputs.
+pub fn inputs_are_placed(inputs: &Inputs)
+    ensures placed { ArePlaced (dialect_of inputs.now) (text_in inputs.now) (declarations_of inputs.now) (placed_in inputs.now) }
+    ensures environment { environment_of inputs.now ≡ environment_at (text_in inputs.now) (placed_in inputs.now) }
 {}
 
 /// A law and no code to run: a text means one thing for the declarations, and no more than one.

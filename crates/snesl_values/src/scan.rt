@@ -97,7 +97,7 @@ fn number_at(dialect: Dialect, text: &[u8], from: usize, is_negative: bool) -> O
 }
 
 // The integer that digits write with this sign, where it is in the range.
-fn signed_number(dialect: Dialect, is_negative: bool, digits: &[u8]) -> Option<i128>
+pub fn signed_number(dialect: Dialect, is_negative: bool, digits: &[u8]) -> Option<i128>
     requires { AllByRecursion (λ c. IsTrue (is_ascii_digit c)) digits.now }
     ensures { result ≡ (let n = number_of is_negative digits.now in if is_integer dialect n then Some n else None) }
 {
@@ -117,10 +117,14 @@ fn magnitude(digits: &[u8]) -> Option<u128>
     let mut value = 0u128;
     for c in digits {
         let digit = u128::from(*c - b'0');
-        if value > (GREATEST_MAGNITUDE - digit) / 10 {
+        // A test against a constant: a division by digit would take most of the time of reading.
+        if value > GREATEST_MAGNITUDE / 10 {
             return None;
         }
         value = 10 * value + digit;
+        if value > GREATEST_MAGNITUDE {
+            return None;
+        }
     }
     Some(value)
 }

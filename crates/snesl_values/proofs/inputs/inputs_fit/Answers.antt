@@ -1,5 +1,4 @@
 use Rattle.std.proofs.Math.Logic.{∥∥₁_elim}
-use Rattle.snesl_values.specs.Declarations.{declared, entry_of}
 use Rattle.snesl_values.specs.Inputs.{dialect_of, declarations_of, environment_of}
 use Rattle.snesl_values.proofs.Once.{Fits-prop}
 use Rattle.snesl_values.proofs.inputs.inputs_fit.Goals as goal

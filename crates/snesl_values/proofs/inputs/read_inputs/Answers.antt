@@ -1,7 +1,10 @@
-use Rattle.std.proofs.Common.{inr, Err, map, refl, sym, subst, arith}
+use Rattle.std.proofs.Common.{◌≡◌, ℕ, List, inr, Err, refl, sym, ap, ◌∙◌, subst, arith}
+use Rattle.std.specs.Arc.{arc_value}
+use Rattle.snesl_values.specs.Entries.{environment_at, ArePlaced}
+use Rattle.snesl_values.specs.Inputs.{dialect_of, declarations_of, environment_of}
 use Rattle.snesl_values.specs.declared.inputs.InputError.TheVariants.{Bad}
-use Rattle.snesl_values.specs.Declarations.{declared, entry_of, Fits}
-use Rattle.snesl_values.specs.Inputs.{dialect_of, declarations_of, environment_of, StopsAt, IsLawful, InputMeans, spells, too_long, lawful, unlawful}
+use Rattle.snesl_values.specs.Declarations.{declared, Fits}
+use Rattle.snesl_values.specs.Inputs.{StopsAt, IsLawful, InputMeans, spells, too_long, lawful, unlawful}
 use Rattle.snesl_values.proofs.InputScan.{some_next, no_next}
 use Rattle.snesl_values.proofs.InputWants.{passed_on}
 use Rattle.snesl_values.proofs.InputAnswers.{no_ok, IsRight, right_stop, lawful_answered, unlawful_answered, not_refused}
@@ -68,22 +71,28 @@ returns-then-end-bytes-clause-unlawful c =
 pub returns-clause-spelled : goal.returns-clause-spelled
 unfolding environment_of
 returns-clause-spelled c =
-    lawful (omega arith) c.in_ok-all.ensures.read.reads
+    subst (λ (t : List ℕ). InputMeans c.args.dialect (declared c.args.decls.now) c.args.bytes.now (spells (environment_at t c.in_ok-all.all.items))) (sym (ap (λ v. v.items) c.in_ok-text.ensures.ok ∙ c.in_ok-copy.ensures.items))
+    (lawful (omega arith) c.in_ok-all.ensures.read.reads
     (no_next c.args.bytes.now c.in_ok-all.behind c.skip_blanks-end.result c.skip_blanks-end.ensures.offset (omega arith))
-    c.in_ok-all.ensures.read.spells
+    c.in_ok-all.ensures.read.spells)
 
 pub returns-clause-unlawful : goal.returns-clause-unlawful
 returns-clause-unlawful c = λ at means.
-    absurd (not_refused c.args.dialect (declared c.args.decls.now) c.args.bytes.now (map entry_of c.in_ok-all.all.items) at
+    absurd (not_refused c.args.dialect (declared c.args.decls.now) c.args.bytes.now (environment_at c.args.bytes.now c.in_ok-all.all.items) at
     (lawful (omega arith) c.in_ok-all.ensures.read.reads
     (no_next c.args.bytes.now c.in_ok-all.behind c.skip_blanks-end.result c.skip_blanks-end.ensures.offset (omega arith))
     c.in_ok-all.ensures.read.spells)
     means)
 
 pub invariant_of-result : goal.invariant_of-result
-invariant_of-result c = record {
-  fit = ∣ subst (λ ds. Fits c.args.dialect ds (map entry_of c.in_ok-all.all.items)) (sym c.in_ok-decls.ensures) c.in_ok-all.ensures.read.spells.fits ∣₁;
-}
+invariant_of-result c =
+    let kept : (arc_value c.in_ok-text.text).items ≡ c.args.bytes.now = ap (λ v. v.items) c.in_ok-text.ensures.ok ∙ c.in_ok-copy.ensures.items in
+    record {
+      placed = ∣ subst (λ (t : List ℕ). ArePlaced c.args.dialect t (declared c.in_ok-decls.decls.items) c.in_ok-all.all.items) (sym kept)
+          (subst (λ ds. ArePlaced c.args.dialect c.args.bytes.now ds c.in_ok-all.all.items) (sym c.in_ok-decls.ensures) c.in_ok-all.ensures.placed) ∣₁;
+      fit = ∣ subst (λ (t : List ℕ). Fits c.args.dialect (declared c.in_ok-decls.decls.items) (environment_at t c.in_ok-all.all.items)) (sym kept)
+          (subst (λ ds. Fits c.args.dialect ds (environment_at c.args.bytes.now c.in_ok-all.all.items)) (sym c.in_ok-decls.ensures) c.in_ok-all.ensures.read.spells.fits) ∣₁;
+    }
 
 pub returns-clause-in_dialect : goal.returns-clause-in_dialect
 unfolding dialect_of
@@ -95,4 +104,5 @@ returns-clause-declares c = c.in_ok-decls.ensures
 
 pub returns-clause-fits : goal.returns-clause-fits
 unfolding environment_of
-returns-clause-fits c = c.in_ok-all.ensures.read.spells.fits
+returns-clause-fits c =
+    subst (λ (t : List ℕ). Fits c.args.dialect (declared c.args.decls.now) (environment_at t c.in_ok-all.all.items)) (sym (ap (λ v. v.items) c.in_ok-text.ensures.ok ∙ c.in_ok-copy.ensures.items)) c.in_ok-all.ensures.read.spells.fits

@@ -1,0 +1,26 @@
+-- What a scanner still has to write.
+use Rattle.std.specs.Prelude.{ℕ, List, [], ◌∷◌, ◌++◌, option_to_list}
+use Rattle.snesl_data.specs.Values.{Value}
+use Rattle.flow_messages.specs.Cells.{Cell, flag, int, datum}
+use Rattle.flow_inputs.specs.declared.turns.Step.{Step}
+use Rattle.flow_inputs.specs.declared.turns.Leaf.{Leaf}
+use Rattle.flow_inputs.specs.declared.turns.State.{State}
+use Rattle.flow_inputs.specs.declared.turns.Piece.{Piece}
+use Rattle.flow_inputs.specs.declared.turns.Piece.TheVariants.{Flag, Int, VectorAt}
+use Rattle.flow_inputs.specs.Turns.{turn}
+use Rattle.snesl_values.specs.Marks.{Spot, spots}
+
+-- what is written in this state at these tokens
+abbrev pub run : List Step → Leaf → State → List Spot → List Piece
+run way leaf s [] = []
+run way leaf s (spot ∷ rest) = (let u = turn way leaf s spot.0 spot.1 in option_to_list u.0 ++ run way leaf u.1 rest)
+
+-- what is written in this state from this offset on
+unfoldable pub left : List ℕ → List Step → Leaf → ℕ → State → List Piece
+left text way leaf at s = run way leaf s (spots text at)
+
+-- the item that a piece is, by the vectors at the places of the text
+abbrev pub cell : (ℕ → Value) → Piece → Cell
+cell vector (Flag b) = flag b
+cell vector (Int n) = int n
+cell vector (VectorAt place) = datum (vector place)

@@ -1,0 +1,296 @@
+// One turn of a scanner: what a token does to its state.
+
+ghost use Rattle.std.specs.Prelude.{◌≡◌, ◌+◌, ◌<◌, ◌^◌, slice_get, IfSome};
+ghost use Rattle.flow_inputs.specs.Items.{leaf_kind};
+ghost use Rattle.flow_inputs.specs.Turns.{moved, wrote, lost, at_leaf, at_value, at_opened, behind, passed, passing, flagging, counting, within, made, turn, depth_of, is_done};
+
+use crate::marks::{Bracket, Mark};
+use flow_messages::Kind;
+
+/// A step on the way from a type to one of its edges.
+#[derive(Clone, Copy, Debug, PartialEq, Eq)]
+pub enum Step {
+    /// To the elements of a sequence.
+    Elements,
+    /// To the first part of a pair.
+    First,
+    /// To the second part of a pair.
+    Second,
+}
+
+/// What the edge at the end of the way carries.
+#[derive(Clone, Copy, Debug, PartialEq, Eq)]
+pub enum Leaf {
+    /// The flags of sequences.
+    Flags,
+    Bools,
+    Ints,
+    Vectors,
+}
+
+impl Leaf {
+    /// The kind of its items.
+    pub fn kind(self) -> Kind
+        ensures { result ≡ leaf_kind self }
+    {
+        match self {
+            Leaf::Flags | Leaf::Bools => Kind::Bool,
+            Leaf::Ints => Kind::Int,
+            Leaf::Vectors => Kind::Vec,
+        }
+    }
+}
+
+/// What a scanner is about.
+#[derive(Clone, Copy, Debug, PartialEq, Eq)]
+pub enum Mode {
+    /// A value comes next.
+    Value,
+    /// An element comes next, or the end of the sequence.
+    Opened,
+    /// A value was passed.
+    Behind,
+    /// A part of a pair that is not asked for is passed over; so many brackets are open in it.
+    Passing(usize),
+    /// A sequence whose flags are asked for was opened.
+    Flagging,
+    /// Behind the first token of its elements; so many brackets are open in it.
+    Counting(usize),
+    /// A vector was named; so many brackets are open in it.
+    Within(usize),
+    /// Nothing is written any more.
+    Lost,
+}
+
+/// How many steps of the way were made, and what the scanner is about.
+#[derive(Clone, Copy, Debug, PartialEq, Eq)]
+pub struct State {
+    pub level: usize,
+    pub mode: Mode,
+}
+
+/// What is written on an edge: a flag, an integer, or the place of a vector in the text.
+#[derive(Clone, Copy, Debug, PartialEq, Eq)]
+pub enum Piece {
+    Flag(bool),
+    Int(i128),
+    VectorAt(usize),
+}
+
+/// What one token makes of a state, and what is written.
+pub(crate) type Turn = (Option<Piece>, State);
+
+fn moved(level: usize, mode: Mode) -> Turn
+    ensures { result ≡ moved level mode }
+{
+    (None, State { level, mode })
+}
+
+fn wrote(piece: Piece, level: usize, mode: Mode) -> Turn
+    ensures { result ≡ wrote piece level mode }
+{
+    (Some(piece), State { level, mode })
+}
+
+fn lost() -> Turn
+    ensures { result ≡ lost }
+{
+    moved(0, Mode::Lost)
+}
+
+// At the end of the way.
+fn at_leaf(leaf: Leaf, level: usize, mark: Mark, place: usize) -> Turn
+    ensures { result ≡ at_leaf leaf level mark place }
+{
+    match (leaf, mark) {
+        (Leaf::Flags, Mark::Open(Bracket::Curly)) => moved(level, Mode::Flagging),
+        (Leaf::Bools, Mark::Truth(truth)) => wrote(Piece::Flag(truth), level, Mode::Behind),
+        (Leaf::Ints, Mark::Number(number)) => wrote(Piece::Int(number), level, Mode::Behind),
+        (Leaf::Vectors, Mark::Open(Bracket::Square)) => {
+            wrote(Piece::VectorAt(place), level, Mode::Within(0))
+        }
+        _ => lost(),
+    }
+}
+
+// Where a value comes next.
+fn at_value(step: Option<Step>, leaf: Leaf, level: usize, mark: Mark, place: usize) -> Turn
+    requires { IfSome step (λ _. level < usize.MAX) }
+    ensures { result ≡ at_value step leaf level mark place }
+{
+    match (step, mark) {
+        (None, _) => at_leaf(leaf, level, mark, place),
+        (Some(Step::Elements), Mark::Open(Bracket::Curly)) => moved(level + 1, Mode::Opened),
+        (Some(Step::First), Mark::Open(Bracket::Round)) => moved(level + 1, Mode::Value),
+        (Some(Step::Second), Mark::Open(Bracket::Round)) => moved(level + 1, Mode::Passing(0)),
+        _ => lost(),
+    }
+}
+
+// Behind a value, by the innermost step that was made.
+fn behind(step: Option<Step>, level: usize, mark: Mark) -> Turn
+    ensures { result ≡ behind step level mark }
+{
+    match (step, mark) {
+        (Some(Step::Elements), Mark::Comma) => moved(level, Mode::Value),
+        (Some(Step::First), Mark::Comma) => moved(level, Mode::Passing(0)),
+        (Some(Step::Elements), Mark::Close(Bracket::Curly))
+        | (Some(Step::Second), Mark::Close(Bracket::Round)) => {
+            moved(level.saturating_sub(1), Mode::Behind)
+        }
+        _ => lost(),
+    }
+}
+
+// Where a sequence was opened on the way.
+fn at_opened(step: Option<Step>, leaf: Leaf, level: usize, mark: Mark, place: usize) -> Turn
+    requires { IfSome step (λ _. level < usize.MAX) }
+    ensures { result ≡ at_opened step leaf level mark place }
+{
+    match mark {
+        Mark::Close(Bracket::Curly) => moved(level.saturating_sub(1), Mode::Behind),
+        _ => at_value(step, leaf, level, mark, place),
+    }
+}
+
+// In a part that is passed over, outside its brackets.
+fn passed(step: Option<Step>, level: usize, mark: Mark) -> Turn
+    ensures { result ≡ passed step level mark }
+{
+    match (step, mark) {
+        (Some(Step::Second), Mark::Comma) => moved(level, Mode::Value),
+        (Some(Step::First), Mark::Close(Bracket::Round)) => {
+            moved(level.saturating_sub(1), Mode::Behind)
+        }
+        _ => moved(level, Mode::Passing(0)),
+    }
+}
+
+// In a part that is passed over.
+fn passing(step: Option<Step>, level: usize, depth: usize, mark: Mark) -> Turn
+    requires { depth + 1 < 2 ^ 64 }
+    ensures { result ≡ passing step level depth mark }
+{
+    match mark {
+        Mark::Open(_) => moved(level, Mode::Passing(depth + 1)),
+        Mark::Close(_) => {
+            if depth == 0 {
+                passed(step, level, mark)
+            } else {
+                moved(level, Mode::Passing(depth - 1))
+            }
+        }
+        _ => {
+            if depth == 0 {
+                passed(step, level, mark)
+            } else {
+                moved(level, Mode::Passing(depth))
+            }
+        }
+    }
+}
+
+// Where a sequence was opened whose flags are written.
+fn flagging(level: usize, mark: Mark) -> Turn
+    ensures { result ≡ flagging level mark }
+{
+    match mark {
+        Mark::Close(_) => wrote(Piece::Flag(true), level, Mode::Behind),
+        Mark::Open(_) => wrote(Piece::Flag(false), level, Mode::Counting(1)),
+        _ => wrote(Piece::Flag(false), level, Mode::Counting(0)),
+    }
+}
+
+// In its elements.
+fn counting(level: usize, depth: usize, mark: Mark) -> Turn
+    requires { depth + 1 < 2 ^ 64 }
+    ensures { result ≡ counting level depth mark }
+{
+    match mark {
+        Mark::Open(_) => moved(level, Mode::Counting(depth + 1)),
+        Mark::Close(_) => {
+            if depth == 0 {
+                wrote(Piece::Flag(true), level, Mode::Behind)
+            } else {
+                moved(level, Mode::Counting(depth - 1))
+            }
+        }
+        Mark::Comma => {
+            if depth == 0 {
+                wrote(Piece::Flag(false), level, Mode::Counting(0))
+            } else {
+                moved(level, Mode::Counting(depth))
+            }
+        }
+        _ => moved(level, Mode::Counting(depth)),
+    }
+}
+
+// In a vector.
+fn within(level: usize, depth: usize, mark: Mark) -> Turn
+    requires { depth + 1 < 2 ^ 64 }
+    ensures { result ≡ within level depth mark }
+{
+    match mark {
+        Mark::Open(_) => moved(level, Mode::Within(depth + 1)),
+        Mark::Close(_) => {
+            if depth == 0 {
+                moved(level, Mode::Behind)
+            } else {
+                moved(level, Mode::Within(depth - 1))
+            }
+        }
+        _ => moved(level, Mode::Within(depth)),
+    }
+}
+
+// The step at this level of the way, if there is one.
+fn step_at(way: &[Step], level: usize) -> Option<Step>
+    ensures step { result ≡ slice_get way.now level }
+    ensures within { IfSome result (λ _. level < usize.MAX) }
+{
+    match way.get(level) {
+        Some(step) => Some(*step),
+        None => None,
+    }
+}
+
+// The innermost step that was made, if one was.
+fn made(way: &[Step], level: usize) -> Option<Step>
+    ensures { result ≡ made way.now level }
+{
+    if level == 0 {
+        None
+    } else {
+        step_at(way, level - 1)
+    }
+}
+
+// What a token, which was looked for from this offset on, makes of a state.
+pub(crate) fn turn(way: &[Step], leaf: Leaf, state: State, mark: Mark, place: usize) -> Turn
+    requires { depth_of state.mode + 1 < 2 ^ 64 }
+    ensures { result ≡ turn way.now leaf state mark place }
+{
+    let level = state.level;
+    match state.mode {
+        Mode::Value => at_value(step_at(way, level), leaf, level, mark, place),
+        Mode::Opened => at_opened(step_at(way, level), leaf, level, mark, place),
+        Mode::Behind => behind(made(way, level), level, mark),
+        Mode::Passing(depth) => passing(made(way, level), level, depth, mark),
+        Mode::Flagging => flagging(level, mark),
+        Mode::Counting(depth) => counting(level, depth, mark),
+        Mode::Within(depth) => within(level, depth, mark),
+        Mode::Lost => lost(),
+    }
+}
+
+// Whether nothing is written any more, whatever comes.
+pub(crate) fn is_done(state: State) -> bool
+    ensures { result ≡ is_done state }
+{
+    match state.mode {
+        Mode::Behind => state.level == 0,
+        Mode::Lost => true,
+        _ => false,
+    }
+}

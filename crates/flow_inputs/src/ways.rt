@@ -1,0 +1,52 @@
+// The way from a type to one of its edges.
+
+ghost use Rattle.std.specs.Prelude.{◌≡◌, ◌<◌, ◌^◌, ◌++◌, IfOk, OnOk};
+ghost use Rattle.snesl_data.specs.Types.{ty_of};
+ghost use Rattle.flow_values.specs.Flats.{width};
+ghost use Rattle.flow_inputs.specs.Ways.{way_to, leaf_at};
+
+use crate::turns::{Leaf, Step};
+use snesl_data::Ty;
+use std::alloc::AllocError;
+
+/// How many edges the type has, where the number fits.
+fn edge_count(ty: &Ty) -> usize
+    requires { width (ty_of ty.now) < 2 ^ 64 }
+    ensures { result ≡ width (ty_of ty.now) }
+{
+    match ty {
+        Ty::Int | Ty::Bool | Ty::Vec(_) => 1,
+        Ty::Pair(first, second) => edge_count(first) + edge_count(second),
+        Ty::Seq(item) => edge_count(item) + 1,
+    }
+}
+
+// Adds the steps from the type to the edge of this number, and tells what is at their end.
+pub(crate) fn add_way(way: &mut Vec<Step>, ty: &Ty, edge: usize) -> Result<Leaf, AllocError>
+    requires { width (ty_of ty.now) < 2 ^ 64 }
+    ensures way { OnOk result (way.new.items ≡ way.old.items ++ way_to (ty_of ty.now) edge) }
+    ensures leaf { IfOk result (λ leaf. leaf ≡ leaf_at (ty_of ty.now) edge) }
+{
+    match ty {
+        Ty::Int => Ok(Leaf::Ints),
+        Ty::Bool => Ok(Leaf::Bools),
+        Ty::Vec(_) => Ok(Leaf::Vectors),
+        Ty::Pair(first, second) => {
+            let edges = edge_count(first);
+            if edge < edges {
+                way.push(Step::First)?;
+                add_way(way, first, edge)
+            } else {
+                way.push(Step::Second)?;
+                add_way(way, second, edge - edges)
+            }
+        }
+        Ty::Seq(item) => {
+            if edge == 0 {
+                return Ok(Leaf::Flags);
+            }
+            way.push(Step::Elements)?;
+            add_way(way, item, edge - 1)
+        }
+    }
+}

@@ -1,0 +1,38 @@
+-- Inputs as names and places in a text.
+use Rattle.std.specs.Prelude.{◌≡◌, ℕ, ◌+◌, ◌≤◌, List, [], ◌∷◌, map, length, Option, Some, None}
+use Rattle.snesl_data.specs.declared.dialect.Dialect.{Dialect}
+use Rattle.snesl_data.specs.Types.{Ty}
+use Rattle.snesl_data.specs.Values.{Value, HasType}
+use Rattle.snesl_values.specs.Declarations.{Declaration, Environment}
+use Rattle.snesl_values.specs.InputTokens.{Token, Lexeme, next_at, next}
+use Rattle.snesl_values.specs.Spellings.{value_tokens}
+use Rattle.snesl_values.specs.Places.{value_at}
+use Rattle.snesl_values.specs.declared.places.Placed.{Placed}
+
+-- a name, and the value that is read from its place on
+abbrev pub entry_at : List ℕ → Placed → List ℕ × Value
+entry_at text placed = (placed.name.items, value_at text placed.place)
+
+-- the same for all of them
+abbrev pub environment_at : List ℕ → List Placed → Environment
+environment_at text all = map (entry_at text) all
+
+-- the token comes next, and then such as is said of the offset behind it
+abbrev pub ComesBy : (ℕ → Type 0) → Token → ℕ → Option Lexeme → Type 0
+ComesBy Behind token start None = ⊥
+ComesBy Behind token start (Some lexeme) = (lexeme.0 ≡ token) × Behind (start + lexeme.1)
+
+-- these tokens come next; the same as `Reads` to some offset, and has one proof at most
+abbrev pub Comes : List ℕ → ℕ → List Token → Type 0
+Comes text at [] = Unit {0}
+Comes text at (token ∷ tokens) = ComesBy (λ behind. Comes text behind tokens) token (next_at text at) (next text at)
+
+-- a value of the type is spelled from the place on
+abbrev pub IsPlaced : Dialect → List ℕ → Ty → ℕ → Type 0
+IsPlaced dialect text t place = (place ≤ length text) × HasType dialect (value_at text place) t × Comes text place (value_tokens (value_at text place))
+
+-- the same for each declaration
+abbrev pub ArePlaced : Dialect → List ℕ → List Declaration → List Placed → Type 0
+ArePlaced dialect text [] [] = Unit {0}
+ArePlaced dialect text (declaration ∷ declarations) (placed ∷ all) = IsPlaced dialect text declaration.1 placed.place × ArePlaced dialect text declarations all
+ArePlaced dialect text _ _ = ⊥

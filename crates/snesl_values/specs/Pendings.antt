@@ -1,0 +1,24 @@
+-- What a builder of values has open, as frames, the innermost first.
+use Rattle.std.specs.Prelude.{List, [], ◌∷◌, map, Option, option_map}
+use Rattle.snesl_data.specs.declared.datum.Datum.{Datum}
+use Rattle.snesl_data.specs.Values.{value_of}
+use Rattle.snesl_values.specs.declared.builder.Pending.{Pending}
+use Rattle.snesl_values.specs.declared.builder.Pending.TheVariants.{Items, First, Second}
+use Rattle.snesl_values.specs.Places.{Frame, in_items, in_first, in_second, Reading}
+
+abbrev pub frame_of : Pending → Frame
+frame_of (Items bracket items) = in_items bracket (map value_of items.items)
+frame_of First = in_first
+frame_of (Second datum) = in_second (value_of datum)
+
+-- the last one is the innermost
+abbrev pub frames_from : List Frame → List Pending → List Frame
+frames_from frames [] = frames
+frames_from frames (one ∷ rest) = frames_from (frame_of one ∷ frames) rest
+
+unfoldable pub frames_of : List Pending → List Frame
+frames_of all = frames_from [] all
+
+-- with the value that was just read, if one was
+abbrev pub reading_of : List Pending → Option Datum → Reading
+reading_of opens last = (frames_of opens, option_map value_of last)

@@ -1,0 +1,73 @@
+-- The value that the tokens from an offset on spell.
+use Rattle.std.specs.Prelude.{ℕ, List, [], ◌∷◌, ◌++◌, Option, Some, None, false}
+use Rattle.snesl_data.specs.Values.{Value, an_int, a_bool, a_pair, a_vec, a_seq, values_of}
+use Rattle.snesl_values.specs.declared.marks.Bracket.{Bracket}
+use Rattle.snesl_values.specs.declared.marks.Bracket.TheVariants.{Round, Square, Curly}
+use Rattle.snesl_values.specs.declared.marks.Mark.{Mark}
+use Rattle.snesl_values.specs.declared.marks.Mark.TheVariants.{Truth, Number, Open, Close, Comma}
+use Rattle.snesl_values.specs.Marks.{Spot, spots}
+
+-- what is open: items in a bracket, with those before, or a pair in its first or its second part
+pub data Frame : Type 0 where
+  in_items : Bracket → List Value → Frame
+  in_first : Frame
+  in_second : Value → Frame
+
+-- what is open, the innermost first, and the value that was just read, if one was
+abbrev pub Reading : Type 0
+Reading = List Frame × Option Value
+
+-- what stands for a value where none is spelled
+abbrev pub no_value : Value
+no_value = a_bool false
+
+abbrev pub unlawful : Reading
+unlawful = ([], Some no_value)
+
+-- the items of a vector or a sequence
+abbrev pub closed : Bracket → List Value → Value
+closed Square vs = a_vec (values_of vs)
+closed Curly vs = a_seq (values_of vs)
+closed Round vs = no_value
+
+-- a bracket is closed behind no item
+abbrev pub close_none : List Frame → Reading
+close_none (in_items b vs ∷ frames) = (frames, Some (closed b vs))
+close_none _ = unlawful
+
+-- where a value comes next
+abbrev pub on_none : List Frame → Mark → Reading
+on_none frames (Number n) = (frames, Some (an_int n))
+on_none frames (Truth b) = (frames, Some (a_bool b))
+on_none frames (Open Round) = (in_first ∷ frames, None)
+on_none frames (Open Square) = (in_items Square [] ∷ frames, None)
+on_none frames (Open Curly) = (in_items Curly [] ∷ frames, None)
+on_none frames (Close b) = close_none frames
+on_none frames mark = unlawful
+
+-- behind a value
+abbrev pub on_some : Value → List Frame → Mark → Reading
+on_some v [] mark = ([], Some v)
+on_some v (in_items b vs ∷ frames) Comma = (in_items b (vs ++ v ∷ []) ∷ frames, None)
+on_some v (in_items b vs ∷ frames) (Close c) = (frames, Some (closed b (vs ++ v ∷ [])))
+on_some v (in_first ∷ frames) Comma = (in_second v ∷ frames, None)
+on_some v (in_second a ∷ frames) (Close c) = (frames, Some (a_pair a v))
+on_some v frames mark = unlawful
+
+abbrev pub read_by : Option Value → List Frame → Mark → Reading
+read_by None frames mark = on_none frames mark
+read_by (Some v) frames mark = on_some v frames mark
+
+-- what was read in the end
+abbrev pub read_value : List Frame → Option Value → Value
+read_value [] (Some v) = v
+read_value _ _ = no_value
+
+-- the value, behind what was read so far
+abbrev pub spelled : List Frame → Option Value → List Spot → Value
+spelled frames value [] = read_value frames value
+spelled frames value (spot ∷ rest) = (let r = read_by value frames spot.0 in spelled r.0 r.1 rest)
+
+-- the value from an offset on
+unfoldable pub value_at : List ℕ → ℕ → Value
+value_at text at = spelled [] None (spots text at)

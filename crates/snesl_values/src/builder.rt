@@ -1,0 +1,207 @@
+// Values of a text, built by the tokens that spell them.
+
+ghost use Rattle.std.specs.Prelude.{◌≡◌, ◌∷◌, ◌++◌, [], map, option_map, IfOk, OnOk, Some, None};
+ghost use Rattle.snesl_data.specs.Values.{value_of};
+ghost use Rattle.snesl_values.specs.Places.{value_at, on_none, on_some, close_none, read_value, closed, in_items, in_first, in_second, no_value, unlawful};
+ghost use Rattle.snesl_values.specs.Pendings.{frames_of, reading_of};
+
+use crate::marks::{Bracket, Mark, mark_at};
+use snesl_data::Datum;
+use std::alloc::{AllocError, Global};
+
+// What is open behind the tokens read so far.
+#[derive(Drop)]
+pub(crate) enum Pending {
+    // The items of a vector or a sequence, with those that are whole.
+    Items(Bracket, Vec<Datum>),
+    // A pair whose first part comes next, or was just read.
+    First,
+    // A pair of which this is the first part.
+    Second(Datum),
+}
+
+/// The value that is read from this place on, and some value where none is. Its only error is that memory was refused.
+pub fn datum_at(alloc: Global, text: &[u8], place: usize) -> Result<Datum, AllocError>
+    ensures { IfOk result (λ datum. value_of datum ≡ value_at text.now place) }
+{
+    if place > text.len() {
+        return Ok(Datum::Bool(false));
+    }
+    let mut pending = Vec::new(alloc);
+    let mut last = None;
+    let mut at = place;
+    'tokens: loop {
+        if pending.is_empty() && last.is_some() {
+            return Ok(whole(&pending, last));
+        }
+        match mark_at(text, at) {
+            Some(found) => {
+                last = match last {
+                    Some(datum) => behind_value(alloc, &mut pending, datum, found.mark)?,
+                    None => before_value(alloc, &mut pending, found.mark)?,
+                };
+                at = found.end;
+            }
+            None => return Ok(whole(&pending, last)),
+        }
+    }
+}
+
+// What was read in the end.
+fn whole(pending: &[Pending], last: Option<Datum>) -> Datum
+    ensures { value_of result ≡ read_value (frames_of pending.now) (option_map value_of last) }
+{
+    if !pending.is_empty() {
+        return Datum::Bool(false);
+    }
+    match last {
+        Some(datum) => datum,
+        None => Datum::Bool(false),
+    }
+}
+
+// A token where a value comes next, and the value that is whole then, if one is.
+fn before_value(
+    alloc: Global,
+    pending: &mut Vec<Pending>,
+    mark: Mark,
+) -> Result<Option<Datum>, AllocError>
+    ensures { IfOk result (λ last. reading_of pending.new.items last ≡ on_none (frames_of pending.old.items) mark) }
+{
+    match mark {
+        Mark::Number(number) => Ok(Some(Datum::Int(number))),
+        Mark::Truth(truth) => Ok(Some(Datum::Bool(truth))),
+        Mark::Open(bracket) => {
+            open_bracket(alloc, pending, bracket)?;
+            Ok(None)
+        }
+        Mark::Close(_) => Ok(close_empty(pending)),
+        _ => Ok(unlawful(pending)),
+    }
+}
+
+// A bracket is opened where a value comes next.
+fn open_bracket(
+    alloc: Global,
+    pending: &mut Vec<Pending>,
+    bracket: Bracket,
+) -> Result<(), AllocError>
+    ensures { OnOk result (reading_of pending.new.items None ≡ on_none (frames_of pending.old.items) (Mark.Open bracket)) }
+{
+    match bracket {
+        Bracket::Round => pending.push(Pending::First)?,
+        Bracket::Square => pending.push(Pending::Items(bracket, Vec::new(alloc)))?,
+        Bracket::Curly => pending.push(Pending::Items(bracket, Vec::new(alloc)))?,
+    }
+    Ok(())
+}
+
+// A bracket is closed where a value could come next.
+fn close_empty(pending: &mut Vec<Pending>) -> Option<Datum>
+    ensures { reading_of pending.new.items result ≡ close_none (frames_of pending.old.items) }
+{
+    match pending.pop() {
+        Some(Pending::Items(bracket, items)) => Some(closed(bracket, items)),
+        Some(Pending::First) => unlawful(pending),
+        Some(Pending::Second(_)) => unlawful(pending),
+        None => unlawful(pending),
+    }
+}
+
+// A token behind a value, and the value that is whole then, if one is.
+fn behind_value(
+    alloc: Global,
+    pending: &mut Vec<Pending>,
+    datum: Datum,
+    mark: Mark,
+) -> Result<Option<Datum>, AllocError>
+    ensures { IfOk result (λ last. reading_of pending.new.items last ≡ on_some (value_of datum) (frames_of pending.old.items) mark) }
+{
+    match pending.pop() {
+        Some(Pending::Items(bracket, items)) => behind_item(pending, bracket, items, datum, mark),
+        Some(Pending::First) => behind_first(pending, datum, mark),
+        Some(Pending::Second(first)) => behind_second(alloc, pending, first, datum, mark),
+        None => Ok(Some(datum)),
+    }
+}
+
+// Behind an item of a vector or a sequence.
+fn behind_item(
+    pending: &mut Vec<Pending>,
+    bracket: Bracket,
+    items: Vec<Datum>,
+    datum: Datum,
+    mark: Mark,
+) -> Result<Option<Datum>, AllocError>
+    ensures { IfOk result (λ last. reading_of pending.new.items last ≡ on_some (value_of datum) (in_items bracket (map value_of items.items) ∷ frames_of pending.old.items) mark) }
+{
+    let mut all = items;
+    match mark {
+        Mark::Comma => {
+            all.push(datum)?;
+            pending.push(Pending::Items(bracket, all))?;
+            Ok(None)
+        }
+        Mark::Close(_) => {
+            all.push(datum)?;
+            Ok(Some(closed(bracket, all)))
+        }
+        _ => Ok(unlawful(pending)),
+    }
+}
+
+// Behind the first part of a pair.
+fn behind_first(
+    pending: &mut Vec<Pending>,
+    datum: Datum,
+    mark: Mark,
+) -> Result<Option<Datum>, AllocError>
+    ensures { IfOk result (λ last. reading_of pending.new.items last ≡ on_some (value_of datum) (in_first ∷ frames_of pending.old.items) mark) }
+{
+    match mark {
+        Mark::Comma => {
+            pending.push(Pending::Second(datum))?;
+            Ok(None)
+        }
+        _ => Ok(unlawful(pending)),
+    }
+}
+
+// Behind the second part of a pair.
+fn behind_second(
+    alloc: Global,
+    pending: &mut Vec<Pending>,
+    first: Datum,
+    second: Datum,
+    mark: Mark,
+) -> Result<Option<Datum>, AllocError>
+    ensures { IfOk result (λ last. reading_of pending.new.items last ≡ on_some (value_of second) (in_second (value_of first) ∷ frames_of pending.old.items) mark) }
+{
+    match mark {
+        Mark::Close(_) => {
+            let a = Box::new(alloc, first)?;
+            let b = Box::new(alloc, second)?;
+            Ok(Some(Datum::Pair(a, b)))
+        }
+        _ => Ok(unlawful(pending)),
+    }
+}
+
+// No value is spelled here: some value, and nothing is open.
+fn unlawful(pending: &mut Vec<Pending>) -> Option<Datum>
+    ensures { reading_of pending.new.items result ≡ unlawful }
+{
+    pending.clear();
+    Some(Datum::Bool(false))
+}
+
+// The items of a vector or a sequence.
+fn closed(bracket: Bracket, items: Vec<Datum>) -> Datum
+    ensures { value_of result ≡ closed bracket (map value_of items.items) }
+{
+    match bracket {
+        Bracket::Square => Datum::Vec(items),
+        Bracket::Curly => Datum::Seq(items),
+        Bracket::Round => Datum::Bool(false),
+    }
+}

@@ -1,0 +1,135 @@
+// Values in an input text, checked by their types and not kept.
+
+ghost use Rattle.std.specs.Prelude.{◌≡◌, ◌≤◌, ◌∷◌, [], ◌⊎◌, length, IsTrue, IfOk, IfErr};
+ghost use Rattle.snesl_values.specs.InputTokens.{word, sign, is_sign, Takes};
+ghost use Rattle.snesl_values.specs.Inputs.{left_paren, comma, right_paren};
+ghost use Rattle.snesl_data.specs.Types.{ty_of, bool, pair};
+ghost use Rattle.snesl_data.specs.Values.{Value, Values};
+ghost use Rattle.snesl_values.specs.Wants.{one, a_value, items, IsStop, IsRead, AreRead};
+
+use crate::inputs::InputError;
+use crate::scan::{behind_sign, behind_word, integer_at, skip_blanks};
+use snesl_data::{Dialect, Ty};
+
+// The offset behind the sign of this byte, which has to come next.
+pub fn expect_sign(dialect: Dialect, text: &[u8], at: usize, byte: u8) -> Result<usize, InputError>
+    requires within { at ≤ length text.now }
+    requires lawful { IsTrue (is_sign byte) }
+    ensures taken { IfOk result (Takes text.now at (sign byte)) }
+    ensures stops { IfErr result (IsStop dialect (one (sign byte) ∷ []) text.now at) }
+{
+    match behind_sign(text, at, byte) {
+        Some(end) => Ok(end),
+        None => Err(InputError::Bad(skip_blanks(text, at))),
+    }
+}
+
+// The offset behind this word, which has to come next.
+pub fn expect_word(
+    dialect: Dialect,
+    text: &[u8],
+    at: usize,
+    expected: &[u8],
+) -> Result<usize, InputError>
+    requires { at ≤ length text.now }
+    ensures taken { IfOk result (Takes text.now at (word expected.now)) }
+    ensures stops { IfErr result (IsStop dialect (one (word expected.now) ∷ []) text.now at) }
+{
+    match behind_word(text, at, expected) {
+        Some(end) => Ok(end),
+        None => Err(InputError::Bad(skip_blanks(text, at))),
+    }
+}
+
+// The value of this type that comes next, and the offset behind it.
+#[cycle(values)]
+pub fn check_value(dialect: Dialect, text: &[u8], at: usize, ty: &Ty) -> Result<usize, InputError>
+    requires { at ≤ length text.now }
+    ensures read { IfOk result (λ end. (value : Value) × IsRead dialect text.now at (ty_of ty.now) value end) }
+    ensures stops { IfErr result (IsStop dialect (a_value (ty_of ty.now) ∷ []) text.now at) }
+{
+    match ty {
+        Ty::Int => {
+            match integer_at(dialect, text, at) {
+                Some((_, end)) => Ok(end),
+                None => Err(InputError::Bad(skip_blanks(text, at))),
+            }
+        }
+        Ty::Bool => check_truth(dialect, text, at),
+        Ty::Pair(first, second) => check_pair(dialect, text, at, first, second),
+        Ty::Vec(item) => {
+            let start = expect_sign(dialect, text, at, b'[')?;
+            let items = check_items(dialect, text, start, item, b']')?;
+            Ok(items)
+        }
+        Ty::Seq(item) => {
+            let start = expect_sign(dialect, text, at, b'{')?;
+            let items = check_items(dialect, text, start, item, b'}')?;
+            Ok(items)
+        }
+    }
+}
+
+// The truth value that comes next, and the offset behind it.
+fn check_truth(dialect: Dialect, text: &[u8], at: usize) -> Result<usize, InputError>
+    requires { at ≤ length text.now }
+    ensures read { IfOk result (λ end. (value : Value) × IsRead dialect text.now at bool value end) }
+    ensures stops { IfErr result (IsStop dialect (a_value bool ∷ []) text.now at) }
+{
+    if let Some(end) = behind_word(text, at, b"true") {
+        return Ok(end);
+    }
+    match behind_word(text, at, b"false") {
+        Some(end) => Ok(end),
+        None => Err(InputError::Bad(skip_blanks(text, at))),
+    }
+}
+
+// The pair of these types that comes next, and the offset behind it.
+#[cycle(values)]
+fn check_pair(
+    dialect: Dialect,
+    text: &[u8],
+    at: usize,
+    first: &Ty,
+    second: &Ty,
+) -> Result<usize, InputError>
+    requires { at ≤ length text.now }
+    ensures read { IfOk result (λ end. (value : Value) × IsRead dialect text.now at (pair (ty_of first.now) (ty_of second.now)) value end) }
+    ensures stops { IfErr result (IsStop dialect (a_value (pair (ty_of first.now) (ty_of second.now)) ∷ []) text.now at) }
+{
+    let at_first = expect_sign(dialect, text, at, b'(')?;
+    let behind_first = check_value(dialect, text, at_first, first)?;
+    let at_second = expect_sign(dialect, text, behind_first, b',')?;
+    let behind_second = check_value(dialect, text, at_second, second)?;
+    let end = expect_sign(dialect, text, behind_second, b')')?;
+    Ok(end)
+}
+
+// The items of this type that come next, with commas between them and the closing sign behind them,
+// and the offset behind that.
+#[cycle(values)]
+fn check_items(
+    dialect: Dialect,
+    text: &[u8],
+    at: usize,
+    item: &Ty,
+    close: u8,
+) -> Result<usize, InputError>
+    requires within { at ≤ length text.now }
+    requires closes { (close ≡ 93) ⊎ (close ≡ 125) }
+    ensures read { IfOk result (λ end. (values : Values) × AreRead dialect text.now at (ty_of item.now) close values end) }
+    ensures stops { IfErr result (IsStop dialect (items (ty_of item.now) close ∷ []) text.now at) }
+{
+    if let Some(end) = behind_sign(text, at, close) {
+        return Ok(end);
+    }
+    let mut from = at;
+    'each: loop {
+        let behind = check_value(dialect, text, from, item)?;
+        if let Some(end) = behind_sign(text, behind, close) {
+            return Ok(end);
+        }
+        from = expect_sign(dialect, text, behind, b',')?;
+    }
+}

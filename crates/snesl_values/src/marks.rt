@@ -1,0 +1,131 @@
+// Tokens of a text, as a scanner sees them.
+
+ghost use Rattle.std.specs.Prelude.{◌≡◌, ◌+◌, ◌<◌, ◌≤◌, ◌^◌, length, IsTrue, IfSome, Some, option_map};
+ghost use Rattle.std.specs.List.{AllByRecursion, take_while};
+ghost use Rattle.std.specs.Char.{is_ascii_digit};
+ghost use Rattle.snesl_values.specs.InputTokens.{integer, number_of, minus_lexeme, first, next, next_at};
+ghost use Rattle.snesl_values.specs.Marks.{mark_of, sign_mark, word_mark, found_from};
+
+use crate::scan::{signed_number, skip_blanks};
+use snesl_data::{Dialect, digits_len, word_len};
+
+/// The brackets of pairs, of vectors and of sequences.
+#[derive(Clone, Copy, Debug, PartialEq, Eq)]
+pub enum Bracket {
+    Round,
+    Square,
+    Curly,
+}
+
+/// A token, as far as a scanner looks at it.
+#[derive(Clone, Copy, Debug, PartialEq, Eq)]
+pub enum Mark {
+    Truth(bool),
+    Number(i128),
+    Open(Bracket),
+    Close(Bracket),
+    Comma,
+    /// Any other token.
+    Other,
+}
+
+/// A token, and the offset behind it.
+#[derive(Clone, Copy, Debug, PartialEq, Eq)]
+pub struct Found {
+    pub mark: Mark,
+    pub end: usize,
+}
+
+/// The token that comes next, with the offset behind it, if one does.
+pub fn mark_at(text: &[u8], at: usize) -> Option<Found>
+    requires { at ≤ length text.now }
+    ensures next { result ≡ found_from (next_at text.now at) (next text.now at) }
+    ensures moves { IfSome result (λ found. at < found.end) }
+    ensures within { IfSome result (λ found. found.end ≤ length text.now) }
+{
+    let start = skip_blanks(text, at);
+    if start == text.len() {
+        return None;
+    }
+    let (mark, len) = first_mark(&text[start..]);
+    Some(Found {
+        mark,
+        end: start + len,
+    })
+}
+
+// The token that stands first, and its length.
+fn first_mark(bytes: &[u8]) -> (Mark, usize)
+    requires { 0 < length bytes.now }
+    ensures first { Some result ≡ option_map (λ lexeme. (mark_of lexeme.0, lexeme.1)) (first bytes.now) }
+    ensures moves { 0 < result.1 }
+    ensures within { result.1 ≤ length bytes.now }
+{
+    let byte = bytes[0];
+    if byte.is_ascii_alphabetic() {
+        let len = word_len(bytes);
+        return (word_mark(&bytes[..len]), len);
+    }
+    if byte.is_ascii_digit() {
+        let len = digits_len(bytes);
+        return (number_mark(false, &bytes[..len]), len);
+    }
+    if byte == b'-' {
+        return minus_mark(&bytes[1..]);
+    }
+    (sign_mark(byte), 1)
+}
+
+// What is behind a minus, and the length with it.
+fn minus_mark(rest: &[u8]) -> (Mark, usize)
+    requires { length rest.now < 2 ^ 63 }
+    ensures first { result ≡ (let lexeme = minus_lexeme (take_while is_ascii_digit rest.now) in (mark_of lexeme.0, lexeme.1)) }
+    ensures moves { 0 < result.1 }
+    ensures within { result.1 ≤ length rest.now + 1 }
+{
+    let len = digits_len(rest);
+    if len == 0 {
+        return (Mark::Other, 1);
+    }
+    (number_mark(true, &rest[..len]), len + 1)
+}
+
+// A word.
+fn word_mark(letters: &[u8]) -> Mark
+    ensures { result ≡ word_mark letters.now }
+{
+    if letters == b"true".as_slice() {
+        return Mark::Truth(true);
+    }
+    if letters == b"false".as_slice() {
+        return Mark::Truth(false);
+    }
+    Mark::Other
+}
+
+// A sign.
+fn sign_mark(byte: u8) -> Mark
+    ensures { result ≡ sign_mark byte }
+{
+    match byte {
+        b'(' => Mark::Open(Bracket::Round),
+        b')' => Mark::Close(Bracket::Round),
+        b'[' => Mark::Open(Bracket::Square),
+        b']' => Mark::Close(Bracket::Square),
+        b'{' => Mark::Open(Bracket::Curly),
+        b'}' => Mark::Close(Bracket::Curly),
+        b',' => Mark::Comma,
+        _ => Mark::Other,
+    }
+}
+
+// The integer that digits write with this sign, where 128 bits hold it.
+fn number_mark(is_negative: bool, digits: &[u8]) -> Mark
+    requires { AllByRecursion (λ c. IsTrue (is_ascii_digit c)) digits.now }
+    ensures { result ≡ mark_of (integer (number_of is_negative digits.now)) }
+{
+    match signed_number(Dialect::Two, is_negative, digits) {
+        Some(number) => Mark::Number(number),
+        None => Mark::Other,
+    }
+}

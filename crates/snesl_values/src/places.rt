@@ -1,0 +1,69 @@
+// Declared inputs, each a name and the place of its value.
+
+ghost use Rattle.std.specs.Prelude.{◌≡◌, ◌≤◌, [], length, IfOk, IfErr};
+ghost use Rattle.snesl_values.specs.Declarations.{declared, declaration_of};
+ghost use Rattle.snesl_data.specs.Types.{ty_of};
+ghost use Rattle.snesl_values.specs.Wants.{entry_wants, IsStop, IsStopOf, IsEntry, AllRead};
+ghost use Rattle.snesl_values.specs.Entries.{entry_at, environment_at, IsPlaced, ArePlaced};
+
+use crate::checker::{check_value, expect_sign, expect_word};
+use crate::inputs::InputError;
+use crate::scan::behind_sign;
+use snesl_data::{Dialect, Ty};
+use std::alloc::Global;
+
+/// A declared name, and the offset from which its value is read.
+#[derive(Debug, Drop)]
+pub struct Placed {
+    pub name: Vec<u8>,
+    pub place: usize,
+}
+
+/// The places of the declared values, where a text begins with them, and the offset behind them.
+pub fn read_places(
+    dialect: Dialect,
+    alloc: Global,
+    decls: &[(Vec<u8>, Ty)],
+    text: &[u8],
+) -> Result<(Vec<Placed>, usize), InputError>
+    ensures read { IfOk result (λ found. AllRead dialect text.now (declared decls.now) (environment_at text.now found.0.items) found.1) }
+    ensures placed { IfOk result (λ found. ArePlaced dialect text.now (declared decls.now) found.0.items) }
+    ensures stops { IfErr result (IsStopOf dialect (declared decls.now) text.now) }
+{
+    let mut all = Vec::new(alloc);
+    if decls.is_empty() {
+        return Ok((all, 0));
+    }
+    let (input, mut at) = read_entry(dialect, alloc, text, 0, &decls[0])?;
+    all.push(input)?;
+    for declaration in &decls[1..] {
+        let start = expect_sign(dialect, text, at, b';')?;
+        let (input, end) = read_entry(dialect, alloc, text, start, declaration)?;
+        all.push(input)?;
+        at = end;
+    }
+    match behind_sign(text, at, b';') {
+        Some(end) => Ok((all, end)),
+        None => Ok((all, at)),
+    }
+}
+
+// The declared input that comes next, and the offset behind it.
+fn read_entry(
+    dialect: Dialect,
+    alloc: Global,
+    text: &[u8],
+    at: usize,
+    declaration: &(Vec<u8>, Ty),
+) -> Result<(Placed, usize), InputError>
+    requires { at ≤ length text.now }
+    ensures read { IfOk result (λ found. IsEntry dialect text.now at (declaration_of declaration.now) (entry_at text.now found.0) found.1) }
+    ensures placed { IfOk result (λ found. IsPlaced dialect text.now (ty_of declaration.now.1) found.0.place) }
+    ensures stops { IfErr result (IsStop dialect (entry_wants (declaration_of declaration.now) []) text.now at) }
+{
+    let behind_name = expect_word(dialect, text, at, &declaration.0)?;
+    let start = expect_sign(dialect, text, behind_name, b'=')?;
+    let end = check_value(dialect, text, start, &declaration.1)?;
+    let name = Vec::from_slice(alloc, &declaration.0)?;
+    Ok((Placed { name, place: start }, end))
+}
