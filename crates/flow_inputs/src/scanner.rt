@@ -4,8 +4,8 @@ ghost use Rattle.std.specs.Prelude.{◌≡◌, ◌≤◌, ◌++◌, [], length, 
 ghost use Rattle.flow_inputs.specs.Turns.{depth_of};
 ghost use Rattle.flow_inputs.specs.Left.{left};
 
-use crate::marks::mark_at;
 use crate::turns::{Leaf, Piece, State, Step, is_done, turn};
+use snesl_values::mark_at;
 
 // What was found, and where the scan stands behind it.
 #[derive(Clone, Copy, Debug, PartialEq, Eq)]

@@ -9,6 +9,7 @@ ghost use Rattle.snesl_values.specs.InputTokens.{Reads};
 ghost use Rattle.snesl_values.specs.Inputs.{value_tokens};
 ghost use Rattle.flow_messages.specs.Cells.{cell_of, is_of};
 ghost use Rattle.flow_messages.specs.Signals.{signal_of};
+ghost use Rattle.flow_messages.specs.declared.message.Kind.TheVariants.{Vec as VecKind};
 ghost use Rattle.flow_values.specs.Flats.{width, flat};
 ghost use Rattle.flow_scalar.specs.SourceBehaviour.{source_opened, source_behaviour};
 ghost use Rattle.flow_inputs.specs.Left.{left, cell};
@@ -19,11 +20,12 @@ ghost use Rattle.flow_inputs.specs.Items.{items_at, opening_state, IsRest};
 
 use crate::scanner::scan;
 use crate::turns::{Leaf, Mode, Piece, State, Step};
-use crate::vectors::vector_item;
 use crate::ways::add_way;
-use flow_messages::{Item, Kind, Msg};
-use flow_scalar::{Transducer, Want};
+use flow_base::{Port, Side, Transducer};
+use flow_messages::{Item, Msg};
+use kahn::Want;
 use snesl_data::Ty;
+use snesl_values::datum_at;
 use std::alloc::{AllocError, Global};
 use std::sync::Arc;
 
@@ -84,12 +86,15 @@ impl TextSource {
 // An item that carries the same as a piece. Only a vector takes memory.
 fn item_of(alloc: Global, text: &[u8], piece: Piece) -> Result<Item, AllocError>
     ensures ok { IfOk result (λ item. cell_of item ≡ cell (value_at text.now) piece) }
-    ensures scalar { is_of Kind.Vec (cell (value_at text.now) piece) ≡ false → IsOk result }
+    ensures scalar { is_of VecKind (cell (value_at text.now) piece) ≡ false → IsOk result }
 {
     match piece {
         Piece::Flag(truth) => Ok(Item::Bool(truth)),
         Piece::Int(number) => Ok(Item::Int(number)),
-        Piece::VectorAt(place) => vector_item(alloc, text, place),
+        Piece::VectorAt(place) => {
+            let vector = datum_at(alloc, text, place)?;
+            Item::of_datum(alloc, vector)
+        }
     }
 }
 
@@ -114,20 +119,15 @@ impl Transducer for TextSource {
         }
     }
 
-    fn inputs(&self) -> usize {
-        0
-    }
-
-    fn outputs(&self) -> usize {
-        1
-    }
-
-    fn kind_in(&self, _port: usize) -> Kind {
-        self.leaf.kind()
-    }
-
-    fn kind_out(&self, _port: usize) -> Kind {
-        self.leaf.kind()
+    fn port(&self, side: Side, _number: usize) -> Port {
+        let count = match side {
+            Side::In => 0,
+            Side::Out => 1,
+        };
+        Port {
+            count,
+            kind: self.leaf.kind(),
+        }
     }
 
     fn give(&mut self, _port: usize, message: Msg) -> Result<(), AllocError>

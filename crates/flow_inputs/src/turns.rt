@@ -4,8 +4,8 @@ ghost use Rattle.std.specs.Prelude.{◌≡◌, ◌+◌, ◌<◌, ◌^◌, slice_
 ghost use Rattle.flow_inputs.specs.Items.{leaf_kind};
 ghost use Rattle.flow_inputs.specs.Turns.{moved, wrote, lost, at_leaf, at_value, at_opened, behind, passed, passing, flagging, counting, within, made, turn, depth_of, is_done};
 
-use crate::marks::{Bracket, Mark};
 use flow_messages::Kind;
+use snesl_values::{Bracket, Mark};
 
 /// A step on the way from a type to one of its edges.
 #[derive(Clone, Copy, Debug, PartialEq, Eq)]

@@ -10,7 +10,7 @@ use snesl_data::Ty;
 use std::alloc::AllocError;
 
 /// How many edges the type has, where the number fits.
-fn edge_count(ty: &Ty) -> usize
+pub fn edge_count(ty: &Ty) -> usize
     requires { width (ty_of ty.now) < 2 ^ 64 }
     ensures { result ≡ width (ty_of ty.now) }
 {

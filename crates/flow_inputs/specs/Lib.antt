@@ -1,0 +1,5 @@
+pub mod Turns
+pub mod Left
+pub mod Ways
+pub mod Items
+pub mod Laws
