@@ -3,3 +3,4 @@ pub mod Left
 pub mod Ways
 pub mod Items
 pub mod Laws
+pub mod TextSources

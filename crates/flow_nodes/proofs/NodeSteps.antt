@@ -9,6 +9,7 @@ use Rattle.flow_nodes.specs.StreamNodes.{node_behaviour, state_of, text_in}
 -- the same function, by cases of the variant
 abbrev pub by_variant : {R : Type 0} → (StreamNode → R) → StreamNode → R
 by_variant f (nodes.Source n) = f (nodes.Source n)
+by_variant f (nodes.TextSource n) = f (nodes.TextSource n)
 by_variant f (nodes.Const n) = f (nodes.Const n)
 by_variant f (nodes.Unary n) = f (nodes.Unary n)
 by_variant f (nodes.Binary n) = f (nodes.Binary n)

@@ -3,6 +3,7 @@ use Rattle.std.specs.Prelude.{ℕ, List, Option, Some, None}
 use Rattle.flow_base.specs.Transducers.{Behaviour, BehaviourLaws}
 use Rattle.flow_base.specs.Members.{Member, member_of, members_behaviour, members_laws}
 use Rattle.flow_scalar.specs.laws.Source.{source_node}
+use Rattle.flow_inputs.specs.TextSources.{text_source_state}
 use Rattle.flow_scalar.specs.laws.Const.{const_node}
 use Rattle.flow_scalar.specs.laws.Unary.{unary_node}
 use Rattle.flow_scalar.specs.laws.Binary.{binary_node}
@@ -97,6 +98,7 @@ node_laws = members_laws a_source member
 -- the state of a node, under its kind
 abbrev pub state_of : StreamNode → (t : NodeKind) × (member t).State
 state_of (nodes.Source n) = (a_source, source_node.state n)
+state_of (nodes.TextSource n) = (a_source, text_source_state n)
 state_of (nodes.Const n) = (a_const, const_node.state n)
 state_of (nodes.Unary n) = (a_unary, unary_node.state n)
 state_of (nodes.Binary n) = (a_binary, binary_node.state n)

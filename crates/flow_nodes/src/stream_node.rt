@@ -4,6 +4,7 @@ ghost use Rattle.std.specs.Prelude.{◌≡◌};
 ghost use Rattle.flow_nodes.specs.StreamNodes.{node_behaviour, state_of};
 
 use flow_base::{Node, Port, Printing, Side, Transducer};
+use flow_inputs::TextSource;
 use flow_messages::{Ends, Msg};
 use flow_scalar::{
     Binary, Const, Fork, Iota, Length, Reduce, ScanAdd, Sink, Source, Unary, UnitsOf,
@@ -20,6 +21,7 @@ use std::alloc::AllocError;
 #[derive(Drop)]
 pub enum StreamNode {
     Source(Source),
+    TextSource(TextSource),
     Const(Node<Const>),
     Unary(Node<Unary>),
     Binary(Node<Binary>),
@@ -52,6 +54,7 @@ macro_rules! with_node {
     ($any:expr, $node:ident => $result:expr) => {
         match $any {
             StreamNode::Source($node) => $result,
+            StreamNode::TextSource($node) => $result,
             StreamNode::Const($node) => $result,
             StreamNode::Unary($node) => $result,
             StreamNode::Binary($node) => $result,

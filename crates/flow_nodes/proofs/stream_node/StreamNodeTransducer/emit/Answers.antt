@@ -15,6 +15,18 @@ returns-in-Source-clause-err c = kept_node a_source _ (state_of c.args.self.now)
 pub returns-in-Source-clause-sure : goal.returns-in-Source-clause-sure
 returns-in-Source-clause-sure c = sure_node a_source _ (state_of c.args.self.now) (ap state_of c.in-Source.is) c.emit.result c.emit.ensures.sure
 
+pub emit-requires-in-TextSource : goal.emit-requires-in-TextSource
+emit-requires-in-TextSource c = writes_node a_source _ (state_of c.args.self.now) (ap state_of c.in-TextSource.is) c.requires
+
+pub returns-in-TextSource-clause-ok : goal.returns-in-TextSource-clause-ok
+returns-in-TextSource-clause-ok c = sent_node a_source _ (state_of c.args.self.now) (ap state_of c.in-TextSource.is) _ c.emit-in-TextSource.result c.emit-in-TextSource.ensures.ok
+
+pub returns-in-TextSource-clause-err : goal.returns-in-TextSource-clause-err
+returns-in-TextSource-clause-err c = kept_node a_source _ (state_of c.args.self.now) (ap state_of c.in-TextSource.is) _ c.emit-in-TextSource.result c.emit-in-TextSource.ensures.err
+
+pub returns-in-TextSource-clause-sure : goal.returns-in-TextSource-clause-sure
+returns-in-TextSource-clause-sure c = sure_node a_source _ (state_of c.args.self.now) (ap state_of c.in-TextSource.is) c.emit-in-TextSource.result c.emit-in-TextSource.ensures.sure
+
 pub emit-requires-in-Const : goal.emit-requires-in-Const
 emit-requires-in-Const c = writes_node a_const _ (state_of c.args.self.now) (ap state_of c.in-Const.is) c.requires
 

@@ -9,6 +9,12 @@ returns-in-Source-clause-count c = ports_node a_source _ (state_of c.args.self.n
 pub returns-in-Source-clause-kind : goal.returns-in-Source-clause-kind
 returns-in-Source-clause-kind c = kind_node a_source _ (state_of c.args.self.now) (ap state_of c.in-Source.is) c.args.side c.args.number c.port.ensures.kind
 
+pub returns-in-TextSource-clause-count : goal.returns-in-TextSource-clause-count
+returns-in-TextSource-clause-count c = ports_node a_source _ (state_of c.args.self.now) (ap state_of c.in-TextSource.is) c.args.side c.port-in-TextSource.ensures.count
+
+pub returns-in-TextSource-clause-kind : goal.returns-in-TextSource-clause-kind
+returns-in-TextSource-clause-kind c = kind_node a_source _ (state_of c.args.self.now) (ap state_of c.in-TextSource.is) c.args.side c.args.number c.port-in-TextSource.ensures.kind
+
 pub returns-in-Const-clause-count : goal.returns-in-Const-clause-count
 returns-in-Const-clause-count c = ports_node a_const _ (state_of c.args.self.now) (ap state_of c.in-Const.is) c.args.side c.port-in-Const.ensures.count
 

@@ -12,6 +12,15 @@ returns-in-Source-clause-visited g c = visited_node _ _ a_source _ _ _ _ (state_
 pub returns-in-Source-clause-broke : goal.returns-in-Source-clause-broke
 returns-in-Source-clause-broke g c = broke_node _ _ a_source _ _ _ _ (state_of c.args.self.now) c.run.result (ap state_of c.in-Source.is) c.run.ensures.broke
 
+pub run-requires-in-TextSource-clause-placed : goal.run-requires-in-TextSource-clause-placed
+run-requires-in-TextSource-clause-placed g c = placed_node a_source _ (state_of c.args.self.now) (ap state_of c.in-TextSource.is) c.requires.placed
+
+pub returns-in-TextSource-clause-visited : goal.returns-in-TextSource-clause-visited
+returns-in-TextSource-clause-visited g c = visited_node _ _ a_source _ _ _ _ (state_of c.args.self.now) c.run-in-TextSource.result (ap state_of c.in-TextSource.is) c.run-in-TextSource.ensures.visited
+
+pub returns-in-TextSource-clause-broke : goal.returns-in-TextSource-clause-broke
+returns-in-TextSource-clause-broke g c = broke_node _ _ a_source _ _ _ _ (state_of c.args.self.now) c.run-in-TextSource.result (ap state_of c.in-TextSource.is) c.run-in-TextSource.ensures.broke
+
 pub run-requires-in-Const-clause-placed : goal.run-requires-in-Const-clause-placed
 run-requires-in-Const-clause-placed g c = placed_node a_const _ (state_of c.args.self.now) (ap state_of c.in-Const.is) c.requires.placed
 

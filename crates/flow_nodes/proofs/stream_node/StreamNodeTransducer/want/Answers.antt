@@ -6,6 +6,9 @@ use Rattle.flow_nodes.proofs.stream_node.StreamNodeTransducer.want.Goals as goal
 pub returns-in-Source : goal.returns-in-Source
 returns-in-Source c = want_node a_source _ (state_of c.args.self.now) (ap state_of c.in-Source.is) c.want.ensures
 
+pub returns-in-TextSource : goal.returns-in-TextSource
+returns-in-TextSource c = want_node a_source _ (state_of c.args.self.now) (ap state_of c.in-TextSource.is) c.want-in-TextSource.ensures
+
 pub returns-in-Const : goal.returns-in-Const
 returns-in-Const c = want_node a_const _ (state_of c.args.self.now) (ap state_of c.in-Const.is) c.want-in-Const.ensures
 
