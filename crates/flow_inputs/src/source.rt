@@ -52,8 +52,14 @@ pub struct TextSource {
 }
 
 impl TextSource {
-    /// A source that has written nothing, of the value of the type that is read from this place on, at the edge of this
-    /// number. The error is that memory was refused.
+    ghost use Rattle.flow_inputs.specs.TextSources.{items_in, text_source_state};
+
+    /// A source that has written nothing. It will write what the value puts on the edge of this number of its type, where
+    /// the text spells a value of the type from this place on: an offset in bytes from the start of the text.
+    ///
+    /// # Errors
+    ///
+    /// `AllocError` where memory is refused.
     pub fn new(
         alloc: Global,
         text: Arc<Vec<u8>>,
@@ -63,7 +69,8 @@ impl TextSource {
     ) -> Result<TextSource, AllocError>
         requires inside { place ≤ length (arc_value text).items }
         requires fits { width (ty_of ty.now) < 2 ^ 64 }
-        ensures state { IfOk result (λ source. ⟦<TextSource as Transducer>⟧.state source ≡ source_opened (items_at (arc_value text).items (way_to (ty_of ty.now) edge) (leaf_at (ty_of ty.now) edge) place)) }
+        ensures opens { IfOk result (λ source. text_source_state source ≡ source_opened (items_in source)) }
+        ensures items { IfOk result (λ source. items_in source ≡ items_at (arc_value text).items (way_to (ty_of ty.now) edge) (leaf_at (ty_of ty.now) edge) place) }
     {
         let mut way = Vec::new(alloc);
         let leaf = add_way(&mut way, ty, edge)?;
@@ -101,11 +108,11 @@ fn item_of(alloc: Global, text: &[u8], piece: Piece) -> Result<Item, AllocError>
 impl Transducer for TextSource {
     ghost use Rattle.flow_scalar.specs.SourceBehaviour.{SourceState};
     ghost use Rattle.flow_scalar.specs.laws.Source.{source_laws};
-    ghost use Rattle.flow_inputs.specs.Items.{text_state};
+    ghost use Rattle.flow_inputs.specs.TextSources.{text_source_state};
 
     ghost State = { SourceState };
 
-    ghost state = { λ n. text_state (arc_value n.text).items n.way.items n.leaf n.place n.at n.state n.ended };
+    ghost state = { text_source_state };
 
     ghost behaviour = { source_behaviour };
 
