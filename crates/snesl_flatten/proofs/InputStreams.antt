@@ -1,4 +1,4 @@
--- The streams of the values of some inputs, and of one more.
+-- What the values of some inputs put on edges, and of one more.
 use Rattle.std.proofs.Common.{◌≡◌, ℕ, suc, ◌<◌, ◌≤◌, true, List, [], ◌∷◌, ◌++◌, length, map, take, get_or, Vec, Option, Some, None, refl, sym, ap, subst, ◌∙◌, arith}
 use Rattle.std.proofs.Math.Path.{ap₂}
 use Rattle.std.proofs.lemmas.List.{map-append, take_all}
@@ -10,8 +10,8 @@ use Rattle.snesl_data.specs.declared.dialect.Dialect.{Dialect}
 use Rattle.snesl_data.specs.declared.ty.Ty.{Ty as TyTree}
 use Rattle.snesl_data.specs.Values.{Value}
 use Rattle.snesl_values.specs.Inputs.{Declaration, Environment, Fits, declared, declaration_of}
-use Rattle.flow_scalar.specs.Streams.{stream_cells, stream_kind}
-use Rattle.flow_scalar.specs.declared.source.Stream.{Stream}
+use Rattle.flow_messages.specs.declared.message.Kind.{Kind}
+use Rattle.flow_base.specs.Columns.{Columns}
 use Rattle.flow_values.specs.Shapes.{is_a, kinds_of}
 use Rattle.flow_rows.specs.Made.{laid}
 use Rattle.snesl_translation.specs.Programs.{columns_of}
@@ -47,18 +47,15 @@ module _ (dialect : Dialect) (ds : List Declaration) (es : Environment) (fits : 
     pub value_typed : is_a d.1 v ≡ true
     value_typed = subst (λ v. is_a d.1 v ≡ true) value_is (fit_at dialect ds es i d fits there).2
 
-    -- its streams behind those of the inputs before it
-    pub cells_added : (streams more : List Stream) → map stream_cells streams ≡ columns_of (take i ds) (take i es) → map stream_cells more ≡ laid d.1 (v ∷ [])
-        → map stream_cells (streams ++ more) ≡ columns_of (take (suc i) ds) (take (suc i) es)
-    cells_added streams more so_far one =
+    -- its columns behind those of the inputs before it
+    pub cells_added : (columns : Columns) → columns ≡ columns_of (take i ds) (take i es) → columns ++ laid d.1 (v ∷ []) ≡ columns_of (take (suc i) ds) (take (suc i) es)
+    cells_added columns so_far =
         let g = fit_at dialect ds es i d fits there in
-        map-append stream_cells streams more
-        ∙ ap₂ (λ a b. a ++ b) so_far (one ∙ ap (λ v. laid d.1 (v ∷ [])) (sym value_is))
+        ap₂ (λ a b. a ++ b) so_far (ap (λ v. laid d.1 (v ∷ [])) (sym value_is))
         ∙ sym (columns_more ds es i d g.0 there g.1)
 
-pub kinds_added : (ds : List Declaration) (i : ℕ) (d : Declaration) → slice_get ds i ≡ Some d → (streams more : List Stream) → map stream_kind streams ≡ all_kinds (take i ds) → map stream_kind more ≡ kinds_of d.1
-    → map stream_kind (streams ++ more) ≡ all_kinds (take (suc i) ds)
-kinds_added ds i d there streams more so_far one = map-append stream_kind streams more ∙ ap₂ (λ a b. a ++ b) so_far one ∙ sym (kinds_more ds i d there)
+pub kinds_added : (ds : List Declaration) (i : ℕ) (d : Declaration) → slice_get ds i ≡ Some d → (kinds : List Kind) → kinds ≡ all_kinds (take i ds) → kinds ++ kinds_of d.1 ≡ all_kinds (take (suc i) ds)
+kinds_added ds i d there kinds so_far = ap (λ l. l ++ kinds_of d.1) so_far ∙ sym (kinds_more ds i d there)
 
 -- there are as many values as declarations
 fits_length : (dialect : Dialect) (ds : List Declaration) (es : Environment) → Fits dialect ds es → length es ≡ length ds

@@ -9,4 +9,5 @@ mod InputValues
 mod Meanings
 mod Held
 mod InputStreams
+mod InputSources
 mod Setting

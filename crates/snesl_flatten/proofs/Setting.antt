@@ -10,8 +10,9 @@ use Rattle.snesl_tree.specs.Tree.{ProgramTree}
 use Rattle.snesl_types.specs.Typed.{typed_inputs}
 use Rattle.flow_messages.specs.declared.message.Kind.{Kind}
 use Rattle.flow_base.specs.Columns.{Columns}
-use Rattle.flow_scalar.specs.Streams.{Items, stream_cells, stream_kind}
-use Rattle.flow_scalar.specs.declared.source.Stream.{Stream}
+use Rattle.flow_scalar.specs.Streams.{Items}
+use Rattle.flow_inputs.specs.TextSources.{items_in, text_source_state}
+use Rattle.flow_inputs.specs.declared.source.TextSource.{TextSource}
 use Rattle.flow_scalar.specs.SourceBehaviour.{source_opened}
 use Rattle.flow_nodes.specs.StreamNodes.{a_source, node_behaviour}
 use Rattle.flow_graph.specs.declared.edge.Edge.{Edge}
@@ -25,21 +26,27 @@ use Rattle.flow_assembly.specs.Openings.{Opens, AllOpen, OpeningsPerform}
 use Rattle.snesl_translation.specs.Wires.{type_of_wires}
 use Rattle.snesl_translation.specs.Programs.{first_offset, program_plan, not_set}
 use Rattle.snesl_flatten.specs.Networks.{NodeState, program_steps}
-use Rattle.snesl_flatten.specs.Sources.{all_kinds, written, HasSources}
+use Rattle.snesl_flatten.specs.Sources.{all_kinds, cells_in, kind_in, written, AreFresh, HasSources}
 use Rattle.snesl_flatten.specs.PlanViews.{planned, steps_planned, AreButSources}
 use Rattle.snesl_flatten.specs.declared.plan.Plan.{Plan}
-use Rattle.snesl_flatten.proofs.Sources.{source_step, next_source, next_set}
+use Rattle.snesl_flatten.proofs.InputSources.{fresh_at}
+use Rattle.snesl_flatten.proofs.Sources.{source_step, next_source, next_set, steps_enough}
 use Rattle.snesl_flatten.proofs.Ends.{print_stays}
 
--- the kind of the next stream
-pub kind_there : (streams : List Stream) (kinds : List Kind) → map stream_kind streams ≡ kinds → (n : ℕ) (s : Stream) → (n < length streams) × (s ≡ get_or streams n s) → slice_get kinds n ≡ Some (stream_kind s)
-kind_there streams kinds same n s turn =
-    ap (λ l. slice_get l n) (sym same) ∙ slice_get-map stream_kind streams n ∙ ap (option_map stream_kind) (slice_get-get_or streams n s turn.0 ∙ ap Some (sym turn.1))
+-- the kind of the next source
+pub kind_there : (sources : List TextSource) (kinds : List Kind) → map kind_in sources ≡ kinds → (n : ℕ) (s : TextSource) → (n < length sources) × (s ≡ get_or sources n s) → slice_get kinds n ≡ Some (kind_in s)
+kind_there sources kinds same n s turn =
+    ap (λ l. slice_get l n) (sym same) ∙ slice_get-map kind_in sources n ∙ ap (option_map kind_in) (slice_get-get_or sources n s turn.0 ∙ ap Some (sym turn.1))
 
 -- the same by how many columns there are
-pub kind_next : (streams : List Stream) (kinds : List Kind) → map stream_kind streams ≡ kinds → (done : List Stream) (s : Stream) → (length done < length streams) × (s ≡ get_or streams (length done) s)
-    → slice_get kinds (length (map stream_cells done)) ≡ Some (stream_kind s)
-kind_next streams kinds same done s turn = ap (slice_get kinds) (length-map done stream_cells) ∙ kind_there streams kinds same (length done) s turn
+pub kind_next : (sources : List TextSource) (kinds : List Kind) → map kind_in sources ≡ kinds → (done : List TextSource) (s : TextSource) → (length done < length sources) × (s ≡ get_or sources (length done) s)
+    → slice_get kinds (length (map cells_in done)) ≡ Some (kind_in s)
+kind_next sources kinds same done s turn = ap (slice_get kinds) (length-map done cells_in) ∙ kind_there sources kinds same (length done) s turn
+
+-- it has written nothing
+pub fresh_next : (sources : List TextSource) → AreFresh sources → (done : List TextSource) (s : TextSource) → (length done < length sources) × (s ≡ get_or sources (length done) s)
+    → text_source_state s ≡ source_opened (items_in s)
+fresh_next sources fresh done s turn = fresh_at sources (length done) s fresh (slice_get-get_or sources (length done) s turn.0 ∙ ap Some (sym turn.1))
 
 -- a number that was read from a list that is this one
 pub place_is : (ps qs : List ℕ) → ps ≡ qs → (n m v : ℕ) → v ≡ get_or ps n v → n ≡ m → m < length qs → v ≡ get_or qs m 0
@@ -59,6 +66,12 @@ next_within text program inputs columns states edges has kind there =
     let steps = program_steps text program inputs (written columns) in
     let within = slice_get_within steps (suc (length columns)) _ (next_source text program inputs columns kind there) in
     omega (arith, within, places_length steps 0 0 steps, ap length has.places_are)
+
+-- all sources have places among those of the steps
+pub sources_fit : (text : List ℕ) (program : ProgramTree) (inputs : List Declaration) → length (all_kinds inputs) < length (places (program_steps text program inputs not_set))
+sources_fit text program inputs =
+    let steps = program_steps text program inputs not_set in
+    omega (arith, steps_enough text program inputs not_set, places_length steps 0 0 steps)
 
 -- a list with one item set
 get_set : {A : Type 0} (xs : List A) (j : ℕ) (y : A) → j < length xs → slice_get (set xs j y) j ≡ Some y

@@ -1,5 +1,5 @@
 -- The steps of a program, and how they change where a source is set.
-use Rattle.std.proofs.Common.{◌≡◌, ◌≢◌, ℕ, zero, suc, ◌+◌, ◌-◌, ◌<◌, ◌≤◌, List, [], ◌∷◌, ◌++◌, length, get_or, set, Some, refl, sym, ap, ◌∙◌, arith, append_assoc, append-nil}
+use Rattle.std.proofs.Common.{◌≡◌, ◌≢◌, ℕ, zero, suc, ◌+◌, ◌-◌, ◌<◌, ◌≤◌, List, [], ◌∷◌, ◌++◌, length, get_or, set, Some, refl, sym, ap, ◌∙◌, arith, append_assoc, append-nil, length-append}
 use Rattle.std.proofs.Math.Path.{ap₂}
 use Rattle.std.proofs.lemmas.List.{set-append_left}
 use Rattle.std.proofs.lemmas.Option.{slice_get_within}
@@ -121,6 +121,12 @@ module _ (text : List ℕ) (program : ProgramTree) (inputs : List Declaration) w
 
   pub front_and_print : (cells : ℕ → List Cell) → program_steps text program inputs cells ≡ front_steps cells ++ print_step ∷ []
   front_and_print cells = steps_are cells ∙ ap (λ l. control_step ∷ l) (sym (append_assoc (source_steps begin cells 1 (all_kinds inputs)) value.steps (print_step ∷ [])))
+
+  -- there is a step for each stream of the inputs, and one more
+  pub steps_enough : (cells : ℕ → List Cell) → length (all_kinds inputs) < length (program_steps text program inputs cells)
+  steps_enough cells =
+      let sources = source_steps begin cells 1 (all_kinds inputs) in
+      omega (arith, ap length (steps_are cells), length-append sources (value.steps ++ print_step ∷ []), sources_length begin cells 1 (all_kinds inputs))
 
   pub given_is : (cells : ℕ → List Cell) → (program_plan text program inputs cells).given ≡ value.given
   unfolding and_then

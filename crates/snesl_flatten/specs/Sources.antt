@@ -1,11 +1,14 @@
 -- The sources of a plan as they are set one after another.
-use Rattle.std.specs.Prelude.{◌≡◌, ℕ, ◌-◌, List, [], ◌∷◌, ◌++◌, slice_index_or}
+use Rattle.std.specs.Prelude.{◌≡◌, ℕ, ◌-◌, List, [], ◌∷◌, ◌++◌, map, slice_index_or}
 use Rattle.snesl_values.specs.Inputs.{Declaration}
 use Rattle.snesl_tree.specs.Tree.{ProgramTree}
 use Rattle.flow_messages.specs.Cells.{Cell}
 use Rattle.flow_messages.specs.declared.message.Kind.{Kind}
 use Rattle.flow_base.specs.Columns.{Columns}
+use Rattle.flow_scalar.specs.SourceBehaviour.{source_opened}
 use Rattle.flow_values.specs.Shapes.{kinds_of}
+use Rattle.flow_inputs.specs.declared.source.TextSource.{TextSource}
+use Rattle.flow_inputs.specs.TextSources.{items_in, text_source_state}
 use Rattle.flow_nodes.specs.StreamNodes.{node_behaviour}
 use Rattle.flow_graph.specs.declared.edge.Edge.{Edge}
 use Rattle.flow_graph.specs.Networks.{AreOpened}
@@ -15,6 +18,17 @@ use Rattle.snesl_translation.specs.Wires.{type_of_wires}
 use Rattle.snesl_translation.specs.Programs.{first_offset, program_plan, not_set}
 use Rattle.flow_texts.specs.PrintedTexts.{PrintsAtTheEnd}
 use Rattle.snesl_flatten.specs.Networks.{NodeState, program_steps}
+
+-- what a source over a text writes, and of which kind
+abbrev pub cells_in : TextSource → List Cell
+cells_in source = (items_in source).cells
+
+abbrev pub kind_in : TextSource → Kind
+kind_in source = (items_in source).kind
+
+-- none of them has written anything
+abbrev pub AreFresh : List TextSource → Type 0
+AreFresh sources = map text_source_state sources ≡ map (λ source. source_opened (items_in source)) sources
 
 -- the kinds of the streams of inputs, in order
 abbrev pub all_kinds : List Declaration → List Kind

@@ -1,33 +1,67 @@
-// The streams of inputs.
+// The sources of inputs.
 
-ghost use Rattle.std.specs.Prelude.{◌≡◌, map, IfOk};
+ghost use Rattle.std.specs.Prelude.{◌≡◌, ◌<◌, ◌≤◌, ◌^◌, ◌++◌, ◌∷◌, [], length, map, IfOk, OnOk};
+ghost use Rattle.std.specs.Arc.{arc_value};
+ghost use Rattle.snesl_data.specs.declared.dialect.Dialect.{Dialect};
+ghost use Rattle.snesl_data.specs.Types.{ty_of};
+ghost use Rattle.snesl_values.specs.Entries.{IsPlaced};
 ghost use Rattle.snesl_values.specs.Inputs.{declarations_of, declared, environment_of};
-ghost use Rattle.flow_scalar.specs.Streams.{stream_cells, stream_kind};
+ghost use Rattle.snesl_values.specs.Places.{value_at};
+ghost use Rattle.flow_values.specs.Shapes.{kinds_of};
+ghost use Rattle.flow_values.specs.Flats.{width};
+ghost use Rattle.flow_rows.specs.Made.{laid};
 ghost use Rattle.snesl_translation.specs.Programs.{columns_of};
-ghost use Rattle.snesl_flatten.specs.Sources.{all_kinds};
+ghost use Rattle.snesl_flatten.specs.Sources.{all_kinds, cells_in, kind_in, AreFresh};
 
-use flow_inputs::streams_of;
-use flow_scalar::Stream;
+use flow_inputs::{TextSource, edge_count, text_holds_edges};
 use snesl_data::Ty;
-use snesl_values::{Inputs, inputs_fit};
+use snesl_values::{Inputs, inputs_are_placed, inputs_fit};
 use std::alloc::{AllocError, Global};
+use std::sync::Arc;
 
-// What the values of inputs put on the edges of their types, one after another. The error is that memory was refused.
-pub(crate) fn streams_of_inputs(
+// For each input, one after another, and for each edge of its type a source that reads the text of the inputs. The error is that
+// memory was refused.
+pub(crate) fn sources_of_inputs(
     alloc: Global,
     declarations: &[(Vec<u8>, Ty)],
     inputs: &Inputs,
-) -> Result<Vec<Stream>, AllocError>
-    requires { declarations_of inputs.now ≡ declared declarations.now }
-    ensures cells { IfOk result (λ streams. map stream_cells streams.items ≡ columns_of (declared declarations.now) (environment_of inputs.now)) }
-    ensures kinds { IfOk result (λ streams. map stream_kind streams.items ≡ all_kinds (declared declarations.now)) }
+) -> Result<Vec<TextSource>, AllocError>
+    requires declares { declarations_of inputs.now ≡ declared declarations.now }
+    requires fits { length (all_kinds (declared declarations.now)) < 2 ^ 64 }
+    ensures fresh { IfOk result (λ sources. AreFresh sources.items) }
+    ensures cells { IfOk result (λ sources. map cells_in sources.items ≡ columns_of (declared declarations.now) (environment_of inputs.now)) }
+    ensures kinds { IfOk result (λ sources. map kind_in sources.items ≡ all_kinds (declared declarations.now)) }
 {
     inputs_fit(inputs);
-    let mut streams = Vec::new(alloc);
+    inputs_are_placed(inputs);
+    let mut sources = Vec::new(alloc);
     for (number, declaration) in declarations.iter().enumerate() {
-        let datum = inputs.value(number).unwrap();
-        let mut more = streams_of(alloc, &declaration.1, datum)?;
-        streams.append(&mut more)?;
+        let place = inputs.place(number).unwrap();
+        add_sources(alloc, &mut sources, inputs.text(), place, &declaration.1)?;
     }
-    Ok(streams)
+    Ok(sources)
+}
+
+// Adds a source for each edge of the type of a value that the text spells from this place on.
+fn add_sources(
+    alloc: Global,
+    sources: &mut Vec<TextSource>,
+    text: &Arc<Vec<u8>>,
+    place: usize,
+    ty: &Ty,
+) -> Result<(), AllocError>
+    requires placed { (dialect : Dialect) × IsPlaced dialect (arc_value text.now).items (ty_of ty.now) place }
+    requires fits { width (ty_of ty.now) < 2 ^ 64 }
+    requires fresh { AreFresh sources.old.items }
+    ensures fresh { OnOk result (AreFresh sources.new.items) }
+    ensures cells { OnOk result (map cells_in sources.new.items ≡ map cells_in sources.old.items ++ laid (ty_of ty.now) (value_at (arc_value text.now).items place ∷ [])) }
+    ensures kinds { OnOk result (map kind_in sources.new.items ≡ map kind_in sources.old.items ++ kinds_of (ty_of ty.now)) }
+{
+    text_holds_edges();
+    for edge in 0..edge_count(ty) {
+        let shared = text.clone()?;
+        let source = TextSource::new(alloc, shared, place, ty, edge)?;
+        sources.push(source)?;
+    }
+    Ok(())
 }

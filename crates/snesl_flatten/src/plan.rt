@@ -3,7 +3,6 @@
 ghost use Rattle.std.specs.Prelude.{◌≡◌, ◌↔◌, [], map, IsTrue, IfOk};
 ghost use Rattle.snesl_values.specs.Inputs.{declarations_of, dialect_of, environment_of};
 ghost use Rattle.snesl_types.specs.Typed.{typed_dialect, typed_inputs, typed_text, typed_tree};
-ghost use Rattle.flow_scalar.specs.Streams.{stream_cells, stream_kind};
 ghost use Rattle.flow_nodes.specs.StreamNodes.{node_behaviour};
 ghost use Rattle.flow_graph.specs.Graphs.{states_of, edges_of};
 ghost use Rattle.flow_graph.specs.Networks.{AreOpened};
@@ -12,14 +11,14 @@ ghost use Rattle.flow_assembly.specs.Openings.{AllOpen};
 ghost use Rattle.snesl_translation.specs.Programs.{cells_of, columns_of};
 ghost use Rattle.snesl_flatten.specs.Networks.{program_steps, NetworkMeans};
 ghost use Rattle.snesl_flatten.specs.PlanViews.{planned, plan_states, plan_edges, steps_planned, HoldsNetwork, AreButSources};
-ghost use Rattle.snesl_flatten.specs.Sources.{all_kinds, HasSources};
+ghost use Rattle.snesl_flatten.specs.Sources.{all_kinds, cells_in, kind_in, AreFresh, HasSources};
 
-use crate::inputs::streams_of_inputs;
+use crate::inputs::sources_of_inputs;
 use flow_assembly::openings_perform;
 use flow_graph::{Graph, ended_is_lawful, graph_is_a_network};
+use flow_inputs::TextSource;
 use flow_nodes::StreamNode;
 use flow_plans::{plan_is_its_flow, source_is_set};
-use flow_scalar::{Source, Stream};
 use flow_texts::print_tells;
 use snesl_translation::programs_are_planned;
 use snesl_types::{Typed, soundness};
@@ -44,7 +43,7 @@ impl<'a> Plan<'a> {
         self.typed.fits(inputs)
     }
 
-    /// The network of a plan that `flatten` made, with the lists of these inputs in its sources, and else as it is: the same
+    /// The network of a plan that `flatten` made, with sources that read these inputs, and else as it is: the same
     /// edges, and all other nodes in the states that they have. It is in its opening states.
     ///
     /// It has a lawful flow just where the program has a value for the inputs, and then the text that is printed is that
@@ -65,29 +64,30 @@ impl<'a> Plan<'a> {
         ensures means { IfOk result (λ graph. NetworkMeans (typed_text (planned self.entry)) (typed_tree (planned self.entry)) (environment_of inputs) (states_of graph) (edges_of graph)) }
     {
         let mut plan = self;
-        let streams = streams_of_inputs(plan.alloc, plan.typed.decls(), &inputs)?;
-        plan.set_sources(streams);
+        let sources = sources_of_inputs(plan.alloc, plan.typed.decls(), &inputs)?;
+        plan.set_sources(sources);
         plan.has_meaning(&inputs);
         Ok(plan.graph)
     }
 
-    // Sets the lists of the inputs' sources, in order. Those are the steps behind the first one, the source of the control
-    // stream.
-    fn set_sources(&mut self, streams: Vec<Stream>)
+    // Puts these sources in place of those of the inputs, in order. Those are the steps behind the first one, the source of the
+    // control stream.
+    fn set_sources(&mut self, sources: Vec<TextSource>)
         requires sources { HasSources (typed_text (planned self.old)) (typed_tree (planned self.old)) (typed_inputs (planned self.old)) [] (plan_states self.old) (plan_edges self.old) }
         requires places { self.old.places.items ≡ places (steps_planned self.old) }
-        requires kinds { map stream_kind streams.items ≡ all_kinds (typed_inputs (planned self.old)) }
+        requires fresh { AreFresh sources.items }
+        requires kinds { map kind_in sources.items ≡ all_kinds (typed_inputs (planned self.old)) }
         ensures typed { planned self.new ≡ planned self.old }
-        ensures sources { HasSources (typed_text (planned self.old)) (typed_tree (planned self.old)) (typed_inputs (planned self.old)) (map stream_cells streams.items) (plan_states self.new) (plan_edges self.new) }
+        ensures sources { HasSources (typed_text (planned self.old)) (typed_tree (planned self.old)) (typed_inputs (planned self.old)) (map cells_in sources.items) (plan_states self.new) (plan_edges self.new) }
         ensures edges { plan_edges self.new ≡ plan_edges self.old }
         ensures others { AreButSources self.old (plan_states self.new) }
     {
         openings_perform();
         let mut step = 1;
-        for stream in streams {
+        for source in sources {
             source_is_set(&self.graph);
-            let source = StreamNode::Source(Source::new(self.alloc, stream));
-            self.graph.replace(self.places[step], source);
+            self.graph
+                .replace(self.places[step], StreamNode::TextSource(source));
             step += 1;
         }
     }

@@ -1,4 +1,4 @@
-use Rattle.std.proofs.Common.{ap, subst, ◌∙◌}
+use Rattle.std.proofs.Common.{◌<◌, ◌^◌, ◌∙◌, length, ap, subst, sym, arith}
 use Rattle.snesl_values.specs.Inputs.{environment_of}
 use Rattle.snesl_types.specs.Typed.{typed_inputs, typed_text, typed_tree}
 use Rattle.flow_base.specs.Columns.{Columns}
@@ -8,7 +8,8 @@ use Rattle.flow_assembly.specs.Openings.{AllOpen}
 use Rattle.snesl_translation.specs.Programs.{columns_of}
 use Rattle.snesl_flatten.specs.Networks.{program_steps}
 use Rattle.snesl_flatten.specs.PlanViews.{planned, plan_states, plan_edges}
-use Rattle.snesl_flatten.specs.Sources.{written}
+use Rattle.snesl_flatten.specs.Sources.{all_kinds, written}
+use Rattle.snesl_flatten.proofs.Setting.{sources_fit}
 use Rattle.snesl_flatten.proofs.plan.Plan.with.Goals as goal
 
 pub returns-clause-network : goal.returns-clause-network
@@ -17,7 +18,7 @@ returns-clause-network c =
     let plan = c.set_sources.new.self in
     let environment = environment_of c.args.inputs in
     subst (λ (columns : Columns). IsNetworkOf node_behaviour (program_steps (typed_text typed) (typed_tree typed) (typed_inputs typed) (written columns)) (plan_states plan) (plan_edges plan))
-    (c.in_ok-streams.ensures.cells ∙ ap (λ inputs. columns_of inputs environment) c.decls.ensures)
+    (c.in_ok-sources.ensures.cells ∙ ap (λ inputs. columns_of inputs environment) c.decls.ensures)
     c.set_sources.ensures.sources.network
 
 pub returns-clause-opens : goal.returns-clause-opens
@@ -26,5 +27,11 @@ returns-clause-opens c =
     let plan = c.set_sources.new.self in
     let environment = environment_of c.args.inputs in
     subst (λ (columns : Columns). AllOpen (layout (program_steps (typed_text typed) (typed_tree typed) (typed_inputs typed) (written columns))) (plan_states plan))
-    (c.in_ok-streams.ensures.cells ∙ ap (λ inputs. columns_of inputs environment) c.decls.ensures)
+    (c.in_ok-sources.ensures.cells ∙ ap (λ inputs. columns_of inputs environment) c.decls.ensures)
     c.set_sources.ensures.sources.opens
+
+pub sources_of_inputs-requires-clause-fits : goal.sources_of_inputs-requires-clause-fits
+sources_of_inputs-requires-clause-fits c =
+    let typed = planned c.args.self in
+    let fits = sources_fit (typed_text typed) (typed_tree typed) (typed_inputs typed) in
+    subst (λ ds. length (all_kinds ds) < 2 ^ 64) (sym c.decls.ensures) (omega (arith, fits, ap length c.requires.holds.places_are, c.args.self.places.ok.0))

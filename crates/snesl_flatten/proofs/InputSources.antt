@@ -1,0 +1,85 @@
+-- The sources of a value that a text spells, edge by edge.
+use Rattle.std.proofs.Common.{◌≡◌, ℕ, zero, suc, ◌<◌, ◌≤◌, List, [], ◌∷◌, ◌++◌, length, map, take, Some, refl, sym, ap, subst, ◌∙◌, arith, length-append}
+use Rattle.std.proofs.Math.Path.{ap₂}
+use Rattle.std.proofs.lemmas.List.{map-append}
+use Rattle.std.proofs.lemmas.Option.{slice_get-map}
+use Rattle.std.specs.List.{slice_get}
+use Rattle.std.specs.Option.{option_map}
+use Rattle.snesl_data.specs.declared.dialect.Dialect.{Dialect}
+use Rattle.snesl_data.specs.Types.{Ty}
+use Rattle.snesl_values.specs.Entries.{entry_at, environment_at, IsPlaced, ArePlaced}
+use Rattle.snesl_values.specs.Inputs.{Declaration}
+use Rattle.snesl_values.specs.Places.{value_at as spelled_at}
+use Rattle.snesl_values.specs.Spellings.{value_tokens}
+use Rattle.snesl_values.specs.declared.places.Placed.{Placed}
+use Rattle.snesl_values.proofs.Entries.{reads_of}
+use Rattle.flow_messages.specs.Cells.{Cell}
+use Rattle.flow_messages.specs.declared.message.Kind.{Kind}
+use Rattle.flow_base.specs.Columns.{Columns, columns}
+use Rattle.flow_base.specs.Lists.{Lists}
+use Rattle.flow_scalar.specs.SourceBehaviour.{source_opened}
+use Rattle.flow_values.specs.Shapes.{kinds_of, kind_at}
+use Rattle.flow_values.specs.Flats.{width, flat}
+use Rattle.flow_inputs.specs.Items.{items_at, leaf_kind}
+use Rattle.flow_inputs.specs.Laws.{TextHoldsEdges, KindsOfEdges}
+use Rattle.flow_inputs.specs.TextSources.{items_in, text_source_state}
+use Rattle.flow_inputs.specs.Ways.{way_to, leaf_at}
+use Rattle.flow_inputs.specs.declared.source.TextSource.{TextSource}
+use Rattle.flow_scalar.specs.Streams.{Items}
+use Rattle.snesl_flatten.specs.Sources.{cells_in, kind_in, all_kinds, AreFresh}
+use Rattle.snesl_flatten.proofs.InputStreams.{value_at}
+
+-- one column, or one kind, more
+pub column_more : (n : ℕ) (i : Lists Cell) → columns (suc n) i ≡ columns n i ++ i n ∷ []
+column_more zero i = refl
+column_more (suc n) i = ap (λ l. i 0 ∷ l) (column_more n (λ p. i (suc p)))
+
+pub kind_more : (kinds : List Kind) (n : ℕ) → n < length kinds → take (suc n) kinds ≡ take n kinds ++ kind_at kinds n ∷ []
+kind_more [] n lt = absurd (omega arith)
+kind_more (kind ∷ kinds) zero lt = refl
+kind_more (kind ∷ kinds) (suc n) lt = ap (λ l. kind ∷ l) (kind_more kinds n (omega arith))
+
+-- one fresh source more
+pub fresh_more : (sources : List TextSource) (source : TextSource) → AreFresh sources → text_source_state source ≡ source_opened (items_in source) → AreFresh (sources ++ source ∷ [])
+fresh_more sources source fresh opens =
+    map-append text_source_state sources (source ∷ [])
+    ∙ ap₂ (λ a b. a ++ b ∷ []) fresh opens
+    ∙ sym (map-append (λ (s : TextSource). source_opened (items_in s)) sources (source ∷ []))
+
+-- the state of a fresh one
+pub fresh_at : (sources : List TextSource) (n : ℕ) (source : TextSource) → AreFresh sources → slice_get sources n ≡ Some source → text_source_state source ≡ source_opened (items_in source)
+fresh_at [] n source fresh there = absurd (cc)
+fresh_at (s ∷ sources) zero source fresh there =
+    let same : s ≡ source = cc in
+    let first : text_source_state s ≡ source_opened (items_in s) = cc in
+    subst (λ s. text_source_state s ≡ source_opened (items_in s)) same first
+fresh_at (s ∷ sources) (suc n) source fresh there = fresh_at sources n source (cc) there
+
+-- what is written at an edge of the type of a value, and of which kind it is
+module _ (holds : TextHoldsEdges) (kinds : KindsOfEdges) (text : List ℕ) (place : ℕ) (t : Ty) (placed : (dialect : Dialect) × IsPlaced dialect text t place) (edge : ℕ) (lt : edge < width t) (source : TextSource)
+    (is : items_in source ≡ items_at text (way_to t edge) (leaf_at t edge) place) where
+  pub cells_of_edge : cells_in source ≡ flat t 0 (spelled_at text place ∷ []) edge
+  cells_of_edge =
+      let r = reads_of (value_tokens (spelled_at text place)) place placed.1.2.1 in
+      ap (λ (x : Items). x.cells) is ∙ holds placed.0 t edge text place r.0 (spelled_at text place) lt placed.1.1 placed.1.0 r.1
+
+  pub kind_of_edge : kind_in source ≡ kind_at (kinds_of t) edge
+  kind_of_edge = ap (λ (x : Items). x.kind) is ∙ kinds t edge lt
+
+-- where the value of a declared input is
+pub placed_at : (dialect : Dialect) (text : List ℕ) (ds : List Declaration) (all : List Placed) (i : ℕ) (d : Declaration) → ArePlaced dialect text ds all → slice_get ds i ≡ Some d
+    → (p : Placed) × (slice_get all i ≡ Some p) × IsPlaced dialect text d.1 p.place
+placed_at dialect text [] all i d placed there = absurd (cc)
+placed_at dialect text (x ∷ ds) [] i d placed there = absurd placed
+placed_at dialect text (x ∷ ds) (p ∷ all) zero d placed there = let same : x ≡ d = cc in (p, refl, subst (λ (y : Declaration). IsPlaced dialect text y.1 p.place) same placed.0)
+placed_at dialect text (x ∷ ds) (p ∷ all) (suc i) d placed there = placed_at dialect text ds all i d placed.1 there
+
+-- and which value
+pub value_placed : (text : List ℕ) (all : List Placed) (i : ℕ) (p : Placed) → slice_get all i ≡ Some p → value_at (environment_at text all) i ≡ Some (spelled_at text p.place)
+value_placed text all i p there = ap (option_map (λ e. e.1)) (slice_get-map (entry_at text) all i ∙ ap (option_map (entry_at text)) there)
+
+-- a declared type has no more edges than all of them
+pub width_within : (ds : List Declaration) (i : ℕ) (d : Declaration) → slice_get ds i ≡ Some d → width d.1 ≤ length (all_kinds ds)
+width_within [] i d there = absurd (cc)
+width_within (x ∷ ds) zero d there = let same : x ≡ d = cc in subst (λ (y : Declaration). width y.1 ≤ length (all_kinds (x ∷ ds))) same (omega (arith, length-append (kinds_of x.1) (all_kinds ds)))
+width_within (x ∷ ds) (suc i) d there = omega (arith, width_within ds i d there, length-append (kinds_of x.1) (all_kinds ds))
