@@ -1,4 +1,5 @@
 pub mod Data
+pub mod Beginnings
 pub mod Begun
 pub mod Rows
 pub mod Declared

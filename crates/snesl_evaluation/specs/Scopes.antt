@@ -3,7 +3,7 @@ use Rattle.std.specs.Prelude.{◌≡◌, ℕ, suc, ◌+◌, ◌==◌, Bool, List
 use Rattle.std.specs.List.{list_all}
 use Rattle.snesl_data.specs.declared.dialect.Dialect.{Dialect}
 use Rattle.snesl_data.specs.declared.fault.FaultKind.TheVariants.{Shape}
-use Rattle.snesl_values.specs.Inputs.{Environment, environment_of}
+use Rattle.snesl_values.specs.Inputs.{Environment}
 use Rattle.snesl_data.specs.Values.{Value, value_of}
 use Rattle.snesl_tree.specs.declared.declaration.Declaration.{Declaration}
 use Rattle.snesl_tree.specs.declared.declaration.Declaration.TheVariants.{Input, Function as FunctionDeclaration}
@@ -18,6 +18,7 @@ use Rattle.snesl_evaluation.specs.declared.scope.Scope.{Scope}
 use Rattle.snesl_evaluation.specs.declared.scope.Scope.TheVariants.{Inputs, Parameters, Bound', Row'}
 use Rattle.snesl_evaluation.specs.declared.scope.Setting.{Setting}
 use Rattle.snesl_evaluation.specs.Answer.{Answer, faults, go, go_all, go_join}
+use Rattle.snesl_evaluation.specs.Entries.{entry_of}
 use Rattle.snesl_evaluation.specs.Builtins.{truth_at}
 use Rattle.snesl_evaluation.specs.Eval.{Calls, Columns, calls_of, eval, eval_all, eval_binders, function_answer, kept}
 
@@ -35,7 +36,7 @@ names_of text parameters = map (λ parameter. spelling text parameter.name) para
 
 -- the values of the names in scope, the innermost first
 abbrev pub environment_in : List ℕ → Scope → Environment
-environment_in text (Inputs inputs) = environment_of inputs.now
+environment_in text (Inputs entries) = map entry_of entries.now
 environment_in text (Parameters parameters values) = zip (names_of text parameters.now) (map value_of values.now)
 environment_in text (Bound' name value p outer) = (spelling text name, value_of value.now) ∷ environment_in text outer
 environment_in text (Row' columns index p outer) = row_at index (map (column_of text) columns.now) ++ environment_in text outer

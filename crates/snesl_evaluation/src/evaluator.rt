@@ -14,6 +14,7 @@ ghost use Rattle.snesl_evaluation.specs.Scopes.{all_in, are_level, binders_in, c
 
 use crate::builtins::apply;
 use crate::calls::find_function;
+use crate::entries::entries_of;
 use crate::halt::{Halt, fault};
 use crate::operators::{binary, prefix};
 use crate::parts::{add, add_found, filtered, into_items, pair, sequence_of, truth};
@@ -51,7 +52,8 @@ pub fn evaluate(
         text: &program.text,
         functions: &program.declarations,
     };
-    match value(&setting, &program.expr, &Scope::Inputs(inputs)) {
+    let entries = entries_of(alloc, inputs)?;
+    match value(&setting, &program.expr, &Scope::Inputs(&entries)) {
         Ok(datum) => Ok(Ok(datum)),
         Err(Halt::Faulted(fault)) => Ok(Err(fault)),
         Err(Halt::NoMemory) => Err(AllocError),

@@ -3,6 +3,7 @@
 
 mod builtins;
 mod calls;
+mod entries;
 mod evaluator;
 mod halt;
 mod laws;

@@ -9,10 +9,10 @@ ghost use Rattle.snesl_evaluation.specs.Eval.{in_step, named, rows_of};
 ghost use Rattle.snesl_evaluation.specs.Results.{Answers};
 ghost use Rattle.snesl_evaluation.specs.Scopes.{are_level, column_of, environment_in, first_height, names_of, row_at};
 
+use crate::entries::{Entry, find_entry};
 use crate::halt::{Halt, fault};
 use snesl_data::{Datum, Dialect, FaultKind, copy_datum};
 use snesl_tree::{Declaration, Span, Typing};
-use snesl_values::Inputs;
 use std::alloc::{AllocError, Global};
 
 // What stays the same in one body: the dialect of the program, the text, in which names are
@@ -35,7 +35,7 @@ pub struct Column {
 // What names stand for, the innermost first.
 #[derive(Drop)]
 pub enum Scope<'a> {
-    Inputs(&'a Inputs),
+    Inputs(&'a [Entry]),
     // As many values as parameters.
     Parameters(&'a [Typing], &'a [Datum]),
     Bound {
@@ -67,7 +67,7 @@ fn find<'a>(name: &[u8], text: &[u8], scope: &'a Scope<'a>) -> Option<&'a Datum>
     ensures { option_map (λ datum. value_of datum.now) result ≡ value_in name.now (environment_in text.now scope.now) }
 {
     match scope {
-        Scope::Inputs(inputs) => inputs.named(name),
+        Scope::Inputs(entries) => find_entry(name, entries),
         Scope::Parameters(parameters, values) => find_parameter(name, text, parameters, values),
         Scope::Bound {
             name: bound,
