@@ -1,10 +1,10 @@
 -- The sources of a value that a text spells, edge by edge.
-use Rattle.std.proofs.Common.{◌≡◌, ℕ, zero, suc, ◌<◌, ◌≤◌, List, [], ◌∷◌, ◌++◌, length, map, take, Some, refl, sym, ap, subst, ◌∙◌, arith, length-append}
+use Rattle.std.proofs.Common.{◌≡◌, ℕ, zero, suc, ◌<◌, ◌≤◌, List, [], ◌∷◌, ◌++◌, length, take, Option, Some, refl, sym, ap, subst, ◌∙◌, arith, length-append}
 use Rattle.std.proofs.Math.Path.{ap₂}
 use Rattle.std.proofs.lemmas.List.{map-append}
 use Rattle.std.proofs.lemmas.Option.{slice_get-map}
 use Rattle.std.specs.List.{slice_get}
-use Rattle.std.specs.Option.{option_map}
+use Rattle.std.specs.Option.{option_map, IsSome}
 use Rattle.snesl_data.specs.declared.dialect.Dialect.{Dialect}
 use Rattle.snesl_data.specs.Types.{Ty}
 use Rattle.snesl_values.specs.Entries.{entry_at, environment_at, IsPlaced, ArePlaced}
@@ -15,19 +15,19 @@ use Rattle.snesl_values.specs.declared.places.Placed.{Placed}
 use Rattle.snesl_values.proofs.Entries.{reads_of}
 use Rattle.flow_messages.specs.Cells.{Cell}
 use Rattle.flow_messages.specs.declared.message.Kind.{Kind}
-use Rattle.flow_base.specs.Columns.{Columns, columns}
+use Rattle.flow_base.specs.Columns.{columns}
 use Rattle.flow_base.specs.Lists.{Lists}
 use Rattle.flow_scalar.specs.SourceBehaviour.{source_opened}
 use Rattle.flow_values.specs.Shapes.{kinds_of, kind_at}
 use Rattle.flow_values.specs.Flats.{width, flat}
-use Rattle.flow_inputs.specs.Items.{items_at, leaf_kind}
+use Rattle.flow_inputs.specs.Items.{items_at}
 use Rattle.flow_inputs.specs.Laws.{TextHoldsEdges, KindsOfEdges}
 use Rattle.flow_inputs.specs.TextSources.{items_in, text_source_state}
 use Rattle.flow_inputs.specs.Ways.{way_to, leaf_at}
 use Rattle.flow_inputs.specs.declared.source.TextSource.{TextSource}
 use Rattle.flow_scalar.specs.Streams.{Items}
 use Rattle.snesl_flatten.specs.Sources.{cells_in, kind_in, all_kinds, AreFresh}
-use Rattle.snesl_flatten.proofs.InputStreams.{value_at}
+use Rattle.snesl_flatten.proofs.InputStreams.{value_at, is_there}
 
 -- one column, or one kind, more
 pub column_more : (n : ℕ) (i : Lists Cell) → columns (suc n) i ≡ columns n i ++ i n ∷ []
@@ -46,21 +46,23 @@ fresh_more sources source fresh opens =
     ∙ ap₂ (λ a b. a ++ b ∷ []) fresh opens
     ∙ sym (map-append (λ (s : TextSource). source_opened (items_in s)) sources (source ∷ []))
 
+some_same : {A : Type 0} (x y : A) → Some x ≡ Some y → x ≡ y
+some_same x y same = cc
+
 -- the state of a fresh one
 pub fresh_at : (sources : List TextSource) (n : ℕ) (source : TextSource) → AreFresh sources → slice_get sources n ≡ Some source → text_source_state source ≡ source_opened (items_in source)
-fresh_at [] n source fresh there = absurd (cc)
-fresh_at (s ∷ sources) zero source fresh there =
-    let same : s ≡ source = cc in
-    let first : text_source_state s ≡ source_opened (items_in s) = cc in
-    subst (λ s. text_source_state s ≡ source_opened (items_in s)) same first
-fresh_at (s ∷ sources) (suc n) source fresh there = fresh_at sources n source (cc) there
+fresh_at sources n source fresh there =
+    some_same (text_source_state source) (source_opened (items_in source))
+    (sym (slice_get-map text_source_state sources n ∙ ap (option_map text_source_state) there)
+    ∙ ap (λ l. slice_get l n) fresh
+    ∙ slice_get-map (λ (s : TextSource). source_opened (items_in s)) sources n ∙ ap (option_map (λ (s : TextSource). source_opened (items_in s))) there)
 
 -- what is written at an edge of the type of a value, and of which kind it is
 module _ (holds : TextHoldsEdges) (kinds : KindsOfEdges) (text : List ℕ) (place : ℕ) (t : Ty) (placed : (dialect : Dialect) × IsPlaced dialect text t place) (edge : ℕ) (lt : edge < width t) (source : TextSource)
     (is : items_in source ≡ items_at text (way_to t edge) (leaf_at t edge) place) where
   pub cells_of_edge : cells_in source ≡ flat t 0 (spelled_at text place ∷ []) edge
   cells_of_edge =
-      let r = reads_of (value_tokens (spelled_at text place)) place placed.1.2.1 in
+      let r = reads_of (value_tokens (spelled_at text place)) place placed.1.2 in
       ap (λ (x : Items). x.cells) is ∙ holds placed.0 t edge text place r.0 (spelled_at text place) lt placed.1.1 placed.1.0 r.1
 
   pub kind_of_edge : kind_in source ≡ kind_at (kinds_of t) edge
@@ -83,3 +85,22 @@ pub width_within : (ds : List Declaration) (i : ℕ) (d : Declaration) → slice
 width_within [] i d there = absurd (cc)
 width_within (x ∷ ds) zero d there = let same : x ≡ d = cc in subst (λ (y : Declaration). width y.1 ≤ length (all_kinds (x ∷ ds))) same (omega (arith, length-append (kinds_of x.1) (all_kinds ds)))
 width_within (x ∷ ds) (suc i) d there = omega (arith, width_within ds i d there, length-append (kinds_of x.1) (all_kinds ds))
+
+-- the place of a declared input, and the value there
+module _ (dialect : Dialect) (text : List ℕ) (ds : List Declaration) (all : List Placed) (placed : ArePlaced dialect text ds all) (i : ℕ) (d : Declaration) (there : slice_get ds i ≡ Some d) where
+  abbrev one : (p : Placed) × (slice_get all i ≡ Some p) × IsPlaced dialect text d.1 p.place
+  one = placed_at dialect text ds all i d placed there
+
+  pub place_there : (o : Option ℕ) → o ≡ option_map (λ (p : Placed). p.place) (slice_get all i) → IsSome o
+  place_there o is = is_there (λ (n : ℕ). n) o one.0.place (ap (option_map (λ (n : ℕ). n)) (is ∙ ap (option_map (λ (p : Placed). p.place)) one.1))
+
+  place_is : (n : ℕ) → Some n ≡ option_map (λ (p : Placed). p.place) (slice_get all i) → one.0.place ≡ n
+  place_is n is =
+      let found : Some n ≡ Some one.0.place = is ∙ ap (option_map (λ (p : Placed). p.place)) one.1 in
+      cc
+
+  pub placed_there : (n : ℕ) → Some n ≡ option_map (λ (p : Placed). p.place) (slice_get all i) → IsPlaced dialect text d.1 n
+  placed_there n is = subst (IsPlaced dialect text d.1) (place_is n is) one.2
+
+  pub value_there : (n : ℕ) → Some n ≡ option_map (λ (p : Placed). p.place) (slice_get all i) → value_at (environment_at text all) i ≡ Some (spelled_at text n)
+  value_there n is = value_placed text all i one.0 one.1 ∙ ap (λ n. Some (spelled_at text n)) (place_is n is)

@@ -86,8 +86,8 @@ impl<'a> Plan<'a> {
         let mut step = 1;
         for source in sources {
             source_is_set(&self.graph);
-            self.graph
-                .replace(self.places[step], StreamNode::TextSource(source));
+            let node = StreamNode::TextSource(source);
+            self.graph.replace(self.places[step], node);
             step += 1;
         }
     }

@@ -1,33 +1,40 @@
-use Rattle.std.proofs.Common.{◌≡◌, ◌+◌, suc, take, map, sym, subst, ◌∙◌, ap, arith}
+use Rattle.std.proofs.Common.{◌≡◌, ◌+◌, ℕ, List, Some, suc, take, map, sym, subst, ◌∙◌, ap, arith}
 use Rattle.std.proofs.lemmas.List.{length-map}
-use Rattle.std.specs.Option.{option_map}
-use Rattle.snesl_data.specs.Values.{value_of}
-use Rattle.snesl_values.specs.Inputs.{Fits, declared, declaration_of, dialect_of, environment_of}
-use Rattle.flow_scalar.specs.Streams.{stream_cells, stream_kind}
+use Rattle.std.specs.Arc.{arc_value}
+use Rattle.snesl_values.specs.Entries.{environment_at, ArePlaced}
+use Rattle.snesl_values.specs.Inputs.{Environment, Fits, declared, declaration_of, dialect_of, environment_of, placed_in, text_in}
+use Rattle.snesl_values.specs.Places.{value_at as spelled_at}
 use Rattle.snesl_translation.specs.Programs.{columns_of}
-use Rattle.snesl_flatten.specs.Sources.{all_kinds}
-use Rattle.snesl_flatten.proofs.InputStreams.{value_at, is_there, declared_at, has_value, value_typed, cells_added, kinds_added, columns_all}
-use Rattle.snesl_flatten.proofs.inputs.streams_of_inputs.Goals as goal
+use Rattle.snesl_flatten.specs.Sources.{all_kinds, cells_in, kind_in}
+use Rattle.snesl_flatten.proofs.InputSources.{place_there, placed_there, value_there, width_within}
+use Rattle.snesl_flatten.proofs.InputStreams.{value_at, declared_at, cells_added, kinds_added, columns_all}
+use Rattle.snesl_flatten.proofs.inputs.sources_of_inputs.Goals as goal
 
-pub unwrap-datum-requires : goal.unwrap-datum-requires
-unwrap-datum-requires c =
+pub unwrap-place-requires : goal.unwrap-place-requires
+unwrap-place-requires c =
     let ds = declared c.args.declarations.now in
     let inputs = c.args.inputs.now in
     let i = c.loop-number.number in
-    let fits = subst (λ l. Fits (dialect_of inputs) l (environment_of inputs)) c.requires c.inputs_fit.ensures in
+    let placed = subst (λ l. ArePlaced (dialect_of inputs) (text_in inputs) l (placed_in inputs)) c.requires.declares c.inputs_are_placed.ensures.placed in
     let there = declared_at c.args.declarations.now i c.index-declarations-number.result c.loop-number-test.true c.index-declarations-number.is in
-    let g = has_value (dialect_of inputs) ds (environment_of inputs) fits i (declaration_of c.index-declarations-number.result) there in
-    is_there _ c.value.result g.0 (c.value.ensures ∙ g.1)
+    place_there (dialect_of inputs) (text_in inputs) ds (placed_in inputs) placed i (declaration_of c.index-declarations-number.result) there c.place.result c.place.ensures
 
-pub streams_of-requires : goal.streams_of-requires
-streams_of-requires c =
+pub add_sources-requires-clause-placed : goal.add_sources-requires-clause-placed
+add_sources-requires-clause-placed c =
     let ds = declared c.args.declarations.now in
     let inputs = c.args.inputs.now in
     let i = c.loop-number.number in
-    let fits = subst (λ l. Fits (dialect_of inputs) l (environment_of inputs)) c.requires c.inputs_fit.ensures in
+    let placed = subst (λ l. ArePlaced (dialect_of inputs) (text_in inputs) l (placed_in inputs)) c.requires.declares c.inputs_are_placed.ensures.placed in
+    let kept = subst (λ (t : List ℕ). ArePlaced (dialect_of inputs) t ds (placed_in inputs)) (sym c.text.ensures) placed in
     let there = declared_at c.args.declarations.now i c.index-declarations-number.result c.loop-number-test.true c.index-declarations-number.is in
-    value_typed (dialect_of inputs) ds (environment_of inputs) fits i (declaration_of c.index-declarations-number.result) there (value_of c.unwrap-datum.result.now)
-    (sym (subst (λ o. option_map (λ datum. value_of datum.now) o ≡ value_at (environment_of inputs) i) c.unwrap-datum.ensures c.value.ensures))
+    (dialect_of inputs, placed_there (dialect_of inputs) (arc_value c.text.result.now).items ds (placed_in inputs) kept i (declaration_of c.index-declarations-number.result) there c.unwrap-place.result (sym c.unwrap-place.ensures ∙ c.place.ensures))
+
+pub add_sources-requires-clause-fits : goal.add_sources-requires-clause-fits
+add_sources-requires-clause-fits c =
+    let ds = declared c.args.declarations.now in
+    let i = c.loop-number.number in
+    let there = declared_at c.args.declarations.now i c.index-declarations-number.result c.loop-number-test.true c.index-declarations-number.is in
+    omega (arith, width_within ds i (declaration_of c.index-declarations-number.result) there, c.requires.fits)
 
 pub loop-number-preserved : goal.loop-number-preserved
 loop-number-preserved c =
@@ -35,21 +42,26 @@ loop-number-preserved c =
     let inputs = c.args.inputs.now in
     let es = environment_of inputs in
     let i = c.loop-number.number in
+    let n = c.unwrap-place.result in
+    let text = (arc_value c.text.result.now).items in
     let d = declaration_of c.index-declarations-number.result in
-    let fits = subst (λ l. Fits (dialect_of inputs) l es) c.requires c.inputs_fit.ensures in
+    let fits = subst (λ l. Fits (dialect_of inputs) l es) c.requires.declares c.inputs_fit.ensures in
+    let placed = subst (λ l. ArePlaced (dialect_of inputs) (text_in inputs) l (placed_in inputs)) c.requires.declares c.inputs_are_placed.ensures.placed in
+    let kept = subst (λ (t : List ℕ). ArePlaced (dialect_of inputs) t ds (placed_in inputs)) (sym c.text.ensures) placed in
     let there = declared_at c.args.declarations.now i c.index-declarations-number.result c.loop-number-test.true c.index-declarations-number.is in
-    let value = sym (subst (λ o. option_map (λ datum. value_of datum.now) o ≡ value_at es i) c.unwrap-datum.ensures c.value.ensures) in
-    let streams = c.loop-number.streams.items in
-    let more = c.in_ok-more.more.items in
+    let known = value_there (dialect_of inputs) text ds (placed_in inputs) kept i d there n (sym c.unwrap-place.ensures ∙ c.place.ensures) in
+    let all : environment_at text (placed_in inputs) ≡ es = ap (λ (t : List ℕ). environment_at t (placed_in inputs)) c.text.ensures ∙ sym c.inputs_are_placed.ensures.environment in
+    let value = subst (λ (es : Environment). value_at es i ≡ Some (spelled_at text n)) all known in
     let next : suc i ≡ i + 1 = omega arith in
     record {
+      fresh = c.in_ok-add_sources.ensures.fresh;
       cells =
-          ap (map stream_cells) c.in_ok-append.ensures.items
-          ∙ cells_added (dialect_of inputs) ds es fits i d there (value_of c.unwrap-datum.result.now) value streams more c.loop-number.invariant.cells c.in_ok-more.ensures.cells
+          c.in_ok-add_sources.ensures.cells
+          ∙ cells_added (dialect_of inputs) ds es fits i d there (spelled_at text n) value (map cells_in c.loop-number.sources.items) c.loop-number.invariant.cells
           ∙ ap (λ n. columns_of (take n ds) (take n es)) next;
       kinds =
-          ap (map stream_kind) c.in_ok-append.ensures.items
-          ∙ kinds_added ds i d there streams more c.loop-number.invariant.kinds c.in_ok-more.ensures.kinds
+          c.in_ok-add_sources.ensures.kinds
+          ∙ kinds_added ds i d there (map kind_in c.loop-number.sources.items) c.loop-number.invariant.kinds
           ∙ ap (λ n. all_kinds (take n ds)) next;
     }
 
@@ -57,6 +69,6 @@ pub returns-clause-cells : goal.returns-clause-cells
 returns-clause-cells c =
     let ds = declared c.args.declarations.now in
     let inputs = c.args.inputs.now in
-    let fits = subst (λ l. Fits (dialect_of inputs) l (environment_of inputs)) c.requires c.inputs_fit.ensures in
+    let fits = subst (λ l. Fits (dialect_of inputs) l (environment_of inputs)) c.requires.declares c.inputs_fit.ensures in
     let all = length-map c.args.declarations.now declaration_of in
     c.loop-number.invariant.cells ∙ columns_all (dialect_of inputs) ds (environment_of inputs) c.loop-number.number fits (omega (arith, all))
