@@ -24,24 +24,25 @@ use Rattle.snesl_values.specs.Marks.{Spot, spots}
 use Rattle.flow_inputs.specs.Left.{run, left, cell}
 use Rattle.snesl_values.specs.Places.{value_at}
 
--- the kind of the items
+-- the kind of the items of an edge that carries this
 abbrev pub leaf_kind : Leaf → Kind
 leaf_kind Flags = BoolKind
 leaf_kind Bools = BoolKind
 leaf_kind Ints = IntKind
 leaf_kind Vectors = VecKind
 
--- flags are written at flags alone
+-- a scanner stands among the flags of a sequence only where the edge carries flags
 abbrev pub FlagsOnly : Leaf → Mode → Type 0
 FlagsOnly leaf Flagging = leaf ≡ Flags
 FlagsOnly leaf (Counting depth) = leaf ≡ Flags
 FlagsOnly leaf _ = Unit {0}
 
 module _ (vector : ℕ → Value) where
-  -- what a turn writes is of the kind, and flags come at flags alone
+  -- what a turn writes is of the edge's kind, and the scanner stands where the edge lets it
   abbrev Fine : Leaf → Turn → Type 0
   Fine leaf u = FlagsOnly leaf u.1.mode × AllOf (leaf_kind leaf) (map (cell vector) (option_to_list u.0))
 
+  -- so it is at the end of the way
   leaf_fine : (leaf : Leaf) (level : ℕ) (mark : Mark) (place : ℕ) → Fine leaf (at_leaf leaf level mark place)
   leaf_fine Flags level (Open Curly) place = (refl, tt)
   leaf_fine Bools level (Truth b) place = (tt, (refl, tt))
@@ -49,6 +50,7 @@ module _ (vector : ℕ → Value) where
   leaf_fine Vectors level (Open Square) place = (tt, (refl, tt))
   leaf_fine _ level mark place = (tt, tt)
 
+  -- where a value comes next
   value_fine : (step : Option Step) (leaf : Leaf) (level : ℕ) (mark : Mark) (place : ℕ) → Fine leaf (at_value step leaf level mark place)
   value_fine None leaf level mark place = leaf_fine leaf level mark place
   value_fine (Some Elements) leaf level (Open Curly) place = (tt, tt)
@@ -56,10 +58,12 @@ module _ (vector : ℕ → Value) where
   value_fine (Some Second) leaf level (Open Round) place = (tt, tt)
   value_fine _ leaf level mark place = (tt, tt)
 
+  -- where a sequence was opened on the way
   opened_fine : (step : Option Step) (leaf : Leaf) (level : ℕ) (mark : Mark) (place : ℕ) → Fine leaf (at_opened step leaf level mark place)
   opened_fine step leaf level (Close Curly) place = (tt, tt)
   opened_fine step leaf level mark place = value_fine step leaf level mark place
 
+  -- behind a value
   behind_fine : (step : Option Step) (leaf : Leaf) (level : ℕ) (mark : Mark) → Fine leaf (behind step level mark)
   behind_fine (Some Elements) leaf level Comma = (tt, tt)
   behind_fine (Some First) leaf level Comma = (tt, tt)
@@ -67,39 +71,47 @@ module _ (vector : ℕ → Value) where
   behind_fine (Some Second) leaf level (Close Round) = (tt, tt)
   behind_fine _ leaf level mark = (tt, tt)
 
+  -- in a part that is passed over, outside its brackets
   passed_fine : (step : Option Step) (leaf : Leaf) (level : ℕ) (mark : Mark) → Fine leaf (passed step level mark)
   passed_fine (Some Second) leaf level Comma = (tt, tt)
   passed_fine (Some First) leaf level (Close Round) = (tt, tt)
   passed_fine _ leaf level mark = (tt, tt)
 
+  -- of two turns, whichever is made
   either_fine : (leaf : Leaf) (u v : Turn) → Fine leaf u → Fine leaf v → (b : Bool) → Fine leaf (cond b u v)
   either_fine leaf u v h k true = h
   either_fine leaf u v h k false = k
 
+  -- in a part that is passed over
   passing_fine : (step : Option Step) (leaf : Leaf) (level depth : ℕ) (mark : Mark) → Fine leaf (passing step level depth mark)
   passing_fine step leaf level depth (Open b) = (tt, tt)
   passing_fine step leaf level depth (Close b) = either_fine leaf _ _ (passed_fine step leaf level (Close b)) (tt, tt) (depth == 0)
   passing_fine step leaf level depth mark = either_fine leaf _ _ (passed_fine step leaf level mark) (tt, tt) (depth == 0)
 
+  -- a flag is of the kind of an edge of flags
   a_flag : (leaf : Leaf) (b : Bool) → leaf ≡ Flags → is_of (leaf_kind leaf) (flag b) ≡ true
   a_flag leaf b e = ap (λ l. is_of (leaf_kind l) (flag b)) e
 
+  -- where a sequence was opened whose flags are written
   flagging_fine : (leaf : Leaf) (level : ℕ) (mark : Mark) → leaf ≡ Flags → Fine leaf (flagging level mark)
   flagging_fine leaf level (Close b) e = (tt, (a_flag leaf true e, tt))
   flagging_fine leaf level (Open b) e = (e, (a_flag leaf false e, tt))
   flagging_fine leaf level mark e = (e, (a_flag leaf false e, tt))
 
+  -- in the elements of that sequence
   counting_fine : (leaf : Leaf) (level depth : ℕ) (mark : Mark) → leaf ≡ Flags → Fine leaf (counting level depth mark)
   counting_fine leaf level depth (Open b) e = (e, tt)
   counting_fine leaf level depth (Close b) e = either_fine leaf _ _ (tt, (a_flag leaf true e, tt)) (e, tt) (depth == 0)
   counting_fine leaf level depth Comma e = either_fine leaf _ _ (e, (a_flag leaf false e, tt)) (e, tt) (depth == 0)
   counting_fine leaf level depth mark e = (e, tt)
 
+  -- in a vector
   within_fine : (leaf : Leaf) (level depth : ℕ) (mark : Mark) → Fine leaf (within level depth mark)
   within_fine leaf level depth (Open b) = (tt, tt)
   within_fine leaf level depth (Close b) = either_fine leaf _ _ (tt, tt) (tt, tt) (depth == 0)
   within_fine leaf level depth mark = (tt, tt)
 
+  -- of each turn
   turn_fine : (mode : Mode) (way : List Step) (leaf : Leaf) (level : ℕ) (mark : Mark) (place : ℕ) → FlagsOnly leaf mode → Fine leaf (turn_by mode way leaf level mark place)
   turn_fine ValueNext way leaf level mark place e = value_fine (slice_get way level) leaf level mark place
   turn_fine Opened way leaf level mark place e = opened_fine (slice_get way level) leaf level mark place
@@ -110,10 +122,12 @@ module _ (vector : ℕ → Value) where
   turn_fine (Within depth) way leaf level mark place e = within_fine leaf level depth mark
   turn_fine Lost way leaf level mark place e = (tt, tt)
 
+  -- what one turn writes, and what comes behind it
   with_rest : (kind : Kind) (o : Option Piece) (rest : List Piece) → AllOf kind (map (cell vector) (option_to_list o)) → AllOf kind (map (cell vector) rest) → AllOf kind (map (cell vector) (option_to_list o ++ rest))
   with_rest kind None rest h k = k
   with_rest kind (Some x) rest h k = (h.0, k)
 
+  -- what is written at some tokens
   run_all_of : (way : List Step) (leaf : Leaf) (tokens : List Spot) (s : State) → FlagsOnly leaf s.mode → AllOf (leaf_kind leaf) (map (cell vector) (run way leaf s tokens))
   run_all_of way leaf [] s e = tt
   run_all_of way leaf (x ∷ xs) s e =
@@ -134,7 +148,7 @@ cells_left text way leaf at s = map (cell (value_at text)) (left text way leaf a
 abbrev pub opening_state : State
 opening_state = state 0 ValueNext
 
--- all items, where the value is at this place
+-- all items of a source whose value is read from this place on
 abbrev pub items_at : List ℕ → List Step → Leaf → ℕ → Items
 items_at text way leaf place = record {
   kind = leaf_kind leaf;
@@ -142,11 +156,11 @@ items_at text way leaf place = record {
   all_of = left_all_of (value_at text) text way leaf place opening_state tt;
 }
 
--- how many pieces are written, where these are left of them all
+-- how many pieces are written, where the second are left of the first
 abbrev pub written_of : List Piece → List Piece → ℕ
 written_of whole rest = length whole - length rest
 
--- these are left of them all
+-- the second are the last of the first
 abbrev pub IsRest : List Piece → List Piece → Type 0
 IsRest whole rest = drop (written_of whole rest) whole ≡ rest
 

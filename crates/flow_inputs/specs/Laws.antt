@@ -16,7 +16,7 @@ abbrev pub TextHoldsEdges : Type 0
 TextHoldsEdges = (dialect : Dialect) (t : Ty) (edge : ℕ) (text : List ℕ) (from end : ℕ) (v : Value) → edge < width t → HasType dialect v t → from ≤ length text → Reads text from (value_tokens v) end
     → (items_at text (way_to t edge) (leaf_at t edge) from).cells ≡ flat t 0 (v ∷ []) edge
 
--- and of the kind of the edge
+-- the items of a source at an edge of the type are of the kind of the edge
 abbrev pub KindsOfEdges : Type 0
 KindsOfEdges = (t : Ty) (edge : ℕ) → edge < width t → leaf_kind (leaf_at t edge) ≡ kind_at (kinds_of t) edge
 

@@ -10,16 +10,16 @@ use Rattle.flow_inputs.specs.declared.turns.Piece.TheVariants.{Flag, Int, Vector
 use Rattle.flow_inputs.specs.Turns.{turn}
 use Rattle.snesl_values.specs.Marks.{Spot, spots}
 
--- what is written in this state at these tokens
+-- what is written from this state on at these tokens
 abbrev pub run : List Step → Leaf → State → List Spot → List Piece
 run way leaf s [] = []
 run way leaf s (spot ∷ rest) = (let u = turn way leaf s spot.0 spot.1 in option_to_list u.0 ++ run way leaf u.1 rest)
 
--- what is written in this state from this offset on
+-- what is written from this state and this offset on
 unfoldable pub left : List ℕ → List Step → Leaf → ℕ → State → List Piece
 left text way leaf at s = run way leaf s (spots text at)
 
--- the item that a piece is, by the vectors at the places of the text
+-- the item that a piece is, where `vector` gives the vector at a place
 abbrev pub cell : (ℕ → Value) → Piece → Cell
 cell vector (Flag b) = flag b
 cell vector (Int n) = int n

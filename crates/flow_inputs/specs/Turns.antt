@@ -33,7 +33,7 @@ wrote piece level mode = (Some piece, state level mode)
 abbrev pub lost : Turn
 lost = moved 0 Lost
 
--- at the end of the way
+-- a token at the end of the way
 abbrev pub at_leaf : Leaf → ℕ → Mark → ℕ → Turn
 at_leaf Flags level (Open Curly) place = moved level Flagging
 at_leaf Bools level (Truth b) place = wrote (Flag b) level Behind
@@ -41,7 +41,7 @@ at_leaf Ints level (Number n) place = wrote (Int n) level Behind
 at_leaf Vectors level (Open Square) place = wrote (VectorAt place) level (Within 0)
 at_leaf _ level mark place = lost
 
--- where a value comes next, by the next step of the way
+-- a token where a value comes next, by the next step of the way
 abbrev pub at_value : Option Step → Leaf → ℕ → Mark → ℕ → Turn
 at_value None leaf level mark place = at_leaf leaf level mark place
 at_value (Some Elements) leaf level (Open Curly) place = moved (level + 1) Opened
@@ -49,12 +49,12 @@ at_value (Some First) leaf level (Open Round) place = moved (level + 1) Value
 at_value (Some Second) leaf level (Open Round) place = moved (level + 1) (Passing 0)
 at_value _ leaf level mark place = lost
 
--- where a sequence was opened on the way
+-- a token where a sequence was opened on the way
 abbrev pub at_opened : Option Step → Leaf → ℕ → Mark → ℕ → Turn
 at_opened step leaf level (Close Curly) place = moved (level - 1) Behind
 at_opened step leaf level mark place = at_value step leaf level mark place
 
--- behind a value, by the innermost step that was made
+-- a token behind a value, by the innermost step that was made
 abbrev pub behind : Option Step → ℕ → Mark → Turn
 behind (Some Elements) level Comma = moved level Value
 behind (Some First) level Comma = moved level (Passing 0)
@@ -62,32 +62,32 @@ behind (Some Elements) level (Close Curly) = moved (level - 1) Behind
 behind (Some Second) level (Close Round) = moved (level - 1) Behind
 behind _ level mark = lost
 
--- in a part that is passed over, outside its brackets: the comma behind a first part, and the end of a pair
+-- a token in a part that is passed over, outside its brackets: `,` ends a first part, `)` a pair
 abbrev pub passed : Option Step → ℕ → Mark → Turn
 passed (Some Second) level Comma = moved level Value
 passed (Some First) level (Close Round) = moved (level - 1) Behind
 passed _ level mark = moved level (Passing 0)
 
--- the same in its brackets
+-- a token in a part that is passed over, in so many brackets of it
 abbrev pub passing : Option Step → ℕ → ℕ → Mark → Turn
 passing step level depth (Open b) = moved level (Passing (depth + 1))
 passing step level depth (Close b) = cond (depth == 0) (passed step level (Close b)) (moved level (Passing (depth - 1)))
 passing step level depth mark = cond (depth == 0) (passed step level mark) (moved level (Passing depth))
 
--- where a sequence was opened whose flags are written
+-- a token where a sequence was opened whose flags are written
 abbrev pub flagging : ℕ → Mark → Turn
 flagging level (Close b) = wrote (Flag true) level Behind
 flagging level (Open b) = wrote (Flag false) level (Counting 1)
 flagging level mark = wrote (Flag false) level (Counting 0)
 
--- in its elements
+-- a token in the elements of that sequence, in so many brackets of them
 abbrev pub counting : ℕ → ℕ → Mark → Turn
 counting level depth (Open b) = moved level (Counting (depth + 1))
 counting level depth (Close b) = cond (depth == 0) (wrote (Flag true) level Behind) (moved level (Counting (depth - 1)))
 counting level depth Comma = cond (depth == 0) (wrote (Flag false) level (Counting 0)) (moved level (Counting depth))
 counting level depth mark = moved level (Counting depth)
 
--- in a vector
+-- a token in a vector, in so many brackets of it
 abbrev pub within : ℕ → ℕ → Mark → Turn
 within level depth (Open b) = moved level (Within (depth + 1))
 within level depth (Close b) = cond (depth == 0) (moved level Behind) (moved level (Within (depth - 1)))
@@ -97,7 +97,7 @@ within level depth mark = moved level (Within depth)
 abbrev pub made : List Step → ℕ → Option Step
 made way level = cond (level == 0) None (slice_get way (level - 1))
 
--- by what the scanner is about
+-- what a token makes of a scanner that stands here
 abbrev pub turn_by : Mode → List Step → Leaf → ℕ → Mark → ℕ → Turn
 turn_by Value way leaf level mark place = at_value (slice_get way level) leaf level mark place
 turn_by Opened way leaf level mark place = at_opened (slice_get way level) leaf level mark place
@@ -108,21 +108,23 @@ turn_by (Counting depth) way leaf level mark place = counting level depth mark
 turn_by (Within depth) way leaf level mark place = within level depth mark
 turn_by Lost way leaf level mark place = lost
 
+-- what a token makes of a state, where it was looked for from a place on
 abbrev pub turn : List Step → Leaf → State → Mark → ℕ → Turn
 turn way leaf s mark place = turn_by s.mode way leaf s.level mark place
 
--- how many brackets are open in what is passed over
+-- how many brackets are counted as open
 abbrev pub depth_of : Mode → ℕ
 depth_of (Passing depth) = depth
 depth_of (Counting depth) = depth
 depth_of (Within depth) = depth
 depth_of _ = 0
 
--- nothing is written any more, whatever comes
+-- nothing is written any more where a scanner stands here, whatever comes
 abbrev pub is_done_by : Mode → ℕ → Bool
 is_done_by Behind level = level == 0
 is_done_by Lost level = true
 is_done_by _ level = false
 
+-- nothing is written any more from this state on, whatever comes
 abbrev pub is_done : State → Bool
 is_done s = is_done_by s.mode s.level

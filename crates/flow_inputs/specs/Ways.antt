@@ -22,7 +22,7 @@ way_to (seq a) zero = []
 way_to (seq a) (suc edge) = Elements ∷ way_to a edge
 way_to _ edge = []
 
--- what is at its end
+-- what the edge of this number carries
 abbrev pub leaf_at : Ty → ℕ → Leaf
 leaf_at int edge = Ints
 leaf_at bool edge = Bools
@@ -31,7 +31,7 @@ leaf_at (pair a b) edge = cond (nat_lt edge (width a)) (leaf_at a edge) (leaf_at
 leaf_at (seq a) zero = Flags
 leaf_at (seq a) (suc edge) = leaf_at a edge
 
--- what a value puts at the end of the way
+-- what a value puts on the edge at the end of the way
 abbrev pub items : List Step → Leaf → Value → List Cell
 items [] Flags v = elements (length (elements_of v)) (T ∷ [])
 items [] leaf v = cell_for v ∷ []
@@ -39,7 +39,7 @@ items (Elements ∷ way) leaf v = joined_by (items way leaf) (elements_of v)
 items (First ∷ way) leaf v = items way leaf (first_of v)
 items (Second ∷ way) leaf v = items way leaf (second_of v)
 
--- the steps lead from the type to what is at their end
+-- these steps lead from the type to an edge that carries this
 pub data Leads : Ty → List Step → Leaf → Type 0 where
   to_int : Leads int [] Ints
   to_bool : Leads bool [] Bools
@@ -54,6 +54,6 @@ abbrev pub Ahead : List Step → ℕ → List Step → Type 0
 Ahead whole level [] = slice_get whole level ≡ None
 Ahead whole level (step ∷ way) = (slice_get whole level ≡ Some step) × Ahead whole (level + 1) way
 
--- what it says is the value that is read from an offset on, where one is
+-- at each offset from which the text spells a value, `vector` gives that value
 abbrev pub Tells : (ℕ → Value) → List ℕ → Type 0
 Tells vector text = (dialect : Dialect) (t : Ty) (from end : ℕ) (v : Value) → HasType dialect v t → from ≤ length text → Reads text from (value_tokens v) end → vector from ≡ v

@@ -2,8 +2,9 @@
 
 ghost use Rattle.flow_inputs.specs.Laws.{TextHoldsEdges, KindsOfEdges, TextTellsValues};
 
-/// A law and no code to run: where a text spells a value of a type, a source at one of the type's edges holds the edge's
-/// part of what the value puts there, all of the edge's kind; and what is built is that value.
+/// A law and no code to run. Where a text spells a value of a type, a source at one of the type's
+/// edges writes that edge's part of what the value puts on all of them, and its items are of the
+/// edge's kind. The value that is read there is the one that is spelled.
 pub fn text_holds_edges()
     ensures items { TextHoldsEdges }
     ensures kinds { KindsOfEdges }

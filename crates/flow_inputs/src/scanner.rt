@@ -7,7 +7,7 @@ ghost use Rattle.flow_inputs.specs.Left.{left};
 use crate::turns::{Leaf, Piece, State, Step, is_done, turn};
 use snesl_values::mark_at;
 
-// What was found, and where the scan stands behind it.
+// What was found, if anything was, and where the scan stands then.
 #[derive(Clone, Copy, Debug, PartialEq, Eq)]
 pub(crate) struct Scanned {
     pub(crate) piece: Option<Piece>,
@@ -15,7 +15,8 @@ pub(crate) struct Scanned {
     pub(crate) state: State,
 }
 
-// The next piece that is written from this state and offset on, if there is one.
+// The next piece that is written from this state and offset on, if there is one, and where the scan
+// stands behind it.
 pub(crate) fn scan(
     text: &[u8],
     way: &[Step],
@@ -25,7 +26,8 @@ pub(crate) fn scan(
 ) -> Scanned
     requires within { at ≤ length text.now }
     requires shallow { depth_of state.mode ≤ at }
-    ensures first { left text.now way.now leaf at state ≡ option_to_list result.piece ++ left text.now way.now leaf result.at result.state }
+    ensures first { left text.now way.now leaf at state ≡
+        option_to_list result.piece ++ left text.now way.now leaf result.at result.state }
     ensures none { IfNone result.piece (left text.now way.now leaf result.at result.state ≡ []) }
     ensures within { result.at ≤ length text.now }
     ensures shallow { depth_of result.state.mode ≤ result.at }

@@ -1,4 +1,4 @@
-// The beginning of a stream whose items are scanned from a text.
+// Sources whose items are scanned from a text.
 
 ghost use Rattle.std.specs.Prelude.{◌≡◌, ◌<◌, ◌≤◌, ◌^◌, [], ◌∷◌, length, IfOk, OnOk, OnErr, IsOk, false};
 ghost use Rattle.std.specs.Arc.{arc_value};
@@ -29,10 +29,11 @@ use snesl_values::datum_at;
 use std::alloc::{AllocError, Global};
 use std::sync::Arc;
 
-/// Reads nothing, and writes what a value, which a shared text spells, puts on one edge of its type, and then the end.
+/// Reads no message. It writes what a value puts on one edge of its type, and then the end. The
+/// value is spelled by a text, which others may share.
 ///
-/// It scans the text forward. Only a vector takes memory; where it is refused, nothing was written, and the same item
-/// is written next.
+/// It scans the text forward. Only a vector takes memory. Where memory is refused, nothing is
+/// written, and the same item comes next.
 #[derive(Drop)]
 pub struct TextSource {
     alloc: Global,
@@ -48,14 +49,17 @@ pub struct TextSource {
     ended: bool,
     ghost inside: { at ≤ length (arc_value text).items },
     ghost shallow: { depth_of state.mode ≤ at },
-    ghost rest: { IsRest (left (arc_value text).items way.items leaf place opening_state) (left (arc_value text).items way.items leaf at state) },
+    ghost rest: { IsRest (left (arc_value text).items way.items leaf place opening_state)
+        (left (arc_value text).items way.items leaf at state) },
 }
 
 impl TextSource {
     ghost use Rattle.flow_inputs.specs.TextSources.{items_in, text_source_state};
 
-    /// A source that has written nothing. It will write what the value puts on the edge of this number of its type, where
-    /// the text spells a value of the type from this place on: an offset in bytes from the start of the text.
+    /// A source that has written nothing, for the edge of this number, counted from 0. It will write
+    /// what a value puts on that edge, where the text spells a value of the type `ty` from `place`
+    /// on, an offset in bytes from the start of the text. The place must not be behind the end of
+    /// the text, and the type must have fewer than 2^64 edges.
     ///
     /// # Errors
     ///
@@ -69,8 +73,11 @@ impl TextSource {
     ) -> Result<TextSource, AllocError>
         requires inside { place ≤ length (arc_value text).items }
         requires fits { width (ty_of ty.now) < 2 ^ 64 }
-        ensures opens { IfOk result (λ source. text_source_state source ≡ source_opened (items_in source)) }
-        ensures items { IfOk result (λ source. items_in source ≡ items_at (arc_value text).items (way_to (ty_of ty.now) edge) (leaf_at (ty_of ty.now) edge) place) }
+        ensures opens { IfOk result (λ source.
+            text_source_state source ≡ source_opened (items_in source)) }
+        ensures items { IfOk result (λ source. items_in source ≡
+            items_at (arc_value text).items
+            (way_to (ty_of ty.now) edge) (leaf_at (ty_of ty.now) edge) place) }
     {
         let mut way = Vec::new(alloc);
         let leaf = add_way(&mut way, ty, edge)?;
@@ -90,7 +97,7 @@ impl TextSource {
     }
 }
 
-// An item that carries the same as a piece. Only a vector takes memory.
+// The item that a piece is, in memory of its own. Only a vector takes memory.
 fn item_of(alloc: Global, text: &[u8], piece: Piece) -> Result<Item, AllocError>
     ensures ok { IfOk result (λ item. cell_of item ≡ cell (value_at text.now) piece) }
     ensures scalar { is_of VecKind (cell (value_at text.now) piece) ≡ false → IsOk result }
@@ -138,9 +145,13 @@ impl Transducer for TextSource {
     }
 
     fn give(&mut self, _port: usize, message: Msg) -> Result<(), AllocError>
-        ensures ok { OnOk result (⟦<TextSource as Transducer>⟧.state self.new ≡ source_behaviour.process.read (⟦<TextSource as Transducer>⟧.state self.old) (signal_of message)) }
-        ensures err { OnErr result (⟦<TextSource as Transducer>⟧.state self.new ≡ ⟦<TextSource as Transducer>⟧.state self.old) }
-        ensures sure { source_behaviour.takes_memory (⟦<TextSource as Transducer>⟧.state self.old) ≡ false → IsOk result }
+        ensures ok { OnOk result (⟦<TextSource as Transducer>⟧.state self.new ≡
+            source_behaviour.process.read
+            (⟦<TextSource as Transducer>⟧.state self.old) (signal_of message)) }
+        ensures err { OnErr result (⟦<TextSource as Transducer>⟧.state self.new ≡
+            ⟦<TextSource as Transducer>⟧.state self.old) }
+        ensures sure { source_behaviour.takes_memory (⟦<TextSource as Transducer>⟧.state self.old) ≡
+            false → IsOk result }
     {
         Ok(())
     }

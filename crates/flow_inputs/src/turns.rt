@@ -1,4 +1,4 @@
-// One turn of a scanner: what a token does to its state.
+// Turns of a scanner: what a token makes of its state.
 
 ghost use Rattle.std.specs.Prelude.{◌≡◌, ◌+◌, ◌<◌, ◌^◌, slice_get, IfSome};
 ghost use Rattle.flow_inputs.specs.Items.{leaf_kind};
@@ -23,8 +23,11 @@ pub enum Step {
 pub enum Leaf {
     /// The flags of sequences.
     Flags,
+    /// Truth values.
     Bools,
+    /// Integers.
     Ints,
+    /// Vectors, each as one item.
     Vectors,
 }
 
@@ -41,64 +44,71 @@ impl Leaf {
     }
 }
 
-/// What a scanner is about.
+/// Where a scanner stands.
 #[derive(Clone, Copy, Debug, PartialEq, Eq)]
 pub enum Mode {
     /// A value comes next.
     Value,
     /// An element comes next, or the end of the sequence.
     Opened,
-    /// A value was passed.
+    /// A value was read whole.
     Behind,
-    /// A part of a pair that is not asked for is passed over; so many brackets are open in it.
+    /// In a part of a pair that is passed over, with so many brackets open in it.
     Passing(usize),
-    /// A sequence whose flags are asked for was opened.
+    /// A sequence was opened whose flags are written.
     Flagging,
-    /// Behind the first token of its elements; so many brackets are open in it.
+    /// Behind the first token of that sequence's elements, with so many brackets open in it.
     Counting(usize),
-    /// A vector was named; so many brackets are open in it.
+    /// In a vector that was written, with so many brackets open in it.
     Within(usize),
     /// Nothing is written any more.
     Lost,
 }
 
-/// How many steps of the way were made, and what the scanner is about.
+/// The state of a scanner.
 #[derive(Clone, Copy, Debug, PartialEq, Eq)]
 pub struct State {
+    /// How many steps of the way were made.
     pub level: usize,
+    /// Where it stands.
     pub mode: Mode,
 }
 
-/// What is written on an edge: a flag, an integer, or the place of a vector in the text.
+/// What is written on an edge.
 #[derive(Clone, Copy, Debug, PartialEq, Eq)]
 pub enum Piece {
+    /// A truth value, or a flag of a sequence.
     Flag(bool),
     Int(i128),
+    /// The vector that is read from this place on, an offset in bytes from the start of the text.
     VectorAt(usize),
 }
 
-/// What one token makes of a state, and what is written.
+// What is written at a token, if anything is, and the state behind it.
 pub(crate) type Turn = (Option<Piece>, State);
 
+// Nothing is written.
 fn moved(level: usize, mode: Mode) -> Turn
     ensures { result ≡ moved level mode }
 {
     (None, State { level, mode })
 }
 
+// This is written.
 fn wrote(piece: Piece, level: usize, mode: Mode) -> Turn
     ensures { result ≡ wrote piece level mode }
 {
     (Some(piece), State { level, mode })
 }
 
+// No value of the type is spelled here, and nothing is written any more.
 fn lost() -> Turn
     ensures { result ≡ lost }
 {
     moved(0, Mode::Lost)
 }
 
-// At the end of the way.
+// A token at the end of the way.
 fn at_leaf(leaf: Leaf, level: usize, mark: Mark, place: usize) -> Turn
     ensures { result ≡ at_leaf leaf level mark place }
 {
@@ -113,7 +123,7 @@ fn at_leaf(leaf: Leaf, level: usize, mark: Mark, place: usize) -> Turn
     }
 }
 
-// Where a value comes next.
+// A token where a value comes next, by the next step of the way.
 fn at_value(step: Option<Step>, leaf: Leaf, level: usize, mark: Mark, place: usize) -> Turn
     requires { IfSome step (λ _. level < usize.MAX) }
     ensures { result ≡ at_value step leaf level mark place }
@@ -127,7 +137,7 @@ fn at_value(step: Option<Step>, leaf: Leaf, level: usize, mark: Mark, place: usi
     }
 }
 
-// Behind a value, by the innermost step that was made.
+// A token behind a value, by the innermost step that was made.
 fn behind(step: Option<Step>, level: usize, mark: Mark) -> Turn
     ensures { result ≡ behind step level mark }
 {
@@ -142,7 +152,7 @@ fn behind(step: Option<Step>, level: usize, mark: Mark) -> Turn
     }
 }
 
-// Where a sequence was opened on the way.
+// A token where a sequence was opened on the way.
 fn at_opened(step: Option<Step>, leaf: Leaf, level: usize, mark: Mark, place: usize) -> Turn
     requires { IfSome step (λ _. level < usize.MAX) }
     ensures { result ≡ at_opened step leaf level mark place }
@@ -153,7 +163,8 @@ fn at_opened(step: Option<Step>, leaf: Leaf, level: usize, mark: Mark, place: us
     }
 }
 
-// In a part that is passed over, outside its brackets.
+// A token in a part that is passed over, outside its brackets: the comma behind a first part, and
+// the end of a pair.
 fn passed(step: Option<Step>, level: usize, mark: Mark) -> Turn
     ensures { result ≡ passed step level mark }
 {
@@ -166,7 +177,7 @@ fn passed(step: Option<Step>, level: usize, mark: Mark) -> Turn
     }
 }
 
-// In a part that is passed over.
+// A token in a part that is passed over.
 fn passing(step: Option<Step>, level: usize, depth: usize, mark: Mark) -> Turn
     requires { depth + 1 < 2 ^ 64 }
     ensures { result ≡ passing step level depth mark }
@@ -190,7 +201,7 @@ fn passing(step: Option<Step>, level: usize, depth: usize, mark: Mark) -> Turn
     }
 }
 
-// Where a sequence was opened whose flags are written.
+// A token where a sequence was opened whose flags are written.
 fn flagging(level: usize, mark: Mark) -> Turn
     ensures { result ≡ flagging level mark }
 {
@@ -201,7 +212,7 @@ fn flagging(level: usize, mark: Mark) -> Turn
     }
 }
 
-// In its elements.
+// A token in the elements of that sequence.
 fn counting(level: usize, depth: usize, mark: Mark) -> Turn
     requires { depth + 1 < 2 ^ 64 }
     ensures { result ≡ counting level depth mark }
@@ -226,7 +237,7 @@ fn counting(level: usize, depth: usize, mark: Mark) -> Turn
     }
 }
 
-// In a vector.
+// A token in a vector.
 fn within(level: usize, depth: usize, mark: Mark) -> Turn
     requires { depth + 1 < 2 ^ 64 }
     ensures { result ≡ within level depth mark }
@@ -266,7 +277,7 @@ fn made(way: &[Step], level: usize) -> Option<Step>
     }
 }
 
-// What a token, which was looked for from this offset on, makes of a state.
+// What a token makes of a state. The token was looked for from the offset `place` on.
 pub(crate) fn turn(way: &[Step], leaf: Leaf, state: State, mark: Mark, place: usize) -> Turn
     requires { depth_of state.mode + 1 < 2 ^ 64 }
     ensures { result ≡ turn way.now leaf state mark place }

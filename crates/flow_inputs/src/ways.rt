@@ -9,7 +9,7 @@ use crate::turns::{Leaf, Step};
 use snesl_data::Ty;
 use std::alloc::AllocError;
 
-/// How many edges the type has, where the number fits.
+/// How many edges the type has, one for each stream of a value. They must be fewer than 2^64.
 pub fn edge_count(ty: &Ty) -> usize
     requires { width (ty_of ty.now) < 2 ^ 64 }
     ensures { result ≡ width (ty_of ty.now) }
@@ -21,7 +21,7 @@ pub fn edge_count(ty: &Ty) -> usize
     }
 }
 
-// Adds the steps from the type to the edge of this number, and tells what is at their end.
+// Adds the steps from the type to the edge of this number. The result is what is at their end.
 pub(crate) fn add_way(way: &mut Vec<Step>, ty: &Ty, edge: usize) -> Result<Leaf, AllocError>
     requires { width (ty_of ty.now) < 2 ^ 64 }
     ensures way { OnOk result (way.new.items ≡ way.old.items ++ way_to (ty_of ty.now) edge) }

@@ -17,12 +17,12 @@ entry_at text placed = (placed.name.items, value_at text placed.place)
 abbrev pub environment_at : List ℕ → List Placed → Environment
 environment_at text all = map (entry_at text) all
 
--- the token comes next, and then such as is said of the offset behind it
+-- the token comes next, and `Behind` is true of the offset behind it
 abbrev pub ComesBy : (ℕ → Type 0) → Token → ℕ → Option Lexeme → Type 0
 ComesBy Behind token start None = ⊥
 ComesBy Behind token start (Some lexeme) = (lexeme.0 ≡ token) × Behind (start + lexeme.1)
 
--- these tokens come next; the same as `Reads` to some offset, and has one proof at most
+-- these tokens come next: what `Reads` says up to some offset, with one proof at most
 abbrev pub Comes : List ℕ → ℕ → List Token → Type 0
 Comes text at [] = Unit {0}
 Comes text at (token ∷ tokens) = ComesBy (λ behind. Comes text behind tokens) token (next_at text at) (next text at)
@@ -31,7 +31,7 @@ Comes text at (token ∷ tokens) = ComesBy (λ behind. Comes text behind tokens)
 abbrev pub IsPlaced : Dialect → List ℕ → Ty → ℕ → Type 0
 IsPlaced dialect text t place = (place ≤ length text) × HasType dialect (value_at text place) t × Comes text place (value_tokens (value_at text place))
 
--- the same for each declaration
+-- the same for each declaration and its place, in order
 abbrev pub ArePlaced : Dialect → List ℕ → List Declaration → List Placed → Type 0
 ArePlaced dialect text [] [] = Unit {0}
 ArePlaced dialect text (declaration ∷ declarations) (placed ∷ all) = IsPlaced dialect text declaration.1 placed.place × ArePlaced dialect text declarations all

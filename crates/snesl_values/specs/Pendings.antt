@@ -6,19 +6,21 @@ use Rattle.snesl_values.specs.declared.builder.Pending.{Pending}
 use Rattle.snesl_values.specs.declared.builder.Pending.TheVariants.{Items, First, Second}
 use Rattle.snesl_values.specs.Places.{Frame, in_items, in_first, in_second, Reading}
 
+-- the frame that something open is
 abbrev pub frame_of : Pending → Frame
 frame_of (Items bracket items) = in_items bracket (map value_of items.items)
 frame_of First = in_first
 frame_of (Second datum) = in_second (value_of datum)
 
--- the last one is the innermost
+-- the frames of these, the last one innermost, upon other frames
 abbrev pub frames_from : List Frame → List Pending → List Frame
 frames_from frames [] = frames
 frames_from frames (one ∷ rest) = frames_from (frame_of one ∷ frames) rest
 
+-- the frames of all that is open
 unfoldable pub frames_of : List Pending → List Frame
 frames_of all = frames_from [] all
 
--- with the value that was just read, if one was
+-- the same with the value that was just read, if one was
 abbrev pub reading_of : List Pending → Option Datum → Reading
 reading_of opens last = (frames_of opens, option_map value_of last)

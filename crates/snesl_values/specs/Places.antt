@@ -7,7 +7,7 @@ use Rattle.snesl_values.specs.declared.marks.Mark.{Mark}
 use Rattle.snesl_values.specs.declared.marks.Mark.TheVariants.{Truth, Number, Open, Close, Comma}
 use Rattle.snesl_values.specs.Marks.{Spot, spots}
 
--- what is open: items in a bracket, with those before, or a pair in its first or its second part
+-- what is open: a vector or a sequence with its items so far, or a pair in its first or second part
 pub data Frame : Type 0 where
   in_items : Bracket → List Value → Frame
   in_first : Frame
@@ -21,21 +21,22 @@ Reading = List Frame × Option Value
 abbrev pub no_value : Value
 no_value = a_bool false
 
+-- what is left where no value is spelled: nothing is open, and some value was read
 abbrev pub unlawful : Reading
 unlawful = ([], Some no_value)
 
--- the items of a vector or a sequence
+-- the vector or the sequence of these items, by its bracket
 abbrev pub closed : Bracket → List Value → Value
 closed Square vs = a_vec (values_of vs)
 closed Curly vs = a_seq (values_of vs)
 closed Round vs = no_value
 
--- a bracket is closed behind no item
+-- a bracket is closed where a value could come next
 abbrev pub close_none : List Frame → Reading
 close_none (in_items b vs ∷ frames) = (frames, Some (closed b vs))
 close_none _ = unlawful
 
--- where a value comes next
+-- a token where a value comes next
 abbrev pub on_none : List Frame → Mark → Reading
 on_none frames (Number n) = (frames, Some (an_int n))
 on_none frames (Truth b) = (frames, Some (a_bool b))
@@ -45,7 +46,7 @@ on_none frames (Open Curly) = (in_items Curly [] ∷ frames, None)
 on_none frames (Close b) = close_none frames
 on_none frames mark = unlawful
 
--- behind a value
+-- a token behind a value
 abbrev pub on_some : Value → List Frame → Mark → Reading
 on_some v [] mark = ([], Some v)
 on_some v (in_items b vs ∷ frames) Comma = (in_items b (vs ++ v ∷ []) ∷ frames, None)
@@ -54,20 +55,21 @@ on_some v (in_first ∷ frames) Comma = (in_second v ∷ frames, None)
 on_some v (in_second a ∷ frames) (Close c) = (frames, Some (a_pair a v))
 on_some v frames mark = unlawful
 
+-- a token behind a value that was just read, or else where one comes next
 abbrev pub read_by : Option Value → List Frame → Mark → Reading
 read_by None frames mark = on_none frames mark
 read_by (Some v) frames mark = on_some v frames mark
 
--- what was read in the end
+-- the value at the end of the tokens
 abbrev pub read_value : List Frame → Option Value → Value
 read_value [] (Some v) = v
 read_value _ _ = no_value
 
--- the value, behind what was read so far
+-- the value that these tokens spell behind what was read so far
 abbrev pub spelled : List Frame → Option Value → List Spot → Value
 spelled frames value [] = read_value frames value
 spelled frames value (spot ∷ rest) = (let r = read_by value frames spot.0 in spelled r.0 r.1 rest)
 
--- the value from an offset on
+-- the value that is read from an offset on
 unfoldable pub value_at : List ℕ → ℕ → Value
 value_at text at = spelled [] None (spots text at)

@@ -3,31 +3,39 @@ use Rattle.std.specs.Prelude.{true, false, List, [], ◌∷◌, ◌++◌, codes}
 use Rattle.snesl_data.specs.Values.{Value, an_int, a_bool, a_pair, a_vec, a_seq, Values, no_values, more_values}
 use Rattle.snesl_values.specs.InputTokens.{Token, word, integer, sign}
 
--- the signs = ; , ( ) [ ] { }
+-- the sign `=`
 abbrev pub equals : Token
 equals = sign 61
 
+-- the sign `;`
 abbrev pub semicolon : Token
 semicolon = sign 59
 
+-- the sign `,`
 abbrev pub comma : Token
 comma = sign 44
 
+-- the sign `(`
 abbrev pub left_paren : Token
 left_paren = sign 40
 
+-- the sign `)`
 abbrev pub right_paren : Token
 right_paren = sign 41
 
+-- the sign `[`
 abbrev pub left_bracket : Token
 left_bracket = sign 91
 
+-- the sign `]`
 abbrev pub right_bracket : Token
 right_bracket = sign 93
 
+-- the sign `{`
 abbrev pub left_brace : Token
 left_brace = sign 123
 
+-- the sign `}`
 abbrev pub right_brace : Token
 right_brace = sign 125
 

@@ -1,4 +1,4 @@
-// Values of a text, built by the tokens that spell them.
+// Values, built from the tokens of a text that spell them.
 
 ghost use Rattle.std.specs.Prelude.{◌≡◌, ◌∷◌, ◌++◌, [], map, option_map, IfOk, OnOk, Some, None};
 ghost use Rattle.snesl_data.specs.Values.{value_of};
@@ -12,15 +12,20 @@ use std::alloc::{AllocError, Global};
 // What is open behind the tokens read so far.
 #[derive(Drop)]
 pub(crate) enum Pending {
-    // The items of a vector or a sequence, with those that are whole.
+    // A vector or a sequence, by its bracket, with its items so far.
     Items(Bracket, Vec<Datum>),
     // A pair whose first part comes next, or was just read.
     First,
-    // A pair of which this is the first part.
+    // A pair with this first part, whose second part comes next, or was just read.
     Second(Datum),
 }
 
-/// The value that is read from this place on, and some value where none is. Its only error is that memory was refused.
+/// The value that the text spells from `place` on, an offset in bytes from its start, as a tree in
+/// memory of its own. Where the text spells none there, the result is some value.
+///
+/// # Errors
+///
+/// `AllocError` where memory is refused.
 pub fn datum_at(alloc: Global, text: &[u8], place: usize) -> Result<Datum, AllocError>
     ensures { IfOk result (λ datum. value_of datum ≡ value_at text.now place) }
 {
@@ -47,7 +52,7 @@ pub fn datum_at(alloc: Global, text: &[u8], place: usize) -> Result<Datum, Alloc
     }
 }
 
-// What was read in the end.
+// The value at the end of the tokens: the last one that was read, where nothing is open.
 fn whole(pending: &[Pending], last: Option<Datum>) -> Datum
     ensures { value_of result ≡ read_value (frames_of pending.now) (option_map value_of last) }
 {
@@ -60,13 +65,14 @@ fn whole(pending: &[Pending], last: Option<Datum>) -> Datum
     }
 }
 
-// A token where a value comes next, and the value that is whole then, if one is.
+// Reads a token where a value comes next. The result is the value that is whole then, if one is.
 fn before_value(
     alloc: Global,
     pending: &mut Vec<Pending>,
     mark: Mark,
 ) -> Result<Option<Datum>, AllocError>
-    ensures { IfOk result (λ last. reading_of pending.new.items last ≡ on_none (frames_of pending.old.items) mark) }
+    ensures { IfOk result (λ last. reading_of pending.new.items last ≡
+        on_none (frames_of pending.old.items) mark) }
 {
     match mark {
         Mark::Number(number) => Ok(Some(Datum::Int(number))),
@@ -80,13 +86,14 @@ fn before_value(
     }
 }
 
-// A bracket is opened where a value comes next.
+// Opens a bracket where a value comes next.
 fn open_bracket(
     alloc: Global,
     pending: &mut Vec<Pending>,
     bracket: Bracket,
 ) -> Result<(), AllocError>
-    ensures { OnOk result (reading_of pending.new.items None ≡ on_none (frames_of pending.old.items) (Mark.Open bracket)) }
+    ensures { OnOk result (reading_of pending.new.items None ≡
+        on_none (frames_of pending.old.items) (Mark.Open bracket)) }
 {
     match bracket {
         Bracket::Round => pending.push(Pending::First)?,
@@ -96,7 +103,7 @@ fn open_bracket(
     Ok(())
 }
 
-// A bracket is closed where a value could come next.
+// Closes a bracket where a value could come next. The result is the value that is whole then.
 fn close_empty(pending: &mut Vec<Pending>) -> Option<Datum>
     ensures { reading_of pending.new.items result ≡ close_none (frames_of pending.old.items) }
 {
@@ -108,14 +115,15 @@ fn close_empty(pending: &mut Vec<Pending>) -> Option<Datum>
     }
 }
 
-// A token behind a value, and the value that is whole then, if one is.
+// Reads a token behind a value. The result is the value that is whole then, if one is.
 fn behind_value(
     alloc: Global,
     pending: &mut Vec<Pending>,
     datum: Datum,
     mark: Mark,
 ) -> Result<Option<Datum>, AllocError>
-    ensures { IfOk result (λ last. reading_of pending.new.items last ≡ on_some (value_of datum) (frames_of pending.old.items) mark) }
+    ensures { IfOk result (λ last. reading_of pending.new.items last ≡
+        on_some (value_of datum) (frames_of pending.old.items) mark) }
 {
     match pending.pop() {
         Some(Pending::Items(bracket, items)) => behind_item(pending, bracket, items, datum, mark),
@@ -125,7 +133,7 @@ fn behind_value(
     }
 }
 
-// Behind an item of a vector or a sequence.
+// The same behind an item of a vector or a sequence.
 fn behind_item(
     pending: &mut Vec<Pending>,
     bracket: Bracket,
@@ -133,7 +141,9 @@ fn behind_item(
     datum: Datum,
     mark: Mark,
 ) -> Result<Option<Datum>, AllocError>
-    ensures { IfOk result (λ last. reading_of pending.new.items last ≡ on_some (value_of datum) (in_items bracket (map value_of items.items) ∷ frames_of pending.old.items) mark) }
+    ensures { IfOk result (λ last. reading_of pending.new.items last ≡
+        on_some (value_of datum)
+        (in_items bracket (map value_of items.items) ∷ frames_of pending.old.items) mark) }
 {
     let mut all = items;
     match mark {
@@ -150,13 +160,14 @@ fn behind_item(
     }
 }
 
-// Behind the first part of a pair.
+// The same behind the first part of a pair.
 fn behind_first(
     pending: &mut Vec<Pending>,
     datum: Datum,
     mark: Mark,
 ) -> Result<Option<Datum>, AllocError>
-    ensures { IfOk result (λ last. reading_of pending.new.items last ≡ on_some (value_of datum) (in_first ∷ frames_of pending.old.items) mark) }
+    ensures { IfOk result (λ last. reading_of pending.new.items last ≡
+        on_some (value_of datum) (in_first ∷ frames_of pending.old.items) mark) }
 {
     match mark {
         Mark::Comma => {
@@ -167,7 +178,7 @@ fn behind_first(
     }
 }
 
-// Behind the second part of a pair.
+// The same behind the second part of a pair.
 fn behind_second(
     alloc: Global,
     pending: &mut Vec<Pending>,
@@ -175,7 +186,8 @@ fn behind_second(
     second: Datum,
     mark: Mark,
 ) -> Result<Option<Datum>, AllocError>
-    ensures { IfOk result (λ last. reading_of pending.new.items last ≡ on_some (value_of second) (in_second (value_of first) ∷ frames_of pending.old.items) mark) }
+    ensures { IfOk result (λ last. reading_of pending.new.items last ≡
+        on_some (value_of second) (in_second (value_of first) ∷ frames_of pending.old.items) mark) }
 {
     match mark {
         Mark::Close(_) => {
@@ -187,7 +199,7 @@ fn behind_second(
     }
 }
 
-// No value is spelled here: some value, and nothing is open.
+// Gives up, since no value is spelled here: the result is some value, and nothing stays open.
 fn unlawful(pending: &mut Vec<Pending>) -> Option<Datum>
     ensures { reading_of pending.new.items result ≡ unlawful }
 {
@@ -195,7 +207,7 @@ fn unlawful(pending: &mut Vec<Pending>) -> Option<Datum>
     Some(Datum::Bool(false))
 }
 
-// The items of a vector or a sequence.
+// The vector or the sequence of these items, by its bracket.
 fn closed(bracket: Bracket, items: Vec<Datum>) -> Datum
     ensures { value_of result ≡ closed bracket (map value_of items.items) }
 {

@@ -1,4 +1,6 @@
-// Values in an input text, checked by their types and not kept.
+// Values in an input text, checked by their types, and none of them kept.
+//
+// An error `Bad` has the offset of the first token that may not stand there, or the text's length.
 
 ghost use Rattle.std.specs.Prelude.{◌≡◌, ◌≤◌, ◌∷◌, [], ◌⊎◌, length, IsTrue, IfOk, IfErr};
 ghost use Rattle.snesl_values.specs.InputTokens.{word, sign, is_sign, Takes};
@@ -41,11 +43,12 @@ pub fn expect_word(
     }
 }
 
-// The value of this type that comes next, and the offset behind it.
+// The offset behind the value of this type that comes next.
 #[cycle(values)]
 pub fn check_value(dialect: Dialect, text: &[u8], at: usize, ty: &Ty) -> Result<usize, InputError>
     requires { at ≤ length text.now }
-    ensures read { IfOk result (λ end. (value : Value) × IsRead dialect text.now at (ty_of ty.now) value end) }
+    ensures read { IfOk result (λ end.
+        (value : Value) × IsRead dialect text.now at (ty_of ty.now) value end) }
     ensures stops { IfErr result (IsStop dialect (a_value (ty_of ty.now) ∷ []) text.now at) }
 {
     match ty {
@@ -70,10 +73,11 @@ pub fn check_value(dialect: Dialect, text: &[u8], at: usize, ty: &Ty) -> Result<
     }
 }
 
-// The truth value that comes next, and the offset behind it.
+// The offset behind the truth value that comes next.
 fn check_truth(dialect: Dialect, text: &[u8], at: usize) -> Result<usize, InputError>
     requires { at ≤ length text.now }
-    ensures read { IfOk result (λ end. (value : Value) × IsRead dialect text.now at bool value end) }
+    ensures read { IfOk result (λ end.
+        (value : Value) × IsRead dialect text.now at bool value end) }
     ensures stops { IfErr result (IsStop dialect (a_value bool ∷ []) text.now at) }
 {
     if let Some(end) = behind_word(text, at, b"true") {
@@ -85,7 +89,7 @@ fn check_truth(dialect: Dialect, text: &[u8], at: usize) -> Result<usize, InputE
     }
 }
 
-// The pair of these types that comes next, and the offset behind it.
+// The offset behind the pair of these types that comes next.
 #[cycle(values)]
 fn check_pair(
     dialect: Dialect,
@@ -95,8 +99,10 @@ fn check_pair(
     second: &Ty,
 ) -> Result<usize, InputError>
     requires { at ≤ length text.now }
-    ensures read { IfOk result (λ end. (value : Value) × IsRead dialect text.now at (pair (ty_of first.now) (ty_of second.now)) value end) }
-    ensures stops { IfErr result (IsStop dialect (a_value (pair (ty_of first.now) (ty_of second.now)) ∷ []) text.now at) }
+    ensures read { IfOk result (λ end. (value : Value) ×
+        IsRead dialect text.now at (pair (ty_of first.now) (ty_of second.now)) value end) }
+    ensures stops { IfErr result
+        (IsStop dialect (a_value (pair (ty_of first.now) (ty_of second.now)) ∷ []) text.now at) }
 {
     let at_first = expect_sign(dialect, text, at, b'(')?;
     let behind_first = check_value(dialect, text, at_first, first)?;
@@ -106,8 +112,8 @@ fn check_pair(
     Ok(end)
 }
 
-// The items of this type that come next, with commas between them and the closing sign behind them,
-// and the offset behind that.
+// The offset behind the closing sign of the items of this type that come next, with commas between
+// them.
 #[cycle(values)]
 fn check_items(
     dialect: Dialect,
@@ -118,7 +124,8 @@ fn check_items(
 ) -> Result<usize, InputError>
     requires within { at ≤ length text.now }
     requires closes { (close ≡ 93) ⊎ (close ≡ 125) }
-    ensures read { IfOk result (λ end. (values : Values) × AreRead dialect text.now at (ty_of item.now) close values end) }
+    ensures read { IfOk result (λ end. (values : Values) ×
+        AreRead dialect text.now at (ty_of item.now) close values end) }
     ensures stops { IfErr result (IsStop dialect (items (ty_of item.now) close ∷ []) text.now at) }
 {
     if let Some(end) = behind_sign(text, at, close) {

@@ -11,8 +11,9 @@ use std::alloc::{AllocError, Global};
 use std::sync::Arc;
 
 /// The values of a program's declared inputs, in the order of declaration, with the dialect and the
-/// declarations for which they were read. They are kept as the text that spells them, which may be
-/// shared, and the place of each in it. It keeps that the values are of these names and types.
+/// declarations for which they were read. They are kept as the text that spells them, which others
+/// may share, and the place of each value in it. The names are the declared ones, and each value
+/// has its declared type.
 #[derive(Drop)]
 pub struct Inputs {
     pub(crate) dialect: Dialect,
@@ -65,14 +66,15 @@ impl Inputs {
     /// are so many.
     #[tactic(auto, unfolding(crate::specs::Inputs::environment_of))]
     pub fn name(&self, number: usize) -> Option<&[u8]>
-        ensures { option_map (λ name. name.now) result ≡ option_map (λ entry. entry.0) (slice_get (environment_of self.now) number) }
+        ensures { option_map (λ name. name.now) result ≡
+            option_map (λ entry. entry.0) (slice_get (environment_of self.now) number) }
     {
         let input = self.all.get(number)?;
         Some(&input.name)
     }
 
     /// The value of the input of this number, counted from 0 in the order of declaration, as a tree
-    /// in memory of its own.
+    /// in memory of its own. The number must be below `len()`.
     ///
     /// # Errors
     ///
@@ -80,7 +82,9 @@ impl Inputs {
     #[tactic(auto, unfolding(crate::specs::Inputs::environment_of))]
     pub fn datum(&self, alloc: Global, number: usize) -> Result<Datum, AllocError>
         requires { number < length (environment_of self.now) }
-        ensures { IfOk result (λ datum. option_map (λ entry. entry.1) (slice_get (environment_of self.now) number) ≡ Some (value_of datum)) }
+        ensures { IfOk result (λ datum.
+            option_map (λ entry. entry.1) (slice_get (environment_of self.now) number) ≡
+            Some (value_of datum)) }
     {
         datum_at(alloc, &self.text, self.all[number].place)
     }
@@ -93,11 +97,13 @@ impl Inputs {
         &self.text
     }
 
-    /// Where the value of the input of this number begins, counted from 0 in the order of
-    /// declaration: an offset in bytes from the start of the text, if there are so many inputs.
+    /// The place from which the value of the input of this number is read, counted from 0 in the
+    /// order of declaration, if there are so many. It is an offset in bytes from the start of the
+    /// text, and blanks may stand between it and the value.
     #[tactic(auto, unfolding(crate::specs::Inputs::placed_in))]
     pub fn place(&self, number: usize) -> Option<usize>
-        ensures { result ≡ option_map (λ placed. placed.place) (slice_get (placed_in self.now) number) }
+        ensures { result ≡
+            option_map (λ placed. placed.place) (slice_get (placed_in self.now) number) }
     {
         let input = self.all.get(number)?;
         Some(input.place)

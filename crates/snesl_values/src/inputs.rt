@@ -62,12 +62,12 @@ impl From<InputError> for Refusal {
 /// two, and one more `;` may stand behind the last.
 ///
 /// A value is an integer, `true` or `false`, a pair `(a,b)`, a vector `[a,b]` or a sequence
-/// `{a,b}`, as its type says; an integer lies in the range of the dialect, and may have a minus directly before its digits. Spaces, tabs,
-/// line feeds and carriage returns may stand before, between and after tokens, and the longest
-/// token is taken.
+/// `{a,b}`, as its type says. An integer lies in the range of the dialect, and may have a minus
+/// directly before its digits. Spaces, tabs, line feeds and carriage returns may stand before,
+/// between and after tokens. The longest token is taken.
 ///
-/// The text is read once and copied once. What it takes of memory beside the copy does not hang on
-/// the values: it keeps the place of each, and builds none.
+/// The text is read once and copied once. No value is built: beside the copy, memory is taken only
+/// for the declarations, and for the name and the place of each value.
 ///
 /// # Errors
 ///
@@ -82,19 +82,27 @@ pub fn read_inputs(
     bytes: &[u8],
 ) -> Result<Inputs, InputError>
     // What is answered is what the text means.
-    ensures spelled { IfOk result (λ inputs. InputMeans dialect (declared decls.now) bytes.now (spells (environment_of inputs))) }
-    ensures refused { IfErr result (λ error. (error ≡ NoMemory) ⊎ ((at : ℕ) × (error ≡ Bad at) × InputMeans dialect (declared decls.now) bytes.now (refused_at at))) }
+    ensures spelled { IfOk result (λ inputs.
+        InputMeans dialect (declared decls.now) bytes.now (spells (environment_of inputs))) }
+    ensures refused { IfErr result (λ error. (error ≡ NoMemory) ⊎
+        ((at : ℕ) × (error ≡ Bad at) ×
+        InputMeans dialect (declared decls.now) bytes.now (refused_at at))) }
 
     // And what the text means is answered, unless memory was refused.
-    ensures lawful { (environment : Environment) → InputMeans dialect (declared decls.now) bytes.now (spells environment) → IsOk result ⊎ (result ≡ Err NoMemory) }
-    ensures unlawful { (at : ℕ) → InputMeans dialect (declared decls.now) bytes.now (refused_at at) → (result ≡ Err (Bad at)) ⊎ (result ≡ Err NoMemory) }
+    ensures lawful { (environment : Environment) →
+        InputMeans dialect (declared decls.now) bytes.now (spells environment) →
+        IsOk result ⊎ (result ≡ Err NoMemory) }
+    ensures unlawful { (at : ℕ) →
+        InputMeans dialect (declared decls.now) bytes.now (refused_at at) →
+        (result ≡ Err (Bad at)) ⊎ (result ≡ Err NoMemory) }
 
     // The inputs are of the dialect and the declarations for which they were read.
     ensures in_dialect { IfOk result (λ inputs. dialect_of inputs ≡ dialect) }
     ensures declares { IfOk result (λ inputs. declarations_of inputs ≡ declared decls.now) }
 
     // The names are the declared ones, and the values have their types.
-    ensures fits { IfOk result (λ inputs. Fits dialect (declared decls.now) (environment_of inputs)) }
+    ensures fits { IfOk result (λ inputs.
+        Fits dialect (declared decls.now) (environment_of inputs)) }
 {
     if bytes.len() > GREATEST_INPUT_LENGTH {
         return Err(InputError::Bad(GREATEST_INPUT_LENGTH));
@@ -128,19 +136,22 @@ fn copy_decls(alloc: Global, decls: &[(Vec<u8>, Ty)]) -> Result<Vec<(Vec<u8>, Ty
     Ok(copies)
 }
 
-/// A law and no code to run: the values are of the declarations for which they were read.
+/// A law and no code to run: the values have the names and types of the declarations for which they
+/// were read, in order.
 pub fn inputs_fit(inputs: &Inputs)
     ensures { Fits (dialect_of inputs.now) (declarations_of inputs.now) (environment_of inputs.now) }
 {}
 
-/// A law and no code to run: from each place on the text spells a value of the declared type, and
-/// these values, beside the names, are the inputs.
+/// A law and no code to run: from each place on, the text spells a value of the declared type.
+/// These values, each beside its name, are the inputs.
 pub fn inputs_are_placed(inputs: &Inputs)
-    ensures placed { ArePlaced (dialect_of inputs.now) (text_in inputs.now) (declarations_of inputs.now) (placed_in inputs.now) }
-    ensures environment { environment_of inputs.now ≡ environment_at (text_in inputs.now) (placed_in inputs.now) }
+    ensures placed { ArePlaced (dialect_of inputs.now) (text_in inputs.now)
+        (declarations_of inputs.now) (placed_in inputs.now) }
+    ensures environment { environment_of inputs.now ≡
+        environment_at (text_in inputs.now) (placed_in inputs.now) }
 {}
 
-/// A law and no code to run: a text means one thing for the declarations, and no more than one.
+/// A law and no code to run: each text has an answer for the declarations, and only one.
 pub fn one_input_meaning()
     ensures one { OneInputMeaning }
     ensures some { SomeInputMeaning }

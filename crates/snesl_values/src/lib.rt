@@ -1,6 +1,11 @@
-//! Types, values, faults, refusals, the text of a value, input texts, and counted readers and writers.
+//! Types, values, faults, refusals, the text of a value, input texts, and counted readers and
+//! writers.
 //!
-//! Input texts are read here; all else is passed on from `snesl_data`, with the words of its contracts (`specs/Lib.antt`).
+//! Input texts are read here. One pass checks a text by the declared types. The values are kept as
+//! the text and the place of each in it, and one is built only where a caller asks for it.
+//!
+//! All else comes from `snesl_data` and is passed on, with the words of its contracts
+//! (`specs/Lib.antt`).
 #![tactic(auto)]
 
 mod builder;

@@ -9,7 +9,7 @@ ghost use Rattle.snesl_values.specs.Marks.{mark_of, sign_mark, word_mark, found_
 use crate::scan::{signed_number, skip_blanks};
 use snesl_data::{Dialect, digits_len, word_len};
 
-/// The brackets of pairs, of vectors and of sequences.
+/// A bracket: round for a pair, square for a vector, curly for a sequence.
 #[derive(Clone, Copy, Debug, PartialEq, Eq)]
 pub enum Bracket {
     Round,
@@ -20,7 +20,9 @@ pub enum Bracket {
 /// A token, as far as a scanner looks at it.
 #[derive(Clone, Copy, Debug, PartialEq, Eq)]
 pub enum Mark {
+    /// The word `true` or `false`.
     Truth(bool),
+    /// An integer that 128 bits hold, with its sign.
     Number(i128),
     Open(Bracket),
     Close(Bracket),
@@ -29,14 +31,16 @@ pub enum Mark {
     Other,
 }
 
-/// A token, and the offset behind it.
+/// A token, and the offset behind it, in bytes from the start of the text.
 #[derive(Clone, Copy, Debug, PartialEq, Eq)]
 pub struct Found {
     pub mark: Mark,
     pub end: usize,
 }
 
-/// The token that comes next, with the offset behind it, if one does.
+/// The token that comes next from the offset `at` on, behind blanks, with the offset behind it, or
+/// `None` where only blanks are left. Offsets are in bytes from the start of the text, and `at`
+/// must not be behind its end.
 pub fn mark_at(text: &[u8], at: usize) -> Option<Found>
     requires { at ≤ length text.now }
     ensures next { result ≡ found_from (next_at text.now at) (next text.now at) }
@@ -57,7 +61,8 @@ pub fn mark_at(text: &[u8], at: usize) -> Option<Found>
 // The token that stands first, and its length.
 fn first_mark(bytes: &[u8]) -> (Mark, usize)
     requires { 0 < length bytes.now }
-    ensures first { Some result ≡ option_map (λ lexeme. (mark_of lexeme.0, lexeme.1)) (first bytes.now) }
+    ensures first { Some result ≡
+        option_map (λ lexeme. (mark_of lexeme.0, lexeme.1)) (first bytes.now) }
     ensures moves { 0 < result.1 }
     ensures within { result.1 ≤ length bytes.now }
 {
@@ -76,10 +81,12 @@ fn first_mark(bytes: &[u8]) -> (Mark, usize)
     (sign_mark(byte), 1)
 }
 
-// What is behind a minus, and the length with it.
+// The token that a minus begins, by the bytes behind it, and its length with the minus.
 fn minus_mark(rest: &[u8]) -> (Mark, usize)
     requires { length rest.now < 2 ^ 63 }
-    ensures first { result ≡ (let lexeme = minus_lexeme (take_while is_ascii_digit rest.now) in (mark_of lexeme.0, lexeme.1)) }
+    ensures first { result ≡
+        (let lexeme = minus_lexeme (take_while is_ascii_digit rest.now) in
+        (mark_of lexeme.0, lexeme.1)) }
     ensures moves { 0 < result.1 }
     ensures within { result.1 ≤ length rest.now + 1 }
 {
@@ -90,7 +97,7 @@ fn minus_mark(rest: &[u8]) -> (Mark, usize)
     (number_mark(true, &rest[..len]), len + 1)
 }
 
-// A word.
+// The mark of a word.
 fn word_mark(letters: &[u8]) -> Mark
     ensures { result ≡ word_mark letters.now }
 {
@@ -103,7 +110,7 @@ fn word_mark(letters: &[u8]) -> Mark
     Mark::Other
 }
 
-// A sign.
+// The mark of a byte that begins no word and no integer.
 fn sign_mark(byte: u8) -> Mark
     ensures { result ≡ sign_mark byte }
 {

@@ -12,22 +12,32 @@ use crate::scan::behind_sign;
 use snesl_data::{Dialect, Ty};
 use std::alloc::Global;
 
-/// A declared name, and the offset from which its value is read.
+/// A declared name, and the place from which its value is read: an offset in bytes from the start
+/// of the text.
 #[derive(Debug, Drop)]
 pub struct Placed {
     pub name: Vec<u8>,
     pub place: usize,
 }
 
-/// The places of the declared values, where a text begins with them, and the offset behind them.
+/// The names and places of the declared inputs with which the text begins, in order, and the offset
+/// behind them, in bytes from the start of the text.
+///
+/// # Errors
+///
+/// - `Bad(at)`: the text does not begin so. `at` is the offset of the first token that no lawful
+///   text can have there, or the length of a text that ends too early.
+/// - `NoMemory`: memory was refused.
 pub fn read_places(
     dialect: Dialect,
     alloc: Global,
     decls: &[(Vec<u8>, Ty)],
     text: &[u8],
 ) -> Result<(Vec<Placed>, usize), InputError>
-    ensures read { IfOk result (λ found. AllRead dialect text.now (declared decls.now) (environment_at text.now found.0.items) found.1) }
-    ensures placed { IfOk result (λ found. ArePlaced dialect text.now (declared decls.now) found.0.items) }
+    ensures read { IfOk result (λ found. AllRead dialect text.now (declared decls.now)
+        (environment_at text.now found.0.items) found.1) }
+    ensures placed { IfOk result (λ found.
+        ArePlaced dialect text.now (declared decls.now) found.0.items) }
     ensures stops { IfErr result (IsStopOf dialect (declared decls.now) text.now) }
 {
     let mut all = Vec::new(alloc);
@@ -48,7 +58,7 @@ pub fn read_places(
     }
 }
 
-// The declared input that comes next, and the offset behind it.
+// The name and the place of the declared input that comes next, and the offset behind it.
 fn read_entry(
     dialect: Dialect,
     alloc: Global,
@@ -57,9 +67,12 @@ fn read_entry(
     declaration: &(Vec<u8>, Ty),
 ) -> Result<(Placed, usize), InputError>
     requires { at ≤ length text.now }
-    ensures read { IfOk result (λ found. IsEntry dialect text.now at (declaration_of declaration.now) (entry_at text.now found.0) found.1) }
-    ensures placed { IfOk result (λ found. IsPlaced dialect text.now (ty_of declaration.now.1) found.0.place) }
-    ensures stops { IfErr result (IsStop dialect (entry_wants (declaration_of declaration.now) []) text.now at) }
+    ensures read { IfOk result (λ found. IsEntry dialect text.now at
+        (declaration_of declaration.now) (entry_at text.now found.0) found.1) }
+    ensures placed { IfOk result (λ found.
+        IsPlaced dialect text.now (ty_of declaration.now.1) found.0.place) }
+    ensures stops { IfErr result
+        (IsStop dialect (entry_wants (declaration_of declaration.now) []) text.now at) }
 {
     let behind_name = expect_word(dialect, text, at, &declaration.0)?;
     let start = expect_sign(dialect, text, behind_name, b'=')?;

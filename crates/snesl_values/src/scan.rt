@@ -68,8 +68,10 @@ pub fn behind_word(text: &[u8], at: usize, expected: &[u8]) -> Option<usize>
 // The next token, where that is an integer of the dialect, and the offset behind it.
 pub fn integer_at(dialect: Dialect, text: &[u8], at: usize) -> Option<(i128, usize)>
     requires { at ≤ length text.now }
-    ensures taken { IfSome result (λ found. Takes text.now at (integer found.0) found.1 × IsInteger dialect found.0) }
-    ensures another { IfNone result ((n : ℤ) → IsInteger dialect n → ¬ (next_token text.now at ≡ Some (integer n))) }
+    ensures taken { IfSome result (λ found.
+        Takes text.now at (integer found.0) found.1 × IsInteger dialect found.0) }
+    ensures another { IfNone result ((n : ℤ) →
+        IsInteger dialect n → ¬ (next_token text.now at ≡ Some (integer n))) }
 {
     let start = skip_blanks(text, at);
     if start < text.len() && text[start] == b'-' {
@@ -83,7 +85,8 @@ pub fn integer_at(dialect: Dialect, text: &[u8], at: usize) -> Option<(i128, usi
 fn number_at(dialect: Dialect, text: &[u8], from: usize, is_negative: bool) -> Option<(i128, usize)>
     requires { from ≤ length text.now }
     ensures taken { IfSome result (IsNumber dialect text.now from is_negative) }
-    ensures another { IfNone result (¬ ((0 < length (digits_at text.now from)) × IsInteger dialect (number_of is_negative (digits_at text.now from)))) }
+    ensures another { IfNone result (¬ ((0 < length (digits_at text.now from)) ×
+        IsInteger dialect (number_of is_negative (digits_at text.now from)))) }
 {
     let len = digits_len(&text[from..]);
     if len == 0 {
@@ -96,10 +99,11 @@ fn number_at(dialect: Dialect, text: &[u8], from: usize, is_negative: bool) -> O
     }
 }
 
-// The integer that digits write with this sign, where it is in the range.
+// The integer that digits write with this sign, where it is in the range of the dialect.
 pub fn signed_number(dialect: Dialect, is_negative: bool, digits: &[u8]) -> Option<i128>
     requires { AllByRecursion (λ c. IsTrue (is_ascii_digit c)) digits.now }
-    ensures { result ≡ (let n = number_of is_negative digits.now in if is_integer dialect n then Some n else None) }
+    ensures { result ≡ (let n = number_of is_negative digits.now in
+        if is_integer dialect n then Some n else None) }
 {
     let number = signed(is_negative, magnitude(digits)?)?;
     if dialect.has(number) {
@@ -112,12 +116,13 @@ pub fn signed_number(dialect: Dialect, is_negative: bool, digits: &[u8]) -> Opti
 // The number that digits write, where it is not over the greatest magnitude.
 fn magnitude(digits: &[u8]) -> Option<u128>
     requires { AllByRecursion (λ c. IsTrue (is_ascii_digit c)) digits.now }
-    ensures { result ≡ (let number = value_from 0 digits.now in if nat_le number (suc (greatest_integer Two)) then Some number else None) }
+    ensures { result ≡ (let number = value_from 0 digits.now in
+        if nat_le number (suc (greatest_integer Two)) then Some number else None) }
 {
     let mut value = 0u128;
     for c in digits {
         let digit = u128::from(*c - b'0');
-        // A test against a constant: a division by digit would take most of the time of reading.
+        // A test against a constant: a division for each digit would take most of the time.
         if value > GREATEST_MAGNITUDE / 10 {
             return None;
         }
@@ -132,7 +137,8 @@ fn magnitude(digits: &[u8]) -> Option<u128>
 // The integer of this sign and magnitude, where it is in the range of the wider dialect.
 fn signed(is_negative: bool, number: u128) -> Option<i128>
     requires { number ≤ suc (greatest_integer Two) }
-    ensures { result ≡ (let n = signed is_negative number in if is_integer Two n then Some n else None) }
+    ensures { result ≡ (let n = signed is_negative number in
+        if is_integer Two n then Some n else None) }
 {
     if !is_negative {
         return if number <= i128::MAX as u128 {
