@@ -1,16 +1,12 @@
 // Sources whose items are scanned from a text.
 
-ghost use Rattle.std.specs.Prelude.{◌≡◌, ◌<◌, ◌≤◌, ◌^◌, [], ◌∷◌, length, IfOk, OnOk, OnErr, IsOk, false};
+ghost use Rattle.std.specs.Prelude.{◌≡◌, ◌<◌, ◌≤◌, ◌^◌, length, IfOk, OnOk, OnErr, IsOk, false};
 ghost use Rattle.std.specs.Arc.{arc_value};
-ghost use Rattle.snesl_data.specs.declared.dialect.Dialect.{Dialect};
 ghost use Rattle.snesl_data.specs.Types.{ty_of};
-ghost use Rattle.snesl_data.specs.Values.{Value, HasType};
-ghost use Rattle.snesl_values.specs.InputTokens.{Reads};
-ghost use Rattle.snesl_values.specs.Inputs.{value_tokens};
 ghost use Rattle.flow_messages.specs.Cells.{cell_of, is_of};
 ghost use Rattle.flow_messages.specs.Signals.{signal_of};
 ghost use Rattle.flow_messages.specs.declared.message.Kind.TheVariants.{Vec as VecKind};
-ghost use Rattle.flow_values.specs.Flats.{width, flat};
+ghost use Rattle.flow_values.specs.Flats.{width};
 ghost use Rattle.flow_scalar.specs.SourceBehaviour.{source_opened, source_behaviour};
 ghost use Rattle.flow_inputs.specs.Left.{left, cell};
 ghost use Rattle.snesl_values.specs.Places.{value_at};

@@ -1,8 +1,8 @@
 // Values, built from the tokens of a text that spell them.
 
-ghost use Rattle.std.specs.Prelude.{◌≡◌, ◌∷◌, ◌++◌, [], map, option_map, IfOk, OnOk, Some, None};
+ghost use Rattle.std.specs.Prelude.{◌≡◌, ◌∷◌, [], map, option_map, IfOk, OnOk, Some, None};
 ghost use Rattle.snesl_data.specs.Values.{value_of};
-ghost use Rattle.snesl_values.specs.Places.{value_at, on_none, on_some, close_none, read_value, closed, in_items, in_first, in_second, no_value, unlawful};
+ghost use Rattle.snesl_values.specs.Places.{value_at, on_none, on_some, close_none, read_value, closed, in_items, in_first, in_second, unlawful};
 ghost use Rattle.snesl_values.specs.Pendings.{frames_of, reading_of};
 
 use crate::marks::{Bracket, Mark, mark_at};

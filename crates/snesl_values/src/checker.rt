@@ -4,7 +4,6 @@
 
 ghost use Rattle.std.specs.Prelude.{◌≡◌, ◌≤◌, ◌∷◌, [], ◌⊎◌, length, IsTrue, IfOk, IfErr};
 ghost use Rattle.snesl_values.specs.InputTokens.{word, sign, is_sign, Takes};
-ghost use Rattle.snesl_values.specs.Inputs.{left_paren, comma, right_paren};
 ghost use Rattle.snesl_data.specs.Types.{ty_of, bool, pair};
 ghost use Rattle.snesl_data.specs.Values.{Value, Values};
 ghost use Rattle.snesl_values.specs.Wants.{one, a_value, items, IsStop, IsRead, AreRead};

@@ -1,6 +1,6 @@
 // Declared inputs, each a name and the place of its value.
 
-ghost use Rattle.std.specs.Prelude.{◌≡◌, ◌≤◌, [], length, IfOk, IfErr};
+ghost use Rattle.std.specs.Prelude.{◌≤◌, [], length, IfOk, IfErr};
 ghost use Rattle.snesl_values.specs.Declarations.{declared, declaration_of};
 ghost use Rattle.snesl_data.specs.Types.{ty_of};
 ghost use Rattle.snesl_values.specs.Wants.{entry_wants, IsStop, IsStopOf, IsEntry, AllRead};

@@ -1,13 +1,13 @@
 // Single tokens of an input text.
 
-ghost use Rattle.std.specs.Prelude.{◌≡◌, ◌<◌, suc, ◌≤◌, ℤ, pos, length, IsTrue, IfSome, IfNone, Some, None, if◌then◌else◌, nat_le, Bool, true, false};
+ghost use Rattle.std.specs.Prelude.{◌≡◌, ◌<◌, suc, ◌≤◌, ℤ, length, IsTrue, IfSome, IfNone, Some, None, if◌then◌else◌, nat_le, true, false};
 ghost use Rattle.std.specs.List.{AllByRecursion, prefix_len};
 ghost use Rattle.std.specs.Char.{is_ascii_digit};
 ghost use Rattle.snesl_data.specs.Blanks.{is_blank};
 ghost use Rattle.snesl_data.specs.Characters.{value_from};
 ghost use Rattle.snesl_data.specs.declared.dialect.Dialect.TheVariants.{Two};
 ghost use Rattle.snesl_data.specs.Integers.{is_integer, IsInteger, greatest_integer};
-ghost use Rattle.snesl_values.specs.InputTokens.{digits_at, number_of, IsNumber, word, integer, sign, is_sign, negated, next_at, next_token, signed, Takes};
+ghost use Rattle.snesl_values.specs.InputTokens.{digits_at, number_of, IsNumber, word, integer, sign, is_sign, next_at, next_token, signed, Takes};
 
 use snesl_data::{Dialect, digits_len, is_blank, word_len};
 
