@@ -3,3 +3,4 @@ mod Passing
 mod Running
 mod Carrying
 mod Resting
+mod Named

@@ -19,8 +19,11 @@ pub fn value_text(
     ensures refused { IfErr result (IsRefusedAs (declared decls.now) input.now) }
 {
     let inputs = read_inputs(Dialect::One, alloc, decls, input)?;
-    match inputs.named(name) {
-        Some(value) => Ok(Some(text_of(alloc, value)?)),
-        None => Ok(None),
+    for number in 0..inputs.len() {
+        let found = inputs.name(number).unwrap();
+        if name == found {
+            return Ok(Some(text_of(alloc, &inputs.datum(alloc, number)?)?));
+        }
     }
+    Ok(None)
 }

@@ -1,6 +1,7 @@
 // Inputs, and the declarations for which they were read. What texts spell stands in the tables of `tool_runs`.
 
 use snesl_data::{Datum, Dialect, Refusal, Ty};
+use snesl_evaluation::evaluate;
 use snesl_syntax::{Program, parse};
 use snesl_types::check;
 use snesl_values::{Inputs, read_inputs};
@@ -67,11 +68,23 @@ fn inputs_fit_their_program_alone(rt: HostRuntime) -> Result<(), Fail> {
     Ok(())
 }
 
-// The number of an input, if it is there and is one.
-fn number_of(input: Option<&Datum>) -> Option<i128> {
-    match input {
-        Some(Datum::Int(number)) => Some(*number),
-        _ => None,
+// The value of the input of this number, if it is there and is an integer.
+fn value_at(alloc: Global, inputs: &Inputs, number: usize) -> Result<Option<i128>, AllocError> {
+    if number >= inputs.len() {
+        return Ok(None);
+    }
+    match inputs.datum(alloc, number)? {
+        Datum::Int(value) => Ok(Some(value)),
+        _ => Ok(None),
+    }
+}
+
+// What a name means where the inputs are in scope, if it is bound there and is an integer.
+fn value_named(alloc: Global, inputs: &Inputs, name: &[u8]) -> Result<Option<i128>, Refusal> {
+    let program = parse(alloc, name)?;
+    match evaluate(alloc, &program, inputs)? {
+        Ok(Datum::Int(value)) => Ok(Some(value)),
+        _ => Ok(None),
     }
 }
 
@@ -79,27 +92,33 @@ fn number_of(input: Option<&Datum>) -> Option<i128> {
 fn names(rt: HostRuntime) -> Result<(), Fail> {
     let program = b"input nn : int; input n : int; n".as_slice();
     let inputs = inputs_of(rt.alloc(), program, b"nn = 5; n = 3")?;
-    assert_names(&rt, &inputs);
+    assert_in_order(&rt, rt.alloc(), &inputs)?;
+    assert_named(&rt, rt.alloc(), &inputs)?;
     Ok(())
 }
 
-fn assert_names(rt: &impl Abort, inputs: &Inputs) {
-    let numbers = (
-        number_of(inputs.named(b"n")),
-        number_of(inputs.named(b"nn")),
-    );
-    assert_eq!(rt; numbers, (Some(3), Some(5)));
-    let placed = (inputs.name(1), number_of(inputs.value(0)));
-    assert_eq!(rt; placed, (Some(b"n".as_slice()), Some(5)));
-    assert!(rt; inputs.named(b"m").is_none() && inputs.value(2).is_none());
+fn assert_in_order(rt: &impl Abort, alloc: Global, inputs: &Inputs) -> Result<(), AllocError> {
     let counts = (inputs.len(), inputs.decls().len(), inputs.is_empty());
     assert_eq!(rt; counts, (2, 2, false));
+    assert_eq!(rt; inputs.name(1), Some(b"n".as_slice()));
+    assert!(rt; inputs.name(2).is_none() && inputs.place(2).is_none());
+    let values = (value_at(alloc, inputs, 0)?, value_at(alloc, inputs, 1)?);
+    assert_eq!(rt; values, (Some(5), Some(3)));
+    Ok(())
 }
 
-// The first of two inputs of one name, for two declarations of it.
+fn assert_named(rt: &impl Abort, alloc: Global, inputs: &Inputs) -> Result<(), Refusal> {
+    let rows: [(&[u8], Option<i128>); 3] = [(b"n", Some(3)), (b"nn", Some(5)), (b"m", None)];
+    for (name, value) in rows {
+        assert_eq!(rt; value_named(alloc, inputs, name)?, value);
+    }
+    Ok(())
+}
+
+// What the name of two inputs means, for two declarations of it.
 fn first_of_two(alloc: Global, decls: &[(Vec<u8>, Ty)]) -> Result<Option<i128>, Refusal> {
     let inputs = read_inputs(Dialect::Two, alloc, decls, b"n = 1; n = 2")?;
-    Ok(number_of(inputs.named(b"n")))
+    value_named(alloc, &inputs, b"n")
 }
 
 // The declaration of an integer.

@@ -1,11 +1,16 @@
 // Plans, and what networks are made of, with ample memory.
 
+ghost use Rattle.std.specs.Prelude.{◌≡◌, IfOk};
+ghost use Rattle.snesl_data.specs.Types.{bool, int, pair, seq, ty_of};
+
 use crate::declared_inputs::inputs_of;
 use flow_assembly::assemble;
-use flow_inputs::streams_of;
+use flow_base::Transducer;
+use flow_inputs::TextSource;
+use flow_messages::{Item, Msg};
 use flow_plans::{Operation, Step};
-use flow_scalar::Stream;
 use flow_values::is_value;
+use kahn::Want;
 use snesl_data::{Dialect, Refusal, Ty};
 use snesl_scopes::Scope;
 use snesl_steps::{Steps, Wires};
@@ -100,28 +105,78 @@ fn nothing_to_assemble(rt: HostRuntime) -> Result<(), Fail> {
     Ok(())
 }
 
-// What the value of the first input puts on the edges of its type.
-fn streams_of_first(
+// The messages that a source writes, or the first so many.
+fn written(alloc: Global, source: &mut TextSource, most: usize) -> Result<Vec<Msg>, AllocError> {
+    let mut messages = Vec::new(alloc);
+    for _ in 0..most {
+        match source.want() {
+            Want::Write(_) => messages.push(source.emit()?)?,
+            _ => break,
+        }
+    }
+    Ok(messages)
+}
+
+// The type of a pair of an integer and a sequence of truth values, which has three edges.
+fn number_and_truths(alloc: Global) -> Result<Ty, AllocError>
+    ensures { IfOk result (λ ty. ty_of ty ≡ pair int (seq bool)) }
+{
+    let truths = Ty::Seq(Box::new(alloc, Ty::Bool)?);
+    let truths = Box::new(alloc, truths)?;
+    Ok(Ty::Pair(Box::new(alloc, Ty::Int)?, truths))
+}
+
+// What the first input, which is of that type, puts on an edge of it.
+fn written_on(
     rt: &impl Abort,
     alloc: Global,
     inputs: &Inputs,
-) -> Result<Vec<Stream>, AllocError> {
-    let (Some((_, ty)), Some(datum)) = (inputs.decls().first(), inputs.value(0)) else {
-        return Ok(Vec::new(alloc));
-    };
-    assert!(rt; is_value(ty, datum));
-    streams_of(alloc, ty, datum)
+    edge: usize,
+) -> Result<Vec<Msg>, AllocError> {
+    let place = inputs.place(0).unwrap_or(usize::MAX);
+    let text = inputs.text().clone()?;
+    assert!(rt; place <= text.len());
+    let ty = number_and_truths(alloc)?;
+    let mut source = TextSource::new(alloc, text, place, &ty, edge)?;
+    written(alloc, &mut source, 8)
 }
 
-fn assert_streams(rt: &impl Abort, streams: &[Stream]) {
-    assert!(rt; streams.len() == 3);
-    assert!(rt; matches!(&streams[0], Stream::Ints(all) if all.as_slice() == [7i128].as_slice()));
+// Asserts that the one input is of its declared type.
+fn assert_typed(rt: &impl Abort, alloc: Global, inputs: &Inputs) -> Result<(), AllocError> {
+    assert!(rt; inputs.len() == 1);
+    assert!(rt; inputs.decls().len() == 1);
+    let datum = inputs.datum(alloc, 0)?;
+    assert!(rt; is_value(&inputs.decls()[0].1, &datum));
+    Ok(())
+}
+
+fn assert_streams(rt: &impl Abort, alloc: Global, inputs: &Inputs) -> Result<(), AllocError> {
+    let number = written_on(rt, alloc, inputs, 0)?;
+    let flags = written_on(rt, alloc, inputs, 1)?;
+    let truths = written_on(rt, alloc, inputs, 2)?;
+    assert!(rt; matches!(number.as_slice(), [Msg::Item(Item::Int(7)), Msg::End]));
     assert!(rt;
-        matches!(&streams[1], Stream::Bools(all) if all.as_slice() == [false, false, true].as_slice())
+        matches!(
+            flags.as_slice(),
+            [
+                Msg::Item(Item::Bool(false)),
+                Msg::Item(Item::Bool(false)),
+                Msg::Item(Item::Bool(true)),
+                Msg::End
+            ]
+        )
     );
     assert!(rt;
-        matches!(&streams[2], Stream::Bools(all) if all.as_slice() == [true, false].as_slice())
+        matches!(
+            truths.as_slice(),
+            [
+                Msg::Item(Item::Bool(true)),
+                Msg::Item(Item::Bool(false)),
+                Msg::End
+            ]
+        )
     );
+    Ok(())
 }
 
 // The pair stands on three edges.
@@ -129,6 +184,7 @@ fn assert_streams(rt: &impl Abort, streams: &[Stream]) {
 fn streams(rt: HostRuntime) -> Result<(), Fail> {
     let program = b"input p : (int, {bool}); p".as_slice();
     let inputs = inputs_of(rt.alloc(), program, b"p = (7, {true, false})")?;
-    assert_streams(&rt, &streams_of_first(&rt, rt.alloc(), &inputs)?);
+    assert_typed(&rt, rt.alloc(), &inputs)?;
+    assert_streams(&rt, rt.alloc(), &inputs)?;
     Ok(())
 }
