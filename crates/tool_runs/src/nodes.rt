@@ -10,6 +10,7 @@ mod inlets;
 use anyhow::{Result, ensure};
 use feeding::Fed;
 use flow_base::{Node, Printing, Transducer};
+use flow_inputs::TextSource;
 use flow_messages::Kind;
 use flow_nodes::StreamNode;
 use flow_scalar::{Fork, Source, Stream};
@@ -17,6 +18,7 @@ use flow_segment::Dist;
 use flow_values::{Index, Print as Printer, Seq, Tab};
 use inlets::{Inlet, flags, numbers, pairs, pairs_type, vector, vectors};
 use snesl_data::Ty;
+use std::sync::Arc;
 
 // The place of each node in a program text.
 const AT: usize = 7;
@@ -25,6 +27,7 @@ const AT: usize = 7;
 /// node was changed by a call that was refused, or that a line could not be printed.
 pub fn try_nodes<R: Print + AllocGlobal>(rt: &R) -> Result<()> {
     try_source(rt)?;
+    try_text_source(rt)?;
     try_fork(rt)?;
     try_dist(rt)?;
     try_tab(rt)?;
@@ -41,6 +44,17 @@ fn try_source<R: Print + AllocGlobal>(rt: &R) -> Result<()> {
     let none = Vec::new(alloc);
     let node = StreamNode::Source(Source::new(alloc, Stream::Vectors(all)));
     try_node(rt, "source", node, none)
+}
+
+// A source over a text that spells a vector, which it builds.
+fn try_text_source<R: Print + AllocGlobal>(rt: &R) -> Result<()> {
+    let alloc = rt.alloc();
+    let text = Arc::new(alloc, Vec::from_slice(alloc, b"{[1,2],[]}")?)?;
+    let vectors = Ty::Vec(Box::new(alloc, Ty::Int)?);
+    let ty = Ty::Seq(Box::new(alloc, vectors)?);
+    let source = TextSource::new(alloc, text, 0, &ty, 1)?;
+    let none = Vec::new(alloc);
+    try_node(rt, "text source", StreamNode::TextSource(source), none)
 }
 
 fn try_fork<R: Print + AllocGlobal>(rt: &R) -> Result<()> {
