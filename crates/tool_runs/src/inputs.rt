@@ -3,8 +3,7 @@
 // Neither reading it nor its sources take memory for its values: so it takes as many growths of memory for one inner sequence as
 // for a thousand, which `.ci/growths` sees. The text is made in one growth, however long it is.
 
-ghost use Rattle.std.specs.Prelude.{◌≡◌, ◌≤◌, length, IfOk};
-ghost use Rattle.std.specs.Arc.{arc_value};
+ghost use Rattle.std.specs.Prelude.{◌≡◌, IfOk};
 ghost use Rattle.snesl_data.specs.Types.{ty_of, int, seq};
 
 use anyhow::{Result, ensure};
