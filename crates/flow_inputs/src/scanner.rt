@@ -17,6 +17,7 @@ pub(crate) struct Scanned {
 
 // The next piece that is written from this state and offset on, if there is one, and where the scan
 // stands behind it.
+#[inline(always)]
 pub(crate) fn scan(
     text: &[u8],
     way: &[Step],

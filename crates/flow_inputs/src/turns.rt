@@ -88,6 +88,7 @@ pub enum Piece {
 pub(crate) type Turn = (Option<Piece>, State);
 
 // Nothing is written.
+#[inline(always)]
 fn moved(level: usize, mode: Mode) -> Turn
     ensures { result ≡ moved level mode }
 {
@@ -95,6 +96,7 @@ fn moved(level: usize, mode: Mode) -> Turn
 }
 
 // This is written.
+#[inline(always)]
 fn wrote(piece: Piece, level: usize, mode: Mode) -> Turn
     ensures { result ≡ wrote piece level mode }
 {
@@ -102,6 +104,7 @@ fn wrote(piece: Piece, level: usize, mode: Mode) -> Turn
 }
 
 // No value of the type is spelled here, and nothing is written any more.
+#[inline(always)]
 fn lost() -> Turn
     ensures { result ≡ lost }
 {
@@ -109,6 +112,7 @@ fn lost() -> Turn
 }
 
 // A token at the end of the way.
+#[inline(always)]
 fn at_leaf(leaf: Leaf, level: usize, mark: Mark, place: usize) -> Turn
     ensures { result ≡ at_leaf leaf level mark place }
 {
@@ -124,6 +128,7 @@ fn at_leaf(leaf: Leaf, level: usize, mark: Mark, place: usize) -> Turn
 }
 
 // A token where a value comes next, by the next step of the way.
+#[inline(always)]
 fn at_value(step: Option<Step>, leaf: Leaf, level: usize, mark: Mark, place: usize) -> Turn
     requires { IfSome step (λ _. level < usize.MAX) }
     ensures { result ≡ at_value step leaf level mark place }
@@ -138,6 +143,7 @@ fn at_value(step: Option<Step>, leaf: Leaf, level: usize, mark: Mark, place: usi
 }
 
 // A token behind a value, by the innermost step that was made.
+#[inline(always)]
 fn behind(step: Option<Step>, level: usize, mark: Mark) -> Turn
     ensures { result ≡ behind step level mark }
 {
@@ -153,6 +159,7 @@ fn behind(step: Option<Step>, level: usize, mark: Mark) -> Turn
 }
 
 // A token where a sequence was opened on the way.
+#[inline(always)]
 fn at_opened(step: Option<Step>, leaf: Leaf, level: usize, mark: Mark, place: usize) -> Turn
     requires { IfSome step (λ _. level < usize.MAX) }
     ensures { result ≡ at_opened step leaf level mark place }
@@ -165,6 +172,7 @@ fn at_opened(step: Option<Step>, leaf: Leaf, level: usize, mark: Mark, place: us
 
 // A token in a part that is passed over, outside its brackets: the comma behind a first part, and
 // the end of a pair.
+#[inline(always)]
 fn passed(step: Option<Step>, level: usize, mark: Mark) -> Turn
     ensures { result ≡ passed step level mark }
 {
@@ -178,6 +186,7 @@ fn passed(step: Option<Step>, level: usize, mark: Mark) -> Turn
 }
 
 // A token in a part that is passed over.
+#[inline(always)]
 fn passing(step: Option<Step>, level: usize, depth: usize, mark: Mark) -> Turn
     requires { depth + 1 < 2 ^ 64 }
     ensures { result ≡ passing step level depth mark }
@@ -202,6 +211,7 @@ fn passing(step: Option<Step>, level: usize, depth: usize, mark: Mark) -> Turn
 }
 
 // A token where a sequence was opened whose flags are written.
+#[inline(always)]
 fn flagging(level: usize, mark: Mark) -> Turn
     ensures { result ≡ flagging level mark }
 {
@@ -213,6 +223,7 @@ fn flagging(level: usize, mark: Mark) -> Turn
 }
 
 // A token in the elements of that sequence.
+#[inline(always)]
 fn counting(level: usize, depth: usize, mark: Mark) -> Turn
     requires { depth + 1 < 2 ^ 64 }
     ensures { result ≡ counting level depth mark }
@@ -238,6 +249,7 @@ fn counting(level: usize, depth: usize, mark: Mark) -> Turn
 }
 
 // A token in a vector.
+#[inline(always)]
 fn within(level: usize, depth: usize, mark: Mark) -> Turn
     requires { depth + 1 < 2 ^ 64 }
     ensures { result ≡ within level depth mark }
@@ -256,6 +268,7 @@ fn within(level: usize, depth: usize, mark: Mark) -> Turn
 }
 
 // The step at this level of the way, if there is one.
+#[inline(always)]
 fn step_at(way: &[Step], level: usize) -> Option<Step>
     ensures step { result ≡ slice_get way.now level }
     ensures within { IfSome result (λ _. level < usize.MAX) }
@@ -267,6 +280,7 @@ fn step_at(way: &[Step], level: usize) -> Option<Step>
 }
 
 // The innermost step that was made, if one was.
+#[inline(always)]
 fn made(way: &[Step], level: usize) -> Option<Step>
     ensures { result ≡ made way.now level }
 {
@@ -278,6 +292,7 @@ fn made(way: &[Step], level: usize) -> Option<Step>
 }
 
 // What a token makes of a state. The token was looked for from the offset `place` on.
+#[inline(always)]
 pub(crate) fn turn(way: &[Step], leaf: Leaf, state: State, mark: Mark, place: usize) -> Turn
     requires { depth_of state.mode + 1 < 2 ^ 64 }
     ensures { result ≡ turn way.now leaf state mark place }
@@ -296,6 +311,7 @@ pub(crate) fn turn(way: &[Step], leaf: Leaf, state: State, mark: Mark, place: us
 }
 
 // Whether nothing is written any more, whatever comes.
+#[inline(always)]
 pub(crate) fn is_done(state: State) -> bool
     ensures { result ≡ is_done state }
 {

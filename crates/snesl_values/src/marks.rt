@@ -41,6 +41,7 @@ pub struct Found {
 /// The token that comes next from the offset `at` on, behind blanks, with the offset behind it, or
 /// `None` where only blanks are left. Offsets are in bytes from the start of the text, and `at`
 /// must not be behind its end.
+#[inline(always)]
 pub fn mark_at(text: &[u8], at: usize) -> Option<Found>
     requires { at ≤ length text.now }
     ensures next { result ≡ found_from (next_at text.now at) (next text.now at) }
@@ -59,6 +60,7 @@ pub fn mark_at(text: &[u8], at: usize) -> Option<Found>
 }
 
 // The token that stands first, and its length.
+#[inline(always)]
 fn first_mark(bytes: &[u8]) -> (Mark, usize)
     requires { 0 < length bytes.now }
     ensures first { Some result ≡
@@ -82,6 +84,7 @@ fn first_mark(bytes: &[u8]) -> (Mark, usize)
 }
 
 // The token that a minus begins, by the bytes behind it, and its length with the minus.
+#[inline(always)]
 fn minus_mark(rest: &[u8]) -> (Mark, usize)
     requires { length rest.now < 2 ^ 63 }
     ensures first { result ≡
@@ -98,6 +101,7 @@ fn minus_mark(rest: &[u8]) -> (Mark, usize)
 }
 
 // The mark of a word.
+#[inline(always)]
 fn word_mark(letters: &[u8]) -> Mark
     ensures { result ≡ word_mark letters.now }
 {
@@ -111,6 +115,7 @@ fn word_mark(letters: &[u8]) -> Mark
 }
 
 // The mark of a byte that begins no word and no integer.
+#[inline(always)]
 fn sign_mark(byte: u8) -> Mark
     ensures { result ≡ sign_mark byte }
 {
@@ -127,6 +132,7 @@ fn sign_mark(byte: u8) -> Mark
 }
 
 // The integer that digits write with this sign, where 128 bits hold it.
+#[inline(always)]
 fn number_mark(is_negative: bool, digits: &[u8]) -> Mark
     requires { AllByRecursion (λ c. IsTrue (is_ascii_digit c)) digits.now }
     ensures { result ≡ mark_of (integer (number_of is_negative digits.now)) }

@@ -15,6 +15,7 @@ use snesl_data::{Dialect, digits_len, is_blank, word_len};
 const GREATEST_MAGNITUDE: u128 = 1 << 127;
 
 // How many bytes at the front are blanks.
+#[inline(always)]
 fn blanks_len(text: &[u8]) -> usize
     ensures count { result ≡ prefix_len is_blank text.now }
     ensures within { result ≤ length text.now }
@@ -23,6 +24,7 @@ fn blanks_len(text: &[u8]) -> usize
 }
 
 // The offset of the first byte from here on that is no blank, or the text's length.
+#[inline(always)]
 pub fn skip_blanks(text: &[u8], at: usize) -> usize
     requires { at ≤ length text.now }
     ensures offset { result ≡ next_at text.now at }
@@ -100,6 +102,7 @@ fn number_at(dialect: Dialect, text: &[u8], from: usize, is_negative: bool) -> O
 }
 
 // The integer that digits write with this sign, where it is in the range of the dialect.
+#[inline(always)]
 pub fn signed_number(dialect: Dialect, is_negative: bool, digits: &[u8]) -> Option<i128>
     requires { AllByRecursion (λ c. IsTrue (is_ascii_digit c)) digits.now }
     ensures { result ≡ (let n = number_of is_negative digits.now in
@@ -114,6 +117,7 @@ pub fn signed_number(dialect: Dialect, is_negative: bool, digits: &[u8]) -> Opti
 }
 
 // The number that digits write, where it is not over the greatest magnitude.
+#[inline(always)]
 fn magnitude(digits: &[u8]) -> Option<u128>
     requires { AllByRecursion (λ c. IsTrue (is_ascii_digit c)) digits.now }
     ensures { result ≡ (let number = value_from 0 digits.now in
@@ -135,6 +139,7 @@ fn magnitude(digits: &[u8]) -> Option<u128>
 }
 
 // The integer of this sign and magnitude, where it is in the range of the wider dialect.
+#[inline(always)]
 fn signed(is_negative: bool, number: u128) -> Option<i128>
     requires { number ≤ suc (greatest_integer Two) }
     ensures { result ≡ (let n = signed is_negative number in
