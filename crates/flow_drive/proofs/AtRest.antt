@@ -21,7 +21,7 @@ use Rattle.flow_drive.specs.declared.ring_shares.RingShares.{RingShares}
 use Rattle.flow_drive.specs.Apart.{HaveStates, traffic_apart}
 use Rattle.flow_drive.specs.Drives.{IsSoundAt, RestsAt}
 use Rattle.flow_drive.specs.Edges.{AreJoined}
-use Rattle.flow_drive.specs.Parts.{states_at, edges_at, traffic_at, capacity_at, share_at, AreApart}
+use Rattle.flow_drive.specs.Parts.{states_at, edges_at, traffic_at, capacity_at, share_at, shares_at, AreApart}
 use Rattle.flow_drive.specs.Resteds.{AreTheShares}
 use Rattle.flow_drive.proofs.Holding.{lines_fit, ends_fit}
 
@@ -58,6 +58,7 @@ module _ {X : Type 0} {t : Ghosts X} where
   pub are_the_shares : (rested : Rested X t) (shares : RingShares X t) → rested.parts ≡ Apart shares → AreTheShares rested shares.shares.items
   are_the_shares rested shares is = record {
     over = subst (λ (parts : Parts X t). AreApart parts) (sym is) tt;
+    count = sym (ap (λ (parts : Parts X t). shares_at parts) is);
     nodes = subst (λ (parts : Parts X t). ∥ HaveStates (share_at parts) (edges_at parts) (nodes_in shares.shares.items) (states_at parts) ∥₁) (sym is) shares.rest.nodes;
     traffic = ap (λ (parts : Parts X t). traffic_at parts) is ∙ sym (ap (λ (parts : Parts X t). traffic_apart (share_at parts) (edges_at parts) shares.shares.items) is);
     joined = subst (λ (parts : Parts X t). ∥ AreJoined ends_of (share_at parts) (edges_at parts) (ends_in shares.shares.items) RingsJoin (capacity_at parts) ∥₁) (sym is) shares.rest.joined;

@@ -1,5 +1,5 @@
 -- The edges of a graph at rest: both ends of each in shares, or in one table.
-use Rattle.std.specs.Prelude.{◌≡◌, ℕ, ◌+◌, ◌<◌, List, length, map, slice_index_or}
+use Rattle.std.specs.Prelude.{◌≡◌, ℕ, ◌+◌, ◌<◌, List, [], length, map, slice_index_or}
 use Rattle.kahn.specs.Basics.{total}
 use Rattle.flow_messages.specs.Ends.{View}
 use Rattle.flow_messages.specs.Tables.{ends_of, capacity_of}
@@ -55,6 +55,15 @@ moved_on edges traffic = total (λ e. length (traffic.sent e) + length (traffic.
 abbrev pub capacity_in : Lines → ℕ
 capacity_in (Whole table) = capacity_of table
 capacity_in (Shared boxes) = boxes.capacity
+
+-- which share has each node, where the ends lie in shares, and how many shares there are
+abbrev pub share_in : Lines → List ℕ
+share_in (Whole table) = []
+share_in (Shared boxes) = boxes.share.items
+
+abbrev pub shares_in : Lines → ℕ
+shares_in (Whole table) = 0
+shares_in (Shared boxes) = length boxes.ends.items
 
 -- Both ends of each of these edges are there, and have met.
 pub record AreThere (edges : List Edge) (lines : Lines) : Type 0 where

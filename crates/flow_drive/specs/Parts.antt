@@ -1,12 +1,12 @@
 -- What is seen of the nodes and edges of a graph at rest, in one graph or in shares.
-use Rattle.std.specs.Prelude.{ℕ, List, []}
+use Rattle.std.specs.Prelude.{ℕ, List, length}
 use Rattle.flow_messages.specs.Ends.{View}
 use Rattle.flow_base.specs.declared.transducer.Transducer.{Ghosts}
 use Rattle.flow_graph.specs.declared.edge.Edge.{Edge}
 use Rattle.flow_graph.specs.Graphs.{states_of, edges_of}
 use Rattle.flow_graph.specs.Layouts.{edges_in}
 use Rattle.flow_drive.specs.Apart.{states_apart, traffic_apart}
-use Rattle.flow_drive.specs.Edges.{traffic_in, capacity_in}
+use Rattle.flow_drive.specs.Edges.{traffic_in, capacity_in, share_in, shares_in}
 use Rattle.flow_drive.specs.declared.parts.Gathered.{Gathered}
 use Rattle.flow_drive.specs.declared.parts.Parts.{Parts}
 use Rattle.flow_drive.specs.declared.parts.Parts.TheVariants.{Together, Apart}
@@ -44,10 +44,14 @@ module _ {X : Type 0} {t : Ghosts X} where
   capacity_at (Together gathered) = capacity_in gathered.lines
   capacity_at (Apart shares) = shares.capacity
 
-  -- which share has each node, where they stayed in shares
+  -- which share had each node, where they were dealt out, and how many shares there were
   abbrev pub share_at : Parts X t → List ℕ
-  share_at (Together gathered) = []
+  share_at (Together gathered) = share_in gathered.lines
   share_at (Apart shares) = shares.share.items
+
+  abbrev pub shares_at : Parts X t → ℕ
+  shares_at (Together gathered) = shares_in gathered.lines
+  shares_at (Apart shares) = length shares.shares.items
 
   -- the nodes stayed in shares, over rings
   abbrev pub AreApart : Parts X t → Type 0

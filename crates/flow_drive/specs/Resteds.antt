@@ -1,5 +1,5 @@
 -- What contracts see of a graph at rest.
-use Rattle.std.specs.Prelude.{◌≡◌, ℕ, List}
+use Rattle.std.specs.Prelude.{◌≡◌, ℕ, List, length}
 use Rattle.flow_messages.specs.Ends.{View}
 use Rattle.flow_messages.specs.declared.ends.Ends.{Ghosts as EndsGhosts}
 use Rattle.flow_rings.specs.declared.rings.Rings.{Rings}
@@ -12,7 +12,7 @@ use Rattle.flow_opening.specs.Deals.{nodes_in, ends_in}
 use Rattle.flow_opening.specs.Settings.{AreFed}
 use Rattle.flow_drive.specs.Apart.{HaveStates, traffic_apart}
 use Rattle.flow_drive.specs.Edges.{AreJoined, moved_on}
-use Rattle.flow_drive.specs.Parts.{states_at, edges_at, traffic_at, capacity_at, share_at, AreApart}
+use Rattle.flow_drive.specs.Parts.{states_at, edges_at, traffic_at, capacity_at, share_at, shares_at, AreApart}
 use Rattle.flow_drive.specs.declared.rested.Rested.{Rested}
 
 module _ {X : Type 0} {t : Ghosts X} where
@@ -48,13 +48,18 @@ module _ {X : Type 0} {t : Ghosts X} where
   abbrev pub IsOverRings : Rested X t → Type 0
   IsOverRings rested = AreApart rested.parts
 
-  -- which share has each of its nodes, where it was driven over rings
+  -- which share had each of its nodes, and with it the ends of the edges there, where it was dealt out
   abbrev pub rested_share : Rested X t → List ℕ
   rested_share rested = share_at rested.parts
+
+  -- to how many shares it was dealt out: 0 where it was not
+  abbrev pub rested_shares : Rested X t → ℕ
+  rested_shares rested = shares_at rested.parts
 
   -- These are its shares, by their numbers, at rest.
   pub record AreTheShares {u : EndsGhosts Rings} (rested : Rested X t) (shares : List (Share X Rings t u)) : Type 0 where
     pub over : IsOverRings rested
+    pub count : length shares ≡ rested_shares rested
     -- they have all nodes, and the states of these are those of the network
     pub nodes : ∥ HaveStates (rested_share rested) (rested_edges rested) (nodes_in shares) (rested_states rested) ∥₁
     -- what was sent and received is what their ends say

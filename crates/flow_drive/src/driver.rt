@@ -8,7 +8,7 @@ ghost use Rattle.flow_drive.specs.Driven.{HasNetworkOf, EndsRunOf};
 ghost use Rattle.flow_drive.specs.Drives.{EndsMaximalRun};
 ghost use Rattle.flow_drive.specs.Epochs.{TookRounds, TookEpochs};
 ghost use Rattle.flow_drive.specs.Refusals.{refused_work};
-ghost use Rattle.flow_drive.specs.Resteds.{rested_states, rested_edges, rested_capacity, rested_rounds, rested_epochs, moved_of, traffic_of, IsOverRings};
+ghost use Rattle.flow_drive.specs.Resteds.{rested_states, rested_edges, rested_capacity, rested_rounds, rested_epochs, rested_share, rested_shares, moved_of, traffic_of, IsOverRings};
 ghost use Rattle.flow_drive.specs.declared.config.Drive.TheVariants.{Rings};
 ghost use Rattle.flow_drive.specs.declared.driver.DriveError.TheVariants.{BadConfig, NoMemory, NoThread, Short};
 
@@ -107,6 +107,10 @@ pub fn drive<
     ensures epochs { IfOk result (λ rested.
         TookEpochs config.now.drive (rested_epochs rested) (moved_of rested)) }
     ensures rings { IfOk result (λ rested. IsOverRings rested ↔ (config.now.drive ≡ Rings)) }
+    ensures share { StartsThreads config.now.drive
+        → IfOk result (λ rested. rested_share rested ≡ config.now.share.items) }
+    ensures shares { StartsThreads config.now.drive
+        → IfOk result (λ rested. rested_shares rested ≡ config.now.threads) }
 {
     drive_with(rt, alloc, graph, config, gate, &mut AlwaysStart)
 }
@@ -139,6 +143,10 @@ pub fn drive_with<
     ensures epochs { IfOk result (λ rested.
         TookEpochs config.now.drive (rested_epochs rested) (moved_of rested)) }
     ensures rings { IfOk result (λ rested. IsOverRings rested ↔ (config.now.drive ≡ Rings)) }
+    ensures share { StartsThreads config.now.drive
+        → IfOk result (λ rested. rested_share rested ≡ config.now.share.items) }
+    ensures shares { StartsThreads config.now.drive
+        → IfOk result (λ rested. rested_shares rested ≡ config.now.threads) }
     ensures refused { S.refused start.new → S.refused start.old ⊎ (result ≡ Err NoThread) }
 {
     if !config.lawful() {

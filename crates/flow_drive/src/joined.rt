@@ -1,5 +1,5 @@
 // The drive of several threads over rings.
-ghost use Rattle.std.specs.Prelude.{◌≡◌, ◌<◌, ◌≤◌, ◌⊎◌, Err, IfOk};
+ghost use Rattle.std.specs.Prelude.{◌≡◌, ◌<◌, ◌≤◌, ◌⊎◌, length, Err, IfOk};
 ghost use Rattle.flow_graph.specs.Graphs.{states_of, edges_of};
 ghost use Rattle.flow_graph.specs.Layouts.{edges_in};
 ghost use Rattle.flow_graph.specs.Networks.{AreOpened};
@@ -11,7 +11,7 @@ ghost use Rattle.flow_workers.specs.declared.error.WorkError.TheVariants.{NoThre
 ghost use Rattle.flow_epochs.specs.Epochs.{moved_in, AreOfOneGraph};
 ghost use Rattle.flow_drive.specs.Configs.{IsLawful};
 ghost use Rattle.flow_drive.specs.Givens.{IsOfSetting};
-ghost use Rattle.flow_drive.specs.Resteds.{rested_states, rested_edges, rested_capacity, rested_rounds, rested_epochs, moved_of, IsOverRings};
+ghost use Rattle.flow_drive.specs.Resteds.{rested_states, rested_edges, rested_capacity, rested_rounds, rested_epochs, rested_share, rested_shares, moved_of, IsOverRings};
 
 use crate::config::Config;
 use crate::given::{Given, deal_out};
@@ -55,6 +55,8 @@ pub fn drive_rings<
     ensures least { IfOk result (λ rested. 0 < moved_of rested → 0 < rested_epochs rested) }
     ensures most { IfOk result (λ rested. rested_epochs rested ≤ moved_of rested) }
     ensures rings { IfOk result (λ rested. IsOverRings rested) }
+    ensures share { IfOk result (λ rested. rested_share rested ≡ config.now.share.items) }
+    ensures shares { IfOk result (λ rested. rested_shares rested ≡ config.now.threads) }
     ensures refused { S.refused start.new → S.refused start.old ⊎ (result ≡ Err NoThread) }
 {
     let (given, dealt) = deal_out(alloc, graph, config)?;
@@ -90,6 +92,8 @@ fn run_dealt<
     ensures least { IfOk result (λ rested. 0 < moved_of rested → 0 < rested_epochs rested) }
     ensures most { IfOk result (λ rested. rested_epochs rested ≤ moved_of rested) }
     ensures rings { IfOk result (λ rested. IsOverRings rested) }
+    ensures share { IfOk result (λ rested. rested_share rested ≡ setting.share) }
+    ensures shares { IfOk result (λ rested. rested_shares rested ≡ length dealt.shares.items) }
     ensures refused { S.refused start.new → S.refused start.old ⊎ (result ≡ Err NoThread) }
 {
     let Dealt {

@@ -1,5 +1,5 @@
 // The drive of several threads by rounds.
-ghost use Rattle.std.specs.Prelude.{◌≡◌, ◌<◌, ◌≤◌, ◌⊎◌, Err, IfOk};
+ghost use Rattle.std.specs.Prelude.{◌≡◌, ◌<◌, ◌≤◌, ◌⊎◌, length, Err, IfOk};
 ghost use Rattle.flow_graph.specs.Graphs.{states_of, edges_of};
 ghost use Rattle.flow_graph.specs.Layouts.{edges_in};
 ghost use Rattle.flow_graph.specs.Networks.{AreOpened};
@@ -12,7 +12,7 @@ ghost use Rattle.flow_rounds.specs.Standing.{boxes_of, moved_in, StandBetweenRou
 ghost use Rattle.flow_drive.specs.Configs.{IsLawful};
 ghost use Rattle.flow_drive.specs.Drives.{EndsMaximalRun};
 ghost use Rattle.flow_drive.specs.Givens.{IsOfSetting};
-ghost use Rattle.flow_drive.specs.Resteds.{rested_states, rested_edges, rested_capacity, rested_rounds, rested_epochs, moved_of, traffic_of, IsOverRings};
+ghost use Rattle.flow_drive.specs.Resteds.{rested_states, rested_edges, rested_capacity, rested_rounds, rested_epochs, rested_share, rested_shares, moved_of, traffic_of, IsOverRings};
 
 use crate::config::Config;
 use crate::given::{Given, deal_out};
@@ -53,6 +53,8 @@ pub fn drive_rounds<
     ensures most { IfOk result (λ rested. rested_rounds rested ≤ moved_of rested) }
     ensures epochs { IfOk result (λ rested. rested_epochs rested ≡ 0) }
     ensures rings { IfOk result (λ rested. IsOverRings rested → ⊥) }
+    ensures share { IfOk result (λ rested. rested_share rested ≡ config.now.share.items) }
+    ensures shares { IfOk result (λ rested. rested_shares rested ≡ config.now.threads) }
     ensures refused { S.refused start.new → S.refused start.old ⊎ (result ≡ Err NoThread) }
 {
     let (given, dealt) = deal_out(alloc, graph, config)?;
@@ -88,6 +90,8 @@ fn run_dealt<
     ensures most { IfOk result (λ rested. rested_rounds rested ≤ moved_of rested) }
     ensures epochs { IfOk result (λ rested. rested_epochs rested ≡ 0) }
     ensures rings { IfOk result (λ rested. IsOverRings rested → ⊥) }
+    ensures share { IfOk result (λ rested. rested_share rested ≡ setting.share) }
+    ensures shares { IfOk result (λ rested. rested_shares rested ≡ length dealt.shares.items) }
     ensures refused { S.refused start.new → S.refused start.old ⊎ (result ≡ Err NoThread) }
 {
     let Dealt {

@@ -34,6 +34,7 @@ returns-in_err-share g c =
     record {
       graph = nothing_made r _ _ h;
       capacity = nothing_made r _ _ h;
+      share = nothing_made r _ _ h;
       given = nothing_made r _ _ h;
       dealt = nothing_made r _ _ h;
     }
@@ -45,6 +46,7 @@ returns-in_err-dealt g c =
     record {
       graph = nothing_made r _ _ h;
       capacity = nothing_made r _ _ h;
+      share = nothing_made r _ _ h;
       given = nothing_made r _ _ h;
       dealt = nothing_made r _ _ h;
     }

@@ -77,6 +77,14 @@ returns-clause-most g c =
     moved_apart laws refl g.setting shares made.graph places known c.args.given.share.items (edges_in c.args.dealt.layout) c.args.given.capacity given.share layout given.capacity (λ n. count ≤ n)
     (part_of count (moved_in g.setting c.args.dealt.shares.items) _ made.most)
 
+pub returns-clause-share : goal.returns-clause-share
+returns-clause-share g c =
+    let given = c.requires.1.1.1.1.1.1.1.1.1.1.0 in
+    given.share
+
+pub returns-clause-shares : goal.returns-clause-shares
+returns-clause-shares g c = c.in_ok-shares.ensures.later.count
+
 pub returns-clause-refused : goal.returns-clause-refused
 returns-clause-refused g c now = inl (none_refused _ NoThread c.in_ok-shares.ensures.refused now)
 
@@ -91,6 +99,8 @@ returns-in_err-shares g c =
       least = nothing_made r _ _ h;
       most = nothing_made r _ _ h;
       rings = nothing_made r _ _ h;
+      share = nothing_made r _ _ h;
+      shares = nothing_made r _ _ h;
       refused = search rules;
     }
 
@@ -105,5 +115,7 @@ returns-in_err-places g c =
       least = nothing_made r _ _ h;
       most = nothing_made r _ _ h;
       rings = nothing_made r _ _ h;
+      share = nothing_made r _ _ h;
+      shares = nothing_made r _ _ h;
       refused = λ now. inl (none_refused _ NoThread c.in_ok-shares.ensures.refused now);
     }

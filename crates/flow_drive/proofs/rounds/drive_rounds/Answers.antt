@@ -1,10 +1,10 @@
-use Rattle.std.proofs.Common.{refl, sym, subst}
+use Rattle.std.proofs.Common.{◌≡◌, refl, sym, subst}
 use Rattle.std.specs.Prelude.{IfOk}
 use Rattle.flow_graph.specs.Graphs.{states_of, edges_of}
 use Rattle.flow_graph.specs.Networks.{AreOpened}
 use Rattle.flow_rounds.proofs.Begins.{dealt_stand, dealt_none}
 use Rattle.flow_drive.specs.Drives.{EndsMaximalRun}
-use Rattle.flow_drive.specs.Resteds.{rested_states, traffic_of}
+use Rattle.flow_drive.specs.Resteds.{rested_states, rested_share, rested_shares, traffic_of}
 use Rattle.flow_drive.proofs.rounds.drive_rounds.Goals as goal
 
 pub run_dealt-requires : goal.run_dealt-requires
@@ -24,3 +24,9 @@ returns-clause-run g c =
     let made = c.in_ok-given.ensures in
     subst (λ n. IfOk c.run_dealt.result (λ rested. EndsMaximalRun b n (states_of c.args.graph) (edges_of c.args.graph) (rested_states rested) (traffic_of rested))) made.capacity
     (subst (λ graph. IfOk c.run_dealt.result (λ rested. EndsMaximalRun b c.in_ok-given.given.capacity (states_of graph) (edges_of graph) (rested_states rested) (traffic_of rested))) made.graph c.run_dealt.ensures.run)
+
+pub returns-clause-share : goal.returns-clause-share
+returns-clause-share g c = subst (λ share. IfOk c.run_dealt.result (λ rested. rested_share rested ≡ share)) c.in_ok-given.ensures.share c.run_dealt.ensures.share
+
+pub returns-clause-shares : goal.returns-clause-shares
+returns-clause-shares g c = subst (λ n. IfOk c.run_dealt.result (λ rested. rested_shares rested ≡ n)) c.in_ok-given.ensures.dealt.count c.run_dealt.ensures.shares

@@ -1,4 +1,5 @@
-use Rattle.std.proofs.Common.{◌<◌, ◌≤◌, ◌∙◌, sym, ap, subst, arith, inl, rules}
+use Rattle.std.proofs.Common.{◌<◌, ◌≤◌, length, ◌∙◌, sym, ap, subst, arith, inl, rules}
+use Rattle.std.proofs.lemmas.List.{length-map}
 use Rattle.flow_graph.specs.Graphs.{states_of}
 use Rattle.flow_workers.specs.declared.error.WorkError.TheVariants.{NoThread}
 use Rattle.flow_workers.proofs.Refused.{none_refused}
@@ -69,6 +70,16 @@ returns-clause-most g c =
     boxes_moved g.setting graph shared c.in_ok-graph.ensures.network rest (ap (λ share. share.items) c.new-shared.ensures.share ∙ given.share) (c.new-shared.ensures.capacity ∙ given.capacity) (λ n. count ≤ n)
     (subst (λ v. count ≤ moved_by g.setting (views_of v)) (sym (seen_is shares shared.ends.items taken)) (omega (arith, c.in_ok-shares.ensures.most)))
 
+pub returns-clause-share : goal.returns-clause-share
+returns-clause-share g c =
+    let given = c.requires.1.1.1.1.1.1.1.1.1.1.0 in
+    ap (λ share. share.items) c.new-shared.ensures.share ∙ given.share
+
+pub returns-clause-shares : goal.returns-clause-shares
+returns-clause-shares g c =
+    let taken = ap (λ ends. ends.items) c.new-shared.ensures.ends ∙ c.in_ok-graph.ensures.ends in
+    ap length taken ∙ length-map c.in_ok-shares.shares.items (λ share. share.ends) ∙ c.in_ok-shares.ensures.count
+
 pub returns-clause-refused : goal.returns-clause-refused
 returns-clause-refused g c now = inl (none_refused _ NoThread c.in_ok-shares.ensures.refused now)
 
@@ -84,6 +95,8 @@ returns-in_err-shares g c =
       most = nothing_made r _ _ h;
       epochs = nothing_made r _ _ h;
       rings = nothing_made r _ _ h;
+      share = nothing_made r _ _ h;
+      shares = nothing_made r _ _ h;
       refused = search rules;
     }
 
@@ -99,5 +112,7 @@ returns-in_err-graph g c =
       most = nothing_made r _ _ h;
       epochs = nothing_made r _ _ h;
       rings = nothing_made r _ _ h;
+      share = nothing_made r _ _ h;
+      shares = nothing_made r _ _ h;
       refused = λ now. inl (none_refused _ NoThread c.in_ok-shares.ensures.refused now);
     }
