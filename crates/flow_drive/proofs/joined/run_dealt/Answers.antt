@@ -1,4 +1,4 @@
-use Rattle.std.proofs.Common.{ℕ, ◌<◌, ◌≤◌, refl, sym, subst, inl, rules}
+use Rattle.std.proofs.Common.{◌<◌, ◌≤◌, refl, sym, subst, inl, rules}
 use Rattle.flow_graph.specs.Layouts.{edges_in}
 use Rattle.flow_workers.specs.declared.error.WorkError.TheVariants.{NoThread}
 use Rattle.flow_workers.proofs.Refused.{none_refused}

@@ -1,4 +1,4 @@
-use Rattle.std.proofs.Common.{◌<◌, ◌≡◌, length, subst, sym, ◌∙◌, arith}
+use Rattle.std.proofs.Common.{arith}
 use Rattle.flow_drive.proofs.Noted.{note_below, note_next, note_share, note_all}
 use Rattle.flow_drive.proofs.places.places_of.Goals as goal
 
