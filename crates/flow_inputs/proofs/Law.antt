@@ -10,6 +10,7 @@ use Rattle.snesl_values.specs.Inputs.{value_tokens, items_tokens, further_tokens
 use Rattle.flow_messages.specs.Cells.{Cell}
 use Rattle.snesl_values.specs.declared.marks.Bracket.{Bracket}
 use Rattle.snesl_values.specs.declared.marks.Bracket.TheVariants.{Round, Square, Curly}
+use Rattle.snesl_values.specs.declared.marks.Mark.{Mark}
 use Rattle.snesl_values.specs.declared.marks.Mark.TheVariants.{Truth, Number, Open, Close, Comma, Other}
 use Rattle.flow_inputs.specs.declared.turns.Step.{Step}
 use Rattle.flow_inputs.specs.declared.turns.Step.TheVariants.{Elements, First, Second}
@@ -63,6 +64,7 @@ pub record Passes (way : List Step) (leaf : Leaf) (level : ℕ) (mode : ℕ → 
   pub truths : (depth place : ℕ) (b : Bool) → turn way leaf (state level (mode depth)) (Truth b) place ≡ moved level (mode depth)
   pub numbers : (depth place : ℕ) (n : ℤ) → turn way leaf (state level (mode depth)) (Number n) place ≡ moved level (mode depth)
   pub others : (depth place : ℕ) → turn way leaf (state level (mode depth)) Other place ≡ moved level (mode depth)
+  pub anywhere : (depth place other : ℕ) (mark : Mark) → turn way leaf (state level (mode depth)) mark place ≡ turn way leaf (state level (mode depth)) mark other
 
 number_passes : {way : List Step} {leaf : Leaf} {level : ℕ} {mode : ℕ → Mode} → Passes way leaf level mode → (depth place : ℕ) (n : ℤ) → turn way leaf (state level (mode depth)) (mark_of (integer n)) place ≡ moved level (mode depth)
 number_passes {way = way} {leaf = leaf} {level = level} {mode = mode} p depth place n = by_range (is_integer Two n)
@@ -177,6 +179,7 @@ passing_passes way leaf level = record {
   truths = λ depth place b. stays level depth _ (passed_truth (made way level) level b);
   numbers = λ depth place n. stays level depth _ (passed_number (made way level) level n);
   others = λ depth place. stays level depth _ (passed_other (made way level) level);
+  anywhere = λ depth place other mark. refl;
 }
 
 pub counting_passes : (way : List Step) (leaf : Leaf) (level : ℕ) → Passes way leaf level Counting
@@ -187,6 +190,7 @@ counting_passes way leaf level = record {
   truths = λ depth place b. refl;
   numbers = λ depth place n. refl;
   others = λ depth place. refl;
+  anywhere = λ depth place other mark. refl;
 }
 
 pub within_passes : (way : List Step) (leaf : Leaf) (level : ℕ) → Passes way leaf level Within
@@ -197,4 +201,5 @@ within_passes way leaf level = record {
   truths = λ depth place b. refl;
   numbers = λ depth place n. refl;
   others = λ depth place. refl;
+  anywhere = λ depth place other mark. refl;
 }

@@ -1,5 +1,6 @@
 pub mod Lefts
 pub mod Law
+pub mod Skips
 pub mod Main
 pub mod Edges
 pub mod Sending

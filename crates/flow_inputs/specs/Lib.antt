@@ -1,4 +1,5 @@
 pub mod Turns
+pub mod Plain
 pub mod Left
 pub mod Ways
 pub mod Items

@@ -4,6 +4,7 @@ ghost use Rattle.std.specs.Prelude.{◌≡◌, ◌≤◌, ◌++◌, [], length, 
 ghost use Rattle.flow_inputs.specs.Turns.{depth_of};
 ghost use Rattle.flow_inputs.specs.Left.{left};
 
+use crate::plain::past_plain;
 use crate::turns::{Leaf, Piece, State, Step, is_done, turn};
 use snesl_values::mark_at;
 
@@ -41,9 +42,10 @@ pub(crate) fn scan(
                 state,
             };
         }
-        match mark_at(text, at) {
+        let from = past_plain(text, state.mode, at);
+        match mark_at(text, from) {
             Some(found) => {
-                let (piece, next) = turn(way, leaf, state, found.mark, at);
+                let (piece, next) = turn(way, leaf, state, found.mark, from);
                 at = found.end;
                 state = next;
                 if piece.is_some() {
