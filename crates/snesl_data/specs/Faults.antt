@@ -3,6 +3,7 @@ use Rattle.std.specs.Prelude.{ℕ}
 use Rattle.snesl_data.specs.declared.fault.FaultKind.{FaultKind}
 use Rattle.snesl_data.specs.declared.fault.FaultKind.TheVariants.{Divide, Overflow, NegativeCount, Length, Part, The, EmptyMax, Index, Shape}
 
+-- 1 to 9, as a program prints them
 abbrev pub number_of_fault : FaultKind → ℕ
 number_of_fault Divide = 1
 number_of_fault Overflow = 2

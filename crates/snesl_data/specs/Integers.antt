@@ -13,5 +13,6 @@ abbrev pub is_integer : Dialect → ℤ → Bool
 is_integer dialect (pos n) = nat_le n (greatest_integer dialect)
 is_integer dialect (negsuc n) = nat_le n (greatest_integer dialect)
 
+-- the number lies in it
 abbrev pub IsInteger : Dialect → ℤ → Type 0
 IsInteger dialect n = IsTrue (is_integer dialect n)

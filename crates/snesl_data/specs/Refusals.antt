@@ -3,6 +3,7 @@ use Rattle.std.specs.Prelude.{ℕ, Bool, true, false, if◌then◌else◌, Optio
 use Rattle.snesl_data.specs.declared.refusal.Refusal.{Refusal}
 use Rattle.snesl_data.specs.declared.refusal.Refusal.TheVariants.{TooLong, Lex, Syntax, Deep, Name, Mismatch, Streamed, BadInput, TooBig, BadConfig, NoMemory, Output, NoThread, Read, Short}
 
+-- 1 to 15, as a program prints them
 abbrev pub number_of_refusal : Refusal → ℕ
 number_of_refusal TooLong = 1
 number_of_refusal (Lex at) = 2

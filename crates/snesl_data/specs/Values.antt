@@ -25,6 +25,7 @@ abbrev pub list_of : Values → List Value
 list_of no_values = []
 list_of (more_values v vs) = v ∷ list_of vs
 
+-- a list as values
 abbrev pub values_of : List Value → Values
 values_of [] = no_values
 values_of (v ∷ vs) = more_values v (values_of vs)
@@ -38,6 +39,7 @@ abbrev mutual
   value_of (Vec' shape all) = a_vec (row_values all)
   value_of (Seq' shape all) = a_seq (row_values all)
 
+  -- the values of a row of data
   pub row_values : {m : _} → Row_of-Datum m → Values
   row_values end_of-Datum = no_values
   row_values (more_of-Datum d rest) = more_values (value_of d) (row_values rest)
@@ -52,6 +54,7 @@ abbrev mutual
   IsOf Number (a_seq vs) (seq item) = AreOf Number vs item
   IsOf Number _ _ = ⊥
 
+  -- each of the values is
   pub AreOf : (ℤ → Type 0) → Values → Ty → Type 0
   AreOf Number no_values item = Unit {0}
   AreOf Number (more_values v vs) item = IsOf Number v item × AreOf Number vs item
@@ -64,5 +67,6 @@ HasShape = IsOf (λ _. Unit {0})
 abbrev pub HasType : Dialect → Value → Ty → Type 0
 HasType dialect = IsOf (IsInteger dialect)
 
+-- each of the values is of this type
 abbrev pub AllHaveType : Dialect → Values → Ty → Type 0
 AllHaveType dialect = AreOf (IsInteger dialect)

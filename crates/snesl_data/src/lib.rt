@@ -1,6 +1,7 @@
 //! Dialects, types, values, faults and refusals of Streaming NESL, the text of a value, and counted readers and writers.
 //!
-//! Everything stands on this crate. The door for a stranger is `snesl_values`, which passes it on beside input texts.
+//! All crates that know values stand on this one. A stranger takes them from `snesl_values`, which passes them on and reads
+//! input texts.
 #![tactic(auto)]
 
 pub mod blank;
