@@ -8,10 +8,8 @@ use Rattle.snesl_data.specs.Values.{Value, Values, an_int, a_bool, a_pair, a_vec
 use Rattle.snesl_values.specs.InputTokens.{Token, integer, next_at, Reads}
 use Rattle.snesl_values.specs.Inputs.{value_tokens, items_tokens, further_tokens}
 use Rattle.flow_messages.specs.Cells.{Cell}
-use Rattle.snesl_values.specs.declared.marks.Bracket.{Bracket}
 use Rattle.snesl_values.specs.declared.marks.Bracket.TheVariants.{Round, Square, Curly}
-use Rattle.snesl_values.specs.declared.marks.Mark.{Mark}
-use Rattle.snesl_values.specs.declared.marks.Mark.TheVariants.{Truth, Number, Open, Close, Comma, Other}
+use Rattle.snesl_values.specs.declared.marks.Mark.TheVariants.{Truth, Number, Other}
 use Rattle.flow_inputs.specs.declared.turns.Step.{Step}
 use Rattle.flow_inputs.specs.declared.turns.Step.TheVariants.{Elements, First, Second}
 use Rattle.flow_inputs.specs.declared.turns.Leaf.{Leaf}
@@ -24,6 +22,7 @@ use Rattle.snesl_values.specs.Marks.{mark_of}
 use Rattle.flow_inputs.specs.Left.{left, cell}
 use Rattle.snesl_values.proofs.Spots.{unread}
 use Rattle.snesl_values.proofs.Readings.{reads-split, read, ends_inside}
+use Rattle.flow_inputs.specs.Passing.{Passes, PassesParts}
 use Rattle.flow_inputs.proofs.Lefts.{left_turn, behind_turn}
 
 -- the first token was read, the others are to be, and what a scanner makes of it
@@ -56,26 +55,12 @@ pub then_wrote : {text : List ℕ} {from end : ℕ} {t : Token} {ts : List Token
     → turn way leaf s (mark_of t) from ≡ wrote piece level mode → cells vector text way leaf from s ≡ cell vector piece ∷ cells vector text way leaf w.at (state level mode)
 then_wrote {text = text} vector way leaf s piece level mode w e = ap (map (cell vector)) (w.turns way leaf s ∙ ap (λ (u : Turn). behind_turn text way leaf u w.at) e)
 
--- how a mode passes over values
-pub record Passes (way : List Step) (leaf : Leaf) (level : ℕ) (mode : ℕ → Mode) : Type 0 where
-  pub opens : (depth place : ℕ) (b : Bracket) → turn way leaf (state level (mode depth)) (Open b) place ≡ moved level (mode (depth + 1))
-  pub closes : (depth place : ℕ) (b : Bracket) → turn way leaf (state level (mode (depth + 1))) (Close b) place ≡ moved level (mode depth)
-  pub parts : (depth place : ℕ) → turn way leaf (state level (mode (depth + 1))) Comma place ≡ moved level (mode (depth + 1))
-  pub truths : (depth place : ℕ) (b : Bool) → turn way leaf (state level (mode depth)) (Truth b) place ≡ moved level (mode depth)
-  pub numbers : (depth place : ℕ) (n : ℤ) → turn way leaf (state level (mode depth)) (Number n) place ≡ moved level (mode depth)
-  pub others : (depth place : ℕ) → turn way leaf (state level (mode depth)) Other place ≡ moved level (mode depth)
-  pub anywhere : (depth place other : ℕ) (mark : Mark) → turn way leaf (state level (mode depth)) mark place ≡ turn way leaf (state level (mode depth)) mark other
-
 number_passes : {way : List Step} {leaf : Leaf} {level : ℕ} {mode : ℕ → Mode} → Passes way leaf level mode → (depth place : ℕ) (n : ℤ) → turn way leaf (state level (mode depth)) (mark_of (integer n)) place ≡ moved level (mode depth)
 number_passes {way = way} {leaf = leaf} {level = level} {mode = mode} p depth place n = by_range (is_integer Two n)
   where
     by_range : (b : Bool) → turn way leaf (state level (mode depth)) (cond b (Number n) Other) place ≡ moved level (mode depth)
     by_range true = p.numbers depth place n
     by_range false = p.others depth place
-
--- and at this depth what parts items
-abbrev pub PassesParts : List Step → Leaf → ℕ → (ℕ → Mode) → ℕ → Type 0
-PassesParts way leaf level mode depth = (place : ℕ) → turn way leaf (state level (mode depth)) Comma place ≡ moved level (mode depth)
 
 -- a value is passed over
 mutual

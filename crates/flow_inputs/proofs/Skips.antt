@@ -1,9 +1,10 @@
--- What is left to write behind plain bytes that a scanner passes over: the same as before them.
-use Rattle.std.proofs.Common.{◌≡◌, ℕ, zero, suc, ℤ, pos, ◌+◌, ◌-◌, ◌≤◌, Bool, true, false, cond, eqb, List, [], ◌∷◌, length, drop, Option, Some, None, refl, sym, ap, ◌∙◌, subst, arith, drop-drop, length-drop}
+-- What is left to write behind a byte that a scanner passes over: the same as before it.
+use Rattle.std.proofs.Common.{◌≡◌, ℕ, zero, suc, ℤ, pos, ◌+◌, ◌-◌, ◌<◌, ◌≤◌, Bool, true, false, cond, eqb, List, [], ◌∷◌, length, drop, get_or, option_map, Option, Some, None, refl, sym, ap, ◌∙◌, subst, arith, drop-drop, length-drop}
 use Rattle.std.proofs.lemmas.Bool.{cond-true, cond-false}
 use Rattle.std.specs.Str.{bytes_eq}
-use Rattle.std.specs.Prelude.{codes}
-use Rattle.std.specs.List.{prefix_len, take_while}
+use Rattle.std.specs.Prelude.{not, ◌==◌, ◌&&◌, IsTrue, codes}
+use Rattle.std.specs.List.{prefix_len, take_while, list_any}
+use Rattle.std.proofs.lemmas.List.{drop_more}
 use Rattle.std.proofs.lemmas.List.Sums.{prefix_len-le-length}
 use Rattle.std.proofs.lemmas.List.Folds.{length-prefix_len}
 use Rattle.std.proofs.lemmas.Bool.Decides.{nat_tests}
@@ -17,18 +18,20 @@ use Rattle.snesl_values.specs.declared.marks.Mark.{Mark}
 use Rattle.snesl_values.specs.declared.marks.Mark.TheVariants.{Truth, Number, Open, Close, Comma, Other}
 use Rattle.snesl_values.specs.Marks.{mark_of, sign_mark, word_mark}
 use Rattle.snesl_values.proofs.InputScan.{next_at-is}
+use Rattle.snesl_values.proofs.First.{seen, a_sign}
 use Rattle.snesl_values.proofs.Spots.{Comes, Next, nothing, lexeme, next_is}
 use Rattle.flow_inputs.specs.declared.turns.Step.{Step}
 use Rattle.flow_inputs.specs.declared.turns.Leaf.{Leaf}
 use Rattle.flow_inputs.specs.declared.turns.Mode.{Mode}
-use Rattle.flow_inputs.specs.declared.turns.Mode.TheVariants.{Passing, Counting, Within}
-use Rattle.flow_inputs.specs.declared.turns.State.{State}
 use Rattle.flow_inputs.specs.declared.turns.Piece.{Piece}
 use Rattle.flow_inputs.specs.Turns.{Turn, turn, state, moved}
-use Rattle.flow_inputs.specs.Plain.{is_plain, past_plain}
+use Rattle.flow_inputs.specs.Passing.{Passes, PassesParts, depth_behind, SameLeft}
 use Rattle.flow_inputs.specs.Left.{left}
 use Rattle.flow_inputs.proofs.Lefts.{behind_turn, left_turn, left_none}
-use Rattle.flow_inputs.proofs.Law.{Passes, passing_passes, counting_passes, within_passes}
+
+-- neither a bracket nor a comma
+abbrev is_plain : ℕ → Bool
+is_plain b = not (list_any (λ c. c == b) (codes ",()[]{}"))
 
 -- at least as many bytes at the front pass the weaker of two tests
 prefix-most : (p q : ℕ → Bool) → ((b : ℕ) → p b ≡ true → q b ≡ true) → (bs : List ℕ) → prefix_len p bs ≤ prefix_len q bs
@@ -227,12 +230,110 @@ module _ (text : List ℕ) (way : List Step) (leaf : Leaf) (level : ℕ) (mode :
       ∙ skips_tokens n (at + blanks) inside (omega arith) here (skips n)
       ∙ ap left_from (end-between is_plain text at blanks (prefix-most is_blank is_plain blank_plain (drop at text)))
 
--- behind what a scanner passes over the same is left as before it
-pub left_past : (text : List ℕ) (way : List Step) (leaf : Leaf) (at : ℕ) (s : State) → at ≤ length text → left text way leaf at s ≡ left text way leaf (past_plain text s.mode at) s
-left_past text way leaf at s within = by_mode s.mode
+  -- behind one plain byte
+  skips_byte : (at b : ℕ) (bs : List ℕ) → at < length text → drop at text ≡ b ∷ bs → is_plain b ≡ true → left_from at ≡ left_from (at + 1)
+  skips_byte at b bs inside e plain =
+      let some : 1 ≤ prefix_len is_plain (drop at text) = omega (arith, ap (prefix_len is_plain) e ∙ cond-true _ _ _ plain) in
+      skips (length text - at) at (omega arith) (omega arith)
+      ∙ sym (ap left_from (end-between is_plain text at 1 some))
+      ∙ sym (skips (length text - (at + 1)) (at + 1) (omega arith) (omega arith))
+
+-- what a byte is that is not plain
+not_blank : (b : ℕ) → is_plain b ≡ false → is_blank b ≡ false
+not_blank b h = grind (arith, nat_tests)
+
+not_letter : (b : ℕ) → is_plain b ≡ false → is_ascii_alphabetic b ≡ false
+not_letter b h = grind (arith, nat_tests)
+
+not_digit : (b : ℕ) → is_plain b ≡ false → is_ascii_digit b ≡ false
+not_digit b h = grind (arith, nat_tests)
+
+not_minus : (b : ℕ) → is_plain b ≡ false → b ≡ 45 → ⊥
+not_minus b h e = grind (arith, nat_tests)
+
+some_same : {A : Type 0} {a b : A} → Some a ≡ Some b → a ≡ b
+some_same e = cc
+
+-- the token that such a byte is
+record IsSign (b : ℕ) (o : Option Lexeme) : Type 0 where
+  token : Lexeme
+  is : o ≡ Some token
+  mark : mark_of token.0 ≡ sign_mark b
+  one : token.1 ≡ 1
+
+sign_first : (b : ℕ) (bs : List ℕ) → is_plain b ≡ false → IsSign b (first (b ∷ bs))
+sign_first b bs h = by_first (first (b ∷ bs)) (a_sign (b ∷ bs) (omega arith) (not_letter b h) (not_digit b h) (not_minus b h))
   where
-    by_mode : (mode : Mode) → left text way leaf at (state s.level mode) ≡ left text way leaf (past_plain text mode at) (state s.level mode)
-    by_mode (Passing depth) = skips text way leaf s.level Passing (passing_passes way leaf s.level) depth (length text - at) at within (omega arith)
-    by_mode (Counting depth) = skips text way leaf s.level Counting (counting_passes way leaf s.level) depth (length text - at) at within (omega arith)
-    by_mode (Within depth) = skips text way leaf s.level Within (within_passes way leaf s.level) depth (length text - at) at within (omega arith)
-    by_mode _ = refl
+    by_first : (o : Option Lexeme) → Some (sign_mark b, 1) ≡ option_map seen o → IsSign b o
+    by_first None e = absurd (cc)
+    by_first (Some l) e = let f = some_same e in record { token = l; is = refl; mark = sym (ap (λ s. s.0) f); one = sym (ap (λ s. s.1) f) }
+
+-- where no byte is passed over as a blank
+none_blank : (text : List ℕ) (at b : ℕ) (bs : List ℕ) → drop at text ≡ b ∷ bs → is_blank b ≡ false → next_at text at ≡ at
+none_blank text at b bs e h = let f : prefix_len is_blank (drop at text) ≡ 0 = ap (prefix_len is_blank) e ∙ cond-false _ _ _ h in omega (arith, next_at-is text at, f)
+
+nonzero : (n : ℕ) → eqb n 0 ≡ false → 0 < n
+nonzero n h = grind (arith, nat_tests)
+
+-- the depth behind a closing bracket that is passed over, and behind a comma
+behind_close : (depth deeper : ℕ) → cond (depth == 0) None (Some (depth - 1)) ≡ Some deeper → depth ≡ deeper + 1
+behind_close depth deeper e = by_test (eqb depth 0) refl e
+  where
+    by_test : (t : Bool) → eqb depth 0 ≡ t → cond t None (Some (depth - 1)) ≡ Some deeper → depth ≡ deeper + 1
+    by_test true h e = absurd (cc)
+    by_test false h e = omega (arith, some_same e, nonzero depth h)
+
+behind_comma : (depth deeper : ℕ) (t : Bool) → cond t None (Some depth) ≡ Some deeper → (t ≡ false) × (depth ≡ deeper)
+behind_comma depth deeper true e = absurd (cc)
+behind_comma depth deeper false e = (refl, some_same e)
+
+-- a turn by a mark that is passed over
+turn_past : (way : List Step) (leaf : Leaf) (level : ℕ) (mode : ℕ → Mode) → Passes way leaf level mode → (commas : Bool) → (IsTrue commas → PassesParts way leaf level mode 0)
+    → (mark : Mark) (depth deeper place : ℕ) → depth_behind mark depth commas ≡ Some deeper → turn way leaf (state level (mode depth)) mark place ≡ moved level (mode deeper)
+turn_past way leaf level mode p commas q (Open b) depth deeper place e = p.opens depth place b ∙ ap (λ n. moved level (mode n)) (some_same e)
+turn_past way leaf level mode p commas q (Close b) depth deeper place e = ap (λ n. turn way leaf (state level (mode n)) (Close b) place) (behind_close depth deeper e) ∙ p.closes deeper place b
+turn_past way leaf level mode p commas q Comma depth deeper place e =
+    let w = behind_comma depth deeper (depth == 0 && not commas) e in
+    by_depth depth commas q w.0 ∙ ap (λ n. moved level (mode n)) w.1
+  where
+    by_depth : (depth : ℕ) (commas : Bool) → (IsTrue commas → PassesParts way leaf level mode 0) → (depth == 0 && not commas) ≡ false → turn way leaf (state level (mode depth)) Comma place ≡ moved level (mode depth)
+    by_depth zero true q e = q refl place
+    by_depth zero false q e = absurd (cc)
+    by_depth (suc depth) commas q e = let one : depth + 1 ≡ suc depth = omega arith in subst (λ n. turn way leaf (state level (mode n)) Comma place ≡ moved level (mode n)) one (p.parts depth place)
+turn_past way leaf level mode p commas q (Truth b) depth deeper place e = p.truths depth place b ∙ ap (λ n. moved level (mode n)) (some_same e)
+turn_past way leaf level mode p commas q (Number n) depth deeper place e = p.numbers depth place n ∙ ap (λ n. moved level (mode n)) (some_same e)
+turn_past way leaf level mode p commas q Other depth deeper place e = p.others depth place ∙ ap (λ n. moved level (mode n)) (some_same e)
+
+-- behind a byte that a scanner passes over
+pub byte_past : (text : List ℕ) (commas : Bool) (at depth deeper : ℕ) → at < length text → Some deeper ≡ depth_behind (sign_mark (get_or text at 0)) depth commas → SameLeft text commas at depth (at + 1) deeper
+byte_past text commas at depth deeper inside e way leaf level mode p q = by_test (is_plain b) refl
+  where
+    b : ℕ
+    b = get_or text at 0
+
+    bs : List ℕ
+    bs = drop (at + 1) text
+
+    here : drop at text ≡ b ∷ bs
+    here = drop_more text at 0 inside
+
+    by_test : (t : Bool) → is_plain b ≡ t → left text way leaf at (state level (mode depth)) ≡ left text way leaf (at + 1) (state level (mode deeper))
+    by_test true plain =
+        skips_byte text way leaf level mode p depth at b bs inside here plain
+        ∙ ap (λ n. left text way leaf (at + 1) (state level (mode n))) (some_same (sym (e ∙ ap (λ m. depth_behind m depth commas) (other_sign b plain))))
+    by_test false h =
+        let w = sign_first b bs h in
+        let blanks : next_at text at ≡ at = none_blank text at b bs here (not_blank b h) in
+        left_turn text way leaf at (state level (mode depth)) w.token (omega arith) (next-first text at blanks ∙ ap first here ∙ w.is)
+        ∙ ap (λ m. behind_turn text way leaf (turn way leaf (state level (mode depth)) m at) (next_at text at + w.token.1)) w.mark
+        ∙ ap (λ (u : Turn). behind_turn text way leaf u (next_at text at + w.token.1)) (turn_past way leaf level mode p commas q (sign_mark b) depth deeper at (sym e))
+        ∙ ap (λ n. left text way leaf n (state level (mode deeper))) (omega (arith, blanks, w.one))
+
+-- such a byte opens one bracket at most
+pub behind_deeper : (mark : Mark) (depth deeper : ℕ) (commas : Bool) → Some deeper ≡ depth_behind mark depth commas → deeper ≤ depth + 1
+behind_deeper (Open b) depth deeper commas e = omega (arith, some_same e)
+behind_deeper (Close b) depth deeper commas e = omega (arith, behind_close depth deeper (sym e))
+behind_deeper Comma depth deeper commas e = omega (arith, (behind_comma depth deeper (depth == 0 && not commas) (sym e)).1)
+behind_deeper (Truth b) depth deeper commas e = omega (arith, some_same e)
+behind_deeper (Number n) depth deeper commas e = omega (arith, some_same e)
+behind_deeper Other depth deeper commas e = omega (arith, some_same e)

@@ -1,6 +1,6 @@
 pub mod Turns
-pub mod Plain
 pub mod Left
+pub mod Passing
 pub mod Ways
 pub mod Items
 pub mod Laws

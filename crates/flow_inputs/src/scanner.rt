@@ -4,7 +4,7 @@ ghost use Rattle.std.specs.Prelude.{◌≡◌, ◌≤◌, ◌++◌, [], length, 
 ghost use Rattle.flow_inputs.specs.Turns.{depth_of};
 ghost use Rattle.flow_inputs.specs.Left.{left};
 
-use crate::plain::past_plain;
+use crate::brackets::past;
 use crate::turns::{Leaf, Piece, State, Step, is_done, turn};
 use snesl_values::mark_at;
 
@@ -42,10 +42,12 @@ pub(crate) fn scan(
                 state,
             };
         }
-        let from = past_plain(text, state.mode, at);
-        match mark_at(text, from) {
+        let (from, mode) = past(text, state.mode, at);
+        at = from;
+        state.mode = mode;
+        match mark_at(text, at) {
             Some(found) => {
-                let (piece, next) = turn(way, leaf, state, found.mark, from);
+                let (piece, next) = turn(way, leaf, state, found.mark, at);
                 at = found.end;
                 state = next;
                 if piece.is_some() {

@@ -20,8 +20,10 @@ pub struct Inputs {
     pub(crate) decls: Vec<(Vec<u8>, Ty)>,
     pub(crate) text: Arc<Vec<u8>>,
     pub(crate) all: Vec<Placed>,
-    pub(crate) ghost placed: { ∥ ArePlaced dialect (arc_value text).items (declared decls.items) all.items ∥₁ },
-    pub(crate) ghost fit: { ∥ Fits dialect (declared decls.items) (environment_at (arc_value text).items all.items) ∥₁ },
+    pub(crate) ghost placed: { ∥ ArePlaced dialect (arc_value text).items
+        (declared decls.items) all.items ∥₁ },
+    pub(crate) ghost fit: { ∥ Fits dialect (declared decls.items)
+        (environment_at (arc_value text).items all.items) ∥₁ },
 }
 
 impl Inputs {

@@ -100,6 +100,9 @@ pub fn read_inputs(
     ensures in_dialect { IfOk result (λ inputs. dialect_of inputs ≡ dialect) }
     ensures declares { IfOk result (λ inputs. declarations_of inputs ≡ declared decls.now) }
 
+    // The text that is kept is the one that was read.
+    ensures kept { IfOk result (λ inputs. text_in inputs ≡ bytes.now) }
+
     // The names are the declared ones, and the values have their types.
     ensures fits { IfOk result (λ inputs.
         Fits dialect (declared decls.now) (environment_of inputs)) }

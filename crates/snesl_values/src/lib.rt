@@ -19,7 +19,7 @@ mod scan;
 pub use builder::datum_at;
 pub use environment::Inputs;
 pub use inputs::{InputError, inputs_are_placed, inputs_fit, one_input_meaning, read_inputs};
-pub use marks::{Bracket, Found, Mark, mark_at};
+pub use marks::{Bracket, Found, Mark, mark_at, sign_mark};
 pub use places::Placed;
 pub use snesl_data::{
     Counted, Datum, Dialect, Fault, FaultKind, Refusal, Ty, copy_datum, copy_ty, digits_len,

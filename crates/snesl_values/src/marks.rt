@@ -114,9 +114,9 @@ fn word_mark(letters: &[u8]) -> Mark
     Mark::Other
 }
 
-// The mark of a byte that begins no word and no integer.
+/// The mark of a byte that stands for itself: a bracket or a comma, else `Other`.
 #[inline(always)]
-fn sign_mark(byte: u8) -> Mark
+pub fn sign_mark(byte: u8) -> Mark
     ensures { result ≡ sign_mark byte }
 {
     match byte {

@@ -1,24 +1,15 @@
-use Rattle.std.proofs.Common.{◌≡◌, ℕ, ◌≤◌, ◌++◌, List, [], length, Option, Some, None, ap, sym, ◌∙◌, arith, false, refl}
+use Rattle.std.proofs.Common.{◌≡◌, ◌++◌, [], Option, Some, None, ap, sym, ◌∙◌, arith, false, refl}
 use Rattle.std.specs.Prelude.{option_to_list, is_some}
-use Rattle.flow_inputs.specs.declared.turns.Step.{Step}
-use Rattle.flow_inputs.specs.declared.turns.Leaf.{Leaf}
-use Rattle.flow_inputs.specs.declared.turns.State.{State}
 use Rattle.flow_inputs.specs.declared.turns.Piece.{Piece}
-use Rattle.flow_inputs.specs.Turns.{Turn, turn, depth_of}
-use Rattle.flow_inputs.specs.Plain.{past_plain}
+use Rattle.flow_inputs.specs.Turns.{Turn, turn, state, depth_of}
 use Rattle.flow_inputs.specs.Left.{left}
 use Rattle.flow_inputs.proofs.Lefts.{behind_turn, left_done, left_found, left_unfound, turn_deeper}
-use Rattle.flow_inputs.proofs.Skips.{left_past}
 use Rattle.flow_inputs.proofs.scanner.scan.Goals as goal
 
 -- where nothing was written, what is left is left behind
 unwritten : (o : Option Piece) → is_some o ≡ false → option_to_list o ≡ []
 unwritten None e = refl
 unwritten (Some x) e = absurd (cc)
-
--- what is passed over changes nothing
-past : (text : List ℕ) (way : List Step) (leaf : Leaf) (at behind : ℕ) (s : State) → at ≤ length text → behind ≡ past_plain text s.mode at → left text way leaf at s ≡ left text way leaf behind s
-past text way leaf at behind s within is = left_past text way leaf at s within ∙ sym (ap (λ n. left text way leaf n s) is)
 
 pub returns-then-is_done-clause-none : goal.returns-then-is_done-clause-none
 returns-then-is_done-clause-none c =
@@ -29,40 +20,42 @@ returns-then-is_some-clause-first c =
     let text = c.args.text.now in
     let way = c.args.way.now in
     let leaf = c.args.leaf in
+    let s = state c.tokens.state.level c.past-from.result.1 in
     let f = c.in-Some.found in
     sym c.tokens.invariant.same
-    ∙ past text way leaf c.tokens.at c.past_plain-from.result c.tokens.state c.tokens.invariant.within c.past_plain-from.ensures.offset
-    ∙ left_found text way leaf c.past_plain-from.result c.tokens.state f c.past_plain-from.ensures.within c.in-Some.ensures.next
+    ∙ c.past-from.ensures.same way leaf c.tokens.state.level
+    ∙ left_found text way leaf c.past-from.result.0 s f c.past-from.ensures.within c.in-Some.ensures.next
     ∙ ap (λ (u : Turn). behind_turn text way leaf u f.end) (sym c.turn-piece.ensures)
 
 pub returns-then-is_some-clause-shallow : goal.returns-then-is_some-clause-shallow
 returns-then-is_some-clause-shallow c =
+    let s = state c.tokens.state.level c.past-from.result.1 in
     let f = c.in-Some.found in
-    let deeper = turn_deeper c.args.way.now c.args.leaf c.tokens.state f.mark c.past_plain-from.result in
-    let is : depth_of c.turn-piece.result.1.mode ≡ depth_of (turn c.args.way.now c.args.leaf c.tokens.state f.mark c.past_plain-from.result).1.mode =
+    let deeper = turn_deeper c.args.way.now c.args.leaf s f.mark c.past-from.result.0 in
+    let is : depth_of c.turn-piece.result.1.mode ≡ depth_of (turn c.args.way.now c.args.leaf s f.mark c.past-from.result.0).1.mode =
     ap (λ (u : Turn). depth_of u.1.mode) c.turn-piece.ensures in
-    omega (arith, is, deeper, c.tokens.invariant.shallow, c.past_plain-from.ensures.from, c.in-Some.ensures.moves)
+    omega (arith, is, deeper, c.past-from.ensures.shallow, c.in-Some.ensures.moves)
 
 pub tokens-preserved : goal.tokens-preserved
 tokens-preserved c =
     let text = c.args.text.now in
     let way = c.args.way.now in
     let leaf = c.args.leaf in
+    let s = state c.tokens.state.level c.past-from.result.1 in
     let f = c.in-Some.found in
-    let deeper = turn_deeper way leaf c.tokens.state f.mark c.past_plain-from.result in
-    let is : depth_of c.turn-piece.result.1.mode ≡ depth_of (turn way leaf c.tokens.state f.mark c.past_plain-from.result).1.mode =
+    let deeper = turn_deeper way leaf s f.mark c.past-from.result.0 in
+    let is : depth_of c.turn-piece.result.1.mode ≡ depth_of (turn way leaf s f.mark c.past-from.result.0).1.mode =
     ap (λ (u : Turn). depth_of u.1.mode) c.turn-piece.ensures in
     record {
       same = sym (sym c.tokens.invariant.same
-          ∙ past text way leaf c.tokens.at c.past_plain-from.result c.tokens.state c.tokens.invariant.within c.past_plain-from.ensures.offset
-          ∙ left_found text way leaf c.past_plain-from.result c.tokens.state f c.past_plain-from.ensures.within c.in-Some.ensures.next
+          ∙ c.past-from.ensures.same way leaf c.tokens.state.level
+          ∙ left_found text way leaf c.past-from.result.0 s f c.past-from.ensures.within c.in-Some.ensures.next
           ∙ ap (λ (u : Turn). behind_turn text way leaf u f.end) (sym c.turn-piece.ensures)
           ∙ ap (λ l. l ++ left text way leaf f.end c.turn-piece.result.1) (unwritten c.turn-piece.result.0 (sym c.if-is_some.ensures)));
       within = c.in-Some.ensures.within;
-      shallow = omega (arith, is, deeper, c.tokens.invariant.shallow, c.past_plain-from.ensures.from, c.in-Some.ensures.moves);
+      shallow = omega (arith, is, deeper, c.past-from.ensures.shallow, c.in-Some.ensures.moves);
     }
 
 pub returns-in-None-clause-none : goal.returns-in-None-clause-none
 returns-in-None-clause-none c =
-    past c.args.text.now c.args.way.now c.args.leaf c.tokens.at c.past_plain-from.result c.tokens.state c.tokens.invariant.within c.past_plain-from.ensures.offset
-    ∙ left_unfound c.args.text.now c.args.way.now c.args.leaf c.past_plain-from.result c.tokens.state c.in-None.ensures.next
+    left_unfound c.args.text.now c.args.way.now c.args.leaf c.past-from.result.0 (state c.tokens.state.level c.past-from.result.1) c.in-None.ensures.next

@@ -1,7 +1,7 @@
 use Rattle.std.proofs.Common.{◌≡◌, ℕ, List, inr, Err, refl, sym, ap, ◌∙◌, subst, arith}
 use Rattle.std.specs.Arc.{arc_value}
 use Rattle.snesl_values.specs.Entries.{environment_at, ArePlaced}
-use Rattle.snesl_values.specs.Inputs.{dialect_of, declarations_of, environment_of}
+use Rattle.snesl_values.specs.Inputs.{dialect_of, declarations_of, environment_of, text_in}
 use Rattle.snesl_values.specs.declared.inputs.InputError.TheVariants.{Bad}
 use Rattle.snesl_values.specs.Declarations.{declared, Fits}
 use Rattle.snesl_values.specs.Inputs.{StopsAt, IsLawful, InputMeans, spells, too_long, lawful, unlawful}
@@ -106,3 +106,7 @@ pub returns-clause-fits : goal.returns-clause-fits
 unfolding environment_of
 returns-clause-fits c =
     subst (λ (t : List ℕ). Fits c.args.dialect (declared c.args.decls.now) (environment_at t c.in_ok-all.all.items)) (sym (ap (λ v. v.items) c.in_ok-text.ensures.ok ∙ c.in_ok-copy.ensures.items)) c.in_ok-all.ensures.read.spells.fits
+
+pub returns-clause-kept : goal.returns-clause-kept
+unfolding text_in
+returns-clause-kept c = ap (λ v. v.items) c.in_ok-text.ensures.ok ∙ c.in_ok-copy.ensures.items
