@@ -38,13 +38,19 @@ pub struct Assembled {
 /// `TooBig` only where the network has more nodes or more edges than a graph may have, and else `NoMemory`.
 pub fn assemble(alloc: Global, dialect: Dialect, steps: Vec<Step>) -> Result<Assembled, Refusal>
     requires wired { AreWired [] (steps_of dialect steps.items) }
-    ensures network { IfOk result (λ a. IsNetworkOf node_behaviour (steps_of dialect steps.items) (states_of a.graph) (edges_of a.graph)) }
-    ensures edges { IfOk result (λ a. edges_of a.graph ≡ edges_between (layout (steps_of dialect steps.items))) }
-    ensures opens { IfOk result (λ a. AllOpen (layout (steps_of dialect steps.items)) (states_of a.graph)) }
+    ensures network { IfOk result (λ a. IsNetworkOf node_behaviour (steps_of dialect steps.items)
+        (states_of a.graph) (edges_of a.graph)) }
+    ensures edges { IfOk result (λ a. edges_of a.graph ≡
+        edges_between (layout (steps_of dialect steps.items))) }
+    ensures opens { IfOk result (λ a. AllOpen (layout (steps_of dialect steps.items))
+        (states_of a.graph)) }
     ensures opened { IfOk result (λ a. AreOpened node_behaviour (states_of a.graph)) }
     ensures places { IfOk result (λ a. a.places.items ≡ places (steps_of dialect steps.items)) }
-    ensures few { IfOk result (λ _. (length (layout (steps_of dialect steps.items)) ≤ most_nodes) × (edges_needed (layout (steps_of dialect steps.items)) ≤ most_edges)) }
-    ensures big { result ≡ Err TooBig → (most_nodes < length (layout (steps_of dialect steps.items))) ⊎ (most_edges < edges_needed (layout (steps_of dialect steps.items))) }
+    ensures few { IfOk result (λ _. (length (layout (steps_of dialect steps.items)) ≤ most_nodes) ×
+        (edges_needed (layout (steps_of dialect steps.items)) ≤ most_edges)) }
+    ensures big { result ≡ Err TooBig → (most_nodes <
+        length (layout (steps_of dialect steps.items))) ⊎
+        (most_edges < edges_needed (layout (steps_of dialect steps.items))) }
     ensures memory { IfErr result (λ refusal. (refusal ≡ TooBig) ⊎ (refusal ≡ NoMemory)) }
 {
     let plan = Plan::new(alloc, dialect, steps)?;
@@ -58,13 +64,17 @@ pub fn assemble(alloc: Global, dialect: Dialect, steps: Vec<Step>) -> Result<Ass
 // The network of a plan that is built whole.
 fn finished(network: Network, plan: &Plan) -> Assembled
     requires wired { AreWired [] (plan_of plan.now) }
-    requires built { IsBuiltTo (plan_of plan.now) (length plan.now.steps.items) network.supply.items network.places.items (states_so_far network.builder) (edges_so_far network.builder) }
-    ensures network { IsNetworkOf node_behaviour (plan_of plan.now) (states_of result.graph) (edges_of result.graph) }
+    requires built { IsBuiltTo (plan_of plan.now)
+        (length plan.now.steps.items) network.supply.items network.places.items
+        (states_so_far network.builder) (edges_so_far network.builder) }
+    ensures network { IsNetworkOf node_behaviour (plan_of plan.now) (states_of result.graph)
+        (edges_of result.graph) }
     ensures edges { edges_of result.graph ≡ edges_between (layout (plan_of plan.now)) }
     ensures opens { AllOpen (layout (plan_of plan.now)) (states_of result.graph) }
     ensures opened { AreOpened node_behaviour (states_of result.graph) }
     ensures places { result.places.items ≡ places (plan_of plan.now) }
-    ensures few { (length (layout (plan_of plan.now)) ≤ most_nodes) × (edges_needed (layout (plan_of plan.now)) ≤ most_edges) }
+    ensures few { (length (layout (plan_of plan.now)) ≤ most_nodes) ×
+        (edges_needed (layout (plan_of plan.now)) ≤ most_edges) }
 {
     openings_perform();
     Assembled {

@@ -23,8 +23,12 @@ impl Network {
         requires inside { number < length plan.now.steps.items }
         requires wired { AreWired [] (plan_of plan.now) }
         requires counted { IsCounted plan.now.uses.items (plan_of plan.now) }
-        requires built { IsBuiltTo (plan_of plan.now) number self.old.supply.items self.old.places.items (states_so_far self.old.builder) (edges_so_far self.old.builder) }
-        ensures built { OnOk result (IsBuiltTo (plan_of plan.now) (number + 1) self.new.supply.items self.new.places.items (states_so_far self.new.builder) (edges_so_far self.new.builder)) }
+        requires built { IsBuiltTo
+            (plan_of plan.now) number self.old.supply.items self.old.places.items
+            (states_so_far self.old.builder) (edges_so_far self.old.builder) }
+        ensures built { OnOk result (IsBuiltTo (plan_of plan.now)
+            (number + 1) self.new.supply.items self.new.places.items
+            (states_so_far self.new.builder) (edges_so_far self.new.builder)) }
         ensures big { result ≡ Err TooBig → IsTooBig (plan_of plan.now) }
         ensures memory { IfErr result (λ refusal. (refusal ≡ TooBig) ⊎ (refusal ≡ NoMemory)) }
     {
@@ -45,12 +49,22 @@ impl Network {
     fn read_streams(&mut self, plan: &Plan, reads: &[usize], node: usize) -> Result<(), Refusal>
         requires wired { AreWired [] (plan_of plan.now) }
         requires last { length (states_so_far self.old.builder) ≡ node + 1 }
-        requires reads { (q : ℕ) → stream_to (layout (plan_of plan.now)) node q ≡ slice_get reads.now q }
-        requires there { (q s : ℕ) → slice_get reads.now q ≡ Some s → s < length self.old.supply.items }
-        requires within { IsWithin (plan_of plan.now) (states_so_far self.old.builder) (edges_so_far self.old.builder) (length reads.now) }
-        requires joined { IsJoinedTo (layout (plan_of plan.now)) (λ s. times s reads.now + uses s (drop (length self.old.places.items) (plan_of plan.now))) self.old.supply.items node 0 (states_so_far self.old.builder) (edges_so_far self.old.builder) }
-        ensures joined { OnOk result (IsJoinedTo (layout (plan_of plan.now)) (λ s. uses s (drop (length self.old.places.items) (plan_of plan.now))) self.new.supply.items node (length reads.now) (states_so_far self.new.builder) (edges_so_far self.new.builder)) }
-        ensures within { OnOk result (IsWithin (plan_of plan.now) (states_so_far self.new.builder) (edges_so_far self.new.builder) 0) }
+        requires reads { (q : ℕ) → stream_to (layout (plan_of plan.now)) node q ≡
+            slice_get reads.now q }
+        requires there { (q s : ℕ) → slice_get reads.now q ≡ Some s → s <
+            length self.old.supply.items }
+        requires within { IsWithin (plan_of plan.now) (states_so_far self.old.builder)
+            (edges_so_far self.old.builder) (length reads.now) }
+        requires joined { IsJoinedTo (layout (plan_of plan.now))
+            (λ s. times s reads.now + uses s
+            (drop (length self.old.places.items) (plan_of plan.now))) self.old.supply.items node 0
+            (states_so_far self.old.builder) (edges_so_far self.old.builder) }
+        ensures joined { OnOk result (IsJoinedTo (layout (plan_of plan.now))
+            (λ s. uses s (drop (length self.old.places.items)
+            (plan_of plan.now))) self.new.supply.items node (length reads.now)
+            (states_so_far self.new.builder) (edges_so_far self.new.builder)) }
+        ensures within { OnOk result (IsWithin (plan_of plan.now) (states_so_far self.new.builder)
+            (edges_so_far self.new.builder) 0) }
         ensures nodes { states_so_far self.new.builder ≡ states_so_far self.old.builder }
         ensures supply { OnOk result (length self.new.supply.items ≡ length self.old.supply.items) }
         ensures places { self.new.places.items ≡ self.old.places.items }
@@ -75,11 +89,19 @@ impl Network {
         requires wired { AreWired [] (plan_of plan.now) }
         requires counted { IsCounted plan.now.uses.items (plan_of plan.now) }
         requires inside { first + length kinds.now ≤ length self.old.supply.items }
-        requires later { (s : ℕ) → first ≤ s → uses s (plan_of plan.now) ≡ uses s (drop (length self.old.places.items) (plan_of plan.now)) }
-        requires next { ComeNext (plan_of plan.now) (states_so_far self.old.builder) (all_behind (plan_of plan.now) at first kinds.now) }
-        requires so_far { IsPutTo (plan_of plan.now) first self.old.supply.items self.old.places.items (states_so_far self.old.builder) (edges_so_far self.old.builder) }
-        ensures so_far { OnOk result (IsPutTo (plan_of plan.now) (first + length kinds.now) self.new.supply.items self.new.places.items (states_so_far self.new.builder) (edges_so_far self.new.builder)) }
-        ensures nodes { OnOk result (length (states_so_far self.new.builder) ≡ length (states_so_far self.old.builder) + length (all_behind (plan_of plan.now) at first kinds.now)) }
+        requires later { (s : ℕ) → first ≤ s → uses s (plan_of plan.now) ≡
+            uses s (drop (length self.old.places.items) (plan_of plan.now)) }
+        requires next { ComeNext (plan_of plan.now) (states_so_far self.old.builder)
+            (all_behind (plan_of plan.now) at first kinds.now) }
+        requires so_far { IsPutTo
+            (plan_of plan.now) first self.old.supply.items self.old.places.items
+            (states_so_far self.old.builder) (edges_so_far self.old.builder) }
+        ensures so_far { OnOk result (IsPutTo (plan_of plan.now)
+            (first + length kinds.now) self.new.supply.items self.new.places.items
+            (states_so_far self.new.builder) (edges_so_far self.new.builder)) }
+        ensures nodes { OnOk result (length (states_so_far self.new.builder) ≡
+            length (states_so_far self.old.builder) + length
+            (all_behind (plan_of plan.now) at first kinds.now)) }
         ensures supply { OnOk result (length self.new.supply.items ≡ length self.old.supply.items) }
         ensures places { self.new.places.items ≡ self.old.places.items }
         ensures big { result ≡ Err TooBig → IsTooBig (plan_of plan.now) }
@@ -102,11 +124,19 @@ impl Network {
         requires wired { AreWired [] (plan_of plan.now) }
         requires counted { IsCounted plan.now.uses.items (plan_of plan.now) }
         requires inside { stream < length self.old.supply.items }
-        requires later { uses stream (plan_of plan.now) ≡ uses stream (drop (length self.old.places.items) (plan_of plan.now)) }
-        requires next { ComeNext (plan_of plan.now) (states_so_far self.old.builder) (behind at stream kind (uses stream (plan_of plan.now))) }
-        requires so_far { IsPutTo (plan_of plan.now) stream self.old.supply.items self.old.places.items (states_so_far self.old.builder) (edges_so_far self.old.builder) }
-        ensures so_far { OnOk result (IsPutTo (plan_of plan.now) (stream + 1) self.new.supply.items self.new.places.items (states_so_far self.new.builder) (edges_so_far self.new.builder)) }
-        ensures nodes { OnOk result (length (states_so_far self.new.builder) ≡ length (states_so_far self.old.builder) + length (behind at stream kind (uses stream (plan_of plan.now)))) }
+        requires later { uses stream (plan_of plan.now) ≡
+            uses stream (drop (length self.old.places.items) (plan_of plan.now)) }
+        requires next { ComeNext (plan_of plan.now) (states_so_far self.old.builder)
+            (behind at stream kind (uses stream (plan_of plan.now))) }
+        requires so_far { IsPutTo
+            (plan_of plan.now) stream self.old.supply.items self.old.places.items
+            (states_so_far self.old.builder) (edges_so_far self.old.builder) }
+        ensures so_far { OnOk result (IsPutTo (plan_of plan.now)
+            (stream + 1) self.new.supply.items self.new.places.items
+            (states_so_far self.new.builder) (edges_so_far self.new.builder)) }
+        ensures nodes { OnOk result (length (states_so_far self.new.builder) ≡
+            length (states_so_far self.old.builder) + length
+            (behind at stream kind (uses stream (plan_of plan.now)))) }
         ensures supply { OnOk result (length self.new.supply.items ≡ length self.old.supply.items) }
         ensures places { self.new.places.items ≡ self.old.places.items }
         ensures big { result ≡ Err TooBig → IsTooBig (plan_of plan.now) }

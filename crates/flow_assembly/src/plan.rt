@@ -54,8 +54,10 @@ impl Plan {
 
 // Counts these reads.
 fn add_uses(uses: &mut Vec<usize>, reads: &[usize]) -> Result<(), Refusal>
-    ensures counted { OnOk result ((s : ℕ) → slice_index_or uses.new.items s 0 ≡ slice_index_or uses.old.items s 0 + times s reads.now) }
-    ensures big { result ≡ Err TooBig → (s : ℕ) × (most_edges < slice_index_or uses.old.items s 0 + times s reads.now) }
+    ensures counted { OnOk result ((s : ℕ) → slice_index_or uses.new.items s 0 ≡
+        slice_index_or uses.old.items s 0 + times s reads.now) }
+    ensures big { result ≡ Err TooBig → (s : ℕ) ×
+        (most_edges < slice_index_or uses.old.items s 0 + times s reads.now) }
     ensures memory { IfErr result (λ refusal. (refusal ≡ TooBig) ⊎ (refusal ≡ NoMemory)) }
 {
     for stream in reads {
@@ -66,8 +68,10 @@ fn add_uses(uses: &mut Vec<usize>, reads: &[usize]) -> Result<(), Refusal>
 
 // Counts one read of the stream.
 fn add_use(uses: &mut Vec<usize>, stream: usize) -> Result<(), Refusal>
-    ensures one { OnOk result (slice_index_or uses.new.items stream 0 ≡ slice_index_or uses.old.items stream 0 + 1) }
-    ensures others { OnOk result ((s : ℕ) → (s ≡ stream → ⊥) → slice_index_or uses.new.items s 0 ≡ slice_index_or uses.old.items s 0) }
+    ensures one { OnOk result (slice_index_or uses.new.items stream 0 ≡
+        slice_index_or uses.old.items stream 0 + 1) }
+    ensures others { OnOk result ((s : ℕ) → (s ≡ stream → ⊥) → slice_index_or uses.new.items s 0 ≡
+        slice_index_or uses.old.items s 0) }
     ensures big { result ≡ Err TooBig → most_edges ≤ slice_index_or uses.old.items stream 0 }
     ensures memory { IfErr result (λ refusal. (refusal ≡ TooBig) ⊎ (refusal ≡ NoMemory)) }
 {

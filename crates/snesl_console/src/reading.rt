@@ -32,7 +32,8 @@ pub(crate) fn read_more<R: Read>(
 ) -> Result<usize, JobError>
     requires piece { 0 < length piece.old }
     requires room { 0 < room }
-    ensures { HasReadMore (given R.remaining job.old job.new) room bytes.old.items bytes.new.items result }
+    ensures { HasReadMore
+        (given R.remaining job.old job.new) room bytes.old.items bytes.new.items result }
 {
     let room = room.min(piece.len());
     let Ok(n) = job.read(&mut piece[..room]) else {
@@ -50,7 +51,8 @@ pub(crate) fn read_input<R: Read>(
 ) -> Result<(), JobError>
     requires piece { 0 < length piece.old }
     requires short { length text.old.items ≤ 16777217 }
-    ensures { HasReadInput (given R.remaining job.old job.new) text.old.items text.new.items result }
+    ensures { HasReadInput
+        (given R.remaining job.old job.new) text.old.items text.new.items result }
 {
     while text.len() <= LONGEST_INPUT {
         let room = LONGEST_INPUT + 1 - text.len();

@@ -32,7 +32,8 @@ pub fn print<W: Write, E: Write>(
     out: &mut Counted<W>,
     err: &mut Counted<E>,
 ) -> u8
-    ensures { Prints (taken W.contents out.old out.new) (taken E.contents err.old err.new) line.now status result }
+    ensures { Prints (taken W.contents out.old out.new)
+        (taken E.contents err.old err.new) line.now status result }
 {
     if send(out, line) {
         status

@@ -87,7 +87,8 @@ fn reduction(
 }
 
 fn length(dialect: Dialect, at: usize, sequence: &Datum) -> Result<Datum, Halt>
-    ensures { Answers value_of result (applied dialect at builtin.Length (value_of sequence.now ∷ [])) }
+    ensures { Answers value_of result (applied dialect at builtin.Length
+        (value_of sequence.now ∷ [])) }
 {
     let all = items(at, sequence)?;
     let n = all.len() as i128;
@@ -99,7 +100,8 @@ fn length(dialect: Dialect, at: usize, sequence: &Datum) -> Result<Datum, Halt>
 }
 
 fn concat(alloc: Global, at: usize, sequence: &Datum) -> Result<Datum, Halt>
-    ensures { Answers value_of result (go (items_at at (value_of sequence.now)) (λ vs. seq_answer (go_join (items_at at) vs))) }
+    ensures { Answers value_of result (go (items_at at (value_of sequence.now))
+        (λ vs. seq_answer (go_join (items_at at) vs))) }
 {
     let all = items(at, sequence)?;
     let values = joined(alloc, at, all)?;
@@ -107,7 +109,8 @@ fn concat(alloc: Global, at: usize, sequence: &Datum) -> Result<Datum, Halt>
 }
 
 fn part(alloc: Global, at: usize, sequence: &Datum, flags: &Datum) -> Result<Datum, Halt>
-    ensures { Answers value_of result (part_answer at (value_of sequence.now) (value_of flags.now)) }
+    ensures { Answers value_of result (part_answer at (value_of sequence.now)
+        (value_of flags.now)) }
 {
     let all = items(at, sequence)?;
     let ends = items(at, flags)?;
@@ -128,7 +131,8 @@ fn the(alloc: Global, at: usize, sequence: &Datum) -> Result<Datum, Halt>
 }
 
 fn tab(alloc: Global, at: usize, sequence: &Datum) -> Result<Datum, Halt>
-    ensures { Answers value_of result (go (items_at at (value_of sequence.now)) (λ vs. gives (a_vec (values_of vs)))) }
+    ensures { Answers value_of result (go (items_at at (value_of sequence.now))
+        (λ vs. gives (a_vec (values_of vs)))) }
 {
     let all = items(at, sequence)?;
     let mut values = Vec::with_capacity(alloc, all.len())?;
@@ -137,7 +141,8 @@ fn tab(alloc: Global, at: usize, sequence: &Datum) -> Result<Datum, Halt>
 }
 
 fn seq(alloc: Global, at: usize, vector: &Datum) -> Result<Datum, Halt>
-    ensures { Answers value_of result (go (elements_at at (value_of vector.now)) (λ vs. gives (sequence vs))) }
+    ensures { Answers value_of result (go (elements_at at (value_of vector.now))
+        (λ vs. gives (sequence vs))) }
 {
     let all = elements(at, vector)?;
     let mut values = Vec::with_capacity(alloc, all.len())?;
@@ -146,7 +151,8 @@ fn seq(alloc: Global, at: usize, vector: &Datum) -> Result<Datum, Halt>
 }
 
 fn fst(alloc: Global, at: usize, pair: &Datum) -> Result<Datum, Halt>
-    ensures { (dialect : Dialect) → Answers value_of result (applied dialect at builtin.Fst (value_of pair.now ∷ [])) }
+    ensures { (dialect : Dialect) → Answers value_of result
+        (applied dialect at builtin.Fst (value_of pair.now ∷ [])) }
 {
     match pair {
         Datum::Pair(first, _) => Ok(copy_datum(alloc, first)?),
@@ -155,7 +161,8 @@ fn fst(alloc: Global, at: usize, pair: &Datum) -> Result<Datum, Halt>
 }
 
 fn snd(alloc: Global, at: usize, pair: &Datum) -> Result<Datum, Halt>
-    ensures { (dialect : Dialect) → Answers value_of result (applied dialect at builtin.Snd (value_of pair.now ∷ [])) }
+    ensures { (dialect : Dialect) → Answers value_of result
+        (applied dialect at builtin.Snd (value_of pair.now ∷ [])) }
 {
     match pair {
         Datum::Pair(_, second) => Ok(copy_datum(alloc, second)?),

@@ -29,7 +29,8 @@ pub fn entries_of(alloc: Global, inputs: &Inputs) -> Result<Vec<Entry>, AllocErr
 
 fn build_entry(alloc: Global, inputs: &Inputs, number: usize) -> Result<Entry, AllocError>
     requires { number < length (environment_of inputs.now) }
-    ensures { IfOk result (λ entry. slice_get (environment_of inputs.now) number ≡ Some (entry_of entry)) }
+    ensures { IfOk result (λ entry. slice_get (environment_of inputs.now) number ≡
+        Some (entry_of entry)) }
 {
     let name = inputs.name(number).unwrap().to_vec(alloc)?;
     let datum = inputs.datum(alloc, number)?;
@@ -38,7 +39,8 @@ fn build_entry(alloc: Global, inputs: &Inputs, number: usize) -> Result<Entry, A
 
 // The value of the first input of a name.
 pub fn find_entry<'a>(name: &[u8], entries: &'a [Entry]) -> Option<&'a Datum>
-    ensures { option_map (λ datum. value_of datum.now) result ≡ value_in name.now (map entry_of entries.now) }
+    ensures { option_map (λ datum. value_of datum.now) result ≡
+        value_in name.now (map entry_of entries.now) }
 {
     for entry in entries {
         if entry.name.as_slice() == name {

@@ -44,7 +44,9 @@ pub fn evaluate(
     program: &Program,
     inputs: &Inputs,
 ) -> Result<Result<Datum, Fault>, AllocError>
-    ensures exact { IfOk result (λ answer. IsAnswer answer (program_value program.now.text.items (program_of program.now) (environment_of inputs.now))) }
+    ensures exact { IfOk result (λ answer. IsAnswer answer
+        (program_value program.now.text.items (program_of program.now)
+        (environment_of inputs.now))) }
 {
     let setting = Setting {
         alloc,
@@ -134,7 +136,9 @@ fn binary_value(
     right: &Expr,
     scope: &Scope,
 ) -> Result<Datum, Halt>
-    ensures { Answers value_of result (go (eval_in setting.now scope.now (tree_of left.now)) (λ v. go (eval_in setting.now scope.now (tree_of right.now)) (λ w. binary_answer setting.now.dialect at operator v w))) }
+    ensures { Answers value_of result (go (eval_in setting.now scope.now (tree_of left.now))
+        (λ v. go (eval_in setting.now scope.now (tree_of right.now))
+        (λ w. binary_answer setting.now.dialect at operator v w))) }
 {
     let x = value(setting, left, scope)?;
     let y = value(setting, right, scope)?;
@@ -151,7 +155,8 @@ fn prefix_value(
     operand: &Expr,
     scope: &Scope,
 ) -> Result<Datum, Halt>
-    ensures { Answers value_of result (go (eval_in setting.now scope.now (tree_of operand.now)) (prefix_answer setting.now.dialect at operator)) }
+    ensures { Answers value_of result (go (eval_in setting.now scope.now (tree_of operand.now))
+        (prefix_answer setting.now.dialect at operator)) }
 {
     let x = value(setting, operand, scope)?;
     prefix(setting.dialect, at, operator, &x)
@@ -160,7 +165,8 @@ fn prefix_value(
 #[cycle(value)]
 #[inline(never)]
 fn pair_value(setting: &Setting, first: &Expr, second: &Expr, scope: &Scope) -> Result<Datum, Halt>
-    ensures { Answers value_of result (go (eval_in setting.now scope.now (tree_of first.now)) (λ v. go (eval_in setting.now scope.now (tree_of second.now)) (λ w. gives (a_pair v w)))) }
+    ensures { Answers value_of result (go (eval_in setting.now scope.now (tree_of first.now))
+        (λ v. go (eval_in setting.now scope.now (tree_of second.now)) (λ w. gives (a_pair v w)))) }
 {
     let x = value(setting, first, scope)?;
     let y = value(setting, second, scope)?;
@@ -177,7 +183,10 @@ fn let_value(
     body: &Expr,
     scope: &Scope,
 ) -> Result<Datum, Halt>
-    ensures { Answers value_of result (go (eval_in setting.now scope.now (tree_of bound.now)) (λ v. eval setting.now.dialect (tree_of body.now) setting.now.text.now (calls_in setting.now) ((spelling setting.now.text.now name, v) ∷ environment_in setting.now.text.now scope.now))) }
+    ensures { Answers value_of result (go (eval_in setting.now scope.now (tree_of bound.now))
+        (λ v. eval setting.now.dialect (tree_of body.now) setting.now.text.now
+        (calls_in setting.now) ((spelling setting.now.text.now name, v) ∷
+        environment_in setting.now.text.now scope.now))) }
 {
     let x = value(setting, bound, scope)?;
     bind(setting, name, &x, body, &*scope)
@@ -194,7 +203,9 @@ fn if_value(
     negative: &Expr,
     scope: &Scope,
 ) -> Result<Datum, Halt>
-    ensures { Answers value_of result (go (eval_in setting.now scope.now (tree_of condition.now)) (λ v. go (truth_at at v) (λ b. if b then eval_in setting.now scope.now (tree_of positive.now) else eval_in setting.now scope.now (tree_of negative.now)))) }
+    ensures { Answers value_of result (go (eval_in setting.now scope.now (tree_of condition.now))
+        (λ v. go (truth_at at v) (λ b. if b then eval_in setting.now scope.now
+        (tree_of positive.now) else eval_in setting.now scope.now (tree_of negative.now)))) }
 {
     let x = value(setting, condition, scope)?;
     if truth(at, &x)? {
@@ -214,7 +225,8 @@ fn built_in(
     arguments: &[Expr],
     scope: &Scope,
 ) -> Result<Datum, Halt>
-    ensures { Answers value_of result (go (all_in setting.now scope.now (trees_of arguments.now)) (applied setting.now.dialect at function)) }
+    ensures { Answers value_of result (go (all_in setting.now scope.now (trees_of arguments.now))
+        (applied setting.now.dialect at function)) }
 {
     let values = all_values(setting, arguments, scope)?;
     apply(setting.dialect, setting.alloc, at, function, &values)
@@ -224,7 +236,8 @@ fn built_in(
 #[cycle(value)]
 #[inline(never)]
 fn call(setting: &Setting, name: Span, arguments: &[Expr], scope: &Scope) -> Result<Datum, Halt>
-    ensures { Answers value_of result (go (all_in setting.now scope.now (trees_of arguments.now)) (calls_in setting.now name.at (spelling setting.now.text.now name))) }
+    ensures { Answers value_of result (go (all_in setting.now scope.now (trees_of arguments.now))
+        (calls_in setting.now name.at (spelling setting.now.text.now name))) }
 {
     let values = all_values(setting, arguments, scope)?;
     let result = called(setting, name, &values)?;
@@ -234,7 +247,8 @@ fn call(setting: &Setting, name: Span, arguments: &[Expr], scope: &Scope) -> Res
 #[cycle(value)]
 #[inline(never)]
 fn literal(setting: &Setting, items: &[Expr], scope: &Scope) -> Result<Datum, Halt>
-    ensures { Answers value_of result (seq_answer (all_in setting.now scope.now (trees_of items.now))) }
+    ensures { Answers value_of result (seq_answer
+        (all_in setting.now scope.now (trees_of items.now))) }
 {
     let values = all_values(setting, items, scope)?;
     Ok(sequence_of(values))
@@ -250,7 +264,8 @@ fn filter(
     condition: &Expr,
     scope: &Scope,
 ) -> Result<Datum, Halt>
-    ensures { Answers value_of result (seq_answer (kept_in setting.now scope.now at (tree_of item.now) (tree_of condition.now))) }
+    ensures { Answers value_of result (seq_answer
+        (kept_in setting.now scope.now at (tree_of item.now) (tree_of condition.now))) }
 {
     let found = kept(setting, at, item, condition, scope)?;
     Ok(filtered(setting.alloc, found)?)
@@ -266,7 +281,10 @@ fn each(
     binders: &[Binder],
     scope: &Scope,
 ) -> Result<Datum, Halt>
-    ensures { Answers value_of result (go (binders_in setting.now scope.now (binders_of binders.now)) (λ columns. go (in_step at columns) (λ rows. seq_answer (each_in setting.now scope.now (tree_of body.now) rows)))) }
+    ensures { Answers value_of result (go (binders_in setting.now scope.now
+        (binders_of binders.now)) (λ columns.
+        go (in_step at columns) (λ rows.
+        seq_answer (each_in setting.now scope.now (tree_of body.now) rows)))) }
 {
     let columns = all_columns(setting, binders, scope)?;
     let number = height(at, &columns)?;
@@ -285,7 +303,11 @@ fn each_where(
     condition: &Expr,
     scope: &Scope,
 ) -> Result<Datum, Halt>
-    ensures { Answers value_of result (go (binders_in setting.now scope.now (binders_of binders.now)) (λ columns. go (in_step at columns) (λ rows. seq_answer (where_in setting.now scope.now at (tree_of body.now) (tree_of condition.now) rows)))) }
+    ensures { Answers value_of result (go (binders_in setting.now scope.now
+        (binders_of binders.now)) (λ columns.
+        go (in_step at columns) (λ rows.
+        seq_answer (where_in setting.now scope.now at (tree_of body.now)
+        (tree_of condition.now) rows)))) }
 {
     let columns = all_columns(setting, binders, scope)?;
     let number = height(at, &columns)?;
@@ -297,7 +319,8 @@ fn each_where(
 #[cycle(value)]
 #[inline(never)]
 fn all_values(setting: &Setting, exprs: &[Expr], scope: &Scope) -> Result<Vec<Datum>, Halt>
-    ensures { Answers (λ values. map value_of values.items) result (all_in setting.now scope.now (trees_of exprs.now)) }
+    ensures { Answers (λ values. map value_of values.items) result
+        (all_in setting.now scope.now (trees_of exprs.now)) }
 {
     let mut values = Vec::new(setting.alloc);
     for expr in exprs {
@@ -311,7 +334,8 @@ fn all_values(setting: &Setting, exprs: &[Expr], scope: &Scope) -> Result<Vec<Da
 #[cycle(value)]
 #[inline(never)]
 fn all_columns(setting: &Setting, binders: &[Binder], scope: &Scope) -> Result<Vec<Column>, Halt>
-    ensures { Answers (λ columns. map (column_of setting.now.text.now) columns.items) result (binders_in setting.now scope.now (binders_of binders.now)) }
+    ensures { Answers (λ columns. map (column_of setting.now.text.now) columns.items) result
+        (binders_in setting.now scope.now (binders_of binders.now)) }
 {
     let mut columns = Vec::new(setting.alloc);
     for binder in binders {
@@ -332,7 +356,10 @@ fn bind<'a>(
     body: &Expr,
     scope: &'a Scope<'a>,
 ) -> Result<Datum, Halt>
-    ensures { Answers value_of result (eval setting.now.dialect (tree_of body.now) setting.now.text.now (calls_in setting.now) ((spelling setting.now.text.now name, value_of bound.now) ∷ environment_in setting.now.text.now scope.now)) }
+    ensures { Answers value_of result (eval setting.now.dialect
+        (tree_of body.now) setting.now.text.now (calls_in setting.now)
+        ((spelling setting.now.text.now name, value_of bound.now) ∷
+        environment_in setting.now.text.now scope.now)) }
 {
     let inner = Scope::Bound {
         name,
@@ -353,7 +380,8 @@ fn kept(
     condition: &Expr,
     scope: &Scope,
 ) -> Result<Option<Datum>, Halt>
-    ensures { Answers (λ kept. option_to_list (option_map value_of kept)) result (kept_in setting.now scope.now at (tree_of item.now) (tree_of condition.now)) }
+    ensures { Answers (λ kept. option_to_list (option_map value_of kept)) result
+        (kept_in setting.now scope.now at (tree_of item.now) (tree_of condition.now)) }
 {
     let x = value(setting, condition, scope)?;
     if truth(at, &x)? {
@@ -375,7 +403,9 @@ fn rows<'a>(
     scope: &'a Scope<'a>,
 ) -> Result<Vec<Datum>, Halt>
     requires { are_level number columns.now ≡ true }
-    ensures { Answers (λ values. map value_of values.items) result (each_in setting.now scope.now (tree_of body.now) (rows_of number (map (column_of setting.now.text.now) columns.now))) }
+    ensures { Answers (λ values. map value_of values.items) result
+        (each_in setting.now scope.now (tree_of body.now)
+        (rows_of number (map (column_of setting.now.text.now) columns.now))) }
 {
     let mut values = Vec::new(setting.alloc);
     for index in 0..number {
@@ -403,7 +433,9 @@ fn rows_where<'a>(
     scope: &'a Scope<'a>,
 ) -> Result<Vec<Datum>, Halt>
     requires { are_level number columns.now ≡ true }
-    ensures { Answers (λ values. map value_of values.items) result (where_in setting.now scope.now at (tree_of body.now) (tree_of condition.now) (rows_of number (map (column_of setting.now.text.now) columns.now))) }
+    ensures { Answers (λ values. map value_of values.items) result
+        (where_in setting.now scope.now at (tree_of body.now) (tree_of condition.now)
+        (rows_of number (map (column_of setting.now.text.now) columns.now))) }
 {
     let mut values = Vec::new(setting.alloc);
     for index in 0..number {
@@ -422,7 +454,8 @@ fn rows_where<'a>(
 #[cycle(value)]
 #[inline(never)]
 fn called(setting: &Setting, name: Span, values: &[Datum]) -> Result<Datum, Halt>
-    ensures { Answers value_of result (calls_in setting.now name.at (spelling setting.now.text.now name) (map value_of values.now)) }
+    ensures { Answers value_of result (calls_in setting.now name.at
+        (spelling setting.now.text.now name) (map value_of values.now)) }
 {
     let bytes = name.spelled(setting.text);
     match find_function(bytes, setting.text, setting.functions) {
@@ -441,7 +474,9 @@ fn enter(
     earlier: &[Declaration],
     values: &[Datum],
 ) -> Result<Datum, Halt>
-    ensures { Answers value_of result (entered setting.now.dialect setting.now.text.now at function.now earlier.now (map value_of values.now)) }
+    ensures { Answers value_of result
+        (entered setting.now.dialect setting.now.text.now at function.now earlier.now
+        (map value_of values.now)) }
 {
     if function.parameters.len() != values.len() {
         return Err(fault(FaultKind::Shape, at));

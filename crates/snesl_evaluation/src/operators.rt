@@ -56,7 +56,8 @@ pub fn binary(
     left: &Datum,
     right: &Datum,
 ) -> Result<Datum, Halt>
-    ensures { Answers value_of result (binary_answer dialect at operator (value_of left.now) (value_of right.now)) }
+    ensures { Answers value_of result (binary_answer dialect at operator (value_of left.now)
+        (value_of right.now)) }
 {
     match operator {
         Operator::Or => on_scalars(dialect, at, BinaryOperator::Or, left, right),
@@ -83,7 +84,8 @@ fn on_scalars(
     left: &Datum,
     right: &Datum,
 ) -> Result<Datum, Halt>
-    ensures { Answers value_of result (scalars_answer dialect at operator (value_of left.now) (value_of right.now)) }
+    ensures { Answers value_of result (scalars_answer dialect at operator (value_of left.now)
+        (value_of right.now)) }
 {
     let x = scalar(at, left)?;
     let y = scalar(at, right)?;
@@ -91,7 +93,8 @@ fn on_scalars(
 }
 
 fn equal(dialect: Dialect, at: usize, left: &Datum, right: &Datum) -> Result<Datum, Halt>
-    ensures { Answers value_of result (equal_answer dialect at (value_of left.now) (value_of right.now)) }
+    ensures { Answers value_of result (equal_answer dialect at (value_of left.now)
+        (value_of right.now)) }
 {
     match left {
         Datum::Int(_) => on_scalars(dialect, at, BinaryOperator::EqualIntegers, left, right),
@@ -114,7 +117,8 @@ fn append(alloc: Global, at: usize, left: &Datum, right: &Datum) -> Result<Datum
 
 // The element at an index.
 fn index(alloc: Global, at: usize, vector: &Datum, index: &Datum) -> Result<Datum, Halt>
-    ensures { Answers value_of result (go (elements_at at (value_of vector.now)) (λ vs. go (int_at at (value_of index.now)) (item_answer at vs))) }
+    ensures { Answers value_of result (go (elements_at at (value_of vector.now))
+        (λ vs. go (int_at at (value_of index.now)) (item_answer at vs))) }
 {
     let all = elements(at, vector)?;
     let i = integer(at, index)?;
@@ -132,7 +136,8 @@ fn item(alloc: Global, at: usize, all: &[Datum], i: i128) -> Result<Datum, Halt>
 }
 
 fn item_at(alloc: Global, at: usize, all: &[Datum], place: usize) -> Result<Datum, Halt>
-    ensures { Answers value_of result (or_fault IndexFault at (slice_get (map value_of all.now) place)) }
+    ensures { Answers value_of result (or_fault IndexFault at
+        (slice_get (map value_of all.now) place)) }
 {
     match all.get(place) {
         Some(datum) => Ok(copy_datum(alloc, datum)?),

@@ -89,7 +89,8 @@ pub fn vector_of(items: Vec<Datum>) -> Datum
 }
 
 pub fn add(values: &mut Vec<Datum>, value: Datum) -> Result<(), AllocError>
-    ensures { OnOk result (map value_of values.new.items ≡ map value_of values.old.items ++ value_of value ∷ []) }
+    ensures { OnOk result (map value_of values.new.items ≡ map value_of values.old.items ++
+        value_of value ∷ []) }
 {
     values.push(value)?;
     Ok(())
@@ -103,7 +104,8 @@ pub fn pair(alloc: Global, first: Datum, second: Datum) -> Result<Datum, AllocEr
 }
 
 pub fn add_found(values: &mut Vec<Datum>, found: Option<Datum>) -> Result<(), AllocError>
-    ensures { OnOk result (map value_of values.new.items ≡ map value_of values.old.items ++ option_to_list (option_map value_of found)) }
+    ensures { OnOk result (map value_of values.new.items ≡ map value_of values.old.items ++
+        option_to_list (option_map value_of found)) }
 {
     match found {
         Some(value) => add(values, value),
@@ -114,7 +116,8 @@ pub fn add_found(values: &mut Vec<Datum>, found: Option<Datum>) -> Result<(), Al
 // The sequence of what is there.
 #[inline(never)]
 pub fn filtered(alloc: Global, found: Option<Datum>) -> Result<Datum, AllocError>
-    ensures { IfOk result (λ datum. value_of datum ≡ sequence (option_to_list (option_map value_of found))) }
+    ensures { IfOk result (λ datum. value_of datum ≡
+        sequence (option_to_list (option_map value_of found))) }
 {
     let mut values = Vec::new(alloc);
     add_found(&mut values, found)?;

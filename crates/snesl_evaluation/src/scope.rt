@@ -54,7 +54,8 @@ pub enum Scope<'a> {
 // A copy of the value of a name.
 #[inline(never)]
 pub fn look_up(alloc: Global, name: Span, text: &[u8], scope: &Scope) -> Result<Datum, Halt>
-    ensures { Answers value_of result (named name.at (spelling text.now name) (environment_in text.now scope.now)) }
+    ensures { Answers value_of result (named name.at (spelling text.now name)
+        (environment_in text.now scope.now)) }
 {
     match find(name.spelled(text), text, scope) {
         Some(datum) => Ok(copy_datum(alloc, datum)?),
@@ -64,7 +65,8 @@ pub fn look_up(alloc: Global, name: Span, text: &[u8], scope: &Scope) -> Result<
 
 // The value of a name.
 fn find<'a>(name: &[u8], text: &[u8], scope: &'a Scope<'a>) -> Option<&'a Datum>
-    ensures { option_map (λ datum. value_of datum.now) result ≡ value_in name.now (environment_in text.now scope.now) }
+    ensures { option_map (λ datum. value_of datum.now) result ≡
+        value_in name.now (environment_in text.now scope.now) }
 {
     match scope {
         Scope::Inputs(entries) => find_entry(name, entries),
@@ -97,7 +99,8 @@ fn find_parameter<'a>(
     parameters: &[Typing],
     values: &'a [Datum],
 ) -> Option<&'a Datum>
-    ensures { option_map (λ datum. value_of datum.now) result ≡ value_in name.now (zip (names_of text.now parameters.now) (map value_of values.now)) }
+    ensures { option_map (λ datum. value_of datum.now) result ≡
+        value_in name.now (zip (names_of text.now parameters.now) (map value_of values.now)) }
 {
     let (parameter, parameters) = parameters.split_first()?;
     let (value, values) = values.split_first()?;
@@ -114,7 +117,8 @@ fn find_in_row<'a>(
     columns: &'a [Column],
     index: usize,
 ) -> Option<&'a Datum>
-    ensures { option_map (λ datum. value_of datum.now) result ≡ value_in name.now (row_at index (map (column_of text.now) columns.now)) }
+    ensures { option_map (λ datum. value_of datum.now) result ≡
+        value_in name.now (row_at index (map (column_of text.now) columns.now)) }
 {
     let (column, columns) = columns.split_first()?;
     match find_in_column(name, text, column, index) {
@@ -129,7 +133,9 @@ fn find_in_column<'a>(
     column: &'a Column,
     index: usize,
 ) -> Option<&'a Datum>
-    ensures { option_map (λ datum. value_of datum.now) result ≡ (if bytes_eq name.now (spelling text.now column.now.name) then slice_get (map value_of column.now.items.items) index else None) }
+    ensures { option_map (λ datum. value_of datum.now) result ≡
+        (if bytes_eq name.now (spelling text.now column.now.name) then slice_get
+        (map value_of column.now.items.items) index else None) }
 {
     if name == column.name.spelled(text) {
         column.items.get(index)
@@ -143,7 +149,9 @@ pub fn add_column(
     name: Span,
     items: Vec<Datum>,
 ) -> Result<(), AllocError>
-    ensures { (text : List ℕ) → OnOk result (map (column_of text) columns.new.items ≡ map (column_of text) columns.old.items ++ (spelling text name, map value_of items.items) ∷ []) }
+    ensures { (text : List ℕ) → OnOk result (map (column_of text) columns.new.items ≡
+        map (column_of text) columns.old.items ++ (spelling text name, map value_of items.items) ∷
+        []) }
 {
     columns.push(Column { name, items })?;
     Ok(())
@@ -152,7 +160,9 @@ pub fn add_column(
 // The length of all columns.
 pub fn height(at: usize, columns: &[Column]) -> Result<usize, Halt>
     ensures level { IfOk result (λ n. are_level n columns.now ≡ true) }
-    ensures in_step { (text : List ℕ) → Answers (λ n. rows_of n (map (column_of text) columns.now)) result (in_step at (map (column_of text) columns.now)) }
+    ensures in_step { (text : List ℕ) → Answers (λ n.
+        rows_of n (map (column_of text) columns.now)) result
+        (in_step at (map (column_of text) columns.now)) }
 {
     let height = first_height(columns);
     if are_level(columns, height) {

@@ -62,7 +62,8 @@ pub fn count_up(alloc: Global, n: usize) -> Result<Vec<Datum>, AllocError>
 
 // Copies of these behind the others.
 pub fn add_copies(alloc: Global, values: &mut Vec<Datum>, all: &[Datum]) -> Result<(), AllocError>
-    ensures { OnOk result (map value_of values.new.items ≡ map value_of values.old.items ++ map value_of all.now) }
+    ensures { OnOk result (map value_of values.new.items ≡ map value_of values.old.items ++
+        map value_of all.now) }
 {
     for datum in all {
         let copy = copy_datum(alloc, datum)?;
@@ -73,7 +74,8 @@ pub fn add_copies(alloc: Global, values: &mut Vec<Datum>, all: &[Datum]) -> Resu
 
 // The items of sequences, joined in order.
 pub fn joined(alloc: Global, at: usize, all: &[Datum]) -> Result<Vec<Datum>, Halt>
-    ensures { Answers (λ values. map value_of values.items) result (go_join (items_at at) (map value_of all.now)) }
+    ensures { Answers (λ values. map value_of values.items) result
+        (go_join (items_at at) (map value_of all.now)) }
 {
     let mut values = Vec::new(alloc);
     for datum in all {
@@ -100,7 +102,8 @@ pub fn scan_add(
     at: usize,
     numbers: &[i128],
 ) -> Result<Vec<Datum>, Halt>
-    ensures { Answers (λ values. map value_of values.items) result (go (answer_at at (scanned dialect numbers.now)) (λ sums. gives (map an_int sums))) }
+    ensures { Answers (λ values. map value_of values.items) result
+        (go (answer_at at (scanned dialect numbers.now)) (λ sums. gives (map an_int sums))) }
 {
     let mut sums = Vec::with_capacity(alloc, numbers.len())?;
     if numbers.is_empty() {
@@ -126,7 +129,9 @@ fn total(dialect: Dialect, at: usize, m: i128, n: i128) -> Result<i128, Halt>
 
 // Items in parts, as flags say: each `false` takes the next item, and each `true` ends a part.
 pub fn parts(alloc: Global, at: usize, items: &[Datum], flags: &[bool]) -> Result<Vec<Datum>, Halt>
-    ensures { Answers (λ values. map value_of values.items) result (go (parts_answer at (map value_of items.now) flags.now) (λ parts. gives (map sequence parts))) }
+    ensures { Answers (λ values. map value_of values.items) result
+        (go (parts_answer at (map value_of items.now) flags.now)
+        (λ parts. gives (map sequence parts))) }
 {
     let mut parts = Vec::new(alloc);
     let mut part = Vec::new(alloc);
@@ -149,7 +154,8 @@ pub fn parts(alloc: Global, at: usize, items: &[Datum], flags: &[bool]) -> Resul
 
 // Adds a part to the others, and begins the next.
 fn end_part(alloc: Global, parts: &mut Vec<Datum>, part: &mut Vec<Datum>) -> Result<(), AllocError>
-    ensures done { OnOk result (map value_of parts.new.items ≡ map value_of parts.old.items ++ sequence (map value_of part.old.items) ∷ []) }
+    ensures done { OnOk result (map value_of parts.new.items ≡ map value_of parts.old.items ++
+        sequence (map value_of part.old.items) ∷ []) }
     ensures begun { OnOk result (part.new.items ≡ []) }
 {
     let ended = mem::replace(part, Vec::new(alloc));
@@ -166,7 +172,9 @@ fn take_item(
     part: &mut Vec<Datum>,
 ) -> Result<usize, Halt>
     ensures next { IfOk result (λ next. next ≡ taken + 1) }
-    ensures taken { Answers (λ _. map value_of part.new.items) result (go (or_fault PartFault at (slice_get (map value_of items.now) taken)) (λ v. gives (map value_of part.old.items ++ v ∷ []))) }
+    ensures taken { Answers (λ _. map value_of part.new.items) result
+        (go (or_fault PartFault at (slice_get (map value_of items.now) taken))
+        (λ v. gives (map value_of part.old.items ++ v ∷ []))) }
 {
     match items.get(taken) {
         Some(item) => {

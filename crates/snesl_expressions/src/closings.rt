@@ -38,7 +38,8 @@ pub fn after(
     last: Measured,
     token: Token,
 ) -> Result<Machine, StepError>
-    ensures { Gives result (step expressions greatest_depth (after (frames_of forms.items) (tree_of last.expr.value)) token) }
+    ensures { Gives result (step expressions greatest_depth
+        (after (frames_of forms.items) (tree_of last.expr.value)) token) }
 {
     match token.kind {
         Kind::Or => infix(alloc, forms, last, Operator::Or, token.at),
@@ -80,7 +81,8 @@ fn infix(
     operator: Operator,
     at: usize,
 ) -> Result<Machine, StepError>
-    ensures { Gives result (within greatest_depth (joining operator at (frames_of forms.items) (tree_of last.expr.value))) }
+    ensures { Gives result (within greatest_depth
+        (joining operator at (frames_of forms.items) (tree_of last.expr.value))) }
 {
     let (outer, left) = reduced(alloc, forms, last, left_level_of(operator))?;
     if floor_of(&outer) > level_of(operator) {
@@ -96,7 +98,8 @@ fn infix(
 
 // Where a parenthesis opens behind an operand: only behind a function's name.
 fn apply(alloc: Global, forms: Vec<Form>, last: Measured) -> Result<Machine, StepError>
-    ensures { Gives result (within greatest_depth (apply_move (frames_of forms.items) (tree_of last.expr.value))) }
+    ensures { Gives result (within greatest_depth
+        (apply_move (frames_of forms.items) (tree_of last.expr.value))) }
 {
     match &*last.expr {
         Expr::Name(name) => {
@@ -119,7 +122,8 @@ fn closing(
     last: Measured,
     ending: Ending,
 ) -> Result<Machine, StepError>
-    ensures { Gives result (within greatest_depth (closing (ending_move ending) (frames_of forms.items) (tree_of last.expr.value))) }
+    ensures { Gives result (within greatest_depth
+        (closing (ending_move ending) (frames_of forms.items) (tree_of last.expr.value))) }
 {
     let Innermost { outer, form, whole } = find_innermost(alloc, forms, last)?;
     ended(alloc, outer, form, whole, ending)
@@ -133,7 +137,8 @@ fn ended(
     whole: Measured,
     ending: Ending,
 ) -> Result<Machine, StepError>
-    ensures { Gives result (within greatest_depth (ending_move ending (frame_of form ∷ frames_of outer.items) (tree_of whole.expr.value))) }
+    ensures { Gives result (within greatest_depth
+        (ending_move ending (frame_of form ∷ frames_of outer.items) (tree_of whole.expr.value))) }
 {
     match ending {
         Ending::Comma => comma(outer, form, whole),
@@ -150,7 +155,8 @@ fn ended(
 
 // A comma ends an argument, the first part of a pair, or an item.
 fn comma(outer: Vec<Form>, form: Form, whole: Measured) -> Result<Machine, StepError>
-    ensures { Gives result (within greatest_depth (comma_move (frame_of form ∷ frames_of outer.items) (tree_of whole.expr.value))) }
+    ensures { Gives result (within greatest_depth
+        (comma_move (frame_of form ∷ frames_of outer.items) (tree_of whole.expr.value))) }
 {
     match form {
         Form::Call {
@@ -192,7 +198,8 @@ fn right_paren(
     form: Form,
     whole: Measured,
 ) -> Result<Machine, StepError>
-    ensures { Gives result (within greatest_depth (paren_move (frame_of form ∷ frames_of outer.items) (tree_of whole.expr.value))) }
+    ensures { Gives result (within greatest_depth
+        (paren_move (frame_of form ∷ frames_of outer.items) (tree_of whole.expr.value))) }
 {
     match form {
         Form::Call {
@@ -223,7 +230,8 @@ fn right_brace(
     form: Form,
     whole: Measured,
 ) -> Result<Machine, StepError>
-    ensures { Gives result (within greatest_depth (brace_move (frame_of form ∷ frames_of outer.items) (tree_of whole.expr.value))) }
+    ensures { Gives result (within greatest_depth
+        (brace_move (frame_of form ∷ frames_of outer.items) (tree_of whole.expr.value))) }
 {
     match form {
         Form::Braces { at, given } => behind(
@@ -253,7 +261,8 @@ fn right_brace(
 
 // A colon ends the body of a comprehension.
 fn colon(alloc: Global, outer: Vec<Form>, form: Form, whole: Measured) -> Result<Machine, StepError>
-    ensures { Gives result (within greatest_depth (colon_move (frame_of form ∷ frames_of outer.items) (tree_of whole.expr.value))) }
+    ensures { Gives result (within greatest_depth
+        (colon_move (frame_of form ∷ frames_of outer.items) (tree_of whole.expr.value))) }
 {
     match form {
         Form::Braces { at, given } => begin_binders(alloc, outer, at, given, whole),
@@ -273,7 +282,9 @@ fn begin_binders(
     given: Arguments,
     body: Measured,
 ) -> Result<Machine, StepError>
-    ensures { Gives result (within greatest_depth (colon_move (in_braces at (trees_of given.exprs.items) ∷ frames_of outer.items) (tree_of body.expr.value))) }
+    ensures { Gives result (within greatest_depth
+        (colon_move (in_braces at (trees_of given.exprs.items) ∷ frames_of outer.items)
+        (tree_of body.expr.value))) }
 {
     if !given.exprs.is_empty() {
         let_go(body);
@@ -288,7 +299,8 @@ fn begin_binders(
 
 // A bar ends an item with a condition, or the binders of a comprehension.
 fn bar(outer: Vec<Form>, form: Form, whole: Measured) -> Result<Machine, StepError>
-    ensures { Gives result (within greatest_depth (bar_move (frame_of form ∷ frames_of outer.items) (tree_of whole.expr.value))) }
+    ensures { Gives result (within greatest_depth
+        (bar_move (frame_of form ∷ frames_of outer.items) (tree_of whole.expr.value))) }
 {
     match form {
         Form::Braces { at, given } => begin_filter(outer, at, given, whole),
@@ -316,7 +328,9 @@ fn begin_filter(
     given: Arguments,
     item: Measured,
 ) -> Result<Machine, StepError>
-    ensures { Gives result (within greatest_depth (bar_move (in_braces at (trees_of given.exprs.items) ∷ frames_of outer.items) (tree_of item.expr.value))) }
+    ensures { Gives result (within greatest_depth
+        (bar_move (in_braces at (trees_of given.exprs.items) ∷ frames_of outer.items)
+        (tree_of item.expr.value))) }
 {
     if !given.exprs.is_empty() {
         let_go(item);
@@ -327,7 +341,8 @@ fn begin_filter(
 
 // A semicolon ends a binder before the eighth.
 fn semicolon(outer: Vec<Form>, form: Form, whole: Measured) -> Result<Machine, StepError>
-    ensures { Gives result (within greatest_depth (semicolon_move (frame_of form ∷ frames_of outer.items) (tree_of whole.expr.value))) }
+    ensures { Gives result (within greatest_depth
+        (semicolon_move (frame_of form ∷ frames_of outer.items) (tree_of whole.expr.value))) }
 {
     match form {
         Form::Source {
@@ -353,7 +368,10 @@ fn next_binder(
     name: Span,
     source: Measured,
 ) -> Result<Machine, StepError>
-    ensures { Gives result (within greatest_depth (semicolon_move (in_source at (tree_of body.expr.value) (binders_of bound.binders.items) name ∷ frames_of outer.items) (tree_of source.expr.value))) }
+    ensures { Gives result (within greatest_depth
+        (semicolon_move (in_source at (tree_of body.expr.value)
+        (binders_of bound.binders.items) name ∷ frames_of outer.items)
+        (tree_of source.expr.value))) }
 {
     if bound.binders.len() + 1 >= GREATEST_BINDER_COUNT {
         let_go(body);
@@ -369,7 +387,8 @@ fn next_binder(
 
 // `in` ends the value of a `let`.
 fn let_in(outer: Vec<Form>, form: Form, whole: Measured) -> Result<Machine, StepError>
-    ensures { Gives result (within greatest_depth (in_move (frame_of form ∷ frames_of outer.items) (tree_of whole.expr.value))) }
+    ensures { Gives result (within greatest_depth
+        (in_move (frame_of form ∷ frames_of outer.items) (tree_of whole.expr.value))) }
 {
     match form {
         Form::Value { at, name } => go_in(
@@ -390,7 +409,8 @@ fn let_in(outer: Vec<Form>, form: Form, whole: Measured) -> Result<Machine, Step
 
 // `then` ends the condition of an `if`.
 fn then(outer: Vec<Form>, form: Form, whole: Measured) -> Result<Machine, StepError>
-    ensures { Gives result (within greatest_depth (then_move (frame_of form ∷ frames_of outer.items) (tree_of whole.expr.value))) }
+    ensures { Gives result (within greatest_depth
+        (then_move (frame_of form ∷ frames_of outer.items) (tree_of whole.expr.value))) }
 {
     match form {
         Form::Condition { at } => go_in(
@@ -410,7 +430,8 @@ fn then(outer: Vec<Form>, form: Form, whole: Measured) -> Result<Machine, StepEr
 
 // `else` ends the first branch of an `if`.
 fn or_else(outer: Vec<Form>, form: Form, whole: Measured) -> Result<Machine, StepError>
-    ensures { Gives result (within greatest_depth (else_move (frame_of form ∷ frames_of outer.items) (tree_of whole.expr.value))) }
+    ensures { Gives result (within greatest_depth
+        (else_move (frame_of form ∷ frames_of outer.items) (tree_of whole.expr.value))) }
 {
     match form {
         Form::Positive { at, condition } => go_in(

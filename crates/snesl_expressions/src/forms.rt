@@ -184,7 +184,8 @@ pub fn let_go<T: Drop>(_: T) {}
 
 // The form with its last part.
 fn closed(alloc: Global, form: Form, last: Measured) -> Result<Measured, AllocError>
-    ensures { IfOk result (λ whole. tree_of whole.expr.value ≡ closed_with (frame_of form) (tree_of last.expr.value)) }
+    ensures { IfOk result (λ whole. tree_of whole.expr.value ≡
+        closed_with (frame_of form) (tree_of last.expr.value)) }
 {
     match form {
         Form::Binary { at, operator, left } => Measured::binary(alloc, at, operator, left, last),
@@ -209,7 +210,8 @@ pub fn reduced(
     mut last: Measured,
     tightness: u8,
 ) -> Result<(Vec<Form>, Measured), AllocError>
-    ensures { IfOk result (λ folded. Folding folded.0 folded.1 (reduce tightness (frames_of forms.items) (tree_of last.expr.value))) }
+    ensures { IfOk result (λ folded. Folding folded.0 folded.1
+        (reduce tightness (frames_of forms.items) (tree_of last.expr.value))) }
 {
     while let Some(form) = forms.pop() {
         if !is_closed_at(&form, tightness) {

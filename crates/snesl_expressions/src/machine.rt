@@ -101,7 +101,8 @@ pub fn go_in(mut forms: Vec<Form>, form: Form) -> Result<Machine, StepError>
 
 /// Goes on at a point of a form that is opened, where there is room for a part of it.
 pub fn open_at(forms: Vec<Form>, point: Point) -> Result<Machine, StepError>
-    ensures { Gives result (within greatest_depth (open_move (frames_of forms.items) (state_at (frames_of forms.items) point))) }
+    ensures { Gives result (within greatest_depth
+        (open_move (frames_of forms.items) (state_at (frames_of forms.items) point))) }
 {
     if !has_room(&forms) {
         let_go(point);
@@ -122,7 +123,8 @@ pub fn behind(forms: Vec<Form>, last: Measured) -> Result<Machine, StepError>
 
 /// Opens a form, where there is room for a part of it.
 pub fn enter(forms: Vec<Form>, form: Form) -> Result<Machine, StepError>
-    ensures { Gives result (within greatest_depth (open_move (frames_of forms.items) (operand (frame_of form ∷ frames_of forms.items)))) }
+    ensures { Gives result (within greatest_depth
+        (open_move (frames_of forms.items) (operand (frame_of form ∷ frames_of forms.items)))) }
 {
     if !has_room(&forms) {
         let_go(form);
@@ -133,7 +135,9 @@ pub fn enter(forms: Vec<Form>, form: Form) -> Result<Machine, StepError>
 
 /// Opens a form that binds so tightly, where it may stand bare.
 pub fn enter_bare(forms: Vec<Form>, form: Form, tightness: u8) -> Result<Machine, StepError>
-    ensures { Gives result (within greatest_depth (at_level tightness (frames_of forms.items) (open_move (frames_of forms.items) (operand (frame_of form ∷ frames_of forms.items))))) }
+    ensures { Gives result (within greatest_depth
+        (at_level tightness (frames_of forms.items)
+        (open_move (frames_of forms.items) (operand (frame_of form ∷ frames_of forms.items))))) }
 {
     if floor_of(&forms) > tightness {
         let_go(form);

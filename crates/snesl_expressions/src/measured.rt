@@ -65,7 +65,8 @@ impl Measured {
         left: Measured,
         right: Measured,
     ) -> Result<Measured, AllocError>
-        ensures { IfOk result (λ whole. tree_of whole.expr.value ≡ binary at operator (tree_of left.expr.value) (tree_of right.expr.value)) }
+        ensures { IfOk result (λ whole. tree_of whole.expr.value ≡
+            binary at operator (tree_of left.expr.value) (tree_of right.expr.value)) }
     {
         let deep = one_more(left.deep.max(right.deep));
         let expr = Expr::Binary {
@@ -84,7 +85,8 @@ impl Measured {
         operator: Prefix,
         operand: Measured,
     ) -> Result<Measured, AllocError>
-        ensures { IfOk result (λ whole. tree_of whole.expr.value ≡ prefix at operator (tree_of operand.expr.value)) }
+        ensures { IfOk result (λ whole. tree_of whole.expr.value ≡
+            prefix at operator (tree_of operand.expr.value)) }
     {
         let deep = one_more(operand.deep);
         let expr = Expr::Prefix {
@@ -102,7 +104,8 @@ impl Measured {
         function: Builtin,
         arguments: Arguments,
     ) -> Result<Measured, AllocError>
-        ensures { IfOk result (λ whole. tree_of whole.expr.value ≡ call at function (trees_of arguments.exprs.items)) }
+        ensures { IfOk result (λ whole. tree_of whole.expr.value ≡
+            call at function (trees_of arguments.exprs.items)) }
     {
         let Arguments { exprs, deep } = arguments;
         let deep = one_more(deep);
@@ -120,7 +123,8 @@ impl Measured {
         function: Span,
         arguments: Arguments,
     ) -> Result<Measured, AllocError>
-        ensures { IfOk result (λ whole. tree_of whole.expr.value ≡ apply function (trees_of arguments.exprs.items)) }
+        ensures { IfOk result (λ whole. tree_of whole.expr.value ≡
+            apply function (trees_of arguments.exprs.items)) }
     {
         let Arguments { exprs, deep } = arguments;
         let deep = one_more(deep);
@@ -133,7 +137,8 @@ impl Measured {
     }
 
     pub fn group(alloc: Global, at: usize, inner: Measured) -> Result<Measured, AllocError>
-        ensures { IfOk result (λ whole. tree_of whole.expr.value ≡ group at (tree_of inner.expr.value)) }
+        ensures { IfOk result (λ whole. tree_of whole.expr.value ≡
+            group at (tree_of inner.expr.value)) }
     {
         let deep = one_more(inner.deep);
         let expr = Expr::Group {
@@ -150,7 +155,8 @@ impl Measured {
         first: Measured,
         second: Measured,
     ) -> Result<Measured, AllocError>
-        ensures { IfOk result (λ whole. tree_of whole.expr.value ≡ pair at (tree_of first.expr.value) (tree_of second.expr.value)) }
+        ensures { IfOk result (λ whole. tree_of whole.expr.value ≡
+            pair at (tree_of first.expr.value) (tree_of second.expr.value)) }
     {
         let deep = one_more(first.deep.max(second.deep));
         let expr = Expr::Pair {
@@ -169,7 +175,8 @@ impl Measured {
         value: Measured,
         body: Measured,
     ) -> Result<Measured, AllocError>
-        ensures { IfOk result (λ whole. tree_of whole.expr.value ≡ binding at place (tree_of value.expr.value) (tree_of body.expr.value)) }
+        ensures { IfOk result (λ whole. tree_of whole.expr.value ≡
+            binding at place (tree_of value.expr.value) (tree_of body.expr.value)) }
     {
         let deep = one_more(value.deep.max(body.deep));
         let expr = Expr::Let {
@@ -189,7 +196,9 @@ impl Measured {
         positive: Measured,
         negative: Measured,
     ) -> Result<Measured, AllocError>
-        ensures { IfOk result (λ whole. tree_of whole.expr.value ≡ choice at (tree_of condition.expr.value) (tree_of positive.expr.value) (tree_of negative.expr.value)) }
+        ensures { IfOk result (λ whole. tree_of whole.expr.value ≡
+            choice at (tree_of condition.expr.value) (tree_of positive.expr.value)
+            (tree_of negative.expr.value)) }
     {
         let deep = one_more(condition.deep.max(positive.deep.max(negative.deep)));
         let expr = Expr::If {
@@ -203,7 +212,8 @@ impl Measured {
     }
 
     pub fn literal(alloc: Global, at: usize, items: Arguments) -> Result<Measured, AllocError>
-        ensures { IfOk result (λ whole. tree_of whole.expr.value ≡ literal at (trees_of items.exprs.items)) }
+        ensures { IfOk result (λ whole. tree_of whole.expr.value ≡
+            literal at (trees_of items.exprs.items)) }
     {
         let Arguments { exprs, deep } = items;
         let deep = one_more(deep);
@@ -217,7 +227,8 @@ impl Measured {
         item: Measured,
         condition: Measured,
     ) -> Result<Measured, AllocError>
-        ensures { IfOk result (λ whole. tree_of whole.expr.value ≡ filter at (tree_of item.expr.value) (tree_of condition.expr.value)) }
+        ensures { IfOk result (λ whole. tree_of whole.expr.value ≡
+            filter at (tree_of item.expr.value) (tree_of condition.expr.value)) }
     {
         let deep = one_more(item.deep.max(condition.deep));
         let expr = Expr::Filter {
@@ -235,7 +246,8 @@ impl Measured {
         body: Measured,
         bound: Bound,
     ) -> Result<Measured, AllocError>
-        ensures { IfOk result (λ whole. tree_of whole.expr.value ≡ each at (tree_of body.expr.value) (binders_of bound.binders.items) always) }
+        ensures { IfOk result (λ whole. tree_of whole.expr.value ≡
+            each at (tree_of body.expr.value) (binders_of bound.binders.items) always) }
     {
         let Bound { binders, deep } = bound;
         let deep = one_more(body.deep.max(deep));
@@ -256,7 +268,9 @@ impl Measured {
         bound: Bound,
         condition: Measured,
     ) -> Result<Measured, AllocError>
-        ensures { IfOk result (λ whole. tree_of whole.expr.value ≡ each at (tree_of body.expr.value) (binders_of bound.binders.items) (only_where (tree_of condition.expr.value))) }
+        ensures { IfOk result (λ whole. tree_of whole.expr.value ≡
+            each at (tree_of body.expr.value) (binders_of bound.binders.items)
+            (only_where (tree_of condition.expr.value))) }
     {
         let Bound { binders, deep } = bound;
         let deep = one_more(body.deep.max(deep.max(condition.deep)));
@@ -282,7 +296,8 @@ impl Arguments {
     }
 
     pub fn with(self, last: Measured) -> Result<Arguments, AllocError>
-        ensures { IfOk result (λ all. trees_of all.exprs.items ≡ added (trees_of self.exprs.items) (tree_of last.expr.value)) }
+        ensures { IfOk result (λ all. trees_of all.exprs.items ≡
+            added (trees_of self.exprs.items) (tree_of last.expr.value)) }
     {
         let Arguments { mut exprs, deep } = self;
         let deep = deep.max(last.deep);
@@ -302,7 +317,8 @@ impl Bound {
     }
 
     pub fn with(self, name: Span, source: Measured) -> Result<Bound, AllocError>
-        ensures { IfOk result (λ all. binders_of all.binders.items ≡ bound_also (binders_of self.binders.items) name (tree_of source.expr.value)) }
+        ensures { IfOk result (λ all. binders_of all.binders.items ≡
+            bound_also (binders_of self.binders.items) name (tree_of source.expr.value)) }
     {
         let Bound { mut binders, deep } = self;
         let deep = deep.max(source.deep);

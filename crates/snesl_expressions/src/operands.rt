@@ -18,7 +18,8 @@ use std::alloc::Global;
 
 /// Where an operand may begin.
 pub fn operand(alloc: Global, forms: Vec<Form>, token: Token) -> Result<Machine, StepError>
-    ensures { Gives result (step expressions greatest_depth (operand (frames_of forms.items)) token) }
+    ensures { Gives result (step expressions greatest_depth
+        (operand (frames_of forms.items)) token) }
 {
     let at = token.at;
     match token.kind {
@@ -52,21 +53,27 @@ pub fn operand(alloc: Global, forms: Vec<Form>, token: Token) -> Result<Machine,
 
 // Opens the operand of an operator before it.
 fn enter_prefix(forms: Vec<Form>, at: usize, operator: Prefix) -> Result<Machine, StepError>
-    ensures { Gives result (within greatest_depth (at_level prefix_level (frames_of forms.items) (open_move (frames_of forms.items) (operand (in_prefix at operator ∷ frames_of forms.items))))) }
+    ensures { Gives result (within greatest_depth
+        (at_level prefix_level (frames_of forms.items)
+        (open_move (frames_of forms.items)
+        (operand (in_prefix at operator ∷ frames_of forms.items))))) }
 {
     enter_bare(forms, Form::Prefix { at, operator }, PREFIX_LEVEL)
 }
 
 // Takes the name of a built-in function, where there is room for an argument.
 fn name_call(forms: Vec<Form>, at: usize, function: Builtin) -> Result<Machine, StepError>
-    ensures { Gives result (within greatest_depth (open_move (frames_of forms.items) (opening (frames_of forms.items) at function))) }
+    ensures { Gives result (within greatest_depth
+        (open_move (frames_of forms.items) (opening (frames_of forms.items) at function))) }
 {
     open_at(forms, Point::Opening { at, function })
 }
 
 // Takes the word `let`, where a `let` may stand bare and there is room for its value.
 fn name_let(forms: Vec<Form>, at: usize) -> Result<Machine, StepError>
-    ensures { Gives result (within greatest_depth (at_level 0 (frames_of forms.items) (open_move (frames_of forms.items) (let_name (frames_of forms.items) at)))) }
+    ensures { Gives result (within greatest_depth
+        (at_level 0 (frames_of forms.items)
+        (open_move (frames_of forms.items) (let_name (frames_of forms.items) at)))) }
 {
     if floor_of(&forms) > 0 {
         return Err(StepError::Unexpected);
@@ -76,7 +83,8 @@ fn name_let(forms: Vec<Form>, at: usize) -> Result<Machine, StepError>
 
 // Opens the first item in braces, where there is room for it.
 fn enter_braces(alloc: Global, forms: Vec<Form>, at: usize) -> Result<Machine, StepError>
-    ensures { Gives result (within greatest_depth (open_move (frames_of forms.items) (operand (in_braces at none ∷ frames_of forms.items)))) }
+    ensures { Gives result (within greatest_depth
+        (open_move (frames_of forms.items) (operand (in_braces at none ∷ frames_of forms.items)))) }
 {
     let given = Arguments::none(alloc);
     enter(forms, Form::Braces { at, given })
@@ -90,7 +98,8 @@ pub fn opening(
     function: Builtin,
     token: Token,
 ) -> Result<Machine, StepError>
-    ensures { Gives result (step expressions greatest_depth (opening (frames_of forms.items) at function) token) }
+    ensures { Gives result (step expressions greatest_depth
+        (opening (frames_of forms.items) at function) token) }
 {
     match token.kind {
         Kind::LeftParen => {
@@ -110,7 +119,8 @@ pub fn opening(
 
 /// Where the name of a `let` stands.
 pub fn let_name(forms: Vec<Form>, at: usize, token: Token) -> Result<Machine, StepError>
-    ensures { Gives result (step expressions greatest_depth (let_name (frames_of forms.items) at) token) }
+    ensures { Gives result (step expressions greatest_depth
+        (let_name (frames_of forms.items) at) token) }
 {
     match token.kind {
         Kind::Name(len) => {
@@ -131,7 +141,8 @@ pub fn let_equals(
     name: Span,
     token: Token,
 ) -> Result<Machine, StepError>
-    ensures { Gives result (step expressions greatest_depth (let_equals (frames_of forms.items) at name) token) }
+    ensures { Gives result (step expressions greatest_depth
+        (let_equals (frames_of forms.items) at name) token) }
 {
     match token.kind {
         Kind::Equals => go_in(forms, Form::Value { at, name }),
@@ -147,7 +158,9 @@ pub fn binder_name(
     bound: Bound,
     token: Token,
 ) -> Result<Machine, StepError>
-    ensures { Gives result (step expressions greatest_depth (binder_name (frames_of forms.items) at (tree_of body.expr.value) (binders_of bound.binders.items)) token) }
+    ensures { Gives result (step expressions greatest_depth
+        (binder_name (frames_of forms.items) at (tree_of body.expr.value)
+        (binders_of bound.binders.items)) token) }
 {
     match token.kind {
         Kind::Name(len) => {
@@ -178,7 +191,9 @@ pub fn binder_in(
     name: Span,
     token: Token,
 ) -> Result<Machine, StepError>
-    ensures { Gives result (step expressions greatest_depth (binder_in (frames_of forms.items) at (tree_of body.expr.value) (binders_of bound.binders.items) name) token) }
+    ensures { Gives result (step expressions greatest_depth
+        (binder_in (frames_of forms.items) at (tree_of body.expr.value)
+        (binders_of bound.binders.items) name) token) }
 {
     match token.kind {
         Kind::In => go_in(

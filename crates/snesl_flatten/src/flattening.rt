@@ -32,10 +32,18 @@ use std::alloc::Global;
 pub fn flatten<'a>(alloc: Global, typed: &'a Typed<'a>) -> Result<Plan<'a>, Refusal>
     ensures program { IfOk result (λ plan. planned plan ≡ typed.now) }
     ensures holds { IfOk result (λ plan. HoldsNetwork plan) }
-    ensures network { IfOk result (λ plan. IsNetworkOf node_behaviour (program_steps (typed_text typed.now) (typed_tree typed.now) (typed_inputs typed.now) not_set) (plan_states plan) (plan_edges plan)) }
-    ensures opens { IfOk result (λ plan. AllOpen (layout (program_steps (typed_text typed.now) (typed_tree typed.now) (typed_inputs typed.now) not_set)) (plan_states plan)) }
-    ensures big { let nodes = layout (program_steps (typed_text typed.now) (typed_tree typed.now) (typed_inputs typed.now) not_set) in (result ≡ Err TooBig → (most_nodes < length nodes) ⊎ (most_edges < edges_needed nodes)) }
-    ensures few { let nodes = layout (program_steps (typed_text typed.now) (typed_tree typed.now) (typed_inputs typed.now) not_set) in IfOk result (λ _. (length nodes ≤ most_nodes) × (edges_needed nodes ≤ most_edges)) }
+    ensures network { IfOk result (λ plan. IsNetworkOf node_behaviour
+        (program_steps (typed_text typed.now) (typed_tree typed.now)
+        (typed_inputs typed.now) not_set) (plan_states plan) (plan_edges plan)) }
+    ensures opens { IfOk result (λ plan. AllOpen
+        (layout (program_steps (typed_text typed.now) (typed_tree typed.now)
+        (typed_inputs typed.now) not_set)) (plan_states plan)) }
+    ensures big { let nodes = layout (program_steps (typed_text typed.now) (typed_tree typed.now)
+        (typed_inputs typed.now) not_set) in
+        (result ≡ Err TooBig → (most_nodes < length nodes) ⊎ (most_edges < edges_needed nodes)) }
+    ensures few { let nodes = layout (program_steps (typed_text typed.now) (typed_tree typed.now)
+        (typed_inputs typed.now) not_set) in
+        IfOk result (λ _. (length nodes ≤ most_nodes) × (edges_needed nodes ≤ most_edges)) }
     ensures memory { IfErr result (λ refusal. (refusal ≡ TooBig) ⊎ (refusal ≡ NoMemory)) }
 {
     let steps = steps_of_program(alloc, typed)?;

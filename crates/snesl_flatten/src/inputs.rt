@@ -29,8 +29,10 @@ pub(crate) fn sources_of_inputs(
     requires declares { declarations_of inputs.now ≡ declared declarations.now }
     requires fits { length (all_kinds (declared declarations.now)) < 2 ^ 64 }
     ensures fresh { IfOk result (λ sources. AreFresh sources.items) }
-    ensures cells { IfOk result (λ sources. map cells_in sources.items ≡ columns_of (declared declarations.now) (environment_of inputs.now)) }
-    ensures kinds { IfOk result (λ sources. map kind_in sources.items ≡ all_kinds (declared declarations.now)) }
+    ensures cells { IfOk result (λ sources. map cells_in sources.items ≡
+        columns_of (declared declarations.now) (environment_of inputs.now)) }
+    ensures kinds { IfOk result (λ sources. map kind_in sources.items ≡
+        all_kinds (declared declarations.now)) }
 {
     inputs_fit(inputs);
     inputs_are_placed(inputs);
@@ -50,12 +52,15 @@ fn add_sources(
     place: usize,
     ty: &Ty,
 ) -> Result<(), AllocError>
-    requires placed { (dialect : Dialect) × IsPlaced dialect (arc_value text.now).items (ty_of ty.now) place }
+    requires placed { (dialect : Dialect) × IsPlaced dialect (arc_value text.now).items
+        (ty_of ty.now) place }
     requires fits { width (ty_of ty.now) < 2 ^ 64 }
     requires fresh { AreFresh sources.old.items }
     ensures fresh { OnOk result (AreFresh sources.new.items) }
-    ensures cells { OnOk result (map cells_in sources.new.items ≡ map cells_in sources.old.items ++ laid (ty_of ty.now) (value_at (arc_value text.now).items place ∷ [])) }
-    ensures kinds { OnOk result (map kind_in sources.new.items ≡ map kind_in sources.old.items ++ kinds_of (ty_of ty.now)) }
+    ensures cells { OnOk result (map cells_in sources.new.items ≡ map cells_in sources.old.items ++
+        laid (ty_of ty.now) (value_at (arc_value text.now).items place ∷ [])) }
+    ensures kinds { OnOk result (map kind_in sources.new.items ≡ map kind_in sources.old.items ++
+        kinds_of (ty_of ty.now)) }
 {
     text_holds_edges();
     for edge in 0..edge_count(ty) {

@@ -25,8 +25,12 @@ use std::alloc::Global;
 
 // The steps of a program whose inputs are not set. `TooBig` where they are more than a graph has nodes.
 pub(crate) fn steps_of_program(alloc: Global, typed: &Typed<'_>) -> Result<Vec<Step>, Refusal>
-    ensures steps { IfOk result (λ steps. steps_of (typed_dialect typed.now) steps.items ≡ program_steps (typed_text typed.now) (typed_tree typed.now) (typed_inputs typed.now) not_set) }
-    ensures big { result ≡ Err TooBig → most_nodes < length (program_steps (typed_text typed.now) (typed_tree typed.now) (typed_inputs typed.now) not_set) }
+    ensures steps { IfOk result (λ steps. steps_of (typed_dialect typed.now) steps.items ≡
+        program_steps (typed_text typed.now) (typed_tree typed.now)
+        (typed_inputs typed.now) not_set) }
+    ensures big { result ≡ Err TooBig → most_nodes <
+        length (program_steps (typed_text typed.now) (typed_tree typed.now)
+        (typed_inputs typed.now) not_set) }
     ensures memory { IfErr result (λ refusal. (refusal ≡ TooBig) ⊎ (refusal ≡ NoMemory)) }
 {
     let mut steps = Steps::new(alloc, typed.dialect());
@@ -38,7 +42,9 @@ pub(crate) fn steps_of_program(alloc: Global, typed: &Typed<'_>) -> Result<Vec<S
 fn add_program(steps: &mut Steps, typed: &Typed<'_>) -> Result<Wires, Refusal>
     requires dialect { dialect_of_steps steps.old ≡ typed_dialect typed.now }
     requires next { next_in steps.old ≡ 0 }
-    ensures { Adds wires_of steps.old steps.new (program_plan (typed_text typed.now) (typed_tree typed.now) (typed_inputs typed.now) not_set) result }
+    ensures { Adds wires_of steps.old steps.new
+        (program_plan (typed_text typed.now) (typed_tree typed.now)
+        (typed_inputs typed.now) not_set) result }
 {
     let program = typed.program();
     let at = first_offset(&program.expr);
@@ -58,7 +64,8 @@ fn bind_inputs<'a>(
     at: usize,
     declarations: &'a [(Vec<u8>, Ty)],
 ) -> Result<Vec<Binding<'a>>, Refusal>
-    ensures { Adds (λ bindings. bindings_of bindings.items) steps.old steps.new (inputs_sourced at not_set (declared declarations.now) (next_in steps.old)) result }
+    ensures { Adds (λ bindings. bindings_of bindings.items) steps.old steps.new
+        (inputs_sourced at not_set (declared declarations.now) (next_in steps.old)) result }
 {
     let mut bindings = Vec::new(steps.alloc());
     for declaration in declarations {
@@ -78,7 +85,9 @@ fn print_value(
     inputs: &[Binding<'_>],
     control: usize,
 ) -> Result<Wires, Refusal>
-    ensures { Adds wires_of steps.old steps.new (printed steps.old at setting.now (tree_of expr.now) (bindings_of inputs.now) control) result }
+    ensures { Adds wires_of steps.old steps.new
+        (printed steps.old at setting.now (tree_of expr.now)
+        (bindings_of inputs.now) control) result }
 {
     let nothing = Scope::Nothing;
     let scope = Scope::Frame(inputs, &nothing);

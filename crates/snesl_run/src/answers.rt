@@ -64,7 +64,8 @@ fn refuse_words<W: Write, E: Write>(
     err: &mut Counted<E>,
 ) -> u8
     requires { (refusal ≡ BadConfig) ⊎ (refusal ≡ NoMemory) }
-    ensures { Refuses (taken W.contents out.old out.new) (taken E.contents err.old err.new) refusal result }
+    ensures { Refuses (taken W.contents out.old out.new)
+        (taken E.contents err.old err.new) refusal result }
 {
     if refusal.is_of_the_system() {
         complain(refusal, err)

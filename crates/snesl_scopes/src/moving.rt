@@ -32,7 +32,9 @@ pub fn distribute_all<'a>(
     part: &Part<'_>,
     scope: &Scope<'a>,
 ) -> Result<Vec<Binding<'a>>, Refusal>
-    ensures { Adds (λ bindings. bindings_of bindings.items) steps.old steps.new (all_moved (distributed at flags) (names_in part.now) (bound_of scope.now) (next_in steps.old)) result }
+    ensures { Adds (λ bindings. bindings_of bindings.items) steps.old steps.new
+        (all_moved (distributed at flags) (names_in part.now) (bound_of scope.now)
+        (next_in steps.old)) result }
 {
     move_all(steps, at, Movement::Distribute(flags), part, scope)
 }
@@ -45,7 +47,9 @@ pub fn keep_all<'a>(
     part: &Part<'_>,
     scope: &Scope<'a>,
 ) -> Result<Vec<Binding<'a>>, Refusal>
-    ensures { Adds (λ bindings. bindings_of bindings.items) steps.old steps.new (all_moved (kept at truths) (names_in part.now) (bound_of scope.now) (next_in steps.old)) result }
+    ensures { Adds (λ bindings. bindings_of bindings.items) steps.old steps.new
+        (all_moved (kept at truths) (names_in part.now) (bound_of scope.now)
+        (next_in steps.old)) result }
 {
     move_all(steps, at, Movement::Keep(truths), part, scope)
 }
@@ -57,7 +61,9 @@ fn move_all<'a>(
     part: &Part<'_>,
     scope: &Scope<'a>,
 ) -> Result<Vec<Binding<'a>>, Refusal>
-    ensures { Adds (λ bindings. bindings_of bindings.items) steps.old steps.new (all_moved (moved_by at movement) (names_in part.now) (bound_of scope.now) (next_in steps.old)) result }
+    ensures { Adds (λ bindings. bindings_of bindings.items) steps.old steps.new
+        (all_moved (moved_by at movement) (names_in part.now) (bound_of scope.now)
+        (next_in steps.old)) result }
 {
     let mut moved = Vec::new(steps.alloc());
     move_scope(steps, at, movement, part, scope, &mut moved)?;
@@ -73,7 +79,9 @@ fn move_scope<'a>(
     scope: &Scope<'a>,
     moved: &mut Vec<Binding<'a>>,
 ) -> Result<(), Refusal>
-    ensures { Adds (λ x. bindings_of moved.new.items) steps.old steps.new (each_moved (moved_by at movement) (names_in part.now) (bound_of scope.now) (bindings_of moved.old.items) (next_in steps.old)) result }
+    ensures { Adds (λ x. bindings_of moved.new.items) steps.old steps.new
+        (each_moved (moved_by at movement) (names_in part.now) (bound_of scope.now)
+        (bindings_of moved.old.items) (next_in steps.old)) result }
 {
     match *scope {
         Scope::Nothing => Ok(()),
@@ -93,7 +101,9 @@ fn move_frame<'a>(
     bindings: &[Binding<'a>],
     moved: &mut Vec<Binding<'a>>,
 ) -> Result<(), Refusal>
-    ensures { Adds (λ x. bindings_of moved.new.items) steps.old steps.new (each_moved (moved_by at movement) (names_in part.now) (bindings_of bindings.now) (bindings_of moved.old.items) (next_in steps.old)) result }
+    ensures { Adds (λ x. bindings_of moved.new.items) steps.old steps.new
+        (each_moved (moved_by at movement) (names_in part.now) (bindings_of bindings.now)
+        (bindings_of moved.old.items) (next_in steps.old)) result }
 {
     for binding in bindings {
         move_binding(steps, at, movement, part, binding, moved)?;
@@ -110,7 +120,9 @@ fn move_binding<'a>(
     binding: &Binding<'a>,
     moved: &mut Vec<Binding<'a>>,
 ) -> Result<(), Refusal>
-    ensures { Adds (λ x. bindings_of moved.new.items) steps.old steps.new (one_moved (moved_by at movement) (names_in part.now) (binding_of binding.now) (bindings_of moved.old.items) (next_in steps.old)) result }
+    ensures { Adds (λ x. bindings_of moved.new.items) steps.old steps.new
+        (one_moved (moved_by at movement) (names_in part.now) (binding_of binding.now)
+        (bindings_of moved.old.items) (next_in steps.old)) result }
 {
     if is_bound(binding.name, moved) {
         return Ok(());
@@ -132,7 +144,8 @@ fn move_wires(
     movement: Movement,
     wires: &Wires,
 ) -> Result<Wires, Refusal>
-    ensures { Adds wires_of steps.old steps.new (moved_by at movement (wires_of wires.now) (next_in steps.old)) result }
+    ensures { Adds wires_of steps.old steps.new
+        (moved_by at movement (wires_of wires.now) (next_in steps.old)) result }
 {
     match movement {
         Movement::Distribute(flags) => distribute(steps, at, flags, wires),
@@ -142,7 +155,8 @@ fn move_wires(
 
 // No part of this kind takes a sequence from outside: one stays as it is.
 fn distribute(steps: &mut Steps, at: usize, flags: usize, wires: &Wires) -> Result<Wires, Refusal>
-    ensures { Adds wires_of steps.old steps.new (distributed at flags (wires_of wires.now) (next_in steps.old)) result }
+    ensures { Adds wires_of steps.old steps.new
+        (distributed at flags (wires_of wires.now) (next_in steps.old)) result }
 {
     match wires {
         Wires::Wire(ty, number) => {
@@ -164,7 +178,8 @@ fn distribute(steps: &mut Steps, at: usize, flags: usize, wires: &Wires) -> Resu
 
 // Of a sequence whole segments are kept: its elements by truth values of their own.
 fn keep(steps: &mut Steps, at: usize, truths: usize, wires: &Wires) -> Result<Wires, Refusal>
-    ensures { Adds wires_of steps.old steps.new (kept at truths (wires_of wires.now) (next_in steps.old)) result }
+    ensures { Adds wires_of steps.old steps.new
+        (kept at truths (wires_of wires.now) (next_in steps.old)) result }
 {
     match wires {
         Wires::Wire(ty, number) => {

@@ -28,7 +28,8 @@ pub fn names(part: &Part<'_>, name: &[u8]) -> bool
 }
 
 fn condition_names(text: &[u8], name: &[u8], condition: Option<&Expr>) -> bool
-    ensures { result ≡ is_among name.now (free_of_condition text.now (condition_in condition.entry)) }
+    ensures { result ≡ is_among name.now (free_of_condition text.now
+        (condition_in condition.entry)) }
 {
     match condition {
         Some(condition) => is_free(text, name, condition),

@@ -34,7 +34,8 @@ pub fn look_up(alloc: Global, name: &[u8], scope: &Scope<'_>) -> Result<Wires, A
 
 // The streams of the first binding of the name.
 fn find<'a>(name: &[u8], bindings: &'a [Binding<'_>]) -> Option<&'a Wires>
-    ensures { (outer : Bound) → wires_named name.now (bindings_of bindings.now ++ outer) ≡ unwrap_or (option_map (λ wires. wires_of wires.now) result) (wires_named name.now outer) }
+    ensures { (outer : Bound) → wires_named name.now (bindings_of bindings.now ++ outer) ≡
+        unwrap_or (option_map (λ wires. wires_of wires.now) result) (wires_named name.now outer) }
 {
     for binding in bindings {
         if name == binding.name {

@@ -49,7 +49,8 @@ pub fn settings<'a>(alloc: Global, words: &'a [&'a str]) -> Result<Config, Refus
 
 // The configuration that the values of the options say.
 fn config_said(alloc: Global, matches: &ArgMatches<'_>) -> Result<Config, Refusal>
-    ensures fields { IfOk result (HasFields (λ name. first_of name (rows_of (found_of matches.now)))) }
+    ensures fields { IfOk result (HasFields (λ name.
+        first_of name (rows_of (found_of matches.now)))) }
     ensures refused { IfErr result (RefusesBut ((config : ConfigSpec)
         × HasFields (λ name. first_of name (rows_of (found_of matches.now))) config × IsLawful config)) }
 {

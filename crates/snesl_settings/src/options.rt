@@ -15,8 +15,10 @@ use std::alloc::{AllocError, Global};
 // What clap finds for the options in the words, the first of which is the program's name.
 pub(crate) fn matched<'a>(alloc: Global, words: &'a [&'a str]) -> Result<ArgMatches<'a>, Refusal>
     ensures faultless { IfOk result (λ _. fault_of command_line (texts words.entry.now) ≡ []) }
-    ensures rows { IfOk result (λ matches. rows_of (found_of matches) ≡ matches_of command_line (texts words.entry.now)) }
-    ensures refused { IfErr result (RefusesBut (fault_of command_line (texts words.entry.now) ≡ [])) }
+    ensures rows { IfOk result (λ matches. rows_of (found_of matches) ≡
+        matches_of command_line (texts words.entry.now)) }
+    ensures refused { IfErr result (RefusesBut (fault_of command_line (texts words.entry.now) ≡
+        [])) }
 {
     let command = command(alloc)?;
     match command.try_get_matches_from(words) {
@@ -27,7 +29,8 @@ pub(crate) fn matched<'a>(alloc: Global, words: &'a [&'a str]) -> Result<ArgMatc
 
 // The value of the option, where it has one.
 pub(crate) fn value_of<'a>(matches: &ArgMatches<'a>, name: &str) -> Option<&'a str>
-    ensures { option_map (λ text. text.now) result ≡ first_of name.now (rows_of (found_of matches.now)) }
+    ensures { option_map (λ text. text.now) result ≡
+        first_of name.now (rows_of (found_of matches.now)) }
 {
     matches.get_str(name)
 }

@@ -18,9 +18,11 @@ const MAX_DIGITS: usize = 64;
 // The number from 1 to `most` that the value spells, or the default where there is no value.
 pub(crate) fn number_said(said: Option<&str>, default: usize, most: usize) -> Result<usize, Refusal>
     ensures within { IfOk result (λ number. IsWithin most number) }
-    ensures said { IfOk result (λ number. SaysNumber (option_map (λ text. text.now) said.entry) default number) }
+    ensures said { IfOk result (λ number. SaysNumber
+        (option_map (λ text. text.now) said.entry) default number) }
     ensures refused { IfErr result (λ refusal. refusal ≡ BadConfig) }
-    ensures unsaid { IfErr result (λ _. (number : ℕ) → IsWithin most number → ¬ (SaysNumber (option_map (λ text. text.now) said.entry) default number)) }
+    ensures unsaid { IfErr result (λ _. (number : ℕ) → IsWithin most number →
+        ¬ (SaysNumber (option_map (λ text. text.now) said.entry) default number)) }
 {
     let number = match said {
         None => default,
@@ -37,7 +39,8 @@ pub(crate) fn number_said(said: Option<&str>, default: usize, most: usize) -> Re
 fn number_spelled(text: &str) -> Result<usize, Refusal>
     ensures spelled { IfOk result (λ number. SpellsNumber text.now number) }
     ensures refused { IfErr result (λ refusal. refusal ≡ BadConfig) }
-    ensures unspelled { IfErr result (λ _. (number : ℕ) → number < 2 ^ 64 → ¬ (SpellsNumber text.now number)) }
+    ensures unspelled { IfErr result (λ _. (number : ℕ) → number < 2 ^ 64 →
+        ¬ (SpellsNumber text.now number)) }
 {
     match text.parse::<usize>() {
         Ok(number) => Ok(number),
@@ -47,9 +50,11 @@ fn number_spelled(text: &str) -> Result<usize, Refusal>
 
 // The drive of which the value is the word, or `Rings` where there is no value.
 pub(crate) fn drive_said(said: Option<&str>) -> Result<Drive, Refusal>
-    ensures said { IfOk result (λ drive. SaysDrive (option_map (λ text. text.now) said.entry) drive) }
+    ensures said { IfOk result (λ drive. SaysDrive
+        (option_map (λ text. text.now) said.entry) drive) }
     ensures refused { IfErr result (λ refusal. refusal ≡ BadConfig) }
-    ensures unsaid { IfErr result (λ _. (drive : _) → ¬ (SaysDrive (option_map (λ text. text.now) said.entry) drive)) }
+    ensures unsaid { IfErr result (λ _. (drive : _) →
+        ¬ (SaysDrive (option_map (λ text. text.now) said.entry) drive)) }
 {
     match said {
         None => Ok(Drive::Rings),
@@ -81,8 +86,10 @@ pub(crate) fn share_said(
     threads: usize,
 ) -> Result<Vec<u8>, Refusal>
     requires { threads ≤ most_threads }
-    ensures said { IfOk result (λ share. SaysShare (option_map (λ text. text.now) said.entry) threads share.items) }
-    ensures refused { IfErr result (RefusesBut ((share : List ℕ) × SaysShare (option_map (λ text. text.now) said.entry) threads share)) }
+    ensures said { IfOk result (λ share. SaysShare
+        (option_map (λ text. text.now) said.entry) threads share.items) }
+    ensures refused { IfErr result (RefusesBut ((share : List ℕ) ×
+        SaysShare (option_map (λ text. text.now) said.entry) threads share)) }
 {
     match said {
         None => {

@@ -23,7 +23,9 @@ pub fn apply_built_in(
     function: Builtin,
     arguments: &[Wires],
 ) -> Result<Wires, Refusal>
-    ensures { Adds wires_of steps.old steps.new (call_streams (dialect_of_steps steps.old) at function (map wires_of arguments.now) (next_in steps.old)) result }
+    ensures { Adds wires_of steps.old steps.new
+        (call_streams (dialect_of_steps steps.old) at function (map wires_of arguments.now)
+        (next_in steps.old)) result }
 {
     match (function, arguments) {
         (Builtin::Iota, [count]) => iota(steps, at, count),
@@ -48,7 +50,9 @@ pub fn apply_built_in(
 
 // The integers from 0 on, as many as a count says.
 fn iota(steps: &mut Steps, at: usize, count: &Wires) -> Result<Wires, Refusal>
-    ensures { Adds wires_of steps.old steps.new (call_streams (dialect_of_steps steps.old) at Iota (wires_of count.now ∷ []) (next_in steps.old)) result }
+    ensures { Adds wires_of steps.old steps.new
+        (call_streams (dialect_of_steps steps.old) at Iota (wires_of count.now ∷ [])
+        (next_in steps.old)) result }
 {
     let ty = Ty::Seq(Box::new(steps.alloc, Ty::Int)?);
     steps.step_on(at, Operation::Iota, &[count.stream()], &ty)
@@ -56,7 +60,9 @@ fn iota(steps: &mut Steps, at: usize, count: &Wires) -> Result<Wires, Refusal>
 
 // At each number the sum of those before it: the flags stay.
 fn scan_add(steps: &mut Steps, at: usize, numbers: &Wires) -> Result<Wires, Refusal>
-    ensures { Adds wires_of steps.old steps.new (call_streams (dialect_of_steps steps.old) at ScanAdd (wires_of numbers.now ∷ []) (next_in steps.old)) result }
+    ensures { Adds wires_of steps.old steps.new
+        (call_streams (dialect_of_steps steps.old) at ScanAdd (wires_of numbers.now ∷ [])
+        (next_in steps.old)) result }
 {
     let flags = numbers.stream();
     let reads = [flags, numbers.items().stream()];
@@ -72,7 +78,9 @@ fn reduce(
     ty: &Ty,
     items: &Wires,
 ) -> Result<Wires, Refusal>
-    ensures { Adds wires_of steps.old steps.new (reduction (dialect_of_steps steps.old) at by (ty_of ty.now) (wires_of items.now) (next_in steps.old)) result }
+    ensures { Adds wires_of steps.old steps.new
+        (reduction (dialect_of_steps steps.old) at by (ty_of ty.now) (wires_of items.now)
+        (next_in steps.old)) result }
 {
     let reads = [items.stream(), items.items().stream()];
     steps.step_on(at, Operation::Reduce(by), &reads, ty)
@@ -80,7 +88,8 @@ fn reduce(
 
 // A sequence in parts, as truth values say: flags of the parts, and flags of their elements.
 fn part(steps: &mut Steps, at: usize, sequence: &Wires, ends: &Wires) -> Result<Wires, Refusal>
-    ensures { Adds wires_of steps.old steps.new (parted at (wires_of sequence.now) (wires_of ends.now) (next_in steps.old)) result }
+    ensures { Adds wires_of steps.old steps.new
+        (parted at (wires_of sequence.now) (wires_of ends.now) (next_in steps.old)) result }
 {
     let ty = Ty::Pair(
         Box::new(steps.alloc, Ty::Bool)?,
@@ -96,7 +105,9 @@ fn part(steps: &mut Steps, at: usize, sequence: &Wires, ends: &Wires) -> Result<
 
 // The one item.
 fn the(steps: &mut Steps, at: usize, sequence: &Wires) -> Result<Wires, Refusal>
-    ensures { Adds wires_of steps.old steps.new (call_streams (dialect_of_steps steps.old) at The (wires_of sequence.now ∷ []) (next_in steps.old)) result }
+    ensures { Adds wires_of steps.old steps.new
+        (call_streams (dialect_of_steps steps.old) at The (wires_of sequence.now ∷ [])
+        (next_in steps.old)) result }
 {
     steps.test_on(at, Operation::TheCheck, &[sequence.stream()])?;
     let item = copy_wires(steps.alloc, sequence.items())?;
@@ -105,7 +116,9 @@ fn the(steps: &mut Steps, at: usize, sequence: &Wires) -> Result<Wires, Refusal>
 
 // A sequence as a vector.
 fn tab(steps: &mut Steps, at: usize, sequence: &Wires) -> Result<Wires, Refusal>
-    ensures { Adds wires_of steps.old steps.new (call_streams (dialect_of_steps steps.old) at Tab (wires_of sequence.now ∷ []) (next_in steps.old)) result }
+    ensures { Adds wires_of steps.old steps.new
+        (call_streams (dialect_of_steps steps.old) at Tab (wires_of sequence.now ∷ [])
+        (next_in steps.old)) result }
 {
     let reads = sequence.numbers(steps.alloc)?;
     let item = sequence.items().ty(steps.alloc)?;
@@ -116,7 +129,9 @@ fn tab(steps: &mut Steps, at: usize, sequence: &Wires) -> Result<Wires, Refusal>
 
 // A vector as a sequence.
 fn seq(steps: &mut Steps, at: usize, vector: &Wires) -> Result<Wires, Refusal>
-    ensures { Adds wires_of steps.old steps.new (call_streams (dialect_of_steps steps.old) at Seq (wires_of vector.now ∷ []) (next_in steps.old)) result }
+    ensures { Adds wires_of steps.old steps.new
+        (call_streams (dialect_of_steps steps.old) at Seq (wires_of vector.now ∷ [])
+        (next_in steps.old)) result }
 {
     let whole = vector.ty(steps.alloc)?;
     let item = copy_ty(steps.alloc, item_of(&whole))?;

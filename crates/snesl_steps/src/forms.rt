@@ -27,21 +27,24 @@ pub fn constant(
     ty: &Ty,
     control: usize,
 ) -> Result<Wires, Refusal>
-    ensures { Adds wires_of steps.old steps.new (stepped at (const scalar) (control ∷ []) (ty_of ty.now) (next_in steps.old)) result }
+    ensures { Adds wires_of steps.old steps.new
+        (stepped at (const scalar) (control ∷ []) (ty_of ty.now) (next_in steps.old)) result }
 {
     steps.step_on(at, Operation::Const(scalar), &[control], ty)
 }
 
 /// A Unit for each element of the segments of a stream of flags. The errors are those of `Steps::step`.
 pub fn unit_for_each(steps: &mut Steps, at: usize, flags: usize) -> Result<Wires, Refusal>
-    ensures { Adds wires_of steps.old steps.new (flags_stepped at units_of (flags ∷ []) (next_in steps.old)) result }
+    ensures { Adds wires_of steps.old steps.new
+        (flags_stepped at units_of (flags ∷ []) (next_in steps.old)) result }
 {
     steps.step_on(at, Operation::UnitsOf, &[flags], &Ty::Bool)
 }
 
 /// One sequence followed by another. The errors are those of `Steps::step`.
 pub fn append(steps: &mut Steps, at: usize, left: &Wires, right: &Wires) -> Result<Wires, Refusal>
-    ensures { Adds wires_of steps.old steps.new (appended at (wires_of left.now) (wires_of right.now) (next_in steps.old)) result }
+    ensures { Adds wires_of steps.old steps.new
+        (appended at (wires_of left.now) (wires_of right.now) (next_in steps.old)) result }
 {
     let (f, g) = (left.stream(), right.stream());
     let flags = steps.flags(at, Operation::AppendFlags, &[f, g])?;
@@ -59,7 +62,8 @@ fn mixed(
     left: &Wires,
     right: &Wires,
 ) -> Result<Wires, Refusal>
-    ensures { Adds wires_of steps.old steps.new (mixed at f g (wires_of left.now) (wires_of right.now) (next_in steps.old)) result }
+    ensures { Adds wires_of steps.old steps.new
+        (mixed at f g (wires_of left.now) (wires_of right.now) (next_in steps.old)) result }
 {
     match left {
         Wires::Wire(ty, number) => {
@@ -86,7 +90,8 @@ fn mixed(
 
 /// The inner sequences of a sequence as one. The errors are those of `Steps::step`.
 pub fn concatenate(steps: &mut Steps, at: usize, sequence: &Wires) -> Result<Wires, Refusal>
-    ensures { Adds wires_of steps.old steps.new (concatenated at (wires_of sequence.now) (next_in steps.old)) result }
+    ensures { Adds wires_of steps.old steps.new
+        (concatenated at (wires_of sequence.now) (next_in steps.old)) result }
 {
     let (outer, inner) = (sequence.stream(), sequence.items().stream());
     let flags = steps.flags(at, Operation::ConcatFlags, &[outer, inner])?;
@@ -104,7 +109,9 @@ pub fn apply_operator(
     left: &Wires,
     right: &Wires,
 ) -> Result<Wires, Refusal>
-    ensures { Adds wires_of steps.old steps.new (binary_streams (dialect_of_steps steps.old) at operator (wires_of left.now) (wires_of right.now) (next_in steps.old)) result }
+    ensures { Adds wires_of steps.old steps.new
+        (binary_streams (dialect_of_steps steps.old) at operator (wires_of left.now)
+        (wires_of right.now) (next_in steps.old)) result }
 {
     let (scalar_operator, ty) = match operator {
         Operator::Or => (BinaryOperator::Or, Ty::Bool),
@@ -138,7 +145,10 @@ fn equality(operand: &Wires) -> BinaryOperator
 
 // An element of a vector, by its place.
 fn element(steps: &mut Steps, at: usize, vector: &Wires, place: &Wires) -> Result<Wires, Refusal>
-    ensures { Adds wires_of steps.old steps.new (stepped at (index (item_type (type_of_wires (wires_of vector.now)))) (stream_of (wires_of vector.now) ∷ stream_of (wires_of place.now) ∷ []) (item_type (type_of_wires (wires_of vector.now))) (next_in steps.old)) result }
+    ensures { Adds wires_of steps.old steps.new
+        (stepped at (index (item_type (type_of_wires (wires_of vector.now))))
+        (stream_of (wires_of vector.now) ∷ stream_of (wires_of place.now) ∷ [])
+        (item_type (type_of_wires (wires_of vector.now))) (next_in steps.old)) result }
 {
     let ty = vector.ty(steps.alloc)?;
     let item = item_of(&ty);
@@ -164,7 +174,9 @@ pub fn apply_prefix(
     operator: Prefix,
     operand: &Wires,
 ) -> Result<Wires, Refusal>
-    ensures { Adds wires_of steps.old steps.new (prefix_streams (dialect_of_steps steps.old) at operator (wires_of operand.now) (next_in steps.old)) result }
+    ensures { Adds wires_of steps.old steps.new
+        (prefix_streams (dialect_of_steps steps.old) at operator (wires_of operand.now)
+        (next_in steps.old)) result }
 {
     let (operator, ty) = match operator {
         Prefix::Negate => (UnaryOperator::Negate, Ty::Int),
@@ -176,7 +188,8 @@ pub fn apply_prefix(
 /// That the sequences of a comprehension have segments of the same lengths: the first is compared with each other one. The
 /// errors are those of `Steps::step`.
 pub fn same_lengths(steps: &mut Steps, at: usize, sources: &[Binding<'_>]) -> Result<(), Refusal>
-    ensures { Adds (λ x. x) steps.old steps.new (in_step at (bindings_of sources.now) (next_in steps.old)) result }
+    ensures { Adds (λ x. x) steps.old steps.new
+        (in_step at (bindings_of sources.now) (next_in steps.old)) result }
 {
     match sources {
         [] => Ok(()),
@@ -191,7 +204,8 @@ fn same_as(
     flags: usize,
     others: &[Binding<'_>],
 ) -> Result<(), Refusal>
-    ensures { Adds (λ x. x) steps.old steps.new (same_lengths at flags (bindings_of others.now) (next_in steps.old)) result }
+    ensures { Adds (λ x. x) steps.old steps.new
+        (same_lengths at flags (bindings_of others.now) (next_in steps.old)) result }
 {
     for source in others {
         steps.test_on(at, Operation::SameFlags, &[flags, source.wires.stream()])?;

@@ -73,7 +73,9 @@ impl Steps {
         reads: Vec<usize>,
         ty: &Ty,
     ) -> Result<Wires, Refusal>
-        ensures { Adds wires_of self.old self.new (stepped at (operation_of (dialect_of_steps self.old) operation) reads.items (ty_of ty.now) (next_in self.old)) result }
+        ensures { Adds wires_of self.old self.new
+            (stepped at (operation_of (dialect_of_steps self.old) operation) reads.items
+            (ty_of ty.now) (next_in self.old)) result }
     {
         self.test(at, operation, reads)?;
         let wires = next_wires(self.alloc, ty, &mut self.next)?;
@@ -88,7 +90,9 @@ impl Steps {
         reads: &[usize],
         ty: &Ty,
     ) -> Result<Wires, Refusal>
-        ensures { Adds wires_of self.old self.new (stepped at (operation_of (dialect_of_steps self.old) operation) reads.now (ty_of ty.now) (next_in self.old)) result }
+        ensures { Adds wires_of self.old self.new
+            (stepped at (operation_of (dialect_of_steps self.old) operation) reads.now
+            (ty_of ty.now) (next_in self.old)) result }
     {
         let reads = reads.to_vec(self.alloc)?;
         self.step(at, operation, reads, ty)
@@ -101,7 +105,9 @@ impl Steps {
         operation: Operation,
         reads: &[usize],
     ) -> Result<usize, Refusal>
-        ensures { Adds (λ number. wire bool number) self.old self.new (flags_stepped at (operation_of (dialect_of_steps self.old) operation) reads.now (next_in self.old)) result }
+        ensures { Adds (λ number. wire bool number) self.old self.new
+            (flags_stepped at (operation_of (dialect_of_steps self.old) operation) reads.now
+            (next_in self.old)) result }
     {
         self.test_on(at, operation, reads)?;
         let number = next_number(&mut self.next)?;
@@ -115,7 +121,9 @@ impl Steps {
         operation: Operation,
         reads: Vec<usize>,
     ) -> Result<(), Refusal>
-        ensures { Adds (λ x. x) self.old self.new (tested at (operation_of (dialect_of_steps self.old) operation) reads.items (tt {0}) (next_in self.old)) result }
+        ensures { Adds (λ x. x) self.old self.new
+            (tested at (operation_of (dialect_of_steps self.old) operation) reads.items (tt {0})
+            (next_in self.old)) result }
     {
         if self.steps.len() >= MAX_NODES {
             return Err(Refusal::TooBig);
@@ -135,7 +143,9 @@ impl Steps {
         operation: Operation,
         reads: &[usize],
     ) -> Result<(), Refusal>
-        ensures { Adds (λ x. x) self.old self.new (tested at (operation_of (dialect_of_steps self.old) operation) reads.now (tt {0}) (next_in self.old)) result }
+        ensures { Adds (λ x. x) self.old self.new
+            (tested at (operation_of (dialect_of_steps self.old) operation) reads.now (tt {0})
+            (next_in self.old)) result }
     {
         let reads = reads.to_vec(self.alloc)?;
         self.test(at, operation, reads)
@@ -143,7 +153,8 @@ impl Steps {
 
     /// Adds the beginning of the control stream, and returns its number. The errors are those of `step`.
     pub fn control(&mut self, at: usize) -> Result<usize, Refusal>
-        ensures { Adds (λ number. number) self.old self.new (control_sourced at (next_in self.old)) result }
+        ensures { Adds (λ number. number) self.old self.new
+            (control_sourced at (next_in self.old)) result }
     {
         self.test(at, Operation::Control, Vec::new(self.alloc))?;
         let number = next_number(&mut self.next)?;
@@ -153,7 +164,8 @@ impl Steps {
     /// Adds the beginnings of the streams of an input of this type, whose lists are to be set, and returns them. The errors
     /// are those of `step`.
     pub fn input(&mut self, at: usize, ty: &Ty) -> Result<Wires, Refusal>
-        ensures { Adds wires_of self.old self.new (sourced at not_set (ty_of ty.now) (next_in self.old)) result }
+        ensures { Adds wires_of self.old self.new
+            (sourced at not_set (ty_of ty.now) (next_in self.old)) result }
     {
         let kinds = kinds(self.alloc, ty)?;
         self.sources(at, &kinds)?;
@@ -163,7 +175,9 @@ impl Steps {
 
     // Adds the beginnings of streams of these kinds.
     fn sources(&mut self, at: usize, kinds: &[Kind]) -> Result<(), Refusal>
-        ensures { Adds (λ x. x) self.old self.new (only_steps (source_steps at not_set (next_in self.old) kinds.now) (next_in self.old)) result }
+        ensures { Adds (λ x. x) self.old self.new
+            (only_steps (source_steps at not_set (next_in self.old) kinds.now)
+            (next_in self.old)) result }
     {
         for kind in kinds {
             self.test(at, Operation::Input(*kind), Vec::new(self.alloc))?;

@@ -101,7 +101,8 @@ impl Wires {
 }
 
 fn add_numbers(numbers: &mut Vec<usize>, wires: &Wires) -> Result<(), AllocError>
-    ensures { OnOk result (numbers.new.items ≡ numbers.old.items ++ numbers_of (wires_of wires.now)) }
+    ensures { OnOk result (numbers.new.items ≡ numbers.old.items ++
+        numbers_of (wires_of wires.now)) }
 {
     match wires {
         Wires::Wire(_, number) => numbers.push(*number)?,

@@ -44,7 +44,8 @@ fn in_rest(
     machine: ProgramMachine,
     token: Token,
 ) -> Result<DialectMachine, StepError>
-    ensures { Steps dialect_state result (step reader greatest_depth (in_rest dialect (program_state machine)) token) }
+    ensures { Steps dialect_state result (step reader greatest_depth
+        (in_rest dialect (program_state machine)) token) }
 {
     let machine = machine.step(alloc, token)?;
     Ok(DialectMachine::Rest { dialect, machine })
@@ -89,7 +90,8 @@ fn semicolon(alloc: Global, token: Token) -> Result<DialectMachine, StepError>
 impl DialectMachine {
     /// The machine behind the next token.
     pub fn step(self, alloc: Global, token: Token) -> Result<DialectMachine, StepError>
-        ensures { Steps dialect_state result (step reader greatest_depth (dialect_state self) token) }
+        ensures { Steps dialect_state result (step reader greatest_depth
+            (dialect_state self) token) }
     {
         match self {
             DialectMachine::Beginning => beginning(alloc, token),
@@ -101,7 +103,8 @@ impl DialectMachine {
 
     /// The program that the tokens so far are, where they are one.
     pub fn finish(self, alloc: Global) -> Result<Option<Whole>, AllocError>
-        ensures { IfOk result (λ found. IsThisProgram found (reader.finished (dialect_state self))) }
+        ensures { IfOk result (λ found. IsThisProgram found
+            (reader.finished (dialect_state self))) }
     {
         match self {
             DialectMachine::Rest { dialect, machine } => match machine.finish(alloc)? {

@@ -89,7 +89,8 @@ pub fn parse(alloc: Global, text: &[u8]) -> Result<Program, Refusal>
     ensures right { IsRight (Parses text.now) result }
 
     // Each answer for the text is the result: every program within the limits is accepted, as its tree.
-    ensures accepts { (answer : Result ProgramTree Refusal) → Parses text.now answer → Returns result answer }
+    ensures accepts { (answer : Result ProgramTree Refusal) → Parses text.now answer →
+        Returns result answer }
 
     ensures keeps_text { IfOk result (λ program. program.text.items ≡ text.now) }
     ensures refusals { IfErr result IsOfText }

@@ -113,7 +113,8 @@ fn at_point(done: Vec<Declaration>, point: ProgramPoint) -> Result<ProgramMachin
 
 // Where a declaration or the expression begins.
 fn between(alloc: Global, done: Vec<Declaration>, token: Token) -> Result<ProgramMachine, StepError>
-    ensures { Steps program_state result (step (programs expressions) greatest_depth (between (map declaration_of done.items)) token) }
+    ensures { Steps program_state result (step (programs expressions) greatest_depth
+        (between (map declaration_of done.items)) token) }
 {
     match token.kind {
         Kind::Input => at_point(done, ProgramPoint::Input),
@@ -129,7 +130,8 @@ fn in_final(
     machine: Machine,
     token: Token,
 ) -> Result<ProgramMachine, StepError>
-    ensures { Steps program_state result (step (programs expressions) greatest_depth (in_final (map declaration_of done.items) (state_of machine)) token) }
+    ensures { Steps program_state result (step (programs expressions) greatest_depth
+        (in_final (map declaration_of done.items) (state_of machine)) token) }
 {
     let machine = machine.step(alloc, token)?;
     at_point(done, ProgramPoint::Final(machine))
@@ -137,7 +139,8 @@ fn in_final(
 
 // Where the name of an input stands.
 fn input_name(done: Vec<Declaration>, token: Token) -> Result<ProgramMachine, StepError>
-    ensures { Steps program_state result (step (programs expressions) greatest_depth (awaits_input (map declaration_of done.items)) token) }
+    ensures { Steps program_state result (step (programs expressions) greatest_depth
+        (awaits_input (map declaration_of done.items)) token) }
 {
     match token.kind {
         Kind::Name(len) => {
@@ -155,7 +158,8 @@ fn input_colon(
     name: Span,
     token: Token,
 ) -> Result<ProgramMachine, StepError>
-    ensures { Steps program_state result (step (programs expressions) greatest_depth (awaits_input_colon (map declaration_of done.items) name) token) }
+    ensures { Steps program_state result (step (programs expressions) greatest_depth
+        (awaits_input_colon (map declaration_of done.items) name) token) }
 {
     match token.kind {
         Kind::Colon => {
@@ -169,7 +173,8 @@ fn input_colon(
 
 // Where the name of a function stands.
 fn function_name(done: Vec<Declaration>, token: Token) -> Result<ProgramMachine, StepError>
-    ensures { Steps program_state result (step (programs expressions) greatest_depth (awaits_function (map declaration_of done.items)) token) }
+    ensures { Steps program_state result (step (programs expressions) greatest_depth
+        (awaits_function (map declaration_of done.items)) token) }
 {
     match token.kind {
         Kind::Name(len) => {
@@ -187,7 +192,8 @@ fn open(
     function: Span,
     token: Token,
 ) -> Result<ProgramMachine, StepError>
-    ensures { Steps program_state result (step (programs expressions) greatest_depth (awaits_open (map declaration_of done.items) function) token) }
+    ensures { Steps program_state result (step (programs expressions) greatest_depth
+        (awaits_open (map declaration_of done.items) function) token) }
 {
     match token.kind {
         Kind::LeftParen => {
@@ -205,7 +211,9 @@ fn parameter_name(
     given: Vec<Typing>,
     token: Token,
 ) -> Result<ProgramMachine, StepError>
-    ensures { Steps program_state result (step (programs expressions) greatest_depth (awaits_parameter (map declaration_of done.items) function (map typed_of given.items)) token) }
+    ensures { Steps program_state result (step (programs expressions) greatest_depth
+        (awaits_parameter (map declaration_of done.items) function
+        (map typed_of given.items)) token) }
 {
     match token.kind {
         Kind::Name(len) => {
@@ -232,7 +240,9 @@ fn parameter_colon(
     name: Span,
     token: Token,
 ) -> Result<ProgramMachine, StepError>
-    ensures { Steps program_state result (step (programs expressions) greatest_depth (awaits_parameter_colon (map declaration_of done.items) function (map typed_of given.items) name) token) }
+    ensures { Steps program_state result (step (programs expressions) greatest_depth
+        (awaits_parameter_colon (map declaration_of done.items) function
+        (map typed_of given.items) name) token) }
 {
     match token.kind {
         Kind::Colon => {
@@ -256,7 +266,9 @@ fn result_colon(
     parameters: Vec<Typing>,
     token: Token,
 ) -> Result<ProgramMachine, StepError>
-    ensures { Steps program_state result (step (programs expressions) greatest_depth (awaits_result (map declaration_of done.items) function (map typed_of parameters.items)) token) }
+    ensures { Steps program_state result (step (programs expressions) greatest_depth
+        (awaits_result (map declaration_of done.items) function
+        (map typed_of parameters.items)) token) }
 {
     match token.kind {
         Kind::Colon => {
@@ -278,7 +290,9 @@ fn input_end(
     ty: WrittenType,
     kind: Kind,
 ) -> Result<ProgramMachine, StepError>
-    ensures { Steps program_state result (within greatest_depth (type_end expressions (of_input (map declaration_of done.items) name) kind (type_tree ty))) }
+    ensures { Steps program_state result (within greatest_depth
+        (type_end expressions (of_input (map declaration_of done.items) name) kind
+        (type_tree ty))) }
 {
     match kind {
         Kind::Semicolon => {
@@ -297,7 +311,9 @@ fn parameter_end(
     parameter: Typing,
     kind: Kind,
 ) -> Result<ProgramMachine, StepError>
-    ensures { Steps program_state result (within greatest_depth (type_end expressions (of_parameter (map declaration_of done.items) function (map typed_of given.items) parameter.name) kind (type_tree parameter.ty))) }
+    ensures { Steps program_state result (within greatest_depth
+        (type_end expressions (of_parameter (map declaration_of done.items) function
+        (map typed_of given.items) parameter.name) kind (type_tree parameter.ty))) }
 {
     match kind {
         Kind::Comma => {
@@ -326,7 +342,9 @@ fn result_end(
     header: Header,
     kind: Kind,
 ) -> Result<ProgramMachine, StepError>
-    ensures { Steps program_state result (within greatest_depth (type_end expressions (of_result (map declaration_of done.items) header.name (map typed_of header.parameters.items)) kind (type_tree header.result))) }
+    ensures { Steps program_state result (within greatest_depth
+        (type_end expressions (of_result (map declaration_of done.items) header.name
+        (map typed_of header.parameters.items)) kind (type_tree header.result))) }
 {
     match kind {
         Kind::Equals => {
@@ -345,7 +363,9 @@ fn type_ended(
     ty: WrittenType,
     kind: Kind,
 ) -> Result<ProgramMachine, StepError>
-    ensures { Steps program_state result (within greatest_depth (type_end expressions (owner_of (map declaration_of done.items) owner) kind (type_tree ty))) }
+    ensures { Steps program_state result (within greatest_depth
+        (type_end expressions (owner_of (map declaration_of done.items) owner) kind
+        (type_tree ty))) }
 {
     match owner {
         Owner::Input { name } => input_end(done, name, ty, kind),
@@ -376,7 +396,8 @@ fn in_type(
     machine: TypeMachine,
     token: Token,
 ) -> Result<ProgramMachine, StepError>
-    ensures { Steps program_state result (step (programs expressions) greatest_depth (in_type (owner_of (map declaration_of done.items) owner) (type_state machine)) token) }
+    ensures { Steps program_state result (step (programs expressions) greatest_depth
+        (in_type (owner_of (map declaration_of done.items) owner) (type_state machine)) token) }
 {
     match machine.into_whole() {
         Ok(ty) => type_ended(alloc, done, owner, ty, token.kind),
@@ -395,7 +416,9 @@ fn body_step(
     machine: Machine,
     token: Token,
 ) -> Result<ProgramMachine, StepError>
-    ensures { Steps program_state result (within greatest_depth (carried (in_body (header_of (map declaration_of done.items) header)) (expressions.move (state_of machine) token))) }
+    ensures { Steps program_state result (within greatest_depth
+        (carried (in_body (header_of (map declaration_of done.items) header))
+        (expressions.move (state_of machine) token))) }
 {
     let machine = machine.step(alloc, token)?;
     at_point(done, ProgramPoint::Body { header, machine })
@@ -407,7 +430,8 @@ fn function_ended(
     header: Header,
     body: Expr,
 ) -> Result<ProgramMachine, StepError>
-    ensures { Steps program_state result (within greatest_depth (body_end (header_of (map declaration_of done.items) header) Semicolon (tree_of body))) }
+    ensures { Steps program_state result (within greatest_depth
+        (body_end (header_of (map declaration_of done.items) header) Semicolon (tree_of body))) }
 {
     let Header {
         name,
@@ -431,7 +455,8 @@ fn in_body(
     machine: Machine,
     token: Token,
 ) -> Result<ProgramMachine, StepError>
-    ensures { Steps program_state result (step (programs expressions) greatest_depth (in_body (header_of (map declaration_of done.items) header) (state_of machine)) token) }
+    ensures { Steps program_state result (step (programs expressions) greatest_depth
+        (in_body (header_of (map declaration_of done.items) header) (state_of machine)) token) }
 {
     match token.kind {
         Kind::Semicolon => {
@@ -460,7 +485,8 @@ impl ProgramMachine {
 
     /// The machine behind the next token.
     pub fn step(self, alloc: Global, token: Token) -> Result<ProgramMachine, StepError>
-        ensures { Steps program_state result (step (programs expressions) greatest_depth (program_state self) token) }
+        ensures { Steps program_state result (step (programs expressions) greatest_depth
+            (program_state self) token) }
     {
         let ProgramMachine { done, point } = self;
         match point {
@@ -489,7 +515,8 @@ impl ProgramMachine {
 
     /// The parts that the tokens so far are, where they are a program's.
     pub fn finish(self, alloc: Global) -> Result<Option<Parsed>, AllocError>
-        ensures { IfOk result (λ found. IsThisRest found ((programs expressions).finished (program_state self))) }
+        ensures { IfOk result (λ found. IsThisRest found
+            ((programs expressions).finished (program_state self))) }
     {
         let ProgramMachine { done, point } = self;
         match point {

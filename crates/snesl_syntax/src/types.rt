@@ -59,7 +59,8 @@ fn go_in(mut forms: Vec<TypeForm>, form: TypeForm) -> Result<TypeMachine, StepEr
 
 // Opens a form, where there is room for a part of it.
 fn enter(forms: Vec<TypeForm>, form: TypeForm) -> Result<TypeMachine, StepError>
-    ensures { Steps type_state result (within greatest_depth (open_type (frames_of forms.items) (frame_of form))) }
+    ensures { Steps type_state result (within greatest_depth
+        (open_type (frames_of forms.items) (frame_of form))) }
 {
     if !has_room(&forms) {
         return Err(StepError::TooDeep);
@@ -79,7 +80,8 @@ fn behind(forms: Vec<TypeForm>, last: WrittenType) -> Result<TypeMachine, StepEr
 
 // Where a type begins.
 fn begins(forms: Vec<TypeForm>, token: Token) -> Result<TypeMachine, StepError>
-    ensures { Steps type_state result (step types greatest_depth (type_begins (frames_of forms.items)) token) }
+    ensures { Steps type_state result (step types greatest_depth
+        (type_begins (frames_of forms.items)) token) }
 {
     let at = token.at;
     match token.kind {
@@ -99,7 +101,8 @@ fn first_ended(
     first: WrittenType,
     token: Token,
 ) -> Result<TypeMachine, StepError>
-    ensures { Steps type_state result (step types greatest_depth (type_ended (in_first at ∷ frames_of forms.items) (type_tree first)) token) }
+    ensures { Steps type_state result (step types greatest_depth
+        (type_ended (in_first at ∷ frames_of forms.items) (type_tree first)) token) }
 {
     match token.kind {
         Kind::Comma => go_in(forms, TypeForm::Second { at, first }),
@@ -116,7 +119,9 @@ fn second_ended(
     second: WrittenType,
     token: Token,
 ) -> Result<TypeMachine, StepError>
-    ensures { Steps type_state result (step types greatest_depth (type_ended (in_second at (type_tree first) ∷ frames_of forms.items) (type_tree second)) token) }
+    ensures { Steps type_state result (step types greatest_depth
+        (type_ended (in_second at (type_tree first) ∷ frames_of forms.items)
+        (type_tree second)) token) }
 {
     match token.kind {
         Kind::RightParen => {
@@ -139,7 +144,8 @@ fn vector_ended(
     item: WrittenType,
     token: Token,
 ) -> Result<TypeMachine, StepError>
-    ensures { Steps type_state result (step types greatest_depth (type_ended (in_vector at ∷ frames_of forms.items) (type_tree item)) token) }
+    ensures { Steps type_state result (step types greatest_depth
+        (type_ended (in_vector at ∷ frames_of forms.items) (type_tree item)) token) }
 {
     match token.kind {
         Kind::RightBracket => {
@@ -161,7 +167,8 @@ fn sequence_ended(
     item: WrittenType,
     token: Token,
 ) -> Result<TypeMachine, StepError>
-    ensures { Steps type_state result (step types greatest_depth (type_ended (in_sequence at ∷ frames_of forms.items) (type_tree item)) token) }
+    ensures { Steps type_state result (step types greatest_depth
+        (type_ended (in_sequence at ∷ frames_of forms.items) (type_tree item)) token) }
 {
     match token.kind {
         Kind::RightBrace => {
@@ -182,7 +189,8 @@ fn ended(
     last: WrittenType,
     token: Token,
 ) -> Result<TypeMachine, StepError>
-    ensures { Steps type_state result (step types greatest_depth (type_ended (frames_of forms.items) (type_tree last)) token) }
+    ensures { Steps type_state result (step types greatest_depth
+        (type_ended (frames_of forms.items) (type_tree last)) token) }
 {
     let Some(form) = forms.pop() else {
         return Err(StepError::Unexpected);

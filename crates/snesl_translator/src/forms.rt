@@ -27,7 +27,9 @@ pub(crate) fn named(
     name: Span,
     scope: &Scope<'_>,
 ) -> Result<Wires, Refusal>
-    ensures { Adds wires_of steps.old steps.new (done (wires_named (spelling text.now name) (bound_of scope.now)) (next_in steps.old)) result }
+    ensures { Adds wires_of steps.old steps.new
+        (done (wires_named (spelling text.now name) (bound_of scope.now))
+        (next_in steps.old)) result }
 {
     let wires = look_up(steps.alloc(), name.spelled(text), scope)?;
     Ok(wires)
@@ -36,7 +38,8 @@ pub(crate) fn named(
 // The streams of a pair.
 #[inline(never)]
 pub(crate) fn paired(steps: &mut Steps, first: Wires, second: Wires) -> Result<Wires, Refusal>
-    ensures { Adds wires_of steps.old steps.new (done (two (wires_of first) (wires_of second)) (next_in steps.old)) result }
+    ensures { Adds wires_of steps.old steps.new
+        (done (two (wires_of first) (wires_of second)) (next_in steps.old)) result }
 {
     let wires = pair_wires(steps.alloc(), first, second)?;
     Ok(wires)
@@ -44,7 +47,8 @@ pub(crate) fn paired(steps: &mut Steps, first: Wires, second: Wires) -> Result<W
 
 // The streams of a sequence.
 pub(crate) fn sequence(steps: &mut Steps, flags: usize, items: Wires) -> Result<Wires, Refusal>
-    ensures { Adds wires_of steps.old steps.new (done (segments flags (wires_of items)) (next_in steps.old)) result }
+    ensures { Adds wires_of steps.old steps.new
+        (done (segments flags (wires_of items)) (next_in steps.old)) result }
 {
     let wires = sequence_wires(steps.alloc(), flags, items)?;
     Ok(wires)
@@ -53,7 +57,8 @@ pub(crate) fn sequence(steps: &mut Steps, flags: usize, items: Wires) -> Result<
 // The stream of `true` for each instance. The errors are those of `Steps::step`.
 #[inline(never)]
 pub(crate) fn always_true(steps: &mut Steps, at: usize, control: usize) -> Result<usize, Refusal>
-    ensures { Adds (λ n. n) steps.old steps.new (always_true at control (next_in steps.old)) result }
+    ensures { Adds (λ n. n) steps.old steps.new
+        (always_true at control (next_in steps.old)) result }
 {
     let d = constant(steps, at, Scalar::Bool(true), &Ty::Bool, control)?;
     Ok(d.stream())
@@ -66,7 +71,8 @@ pub(crate) fn flat(
     flags: usize,
     items: Wires,
 ) -> Result<Wires, Refusal>
-    ensures { Adds wires_of steps.old steps.new (concatenated at (segments flags (wires_of items)) (next_in steps.old)) result }
+    ensures { Adds wires_of steps.old steps.new
+        (concatenated at (segments flags (wires_of items)) (next_in steps.old)) result }
 {
     let sequences = sequence_wires(steps.alloc(), flags, items)?;
     concatenate(steps, at, &sequences)
@@ -80,7 +86,9 @@ pub(crate) fn one_of(
     left: &Wires,
     right: &Wires,
 ) -> Result<Wires, Refusal>
-    ensures { Adds wires_of steps.old steps.new (and_then (appended at (wires_of left.now) (wires_of right.now) (next_in steps.old)) (λ w k. tested at the_check (stream_of w ∷ []) (item_wires w) k)) result }
+    ensures { Adds wires_of steps.old steps.new
+        (and_then (appended at (wires_of left.now) (wires_of right.now) (next_in steps.old))
+        (λ w k. tested at the_check (stream_of w ∷ []) (item_wires w) k)) result }
 {
     let both = append(steps, at, left, right)?;
     let mut arguments = Vec::new(steps.alloc());

@@ -32,7 +32,8 @@ pub(crate) fn bind_parameters<'a>(
     parameters: &[Typing],
     arguments: &[Wires],
 ) -> Result<Vec<Binding<'a>>, AllocError>
-    ensures { IfOk result (λ frame. bindings_of frame.items ≡ parameters_bound text.now (map typed_of parameters.now) (map wires_of arguments.now)) }
+    ensures { IfOk result (λ frame. bindings_of frame.items ≡
+        parameters_bound text.now (map typed_of parameters.now) (map wires_of arguments.now)) }
 {
     let mut frame = Vec::new(alloc);
     let number = parameters.len().min(arguments.len());
@@ -49,7 +50,8 @@ pub(crate) fn bind_items<'a>(
     alloc: Global,
     sources: &[Binding<'a>],
 ) -> Result<Vec<Binding<'a>>, AllocError>
-    ensures { IfOk result (λ frame. bindings_of frame.items ≡ items_bound (bindings_of sources.now)) }
+    ensures { IfOk result (λ frame. bindings_of frame.items ≡
+        items_bound (bindings_of sources.now)) }
 {
     let mut frame = Vec::new(alloc);
     for source in sources {

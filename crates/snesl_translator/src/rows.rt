@@ -28,7 +28,8 @@ pub(crate) struct Rows<'a> {
 
 // A body within its binders.
 pub(crate) fn part_of<'a>(text: &'a [u8], binders: &'a [Binder], body: &'a Expr) -> Part<'a>
-    ensures { names_in result ≡ without_binders text.now (binders_of binders.now) (free text.now (tree_of body.now)) }
+    ensures { names_in result ≡ without_binders text.now (binders_of binders.now)
+        (free text.now (tree_of body.now)) }
 {
     Part {
         text,
@@ -45,7 +46,8 @@ pub(crate) fn part_where<'a>(
     condition: &'a Expr,
     body: &'a Expr,
 ) -> Part<'a>
-    ensures { names_in result ≡ without_binders text.now (binders_of binders.now) (free text.now (tree_of condition.now) ++ free text.now (tree_of body.now)) }
+    ensures { names_in result ≡ without_binders text.now (binders_of binders.now)
+        (free text.now (tree_of condition.now) ++ free text.now (tree_of body.now)) }
 {
     Part {
         text,
@@ -64,7 +66,9 @@ pub(crate) fn open_each<'a>(
     sources: &[Binding<'a>],
     scope: &Scope<'a>,
 ) -> Result<Rows<'a>, Refusal>
-    ensures { Adds rows_of steps.old steps.new (each_opened at (names_in part.now) (bindings_of sources.now) (bound_of scope.now) (next_in steps.old)) result }
+    ensures { Adds rows_of steps.old steps.new
+        (each_opened at (names_in part.now) (bindings_of sources.now) (bound_of scope.now)
+        (next_in steps.old)) result }
 {
     let flags = flags_of_first(sources);
     let items = bind_items(steps.alloc(), sources)?;
@@ -89,7 +93,9 @@ pub(crate) fn open_where<'a>(
     truths: usize,
     scope: &Scope<'a>,
 ) -> Result<Rows<'a>, Refusal>
-    ensures { Adds rows_of steps.old steps.new (where_opened at (names_in part.now) (bound_of scope.now) truths (next_in steps.old)) result }
+    ensures { Adds rows_of steps.old steps.new
+        (where_opened at (names_in part.now) (bound_of scope.now) truths
+        (next_in steps.old)) result }
 {
     let segments = flags_of(steps, at, truths)?;
     let outside = keep_all(steps, at, truths, part, scope)?;
@@ -106,7 +112,8 @@ pub(crate) fn open_where<'a>(
 
 // The flags of one sequence for each truth value, which has an element where it is true.
 fn flags_of(steps: &mut Steps, at: usize, truths: usize) -> Result<Wires, Refusal>
-    ensures { Adds wires_of steps.old steps.new (flags_stepped at flag_of_bool (truths ∷ []) (next_in steps.old)) result }
+    ensures { Adds wires_of steps.old steps.new
+        (flags_stepped at flag_of_bool (truths ∷ []) (next_in steps.old)) result }
 {
     let mut reads = Vec::new(steps.alloc());
     reads.push(truths)?;

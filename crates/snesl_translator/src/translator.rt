@@ -53,7 +53,8 @@ pub fn translate(
     scope: &Scope<'_>,
     control: usize,
 ) -> Result<Wires, Refusal>
-    ensures { Adds wires_of steps.old steps.new (translated steps.old setting.now scope.now (tree_of expr.now) control) result }
+    ensures { Adds wires_of steps.old steps.new
+        (translated steps.old setting.now scope.now (tree_of expr.now) control) result }
 {
     // It only hands each form on to a function of its own, and none is inlined into another: its frame, and theirs, are
     // what translation takes of the stack.
@@ -132,7 +133,9 @@ fn binary_form(
     scope: &Scope<'_>,
     control: usize,
 ) -> Result<Wires, Refusal>
-    ensures { Adds wires_of steps.old steps.new (translated steps.old setting.now scope.now (binary at operator (tree_of left.now) (tree_of right.now)) control) result }
+    ensures { Adds wires_of steps.old steps.new
+        (translated steps.old setting.now scope.now
+        (binary at operator (tree_of left.now) (tree_of right.now)) control) result }
 {
     let u = translate(steps, setting, left, scope, control)?;
     let v = translate(steps, setting, right, scope, control)?;
@@ -151,7 +154,9 @@ fn prefix_form(
     scope: &Scope<'_>,
     control: usize,
 ) -> Result<Wires, Refusal>
-    ensures { Adds wires_of steps.old steps.new (translated steps.old setting.now scope.now (prefix at operator (tree_of operand.now)) control) result }
+    ensures { Adds wires_of steps.old steps.new
+        (translated steps.old setting.now scope.now
+        (prefix at operator (tree_of operand.now)) control) result }
 {
     let u = translate(steps, setting, operand, scope, control)?;
     apply_prefix(steps, at, operator, &u)
@@ -168,7 +173,9 @@ fn pair_form(
     scope: &Scope<'_>,
     control: usize,
 ) -> Result<Wires, Refusal>
-    ensures { Adds wires_of steps.old steps.new (translated steps.old setting.now scope.now (pair at (tree_of first.now) (tree_of second.now)) control) result }
+    ensures { Adds wires_of steps.old steps.new
+        (translated steps.old setting.now scope.now
+        (pair at (tree_of first.now) (tree_of second.now)) control) result }
 {
     let u = translate(steps, setting, first, scope, control)?;
     let v = translate(steps, setting, second, scope, control)?;
@@ -188,7 +195,9 @@ fn let_form(
     scope: &Scope<'_>,
     control: usize,
 ) -> Result<Wires, Refusal>
-    ensures { Adds wires_of steps.old steps.new (translated steps.old setting.now scope.now (binding at name (tree_of value.now) (tree_of body.now)) control) result }
+    ensures { Adds wires_of steps.old steps.new
+        (translated steps.old setting.now scope.now
+        (binding at name (tree_of value.now) (tree_of body.now)) control) result }
 {
     let u = translate(steps, setting, value, scope, control)?;
     let frame = one_bound(steps.alloc(), name.spelled(setting.text), u)?;
@@ -206,7 +215,10 @@ fn in_frame<'a>(
     scope: &'a Scope<'a>,
     control: usize,
 ) -> Result<Wires, Refusal>
-    ensures { Adds wires_of steps.old steps.new (tr (dialect_of_steps steps.old) setting.now.text.now (bodies_in (dialect_of_steps steps.old) setting.now) (tree_of body.now) (bindings_of frame.now ++ bound_of scope.now) control (next_in steps.old)) result }
+    ensures { Adds wires_of steps.old steps.new
+        (tr (dialect_of_steps steps.old) setting.now.text.now
+        (bodies_in (dialect_of_steps steps.old) setting.now) (tree_of body.now)
+        (bindings_of frame.now ++ bound_of scope.now) control (next_in steps.old)) result }
 {
     let inner = Scope::Frame(frame, scope);
     let w = translate(steps, setting, body, &inner, control)?;
@@ -226,7 +238,10 @@ fn if_form(
     scope: &Scope<'_>,
     control: usize,
 ) -> Result<Wires, Refusal>
-    ensures { Adds wires_of steps.old steps.new (translated steps.old setting.now scope.now (choice at (tree_of condition.now) (tree_of positive.now) (tree_of negative.now)) control) result }
+    ensures { Adds wires_of steps.old steps.new
+        (translated steps.old setting.now scope.now
+        (choice at (tree_of condition.now) (tree_of positive.now)
+        (tree_of negative.now)) control) result }
 {
     let d = translate(steps, setting, condition, scope, control)?;
     let u = filtered(steps, setting, at, positive, scope, d.stream())?;
@@ -245,7 +260,11 @@ fn otherwise(
     scope: &Scope<'_>,
     condition: &Wires,
 ) -> Result<Wires, Refusal>
-    ensures { Adds wires_of steps.old steps.new (and_then (prefix_streams (dialect_of_steps steps.old) at Not (wires_of condition.now) (next_in steps.old)) (λ e k. filtered_in (dialect_of_steps steps.old) setting.now scope.now at (tree_of item.now) (stream_of e) k)) result }
+    ensures { Adds wires_of steps.old steps.new
+        (and_then (prefix_streams (dialect_of_steps steps.old) at Not (wires_of condition.now)
+        (next_in steps.old)) (λ e k. filtered_in
+        (dialect_of_steps steps.old) setting.now scope.now at (tree_of item.now)
+        (stream_of e) k)) result }
 {
     let e = apply_prefix(steps, at, Prefix::Not, condition)?;
     filtered(steps, setting, at, item, scope, e.stream())
@@ -263,7 +282,9 @@ fn built_in(
     scope: &Scope<'_>,
     control: usize,
 ) -> Result<Wires, Refusal>
-    ensures { Adds wires_of steps.old steps.new (translated steps.old setting.now scope.now (call at function (trees_of arguments.now)) control) result }
+    ensures { Adds wires_of steps.old steps.new
+        (translated steps.old setting.now scope.now
+        (call at function (trees_of arguments.now)) control) result }
 {
     let us = all_translated(steps, setting, arguments, scope, control)?;
     apply_built_in(steps, at, function, &us)
@@ -280,7 +301,9 @@ fn call_form(
     scope: &Scope<'_>,
     control: usize,
 ) -> Result<Wires, Refusal>
-    ensures { Adds wires_of steps.old steps.new (translated steps.old setting.now scope.now (apply function (trees_of arguments.now)) control) result }
+    ensures { Adds wires_of steps.old steps.new
+        (translated steps.old setting.now scope.now
+        (apply function (trees_of arguments.now)) control) result }
 {
     let us = all_translated(steps, setting, arguments, scope, control)?;
     called(steps, setting, function, &us, control)
@@ -296,7 +319,10 @@ fn called(
     arguments: &[Wires],
     control: usize,
 ) -> Result<Wires, Refusal>
-    ensures { Adds wires_of steps.old steps.new (bodies_in (dialect_of_steps steps.old) setting.now name.at (spelling setting.now.text.now name) (map wires_of arguments.now) control (next_in steps.old)) result }
+    ensures { Adds wires_of steps.old steps.new
+        (bodies_in (dialect_of_steps steps.old) setting.now name.at
+        (spelling setting.now.text.now name) (map wires_of arguments.now) control
+        (next_in steps.old)) result }
 {
     let bytes = name.spelled(setting.text);
     match find_function(bytes, setting.text, setting.functions) {
@@ -316,7 +342,9 @@ fn enter(
     arguments: &[Wires],
     control: usize,
 ) -> Result<Wires, Refusal>
-    ensures { Adds wires_of steps.old steps.new (entered (dialect_of_steps steps.old) setting.now.text.now function.now earlier.now (map wires_of arguments.now) control (next_in steps.old)) result }
+    ensures { Adds wires_of steps.old steps.new
+        (entered (dialect_of_steps steps.old) setting.now.text.now function.now earlier.now
+        (map wires_of arguments.now) control (next_in steps.old)) result }
 {
     let inner = Setting {
         text: &*setting.text,
@@ -339,7 +367,9 @@ fn literal_form(
     scope: &Scope<'_>,
     control: usize,
 ) -> Result<Wires, Refusal>
-    ensures { Adds wires_of steps.old steps.new (translated steps.old setting.now scope.now (literal at (trees_of items.now)) control) result }
+    ensures { Adds wires_of steps.old steps.new
+        (translated steps.old setting.now scope.now
+        (literal at (trees_of items.now)) control) result }
 {
     match items.split_first() {
         Some((first, others)) => {
@@ -362,7 +392,9 @@ fn further(
     scope: &Scope<'_>,
     control: usize,
 ) -> Result<Wires, Refusal>
-    ensures { Adds wires_of steps.old steps.new (further_in (dialect_of_steps steps.old) setting.now scope.now at (wires_of sequence) (trees_of items.now) control (next_in steps.old)) result }
+    ensures { Adds wires_of steps.old steps.new
+        (further_in (dialect_of_steps steps.old) setting.now scope.now at (wires_of sequence)
+        (trees_of items.now) control (next_in steps.old)) result }
 {
     let mut all = sequence;
     for item in items {
@@ -384,7 +416,9 @@ fn filter_form(
     scope: &Scope<'_>,
     control: usize,
 ) -> Result<Wires, Refusal>
-    ensures { Adds wires_of steps.old steps.new (translated steps.old setting.now scope.now (filter at (tree_of item.now) (tree_of condition.now)) control) result }
+    ensures { Adds wires_of steps.old steps.new
+        (translated steps.old setting.now scope.now
+        (filter at (tree_of item.now) (tree_of condition.now)) control) result }
 {
     let d = translate(steps, setting, condition, scope, control)?;
     filtered(steps, setting, at, item, scope, d.stream())
@@ -402,7 +436,9 @@ fn each_form(
     scope: &Scope<'_>,
     control: usize,
 ) -> Result<Wires, Refusal>
-    ensures { Adds wires_of steps.old steps.new (translated steps.old setting.now scope.now (each at (tree_of body.now) (binders_of binders.now) always) control) result }
+    ensures { Adds wires_of steps.old steps.new
+        (translated steps.old setting.now scope.now
+        (each at (tree_of body.now) (binders_of binders.now) always) control) result }
 {
     let sources = all_sources(steps, setting, binders, scope, control)?;
     each_over(steps, setting, at, body, binders, &sources, scope)
@@ -420,7 +456,9 @@ fn each_over(
     sources: &[Binding<'_>],
     scope: &Scope<'_>,
 ) -> Result<Wires, Refusal>
-    ensures { Adds wires_of steps.old steps.new (each_behind (dialect_of_steps steps.old) setting.now scope.now at (bindings_of sources.now) (tree_of body.now) (binders_of binders.now) (next_in steps.old)) result }
+    ensures { Adds wires_of steps.old steps.new
+        (each_behind (dialect_of_steps steps.old) setting.now scope.now at (bindings_of sources.now)
+        (tree_of body.now) (binders_of binders.now) (next_in steps.old)) result }
 {
     let part = part_of(&*setting.text, &*binders, &*body);
     let rows = open_each(steps, at, &part, &*sources, &*scope)?;
@@ -440,7 +478,10 @@ fn each_where(
     scope: &Scope<'_>,
     control: usize,
 ) -> Result<Wires, Refusal>
-    ensures { Adds wires_of steps.old steps.new (translated steps.old setting.now scope.now (each at (tree_of body.now) (binders_of binders.now) (only_where (tree_of condition.now))) control) result }
+    ensures { Adds wires_of steps.old steps.new
+        (translated steps.old setting.now scope.now
+        (each at (tree_of body.now) (binders_of binders.now)
+        (only_where (tree_of condition.now))) control) result }
 {
     let sources = all_sources(steps, setting, binders, scope, control)?;
     where_over(
@@ -461,7 +502,10 @@ fn where_over(
     sources: &[Binding<'_>],
     scope: &Scope<'_>,
 ) -> Result<Wires, Refusal>
-    ensures { Adds wires_of steps.old steps.new (where_behind (dialect_of_steps steps.old) setting.now scope.now at (bindings_of sources.now) (tree_of body.now) (tree_of condition.now) (binders_of binders.now) (next_in steps.old)) result }
+    ensures { Adds wires_of steps.old steps.new
+        (where_behind (dialect_of_steps steps.old) setting.now scope.now at
+        (bindings_of sources.now) (tree_of body.now) (tree_of condition.now)
+        (binders_of binders.now) (next_in steps.old)) result }
 {
     let part = part_where(&*setting.text, &*binders, &*condition, &*body);
     let rows = open_each(steps, at, &part, &*sources, &*scope)?;
@@ -478,7 +522,9 @@ fn all_translated(
     scope: &Scope<'_>,
     control: usize,
 ) -> Result<Vec<Wires>, Refusal>
-    ensures { Adds (λ us. map wires_of us.items) steps.old steps.new (all_in (dialect_of_steps steps.old) setting.now scope.now (trees_of exprs.now) control (next_in steps.old)) result }
+    ensures { Adds (λ us. map wires_of us.items) steps.old steps.new
+        (all_in (dialect_of_steps steps.old) setting.now scope.now (trees_of exprs.now) control
+        (next_in steps.old)) result }
 {
     let mut us = Vec::new(steps.alloc());
     for expr in exprs {
@@ -498,7 +544,9 @@ fn all_sources<'a>(
     scope: &Scope<'_>,
     control: usize,
 ) -> Result<Vec<Binding<'a>>, Refusal>
-    ensures { Adds (λ sources. bindings_of sources.items) steps.old steps.new (binders_in (dialect_of_steps steps.old) setting.now scope.now (binders_of binders.now) control (next_in steps.old)) result }
+    ensures { Adds (λ sources. bindings_of sources.items) steps.old steps.new
+        (binders_in (dialect_of_steps steps.old) setting.now scope.now
+        (binders_of binders.now) control (next_in steps.old)) result }
 {
     let mut sources = Vec::new(steps.alloc());
     for binder in binders {
@@ -520,7 +568,9 @@ fn single(
     scope: &Scope<'_>,
     control: usize,
 ) -> Result<Wires, Refusal>
-    ensures { Adds wires_of steps.old steps.new (single_in (dialect_of_steps steps.old) setting.now scope.now at (tree_of item.now) control (next_in steps.old)) result }
+    ensures { Adds wires_of steps.old steps.new
+        (single_in (dialect_of_steps steps.old) setting.now scope.now at (tree_of item.now) control
+        (next_in steps.old)) result }
 {
     let truths = always_true(steps, at, control)?;
     filtered(steps, setting, at, item, scope, truths)
@@ -537,7 +587,9 @@ fn filtered(
     scope: &Scope<'_>,
     truths: usize,
 ) -> Result<Wires, Refusal>
-    ensures { Adds wires_of steps.old steps.new (filtered_in (dialect_of_steps steps.old) setting.now scope.now at (tree_of item.now) truths (next_in steps.old)) result }
+    ensures { Adds wires_of steps.old steps.new
+        (filtered_in (dialect_of_steps steps.old) setting.now scope.now at (tree_of item.now) truths
+        (next_in steps.old)) result }
 {
     let part = part_of(&*setting.text, &[], &*item);
     let rows = open_where(steps, at, &part, truths, &*scope)?;
@@ -553,7 +605,9 @@ fn in_rows(
     body: &Expr,
     rows: &Rows<'_>,
 ) -> Result<Wires, Refusal>
-    ensures { Adds wires_of steps.old steps.new (body_in (dialect_of_steps steps.old) setting.now (rows_of rows.now) (tree_of body.now) (next_in steps.old)) result }
+    ensures { Adds wires_of steps.old steps.new
+        (body_in (dialect_of_steps steps.old) setting.now (rows_of rows.now) (tree_of body.now)
+        (next_in steps.old)) result }
 {
     let nothing = Scope::Nothing;
     let outside = Scope::Frame(&rows.outside, &nothing);
@@ -574,7 +628,9 @@ fn where_true(
     condition: &Expr,
     rows: &Rows<'_>,
 ) -> Result<Wires, Refusal>
-    ensures { Adds wires_of steps.old steps.new (where_in (dialect_of_steps steps.old) setting.now (rows_of rows.now) at (tree_of body.now) (tree_of condition.now) (next_in steps.old)) result }
+    ensures { Adds wires_of steps.old steps.new
+        (where_in (dialect_of_steps steps.old) setting.now (rows_of rows.now) at (tree_of body.now)
+        (tree_of condition.now) (next_in steps.old)) result }
 {
     let nothing = Scope::Nothing;
     let outside = Scope::Frame(&rows.outside, &nothing);

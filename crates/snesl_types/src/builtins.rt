@@ -37,7 +37,8 @@ fn part_type(
     source: &Ty,
     flags: &Ty,
 ) -> Result<Ty, Refusal>
-    ensures { IsAnswer ty_of (of_builtin at function (ty_of source.now ∷ ty_of flags.now ∷ [])) result }
+    ensures { IsAnswer ty_of (of_builtin at function
+        (ty_of source.now ∷ ty_of flags.now ∷ [])) result }
 {
     match (function, source, flags) {
         (Builtin::Part, Ty::Seq(_), Ty::Seq(flag)) if flag.is(&Ty::Bool) => {
@@ -66,7 +67,8 @@ fn component_type(
     first: &Ty,
     second: &Ty,
 ) -> Result<Ty, Refusal>
-    ensures { IsAnswer ty_of (of_builtin at function (pair (ty_of first.now) (ty_of second.now) ∷ [])) result }
+    ensures { IsAnswer ty_of (of_builtin at function
+        (pair (ty_of first.now) (ty_of second.now) ∷ [])) result }
 {
     match function {
         Builtin::Fst => Ok(copy_ty(alloc, first)?),

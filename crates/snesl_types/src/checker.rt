@@ -30,11 +30,14 @@ const GREATEST_SIZE: usize = 65_536;
 /// else. `NoMemory` where memory ran out.
 pub fn check(alloc: Global, program: &Program) -> Result<Typed<'_>, Refusal>
     ensures program { IfOk result (λ typed. program_of typed ≡ program.now) }
-    ensures typed { IfOk result (λ typed. HasTyping program.now.text.items (tree_of_program program.now) (typed_inputs typed) (typed_ty typed)) }
-    ensures refused { IfErr result (IsFirstViolation program.now.text.items (tree_of_program program.now)) }
+    ensures typed { IfOk result (λ typed. HasTyping program.now.text.items
+        (tree_of_program program.now) (typed_inputs typed) (typed_ty typed)) }
+    ensures refused { IfErr result (IsFirstViolation program.now.text.items
+        (tree_of_program program.now)) }
 
     // A program that has a type is refused for want of memory only.
-    ensures accepts { IfErr result (IsMemoryIfTyped program.now.text.items (tree_of_program program.now)) }
+    ensures accepts { IfErr result (IsMemoryIfTyped program.now.text.items
+        (tree_of_program program.now)) }
 {
     let (declarations, ty) = typing_of(alloc, program)?;
     Ok(Typed {
@@ -46,7 +49,8 @@ pub fn check(alloc: Global, program: &Program) -> Result<Typed<'_>, Refusal>
 
 // What a program declares, and its type.
 fn typing_of(alloc: Global, program: &Program) -> Result<(Declarations, Ty), Refusal>
-    ensures { IsAnswer (typing_in program.now.text.items) (program_verdict program.now.text.items (tree_of_program program.now)) result }
+    ensures { IsAnswer (typing_in program.now.text.items)
+        (program_verdict program.now.text.items (tree_of_program program.now)) result }
 {
     if !few(&program.declarations) {
         return Err(Refusal::TooBig);
@@ -75,7 +79,9 @@ fn final_type(
     declarations: &Declarations,
     expr: &Expr,
 ) -> Result<Ty, Refusal>
-    ensures { IsAnswer (λ ty. (declared_in text.now declarations.now, ty_of ty)) (expression_verdict dialect text.now (declared_in text.now declarations.now) (tree_of expr.now)) result }
+    ensures { IsAnswer (λ ty. (declared_in text.now declarations.now, ty_of ty))
+        (expression_verdict dialect text.now (declared_in text.now declarations.now)
+        (tree_of expr.now)) result }
 {
     let names = Names::Declared(&declarations.inputs);
     let scope = Scope {

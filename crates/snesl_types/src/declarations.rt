@@ -62,7 +62,9 @@ pub(crate) fn declarations_of(
     text: &[u8],
     declarations: &[Declaration],
 ) -> Result<Declarations, Refusal>
-    ensures { IsAnswer (declared_in text.now) (declarations_verdict dialect text.now nothing_declared (map declaration_tree declarations.now)) result }
+    ensures { IsAnswer (declared_in text.now)
+        (declarations_verdict dialect text.now nothing_declared
+        (map declaration_tree declarations.now)) result }
 {
     let mut inputs = Vec::new(alloc);
     let mut functions = Vec::new(alloc);
@@ -89,8 +91,12 @@ fn function_of(
     functions: &[Function],
     written: &WrittenFunction,
 ) -> Result<Function, Refusal>
-    ensures signature { IsAnswer (signature_in text.now) (function_verdict dialect text.now (signatures_in text.now functions.now) written.now.name (map typed_of written.now.parameters.items) (type_tree written.now.result) (tree_of written.now.body)) result }
-    ensures size { IfOk result (λ function. function.size ≡ capped (size text.now (sizes_in text.now functions.now) (tree_of written.now.body))) }
+    ensures signature { IsAnswer (signature_in text.now)
+        (function_verdict dialect text.now (signatures_in text.now functions.now) written.now.name
+        (map typed_of written.now.parameters.items) (type_tree written.now.result)
+        (tree_of written.now.body)) result }
+    ensures size { IfOk result (λ function. function.size ≡
+        capped (size text.now (sizes_in text.now functions.now) (tree_of written.now.body))) }
 {
     let name = written.name;
     if function_named(text, name, functions).is_some() {
@@ -124,7 +130,8 @@ fn parameters_of(
     text: &[u8],
     written: &[Typing],
 ) -> Result<Vec<(Vec<u8>, Ty)>, Refusal>
-    ensures { IsAnswer (λ names. declared names.items) (names_verdict text.now [] (map typed_of written.now)) result }
+    ensures { IsAnswer (λ names. declared names.items)
+        (names_verdict text.now [] (map typed_of written.now)) result }
 {
     let mut names = Vec::new(alloc);
     for typing in written {
@@ -141,7 +148,8 @@ fn named(
     earlier: &[(Vec<u8>, Ty)],
     typing: &Typing,
 ) -> Result<(Vec<u8>, Ty), Refusal>
-    ensures { IsAnswer declaration_of (name_verdict text.now (declared earlier.now) (typed_of typing.now)) result }
+    ensures { IsAnswer declaration_of (name_verdict text.now (declared earlier.now)
+        (typed_of typing.now)) result }
 {
     let bytes = typing.name.spelled(text);
     if type_in(bytes, earlier).is_some() {

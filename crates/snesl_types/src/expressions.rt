@@ -133,7 +133,9 @@ fn both_types(
     first: &Expr,
     second: &Expr,
 ) -> Result<(Ty, Ty), Refusal>
-    ensures { IsAnswer (λ types. (ty_of types.0, ty_of types.1)) (both_of (typed_in scope.now (tree_of first.now)) (typed_in scope.now (tree_of second.now))) result }
+    ensures { IsAnswer (λ types. (ty_of types.0, ty_of types.1))
+        (both_of (typed_in scope.now (tree_of first.now))
+        (typed_in scope.now (tree_of second.now))) result }
 {
     let first = type_of(alloc, scope, first)?;
     let second = type_of(alloc, scope, second)?;
@@ -149,7 +151,8 @@ fn let_type(
     value: &Expr,
     body: &Expr,
 ) -> Result<Ty, Refusal>
-    ensures { IsAnswer ty_of (ruled_in scope.now (binding name.at name (tree_of value.now) (tree_of body.now))) result }
+    ensures { IsAnswer ty_of (ruled_in scope.now
+        (binding name.at name (tree_of value.now) (tree_of body.now))) result }
 {
     let value = type_of(alloc, scope, value)?;
     let names = Names::Bound {
@@ -170,7 +173,8 @@ fn if_type(
     positive: &Expr,
     negative: &Expr,
 ) -> Result<Ty, Refusal>
-    ensures { IsAnswer ty_of (ruled_in scope.now (choice at (tree_of condition.now) (tree_of positive.now) (tree_of negative.now))) result }
+    ensures { IsAnswer ty_of (ruled_in scope.now
+        (choice at (tree_of condition.now) (tree_of positive.now) (tree_of negative.now))) result }
 {
     let condition = type_of(alloc, scope, condition)?;
     let (positive, negative) = both_types(alloc, scope, positive, negative)?;
@@ -195,7 +199,8 @@ fn condition_type(
 // The types of arguments or items, from left to right.
 #[cycle(typing)]
 fn types_of(alloc: Global, scope: &Scope<'_>, arguments: &[Expr]) -> Result<Vec<Ty>, Refusal>
-    ensures { IsAnswer (λ types. map ty_of types.items) (all_typed_in scope.now [] (trees_of arguments.now)) result }
+    ensures { IsAnswer (λ types. map ty_of types.items)
+        (all_typed_in scope.now [] (trees_of arguments.now)) result }
 {
     let mut types = Vec::new(alloc);
     for argument in arguments {
@@ -212,7 +217,8 @@ fn binder_types(
     scope: &Scope<'_>,
     binders: &[Binder],
 ) -> Result<Vec<(Vec<u8>, Ty)>, Refusal>
-    ensures { IsAnswer (λ items. declared items.items) (binders_typed_in scope.now [] (binders_of binders.now)) result }
+    ensures { IsAnswer (λ items. declared items.items)
+        (binders_typed_in scope.now [] (binders_of binders.now)) result }
 {
     let mut items = Vec::new(alloc);
     for binder in binders {
@@ -239,7 +245,9 @@ fn item_type(alloc: Global, name: Span, taken: bool, source: &Ty) -> Result<Ty, 
 
 // The type that a variable stands for.
 fn variable_type(alloc: Global, scope: &Scope<'_>, name: Span) -> Result<Ty, Refusal>
-    ensures { IsAnswer ty_of (of_binding name (found (spelling scope.now.text.now name) (context_of scope.now.text.now scope.now.names.now))) result }
+    ensures { IsAnswer ty_of (of_binding name
+        (found (spelling scope.now.text.now name)
+        (context_of scope.now.text.now scope.now.names.now))) result }
 {
     match look_up(scope.text, name, scope.names, false) {
         Meaning::Unbound => Err(Refusal::Name(name.at)),
@@ -250,7 +258,9 @@ fn variable_type(alloc: Global, scope: &Scope<'_>, name: Span) -> Result<Ty, Ref
 
 // The type of a declared function's result, at arguments of these types.
 fn call_type(alloc: Global, scope: &Scope<'_>, name: Span, types: &[Ty]) -> Result<Ty, Refusal>
-    ensures { IsAnswer ty_of (of_function name (map ty_of types.now) (function_among (spelling scope.now.text.now name) (signatures_in scope.now.text.now scope.now.functions.now))) result }
+    ensures { IsAnswer ty_of (of_function name (map ty_of types.now)
+        (function_among (spelling scope.now.text.now name)
+        (signatures_in scope.now.text.now scope.now.functions.now))) result }
 {
     match function_named(scope.text, name, scope.functions) {
         None => Err(Refusal::Name(name.at)),

@@ -51,7 +51,8 @@ pub(crate) fn operator_type(
     left: &Ty,
     right: &Ty,
 ) -> Result<Ty, Refusal>
-    ensures { IsAnswer ty_of (or_refused (Mismatch at) (operator_result operator (ty_of left.now) (ty_of right.now))) result }
+    ensures { IsAnswer ty_of (or_refused (Mismatch at)
+        (operator_result operator (ty_of left.now) (ty_of right.now))) result }
 {
     match (left, right) {
         (Ty::Int, Ty::Int) => integers_type(at, operator),
@@ -85,7 +86,8 @@ fn integers_type(at: usize, operator: Operator) -> Result<Ty, Refusal>
 
 // Of two truth values.
 fn truths_type(at: usize, operator: Operator) -> Result<Ty, Refusal>
-    ensures { IsAnswer ty_of (or_refused (Mismatch at) (operator_result operator bool bool)) result }
+    ensures { IsAnswer ty_of (or_refused (Mismatch at)
+        (operator_result operator bool bool)) result }
 {
     match operator {
         Operator::Or | Operator::And | Operator::Equal => Ok(Ty::Bool),
@@ -101,7 +103,8 @@ fn append_type(
     item: &Ty,
     other: &Ty,
 ) -> Result<Ty, Refusal>
-    ensures { IsAnswer ty_of (or_refused (Mismatch at) (operator_result operator (seq (ty_of item.now)) (seq (ty_of other.now)))) result }
+    ensures { IsAnswer ty_of (or_refused (Mismatch at)
+        (operator_result operator (seq (ty_of item.now)) (seq (ty_of other.now)))) result }
 {
     match operator {
         Operator::Append if item.is(other) => {
@@ -114,7 +117,8 @@ fn append_type(
 
 // Of a vector of such items and an integer.
 fn index_type(alloc: Global, at: usize, operator: Operator, item: &Ty) -> Result<Ty, Refusal>
-    ensures { IsAnswer ty_of (or_refused (Mismatch at) (operator_result operator (vec (ty_of item.now)) int)) result }
+    ensures { IsAnswer ty_of (or_refused (Mismatch at)
+        (operator_result operator (vec (ty_of item.now)) int)) result }
 {
     match operator {
         Operator::Index => Ok(copy_ty(alloc, item)?),
@@ -124,7 +128,8 @@ fn index_type(alloc: Global, at: usize, operator: Operator, item: &Ty) -> Result
 
 // The type of a prefix operator's value.
 pub(crate) fn prefix_type(at: usize, operator: Prefix, operand: &Ty) -> Result<Ty, Refusal>
-    ensures { IsAnswer ty_of (or_refused (Mismatch at) (prefix_result operator (ty_of operand.now))) result }
+    ensures { IsAnswer ty_of (or_refused (Mismatch at)
+        (prefix_result operator (ty_of operand.now))) result }
 {
     match (operator, operand) {
         (Prefix::Negate, Ty::Int) => Ok(Ty::Int),
@@ -160,7 +165,8 @@ fn all_same(ty: &Ty, others: &[Ty]) -> bool
 
 // Whether arguments of these types are what the parameters take.
 pub(crate) fn arguments_fit(types: &[Ty], parameters: &[(Vec<u8>, Ty)]) -> bool
-    ensures { result ≡ are_same (map ty_of types.now) (map (λ parameter. parameter.1) (declared parameters.now)) }
+    ensures { result ≡ are_same (map ty_of types.now)
+        (map (λ parameter. parameter.1) (declared parameters.now)) }
 {
     if types.len() != parameters.len() {
         return false;
@@ -180,7 +186,8 @@ pub(crate) fn choice_type(
     positive: Ty,
     negative: &Ty,
 ) -> Result<Ty, Refusal>
-    ensures { IsAnswer ty_of (of_choice at (ty_of condition.now) (ty_of positive) (ty_of negative.now)) result }
+    ensures { IsAnswer ty_of (of_choice at (ty_of condition.now) (ty_of positive)
+        (ty_of negative.now)) result }
 {
     if condition.is(&Ty::Bool) && positive.is(negative) {
         Ok(positive)
@@ -208,7 +215,8 @@ pub(crate) fn each_type(
     body: Ty,
     condition: &Ty,
 ) -> Result<Ty, Refusal>
-    ensures { IsAnswer ty_of (of_each at (binders_of binders.now) (ty_of body) (ty_of condition.now)) result }
+    ensures { IsAnswer ty_of (of_each at (binders_of binders.now) (ty_of body)
+        (ty_of condition.now)) result }
 {
     match binders {
         [] => Err(Refusal::Mismatch(at)),

@@ -81,7 +81,8 @@ pub(crate) fn look_up<'a>(
     names: &'a Names<'a>,
     crossed: bool,
 ) -> Meaning<'a>
-    ensures { meaning_of result ≡ seen crossed (found (spelling text.now name) (context_of text.now names.now)) }
+    ensures { meaning_of result ≡ seen crossed
+        (found (spelling text.now name) (context_of text.now names.now)) }
 {
     match names {
         Names::Declared(all) => match type_in(name.spelled(text), all) {
@@ -135,7 +136,8 @@ pub(crate) fn function_named<'a>(
     name: Span,
     functions: &'a [Function],
 ) -> Option<&'a Function>
-    ensures { option_map (λ function. signature_in text.now function.now) result ≡ function_among (spelling text.now name) (signatures_in text.now functions.now) }
+    ensures { option_map (λ function. signature_in text.now function.now) result ≡
+        function_among (spelling text.now name) (signatures_in text.now functions.now) }
 {
     for function in functions {
         if function.name.spelled(text) == name.spelled(text) {

@@ -32,7 +32,8 @@ pub fn plain(
 ) -> Result<Result<Datum, Fault>, AllocError>
     requires in_dialect { dialect_of inputs.now ≡ typed_dialect typed.now }
     requires fits { declarations_of inputs.now ≡ typed_inputs typed.now }
-    ensures exact { IfOk result (λ answer. IsAnswer answer (program_value (typed_text typed.now) (typed_tree typed.now) (environment_of inputs.now))) }
+    ensures exact { IfOk result (λ answer. IsAnswer answer
+        (program_value (typed_text typed.now) (typed_tree typed.now) (environment_of inputs.now))) }
     ensures sound { IfOk result (IsSound (typed_dialect typed.now) (typed_ty typed.now)) }
 {
     inputs_fit(inputs);

@@ -80,7 +80,8 @@ pub(crate) fn size_of(text: &[u8], functions: &[Function], expr: &Expr) -> usize
 // The sizes of arguments or items together.
 #[cycle(sizes)]
 fn size_of_all(text: &[u8], functions: &[Function], all: &[Expr]) -> usize
-    ensures { result ≡ capped (sum_of_sizes text.now (sizes_in text.now functions.now) (trees_of all.now)) }
+    ensures { result ≡ capped (sum_of_sizes text.now (sizes_in text.now functions.now)
+        (trees_of all.now)) }
 {
     let mut total = 0;
     for expr in all {
@@ -93,7 +94,8 @@ fn size_of_all(text: &[u8], functions: &[Function], all: &[Expr]) -> usize
 // The sizes of the sequences of binders together.
 #[cycle(sizes)]
 fn size_of_binders(text: &[u8], functions: &[Function], binders: &[Binder]) -> usize
-    ensures { result ≡ capped (sum_over_binders text.now (sizes_in text.now functions.now) (binders_of binders.now)) }
+    ensures { result ≡ capped (sum_over_binders text.now (sizes_in text.now functions.now)
+        (binders_of binders.now)) }
 {
     let mut total = 0;
     for binder in binders {
@@ -106,7 +108,8 @@ fn size_of_binders(text: &[u8], functions: &[Function], binders: &[Binder]) -> u
 // The size of a condition, 0 where there is none.
 #[cycle(sizes)]
 fn size_of_condition(text: &[u8], functions: &[Function], condition: &Option<Box<Expr>>) -> usize
-    ensures { result ≡ capped (condition_size text.now (sizes_in text.now functions.now) (condition_in condition.now)) }
+    ensures { result ≡ capped (condition_size text.now (sizes_in text.now functions.now)
+        (condition_in condition.now)) }
 {
     match condition {
         Some(condition) => size_of(text, functions, condition),

@@ -47,7 +47,8 @@ impl<'a> Typed<'a> {
     /// Whether the inputs were read for the program: in its dialect, and for the names and types of the
     /// declared inputs, in this order.
     pub fn fits(&self, inputs: &Inputs) -> bool
-        ensures { IsTrue result ↔ ((dialect_of inputs.now ≡ typed_dialect self.now) × (declarations_of inputs.now ≡ typed_inputs self.now)) }
+        ensures { IsTrue result ↔ ((dialect_of inputs.now ≡ typed_dialect self.now) ×
+            (declarations_of inputs.now ≡ typed_inputs self.now)) }
     {
         inputs.dialect() == self.program.dialect && same_decls(inputs.decls(), &self.inputs)
     }
