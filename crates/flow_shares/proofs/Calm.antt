@@ -1,5 +1,5 @@
 -- Visits in which no node made a step: each was stuck before, and still is.
-use Rattle.std.proofs.Common.{◌≡◌, ◌≢◌, ℕ, ◌+◌, ◌<◌, ◌≤◌, List, length, get_or, set, ◌⊎◌, inl, inr, refl, sym, ◌∙◌, ap, subst, arith, length-append, get_or-set_other}
+use Rattle.std.proofs.Common.{◌≡◌, ◌≢◌, ℕ, ◌+◌, ◌<◌, ◌≤◌, true, List, length, get_or, set, ◌⊎◌, inl, inr, refl, sym, ◌∙◌, ap, subst, arith, length-append, get_or-set_other}
 use Rattle.std.proofs.lemmas.Bool.{cases_eq}
 use Rattle.std.proofs.lemmas.List.Elements.{All-from_get_or}
 use mathlib.Core.List.{IsPrefix}
@@ -12,6 +12,7 @@ use Rattle.flow_base.specs.declared.transducer.Transducer.{Ghosts}
 use Rattle.flow_base.specs.Visits.{edge_of, IsNone, LeavesAlone, IsStuck}
 use Rattle.flow_base.proofs.Carried.{prefix_same, prefix_then}
 use Rattle.flow_graph.specs.declared.placed.Placed.{Placed}
+use Rattle.flow_graph.specs.Over.{is_over}
 use Rattle.flow_graph.specs.Places.{placed_state, IsSamePlace}
 use Rattle.flow_graph.specs.Layouts.{AreSamePlaces}
 use Rattle.flow_shares.specs.Shares.{inputs_of, outputs_of, AreApart, AreStuck}
@@ -32,6 +33,13 @@ module _ (a v : View) (more_coming : (e : ℕ) → IsPrefix (a.coming e) (v.comi
   stuck_before ins outs (Write q) full = omega (arith, full, more_room (edge_of outs q))
   stuck_before ins outs Ended h = h
   stuck_before ins outs (Faulted fault) h = h
+
+-- what is over wants nothing
+over_stuck : (ins outs : List ℕ) (v : View) (want : Want) → is_over want ≡ true → IsStuck ins outs v want
+over_stuck ins outs v (Read p) over = absurd (cc)
+over_stuck ins outs v (Write q) over = absurd (cc)
+over_stuck ins outs v Ended over = tt
+over_stuck ins outs v (Faulted fault) over = tt
 
 module _ {X : Type 0} {t : Ghosts X} where
   -- the node cannot step by what its ends are certain of
@@ -54,6 +62,23 @@ module _ {X : Type 0} {t : Ghosts X} where
     state = λ j d l. refl;
     stuck = λ j d low l. absurd (omega (arith, low));
   }
+
+  -- one node more is over
+  pub calm_over : (nodes later : List (Placed X t)) (a v : View) (k : ℕ) (x : Placed X t) → k < length later → x ≡ get_or later k x
+      → is_over (t.behaviour.process.want (placed_state x)) ≡ true → AreCalm k nodes later a v → AreCalm (k + 1) nodes later a v
+  calm_over nodes later a v k x inside is over calm = record {
+    traffic = calm.traffic;
+    more_coming = calm.more_coming;
+    more_room = calm.more_room;
+    state = calm.state;
+    stuck = λ j d low l. go j d low l (cases_eq j k);
+  }
+    where
+      go : (j : ℕ) (d : Placed X t) → j < k + 1 → j < length nodes → (j ≡ k) ⊎ (j ≡ k → ⊥) → Stuck v (get_or later j d)
+      go j d low l (inl at) =
+          subst (λ (i : ℕ). Stuck v (get_or later i d)) (sym at)
+          (subst (λ (z : Placed X t). Stuck v z) (sym (it_is later k x x inside is d)) (over_stuck (inputs_of x) (outputs_of x) v (t.behaviour.process.want (placed_state x)) over))
+      go j d low l (inr other) = calm.stuck j d (omega (arith, low, other)) l
 
   -- what another node does not disturb
   module _ (laws : BehaviourLaws t.behaviour) (z : Placed X t) (ins outs : List ℕ) (v w : View) (alone : LeavesAlone ins outs v w)

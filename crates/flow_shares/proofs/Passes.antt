@@ -8,6 +8,7 @@ use Rattle.flow_base.specs.declared.transducer.Transducer.{Ghosts}
 use Rattle.flow_base.specs.Visits.{Visited, BrokeOff}
 use Rattle.flow_base.proofs.Carried.{same_ends_refl, same_ends_then}
 use Rattle.flow_graph.specs.declared.placed.Placed.{Placed}
+use Rattle.flow_graph.specs.Over.{is_over}
 use Rattle.flow_graph.specs.Places.{placed_state, IsSamePlace}
 use Rattle.flow_graph.specs.Layouts.{AreSamePlaces}
 use Rattle.flow_shares.specs.Shares.{inputs_of, outputs_of, HasItsEnds, IsOwn, AreApart, TakesMemory, HaveMoved, HaveMovedAndLost, SpareOthers}
@@ -17,10 +18,10 @@ use Rattle.flow_shares.proofs.Between.{moved_grows, same_first, same_second}
 use Rattle.flow_shares.proofs.Visits.{visit_moved, visit_history, visit_lost, visit_starves}
 use Rattle.flow_shares.proofs.Busy.{quiet}
 use Rattle.flow_shares.proofs.Spares.{spared_none, visit_spares, spared_then}
-use Rattle.flow_shares.proofs.Calm.{AreCalm, calm_none, calm_next}
+use Rattle.flow_shares.proofs.Calm.{AreCalm, calm_none, calm_over, calm_next}
 
 module _ {X : Type 0} {t : Ghosts X} where
-  -- The nodes before n had their visit; `any` says whether one of them made a step.
+  -- The nodes before n had their visit, or are over; `any` says whether one of them made a step.
   pub record Passed (n : ℕ) (nodes later : List (Placed X t)) (a v : View) (any : Bool) : Type 0 where
     pub places : AreSamePlaces nodes later
     pub ends : SameEnds a v
@@ -37,6 +38,23 @@ module _ {X : Type 0} {t : Ghosts X} where
     spares = spared_none nodes a;
     busy = λ h. cc;
     calm = λ h. calm_none nodes a;
+  }
+
+  pub passed_out : (n : ℕ) (nodes later out : List (Placed X t)) (a v w : View) (any one : Bool) → out ≡ later → w ≡ v → one ≡ any → Passed n nodes later a v any → Passed n nodes out a w one
+  passed_out n nodes later out a v w any one nodes_are view_is one_is passed =
+      subst (λ (z : List (Placed X t)). Passed n nodes z a w one) (sym nodes_are)
+      (subst (λ (z : View). Passed n nodes later a z one) (sym view_is) (subst (λ (z : Bool). Passed n nodes later a v z) (sym one_is) passed))
+
+  -- a node that is over is passed by
+  pub passed_by : (nodes mid : List (Placed X t)) (a v : View) (k : ℕ) (any : Bool) (x : Placed X t) → k < length mid → x ≡ get_or mid k x
+      → is_over (t.behaviour.process.want (placed_state x)) ≡ true → Passed k nodes mid a v any → Passed (k + 1) nodes mid a v any
+  passed_by nodes mid a v k any x inside is over passed = record {
+    places = passed.places;
+    ends = passed.ends;
+    moved = passed.moved;
+    spares = passed.spares;
+    busy = passed.busy;
+    calm = λ still. calm_over nodes mid a v k x inside is over (passed.calm still);
   }
 
   module _ (laws : BehaviourLaws t.behaviour) (nodes : List (Placed X t)) (a : View) (there : All (HasItsEnds a) nodes) (apart : AreApart nodes) (own : All (IsOwn a) nodes)

@@ -10,6 +10,7 @@ use Rattle.flow_messages.specs.Ends.{View}
 use Rattle.flow_base.specs.Visits.{edge_of, IsNone, IsStuck}
 use Rattle.flow_base.specs.declared.transducer.Transducer.{Ghosts}
 use Rattle.flow_graph.specs.declared.placed.Placed.{Placed}
+use Rattle.flow_graph.specs.Over.{is_over}
 use Rattle.flow_graph.specs.Places.{number_at, placed_state, inputs_in, outputs_in}
 
 -- the most turns of a pump
@@ -61,6 +62,10 @@ module _ {X : Type 0} {t : Ghosts X} where
   -- no node can step by what its ends are certain of
   abbrev pub AreStuck : View → List (Placed X t) → Type 0
   AreStuck view nodes = All (λ placed. IsStuck (inputs_of placed) (outputs_of placed) view (t.behaviour.process.want (placed_state placed))) nodes
+
+  -- each has ended or has faulted
+  abbrev pub AreOver : List (Placed X t) → Type 0
+  AreOver nodes = All (λ placed. is_over (t.behaviour.process.want (placed_state placed)) ≡ true) nodes
 
   -- one of them may take memory at its next step
   abbrev pub TakesMemory : List (Placed X t) → Type 0

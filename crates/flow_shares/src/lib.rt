@@ -9,6 +9,7 @@
 
 mod gate;
 mod lender;
+mod over;
 mod pass;
 mod share;
 mod stuck;

@@ -5,12 +5,14 @@ ghost use Rattle.flow_messages.specs.Ends.{SameEnds, SameTraffic};
 ghost use Rattle.flow_graph.specs.Layouts.{AreSamePlaces};
 ghost use Rattle.flow_shares.specs.Shares.{HasItsEnds, AreApart, IsOwn, AreStuck, TakesMemory, HaveMoved, HaveMovedAndLost, SpareOthers};
 
+use crate::over::is_over;
 use flow_base::Transducer;
 use flow_graph::Placed;
 use flow_messages::Ends;
 use std::alloc::AllocError;
 
-/// Visits each node once, in order, with at most `chunk` steps each. Whether one made a step.
+/// Visits each node once, in order, with at most `chunk` steps each, from the first on that is not over. Whether one made a
+/// step.
 ///
 /// An error where memory was refused to a node. Then a message that it was to read is lost.
 pub fn pass<T: Transducer, E: Ends>(
@@ -33,9 +35,13 @@ pub fn pass<T: Transducer, E: Ends>(
     ensures calm { IfOk result (λ any. any ≡ false → SameTraffic (E.view ends.old) (E.view ends.new)) }
     ensures stuck { IfOk result (λ any. any ≡ false → AreStuck (E.view ends.old) nodes.old.items × AreStuck (E.view ends.new) nodes.new.items) }
 {
-    let mut moved = false;
+    // Nodes mostly end in order. Behind one that is not over, a test of each would cost more than it spares.
+    let (mut moved, mut running) = (false, false);
     for k in 0..nodes.len() {
-        moved |= nodes[k].run(ends, chunk)?;
+        if running || !is_over(&nodes[k]) {
+            running = true;
+            moved |= nodes[k].run(ends, chunk)?;
+        }
     }
     Ok(moved)
 }

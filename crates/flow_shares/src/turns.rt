@@ -7,6 +7,7 @@ ghost use Rattle.flow_shares.specs.Pumps.{IsPumped};
 ghost use Rattle.flow_shares.specs.Shares.{most_turns, HasItsEnds, AreApart, IsOwn, AreStuck, TakesMemory, HaveMoved, HaveMovedForTurns, HaveMovedAndLost, SpareOthers};
 
 use crate::gate::Gate;
+use crate::over::are_over;
 use crate::pass::pass;
 use crate::share::Share;
 use flow_base::Transducer;
@@ -21,9 +22,10 @@ pub const MAX_TURNS: usize = 65_536;
 
 /// Visits the nodes of a share in turns, in ascending order and with at most `chunk` steps each, and gives the share back.
 ///
-/// It ends after `idle_turns` turns in a row that moved nothing: then no node can step by what its ends are certain of.
-/// It ends at once where the share has no node; after [`MAX_TURNS`] turns, and then the share is spent; and where memory
-/// was refused to a node, and then the share is starved. The gate is called before each turn.
+/// It ends after `idle_turns` turns in a row that moved nothing, or after one where all nodes are over: then no node can
+/// step by what its ends are certain of. It ends at once where the share has no node; after [`MAX_TURNS`] turns, and then
+/// the share is spent; and where memory was refused to a node, and then the share is starved. The gate is called before
+/// each turn. Nodes at the front that are over are not visited again.
 pub fn pump<T: Transducer, E: Ends, G: Gate>(
     share: Share<T, E>,
     chunk: usize,
@@ -112,7 +114,7 @@ fn begin_turn<G: Gate>(gate: &G, share: usize, turn: usize, made: &mut History<u
     *made = made.with(&turn);
 }
 
-/// Makes turns until `idle_turns` in a row moved nothing, and at most [`MAX_TURNS`].
+/// Makes turns until `idle_turns` in a row moved nothing, or one where all nodes are over, and at most [`MAX_TURNS`].
 ///
 /// An error where memory was refused to a node.
 fn take_turns<T: Transducer, E: Ends, G: Gate>(
@@ -157,7 +159,7 @@ fn take_turns<T: Transducer, E: Ends, G: Gate>(
             moved = true;
         } else {
             idle += 1;
-            if idle == idle_turns {
+            if idle == idle_turns || are_over(nodes) {
                 return Ok(Turns {
                     spent: false,
                     moved,

@@ -1,7 +1,8 @@
-use Rattle.std.proofs.Common.{◌<◌, ◌≤◌, length, arith}
+use Rattle.std.proofs.Common.{◌+◌, ◌<◌, ◌≤◌, ◌||◌, length, set, sym, ◌∙◌, ap, subst, arith}
 use Rattle.flow_base.proofs.Visits.{on_err}
-use Rattle.flow_shares.proofs.Passes.{passed_none, node_there, passed_next, passed_lost, passed_starves}
+use Rattle.flow_shares.proofs.Passes.{passed_none, passed_out, passed_by, node_there, passed_next, passed_lost, passed_starves}
 use Rattle.flow_shares.proofs.Calm.{calm_end}
+use Rattle.flow_shares.proofs.pass.pass.Goals.{then-running+in_ok-moved, else-running+else-not-is_over}
 use Rattle.flow_shares.proofs.pass.pass.Goals as goal
 
 pub loop-k-init : goal.loop-k-init
@@ -42,13 +43,27 @@ returns-in_err-moved-clause-starves g c =
 
 pub loop-k-preserved : goal.loop-k-preserved
 loop-k-preserved g c =
+    let nodes = c.args.nodes.now.items in
     let mid = c.loop-k.nodes.items in
+    let view = g.E.Ends.view in
     let inside : c.loop-k.k < length mid = omega arith in
-    record {
-      same = g.met.E.Ends.same_trans c.args.ends.now c.loop-k.ends c.run.new.ends c.loop-k.invariant.same c.run.ensures.same;
-      passed = passed_next g.met.T.Transducer.laws c.args.nodes.now.items (g.E.Ends.view c.args.ends.now) c.requires.there c.requires.apart c.requires.own mid (g.E.Ends.view c.loop-k.ends) c.loop-k.k c.loop-k.moved c.loop-k.invariant.passed
-          c.index_mut.result.now inside c.index_mut.ensures.value c.run.new.self (g.E.Ends.view c.run.new.ends) c.run.ensures.place c.run.ensures.ends c.in_ok-moved.field-0 c.in_ok-moved.ensures.visited;
-    }
+    elim c.if-running.branch [
+      | then-running+in_ok-moved w ↦ record {
+        same = subst (λ z. g.E.Ends.same c.args.ends.now z) (sym w.ends-is) (g.met.E.Ends.same_trans c.args.ends.now c.loop-k.ends w.run.new.ends c.loop-k.invariant.same w.run.ensures.same);
+        passed =
+            passed_out (c.loop-k.k + 1) nodes (set mid c.loop-k.k w.run.new.self) c.if-running.nodes.items (view c.args.ends.now) (view w.run.new.ends) (view c.if-running.ends) (c.loop-k.moved || w.in_ok-moved.field-0) c.if-running.moved
+            (λ i. (w.nodes-is i).items) (ap view w.ends-is) w.moved-is
+            (passed_next g.met.T.Transducer.laws nodes (view c.args.ends.now) c.requires.there c.requires.apart c.requires.own mid (view c.loop-k.ends) c.loop-k.k c.loop-k.moved c.loop-k.invariant.passed
+            w.index_mut.result.now inside w.index_mut.ensures.value w.run.new.self (view w.run.new.ends) w.run.ensures.place w.run.ensures.ends w.in_ok-moved.field-0 w.in_ok-moved.ensures.visited);
+      }
+      | else-running+else-not-is_over w ↦ record {
+        same = subst (λ z. g.E.Ends.same c.args.ends.now z) (sym w.ends-is) c.loop-k.invariant.same;
+        passed =
+            passed_out (c.loop-k.k + 1) nodes mid c.if-running.nodes.items (view c.args.ends.now) (view c.loop-k.ends) (view c.if-running.ends) c.loop-k.moved c.if-running.moved
+            (λ i. (w.nodes-is i).items) (ap view w.ends-is) w.moved-is
+            (passed_by nodes mid (view c.args.ends.now) (view c.loop-k.ends) c.loop-k.k c.loop-k.moved w.index.result.now inside w.index.ensures (sym w.is_over.ensures ∙ w.if-not-is_over.false) c.loop-k.invariant.passed);
+      }
+    ]
 
 pub returns-clause-stuck : goal.returns-clause-stuck
 returns-clause-stuck g c =

@@ -4,7 +4,7 @@ use Rattle.flow_shares.specs.Shares.{most_turns}
 use Rattle.flow_shares.proofs.Moves.{moved_none}
 use Rattle.flow_shares.proofs.Spares.{spared_none}
 use Rattle.flow_shares.proofs.Rounds.{turned_none, turned_end, there_now, apart_now, own_now, turn_lost, moved_last, stuck_last, turned_next, turn_spares, still_calm, busy_before, busy_last}
-use Rattle.flow_shares.proofs.turns.take_turns.Goals.{then-branch, else-branch+else-idle-idle_turns}
+use Rattle.flow_shares.proofs.turns.take_turns.Goals.{then-branch, else-branch+else-idle-idle_turns+else-are_over}
 use Rattle.flow_shares.proofs.turns.take_turns.Goals as goal
 
 pub returns-then-is_empty-clause-moved : goal.returns-then-is_empty-clause-moved
@@ -57,16 +57,16 @@ loop-turn-preserved g c =
       turned = elim c.if-branch.branch [
         | then-branch w ↦ turned_next c.loop-turn.turn c.loop-turn.idle c.args.idle_turns c.args.nodes.now.items c.loop-turn.nodes.items (view c.args.ends.now) (view c.loop-turn.ends) c.loop-turn.invariant.turned c.pass.new.nodes.items (view c.pass.new.ends) ensures.places ensures.ends ensures.moved ensures.spares c.in_ok-pass.field-0 ensures.busy ensures.stuck
             now (omega (arith, w.idle-is, c.requires.idle)) (inl (w.if-branch.true, w.idle-is))
-        | else-branch+else-idle-idle_turns w ↦ turned_next c.loop-turn.turn c.loop-turn.idle c.args.idle_turns c.args.nodes.now.items c.loop-turn.nodes.items (view c.args.ends.now) (view c.loop-turn.ends) c.loop-turn.invariant.turned c.pass.new.nodes.items (view c.pass.new.ends) ensures.places ensures.ends ensures.moved ensures.spares c.in_ok-pass.field-0 ensures.busy ensures.stuck
+        | else-branch+else-idle-idle_turns+else-are_over w ↦ turned_next c.loop-turn.turn c.loop-turn.idle c.args.idle_turns c.args.nodes.now.items c.loop-turn.nodes.items (view c.args.ends.now) (view c.loop-turn.ends) c.loop-turn.invariant.turned c.pass.new.nodes.items (view c.pass.new.ends) ensures.places ensures.ends ensures.moved ensures.spares c.in_ok-pass.field-0 ensures.busy ensures.stuck
             now (omega (arith, w.idle-is, few, w.if-idle-idle_turns.false)) (inr (w.if-branch.false, w.idle-is))
       ];
       busy = elim c.if-branch.branch [
         | then-branch w ↦ λ h. busy_last c.args.nodes.now.items c.loop-turn.nodes.items c.pass.new.nodes.items (view c.args.ends.now) (view c.loop-turn.ends) (view c.pass.new.ends) c.loop-turn.invariant.turned.moved ensures.moved (ensures.busy w.if-branch.true)
-        | else-branch+else-idle-idle_turns w ↦ λ h. busy_before c.args.nodes.now.items c.loop-turn.nodes.items c.pass.new.nodes.items (view c.args.ends.now) (view c.loop-turn.ends) (view c.pass.new.ends) c.loop-turn.invariant.turned.moved ensures.moved (c.loop-turn.invariant.busy (sym w.moved-is ∙ h))
+        | else-branch+else-idle-idle_turns+else-are_over w ↦ λ h. busy_before c.args.nodes.now.items c.loop-turn.nodes.items c.pass.new.nodes.items (view c.args.ends.now) (view c.loop-turn.ends) (view c.pass.new.ends) c.loop-turn.invariant.turned.moved ensures.moved (c.loop-turn.invariant.busy (sym w.moved-is ∙ h))
       ];
       calm = elim c.if-branch.branch [
         | then-branch w ↦ λ h. absurd (let no = sym w.moved-is ∙ h in cc)
-        | else-branch+else-idle-idle_turns w ↦ λ h. still_calm c.args.nodes.now.items c.loop-turn.nodes.items c.pass.new.nodes.items (view c.args.ends.now) (view c.loop-turn.ends) (view c.pass.new.ends) (c.loop-turn.invariant.calm (sym w.moved-is ∙ h)) (ensures.calm w.if-branch.false)
+        | else-branch+else-idle-idle_turns+else-are_over w ↦ λ h. still_calm c.args.nodes.now.items c.loop-turn.nodes.items c.pass.new.nodes.items (view c.args.ends.now) (view c.loop-turn.ends) (view c.pass.new.ends) (c.loop-turn.invariant.calm (sym w.moved-is ∙ h)) (ensures.calm w.if-branch.false)
       ];
     }
 
