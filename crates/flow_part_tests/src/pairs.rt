@@ -16,12 +16,12 @@ use flow_shares::Share;
 use std::alloc::Global;
 use std::test::Fail;
 
-// A source of three units, and a sink of them.
-fn source_and_sink(alloc: Global) -> Result<Graph<StreamNode>, Fail>
+// A source of so many units, and a sink of them.
+fn source_and_sink(alloc: Global, units: usize) -> Result<Graph<StreamNode>, Fail>
     ensures { IfOk result (λ graph. AreOpened node_behaviour (states_of graph)) }
 {
     let mut builder = GraphBuilder::new(alloc);
-    builder.node(StreamNode::Source(Source::new(alloc, Stream::Units(3))))?;
+    builder.node(StreamNode::Source(Source::new(alloc, Stream::Units(units))))?;
     builder.node(StreamNode::Sink(Node::new(Sink::new(Kind::Unit), 0)))?;
     let edge = Edge {
         writer: 0,
@@ -39,11 +39,11 @@ fn source_and_sink(alloc: Global) -> Result<Graph<StreamNode>, Fail>
     Ok(builder.build())
 }
 
-/// The sink in share 0, and the source in share 1. The edge holds one message.
-pub fn sink_and_source(alloc: Global) -> Result<Vec<Share<StreamNode, Rings>>, Fail>
+/// The sink in share 0, and the source of so many units in share 1. The edge holds one message.
+pub fn sink_and_source(alloc: Global, units: usize) -> Result<Vec<Share<StreamNode, Rings>>, Fail>
     ensures { IfOk result (λ shares. All (λ share. share.starved ≡ false) shares.items) }
 {
-    let graph = source_and_sink(alloc)?;
+    let graph = source_and_sink(alloc, units)?;
     let dealt: Dealt<StreamNode, Rings> = deal(alloc, graph, 2, &[1u8, 0], 1)?;
     Ok(dealt.shares)
 }
