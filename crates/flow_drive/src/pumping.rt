@@ -12,9 +12,9 @@ use flow_shares::{Gate, Share};
 
 /// Visits the nodes of a share in turns, each node with at most `chunk` steps, and gives the share back.
 ///
-/// It ends after `idle` turns in a row that moved nothing: then no node can step by what its ends are certain of. It ends
-/// at once where the share has no node; after 65,536 turns, and then the share is spent; and where memory was refused to
-/// a node, and then the share is starved. The gate is called before each turn.
+/// It ends after `idle` turns in a row that moved nothing, or after one where all nodes are over: then no node can step by
+/// what its ends are certain of. It ends at once where the share has no node; after 65,536 turns, and then the share is
+/// spent; and where memory was refused to a node, and then the share is starved. The gate is called before each turn.
 pub fn pump<T: Transducer, E: Ends, G: Gate>(
     share: Share<T, E>,
     config: &Config,
