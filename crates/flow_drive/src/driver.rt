@@ -167,9 +167,11 @@ fn drive_serial<T: Transducer + Drop>(
 ) -> Result<Rested<T>, AllocError>
     requires opened { AreOpened T.behaviour (states_of graph) }
     requires lawful { IsLawful config.now }
-    ensures network { IfOk result (λ rested. IsSameNetwork T.behaviour (states_of graph) (edges_of graph) (rested_states rested) (rested_edges rested)) }
+    ensures network { IfOk result (λ rested. IsSameNetwork T.behaviour (states_of graph)
+        (edges_of graph) (rested_states rested) (rested_edges rested)) }
     ensures capacity { IfOk result (λ rested. rested_capacity rested ≡ config.now.capacity) }
-    ensures run { IfOk result (λ rested. EndsMaximalRun T.behaviour config.now.capacity (states_of graph) (edges_of graph) (rested_states rested) (traffic_of rested)) }
+    ensures run { IfOk result (λ rested. EndsMaximalRun T.behaviour config.now.capacity
+        (states_of graph) (edges_of graph) (rested_states rested) (traffic_of rested)) }
     ensures rounds { IfOk result (λ rested. rested_rounds rested ≡ 0) }
     ensures epochs { IfOk result (λ rested. rested_epochs rested ≡ 0) }
     ensures rings { IfOk result (λ rested. IsOverRings rested → ⊥) }

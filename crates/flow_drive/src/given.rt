@@ -40,7 +40,8 @@ pub fn deal_out<T: Transducer + Drop, E: Opening + Drop>(
     ensures capacity { IfOk result (λ made. made.0.capacity ≡ config.now.capacity) }
     ensures share { IfOk result (λ made. made.0.share.items ≡ config.now.share.items) }
     ensures given { IfOk result (λ made. IsOfSetting (setting_in made.0) made.0) }
-    ensures dealt { IfOk result (λ made. IsDealt E.joins E.places made.0.graph.value config.now.threads made.0.share.items made.0.capacity made.1) }
+    ensures dealt { IfOk result (λ made. IsDealt E.joins E.places
+        made.0.graph.value config.now.threads made.0.share.items made.0.capacity made.1) }
 {
     let given = Snapshot::of(&graph);
     let nodes = graph.nodes();

@@ -49,7 +49,8 @@ pub fn drive_rings<
 ) -> Result<Rested<T>, WorkError>
     requires opened { AreOpened T.behaviour (states_of graph) }
     requires lawful { IsLawful config.now }
-    ensures network { IfOk result (λ rested. IsSameNetwork T.behaviour (states_of graph) (edges_of graph) (rested_states rested) (rested_edges rested)) }
+    ensures network { IfOk result (λ rested. IsSameNetwork T.behaviour (states_of graph)
+        (edges_of graph) (rested_states rested) (rested_edges rested)) }
     ensures capacity { IfOk result (λ rested. rested_capacity rested ≡ config.now.capacity) }
     ensures rounds { IfOk result (λ rested. rested_rounds rested ≡ 0) }
     ensures least { IfOk result (λ rested. 0 < moved_of rested → 0 < rested_epochs rested) }
@@ -86,7 +87,8 @@ fn run_dealt<
     requires graph { AreOfOneGraph setting dealt.shares.items }
     requires fed { AreFed dealt.shares.items }
     requires none { moved_in setting dealt.shares.items ≡ 0 }
-    ensures network { IfOk result (λ rested. IsSameNetwork T.behaviour (states_in setting.nodes) setting.edges (rested_states rested) (rested_edges rested)) }
+    ensures network { IfOk result (λ rested. IsSameNetwork T.behaviour
+        (states_in setting.nodes) setting.edges (rested_states rested) (rested_edges rested)) }
     ensures capacity { IfOk result (λ rested. rested_capacity rested ≡ setting.capacity) }
     ensures rounds { IfOk result (λ rested. rested_rounds rested ≡ 0) }
     ensures least { IfOk result (λ rested. 0 < moved_of rested → 0 < rested_epochs rested) }

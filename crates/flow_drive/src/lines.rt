@@ -47,7 +47,8 @@ impl<E> SharedLines<E> {
     /// The ends of the share that has this node.
     pub fn of_node(&self, node: usize) -> &E
         requires { share_of self.now.share.items node < length self.now.ends.items }
-        ensures { (d : _) → result.now ≡ slice_index_or self.now.ends.items (share_of self.now.share.items node) d }
+        ensures { (d : _) → result.now ≡ slice_index_or self.now.ends.items
+            (share_of self.now.share.items node) d }
     {
         &self.ends[share_of(&self.share, node)]
     }
@@ -59,10 +60,16 @@ impl<E: CountedEnds> SharedLines<E> {
     pub fn counts(&self, edge: Edge, number: usize) -> (u64, u64)
         requires writer { share_of self.now.share.items edge.writer < length self.now.ends.items }
         requires reader { share_of self.now.share.items edge.reader < length self.now.ends.items }
-        requires writes { (d : _) → (E.view (slice_index_or self.now.ends.items (share_of self.now.share.items edge.writer) d)).writes number ≡ true }
-        requires reads { (d : _) → (E.view (slice_index_or self.now.ends.items (share_of self.now.share.items edge.reader) d)).reads number ≡ true }
-        ensures sent { (d : _) → result.0 ≡ u64_saturate (length ((E.view (slice_index_or self.now.ends.items (share_of self.now.share.items edge.writer) d)).sent number)) }
-        ensures received { (d : _) → result.1 ≡ u64_saturate (length ((E.view (slice_index_or self.now.ends.items (share_of self.now.share.items edge.reader) d)).received number)) }
+        requires writes { (d : _) → (E.view (slice_index_or self.now.ends.items
+            (share_of self.now.share.items edge.writer) d)).writes number ≡ true }
+        requires reads { (d : _) → (E.view (slice_index_or self.now.ends.items
+            (share_of self.now.share.items edge.reader) d)).reads number ≡ true }
+        ensures sent { (d : _) → result.0 ≡ u64_saturate
+            (length ((E.view (slice_index_or self.now.ends.items
+            (share_of self.now.share.items edge.writer) d)).sent number)) }
+        ensures received { (d : _) → result.1 ≡ u64_saturate
+            (length ((E.view (slice_index_or self.now.ends.items
+            (share_of self.now.share.items edge.reader) d)).received number)) }
     {
         (
             self.of_node(edge.writer).sent_count(number),

@@ -23,7 +23,8 @@ impl<T: Transducer> Gathered<T> {
     pub fn counts(&self, edge: usize) -> (u64, u64)
         requires { edge < length (edges_of self.now.graph) }
         ensures sent { result.0 ≡ u64_saturate (length ((gathered_traffic self.now).sent edge)) }
-        ensures received { result.1 ≡ u64_saturate (length ((gathered_traffic self.now).received edge)) }
+        ensures received { result.1 ≡ u64_saturate (length
+            ((gathered_traffic self.now).received edge)) }
     {
         let ends = self.graph.edge(edge);
         match &self.lines {
@@ -55,7 +56,8 @@ impl<T: Transducer> RingShares<T> {
     pub fn counts(&self, edge: usize) -> (u64, u64)
         requires { edge < length (edges_in self.now.layout) }
         ensures sent { result.0 ≡ u64_saturate (length ((shares_traffic self.now).sent edge)) }
-        ensures received { result.1 ≡ u64_saturate (length ((shares_traffic self.now).received edge)) }
+        ensures received { result.1 ≡ u64_saturate (length
+            ((shares_traffic self.now).received edge)) }
     {
         let nodes = self.edge(edge);
         let writer = self.of_node(nodes.writer).ends();

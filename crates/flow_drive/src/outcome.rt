@@ -15,7 +15,11 @@ use snesl_data::Fault;
 
 /// The fault that is named of all to which nodes have come.
 pub fn standing_fault<T: Transducer>(rested: &Rested<T>) -> Option<Fault>
-    ensures { (view : View) → let net = network_of T.behaviour (rested_states rested.now) (rested_edges rested.now) in let c = configuration_of T.behaviour (rested_states rested.now) view in MatchOption result (NoneFaulted T.behaviour.process net c) (λ fault. NamesFault T.behaviour.process net c fault) }
+    ensures { (view : View) → let net = network_of T.behaviour (rested_states rested.now)
+        (rested_edges rested.now) in let c =
+        configuration_of T.behaviour (rested_states rested.now) view in
+        MatchOption result (NoneFaulted T.behaviour.process net c)
+        (λ fault. NamesFault T.behaviour.process net c fault) }
 {
     let mut standing: Option<Fault> = None;
     for node in 0..rested.nodes() {
@@ -31,7 +35,9 @@ pub fn standing_fault<T: Transducer>(rested: &Rested<T>) -> Option<Fault>
 
 /// The first edge whose writer wants to write to it.
 pub fn first_to_write<T: Transducer>(rested: &Rested<T>) -> Option<usize>
-    ensures { MatchOption result ((e : ℕ) → e < length (rested_edges rested.now) → WantsToWrite T.behaviour (rested_states rested.now) (rested_edges rested.now) e → ⊥) (λ e. IsFirstToWrite T.behaviour (rested_states rested.now) (rested_edges rested.now) e) }
+    ensures { MatchOption result ((e : ℕ) → e < length (rested_edges rested.now) →
+        WantsToWrite T.behaviour (rested_states rested.now) (rested_edges rested.now) e → ⊥)
+        (λ e. IsFirstToWrite T.behaviour (rested_states rested.now) (rested_edges rested.now) e) }
 {
     for number in 0..rested.edges() {
         let edge = rested.edge(number);

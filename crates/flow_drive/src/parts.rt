@@ -25,6 +25,8 @@ pub struct Gathered<T: Transducer> {
     /// Its edges, as its drive left them.
     pub lines: Lines,
     ghost there: { AreThere (edges_of graph) lines },
-    ghost sound: { IsSoundAt T.behaviour (states_of graph) (edges_of graph) (traffic_in (edges_of graph) lines) },
-    ghost rest: { RestsAt T.behaviour (states_of graph) (edges_of graph) (capacity_in lines) (traffic_in (edges_of graph) lines) },
+    ghost sound: { IsSoundAt T.behaviour (states_of graph) (edges_of graph)
+        (traffic_in (edges_of graph) lines) },
+    ghost rest: { RestsAt T.behaviour (states_of graph) (edges_of graph)
+        (capacity_in lines) (traffic_in (edges_of graph) lines) },
 }

@@ -20,7 +20,8 @@ impl<T: Transducer> Rested<T> {
     /// How it came out: `Value` where each node has ended, the fault that is named where some node has faulted, and
     /// else `Stalled` with the least edge that holds its capacity while its writer waits to write to it.
     pub fn outcome(&self) -> Outcome
-        ensures { ComesOut T.behaviour (rested_states self.now) (rested_edges self.now) (rested_capacity self.now) (traffic_of self.now) result }
+        ensures { ComesOut T.behaviour (rested_states self.now) (rested_edges self.now)
+            (rested_capacity self.now) (traffic_of self.now) result }
     {
         if let Some(fault) = standing_fault(self) {
             return Outcome::Fault(fault);
@@ -104,7 +105,8 @@ impl<T: Transducer> Rested<T> {
     /// The shares, by their numbers, with all nodes and both ends of every edge, at rest and met: of a graph that was
     /// driven over rings, and of no other.
     pub fn rings(&self) -> Option<&[Share<T, Rings>]>
-        ensures { MatchOption result (IsOverRings self.now → ⊥) (λ shares. AreTheShares self.now shares.now) }
+        ensures { MatchOption result (IsOverRings self.now → ⊥)
+            (λ shares. AreTheShares self.now shares.now) }
     {
         match &self.parts {
             Parts::Apart(shares) => Some(&shares.shares),
@@ -116,7 +118,8 @@ impl<T: Transducer> Rested<T> {
 impl<T: Printing> Rested<T> {
     /// The text that was gathered by the node of the greatest number that gathers one, and no text where none does.
     pub fn text(&self) -> &[u8]
-        ensures { (text_in : T.State → Option (List ℕ)) → IsTold T.state T.printed text_in → result.now ≡ last_text text_in (rested_states self.now) }
+        ensures { (text_in : T.State → Option (List ℕ)) → IsTold T.state T.printed text_in →
+            result.now ≡ last_text text_in (rested_states self.now) }
     {
         let mut last: &[u8] = &[];
         for node in 0..self.nodes() {

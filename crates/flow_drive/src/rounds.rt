@@ -46,9 +46,11 @@ pub fn drive_rounds<
 ) -> Result<Rested<T>, WorkError>
     requires opened { AreOpened T.behaviour (states_of graph) }
     requires lawful { IsLawful config.now }
-    ensures network { IfOk result (λ rested. IsSameNetwork T.behaviour (states_of graph) (edges_of graph) (rested_states rested) (rested_edges rested)) }
+    ensures network { IfOk result (λ rested. IsSameNetwork T.behaviour (states_of graph)
+        (edges_of graph) (rested_states rested) (rested_edges rested)) }
     ensures capacity { IfOk result (λ rested. rested_capacity rested ≡ config.now.capacity) }
-    ensures run { IfOk result (λ rested. EndsMaximalRun T.behaviour config.now.capacity (states_of graph) (edges_of graph) (rested_states rested) (traffic_of rested)) }
+    ensures run { IfOk result (λ rested. EndsMaximalRun T.behaviour config.now.capacity
+        (states_of graph) (edges_of graph) (rested_states rested) (traffic_of rested)) }
     ensures least { IfOk result (λ rested. 0 < moved_of rested → 0 < rested_rounds rested) }
     ensures most { IfOk result (λ rested. rested_rounds rested ≤ moved_of rested) }
     ensures epochs { IfOk result (λ rested. rested_epochs rested ≡ 0) }
@@ -83,9 +85,11 @@ fn run_dealt<
     requires layout { edges_in dealt.layout ≡ setting.edges }
     requires stand { StandBetweenRounds setting dealt.shares.items }
     requires none { moved_in setting (boxes_of dealt.shares.items) ≡ 0 }
-    ensures network { IfOk result (λ rested. IsSameNetwork T.behaviour (states_in setting.nodes) setting.edges (rested_states rested) (rested_edges rested)) }
+    ensures network { IfOk result (λ rested. IsSameNetwork T.behaviour
+        (states_in setting.nodes) setting.edges (rested_states rested) (rested_edges rested)) }
     ensures capacity { IfOk result (λ rested. rested_capacity rested ≡ setting.capacity) }
-    ensures run { IfOk result (λ rested. EndsMaximalRun T.behaviour setting.capacity (states_in setting.nodes) setting.edges (rested_states rested) (traffic_of rested)) }
+    ensures run { IfOk result (λ rested. EndsMaximalRun T.behaviour setting.capacity
+        (states_in setting.nodes) setting.edges (rested_states rested) (traffic_of rested)) }
     ensures least { IfOk result (λ rested. 0 < moved_of rested → 0 < rested_rounds rested) }
     ensures most { IfOk result (λ rested. rested_rounds rested ≤ moved_of rested) }
     ensures epochs { IfOk result (λ rested. rested_epochs rested ≡ 0) }

@@ -8,7 +8,10 @@ use flow_base::Transducer;
 
 /// A graph at rest is sound, no node can step, and no edge holds more than its capacity.
 pub fn rested_is_sound<T: Transducer>(rested: &Rested<T>)
-    ensures sound { IsSoundAt T.behaviour (rested_states rested.now) (rested_edges rested.now) (traffic_of rested.now) }
-    ensures rest { RestsAt T.behaviour (rested_states rested.now) (rested_edges rested.now) (rested_capacity rested.now) (traffic_of rested.now) }
-    ensures fits { (e : ℕ) → length ((traffic_of rested.now).sent e) ≤ length ((traffic_of rested.now).received e) + rested_capacity rested.now }
+    ensures sound { IsSoundAt T.behaviour (rested_states rested.now) (rested_edges rested.now)
+        (traffic_of rested.now) }
+    ensures rest { RestsAt T.behaviour (rested_states rested.now) (rested_edges rested.now)
+        (rested_capacity rested.now) (traffic_of rested.now) }
+    ensures fits { (e : ℕ) → length ((traffic_of rested.now).sent e) ≤
+        length ((traffic_of rested.now).received e) + rested_capacity rested.now }
 {}

@@ -82,8 +82,10 @@ pub fn run_epochs<
     ensures fed { IfOk result (λ made. AreFed made.0.items) }
     ensures sound { IfOk result (λ made. StandSound setting made.0.items) }
     ensures rest { IfOk result (λ made. StandAtRest setting made.0.items) }
-    ensures least { IfOk result (λ made. moved_in setting shares.items < moved_in setting made.0.items → 0 < made.1) }
-    ensures most { IfOk result (λ made. made.1 + moved_in setting shares.items ≤ moved_in setting made.0.items) }
+    ensures least { IfOk result (λ made. moved_in setting shares.items <
+        moved_in setting made.0.items → 0 < made.1) }
+    ensures most { IfOk result (λ made. made.1 + moved_in setting shares.items ≤
+        moved_in setting made.0.items) }
     ensures refused { S.refused start.new → S.refused start.old ⊎ (result ≡ Err NoThread) }
 {
     let mut shares = meet(alloc, shares, wires)?;

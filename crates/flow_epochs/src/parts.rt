@@ -15,7 +15,8 @@ pub(crate) fn take_apart<T: Transducer + Drop>(
     alloc: Global,
     shares: Vec<Share<T, Rings>>,
 ) -> Result<(Vec<Lender<T, Rings>>, Vec<Rings>), AllocError>
-    ensures lenders { IfOk result (λ made. map (λ lender. lender.share.value) made.0.items ≡ shares.items) }
+    ensures lenders { IfOk result (λ made. map (λ lender. lender.share.value) made.0.items ≡
+        shares.items) }
     ensures ends { IfOk result (λ made. made.1.items ≡ ends_in shares.items) }
 {
     let mut lenders = Vec::with_capacity(alloc, shares.len())?;
@@ -34,9 +35,12 @@ pub(crate) fn put_together<T: Transducer + Drop>(
     lenders: Vec<Lender<T, Rings>>,
     ends: Vec<Rings>,
 ) -> Result<Vec<Share<T, Rings>>, AllocError>
-    requires same { AllZip (λ lender own. SameRings lender.share.value.ends own) lenders.items ends.items }
-    requires kept { AllZip (λ lender own. Kept (ends_of lender.share.value.ends) (ends_of own)) lenders.items ends.items }
-    ensures bodies { IfOk result (λ shares. map (λ share. body_of share) shares.items ≡ map (λ lender. body_of lender.share.value) lenders.items) }
+    requires same { AllZip (λ lender own.
+        SameRings lender.share.value.ends own) lenders.items ends.items }
+    requires kept { AllZip (λ lender own. Kept (ends_of lender.share.value.ends)
+        (ends_of own)) lenders.items ends.items }
+    ensures bodies { IfOk result (λ shares. map (λ share. body_of share) shares.items ≡
+        map (λ lender. body_of lender.share.value) lenders.items) }
     ensures ends { IfOk result (λ shares. ends_in shares.items ≡ ends.items) }
 {
     let mut shares = Vec::with_capacity(alloc, lenders.len())?;

@@ -34,7 +34,8 @@ pub fn deal<T: Transducer + Drop, E: Opening + Drop>(
     requires shares { All (λ s. s < threads) share.now }
     requires some { 0 < capacity }
     requires limit { capacity ≤ greatest_capacity }
-    ensures { IfOk result (λ dealt. IsDealt E.joins E.places graph threads share.now capacity dealt) }
+    ensures { IfOk result (λ dealt.
+        IsDealt E.joins E.places graph threads share.now capacity dealt) }
 {
     let (nodes, layout) = graph.take_apart();
     let wires = wires_of(alloc, layout.edges(), share)?;

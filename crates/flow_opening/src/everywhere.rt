@@ -24,7 +24,8 @@ pub fn open_all<E: Opening + Drop>(
     requires writers { All (λ wire. wire.writer < threads) wires.now }
     requires readers { All (λ wire. wire.reader < threads) wires.now }
     ensures count { IfOk result (λ ends. length ends.items ≡ threads) }
-    ensures opened { IfOk result (λ ends. AreFreshEnds E.view E.joins E.places wires.now capacity ends.items) }
+    ensures opened { IfOk result (λ ends.
+        AreFreshEnds E.view E.joins E.places wires.now capacity ends.items) }
 {
     let mut ends = no_ends(alloc, threads, wires.len(), capacity)?;
     for edge in 0..wires.len() {
@@ -41,8 +42,10 @@ fn no_ends<E: Opening + Drop>(
     capacity: usize,
 ) -> Result<Vec<E>, AllocError>
     ensures count { IfOk result (λ ends. length ends.items ≡ threads) }
-    ensures place { IfOk result (λ ends. All (λ a. (e : ℕ) → e < edges → E.has_place a e capacity) ends.items) }
-    ensures none { IfOk result (λ ends. All (λ a. (e : ℕ) → ((E.view a).writes e ≡ false) × ((E.view a).reads e ≡ false)) ends.items) }
+    ensures place { IfOk result (λ ends. All (λ a. (e : ℕ) → e < edges →
+        E.has_place a e capacity) ends.items) }
+    ensures none { IfOk result (λ ends. All (λ a. (e : ℕ) → ((E.view a).writes e ≡ false) ×
+        ((E.view a).reads e ≡ false)) ends.items) }
 {
     let mut ends = Vec::with_capacity(alloc, threads)?;
     for _ in 0..threads {
@@ -66,7 +69,8 @@ fn open_edge<E: Opening>(
     requires place { All (λ a. E.has_place a edge capacity) ends.old }
     requires no_writer { All (λ a. (E.view a).writes edge ≡ false) ends.old }
     requires no_reader { All (λ a. (E.view a).reads edge ≡ false) ends.old }
-    ensures { OnOk result (OpensEdge E.view E.joins E.places E.opens wire edge capacity ends.old ends.new) }
+    ensures { OnOk result
+        (OpensEdge E.view E.joins E.places E.opens wire edge capacity ends.old ends.new) }
 {
     if wire.writer == wire.reader {
         ends[wire.writer].open_own(alloc, edge, capacity)

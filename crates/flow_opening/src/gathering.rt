@@ -34,8 +34,11 @@ pub fn gather_graph<T: Transducer + Drop, E: Ends + Drop>(
     requires edges { edges_in layout ≡ setting.edges }
     requires deals { AreDealt setting.share setting.nodes (nodes_in shares.items) }
     ensures ends { IfOk result (λ made. made.1.items ≡ ends_in shares.items) }
-    ensures network { IfOk result (λ made. IsSameNetwork T.behaviour (states_in setting.nodes) setting.edges (states_of made.0) (edges_of made.0)) }
-    ensures states { IfOk result (λ made. (deals : AreDealt setting.share setting.nodes (nodes_in shares.items)) → AreStates setting.share setting.nodes (nodes_in shares.items) deals (states_of made.0)) }
+    ensures network { IfOk result (λ made. IsSameNetwork T.behaviour
+        (states_in setting.nodes) setting.edges (states_of made.0) (edges_of made.0)) }
+    ensures states { IfOk result (λ made. (deals : AreDealt setting.share setting.nodes
+        (nodes_in shares.items)) → AreStates setting.share setting.nodes
+        (nodes_in shares.items) deals (states_of made.0)) }
 {
     let (lists, ends) = split(alloc, shares)?;
     let nodes = gather(alloc, lists, count, share)?;

@@ -18,7 +18,8 @@ pub trait Opening: Meeting {
     /// `capacity` messages at most. Its only error is that memory was refused.
     fn none(alloc: Global, edges: usize, capacity: usize) -> Result<Self, AllocError>
         ensures place { IfOk result (λ ends. (e : ℕ) → e < edges → has_place ends e capacity) }
-        ensures none { IfOk result (λ ends. (e : ℕ) → ((Self.view ends).writes e ≡ false) × ((Self.view ends).reads e ≡ false)) };
+        ensures none { IfOk result (λ ends. (e : ℕ) → ((Self.view ends).writes e ≡ false) ×
+            ((Self.view ends).reads e ≡ false)) };
 
     /// Opens an edge, the writer's end here and the reader's there. It holds at most `capacity` messages.
     ///
@@ -36,8 +37,10 @@ pub trait Opening: Meeting {
         requires reader_place { has_place other.old edge capacity }
         requires no_writer { (Self.view self.old).writes edge ≡ false }
         requires no_reader { (Self.view other.old).reads edge ≡ false }
-        ensures writer { OnOk result (opens edge self.old self.new × OpensAt edge capacity true false (Self.view self.old) (Self.view self.new)) }
-        ensures reader { OnOk result (opens edge other.old other.new × OpensAt edge capacity false true (Self.view other.old) (Self.view other.new)) }
+        ensures writer { OnOk result (opens edge self.old self.new ×
+            OpensAt edge capacity true false (Self.view self.old) (Self.view self.new)) }
+        ensures reader { OnOk result (opens edge other.old other.new ×
+            OpensAt edge capacity false true (Self.view other.old) (Self.view other.new)) }
         ensures joined { OnOk result (Self.joins self.new other.new edge) }
         ensures places { OnOk result (Self.places self.new edge ≡ capacity) };
 
@@ -50,7 +53,8 @@ pub trait Opening: Meeting {
         requires place { has_place self.old edge capacity }
         requires no_writer { (Self.view self.old).writes edge ≡ false }
         requires no_reader { (Self.view self.old).reads edge ≡ false }
-        ensures both { OnOk result (opens edge self.old self.new × OpensAt edge capacity true true (Self.view self.old) (Self.view self.new)) }
+        ensures both { OnOk result (opens edge self.old self.new ×
+            OpensAt edge capacity true true (Self.view self.old) (Self.view self.new)) }
         ensures joined { OnOk result (Self.joins self.new self.new edge) }
         ensures places { OnOk result (Self.places self.new edge ≡ capacity) };
 
@@ -58,14 +62,18 @@ pub trait Opening: Meeting {
     ghost opens_refl: { (e : ℕ) (a : Self) → opens e a a };
 
     /// An opening takes no place of another.
-    ghost opens_place: { (e : ℕ) (a b : Self) → opens e a b → (k capacity : ℕ) → has_place a k capacity → has_place b k capacity };
+    ghost opens_place: { (e : ℕ) (a b : Self) → opens e a b →
+        (k capacity : ℕ) → has_place a k capacity → has_place b k capacity };
 
     /// An opening changes no number of places at another edge.
-    ghost opens_places: { (e : ℕ) (a b : Self) → opens e a b → (k : ℕ) → k ≢ e → Self.places b k ≡ Self.places a k };
+    ghost opens_places: { (e : ℕ) (a b : Self) → opens e a b →
+        (k : ℕ) → k ≢ e → Self.places b k ≡ Self.places a k };
 
     /// What joins stays so over an opening at another edge, in the writer's share.
-    ghost open_join_writer: { (a a' b : Self) (e k : ℕ) → Self.joins a b k → k ≢ e → opens e a a' → Self.joins a' b k };
+    ghost open_join_writer: { (a a' b : Self) (e k : ℕ) → Self.joins a b k →
+        k ≢ e → opens e a a' → Self.joins a' b k };
 
     /// What joins stays so over an opening at another edge, in the reader's share.
-    ghost open_join_reader: { (a b b' : Self) (e k : ℕ) → Self.joins a b k → k ≢ e → opens e b b' → Self.joins a b' k };
+    ghost open_join_reader: { (a b b' : Self) (e k : ℕ) → Self.joins a b k →
+        k ≢ e → opens e b b' → Self.joins a b' k };
 }

@@ -19,7 +19,8 @@ pub(crate) fn meet<T: Transducer + Drop>(
 ) -> Result<Vec<Share<T, Boxes>>, AllocError>
     ghost setting: { Setting ⟦<T as Transducer>⟧ }
     requires wires { AreWires setting.share setting.edges wires.now }
-    requires linked { AreLinked setting.share setting.edges (boxes_of shares.items) setting.capacity }
+    requires linked { AreLinked setting.share setting.edges
+        (boxes_of shares.items) setting.capacity }
     requires fed { AreFed shares.items }
     ensures { IfOk result (λ met. AreMet setting shares.items met.items) }
 {

@@ -28,7 +28,8 @@ pub(crate) fn take_apart<T: Transducer + Drop>(
     shares: Vec<Share<T, Boxes>>,
 ) -> Result<(Vec<Part<T>>, Vec<Boxes>), AllocError>
     requires fed { All (λ share. share.starved ≡ false) shares.items }
-    ensures parts { IfOk result (λ made. map (λ part. part.share.value) made.0.items ≡ shares.items) }
+    ensures parts { IfOk result (λ made. map (λ part. part.share.value) made.0.items ≡
+        shares.items) }
     ensures boxes { IfOk result (λ made. made.1.items ≡ map (λ share. share.ends) shares.items) }
 {
     let mut parts = Vec::with_capacity(alloc, shares.len())?;
@@ -53,9 +54,12 @@ pub(crate) fn put_together<T: Transducer + Drop>(
     parts: Vec<Part<T>>,
     boxes: Vec<Boxes>,
 ) -> Result<Vec<Share<T, Boxes>>, AllocError>
-    requires kept { AllZip (λ part ends. Kept (view_of part.share.value.ends) (view_of ends)) parts.items boxes.items }
-    ensures numbers { IfOk result (λ shares. map (λ share. share.number) shares.items ≡ map (λ part. part.share.value.number) parts.items) }
-    ensures nodes { IfOk result (λ shares. map (λ share. share.nodes.items) shares.items ≡ map (λ part. part.share.value.nodes.items) parts.items) }
+    requires kept { AllZip (λ part ends. Kept (view_of part.share.value.ends)
+        (view_of ends)) parts.items boxes.items }
+    ensures numbers { IfOk result (λ shares. map (λ share. share.number) shares.items ≡
+        map (λ part. part.share.value.number) parts.items) }
+    ensures nodes { IfOk result (λ shares. map (λ share. share.nodes.items) shares.items ≡
+        map (λ part. part.share.value.nodes.items) parts.items) }
     ensures boxes { IfOk result (λ shares. map (λ share. share.ends) shares.items ≡ boxes.items) }
     ensures fed { IfOk result (λ shares. All (λ share. share.starved ≡ false) shares.items) }
 {

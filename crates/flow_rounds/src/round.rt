@@ -43,8 +43,10 @@ pub fn run_rounds<
     requires stand { StandBetweenRounds setting shares.items }
     ensures rest { IfOk result (λ made. RestBetweenRounds setting made.0.items) }
     ensures count { IfOk result (λ made. length made.0.items ≡ length shares.items) }
-    ensures least { IfOk result (λ made. moved_in setting (boxes_of shares.items) < moved_in setting (boxes_of made.0.items) → 0 < made.1) }
-    ensures most { IfOk result (λ made. made.1 + moved_in setting (boxes_of shares.items) ≤ moved_in setting (boxes_of made.0.items)) }
+    ensures least { IfOk result (λ made. moved_in setting (boxes_of shares.items) <
+        moved_in setting (boxes_of made.0.items) → 0 < made.1) }
+    ensures most { IfOk result (λ made. made.1 + moved_in setting (boxes_of shares.items) ≤
+        moved_in setting (boxes_of made.0.items)) }
     ensures refused { S.refused start.new → S.refused start.old ⊎ (result ≡ Err NoThread) }
 {
     let mut shares = shares;
@@ -80,7 +82,8 @@ fn round<
     requires wires { AreWires setting.share setting.edges wires.now }
     requires stand { StandBetweenRounds setting shares.items }
     ensures stand { IfOk result (λ made. StandBetweenRounds setting made.items) }
-    ensures moves { IfOk result (λ made. (NoneCanStep shares.items → ⊥) → moved_in setting (boxes_of shares.items) < moved_in setting (boxes_of made.items)) }
+    ensures moves { IfOk result (λ made. (NoneCanStep shares.items → ⊥) →
+        moved_in setting (boxes_of shares.items) < moved_in setting (boxes_of made.items)) }
     ensures count { IfOk result (λ made. length made.items ≡ length shares.items) }
     ensures refused { S.refused start.new → S.refused start.old ⊎ (result ≡ Err NoThread) }
 {

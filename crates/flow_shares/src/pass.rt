@@ -27,13 +27,19 @@ pub fn pass<T: Transducer, E: Ends>(
     ensures places { AreSamePlaces nodes.old.items nodes.new.items }
     ensures same { E.same ends.old ends.new }
     ensures ends { SameEnds (E.view ends.old) (E.view ends.new) }
-    ensures moved { IfOk result (λ any. HaveMoved nodes.old.items nodes.new.items (E.view ends.old) (E.view ends.new)) }
-    ensures spares { IfOk result (λ _. SpareOthers nodes.old.items (E.view ends.old) (E.view ends.new)) }
-    ensures lost { OnErr result (HaveMovedAndLost nodes.old.items nodes.new.items (E.view ends.old) (E.view ends.new)) }
+    ensures moved { IfOk result (λ any. HaveMoved nodes.old.items nodes.new.items (E.view ends.old)
+        (E.view ends.new)) }
+    ensures spares { IfOk result (λ _. SpareOthers nodes.old.items (E.view ends.old)
+        (E.view ends.new)) }
+    ensures lost { OnErr result (HaveMovedAndLost nodes.old.items nodes.new.items (E.view ends.old)
+        (E.view ends.new)) }
     ensures starves { OnErr result (TakesMemory nodes.new.items) }
-    ensures busy { IfOk result (λ any. any ≡ true → SameTraffic (E.view ends.old) (E.view ends.new) → ⊥) }
-    ensures calm { IfOk result (λ any. any ≡ false → SameTraffic (E.view ends.old) (E.view ends.new)) }
-    ensures stuck { IfOk result (λ any. any ≡ false → AreStuck (E.view ends.old) nodes.old.items × AreStuck (E.view ends.new) nodes.new.items) }
+    ensures busy { IfOk result (λ any. any ≡ true →
+        SameTraffic (E.view ends.old) (E.view ends.new) → ⊥) }
+    ensures calm { IfOk result (λ any. any ≡ false →
+        SameTraffic (E.view ends.old) (E.view ends.new)) }
+    ensures stuck { IfOk result (λ any. any ≡ false → AreStuck (E.view ends.old) nodes.old.items ×
+        AreStuck (E.view ends.new) nodes.new.items) }
 {
     // Nodes mostly end in order. Behind one that is not over, a test of each would cost more than it spares.
     let (mut moved, mut running) = (false, false);

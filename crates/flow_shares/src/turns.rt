@@ -38,7 +38,9 @@ pub fn pump<T: Transducer, E: Ends, G: Gate>(
     ensures pumped { IsPumped share result }
     ensures starves { result.starved ≡ true → TakesMemory result.nodes.items }
     ensures spent { result.spent ≡ true → result.starved ≡ false }
-    ensures often { result.spent ≡ true → HaveMovedForTurns most_turns idle_turns share.nodes.items result.nodes.items (E.view share.ends) (E.view result.ends) }
+    ensures often { result.spent ≡ true →
+        HaveMovedForTurns most_turns idle_turns share.nodes.items result.nodes.items
+        (E.view share.ends) (E.view result.ends) }
     ensures none { length share.nodes.items ≡ 0 → result.spent ≡ false }
 {
     after_turns(share, chunk, idle_turns, gate)
@@ -58,16 +60,25 @@ fn after_turns<T: Transducer, E: Ends, G: Gate>(
     ensures places { AreSamePlaces share.nodes.items result.nodes.items }
     ensures same { E.same share.ends result.ends }
     ensures ends { SameEnds (E.view share.ends) (E.view result.ends) }
-    ensures moved { result.starved ≡ false → HaveMoved share.nodes.items result.nodes.items (E.view share.ends) (E.view result.ends) }
-    ensures spares { result.starved ≡ false → SpareOthers share.nodes.items (E.view share.ends) (E.view result.ends) }
-    ensures lost { result.starved ≡ true → HaveMovedAndLost share.nodes.items result.nodes.items (E.view share.ends) (E.view result.ends) }
-    ensures busy { result.starved ≡ false → result.moved ≡ true → SameTraffic (E.view share.ends) (E.view result.ends) → ⊥ }
-    ensures calm { result.starved ≡ false → result.moved ≡ false → SameTraffic (E.view share.ends) (E.view result.ends) }
-    ensures progress { result.starved ≡ false → SameTraffic (E.view share.ends) (E.view result.ends) → AreStuck (E.view share.ends) share.nodes.items }
-    ensures rest { result.starved ≡ false → result.spent ≡ false → AreStuck (E.view result.ends) result.nodes.items }
+    ensures moved { result.starved ≡ false → HaveMoved share.nodes.items result.nodes.items
+        (E.view share.ends) (E.view result.ends) }
+    ensures spares { result.starved ≡ false → SpareOthers share.nodes.items (E.view share.ends)
+        (E.view result.ends) }
+    ensures lost { result.starved ≡ true → HaveMovedAndLost share.nodes.items result.nodes.items
+        (E.view share.ends) (E.view result.ends) }
+    ensures busy { result.starved ≡ false → result.moved ≡ true →
+        SameTraffic (E.view share.ends) (E.view result.ends) → ⊥ }
+    ensures calm { result.starved ≡ false → result.moved ≡ false →
+        SameTraffic (E.view share.ends) (E.view result.ends) }
+    ensures progress { result.starved ≡ false → SameTraffic (E.view share.ends)
+        (E.view result.ends) → AreStuck (E.view share.ends) share.nodes.items }
+    ensures rest { result.starved ≡ false → result.spent ≡ false →
+        AreStuck (E.view result.ends) result.nodes.items }
     ensures starves { result.starved ≡ true → TakesMemory result.nodes.items }
     ensures spent { result.spent ≡ true → result.starved ≡ false }
-    ensures often { result.spent ≡ true → HaveMovedForTurns most_turns idle_turns share.nodes.items result.nodes.items (E.view share.ends) (E.view result.ends) }
+    ensures often { result.spent ≡ true →
+        HaveMovedForTurns most_turns idle_turns share.nodes.items result.nodes.items
+        (E.view share.ends) (E.view result.ends) }
     ensures none { length share.nodes.items ≡ 0 → result.spent ≡ false }
 {
     let Share {
@@ -133,15 +144,24 @@ fn take_turns<T: Transducer, E: Ends, G: Gate>(
     ensures places { AreSamePlaces nodes.old.items nodes.new.items }
     ensures same { E.same ends.old ends.new }
     ensures ends { SameEnds (E.view ends.old) (E.view ends.new) }
-    ensures moved { IfOk result (λ turns. HaveMoved nodes.old.items nodes.new.items (E.view ends.old) (E.view ends.new)) }
-    ensures spares { IfOk result (λ _. SpareOthers nodes.old.items (E.view ends.old) (E.view ends.new)) }
-    ensures lost { OnErr result (HaveMovedAndLost nodes.old.items nodes.new.items (E.view ends.old) (E.view ends.new)) }
-    ensures busy { IfOk result (λ turns. turns.moved ≡ true → SameTraffic (E.view ends.old) (E.view ends.new) → ⊥) }
-    ensures calm { IfOk result (λ turns. turns.moved ≡ false → SameTraffic (E.view ends.old) (E.view ends.new)) }
-    ensures progress { IfOk result (λ turns. SameTraffic (E.view ends.old) (E.view ends.new) → AreStuck (E.view ends.old) nodes.old.items) }
-    ensures rest { IfOk result (λ turns. turns.spent ≡ false → AreStuck (E.view ends.new) nodes.new.items) }
+    ensures moved { IfOk result (λ turns. HaveMoved nodes.old.items nodes.new.items
+        (E.view ends.old) (E.view ends.new)) }
+    ensures spares { IfOk result (λ _. SpareOthers nodes.old.items (E.view ends.old)
+        (E.view ends.new)) }
+    ensures lost { OnErr result (HaveMovedAndLost nodes.old.items nodes.new.items (E.view ends.old)
+        (E.view ends.new)) }
+    ensures busy { IfOk result (λ turns. turns.moved ≡ true →
+        SameTraffic (E.view ends.old) (E.view ends.new) → ⊥) }
+    ensures calm { IfOk result (λ turns. turns.moved ≡ false →
+        SameTraffic (E.view ends.old) (E.view ends.new)) }
+    ensures progress { IfOk result (λ turns. SameTraffic (E.view ends.old) (E.view ends.new) →
+        AreStuck (E.view ends.old) nodes.old.items) }
+    ensures rest { IfOk result (λ turns. turns.spent ≡ false →
+        AreStuck (E.view ends.new) nodes.new.items) }
     ensures starves { OnErr result (TakesMemory nodes.new.items) }
-    ensures often { IfOk result (λ turns. turns.spent ≡ true → HaveMovedForTurns most_turns idle_turns nodes.old.items nodes.new.items (E.view ends.old) (E.view ends.new)) }
+    ensures often { IfOk result (λ turns. turns.spent ≡ true →
+        HaveMovedForTurns most_turns idle_turns nodes.old.items nodes.new.items (E.view ends.old)
+        (E.view ends.new)) }
     ensures none { IfOk result (λ turns. length nodes.old.items ≡ 0 → turns.spent ≡ false) }
 {
     if nodes.is_empty() {

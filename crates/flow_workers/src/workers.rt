@@ -95,7 +95,8 @@ fn start_all<
     requires some { 0 < chunk }
     requires idle { 0 < idle_turns }
     requires fed { All (λ share. share.starved ≡ false) shares.items }
-    ensures given { IfOk result (λ workers. map (λ worker. worker.promise.given.value) workers.items ≡ shares.items) }
+    ensures given { IfOk result (λ workers. map (λ worker.
+        worker.promise.given.value) workers.items ≡ shares.items) }
     ensures refused { S.refused start.new → S.refused start.old ⊎ (result ≡ Err NoThread) }
 {
     let mut workers = Vec::with_capacity(alloc, shares.len())?;
@@ -139,7 +140,8 @@ pub fn run_all<
     requires idle { 0 < idle_turns }
     requires fed { All (λ share. share.starved ≡ false) shares.items }
     ensures count { IfOk result (λ back. length back.items ≡ length shares.items) }
-    ensures each { IfOk result (λ back. (k : ℕ) (d : _) → k < length shares.items → IsPumped (slice_index_or shares.items k d) (slice_index_or back.items k d)) }
+    ensures each { IfOk result (λ back. (k : ℕ) (d : _) → k < length shares.items →
+        IsPumped (slice_index_or shares.items k d) (slice_index_or back.items k d)) }
     ensures refused { S.refused start.new → S.refused start.old ⊎ (result ≡ Err NoThread) }
 {
     let mut back = Vec::with_capacity(alloc, shares.len())?;
