@@ -16,10 +16,10 @@ use Rattle.snesl_data.specs.Integers.{is_integer}
 use Rattle.snesl_values.specs.InputTokens.{Lexeme, word, integer, sign, bad, is_sign, negated, minus_lexeme, first, next, next_at}
 use Rattle.snesl_values.specs.declared.marks.Mark.{Mark}
 use Rattle.snesl_values.specs.declared.marks.Mark.TheVariants.{Truth, Number, Open, Close, Comma, Other}
-use Rattle.snesl_values.specs.Marks.{mark_of, sign_mark, word_mark}
+use Rattle.snesl_values.specs.Marks.{found_from, mark_of, sign_mark, word_mark}
 use Rattle.snesl_values.proofs.InputScan.{next_at-is}
 use Rattle.snesl_values.proofs.First.{seen, a_sign}
-use Rattle.snesl_values.proofs.Spots.{Comes, Next, nothing, lexeme, next_is}
+use Rattle.snesl_values.proofs.Spots.{found_some, Comes, Next, nothing, lexeme, next_is}
 use Rattle.flow_inputs.specs.declared.turns.Step.{Step}
 use Rattle.flow_inputs.specs.declared.turns.Leaf.{Leaf}
 use Rattle.flow_inputs.specs.declared.turns.Mode.{Mode}
@@ -271,6 +271,27 @@ sign_first b bs h = by_first (first (b ∷ bs)) (a_sign (b ∷ bs) (omega arith)
 -- where no byte is passed over as a blank
 none_blank : (text : List ℕ) (at b : ℕ) (bs : List ℕ) → drop at text ≡ b ∷ bs → is_blank b ≡ false → next_at text at ≡ at
 none_blank text at b bs e h = let f : prefix_len is_blank (drop at text) ≡ 0 = ap (prefix_len is_blank) e ∙ cond-false _ _ _ h in omega (arith, next_at-is text at, f)
+
+-- behind the last byte no blank is passed over
+pub end_at : (text : List ℕ) (at : ℕ) → length text ≤ at → at ≡ next_at text at
+end_at text at over = omega (arith, next_at-is text at, prefix_len-le-length is_blank (drop at text), length-drop at text)
+
+-- what is found where such a byte stands
+pub sign_found : (text : List ℕ) (at : ℕ) → at < length text → (sign_mark (get_or text at 0) ≡ Other → ⊥)
+    → Some (record { mark = sign_mark (get_or text at 0); end = at + 1 }) ≡ found_from (next_at text at) (next text at)
+sign_found text at inside other = by_test (is_plain b) refl
+  where
+    b : ℕ
+    b = get_or text at 0
+
+    here : drop at text ≡ b ∷ drop (at + 1) text
+    here = drop_more text at 0 inside
+
+    by_test : (t : Bool) → is_plain b ≡ t → Some (record { mark = sign_mark b; end = at + 1 }) ≡ found_from (next_at text at) (next text at)
+    by_test true plain = absurd (other (other_sign b plain))
+    by_test false h =
+        found_some text at at (sign_mark b, 1) (sym (none_blank text at b (drop (at + 1) text) here (not_blank b h)))
+        (a_sign (b ∷ drop (at + 1) text) (omega arith) (not_letter b h) (not_digit b h) (not_minus b h) ∙ ap (λ bytes. option_map seen (first bytes)) (sym here))
 
 nonzero : (n : ℕ) → eqb n 0 ≡ false → 0 < n
 nonzero n h = grind (arith, nat_tests)

@@ -1,12 +1,14 @@
 // The items of one edge, scanned from a text.
 
-ghost use Rattle.std.specs.Prelude.{◌≡◌, ◌≤◌, ◌++◌, [], length, IfNone, option_to_list};
+ghost use Rattle.std.specs.Prelude.{◌≡◌, ◌<◌, ◌≤◌, ◌++◌, [], length, IfSome, IfNone, option_to_list};
+ghost use Rattle.snesl_values.specs.InputTokens.{next, next_at};
+ghost use Rattle.snesl_values.specs.Marks.{found_from};
 ghost use Rattle.flow_inputs.specs.Turns.{depth_of};
 ghost use Rattle.flow_inputs.specs.Left.{left};
 
 use crate::brackets::past;
 use crate::turns::{Leaf, Piece, State, Step, is_done, turn};
-use snesl_values::mark_at;
+use snesl_values::{Found, Mark, mark_at, sign_mark};
 
 // What was found, if anything was, and where the scan stands then.
 #[derive(Clone, Copy, Debug, PartialEq, Eq)]
@@ -14,6 +16,24 @@ pub(crate) struct Scanned {
     pub(crate) piece: Option<Piece>,
     pub(crate) at: usize,
     pub(crate) state: State,
+}
+
+// The token that comes next from the offset `at` on, as `mark_at` gives it. A bracket or a comma that
+// stands there is known by its byte.
+#[inline(always)]
+fn next_mark(text: &[u8], at: usize) -> Option<Found>
+    requires { at ≤ length text.now }
+    ensures next { result ≡ found_from (next_at text.now at) (next text.now at) }
+    ensures moves { IfSome result (λ found. at < found.end) }
+    ensures within { IfSome result (λ found. found.end ≤ length text.now) }
+{
+    if at == text.len() {
+        return None;
+    }
+    match sign_mark(text[at]) {
+        Mark::Other => mark_at(text, at),
+        mark => Some(Found { mark, end: at + 1 }),
+    }
 }
 
 // The next piece that is written from this state and offset on, if there is one, and where the scan
@@ -45,7 +65,7 @@ pub(crate) fn scan(
         let (from, mode) = past(text, state.mode, at);
         at = from;
         state.mode = mode;
-        match mark_at(text, at) {
+        match next_mark(text, at) {
             Some(found) => {
                 let (piece, next) = turn(way, leaf, state, found.mark, at);
                 at = found.end;
