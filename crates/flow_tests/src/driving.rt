@@ -4,7 +4,10 @@ ghost use Rattle.flow_graph.specs.Graphs.{states_of};
 ghost use Rattle.flow_graph.specs.Networks.{AreOpened};
 ghost use Rattle.flow_nodes.specs.StreamNodes.{node_behaviour};
 
-use crate::sketches::{SUM_OF_FIVE, SUM_OF_UNLIKE, graph_of};
+use crate::sketches::{
+    PRINTS_BELOW_FIVE, SCAN_OF_QUOTIENTS, SUM_OF_FIVE, SUM_OF_UNLIKE, WAITS_FOR_ITS_LENGTH,
+    graph_of,
+};
 use flow_base::{Printing, Transducer};
 use flow_drive::{Config, Drive, DriveError, NoGate, Outcome, Rested, drive};
 use flow_graph::Graph;
@@ -15,18 +18,6 @@ use std::process::Abort;
 use std::sync::Arc;
 use std::test::Fail;
 use std::thread::Threads;
-
-/// Drives, and how many steps a visit has. What one makes of a graph, each makes of it.
-pub const WAYS: [(Drive, usize); 8] = [
-    (Drive::Serial, 1),
-    (Drive::Serial, 2),
-    (Drive::Serial, 16),
-    (Drive::Serial, 1_024),
-    (Drive::Rounds, 1),
-    (Drive::Rounds, 1_024),
-    (Drive::Rings, 1),
-    (Drive::Rings, 1_024),
-];
 
 /// What a graph tells that came to rest. (A graph at rest costs much proof wherever it is let go, and this does not.)
 #[derive(Drop)]
@@ -111,29 +102,59 @@ pub fn driven_under(
     driven_any(rt, alloc, graph, config)
 }
 
-// A lawful configuration.
+// A drive, how many steps a visit has, and how many threads there are.
+type Way = (Drive, usize, usize);
+
+// What one makes of a graph, each makes of it.
+const WAYS: [Way; 8] = [
+    (Drive::Serial, 1, 2),
+    (Drive::Serial, 2, 2),
+    (Drive::Serial, 16, 2),
+    (Drive::Serial, 1_024, 2),
+    (Drive::Rounds, 1, 2),
+    (Drive::Rounds, 1_024, 2),
+    (Drive::Rings, 1, 2),
+    (Drive::Rings, 1_024, 2),
+];
+
+// The drives in steps, in one thread and in more of them than there are nodes.
+const IN_STEPS: [Way; 8] = [
+    (Drive::Serial, 1, 1),
+    (Drive::Serial, 1, 16),
+    (Drive::Serial, 1_024, 1),
+    (Drive::Serial, 1_024, 16),
+    (Drive::Rounds, 1, 1),
+    (Drive::Rounds, 1, 16),
+    (Drive::Rounds, 1_024, 1),
+    (Drive::Rounds, 1_024, 16),
+];
+
+// The numbers of sixteen threads.
+const EACH_ONCE: [u8; 16] = [0, 1, 2, 3, 4, 5, 6, 7, 8, 9, 10, 11, 12, 13, 14, 15];
+
+// A lawful configuration, in which each thread has a node.
 fn config(
     alloc: Global,
     capacity: usize,
-    (drive, chunk): (Drive, usize),
+    (drive, chunk, threads): Way,
 ) -> Result<Config, AllocError> {
     Ok(Config {
         capacity,
         chunk,
-        threads: 2,
+        threads,
         idle: 64,
-        share: vec![in alloc; 0u8, 1]?,
+        share: EACH_ONCE[..threads.min(16)].to_vec(alloc)?,
         drive,
     })
 }
 
-/// Drives the graph of a sketch.
-pub fn driven(
+// Drives the graph of a sketch.
+fn driven(
     rt: &impl Threads,
     alloc: Global,
     sketch: &str,
     capacity: usize,
-    way: (Drive, usize),
+    way: Way,
 ) -> Result<Told, Fail> {
     let config = config(alloc, capacity, way)?;
     Ok(driven_under(rt, alloc, graph_of(alloc, sketch)?, &config)?)
@@ -158,125 +179,155 @@ fn are_turns(told: &Told, drive: Drive) -> bool {
     }
 }
 
-// What a graph comes to: its outcome, how many messages are sent and received on each edge, and its text.
-type End = (Outcome, &'static [(u64, u64)], &'static [u8]);
-
-// Asserts what each drive makes of a graph of so many nodes.
-fn assert_ends<R: Threads + Abort>(
-    rt: &R,
-    alloc: Global,
-    sketch: &str,
-    capacity: usize,
+// What a graph comes to, whichever way it is driven.
+#[derive(Clone, Copy)]
+struct Ending {
+    name: &'static str,
+    sketch: &'static str,
     nodes: usize,
-    (outcome, counts, text): End,
-) -> Result<(), Fail> {
-    for way in WAYS {
-        let told = driven(rt, alloc, sketch, capacity, way)?;
-        // Over rings, and by no other drive, all nodes stay in shares.
-        let apart = if way.0 == Drive::Rings {
-            Some(nodes)
-        } else {
-            None
-        };
-        let end = (
-            (told.nodes, told.apart),
-            told.outcome,
-            told.counts.as_slice(),
-            told.text.as_slice(),
-        );
-        assert_eq!(rt; end, ((nodes, apart), outcome, counts, text));
-        assert!(rt;
-            are_turns(&told, way.0),
-            "{} rounds, {} epochs",
-            told.rounds,
-            told.epochs
-        );
-    }
-    Ok(())
+    capacity: usize,
+    ways: &'static [Way],
+    outcome: Outcome,
+    // How many messages are sent and received on each edge.
+    counts: &'static [(u64, u64)],
+    text: &'static [u8],
 }
 
 // Nineteen messages are sent and received.
-#[test]
-fn sum_of_five(rt: HostRuntime) -> Result<(), Fail> {
-    let counts: &[(u64, u64)] = &[(2, 2), (2, 2), (7, 7), (6, 6), (2, 2)];
-    for capacity in [1, 2, 256] {
-        let end: End = (Outcome::Value, counts, b"");
-        assert_ends(&rt, rt.alloc(), SUM_OF_FIVE, capacity, 5, end)?;
-    }
-    Ok(())
-}
+const SUM: Ending = Ending {
+    name: "sum of five",
+    sketch: SUM_OF_FIVE,
+    nodes: 5,
+    capacity: 1,
+    ways: &WAYS,
+    outcome: Outcome::Value,
+    counts: &[(2, 2), (2, 2), (7, 7), (6, 6), (2, 2)],
+    text: b"",
+};
 
 // The numbers and the end from the left, of which the end is not received; the number and the end from the right; the sum.
-#[test]
-fn a_fault_at_seven(rt: HostRuntime) -> Result<(), Fail> {
-    let shape = Fault {
+const UNLIKE: Ending = Ending {
+    name: "a fault at seven",
+    sketch: SUM_OF_UNLIKE,
+    nodes: 4,
+    capacity: 1,
+    ways: &WAYS,
+    outcome: Outcome::Fault(Fault {
         kind: FaultKind::Shape,
         at: 7,
-    };
-    for capacity in [1, 4] {
-        let end: End = (Outcome::Fault(shape), &[(3, 2), (2, 2), (1, 1)], b"");
-        assert_ends(&rt, rt.alloc(), SUM_OF_UNLIKE, capacity, 4, end)?;
-    }
-    Ok(())
-}
-
-// The flags of one segment of two elements, of which one copy waits for numbers that come from the other: its
-// length, and the numbers below it.
-const WAITS_FOR_ITS_LENGTH: &str = r"
-node 0 source bools F F T
-node 1 fork bool 2
-node 2 length one
-node 3 iota
-node 4 reduce one sum
-node 5 sink bool
-node 6 sink int
-edge 0.0 1.0
-edge 1.0 4.0
-edge 1.1 2.0
-edge 2.0 3.0
-edge 3.0 5.0
-edge 3.1 4.1
-edge 4.0 6.0
-";
+    }),
+    counts: &[(3, 2), (2, 2), (1, 1)],
+    text: b"",
+};
 
 // At capacity 1 the fork has the end of the segment for an edge that holds its second flag.
-#[test]
-fn small_edges_stall(rt: HostRuntime) -> Result<(), Fail> {
-    let stalled: End = (
-        Outcome::Stalled { edge: 1 },
-        &[(4, 3), (2, 1), (2, 2), (0, 0), (0, 0), (0, 0), (0, 0)],
-        b"",
-    );
-    assert_ends(&rt, rt.alloc(), WAITS_FOR_ITS_LENGTH, 1, 7, stalled)?;
-    let ended: End = (
-        Outcome::Value,
-        &[(4, 4), (4, 4), (4, 4), (2, 2), (4, 4), (3, 3), (2, 2)],
-        b"",
-    );
-    assert_ends(&rt, rt.alloc(), WAITS_FOR_ITS_LENGTH, 2, 7, ended)
-}
+const STALLED: Ending = Ending {
+    name: "small edges stall",
+    sketch: WAITS_FOR_ITS_LENGTH,
+    nodes: 7,
+    capacity: 1,
+    ways: &WAYS,
+    outcome: Outcome::Stalled { edge: 1 },
+    counts: &[(4, 3), (2, 1), (2, 2), (0, 0), (0, 0), (0, 0), (0, 0)],
+    text: b"",
+};
 
 // Prints the sequence of the numbers below five.
-const PRINTS_BELOW_FIVE: &str = r"
-node 0 source units 1
-node 1 const 5
-node 2 iota
-node 3 print seq int
-edge 0.0 1.0
-edge 1.0 2.0
-edge 2.0 3.0
-edge 2.1 3.1
-";
+const PRINTED: Ending = Ending {
+    name: "text of the value",
+    sketch: PRINTS_BELOW_FIVE,
+    nodes: 4,
+    capacity: 1,
+    ways: &WAYS,
+    outcome: Outcome::Value,
+    counts: &[(2, 2), (2, 2), (7, 7), (6, 6)],
+    text: b"{0,1,2,3,4}",
+};
+
+// A scan adds with the element that the sum is written for, and not with its flag: so the fault of the element is named. The third
+// flag is received, and no third quotient is there.
+const OF_QUOTIENTS: Ending = Ending {
+    name: "fault of the element",
+    sketch: SCAN_OF_QUOTIENTS,
+    nodes: 6,
+    capacity: 1,
+    ways: &WAYS,
+    outcome: Outcome::Fault(Fault {
+        kind: FaultKind::Divide,
+        at: 35,
+    }),
+    counts: &[(4, 3), (4, 3), (4, 3), (2, 2), (2, 2)],
+    text: b"",
+};
+
+const ENDINGS: [Ending; 12] = [
+    SUM,
+    Ending { capacity: 2, ..SUM },
+    Ending {
+        capacity: 256,
+        ..SUM
+    },
+    UNLIKE,
+    Ending {
+        capacity: 4,
+        ..UNLIKE
+    },
+    STALLED,
+    Ending {
+        name: "all name one stalled edge",
+        ways: &IN_STEPS,
+        ..STALLED
+    },
+    Ending {
+        name: "edges of two do not stall",
+        capacity: 2,
+        outcome: Outcome::Value,
+        counts: &[(4, 4), (4, 4), (4, 4), (2, 2), (4, 4), (3, 3), (2, 2)],
+        ..STALLED
+    },
+    PRINTED,
+    Ending {
+        capacity: 256,
+        ..PRINTED
+    },
+    OF_QUOTIENTS,
+    Ending {
+        capacity: 4,
+        counts: &[(5, 3), (4, 3), (4, 3), (2, 2), (2, 2)],
+        ..OF_QUOTIENTS
+    },
+];
+
+// Asserts that what a graph tells that was driven this way is what it comes to.
+fn assert_told(rt: &impl Abort, told: &Told, ending: &Ending, (drive, chunk, threads): Way) {
+    // Over rings, and by no other drive, all nodes stay in shares.
+    let apart = if drive == Drive::Rings {
+        Some(ending.nodes)
+    } else {
+        None
+    };
+    let end = (
+        (told.nodes, told.apart, are_turns(told, drive)),
+        told.outcome,
+        told.counts.as_slice(),
+        told.text.as_slice(),
+    );
+    let wanted = (
+        (ending.nodes, apart, true),
+        ending.outcome,
+        ending.counts,
+        ending.text,
+    );
+    assert_eq!(rt; end, wanted, "{}: {drive:?} {chunk} {threads}", ending.name);
+}
 
 #[test]
-fn text_of_the_value(rt: HostRuntime) -> Result<(), Fail> {
-    for capacity in [1, 256] {
-        let end: End = (
-            Outcome::Value,
-            &[(2, 2), (2, 2), (7, 7), (6, 6)],
-            b"{0,1,2,3,4}",
-        );
-        assert_ends(&rt, rt.alloc(), PRINTS_BELOW_FIVE, capacity, 4, end)?;
+fn endings(rt: HostRuntime) -> Result<(), Fail> {
+    for ending in &ENDINGS {
+        for &way in ending.ways {
+            let told = driven(&rt, rt.alloc(), ending.sketch, ending.capacity, way)?;
+            assert_told(&rt, &told, ending, way);
+        }
     }
     Ok(())
 }

@@ -30,6 +30,17 @@ fn wants<T: Transducer>(rt: &impl Abort, graph: &Graph<T>, node: usize) -> Want 
     graph.node(node).want()
 }
 
+// How many of the first five nodes have ended.
+fn ended<T: Transducer>(rt: &impl Abort, graph: &Graph<T>) -> usize {
+    let mut ended = 0usize;
+    for node in 0..5 {
+        if wants(rt, graph, node) == Want::Ended {
+            ended = ended.saturating_add(1);
+        }
+    }
+    ended
+}
+
 // Steps the nodes in this order, again and again, until none moves. Gives how many messages were sent, and how many
 // received.
 fn run_in_order<T: Transducer>(
@@ -68,10 +79,7 @@ fn assert_nineteen<T: Transducer + Drop>(
 ) -> Result<(), Fail> {
     let mut table = Table::new(alloc, graph.edges(), 1)?;
     let counts = run_in_order(rt, &mut graph, &mut table, order)?;
-    assert_eq!(rt; counts, (19, 19));
-    for node in 0..5 {
-        assert_eq!(rt; wants(rt, &graph, node), Want::Ended);
-    }
+    assert_eq!(rt; (counts, ended(rt, &graph)), ((19, 19), 5));
     Ok(())
 }
 

@@ -8,7 +8,6 @@ use flow_base::Transducer;
 use flow_drive::{Config, Drive, Gate, drive};
 use flow_graph::Graph;
 use std::alloc::Global;
-use std::process::Abort;
 use std::sync::Arc;
 use std::sync::atomic::{AtomicU64, Ordering};
 use std::test::Fail;
@@ -51,13 +50,17 @@ fn counted<T: Transducer + Send + Drop + 'static>(
     Ok((rested.rounds(), gate.turns.load(Ordering::SeqCst)))
 }
 
+// The same of the sum of five.
+fn counted_in_sum(rt: &impl Threads, alloc: Global, idle: usize) -> Result<(u64, u64), Fail> {
+    counted(rt, alloc, graph_of(alloc, SUM_OF_FIVE)?, idle)
+}
+
 // Nothing comes to a share within a round: so with two idle turns more each share makes two turns more in each round.
 #[test]
 fn idle_turns_in_rounds(rt: HostRuntime) -> Result<(), Fail> {
-    let (rounds, turns) = counted(&rt, rt.alloc(), graph_of(rt.alloc(), SUM_OF_FIVE)?, 1)?;
-    let (same, more) = counted(&rt, rt.alloc(), graph_of(rt.alloc(), SUM_OF_FIVE)?, 3)?;
-    assert!(rt; rounds > 0);
-    assert_eq!(rt; same, rounds);
-    assert_eq!(rt; more, turns.saturating_add(rounds.saturating_mul(4)));
+    let (rounds, turns) = counted_in_sum(&rt, rt.alloc(), 1)?;
+    let counts = counted_in_sum(&rt, rt.alloc(), 3)?;
+    let more = turns.saturating_add(rounds.saturating_mul(4));
+    assert_eq!(rt; (rounds > 0, counts), (true, (rounds, more)));
     Ok(())
 }

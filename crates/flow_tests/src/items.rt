@@ -17,50 +17,63 @@ fn fitting(alloc: Global, item: Item) -> Result<[bool; 4], AllocError> {
     ])
 }
 
-#[test]
-fn items(rt: HostRuntime) -> Result<(), Fail> {
-    let alloc = rt.alloc();
+// Which kinds items of four kinds fit: a vector, a unit, a truth value and an integer.
+fn fits(alloc: Global) -> Result<[[bool; 4]; 4], AllocError> {
     let vector = Item::of_datum(alloc, Datum::Vec(Vec::new(alloc)))?;
-    let fit = [
+    Ok([
+        fitting(alloc, vector)?,
         fitting(alloc, Item::Unit)?,
         fitting(alloc, Item::Bool(true))?,
         fitting(alloc, Item::Int(-7))?,
-        fitting(alloc, vector)?,
-    ];
-    let each_its_own = [
-        [true, false, false, false],
-        [false, true, false, false],
-        [false, false, true, false],
-        [false, false, false, true],
-    ];
-    assert_eq!(rt; fit, each_its_own);
-    Ok(())
+    ])
+}
+
+const SHAPE: Fault = Fault {
+    kind: FaultKind::Shape,
+    at: 0,
+};
+
+const LATE: Fault = Fault {
+    kind: FaultKind::Divide,
+    at: 9,
+};
+
+const EARLY: Fault = Fault {
+    kind: FaultKind::The,
+    at: 4,
+};
+
+const BESIDE: Fault = Fault {
+    kind: FaultKind::Overflow,
+    at: 4,
+};
+
+// The faults that are named of two.
+fn of_two() -> [Fault; 3] {
+    [named(SHAPE, LATE), named(LATE, EARLY), named(EARLY, BESIDE)]
+}
+
+// The faults that are named of four, of one and of none.
+fn of_many() -> [Option<Fault>; 3] {
+    [
+        named_fault(&[SHAPE, LATE, EARLY, BESIDE]),
+        named_fault(&[SHAPE]),
+        named_fault(&[]),
+    ]
 }
 
 #[test]
-fn the_fault_that_is_named(rt: HostRuntime) {
-    let shape = Fault {
-        kind: FaultKind::Shape,
-        at: 0,
-    };
-    let late = Fault {
-        kind: FaultKind::Divide,
-        at: 9,
-    };
-    let early = Fault {
-        kind: FaultKind::The,
-        at: 4,
-    };
-    let beside = Fault {
-        kind: FaultKind::Overflow,
-        at: 4,
-    };
-    let of_two = [named(shape, late), named(late, early), named(early, beside)];
-    assert_eq!(rt; of_two, [late, early, beside]);
-    let of_many = [
-        named_fault(&[shape, late, early, beside]),
-        named_fault(&[shape]),
-        named_fault(&[]),
+fn kinds_and_named_faults(rt: HostRuntime) -> Result<(), Fail> {
+    let each_its_own = [
+        [false, false, false, true],
+        [true, false, false, false],
+        [false, true, false, false],
+        [false, false, true, false],
     ];
-    assert_eq!(rt; of_many, [Some(beside), Some(shape), None]);
+    let faults = ([LATE, EARLY, BESIDE], [Some(BESIDE), Some(SHAPE), None]);
+    assert_eq!(rt;
+        (fits(rt.alloc())?, (of_two(), of_many())),
+        (each_its_own, faults)
+    );
+    Ok(())
 }

@@ -1,4 +1,4 @@
-// Tests of the network: items, graphs, drives, and each node by the rows of tables.
+// Tests of the network: items, graphs, drives and their parts, and each node by the rows of tables.
 #![tactic(auto)]
 
 #[cfg(test)]
@@ -17,7 +17,7 @@ mod node_words;
 #[cfg(test)]
 mod operators;
 #[cfg(test)]
-mod scan_order;
+mod parts;
 #[cfg(test)]
 mod settling;
 pub mod shares;

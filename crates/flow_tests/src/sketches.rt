@@ -46,6 +46,52 @@ edge 1.0 2.1
 edge 2.0 3.0
 ";
 
+/// The flags of one segment of two elements, of which one copy waits for numbers that come from the other: its length, and
+/// the numbers below it.
+pub const WAITS_FOR_ITS_LENGTH: &str = r"
+node 0 source bools F F T
+node 1 fork bool 2
+node 2 length one
+node 3 iota
+node 4 reduce one sum
+node 5 sink bool
+node 6 sink int
+edge 0.0 1.0
+edge 1.0 4.0
+edge 1.1 2.0
+edge 2.0 3.0
+edge 3.0 5.0
+edge 3.1 4.1
+edge 4.0 6.0
+";
+
+/// Prints the sequence of the numbers below five.
+pub const PRINTS_BELOW_FIVE: &str = r"
+node 0 source units 1
+node 1 const 5
+node 2 iota
+node 3 print seq int
+edge 0.0 1.0
+edge 1.0 2.0
+edge 2.0 3.0
+edge 2.1 3.1
+";
+
+/// The sums at offset 0 of the quotients at offset 35, of which the third has no value, and its sum neither.
+pub const SCAN_OF_QUOTIENTS: &str = r"
+node 0 source bools F F F T
+node 0 source ints 9223372036854775807 1 1
+node 0 source ints 1 1 0
+node 35 binary one divide
+node 0 scan_add one
+node 0 sink int
+edge 0.0 4.0
+edge 1.0 3.0
+edge 2.0 3.1
+edge 3.0 4.1
+edge 4.0 5.0
+";
+
 /// The graph of a sketch, in which each port has its edge.
 pub fn graph_of(alloc: Global, sketch: &str) -> Result<Graph<StreamNode>, Fail>
     ensures { IfOk result (λ graph. AreOpened node_behaviour (states_of graph)) }

@@ -8,7 +8,6 @@ use flow_base::Transducer;
 use flow_drive::{Config, Drive, NoGate, Share, deal, deal_rings, pump};
 use flow_messages::Ends;
 use std::alloc::{AllocError, Global};
-use std::process::Abort;
 use std::test::Fail;
 
 // Each of the first sixteen nodes in a share of its own.
@@ -27,38 +26,47 @@ fn apart(alloc: Global) -> Result<Config, AllocError> {
     })
 }
 
-// The ends of the first of sixteen shares, after a pump that moved a message and came to rest.
-fn pumped<T: Transducer + Drop, E: Ends + Drop>(
-    rt: &impl Abort,
+// Whether there is room on the only edge that the first of sixteen shares writes, after a pump that moved a message and came to
+// rest. Nothing where it is not so.
+fn room_behind<T: Transducer + Drop, E: Ends + Drop>(
     shares: Vec<Share<T, E>>,
     config: &Config,
-) -> E
+) -> Option<bool>
     requires lawful { IsLawful config.now }
     requires fed { AreFed shares.items }
 {
     let mut shares = shares;
-    assert!(rt; shares.len() == 16);
+    if shares.len() != 16 {
+        return None;
+    }
     let share = shares.swap_remove(0);
     let share = pump(share, config, &NoGate);
-    assert!(rt; share.nodes().len() == 1 && share.moved() && !share.spent() && !share.starved());
-    share.into_parts().1
+    if share.nodes().len() != 1 || !share.moved() || share.spent() || share.starved() {
+        return None;
+    }
+    let mut ends = share.into_parts().1;
+    if !ends.has_writer(0) || ends.has_reader(0) {
+        return None;
+    }
+    Some(ends.room(0))
+}
+
+// The source has put its one message on the only edge that it writes.
+fn room_on_boxes(alloc: Global) -> Result<Option<bool>, Fail> {
+    let config = apart(alloc)?;
+    let shares = deal(alloc, graph_of(alloc, SUM_OF_FIVE)?, &config)?;
+    Ok(room_behind(shares, &config))
+}
+
+fn room_on_rings(alloc: Global) -> Result<Option<bool>, Fail> {
+    let config = apart(alloc)?;
+    let shares = deal_rings(alloc, graph_of(alloc, SUM_OF_FIVE)?, &config)?;
+    Ok(room_behind(shares, &config))
 }
 
 #[test]
-fn share_over_boxes_is_not_spent(rt: HostRuntime) -> Result<(), Fail> {
-    let config = apart(rt.alloc())?;
-    let shares = deal(rt.alloc(), graph_of(rt.alloc(), SUM_OF_FIVE)?, &config)?;
-    let mut ends = pumped(&rt, shares, &config);
-    // The source has put its one message on the only edge that it writes.
-    assert!(rt; ends.has_writer(0) && !ends.has_reader(0) && !ends.room(0));
-    Ok(())
-}
-
-#[test]
-fn share_over_rings_is_not_spent(rt: HostRuntime) -> Result<(), Fail> {
-    let config = apart(rt.alloc())?;
-    let shares = deal_rings(rt.alloc(), graph_of(rt.alloc(), SUM_OF_FIVE)?, &config)?;
-    let ends = pumped(&rt, shares, &config);
-    assert!(rt; ends.has_writer(0) && !ends.has_reader(0));
+fn shares_are_not_spent(rt: HostRuntime) -> Result<(), Fail> {
+    let rooms = (room_on_boxes(rt.alloc())?, room_on_rings(rt.alloc())?);
+    assert!(rt; rooms.0 == Some(false) && rooms.1.is_some());
     Ok(())
 }

@@ -1,5 +1,0 @@
-use Rattle.flow_part_tests.proofs.Bare.{bare_setting}
-use Rattle.flow_part_tests.proofs.epochs.run_bare.Given as goal
-
-abbrev pub ghost-run_epochs : goal.ghost-run_epochs
-ghost-run_epochs g a = bare_setting g.T.Transducer

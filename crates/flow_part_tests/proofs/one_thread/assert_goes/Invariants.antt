@@ -1,5 +1,0 @@
-use Rattle.flow_rings.specs.Edge.{IsEdge}
-use Rattle.flow_part_tests.proofs.one_thread.assert_goes.Given as goal
-
-abbrev pub invariant-loop-number : goal.invariant-loop-number
-invariant-loop-number g l = IsEdge l.writer l.reader

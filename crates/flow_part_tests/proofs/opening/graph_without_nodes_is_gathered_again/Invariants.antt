@@ -1,5 +1,0 @@
-use Rattle.flow_opening.specs.Settings.{setting_of}
-use Rattle.flow_part_tests.proofs.opening.graph_without_nodes_is_gathered_again.Given as goal
-
-abbrev pub ghost-deal_and_gather : goal.ghost-deal_and_gather
-ghost-deal_and_gather g a = setting_of a.graph a.share.now a.capacity

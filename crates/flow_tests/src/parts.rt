@@ -1,0 +1,15 @@
+// Tests of the parts of which the drives are made: tables, boxes and rings, by courses over their edges; dealing, shares, workers,
+// openings and epochs; and both ends of an edge, in one thread and in threads of their own.
+
+mod courses;
+mod crossings;
+mod epochs;
+mod messages;
+mod one_thread;
+mod opened;
+mod opening;
+mod pairs;
+mod shares;
+mod tables;
+mod turns;
+mod two_threads;

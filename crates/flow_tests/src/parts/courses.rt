@@ -1,0 +1,267 @@
+// Courses over edges: what is done at their ends, step by step, and what is to come of it. Each is a row, of boxes or of rings.
+ghost use Rattle.std.specs.Prelude.{◌≡◌, ◌<◌, ◌≤◌, ℕ, length, slice_index_or};
+ghost use Rattle.std.specs.List.{All};
+ghost use Rattle.flow_messages.specs.Limits.{greatest_capacity};
+ghost use Rattle.flow_tests.specs.Joined.{AreJoined};
+
+use crate::parts::messages::{is_message, is_refused, message};
+use crate::parts::opened::{own_wire, wires};
+use flow_boxes::Boxes;
+use flow_meetings::{Meeting, Wire, meet_all};
+use flow_messages::{CountedEnds, Why};
+use flow_opening::{Opening, open_all};
+use flow_rings::Rings;
+use std::alloc::{AllocError, Global};
+use std::process::Abort;
+use std::test::Fail;
+
+/// What is done at the ends of an edge, and what is to come of it. A message is a number, or `End` where there is none.
+#[derive(Clone, Copy)]
+pub enum Act {
+    Puts(Option<i128>),
+    /// It is refused for this cause, and comes back.
+    IsRefused(Option<i128>, Why),
+    Takes(Option<i128>),
+    TakesNothing,
+    HasRoom(bool),
+    IsReady(bool),
+    /// Whether the writer's end is there, and the reader's.
+    HasEnds(bool, bool),
+    /// How many messages were sent and received, where both ends are there.
+    Counts(u64, u64),
+}
+
+// A step of a course.
+#[derive(Clone, Copy)]
+enum Step {
+    // In a share, at an edge.
+    At(usize, usize, Act),
+    // The ends of every edge meet.
+    Meet,
+}
+
+// A course over new ends of shares.
+#[derive(Clone, Copy)]
+struct Course {
+    name: &'static str,
+    shares: Shares,
+    // How many messages each edge holds: 1 or 2.
+    capacity: usize,
+    steps: &'static [Step],
+}
+
+// The shares of a course, and their edges.
+#[derive(Clone, Copy)]
+enum Shares {
+    // Edge 0 goes from the first share to the second, and edge 1 back.
+    Two,
+    // Edge 0 goes from the share to itself.
+    One,
+}
+
+// A message goes over each of two edges between two shares, there and back.
+const EACH_WAY: Course = Course {
+    name: "each way",
+    shares: Shares::Two,
+    capacity: 1,
+    steps: &[
+        Step::At(0, 0, Act::Puts(Some(1))),
+        Step::At(1, 1, Act::Puts(None)),
+        Step::Meet,
+        Step::At(1, 0, Act::Takes(Some(1))),
+        Step::At(0, 1, Act::Takes(None)),
+    ],
+};
+
+const OVER_BOXES: [Course; 3] = [
+    EACH_WAY,
+    Course {
+        name: "messages pass between rounds only",
+        shares: Shares::Two,
+        capacity: 2,
+        steps: &[
+            Step::At(0, 0, Act::HasEnds(true, false)),
+            Step::At(1, 0, Act::HasEnds(false, true)),
+            Step::At(0, 0, Act::Puts(Some(1))),
+            Step::At(0, 0, Act::Puts(Some(2))),
+            Step::At(0, 0, Act::IsRefused(Some(3), Why::Full)),
+            Step::At(1, 0, Act::TakesNothing),
+            Step::Meet,
+            Step::At(0, 0, Act::HasRoom(false)),
+            Step::At(1, 0, Act::Takes(Some(1))),
+            Step::At(1, 0, Act::Takes(Some(2))),
+            Step::At(0, 0, Act::IsRefused(None, Why::Full)),
+            Step::Meet,
+            Step::At(0, 0, Act::HasRoom(true)),
+            Step::At(0, 0, Act::Puts(None)),
+            Step::At(0, 0, Act::IsRefused(Some(4), Why::Closed)),
+            Step::Meet,
+            Step::At(1, 0, Act::Takes(None)),
+        ],
+    },
+    Course {
+        name: "both boxes in one share",
+        shares: Shares::One,
+        capacity: 1,
+        steps: &[
+            Step::At(0, 0, Act::Puts(Some(1))),
+            Step::At(0, 0, Act::IsReady(false)),
+            Step::Meet,
+            Step::At(0, 0, Act::IsReady(true)),
+            Step::At(0, 0, Act::Counts(1, 0)),
+            Step::At(0, 0, Act::Takes(Some(1))),
+            Step::At(0, 0, Act::Counts(1, 1)),
+            Step::Meet,
+            Step::At(0, 0, Act::Puts(None)),
+            Step::Meet,
+            Step::At(0, 0, Act::Takes(None)),
+        ],
+    },
+];
+
+const OVER_RINGS: [Course; 3] = [
+    EACH_WAY,
+    Course {
+        name: "messages cross in order",
+        shares: Shares::Two,
+        capacity: 2,
+        steps: &[
+            Step::At(0, 0, Act::HasEnds(true, false)),
+            Step::At(0, 1, Act::HasEnds(false, true)),
+            Step::At(0, 2, Act::HasEnds(false, false)),
+            Step::At(0, 0, Act::Puts(Some(7))),
+            Step::Meet,
+            Step::At(0, 0, Act::Puts(None)),
+            Step::Meet,
+            Step::At(1, 0, Act::IsReady(true)),
+            Step::At(1, 0, Act::Takes(Some(7))),
+            Step::At(1, 0, Act::Takes(None)),
+            Step::At(1, 0, Act::TakesNothing),
+            Step::At(1, 1, Act::Puts(None)),
+            Step::Meet,
+            Step::At(0, 1, Act::Takes(None)),
+            Step::At(1, 1, Act::IsRefused(None, Why::Closed)),
+        ],
+    },
+    Course {
+        name: "both ends in one share",
+        shares: Shares::One,
+        capacity: 1,
+        steps: &[
+            Step::At(0, 0, Act::HasRoom(true)),
+            Step::At(0, 0, Act::Puts(None)),
+            Step::Meet,
+            Step::At(0, 0, Act::HasRoom(false)),
+            Step::At(0, 0, Act::Takes(None)),
+            Step::Meet,
+            Step::At(0, 0, Act::Counts(1, 1)),
+        ],
+    },
+];
+
+/// Does this at the ends of an edge. Whether what is to come of it comes.
+pub fn acts<E: CountedEnds>(ends: &mut E, edge: usize, act: Act) -> bool
+    ensures { E.same ends.old ends.new }
+{
+    let (writes, reads) = (ends.has_writer(edge), ends.has_reader(edge));
+    match act {
+        Act::Puts(of) => writes && ends.put(edge, message(of)).is_ok(),
+        Act::IsRefused(of, cause) => writes && is_refused(ends.put(edge, message(of)), of, cause),
+        Act::Takes(of) => reads && is_message(ends.take(edge), of),
+        Act::TakesNothing => reads && ends.take(edge).is_none(),
+        Act::HasRoom(room) => writes && ends.room(edge) == room,
+        Act::IsReady(ready) => reads && ends.ready(edge) == ready,
+        Act::HasEnds(writer, reader) => writes == writer && reads == reader,
+        Act::Counts(sent, received) => {
+            writes
+                && reads
+                && ends.sent_count(edge) == sent
+                && ends.received_count(edge) == received
+        }
+    }
+}
+
+// The same in the share of this number.
+fn act_in<E: CountedEnds>(ends: &mut [E], share: usize, edge: usize, act: Act) -> bool
+    requires { share < length ends.old }
+    ensures { (s : ℕ) (d : _) → s < length ends.old → E.same (slice_index_or ends.old s d) (slice_index_or ends.new s d) }
+{
+    acts(&mut ends[share], edge, act)
+}
+
+// Makes a step over the ends of shares. Whether what is to come of it comes.
+fn goes<E: Meeting + CountedEnds>(ends: &mut [E], wires: &[Wire], step: Step) -> bool
+    requires { AreJoined E.joins wires.now ends.old }
+    ensures { AreJoined E.joins wires.now ends.new }
+{
+    match step {
+        Step::Meet => {
+            meet_all(ends, wires);
+            true
+        }
+        Step::At(share, edge, act) => share < ends.len() && act_in(ends, share, edge, act),
+    }
+}
+
+// The number of the first step that does not go, if there is one.
+fn first_wrong<E: Meeting + CountedEnds>(
+    ends: &mut [E],
+    wires: &[Wire],
+    steps: &[Step],
+) -> Option<usize>
+    requires { AreJoined E.joins wires.now ends.old }
+{
+    for (number, &step) in steps.iter().enumerate() {
+        if !goes(ends, wires, step) {
+            return Some(number);
+        }
+    }
+    None
+}
+
+// The number of the first step that does not go, if there is one, over new ends of so many shares.
+fn first_over<E: Opening + CountedEnds + Drop>(
+    alloc: Global,
+    shares: usize,
+    wires: &[Wire],
+    capacity: usize,
+    steps: &[Step],
+) -> Result<Option<usize>, AllocError>
+    requires some { 0 < capacity }
+    requires limit { capacity ≤ greatest_capacity }
+    requires writers { All (λ wire. wire.writer < shares) wires.now }
+    requires readers { All (λ wire. wire.reader < shares) wires.now }
+{
+    let mut ends: Vec<E> = open_all(alloc, shares, wires, capacity)?;
+    Ok(first_wrong(&mut ends, wires, steps))
+}
+
+// The number of the first step of a course that does not go, if there is one.
+fn first_of<E: Opening + CountedEnds + Drop>(
+    alloc: Global,
+    course: &Course,
+) -> Result<Option<usize>, AllocError> {
+    let capacity = course.capacity.clamp(1, 2);
+    match course.shares {
+        Shares::Two => first_over::<E>(alloc, 2, &wires(), capacity, course.steps),
+        Shares::One => first_over::<E>(alloc, 1, &own_wire(), capacity, course.steps),
+    }
+}
+
+// Asserts that each step of these courses goes.
+fn assert_go<E: Opening + CountedEnds + Drop>(
+    rt: &impl Abort,
+    alloc: Global,
+    courses: &[Course],
+) -> Result<(), AllocError> {
+    for course in courses {
+        assert_eq!(rt; first_of::<E>(alloc, course)?, None, "{}", course.name);
+    }
+    Ok(())
+}
+
+#[test]
+fn boxes_and_rings(rt: HostRuntime) -> Result<(), Fail> {
+    assert_go::<Boxes>(&rt, rt.alloc(), &OVER_BOXES)?;
+    Ok(assert_go::<Rings>(&rt, rt.alloc(), &OVER_RINGS)?)
+}

@@ -1,0 +1,61 @@
+// Edges of one thread.
+use crate::parts::courses::{Act, acts};
+use flow_messages::{Ends, Table, WholeEnds, Why};
+use std::process::Abort;
+use std::test::Fail;
+
+// The number of the first act that does not go at its edge, if there is one.
+fn first_wrong(table: &mut Table, all: &[(usize, Act)]) -> Option<usize> {
+    for (number, &(edge, act)) in all.iter().enumerate() {
+        if !acts(table, edge, act) {
+            return Some(number);
+        }
+    }
+    None
+}
+
+// How many messages the first edge holds.
+fn held(rt: &impl Abort, table: &Table) -> usize {
+    assert!(rt; table.has_reader(0));
+    table.held(0)
+}
+
+// Three edges of two messages are there: the first is filled, the second ends, and the third is not used.
+const FILLS: [(usize, Act); 16] = [
+    (2, Act::HasEnds(true, true)),
+    (3, Act::HasEnds(false, false)),
+    (1, Act::Puts(None)),
+    (1, Act::IsRefused(Some(1), Why::Closed)),
+    (1, Act::Takes(None)),
+    (1, Act::HasRoom(true)),
+    (1, Act::IsReady(false)),
+    (0, Act::HasRoom(true)),
+    (0, Act::IsReady(false)),
+    (0, Act::TakesNothing),
+    (0, Act::Puts(Some(1))),
+    (0, Act::HasRoom(true)),
+    (0, Act::IsReady(true)),
+    (0, Act::Puts(Some(2))),
+    (0, Act::HasRoom(false)),
+    (0, Act::IsReady(true)),
+];
+
+// The first edge is emptied again.
+const EMPTIES: [(usize, Act); 4] = [
+    (0, Act::IsRefused(Some(3), Why::Full)),
+    (0, Act::Takes(Some(1))),
+    (0, Act::Takes(Some(2))),
+    (0, Act::TakesNothing),
+];
+
+#[test]
+fn three_edges(rt: HostRuntime) -> Result<(), Fail> {
+    let mut table = Table::new(rt.alloc(), 3, 2)?;
+    let filled = (first_wrong(&mut table, &FILLS), held(&rt, &table));
+    let emptied = (first_wrong(&mut table, &EMPTIES), held(&rt, &table));
+    assert_eq!(rt;
+        (filled, emptied, table.capacity()),
+        ((None, 2), (None, 0), 2)
+    );
+    Ok(())
+}
