@@ -7,24 +7,24 @@ use std::alloc::Global;
 use std::process::Abort;
 use std::thread::Threads;
 
-/// What a job was answered.
+// What a job was answered.
 #[derive(Drop)]
-pub struct Reply {
-    /// What was printed.
-    pub printed: Vec<u8>,
-    /// What was said on standard error.
-    pub complaint: Vec<u8>,
-    /// The exit status.
-    pub status: u8,
-    /// How often the reader of the job, the writer of what is printed and that of what is said were called.
-    pub calls: [u64; 3],
-    /// How many of these calls were counted as failures.
-    pub failures: [u64; 3],
+struct Reply {
+    // What was printed.
+    printed: Vec<u8>,
+    // What was said on standard error.
+    complaint: Vec<u8>,
+    // The exit status.
+    status: u8,
+    // How often the reader of the job, the writer of what is printed and that of what is said were called.
+    calls: [u64; 3],
+    // How many of these calls were counted as failures.
+    failures: [u64; 3],
 }
 
-/// Answers a job with these words of the command line. The troubles are those of reading it, of printing and of saying what is
-/// wrong.
-pub fn answered(
+// Answers a job with these words of the command line. The troubles are those of reading it, of printing and of saying what is
+// wrong.
+fn answered(
     rt: &impl Threads,
     alloc: Global,
     words: &[&str],
@@ -46,12 +46,48 @@ pub fn answered(
     }
 }
 
-/// Asserts that this was printed, said, and answered as the status.
-pub fn assert_reply(rt: &impl Abort, reply: &Reply, printed: &[u8], complaint: &[u8], status: u8) {
+/// What a job is to be answered.
+#[derive(Clone, Copy)]
+pub struct Wanted<'a> {
+    /// How often its reader is called.
+    pub reads: usize,
+    pub printed: &'a [u8],
+    pub complaint: &'a [u8],
+    pub status: u8,
+    /// How many calls of its reader and of the two writers fail.
+    pub failures: [u64; 3],
+}
+
+/// Asserts what a job is answered, with these words and these troubles. A call of a writer takes a byte, or fails.
+pub fn assert_answer<R: Abort + Threads>(
+    rt: &R,
+    alloc: Global,
+    words: &[&str],
+    job: &[u8],
+    troubles: [Trouble; 3],
+    wanted: Wanted<'_>,
+) {
+    let reply = answered(rt, alloc, words, job, troubles);
     let told = (
         reply.printed.as_slice(),
         reply.complaint.as_slice(),
         reply.status,
+        reply.calls,
+        reply.failures,
     );
-    assert_eq!(rt; told, (printed, complaint, status));
+    let calls = [
+        wanted.reads as u64,
+        (wanted.printed.len() as u64).wrapping_add(wanted.failures[1]),
+        (wanted.complaint.len() as u64).wrapping_add(wanted.failures[2]),
+    ];
+    assert_eq!(rt;
+        told,
+        (
+            wanted.printed,
+            wanted.complaint,
+            wanted.status,
+            calls,
+            wanted.failures
+        )
+    );
 }

@@ -8,8 +8,8 @@ use snesl_trials::Expected;
 use snesl_types::check;
 use snesl_values::{InputError, read_inputs};
 use std::alloc::{AllocError, Global};
+use std::io;
 use std::io::{Read, Write};
-use std::process::Abort;
 use std::test::Fail;
 
 // The pair of a truth value and a vector of sequences, `(true,[{1,-2},{}])`.
@@ -34,118 +34,166 @@ fn texts(rt: HostRuntime) -> Result<(), Fail> {
     Ok(())
 }
 
-#[test]
-fn fault_numbers(rt: HostRuntime) {
-    let faults = [
-        FaultKind::Divide,
-        FaultKind::Overflow,
-        FaultKind::NegativeCount,
-        FaultKind::Length,
-        FaultKind::Part,
-        FaultKind::The,
-        FaultKind::EmptyMax,
-        FaultKind::Index,
-        FaultKind::Shape,
-    ];
+// In the order of their numbers, from 1 on.
+const FAULTS: [FaultKind; 9] = [
+    FaultKind::Divide,
+    FaultKind::Overflow,
+    FaultKind::NegativeCount,
+    FaultKind::Length,
+    FaultKind::Part,
+    FaultKind::The,
+    FaultKind::EmptyMax,
+    FaultKind::Index,
+    FaultKind::Shape,
+];
+
+// In the order of their numbers, from 1 on, each with its offset.
+const REFUSALS: [(Refusal, Option<usize>); 15] = [
+    (Refusal::TooLong, None),
+    (Refusal::Lex(7), Some(7)),
+    (Refusal::Syntax(8), Some(8)),
+    (Refusal::Deep, None),
+    (Refusal::Name(9), Some(9)),
+    (Refusal::Mismatch(10), Some(10)),
+    (Refusal::Streamed(11), Some(11)),
+    (Refusal::BadInput(12), Some(12)),
+    (Refusal::TooBig, None),
+    (Refusal::BadConfig, None),
+    (Refusal::NoMemory, None),
+    (Refusal::Output, None),
+    (Refusal::NoThread, None),
+    (Refusal::Read, None),
+    (Refusal::Short, None),
+];
+
+// The first place of the faults that is not the number of what stands there, if there is one.
+fn wrong_fault() -> Option<u8> {
     let mut number = 0u8;
-    for fault in faults {
+    for fault in FAULTS {
         number = number.saturating_add(1);
-        assert_eq!(rt; fault.number(), number);
+        if fault.number() != number {
+            return Some(number);
+        }
+    }
+    None
+}
+
+// The same of the refusals, and of their offsets.
+fn wrong_refusal() -> Option<u8> {
+    let mut number = 0u8;
+    for (refusal, at) in REFUSALS {
+        number = number.saturating_add(1);
+        if refusal.number() != number || refusal.at() != at {
+            return Some(number);
+        }
+    }
+    None
+}
+
+// What the ends of ranges and a blank are, and a byte that is none.
+fn ranges_and_blanks() -> [bool; 5] {
+    [
+        Dialect::One.greatest() == 9_223_372_036_854_775_807,
+        Dialect::One.has(-9_223_372_036_854_775_809),
+        Dialect::Two.has(i128::MIN),
+        is_blank(b'\t'),
+        is_blank(b'x'),
+    ]
+}
+
+// Where an input text that says nothing is bad, and how that is refused.
+fn bad_input(alloc: Global) -> Option<(usize, Refusal)> {
+    match read_inputs(Dialect::One, alloc, &[], b" \n=") {
+        Err(InputError::Bad(at)) => Some((at, Refusal::from(InputError::Bad(at)))),
+        _ => None,
     }
 }
 
 #[test]
-fn refusal_numbers(rt: HostRuntime) {
-    let refusals = [
-        (Refusal::TooLong, None),
-        (Refusal::Lex(7), Some(7)),
-        (Refusal::Syntax(8), Some(8)),
-        (Refusal::Deep, None),
-        (Refusal::Name(9), Some(9)),
-        (Refusal::Mismatch(10), Some(10)),
-        (Refusal::Streamed(11), Some(11)),
-        (Refusal::BadInput(12), Some(12)),
-        (Refusal::TooBig, None),
-        (Refusal::BadConfig, None),
-        (Refusal::NoMemory, None),
-        (Refusal::Output, None),
-        (Refusal::NoThread, None),
-        (Refusal::Read, None),
-        (Refusal::Short, None),
-    ];
-    let mut number = 0u8;
-    for (refusal, at) in refusals {
-        number = number.saturating_add(1);
-        assert_eq!(rt; (refusal.number(), refusal.at()), (number, at));
-    }
-}
-
-#[test]
-fn dialects(rt: HostRuntime) {
-    assert!(rt; Dialect::One.greatest() == 9_223_372_036_854_775_807);
-    assert!(rt; !Dialect::One.has(-9_223_372_036_854_775_809) && Dialect::Two.has(i128::MIN));
-}
-
-#[test]
-fn input_errors(rt: HostRuntime) {
-    assert!(rt; is_blank(b'\t') && !is_blank(b'x'));
-    let refused = read_inputs(Dialect::One, rt.alloc(), &[], b" \n=").err();
-    let refusal = Refusal::from(InputError::Bad(2));
-    assert_eq!(rt;
-        (refused, refusal),
-        (Some(InputError::Bad(2)), Refusal::BadInput(2))
+fn numbers(rt: HostRuntime) {
+    let wrong = (wrong_fault(), wrong_refusal());
+    let told = (wrong, ranges_and_blanks(), bad_input(rt.alloc()));
+    let wanted = (
+        (None, None),
+        [true, false, true, true, false],
+        Some((2, Refusal::BadInput(2))),
     );
+    assert_eq!(rt; told, wanted);
 }
 
-#[test]
-fn counted_reader(rt: HostRuntime) -> Result<(), Fail> {
+// How many bytes a counted reader of two gives, and how many of its calls fail.
+fn counted_reader() -> io::Result<(usize, u64)> {
     let mut reader = Counted::new(b"ab".as_slice());
-    let read = reader.read(&mut [0u8; 4])?;
-    assert_eq!(rt; (read, reader.failures()), (2, 0));
-    Ok(())
+    Ok((reader.read(&mut [0u8; 4])?, reader.failures()))
 }
 
-#[test]
-fn counted_writer(rt: HostRuntime) -> Result<(), Fail> {
-    let mut writer = Counted::new(Vec::new(rt.alloc()));
-    let written = (writer.write(b"xyz")?, writer.write(b"")?);
+// How many of three bytes and of none a counted writer takes, how many of its calls fail, and whether it has taken the three.
+fn counted_writer(alloc: Global) -> io::Result<([usize; 2], u64, bool)> {
+    let mut writer = Counted::new(Vec::new(alloc));
+    let written = [writer.write(b"xyz")?, writer.write(b"")?];
     writer.flush()?;
     let failures = writer.failures();
-    let taken = writer.into_inner();
-    assert_eq!(rt;
-        (written, failures, taken.as_slice()),
-        ((3, 0), 0, b"xyz".as_slice())
-    );
-    Ok(())
+    Ok((
+        written,
+        failures,
+        writer.into_inner().as_slice() == b"xyz".as_slice(),
+    ))
+}
+
+// The status of a complaint, and whether it says this.
+fn complained(alloc: Global, line: &[u8]) -> (u8, bool) {
+    let mut err = Counted::new(Vec::new(alloc));
+    let status = complain(Refusal::NoMemory, &mut err);
+    (status, err.into_inner().as_slice() == line)
 }
 
 #[test]
-fn tokens(rt: HostRuntime) -> Result<(), Fail> {
-    let tokens = tokens_of(rt.alloc(), b"a<=12 ++iota_")?;
-    let wanted = [
-        Token {
-            kind: Kind::Name(1),
-            at: 0,
-        },
-        Token {
-            kind: Kind::AtMost,
-            at: 1,
-        },
-        Token {
-            kind: Kind::Integer(12),
-            at: 3,
-        },
-        Token {
-            kind: Kind::Append,
-            at: 6,
-        },
-        Token {
-            kind: Kind::Name(5),
-            at: 8,
-        },
-    ];
-    assert_eq!(rt; tokens.as_slice(), wanted.as_slice());
+fn counted_calls(rt: HostRuntime) -> Result<(), Fail> {
+    let told = (
+        counted_reader()?,
+        counted_writer(rt.alloc())?,
+        complained(rt.alloc(), b"refused 11\n"),
+    );
+    assert_eq!(rt; told, ((2, 0), ([3, 0], 0, true), (4, true)));
     Ok(())
+}
+
+const TOKENS: [Token; 5] = [
+    Token {
+        kind: Kind::Name(1),
+        at: 0,
+    },
+    Token {
+        kind: Kind::AtMost,
+        at: 1,
+    },
+    Token {
+        kind: Kind::Integer(12),
+        at: 3,
+    },
+    Token {
+        kind: Kind::Append,
+        at: 6,
+    },
+    Token {
+        kind: Kind::Name(5),
+        at: 8,
+    },
+];
+
+// Texts of reserved words and signs, and how many tokens each has. None is a name.
+const RESERVED: [(&[u8], usize); 6] = [
+    (b"input function let in if then else true false", 9),
+    (b"not and or int bool dialect iota", 7),
+    (b"scan_add reduce_add reduce_max reduce_and reduce_or", 5),
+    (b"length concat part the tab seq fst snd", 8),
+    (b"( ) { } [ ] : ; , | =", 11),
+    (b"== < <= > >= + ++ - * / % !", 12),
+];
+
+// Whether a text has these tokens.
+fn are_tokens(alloc: Global, text: &[u8], tokens: &[Token]) -> Result<bool, Refusal> {
+    Ok(tokens_of(alloc, text)?.as_slice() == tokens)
 }
 
 // How many tokens a text has, and how many of them are names.
@@ -161,25 +209,11 @@ fn counts_of(alloc: Global, text: &[u8]) -> Result<(usize, usize), Refusal> {
 }
 
 #[test]
-fn reserved_words(rt: HostRuntime) -> Result<(), Fail> {
-    let rows: [(&[u8], usize); 6] = [
-        (b"input function let in if then else true false", 9),
-        (b"not and or int bool dialect iota", 7),
-        (b"scan_add reduce_add reduce_max reduce_and reduce_or", 5),
-        (b"length concat part the tab seq fst snd", 8),
-        (b"( ) { } [ ] : ; , | =", 11),
-        (b"== < <= > >= + ++ - * / % !", 12),
-    ];
-    for (text, count) in rows {
+fn tokens(rt: HostRuntime) -> Result<(), Fail> {
+    assert!(rt; are_tokens(rt.alloc(), b"a<=12 ++iota_", &TOKENS)?);
+    for (text, count) in RESERVED {
         assert_eq!(rt; counts_of(rt.alloc(), text)?, (count, 0));
     }
-    Ok(())
-}
-
-#[test]
-fn parsed(rt: HostRuntime) -> Result<(), Fail> {
-    let program = parse(rt.alloc(), b" reduce_add({x * x : x in iota(4)})")?;
-    assert_parsed(&rt, &program);
     Ok(())
 }
 
@@ -191,64 +225,69 @@ fn arguments_of(expr: &Expr) -> Option<usize> {
     }
 }
 
-fn assert_parsed(rt: &impl Abort, program: &Program) {
-    let name = Span { at: 13, len: 1 };
-    let read = (
+// What a program is read as: its dialect, where its expression stands, how many arguments that has, and whether this name is
+// spelled in it.
+fn read_as(program: &Program, name: Span, spelled: &[u8]) -> (Dialect, usize, Option<usize>, bool) {
+    (
         program.dialect(),
         program.expr.at(),
         arguments_of(&program.expr),
-        name.spelled(&program.text),
-    );
-    assert_eq!(rt; read, (Dialect::One, 1, Some(1), b"x".as_slice()));
+        name.spelled(&program.text) == spelled,
+    )
 }
 
-#[test]
-fn checked(rt: HostRuntime) -> Result<(), Fail> {
-    let program = parse(rt.alloc(), b" input n : int; input v : [bool]; n")?;
-    assert_checked(&rt, rt.alloc(), &program)?;
-    Ok(())
-}
-
-fn assert_checked(rt: &impl Abort, alloc: Global, program: &Program) -> Result<(), Refusal> {
+// What a program is checked as: its dialect, where its expression stands, how many declarations it has, how many types of inputs,
+// and whether its value is an integer.
+fn checked_as(
+    alloc: Global,
+    program: &Program,
+) -> Result<(Dialect, usize, usize, usize, bool), Refusal> {
     let typed = check(alloc, program)?;
-    let said = (
+    Ok((
         typed.dialect(),
         typed.program().expr.at(),
         typed.program().declarations.len(),
         typed.decls().len(),
         matches!(typed.ty(), Ty::Int),
-    );
-    assert_eq!(rt; said, (Dialect::One, 34, 2, 2, true));
+    ))
+}
+
+#[test]
+fn parsed(rt: HostRuntime) -> Result<(), Fail> {
+    let program = parse(rt.alloc(), b" reduce_add({x * x : x in iota(4)})")?;
+    let read = read_as(&program, Span { at: 13, len: 1 }, b"x");
+    assert_eq!(rt; read, (Dialect::One, 1, Some(1), true));
     Ok(())
 }
 
 #[test]
+fn checked(rt: HostRuntime) -> Result<(), Fail> {
+    let program = parse(rt.alloc(), b" input n : int; input v : [bool]; n")?;
+    let told = checked_as(rt.alloc(), &program)?;
+    assert_eq!(rt; told, (Dialect::One, 34, 2, 2, true));
+    Ok(())
+}
+
+// A program with an input text, and the line of its value.
+const VALUES: [(&[u8], &[u8], &[u8]); 3] = [
+    (b" reduce_add({x * x : x in iota(4)})", b"", b"14\n"),
+    (
+        b"dialect 2; 9223372036854775807 + 1",
+        b"",
+        b"9223372036854775808\n",
+    ),
+    (
+        b"input n : int; input v : [bool]; (n, v)",
+        b"n = 3; v = [true]",
+        b"(3,[true])\n",
+    ),
+];
+
+#[test]
 fn values(rt: HostRuntime) -> Result<(), Fail> {
-    // A program with an input text, and the line of its value.
-    let rows: [(&[u8], &[u8], &[u8]); 3] = [
-        (b" reduce_add({x * x : x in iota(4)})", b"", b"14\n"),
-        (
-            b"dialect 2; 9223372036854775807 + 1",
-            b"",
-            b"9223372036854775808\n",
-        ),
-        (
-            b"input n : int; input v : [bool]; (n, v)",
-            b"n = 3; v = [true]",
-            b"(3,[true])\n",
-        ),
-    ];
-    for (program, input, line) in rows {
+    for (program, input, line) in VALUES {
         let expected = Expected::of(rt.alloc(), program, input)?;
         assert_eq!(rt; expected.line(), Some(line));
     }
     Ok(())
-}
-
-#[test]
-fn complaints(rt: HostRuntime) {
-    let mut err = Counted::new(Vec::new(rt.alloc()));
-    let status = complain(Refusal::NoMemory, &mut err);
-    let said = err.into_inner();
-    assert_eq!(rt; (status, said.as_slice()), (4, b"refused 11\n".as_slice()));
 }

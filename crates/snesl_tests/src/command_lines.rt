@@ -121,37 +121,38 @@ fn words_of<'a>(alloc: Global, line: &'a str) -> Result<Vec<&'a str>, AllocError
     Ok(words)
 }
 
-// Asserts what a configuration says.
-fn assert_said(rt: &impl Abort, line: &str, config: &Config, said: Said<'_>) {
+// What a configuration says.
+fn said_of(config: &Config) -> Said<'_> {
     let (capacity, chunk) = (config.capacity, config.chunk);
     let numbers = [capacity, chunk, config.threads, config.idle];
-    let share = config.share.as_slice();
-    assert_eq!(rt; (config.drive, numbers, share), said, "{line}");
+    (config.drive, numbers, config.share.as_slice())
 }
 
-// The configuration that a line says, or the number of its refusal.
-fn config_of(alloc: Global, line: &str) -> Result<Result<Config, u8>, AllocError> {
+// Asserts what a line says, or the number of its refusal.
+fn assert_line(
+    rt: &impl Abort,
+    alloc: Global,
+    line: &str,
+    wanted: Result<Said<'_>, u8>,
+) -> Result<(), AllocError> {
     let words = words_of(alloc, line)?;
-    match settings(alloc, &words) {
-        Ok(config) => Ok(Ok(config)),
-        Err(refusal) => Ok(Err(refusal.number())),
-    }
-}
-
-#[test]
-fn lawful_lines(rt: HostRuntime) -> Result<(), Fail> {
-    for (line, said) in LAWFUL {
-        let config = config_of(rt.alloc(), line)??;
-        assert_said(&rt, line, &config, said);
-    }
+    let config = settings(alloc, &words);
+    let said = match &config {
+        Ok(config) => Ok(said_of(config)),
+        Err(refusal) => Err(refusal.number()),
+    };
+    assert_eq!(rt; said, wanted, "{line}");
     Ok(())
 }
 
 #[test]
-fn refused_lines(rt: HostRuntime) -> Result<(), Fail> {
-    assert_eq!(rt; REFUSED.lines().count(), 46);
+fn lines(rt: HostRuntime) -> Result<(), Fail> {
+    for (line, said) in LAWFUL {
+        assert_line(&rt, rt.alloc(), line, Ok(said))?;
+    }
+    assert!(rt; REFUSED.lines().count() == 46);
     for line in REFUSED.lines() {
-        assert_eq!(rt; config_of(rt.alloc(), line)?.err(), Some(10), "{line}");
+        assert_line(&rt, rt.alloc(), line, Err(10))?;
     }
     Ok(())
 }

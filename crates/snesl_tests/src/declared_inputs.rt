@@ -6,7 +6,6 @@ use snesl_syntax::{Program, parse};
 use snesl_types::check;
 use snesl_values::{Inputs, read_inputs};
 use std::alloc::{AllocError, Global};
-use std::process::Abort;
 use std::test::Fail;
 
 /// The inputs of a program, from their text.
@@ -88,37 +87,25 @@ fn value_named(alloc: Global, inputs: &Inputs, name: &[u8]) -> Result<Option<i12
     }
 }
 
-#[test]
-fn names(rt: HostRuntime) -> Result<(), Fail> {
-    let program = b"input nn : int; input n : int; n".as_slice();
-    let inputs = inputs_of(rt.alloc(), program, b"nn = 5; n = 3")?;
-    assert_in_order(&rt, rt.alloc(), &inputs)?;
-    assert_named(&rt, rt.alloc(), &inputs)?;
-    Ok(())
-}
+// What inputs are in order: how many they and their declarations are and whether there are none, the values of the first two, whether
+// the second is named so, and whether there is no third.
+type InOrder = ((usize, usize, bool), [Option<i128>; 2], (bool, bool));
 
-fn assert_in_order(rt: &impl Abort, alloc: Global, inputs: &Inputs) -> Result<(), AllocError> {
+fn in_order(alloc: Global, inputs: &Inputs, name: &[u8]) -> Result<InOrder, AllocError> {
     let counts = (inputs.len(), inputs.decls().len(), inputs.is_empty());
-    assert_eq!(rt; counts, (2, 2, false));
-    assert_eq!(rt; inputs.name(1), Some(b"n".as_slice()));
-    assert!(rt; inputs.name(2).is_none() && inputs.place(2).is_none());
-    let values = (value_at(alloc, inputs, 0)?, value_at(alloc, inputs, 1)?);
-    assert_eq!(rt; values, (Some(5), Some(3)));
-    Ok(())
+    let values = [value_at(alloc, inputs, 0)?, value_at(alloc, inputs, 1)?];
+    let is_named = inputs.name(1) == Some(name);
+    let ends = inputs.name(2).is_none() && inputs.place(2).is_none();
+    Ok((counts, values, (is_named, ends)))
 }
 
-fn assert_named(rt: &impl Abort, alloc: Global, inputs: &Inputs) -> Result<(), Refusal> {
-    let rows: [(&[u8], Option<i128>); 3] = [(b"n", Some(3)), (b"nn", Some(5)), (b"m", None)];
-    for (name, value) in rows {
-        assert_eq!(rt; value_named(alloc, inputs, name)?, value);
-    }
-    Ok(())
-}
-
-// What the name of two inputs means, for two declarations of it.
-fn first_of_two(alloc: Global, decls: &[(Vec<u8>, Ty)]) -> Result<Option<i128>, Refusal> {
-    let inputs = read_inputs(Dialect::Two, alloc, decls, b"n = 1; n = 2")?;
-    value_named(alloc, &inputs, b"n")
+// What each of three names means where the inputs are in scope.
+fn by_name(alloc: Global, inputs: &Inputs) -> Result<[Option<i128>; 3], Refusal> {
+    Ok([
+        value_named(alloc, inputs, b"n")?,
+        value_named(alloc, inputs, b"nn")?,
+        value_named(alloc, inputs, b"m")?,
+    ])
 }
 
 // The declaration of an integer.
@@ -126,10 +113,24 @@ fn declared(alloc: Global, name: &[u8]) -> Result<(Vec<u8>, Ty), AllocError> {
     Ok((name.to_vec(alloc)?, Ty::Int))
 }
 
-#[test]
-fn the_first_of_a_name_is_meant(rt: HostRuntime) -> Result<(), Fail> {
-    let alloc = rt.alloc();
+// What the name of two inputs means.
+fn first_of_two(alloc: Global) -> Result<Option<i128>, Refusal> {
     let decls = vec![in alloc; declared(alloc, b"n")?, declared(alloc, b"n")?]?;
-    assert_eq!(rt; first_of_two(alloc, &decls)?, Some(1));
+    let inputs = read_inputs(Dialect::Two, alloc, &decls, b"n = 1; n = 2")?;
+    value_named(alloc, &inputs, b"n")
+}
+
+#[test]
+fn names(rt: HostRuntime) -> Result<(), Fail> {
+    let first = first_of_two(rt.alloc())?;
+    let program = b"input nn : int; input n : int; n".as_slice();
+    let inputs = inputs_of(rt.alloc(), program, b"nn = 5; n = 3")?;
+    let told = (
+        in_order(rt.alloc(), &inputs, b"n")?,
+        by_name(rt.alloc(), &inputs)?,
+        first,
+    );
+    let order = ((2, 2, false), [Some(5), Some(3)], (true, true));
+    assert_eq!(rt; told, (order, [Some(3), Some(5), None], Some(1)));
     Ok(())
 }

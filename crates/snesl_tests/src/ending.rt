@@ -1,4 +1,4 @@
-// How runs end where the edges are small, where a network is great, and under configurations that are not lawful. What is printed
+// How runs end where the edges are small, and under configurations that are not lawful. What is printed
 // under lawful ones stands in the tables of `tool_runs`.
 
 use crate::running::assert_done;
@@ -29,30 +29,6 @@ fn stalls_where_edges_are_small(rt: HostRuntime) -> Result<(), Fail> {
         let small = ran_alone(&rt, rt.alloc(), twice, b"", 4, chunk)?;
         assert_eq!(rt; held_by_full_edge(&small), Some(4));
     }
-    Ok(())
-}
-
-// `a` doubles a number, and each of the other functions calls the one before it twice.
-const ELEVEN_THAT_DOUBLE: &[u8] = b"\
-function a(x : int) : int = x + x;
-function b(x : int) : int = a(x) + a(x);
-function c(x : int) : int = b(x) + b(x);
-function d(x : int) : int = c(x) + c(x);
-function e(x : int) : int = d(x) + d(x);
-function f(x : int) : int = e(x) + e(x);
-function g(x : int) : int = f(x) + f(x);
-function h(x : int) : int = g(x) + g(x);
-function i(x : int) : int = h(x) + h(x);
-function j(x : int) : int = i(x) + i(x);
-function k(x : int) : int = j(x) + j(x);
-k(1)";
-
-// 2,047 sums, and beside them Source, Const, a Fork and Print.
-#[test]
-fn functions_that_double(rt: HostRuntime) -> Result<(), Fail> {
-    let done = ran_alone(&rt, rt.alloc(), ELEVEN_THAT_DOUBLE, b"", 256, 16)?;
-    assert_done(&rt, &done, Ok(Outcome::Value), b"2048\n");
-    assert_eq!(rt; done.nodes, 2_051);
     Ok(())
 }
 

@@ -40,29 +40,31 @@ fn translated_into(steps: &mut Steps, program: &Program) -> Result<Wires, Refusa
     translate(steps, &setting, &program.expr, &Scope::Nothing, control)
 }
 
+// Whether these are the six steps of a sum of squares.
+fn are_squares(steps: &[Step]) -> bool {
+    steps.len() == 6
+        && matches!(steps[2].operation, Operation::Iota)
+        && steps[4].reads.as_slice() == [3usize, 3].as_slice()
+        && steps[5].reads.as_slice() == [2usize, 5].as_slice()
+}
+
+// The stream of a value, how many numbers it has and the first of them, where it is an integer.
+fn number_on(alloc: Global, wires: &Wires) -> Result<Option<(usize, usize, usize)>, AllocError> {
+    let numbers = wires.numbers(alloc)?;
+    let Some(&first) = numbers.first() else {
+        return Ok(None);
+    };
+    if !matches!(wires.ty(alloc)?, Ty::Int) {
+        return Ok(None);
+    }
+    Ok(Some((wires.stream(), numbers.len(), first)))
+}
+
 #[test]
 fn squares(rt: HostRuntime) -> Result<(), Fail> {
     let (steps, wires) = translated(rt.alloc(), b"reduce_add({x * x : x in iota(4)})")?;
-    assert_squares(&rt, &steps);
-    assert_one_number(&rt, rt.alloc(), &wires)?;
-    Ok(())
-}
-
-fn assert_squares(rt: &impl Abort, steps: &[Step]) {
-    assert!(rt; steps.len() == 6);
-    assert!(rt; matches!(steps[2].operation, Operation::Iota));
-    let reads = (steps[4].reads.as_slice(), steps[5].reads.as_slice());
-    assert_eq!(rt; reads, ([3usize, 3].as_slice(), [2usize, 5].as_slice()));
-}
-
-// Asserts that the value is a number, which stands on the stream 6.
-fn assert_one_number(rt: &impl Abort, alloc: Global, wires: &Wires) -> Result<(), AllocError> {
-    assert!(rt; matches!(wires.ty(alloc)?, Ty::Int));
-    let numbers = wires.numbers(alloc)?;
-    assert_eq!(rt;
-        (wires.stream(), numbers.as_slice()),
-        (6, [6usize].as_slice())
-    );
+    let told = (are_squares(&steps), number_on(rt.alloc(), &wires)?);
+    assert_eq!(rt; told, (true, Some((6, 1, 6))));
     Ok(())
 }
 
@@ -73,44 +75,57 @@ fn count_of(alloc: Global, text: &[u8]) -> Result<usize, Refusal> {
 }
 
 // Each form of the language once; how many steps each has is counted by hand from the translation.
-#[test]
-fn forms(rt: HostRuntime) -> Result<(), Fail> {
-    let rows: [(&[u8], usize); 9] = [
-        (b"(1, true)", 3),
-        (b"let u = 1 in 7", 3),
-        (b"- 1 + 2", 5),
-        (b"the({1})", 6),
-        (b"{1} ++ {2}", 11),
-        (b"{5 | true}", 5),
-        (b"if true then 1 else 2", 12),
-        (b"{x : x in iota(2)}", 4),
-        (b"function f(x : int) : int = x + x; f(f(1))", 4),
-    ];
-    for (text, count) in rows {
-        assert_eq!(rt; count_of(rt.alloc(), text)?, count);
-    }
-    Ok(())
-}
+const FORMS: [(&[u8], usize); 9] = [
+    (b"(1, true)", 3),
+    (b"let u = 1 in 7", 3),
+    (b"- 1 + 2", 5),
+    (b"the({1})", 6),
+    (b"{1} ++ {2}", 11),
+    (b"{5 | true}", 5),
+    (b"if true then 1 else 2", 12),
+    (b"{x : x in iota(2)}", 4),
+    (b"function f(x : int) : int = x + x; f(f(1))", 4),
+];
 
-#[test]
-fn nothing_to_assemble(rt: HostRuntime) -> Result<(), Fail> {
-    let alloc = rt.alloc();
+// How many nodes, edges and places there are where nothing is assembled.
+fn sizes_of_nothing(alloc: Global) -> Result<[usize; 3], AllocError> {
     let assembled = assemble(alloc, Dialect::One, Vec::new(alloc))?;
-    let sizes = (
+    Ok([
         assembled.graph.nodes(),
         assembled.graph.edges(),
         assembled.places.len(),
-    );
-    assert_eq!(rt; sizes, (0, 0, 0));
+    ])
+}
+
+#[test]
+fn forms(rt: HostRuntime) -> Result<(), Fail> {
+    for (text, count) in FORMS {
+        assert_eq!(rt; count_of(rt.alloc(), text)?, count);
+    }
+    assert!(rt; sizes_of_nothing(rt.alloc())? == [0; 3]);
     Ok(())
 }
 
-// The messages that a source writes, or the first so many.
-fn written(alloc: Global, source: &mut TextSource, most: usize) -> Result<Vec<Msg>, AllocError> {
+// A byte for a message: a digit for a small number, `F` and `T` for flags, `.` for the end, and `?` for any other.
+fn byte_of(message: &Msg) -> u8 {
+    match message {
+        Msg::End => b'.',
+        Msg::Item(Item::Bool(false)) => b'F',
+        Msg::Item(Item::Bool(true)) => b'T',
+        Msg::Item(Item::Int(number)) => match u8::try_from(*number) {
+            Ok(digit) if digit < 10 => b'0' + digit,
+            _ => b'?',
+        },
+        _ => b'?',
+    }
+}
+
+// The messages that a source writes, or the first so many: a byte for each.
+fn written(alloc: Global, source: &mut TextSource, most: usize) -> Result<Vec<u8>, AllocError> {
     let mut messages = Vec::new(alloc);
     for _ in 0..most {
         match source.want() {
-            Want::Write(_) => messages.push(source.emit()?)?,
+            Want::Write(_) => messages.push(byte_of(&source.emit()?))?,
             _ => break,
         }
     }
@@ -126,57 +141,29 @@ fn number_and_truths(alloc: Global) -> Result<Ty, AllocError>
     Ok(Ty::Pair(Box::new(alloc, Ty::Int)?, truths))
 }
 
-// What the first input, which is of that type, puts on an edge of it.
-fn written_on(
+// What the first input, which is of that type, puts on an edge of it. Whether that is this.
+fn is_written(
     rt: &impl Abort,
     alloc: Global,
     inputs: &Inputs,
     edge: usize,
-) -> Result<Vec<Msg>, AllocError> {
+    messages: &[u8],
+) -> Result<bool, AllocError> {
     let place = inputs.place(0).unwrap_or(usize::MAX);
     let text = inputs.text().clone()?;
     assert!(rt; place <= text.len());
     let ty = number_and_truths(alloc)?;
     let mut source = TextSource::new(alloc, text, place, &ty, edge)?;
-    written(alloc, &mut source, 8)
+    Ok(written(alloc, &mut source, 8)?.as_slice() == messages)
 }
 
-// Asserts that the one input is of its declared type.
-fn assert_typed(rt: &impl Abort, alloc: Global, inputs: &Inputs) -> Result<(), AllocError> {
-    assert!(rt; inputs.len() == 1);
-    assert!(rt; inputs.decls().len() == 1);
+// Whether there is one input, of its declared type.
+fn is_typed(alloc: Global, inputs: &Inputs) -> Result<bool, AllocError> {
+    if inputs.len() != 1 || inputs.decls().len() != 1 {
+        return Ok(false);
+    }
     let datum = inputs.datum(alloc, 0)?;
-    assert!(rt; is_value(&inputs.decls()[0].1, &datum));
-    Ok(())
-}
-
-fn assert_streams(rt: &impl Abort, alloc: Global, inputs: &Inputs) -> Result<(), AllocError> {
-    let number = written_on(rt, alloc, inputs, 0)?;
-    let flags = written_on(rt, alloc, inputs, 1)?;
-    let truths = written_on(rt, alloc, inputs, 2)?;
-    assert!(rt; matches!(number.as_slice(), [Msg::Item(Item::Int(7)), Msg::End]));
-    assert!(rt;
-        matches!(
-            flags.as_slice(),
-            [
-                Msg::Item(Item::Bool(false)),
-                Msg::Item(Item::Bool(false)),
-                Msg::Item(Item::Bool(true)),
-                Msg::End
-            ]
-        )
-    );
-    assert!(rt;
-        matches!(
-            truths.as_slice(),
-            [
-                Msg::Item(Item::Bool(true)),
-                Msg::Item(Item::Bool(false)),
-                Msg::End
-            ]
-        )
-    );
-    Ok(())
+    Ok(is_value(&inputs.decls()[0].1, &datum))
 }
 
 // The pair stands on three edges.
@@ -184,7 +171,12 @@ fn assert_streams(rt: &impl Abort, alloc: Global, inputs: &Inputs) -> Result<(),
 fn streams(rt: HostRuntime) -> Result<(), Fail> {
     let program = b"input p : (int, {bool}); p".as_slice();
     let inputs = inputs_of(rt.alloc(), program, b"p = (7, {true, false})")?;
-    assert_typed(&rt, rt.alloc(), &inputs)?;
-    assert_streams(&rt, rt.alloc(), &inputs)?;
+    let told = [
+        is_typed(rt.alloc(), &inputs)?,
+        is_written(&rt, rt.alloc(), &inputs, 0, b"7.")?,
+        is_written(&rt, rt.alloc(), &inputs, 1, b"FFT.")?,
+        is_written(&rt, rt.alloc(), &inputs, 2, b"TF.")?,
+    ];
+    assert_eq!(rt; told, [true; 4]);
     Ok(())
 }

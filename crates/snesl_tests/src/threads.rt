@@ -171,15 +171,14 @@ fn workers_run_side_by_side(rt: HostRuntime) -> Result<(), Fail> {
 
 // Asserts that a run took as many rounds, or else epochs, as its gate has counted; it was not refused, so it has some.
 fn assert_counted(rt: &impl Abort, ran: &Ran, gate: &Counting, (least, most): (u64, u64)) {
-    let (rounds, epochs) = ran.turns;
     let counted = gate.count.load(Ordering::SeqCst);
-    let turns = if epochs == 0 {
+    let turns = if ran.turns.1 == 0 {
         (counted, 0)
     } else {
         (0, counted)
     };
-    assert_eq!(rt; (rounds, epochs), turns);
-    assert!(rt; counted >= least && counted <= most);
+    let is_within = counted >= least && counted <= most;
+    assert_eq!(rt; (ran.turns, is_within), (turns, true));
 }
 
 // Runs a program over a gate that counts, and asserts that there are so many rounds or epochs.

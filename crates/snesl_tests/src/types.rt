@@ -4,7 +4,6 @@ use snesl_data::{Refusal, Ty, copy_ty};
 use snesl_syntax::{Program, parse};
 use snesl_types::check;
 use std::alloc::Global;
-use std::process::Abort;
 use std::test::Fail;
 
 // Inputs of six types.
@@ -23,24 +22,31 @@ fn are_concrete(alloc: Global, ty: &Ty) -> Result<(bool, bool), Refusal> {
     Ok((ty.concrete(), copy.concrete()))
 }
 
-// Asserts that the first three types are concrete, and that no two are the same.
-fn assert_types(rt: &impl Abort, alloc: Global, decls: &[(Vec<u8>, Ty)]) -> Result<(), Refusal> {
+// Two types, by their numbers, that are the same or not though they are to be otherwise, or one that is concrete or not though it is
+// to be otherwise. The first three are concrete, and no others, and no two are the same.
+fn first_wrong(alloc: Global, decls: &[(Vec<u8>, Ty)]) -> Result<Option<(usize, usize)>, Refusal> {
     for (number, (_, ty)) in decls.iter().enumerate() {
-        assert_eq!(rt; are_concrete(alloc, ty)?, (number < 3, number < 3));
+        if are_concrete(alloc, ty)? != (number < 3, number < 3) {
+            return Ok(Some((number, number)));
+        }
         for (other, (_, another)) in decls.iter().enumerate() {
-            assert!(rt; ty.is(another) == (number == other), "{number} and {other}");
+            if ty.is(another) != (number == other) {
+                return Ok(Some((number, other)));
+            }
         }
     }
-    Ok(())
+    Ok(None)
 }
 
-fn assert_six(rt: &impl Abort, alloc: Global, program: &Program) -> Result<(), Refusal> {
+// How many types of inputs a program has, and the first that are not as they are to be.
+fn told_of(alloc: Global, program: &Program) -> Result<(usize, Option<(usize, usize)>), Refusal> {
     let typed = check(alloc, program)?;
-    assert_eq!(rt; typed.decls().len(), 6);
-    assert_types(rt, alloc, typed.decls())
+    Ok((typed.decls().len(), first_wrong(alloc, typed.decls())?))
 }
 
 #[test]
 fn six_types(rt: HostRuntime) -> Result<(), Fail> {
-    Ok(assert_six(&rt, rt.alloc(), &parse(rt.alloc(), SIX)?)?)
+    let told = told_of(rt.alloc(), &parse(rt.alloc(), SIX)?)?;
+    assert_eq!(rt; told, (6, None));
+    Ok(())
 }

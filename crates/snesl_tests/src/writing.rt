@@ -65,12 +65,6 @@ const LINE: &[u8] = b"{0,1,2,3}\n";
 // A sequence appended to itself, over edges that hold it.
 const TWICE: (&[u8], usize) = (b"let s = iota(100) in s ++ s", 256);
 
-#[test]
-fn writers_that_stop(rt: HostRuntime) -> Result<(), Fail> {
-    assert_cut(&rt, rt.alloc(), FEW, LINE)?;
-    Ok(())
-}
-
 // The numbers below a hundred, twice, as a line of 582 bytes.
 fn hundred_twice(alloc: Global) -> Result<String, AllocError> {
     let mut line = String::from_str(alloc, "{0")?;
@@ -82,12 +76,23 @@ fn hundred_twice(alloc: Global) -> Result<String, AllocError> {
     Ok(line)
 }
 
+// Wherever in a short line and in a long one.
 #[test]
-fn a_long_line_that_is_cut(rt: HostRuntime) -> Result<(), Fail> {
+fn writers_that_stop(rt: HostRuntime) -> Result<(), Fail> {
+    assert_cut(&rt, rt.alloc(), FEW, LINE)?;
     let line = hundred_twice(rt.alloc())?;
-    assert_eq!(rt; line.len(), 582);
+    assert!(rt; line.len() == 582);
     assert_cut(&rt, rt.alloc(), TWICE, line.as_bytes())?;
     Ok(())
+}
+
+// How many calls failed of a writer that works at no call, where the network has stalled.
+fn failed_in_stall(rt: &impl Threads, alloc: Global) -> Result<Option<u64>, AllocError> {
+    let stalled = ran(rt, alloc, (TWICE.0, 4), Trouble::behind(0))?;
+    match stalled.ending {
+        Ok(Outcome::Stalled { .. }) => Ok(Some(stalled.failures)),
+        _ => Ok(None),
+    }
 }
 
 // A writer that works for just the line, and where there is no value, one that works at no call, which is not called.
@@ -102,12 +107,6 @@ fn writers_that_are_enough(rt: HostRuntime) -> Result<(), Fail> {
     };
     let fault = (Ok(Outcome::Fault(division)), b"".as_slice(), 0);
     assert_ran(&rt, rt.alloc(), (b"1 / 0", 4), Trouble::behind(0), fault)?;
-    Ok(())
-}
-
-#[test]
-fn nothing_to_write_of_a_stall(rt: HostRuntime) -> Result<(), Fail> {
-    let stalled = ran(&rt, rt.alloc(), (TWICE.0, 4), Trouble::behind(0))?;
-    assert!(rt; matches!(stalled.ending, Ok(Outcome::Stalled { .. })) && stalled.failures == 0);
+    assert_eq!(rt; failed_in_stall(&rt, rt.alloc())?, Some(0));
     Ok(())
 }
