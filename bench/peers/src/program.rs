@@ -1,0 +1,179 @@
+//! The four programs, as the networks that the product makes of them.
+
+use crate::arithmetic::{Operator, Wide};
+use crate::network::{Network, Segments, Wire};
+use std::str::FromStr;
+
+/// How many sums `wide` has.
+pub const SUMS: u32 = 8;
+/// How many entries a row of `nest` has.
+pub const ENTRIES: u32 = 8;
+/// How many comprehensions `deep` has, one after another.
+pub const DEPTH: u32 = 20;
+
+/// A program, which goes over so many elements as it is told.
+#[derive(Clone, Copy, Debug, PartialEq, Eq)]
+pub enum Program {
+    /// `reduce_add({x * x : x in iota(n)})`
+    Squares,
+    /// `reduce_add({x * x + 0 : x in iota(n / 8)}) + .. + reduce_add({x * x + 7 : x in iota(n / 8)})`
+    Wide,
+    /// `reduce_add({reduce_add({(j + i) * (j * 3 + 1) : j in iota(8)}) : i in iota(n / 8)})`: a matrix of rows with 8
+    /// entries times a vector, where row i has the entry 3j + 1 at column i + j, and the vector has k at place k.
+    Nest,
+    /// `reduce_add({x + 1 : x in .. {x + 1 : x in iota(n)} ..})`, with 20 comprehensions
+    Deep,
+}
+
+impl FromStr for Program {
+    type Err = ();
+
+    fn from_str(word: &str) -> Result<Program, ()> {
+        match word {
+            "squares" => Ok(Program::Squares),
+            "wide" => Ok(Program::Wide),
+            "nest" => Ok(Program::Nest),
+            "deep" => Ok(Program::Deep),
+            _ => Err(()),
+        }
+    }
+}
+
+impl Program {
+    /// Its network. Its nodes stand in the order of the product's.
+    pub fn network(self, elements: u32) -> Network {
+        let mut network = Network::default();
+        let start = network.source();
+        let sum = match self {
+            Program::Squares => squares(&mut network, start, elements),
+            Program::Wide => wide(&mut network, start, elements / SUMS),
+            Program::Nest => nest(&mut network, start, elements / ENTRIES),
+            Program::Deep => deep(&mut network, start, elements),
+        };
+        network.print(sum);
+        network
+    }
+}
+
+fn numbers(network: &mut Network, unit: Wire, count: u32) -> Segments {
+    let end = network.constant(unit, Wide::from(count));
+    network.iota(end)
+}
+
+fn squares(network: &mut Network, start: Wire, count: u32) -> Wire {
+    let Segments { flags, elements } = numbers(network, start, count);
+    let [for_units, flags] = network.copies(flags);
+    let [left, right] = network.copies(elements);
+    // The product makes the units for constants in the comprehension, and there are none.
+    let units = network.units_of(for_units);
+    network.drop_all(units);
+    let elements = network.binary(Operator::Multiply, left, right);
+    network.sums(Segments { flags, elements })
+}
+
+fn wide(network: &mut Network, start: Wire, count: u32) -> Wire {
+    let starts: [Wire; SUMS as usize] = network.copies(start);
+    let mut so_far = None;
+    for (start, more) in starts.into_iter().zip(0..) {
+        let sum = squares_and_more(network, start, count, more);
+        so_far = Some(match so_far {
+            None => sum,
+            Some(left) => network.binary(Operator::Add, left, sum),
+        });
+    }
+    so_far.expect("there are eight sums")
+}
+
+/// The sum of squares, where a number is added to each.
+fn squares_and_more(network: &mut Network, start: Wire, count: u32, more: Wide) -> Wire {
+    let Segments { flags, elements } = numbers(network, start, count);
+    let [for_units, flags] = network.copies(flags);
+    let [left, right] = network.copies(elements);
+    let units = network.units_of(for_units);
+    let square = network.binary(Operator::Multiply, left, right);
+    let more = network.constant(units, more);
+    let elements = network.binary(Operator::Add, square, more);
+    network.sums(Segments { flags, elements })
+}
+
+fn nest(network: &mut Network, start: Wire, rows: u32) -> Wire {
+    let Segments { flags, elements } = numbers(network, start, rows);
+    let [for_units, row_flags] = network.copies(flags);
+    let units = network.units_of(for_units);
+    let inner = numbers(network, units, ENTRIES);
+    let [for_rows, for_units, flags] = network.copies(inner.flags);
+    let [for_columns, for_entries] = network.copies(inner.elements);
+    let rows = network.dist(elements, for_rows);
+    let units = network.units_of(for_units);
+    let [for_three, for_one] = network.copies(units);
+    let columns = network.binary(Operator::Add, for_columns, rows);
+    let three = network.constant(for_three, 3);
+    let entries = network.binary(Operator::Multiply, for_entries, three);
+    let one = network.constant(for_one, 1);
+    let entries = network.binary(Operator::Add, entries, one);
+    let elements = network.binary(Operator::Multiply, columns, entries);
+    let sums = network.sums(Segments { flags, elements });
+    network.sums(Segments {
+        flags: row_flags,
+        elements: sums,
+    })
+}
+
+fn deep(network: &mut Network, start: Wire, count: u32) -> Wire {
+    let Segments { flags, elements } = numbers(network, start, count);
+    let [flags, for_units @ ..]: [Wire; DEPTH as usize + 1] = network.copies(flags);
+    let mut elements = elements;
+    for flags in for_units {
+        let units = network.units_of(flags);
+        let one = network.constant(units, 1);
+        elements = network.binary(Operator::Add, elements, one);
+    }
+    network.sums(Segments { flags, elements })
+}
+
+#[cfg(test)]
+mod tests {
+    use super::Program;
+
+    #[test]
+    fn networks_have_the_nodes_and_edges_of_the_product() {
+        let sizes = [
+            (Program::Squares, 10, 11),
+            (Program::Wide, 82, 112),
+            (Program::Nest, 21, 27),
+            (Program::Deep, 66, 86),
+        ];
+        for (program, nodes, edges) in sizes {
+            let network = program.network(8);
+            assert_eq!(
+                (network.places.len(), network.edges),
+                (nodes, edges),
+                "{program:?}"
+            );
+        }
+    }
+
+    #[test]
+    fn edges_lead_to_later_nodes_and_have_two_ends() {
+        for program in [
+            Program::Squares,
+            Program::Wide,
+            Program::Nest,
+            Program::Deep,
+        ] {
+            let network = program.network(8);
+            let mut writers = vec![None; network.edges];
+            let mut readers = vec![0; network.edges];
+            for (number, place) in network.places.iter().enumerate() {
+                for &edge in &place.inputs {
+                    readers[edge] += 1;
+                    assert!(writers[edge] < Some(number) && writers[edge].is_some());
+                }
+                for &edge in &place.outputs {
+                    assert_eq!(writers[edge].replace(number), None);
+                }
+            }
+            assert!(readers.iter().all(|&count| count == 1), "{program:?}");
+        }
+    }
+}
