@@ -322,7 +322,7 @@ fn assert_told(rt: &impl Abort, told: &Told, ending: &Ending, (drive, chunk, thr
 }
 
 #[test]
-fn endings(rt: HostRuntime) -> Result<(), Fail> {
+fn ends_alike_each_way(rt: HostRuntime) -> Result<(), Fail> {
     for ending in &ENDINGS {
         for &way in ending.ways {
             let told = driven(&rt, rt.alloc(), ending.sketch, ending.capacity, way)?;

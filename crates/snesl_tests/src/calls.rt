@@ -209,7 +209,7 @@ fn counts_of(alloc: Global, text: &[u8]) -> Result<(usize, usize), Refusal> {
 }
 
 #[test]
-fn tokens(rt: HostRuntime) -> Result<(), Fail> {
+fn tokens_of_texts(rt: HostRuntime) -> Result<(), Fail> {
     assert!(rt; are_tokens(rt.alloc(), b"a<=12 ++iota_", &TOKENS)?);
     for (text, count) in RESERVED {
         assert_eq!(rt; counts_of(rt.alloc(), text)?, (count, 0));
@@ -284,7 +284,7 @@ const VALUES: [(&[u8], &[u8], &[u8]); 3] = [
 ];
 
 #[test]
-fn values(rt: HostRuntime) -> Result<(), Fail> {
+fn lines_of_values(rt: HostRuntime) -> Result<(), Fail> {
     for (program, input, line) in VALUES {
         let expected = Expected::of(rt.alloc(), program, input)?;
         assert_eq!(rt; expected.line(), Some(line));

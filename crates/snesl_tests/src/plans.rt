@@ -88,7 +88,7 @@ const FORMS: [(&[u8], usize); 9] = [
 ];
 
 // How many nodes, edges and places there are where nothing is assembled.
-fn sizes_of_nothing(alloc: Global) -> Result<[usize; 3], AllocError> {
+fn sizes_of_nothing(alloc: Global) -> Result<[usize; 3], Refusal> {
     let assembled = assemble(alloc, Dialect::One, Vec::new(alloc))?;
     Ok([
         assembled.graph.nodes(),
@@ -98,7 +98,7 @@ fn sizes_of_nothing(alloc: Global) -> Result<[usize; 3], AllocError> {
 }
 
 #[test]
-fn forms(rt: HostRuntime) -> Result<(), Fail> {
+fn steps_of_forms(rt: HostRuntime) -> Result<(), Fail> {
     for (text, count) in FORMS {
         assert_eq!(rt; count_of(rt.alloc(), text)?, count);
     }

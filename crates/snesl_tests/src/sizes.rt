@@ -70,7 +70,7 @@ const SIZES: [(&[u8], &[u8], Size); 3] = [
 ];
 
 #[test]
-fn sizes(rt: HostRuntime) -> Result<(), Fail> {
+fn sizes_of_networks(rt: HostRuntime) -> Result<(), Fail> {
     for (program, line, size) in SIZES {
         assert_sized(&rt, rt.alloc(), program, line, size)?;
     }

@@ -38,7 +38,7 @@ struct Pumped {
     turns: [usize; 6],
 }
 
-const PUMPED: [Pumped; 2] = [
+const PUMPS: [Pumped; 2] = [
     // One turn puts the one message for which there is room, and four are idle.
     Pumped {
         sketch: "node 0 source units 3\nnode 0 sink unit\nedge 0.0 1.0",
@@ -73,7 +73,7 @@ fn second_pumped<T: Transducer + Drop>(
 
 #[test]
 fn gate_hears_each_turn_of_a_pump_by_its_number(rt: HostRuntime) -> Result<(), Fail> {
-    for pumped in PUMPED {
+    for pumped in PUMPS {
         let gate = Told {
             calls: Cell::new(0),
             shares: Cell::new([9; 6]),
