@@ -2,6 +2,13 @@
 //! under it, and what is said of it.
 #![tactic(auto)]
 
+pub mod functions;
 pub mod places;
+pub mod words;
 
+pub use functions::function_at;
 pub use places::{Position, caret_line, line_at, position_of, shown_line};
+pub use words::{
+    STALLED_HINT, STALLED_SENTENCE, fault_hint, fault_sentence, refusal_hint, refusal_sentence,
+    sentences_differ,
+};

@@ -1,0 +1,128 @@
+// In which function a place of a program lies.
+
+ghost use Rattle.std.specs.Prelude.{◌≡◌, ◌↔◌, ◌<◌, ◌≤◌, ◌+◌, ◌^◌, IsTrue, MatchOption, length};
+ghost use Rattle.std.specs.List.{prefix_len};
+ghost use Rattle.snesl_data.specs.Blanks.{is_blank};
+ghost use Rattle.snesl_look.specs.Functions.{IsDeclarationAt, IsFunction, IsNamed, IsNamedAt, NoneAt, NoneNamedAt, behind_blanks, behind_word, depth_behind, front_word};
+
+use snesl_data::{is_blank, word_len};
+
+/// The first word of a function's declaration.
+const FUNCTION: &[u8] = b"function";
+
+/// The name of the function in whose declaration an offset of a program lies: a declaration ends with the first `;` that
+/// stands in no bracket. `None` where the offset lies in another declaration or behind all of them.
+pub fn function_at(program: &[u8], offset: usize) -> Option<&[u8]>
+    ensures { MatchOption result (NoneNamedAt program.now offset)
+        (λ name. IsNamedAt program.now offset name.now) }
+{
+    match declaration_at(program, offset) {
+        Some(declaration) => name_of(declaration),
+        None => None,
+    }
+}
+
+// The declaration in which the offset lies, without its `;`.
+fn declaration_at(text: &[u8], offset: usize) -> Option<&[u8]>
+    ensures { MatchOption result (NoneAt text.now offset)
+        (λ declaration. IsDeclarationAt text.now offset declaration.now) }
+{
+    let mut start = 0;
+    let mut depth = 0;
+    for place in 0..text.len() {
+        if text[place] == b';' && depth == 0 {
+            if place >= offset {
+                return Some(&text[start..place]);
+            }
+            start = place + 1;
+        }
+        depth = depth_behind(depth, text[place]);
+    }
+    None
+}
+
+// How many brackets are open behind a byte.
+fn depth_behind(depth: usize, byte: u8) -> usize
+    requires { depth < 2 ^ 63 }
+    ensures depth { result ≡ depth_behind depth byte }
+    ensures few { result ≤ depth + 1 }
+{
+    match byte {
+        b'(' | b'[' | b'{' => depth + 1,
+        b')' | b']' | b'}' => depth.saturating_sub(1),
+        _ => depth,
+    }
+}
+
+// The name in a function's declaration.
+fn name_of(declaration: &[u8]) -> Option<&[u8]>
+    ensures { MatchOption result (¬ (IsFunction declaration.now))
+        (λ name. IsNamed declaration.now name.now) }
+{
+    if !is_function(declaration) {
+        return None;
+    }
+    let from_word = behind_blanks(declaration);
+    let behind = behind_word(from_word);
+    let from_name = behind_blanks(behind);
+    Some(front_word(from_name))
+}
+
+// Whether the declaration is that of a function.
+fn is_function(declaration: &[u8]) -> bool
+    ensures { IsTrue result ↔ IsFunction declaration.now }
+{
+    let from_word = behind_blanks(declaration);
+    front_word(from_word) == FUNCTION
+}
+
+// The word at the front.
+fn front_word(text: &[u8]) -> &[u8]
+    ensures { result.now ≡ front_word text.now }
+{
+    &text[..word_len(text)]
+}
+
+// What stands behind it.
+fn behind_word(text: &[u8]) -> &[u8]
+    ensures { result.now ≡ behind_word text.now }
+{
+    &text[word_len(text)..]
+}
+
+// What stands behind the blanks at the front.
+fn behind_blanks(text: &[u8]) -> &[u8]
+    ensures { result.now ≡ behind_blanks text.now }
+{
+    &text[blanks_len(text)..]
+}
+
+// How many bytes at the front are blanks.
+fn blanks_len(text: &[u8]) -> usize
+    ensures count { result ≡ prefix_len is_blank text.now }
+    ensures within { result ≤ length text.now }
+{
+    text.iter().take_while(|byte| is_blank(**byte)).count()
+}
+
+#[cfg(test)]
+mod tests {
+    use super::*;
+
+    const PROGRAM: &[u8] =
+        b"dialect 2; input n : int;\nfunction half(x : int) : int = {x : y in {1}; z in {2}} ! 0;\nhalf(n) + {a : b in {1}; c in {2}} ! 0";
+
+    #[test]
+    fn a_semicolon_in_a_bracket_ends_no_declaration(rt: HostRuntime) {
+        assert_eq!(rt; function_at(PROGRAM, 58), Some(b"half".as_slice()));
+        assert_eq!(rt; function_at(PROGRAM, 83), Some(b"half".as_slice()));
+        assert_eq!(rt; function_at(PROGRAM, 95), None);
+        assert_eq!(rt; function_at(PROGRAM, 111), None);
+    }
+
+    #[test]
+    fn an_input_is_no_function(rt: HostRuntime) {
+        assert_eq!(rt; function_at(PROGRAM, 12), None);
+        assert_eq!(rt; function_at(b"", 0), None);
+    }
+}
