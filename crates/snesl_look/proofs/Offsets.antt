@@ -49,3 +49,10 @@ line_around text place before behind within begins few ends =
 -- what stands from a place on is as long as it is
 pub rest_is : (xs : List ℕ) (n : ℕ) → take (length xs - n) (drop n xs) ≡ drop n xs
 rest_is xs n = take_all (length xs - n) (drop n xs) (omega (arith, length-drop n xs))
+
+-- a part of a line that begins where the line ends, if it would begin behind that, and has at most 120 bytes
+pub part_is : (line : List ℕ) (from start shown : ℕ) → start ≡ min from (length line)
+    → shown ≡ min 120 (length (take (length line - start) (drop start line)))
+    → take shown (take (length line - start) (drop start line)) ≡ take 120 (drop from line)
+part_is line from start shown begins ends =
+    rw (ends, take_min 120 (take (length line - start) (drop start line)), rest_is line start, begins, drop_min from line) refl

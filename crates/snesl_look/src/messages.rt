@@ -1,0 +1,360 @@
+// Messages: what went wrong, where, and what may help.
+
+ghost use Rattle.std.specs.Prelude.{◌≡◌, ◌++◌, ◌≤◌, IfOk, OnOk, decimal, option_map};
+ghost use Rattle.snesl_look.specs.Messages.{IsFaultMessage, caret_part, function_part, gutter, heading_part, hint_part, line_part, message, place_part, placed_message, refusal_message, remark, sentence_part, shown_from, shown_part, stalled_message};
+
+use crate::functions::function_at;
+use crate::places::{Position, caret_line, line_at, position_of, shown_line};
+use crate::words::{
+    STALLED_HINT, STALLED_SENTENCE, fault_hint, fault_sentence, refusal_hint, refusal_sentence,
+};
+use itoa::Buffer;
+use snesl_data::{Fault, Refusal};
+use std::alloc::{AllocError, Global};
+
+// Of a line so many bytes are shown at most, and of a longer one so many up to the place.
+const MOST_SHOWN: usize = 120;
+
+const MOST_BEFORE: usize = 61;
+
+// As many blanks as a number may have digits.
+const BLANKS: &[u8] = b"                    ";
+
+// What stands before the name of a function in which a fault lies, and behind it.
+const IN_FUNCTION: &[u8] = b" = note: this is in the function `";
+
+const LED_HERE: &[u8] = b"`; which call of it led here is not known\n";
+
+/// What is said of a refusal: a sentence; its place, in the program or in the input text, where it has one; and a hint. The
+/// error is that memory was refused.
+pub fn refusal_message(
+    alloc: Global,
+    refusal: Refusal,
+    program: &[u8],
+    input: &[u8],
+) -> Result<Vec<u8>, AllocError>
+    ensures { IfOk result (λ message. message.items
+        ≡ refusal_message refusal program.now input.now) }
+{
+    let sentence = refusal_sentence(refusal);
+    let hint = refusal_hint(refusal);
+    match refusal {
+        Refusal::BadInput(at) => placed(
+            alloc,
+            sentence,
+            input,
+            at,
+            " of the input text",
+            None,
+            hint,
+        ),
+        Refusal::Lex(at)
+        | Refusal::Syntax(at)
+        | Refusal::Name(at)
+        | Refusal::Mismatch(at)
+        | Refusal::Streamed(at) => placed(alloc, sentence, program, at, "", None, hint),
+        _ => unplaced(alloc, sentence, hint),
+    }
+}
+
+/// What is said of a fault: a sentence; its place in the program, and the function in which that lies, if it lies in one; and a
+/// hint. The error is that memory was refused.
+pub fn fault_message(alloc: Global, fault: Fault, program: &[u8]) -> Result<Vec<u8>, AllocError>
+    ensures { IfOk result (λ message. IsFaultMessage fault program.now message.items) }
+{
+    let name = function_at(program, fault.at);
+    let sentence = fault_sentence(fault.kind);
+    placed(
+        alloc,
+        sentence,
+        program,
+        fault.at,
+        "",
+        name,
+        fault_hint(fault.kind),
+    )
+}
+
+/// What is said of a network that has stalled. The error is that memory was refused.
+pub fn stalled_message(alloc: Global) -> Result<Vec<u8>, AllocError>
+    ensures { IfOk result (λ message. message.items ≡ stalled_message) }
+{
+    unplaced(alloc, STALLED_SENTENCE, Some(STALLED_HINT))
+}
+
+// A message with no place.
+fn unplaced(alloc: Global, sentence: &str, hint: Option<&str>) -> Result<Vec<u8>, AllocError>
+    ensures { IfOk result (λ made. made.items ≡ message sentence.now
+        (option_map (λ text. text.now) hint.entry)) }
+{
+    let mut message = Vec::new(alloc);
+    append_sentence(&mut message, sentence)?;
+    append_hint(&mut message, 0, hint)?;
+    Ok(message)
+}
+
+// A message with a place in a text, and the name of a function in which it lies.
+fn placed(
+    alloc: Global,
+    sentence: &str,
+    text: &[u8],
+    offset: usize,
+    of_text: &str,
+    name: Option<&[u8]>,
+    hint: Option<&str>,
+) -> Result<Vec<u8>, AllocError>
+    ensures { IfOk result (λ made. made.items
+        ≡ placed_message sentence.now text.now offset of_text.now
+        (option_map (λ bytes. bytes.now) name.entry) (option_map (λ text. text.now) hint.entry)) }
+{
+    let position = position_of(text, offset);
+    let mut message = Vec::new(alloc);
+    append_sentence(&mut message, sentence)?;
+    append_heading(&mut message, position, of_text)?;
+    append_place(&mut message, alloc, line_at(text, offset), position)?;
+    append_function(&mut message, position.line, name)?;
+    append_hint(&mut message, position.line, hint)?;
+    Ok(message)
+}
+
+fn append_sentence(message: &mut Vec<u8>, sentence: &str) -> Result<(), AllocError>
+    ensures { OnOk result (message.new.items ≡ message.old.items ++ sentence_part sentence.now) }
+{
+    message.extend_from_slice(b"error: ")?;
+    message.extend_from_slice(sentence.as_bytes())?;
+    message.extend_from_slice(b"\n")
+}
+
+// The line and the column.
+fn append_heading(
+    message: &mut Vec<u8>,
+    position: Position,
+    of_text: &str,
+) -> Result<(), AllocError>
+    ensures { OnOk result (message.new.items
+        ≡ message.old.items ++ heading_part position.line position.column of_text.now) }
+{
+    append_gutter(message, position.line)?;
+    message.extend_from_slice(b"--> line ")?;
+    append_number(message, position.line)?;
+    message.extend_from_slice(b", column ")?;
+    append_number(message, position.column)?;
+    message.extend_from_slice(of_text.as_bytes())?;
+    message.extend_from_slice(b"\n")
+}
+
+// The line, or a part of it, and a caret under the column.
+fn append_place(
+    message: &mut Vec<u8>,
+    alloc: Global,
+    line: &[u8],
+    position: Position,
+) -> Result<(), AllocError>
+    ensures { OnOk result (message.new.items
+        ≡ message.old.items ++ place_part line.now position.line position.column) }
+{
+    let from = shown_from(line, position.column);
+    let part = shown_part(line, from);
+    append_line(message, alloc, position.line, part)?;
+    append_caret(message, alloc, position.line, part, position.column - from)
+}
+
+// The bytes of a line, behind its number.
+fn append_line(
+    message: &mut Vec<u8>,
+    alloc: Global,
+    number: usize,
+    part: &[u8],
+) -> Result<(), AllocError>
+    ensures { OnOk result (message.new.items ≡ message.old.items ++ line_part number part.now) }
+{
+    let shown = shown_line(alloc, part)?;
+    append_gutter(message, number)?;
+    message.extend_from_slice(b" |\n")?;
+    append_number(message, number)?;
+    message.extend_from_slice(b" | ")?;
+    message.extend_from_slice(&shown)?;
+    message.extend_from_slice(b"\n")
+}
+
+// A caret under it.
+fn append_caret(
+    message: &mut Vec<u8>,
+    alloc: Global,
+    number: usize,
+    part: &[u8],
+    column: usize,
+) -> Result<(), AllocError>
+    ensures { OnOk result (message.new.items
+        ≡ message.old.items ++ caret_part number part.now column) }
+{
+    let caret = caret_line(alloc, part, column)?;
+    append_gutter(message, number)?;
+    message.extend_from_slice(b" | ")?;
+    message.extend_from_slice(&caret)?;
+    message.extend_from_slice(b"\n")
+}
+
+// The function in which the place lies.
+fn append_function(
+    message: &mut Vec<u8>,
+    number: usize,
+    name: Option<&[u8]>,
+) -> Result<(), AllocError>
+    ensures { OnOk result (message.new.items
+        ≡ message.old.items ++ function_part number (option_map (λ bytes. bytes.now) name.entry)) }
+{
+    match name {
+        Some(name) => append_remark(message, number, IN_FUNCTION, name, LED_HERE),
+        None => Ok(()),
+    }
+}
+
+fn append_hint(message: &mut Vec<u8>, number: usize, hint: Option<&str>) -> Result<(), AllocError>
+    ensures { OnOk result (message.new.items
+        ≡ message.old.items ++ hint_part number (option_map (λ text. text.now) hint.entry)) }
+{
+    match hint {
+        Some(hint) => append_remark(message, number, b" = hint: ", hint.as_bytes(), b"\n"),
+        None => Ok(()),
+    }
+}
+
+// A text behind the gutter, between others.
+fn append_remark(
+    message: &mut Vec<u8>,
+    number: usize,
+    before: &[u8],
+    text: &[u8],
+    behind: &[u8],
+) -> Result<(), AllocError>
+    ensures { OnOk result (message.new.items
+        ≡ message.old.items ++ remark number before.now text.now behind.now) }
+{
+    append_gutter(message, number)?;
+    message.extend_from_slice(before)?;
+    message.extend_from_slice(text)?;
+    message.extend_from_slice(behind)
+}
+
+fn append_number(message: &mut Vec<u8>, number: usize) -> Result<(), AllocError>
+    ensures { OnOk result (message.new.items ≡ message.old.items ++ decimal number) }
+{
+    let mut buffer = Buffer::new();
+    message.extend_from_slice(buffer.format(number).as_bytes())
+}
+
+// As many blanks as the number has digits.
+fn append_gutter(message: &mut Vec<u8>, number: usize) -> Result<(), AllocError>
+    ensures { OnOk result (message.new.items ≡ message.old.items ++ gutter number) }
+{
+    let mut buffer = Buffer::new();
+    let digits = buffer.format(number).len();
+    message.extend_from_slice(&BLANKS[..digits])
+}
+
+// From where on a line is shown: from its beginning, unless it is long.
+fn shown_from(line: &[u8], column: usize) -> usize
+    ensures from { result ≡ shown_from line.now column }
+    ensures within { result ≤ column }
+{
+    if line.len() <= MOST_SHOWN {
+        0
+    } else {
+        column.saturating_sub(MOST_BEFORE)
+    }
+}
+
+// The part of a line that is shown.
+fn shown_part(line: &[u8], from: usize) -> &[u8]
+    ensures { result.now ≡ shown_part line.now from }
+{
+    let start = from.min(line.len());
+    let rest = &line[start..];
+    let shown = MOST_SHOWN.min(rest.len());
+    &rest[..shown]
+}
+
+#[cfg(test)]
+mod tests {
+    use super::*;
+    use snesl_data::FaultKind;
+    use std::test::Fail;
+
+    #[test]
+    fn a_refusal_is_shown_in_its_line(rt: HostRuntime) -> Result<(), Fail> {
+        let message = refusal_message(
+            rt.alloc(),
+            Refusal::Mismatch(15),
+            b"let x = 1 in\nx + true",
+            b"",
+        )?;
+        let want = b"error: a value of another type, or another number of values, is needed here
+ --> line 2, column 3
+  |
+2 | x + true
+  |   ^
+  = hint: operators take single values; for each element of a sequence `s` write `{x + 1 : x in s}`
+";
+        assert_eq!(rt; message.as_slice(), want.as_slice());
+        Ok(())
+    }
+
+    #[test]
+    fn a_bad_input_is_shown_in_the_input_text(rt: HostRuntime) -> Result<(), Fail> {
+        let input = b"a = 1;\n\n\n\n\n\n\n\n\n\tb = }";
+        let message = refusal_message(rt.alloc(), Refusal::BadInput(20), b"a + b", input)?;
+        let want = b"error: the input text is not as the program declares its inputs
+  --> line 10, column 6 of the input text
+   |
+10 | \tb = }
+   | \t    ^
+   = hint: each input in order, as `n = 1; v = [1,2]; s = {(1,true)}`
+";
+        assert_eq!(rt; message.as_slice(), want.as_slice());
+        Ok(())
+    }
+
+    #[test]
+    fn a_fault_names_its_function(rt: HostRuntime) -> Result<(), Fail> {
+        let fault = Fault {
+            kind: FaultKind::NegativeCount,
+            at: 31,
+        };
+        let program = b"function f(x : int) : {int} =\n iota(x);\nf(-1)";
+        let message = fault_message(rt.alloc(), fault, program)?;
+        let want = b"error: `iota` was given a negative number
+ --> line 2, column 2
+  |
+2 |  iota(x);
+  |  ^
+  = note: this is in the function `f`; which call of it led here is not known
+";
+        assert_eq!(rt; message.as_slice(), want.as_slice());
+        Ok(())
+    }
+
+    #[test]
+    fn a_message_may_have_no_place(rt: HostRuntime) -> Result<(), Fail> {
+        let stalled = stalled_message(rt.alloc())?;
+        let want = b"error: the program has stalled: its edges hold too few messages
+  = hint: let them hold more, as by `--capacity 4096`, at most 65536
+";
+        assert_eq!(rt; stalled.as_slice(), want.as_slice());
+        let unread = refusal_message(rt.alloc(), Refusal::Read, b"1", b"")?;
+        assert_eq!(rt;
+            unread.as_slice(),
+            b"error: the job could not be read\n".as_slice()
+        );
+        Ok(())
+    }
+
+    #[test]
+    fn of_a_long_line_a_part_is_shown(rt: HostRuntime) {
+        let line = [b'x'; 200];
+        assert_eq!(rt; shown_from(&line, 100), 39);
+        assert_eq!(rt; shown_part(&line, 39).len(), 120);
+        assert_eq!(rt; shown_part(&line, 150).len(), 50);
+        assert_eq!(rt; shown_from(b"1 +", 4), 0);
+    }
+}
