@@ -1,0 +1,83 @@
+// The command line, by clap.
+
+use clap::{Arg, ArgMatches, Command};
+use std::alloc::{AllocError, Global};
+
+// The options of `run`: those of the settings. Each has a name, the word before its value, what that is, and a line of help.
+const OPTIONS: [(&str, &str, &str, &str); 6] = [
+    (
+        "capacity",
+        "--capacity",
+        "MESSAGES",
+        "How many messages an edge holds, 1 to 65536 [without it: 256]",
+    ),
+    (
+        "chunk",
+        "--chunk",
+        "STEPS",
+        "How many steps a node makes before the next has its turn, 1 to 1024 [without it: 16]",
+    ),
+    (
+        "threads",
+        "--threads",
+        "THREADS",
+        "How many threads there are, 1 to 16 [without it: 2]",
+    ),
+    (
+        "idle",
+        "--idle",
+        "TURNS",
+        "How many turns in a row without a step end a thread, 1 to 1000000 [without it: 64]",
+    ),
+    (
+        "drive",
+        "--drive",
+        "DRIVE",
+        "serial: in one thread; rounds: in threads, round after round; rings: in threads, over rings between them [without it: rings]",
+    ),
+    (
+        "deal",
+        "--deal",
+        "DIGITS",
+        "Which thread has each node, in turn: 1 to 64 digits of 0..9 and a..f, each below the number of threads",
+    ),
+];
+
+// The command of the program, with its one subcommand.
+pub(crate) fn command<'a>(alloc: Global) -> Result<Command<'a>, AllocError> {
+    let mut run = Command::new(alloc, "run")
+        .about("Runs a job: prints its value, or says what went wrong and where")
+        .after_help("A job is a program, a line `---`, and its input text.");
+    for (name, _, value, help) in OPTIONS {
+        run = run.arg(
+            Arg::new(alloc, name)
+                .long(name)
+                .value_name(value)
+                .help(help),
+        )?;
+    }
+    let file = Arg::new(alloc, "file")
+        .value_name("FILE")
+        .help("The job; without it, standard input is read");
+    Command::new(alloc, "levuttar")
+        .bin_name("levuttar")?
+        .about("Runs programs of Streaming NESL, and says in words what goes wrong")
+        .subcommand_required(true)
+        .arg_required_else_help(true)
+        .subcommand(run.arg(file)?)
+}
+
+// The words that were given to the options of `run`, as `settings` reads them.
+pub(crate) fn setting_words<'a>(
+    alloc: Global,
+    matches: &ArgMatches<'a>,
+) -> Result<Vec<&'a str>, AllocError> {
+    let mut words = vec![in alloc; "levuttar"]?;
+    for (name, word, _, _) in OPTIONS {
+        if let Some(value) = matches.get_str(name) {
+            words.push(word)?;
+            words.push(value)?;
+        }
+    }
+    Ok(words)
+}

@@ -1,0 +1,57 @@
+// Runs jobs, and says in words what went wrong and where.
+#![tactic(auto)]
+
+mod command_line;
+mod running;
+mod saying;
+
+use command_line::command;
+use running::run_file;
+use saying::{say_plainly, say_words};
+use snesl_data::{Counted, Refusal};
+use std::alloc::AllocError;
+use std::env;
+use std::io::{self, Read, Write};
+use std::process::ExitCode;
+use std::rt::{Env, Files};
+use std::thread::Threads;
+
+fn main(rt: HostRuntime) -> ExitCode {
+    let mut out = Counted::new(rt.stdout());
+    let mut err = Counted::new(rt.stderr());
+    let status = match words_of(&rt) {
+        Ok(words) => obeyed(&rt, &words, rt.stdin(), &mut out, &mut err),
+        Err(_) => say_plainly(Refusal::BadConfig, &mut err),
+    };
+    // Where a write has failed, that was said, and no further call is made.
+    if out.failures() == 0 && out.flush().is_err() {
+        return ExitCode::from(say_plainly(Refusal::Output, &mut err));
+    }
+    ExitCode::from(status)
+}
+
+// The words of the command line. The error is that one is no text, or that memory was refused to them.
+fn words_of<R: Env + AllocGlobal>(rt: &R) -> io::Result<Vec<String>> {
+    Ok(env::args(rt)?.collect(rt.alloc())?)
+}
+
+// Does what the words say, and gives the exit status.
+fn obeyed<H: AllocGlobal + Files + Threads, R: Read + Drop, W: Write, E: Write>(
+    rt: &H,
+    words: &[String],
+    stdin: R,
+    out: &mut Counted<W>,
+    err: &mut Counted<E>,
+) -> u8 {
+    let command = match command(rt.alloc()) {
+        Ok(command) => command,
+        Err(AllocError) => return say_plainly(Refusal::NoMemory, err),
+    };
+    match command.try_get_matches_from(words) {
+        Ok(matches) => match matches.subcommand_matches("run") {
+            Some(words) => run_file(rt, words, stdin, out, err),
+            None => say_plainly(Refusal::BadConfig, err),
+        },
+        Err(error) => say_words(rt.alloc(), &error, out, err),
+    }
+}

@@ -1,0 +1,91 @@
+// Running a job.
+
+use crate::command_line::setting_words;
+use crate::saying::{say, say_plainly, unopened_message};
+use clap::ArgMatches;
+use snesl_data::{Counted, Refusal};
+use snesl_look::{fault_message, refusal_message, stalled_message};
+use snesl_run::{Config, NoGate, Outcome, Report, RunError, run, settings, split_job};
+use std::alloc::Global;
+use std::fs;
+use std::io::{Read, Write};
+use std::rt::Files;
+use std::sync::Arc;
+use std::thread::Threads;
+
+// Runs the job of the file that the words name, or of standard input, under the settings that they say. Gives the exit status.
+pub(crate) fn run_file<H: AllocGlobal + Files + Threads, R: Read + Drop, W: Write, E: Write>(
+    rt: &H,
+    matches: &ArgMatches<'_>,
+    stdin: R,
+    out: &mut Counted<W>,
+    err: &mut Counted<E>,
+) -> u8 {
+    let config = match config_said(rt.alloc(), matches) {
+        Ok(config) => config,
+        Err(refusal) => {
+            let message = refusal_message(rt.alloc(), refusal, b"", b"");
+            return say(message, refusal.status(), err);
+        }
+    };
+    match matches.get_str("file") {
+        None => run_job(rt, rt.alloc(), &config, stdin, out, err),
+        Some(path) => match fs::open(rt, path) {
+            Ok(file) => run_job(rt, rt.alloc(), &config, file, out, err),
+            Err(_) => say(
+                unopened_message(rt.alloc(), path),
+                Refusal::Read.status(),
+                err,
+            ),
+        },
+    }
+}
+
+// The configuration that the words say.
+fn config_said(alloc: Global, matches: &ArgMatches<'_>) -> Result<Config, Refusal> {
+    let words = setting_words(alloc, matches)?;
+    settings(alloc, &words)
+}
+
+// Runs the job that a reader gives. Its value goes to `out`, and what went wrong to `err`.
+fn run_job<R: Read + Drop, W: Write, E: Write>(
+    rt: &impl Threads,
+    alloc: Global,
+    config: &Config,
+    reader: R,
+    out: &mut Counted<W>,
+    err: &mut Counted<E>,
+) -> u8 {
+    let mut job = Counted::new(reader);
+    let (program, input) = match split_job(alloc, &mut job) {
+        Ok(parts) => parts,
+        Err(error) => return say_plainly(Refusal::from(error), err),
+    };
+    match run_alone(rt, alloc, &program, &input, config, out) {
+        Ok(report) => match report.outcome() {
+            Outcome::Value => 0,
+            Outcome::Fault(fault) => say(fault_message(alloc, fault, &program), 2, err),
+            Outcome::Stalled { .. } => say(stalled_message(alloc), 3, err),
+        },
+        Err(error) => {
+            let refusal = error.refusal();
+            let message = refusal_message(alloc, refusal, &program, &input);
+            say(message, refusal.status(), err)
+        }
+    }
+}
+
+// Runs a program with a gate that does nothing.
+fn run_alone<W: Write>(
+    rt: &impl Threads,
+    alloc: Global,
+    program: &[u8],
+    input: &[u8],
+    config: &Config,
+    out: &mut Counted<W>,
+) -> Result<Report, RunError> {
+    match Arc::new(alloc, NoGate) {
+        Ok(gate) => run(rt, alloc, program, input, config, gate, out),
+        Err(_) => Err(RunError::from(Refusal::NoMemory)),
+    }
+}
