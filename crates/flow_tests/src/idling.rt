@@ -55,12 +55,15 @@ fn counted_in_sum(rt: &impl Threads, alloc: Global, idle: usize) -> Result<(u64,
     counted(rt, alloc, graph_of(alloc, SUM_OF_FIVE)?, idle)
 }
 
-// Nothing comes to a share within a round: so with two idle turns more each share makes two turns more in each round.
+// Nothing comes to a share within a round: so with two idle turns more each share makes two turns more in each round, but where
+// its nodes are all over and it leaves, which happens three times.
 #[test]
 fn idle_turns_in_rounds(rt: HostRuntime) -> Result<(), Fail> {
     let (rounds, turns) = counted_in_sum(&rt, rt.alloc(), 1)?;
     let counts = counted_in_sum(&rt, rt.alloc(), 3)?;
-    let more = turns.saturating_add(rounds.saturating_mul(4));
+    let more = turns
+        .saturating_add(rounds.saturating_mul(4))
+        .saturating_sub(6);
     assert_eq!(rt; (rounds > 0, counts), (true, (rounds, more)));
     Ok(())
 }
