@@ -88,9 +88,12 @@ impl<W: Worker> Node<W> {
     fn read_on(&mut self, message: Msg) -> Result<bool, AllocError>
         requires works { self.old.phase ≡ Working }
         requires reads { IsReading (ask_of (move_of W.machine (W.state self.old.worker))) }
-        ensures ok { IfOk result (λ on. ⟦<Node<W> as Transducer>⟧.state self.new ≡ ⟦<Node<W> as Transducer>⟧.behaviour.process.read (⟦<Node<W> as Transducer>⟧.state self.old) (signal_of message)) }
+        ensures ok { IfOk result (λ on. ⟦<Node<W> as Transducer>⟧.state self.new ≡
+            ⟦<Node<W> as Transducer>⟧.behaviour.process.read
+            (⟦<Node<W> as Transducer>⟧.state self.old) (signal_of message)) }
         ensures on { IfOk result (λ on. on ≡ true → self.new.phase ≡ Working) }
-        ensures err { OnErr result (⟦<Node<W> as Transducer>⟧.state self.new ≡ ⟦<Node<W> as Transducer>⟧.state self.old) }
+        ensures err { OnErr result (⟦<Node<W> as Transducer>⟧.state self.new ≡
+            ⟦<Node<W> as Transducer>⟧.state self.old) }
         ensures sure { W.machine.takes_memory (W.state self.old.worker).1 ≡ false → IsOk result }
     {
         match message {
@@ -120,11 +123,16 @@ impl<W: Worker> Node<W> {
         outputs: &[usize],
         ends: &mut E,
     ) -> Result<bool, AllocError>
-        requires placed { IsPlaced ⟦<Node<W> as Transducer>⟧.behaviour inputs.now outputs.now (⟦<Node<W> as Transducer>⟧.state self.old) (E.view ends.old) }
+        requires placed { IsPlaced ⟦<Node<W> as Transducer>⟧.behaviour inputs.now outputs.now
+            (⟦<Node<W> as Transducer>⟧.state self.old) (E.view ends.old) }
         ensures same { E.same ends.old ends.new }
         ensures ends { SameEnds (E.view ends.old) (E.view ends.new) }
-        ensures visited { IfOk result (λ any. Visited inputs.now outputs.now ⟦<Node<W> as Transducer>⟧.behaviour (⟦<Node<W> as Transducer>⟧.state self.old) (E.view ends.old) (⟦<Node<W> as Transducer>⟧.state self.new) (E.view ends.new) any) }
-        ensures broke { OnErr result (BrokeOff inputs.now outputs.now ⟦<Node<W> as Transducer>⟧.behaviour (⟦<Node<W> as Transducer>⟧.state self.old) (E.view ends.old) (⟦<Node<W> as Transducer>⟧.state self.new) (E.view ends.new)) }
+        ensures visited { IfOk result (λ any. Visited inputs.now outputs.now
+            ⟦<Node<W> as Transducer>⟧.behaviour (⟦<Node<W> as Transducer>⟧.state self.old)
+            (E.view ends.old) (⟦<Node<W> as Transducer>⟧.state self.new) (E.view ends.new) any) }
+        ensures broke { OnErr result (BrokeOff inputs.now outputs.now
+            ⟦<Node<W> as Transducer>⟧.behaviour (⟦<Node<W> as Transducer>⟧.state self.old)
+            (E.view ends.old) (⟦<Node<W> as Transducer>⟧.state self.new) (E.view ends.new)) }
     {
         match self.want() {
             Want::Read(port) => {
@@ -161,12 +169,18 @@ impl<W: Worker> Node<W> {
     ) -> Result<usize, AllocError>
         requires some { 0 < chunk }
         requires works { self.old.phase ≡ Working }
-        requires placed { IsPlaced ⟦<Node<W> as Transducer>⟧.behaviour inputs.now outputs.now (⟦<Node<W> as Transducer>⟧.state self.old) (E.view ends.old) }
+        requires placed { IsPlaced ⟦<Node<W> as Transducer>⟧.behaviour inputs.now outputs.now
+            (⟦<Node<W> as Transducer>⟧.state self.old) (E.view ends.old) }
         ensures same { E.same ends.old ends.new }
         ensures ends { SameEnds (E.view ends.old) (E.view ends.new) }
         ensures within { IfOk result (λ made. made ≤ chunk) }
-        ensures visited { IfOk result (λ made. Visited inputs.now outputs.now ⟦<Node<W> as Transducer>⟧.behaviour (⟦<Node<W> as Transducer>⟧.state self.old) (E.view ends.old) (⟦<Node<W> as Transducer>⟧.state self.new) (E.view ends.new) (nat_lt 0 made)) }
-        ensures broke { OnErr result (BrokeOff inputs.now outputs.now ⟦<Node<W> as Transducer>⟧.behaviour (⟦<Node<W> as Transducer>⟧.state self.old) (E.view ends.old) (⟦<Node<W> as Transducer>⟧.state self.new) (E.view ends.new)) }
+        ensures visited { IfOk result (λ made. Visited inputs.now outputs.now
+            ⟦<Node<W> as Transducer>⟧.behaviour (⟦<Node<W> as Transducer>⟧.state self.old)
+            (E.view ends.old) (⟦<Node<W> as Transducer>⟧.state self.new) (E.view ends.new)
+            (nat_lt 0 made)) }
+        ensures broke { OnErr result (BrokeOff inputs.now outputs.now
+            ⟦<Node<W> as Transducer>⟧.behaviour (⟦<Node<W> as Transducer>⟧.state self.old)
+            (E.view ends.old) (⟦<Node<W> as Transducer>⟧.state self.new) (E.view ends.new)) }
     {
         for made in 0..chunk {
             match self.want_on() {
@@ -205,11 +219,16 @@ impl<W: Worker> Node<W> {
         left: usize,
     ) -> Result<bool, AllocError>
         requires some { 0 < left }
-        requires placed { IsPlaced ⟦<Node<W> as Transducer>⟧.behaviour inputs.now outputs.now (⟦<Node<W> as Transducer>⟧.state self.old) (E.view ends.old) }
+        requires placed { IsPlaced ⟦<Node<W> as Transducer>⟧.behaviour inputs.now outputs.now
+            (⟦<Node<W> as Transducer>⟧.state self.old) (E.view ends.old) }
         ensures same { E.same ends.old ends.new }
         ensures ends { SameEnds (E.view ends.old) (E.view ends.new) }
-        ensures visited { IfOk result (λ any. Visited inputs.now outputs.now ⟦<Node<W> as Transducer>⟧.behaviour (⟦<Node<W> as Transducer>⟧.state self.old) (E.view ends.old) (⟦<Node<W> as Transducer>⟧.state self.new) (E.view ends.new) any) }
-        ensures broke { OnErr result (BrokeOff inputs.now outputs.now ⟦<Node<W> as Transducer>⟧.behaviour (⟦<Node<W> as Transducer>⟧.state self.old) (E.view ends.old) (⟦<Node<W> as Transducer>⟧.state self.new) (E.view ends.new)) }
+        ensures visited { IfOk result (λ any. Visited inputs.now outputs.now
+            ⟦<Node<W> as Transducer>⟧.behaviour (⟦<Node<W> as Transducer>⟧.state self.old)
+            (E.view ends.old) (⟦<Node<W> as Transducer>⟧.state self.new) (E.view ends.new) any) }
+        ensures broke { OnErr result (BrokeOff inputs.now outputs.now
+            ⟦<Node<W> as Transducer>⟧.behaviour (⟦<Node<W> as Transducer>⟧.state self.old)
+            (E.view ends.old) (⟦<Node<W> as Transducer>⟧.state self.new) (E.view ends.new)) }
     {
         let mut moved = false;
         for _ in 0..left {

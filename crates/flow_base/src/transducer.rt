@@ -86,14 +86,17 @@ pub trait Transducer {
     /// then the transducer is unchanged, and the message is lost.
     fn give(&mut self, port: usize, message: Msg) -> Result<(), AllocError>
         requires { behaviour.process.want (state self.old) ≡ Read port }
-        ensures ok { OnOk result (state self.new ≡ behaviour.process.read (state self.old) (signal_of message)) }
+        ensures ok { OnOk result (state self.new ≡
+            behaviour.process.read (state self.old) (signal_of message)) }
         ensures err { OnErr result (state self.new ≡ state self.old) }
         ensures sure { behaviour.takes_memory (state self.old) ≡ false → IsOk result };
 
     /// The message that it wanted to write. An error where memory was refused; then the transducer is unchanged.
     fn emit(&mut self) -> Result<Msg, AllocError>
         requires { IsWrite (behaviour.process.want (state self.old)) }
-        ensures ok { IfOk result (λ message. (signal_of message ≡ behaviour.process.written (state self.old)) × (state self.new ≡ behaviour.process.wrote (state self.old))) }
+        ensures ok { IfOk result (λ message. (signal_of message ≡
+            behaviour.process.written (state self.old)) ×
+            (state self.new ≡ behaviour.process.wrote (state self.old))) }
         ensures err { OnErr result (state self.new ≡ state self.old) }
         ensures sure { behaviour.takes_memory (state self.old) ≡ false → IsOk result };
 
@@ -111,11 +114,14 @@ pub trait Transducer {
         chunk: usize,
     ) -> Result<bool, AllocError>
         requires some { 0 < chunk }
-        requires placed { IsPlaced behaviour inputs.now outputs.now (state self.old) (E.view ends.old) }
+        requires placed { IsPlaced behaviour inputs.now outputs.now (state self.old)
+            (E.view ends.old) }
         ensures same { E.same ends.old ends.new }
         ensures ends { SameEnds (E.view ends.old) (E.view ends.new) }
-        ensures visited { IfOk result (λ any. Visited inputs.now outputs.now behaviour (state self.old) (E.view ends.old) (state self.new) (E.view ends.new) any) }
-        ensures broke { OnErr result (BrokeOff inputs.now outputs.now behaviour (state self.old) (E.view ends.old) (state self.new) (E.view ends.new)) }
+        ensures visited { IfOk result (λ any. Visited inputs.now outputs.now behaviour
+            (state self.old) (E.view ends.old) (state self.new) (E.view ends.new) any) }
+        ensures broke { OnErr result (BrokeOff inputs.now outputs.now behaviour (state self.old)
+            (E.view ends.old) (state self.new) (E.view ends.new)) }
     {
         let mut moved = false;
         for _ in 0..chunk {

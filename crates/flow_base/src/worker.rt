@@ -93,15 +93,21 @@ pub trait Worker {
     /// does but memory was refused: a fault is never answered as want of memory. In both the worker is unchanged.
     fn take(&mut self, item: Item) -> Result<(), Stop>
         requires { IsReading (ask_of (move_of machine (state self.old))) }
-        ensures takes { Takes (with_parameters (state self.old).0 (given_of (move_of machine (state self.old)) (cell_of item))) (state self.old) result (state self.new) }
-        ensures sure { machine.takes_memory (state self.old).1 ≡ false → result ≡ Err OutOfMemory → ⊥ };
+        ensures takes { Takes (with_parameters (state self.old).0
+            (given_of (move_of machine (state self.old)) (cell_of item))) (state self.old) result
+            (state self.new) }
+        ensures sure { machine.takes_memory (state self.old).1 ≡ false →
+            result ≡ Err OutOfMemory → ⊥ };
 
     /// Gives the item that it wanted to write. An error where memory was refused; then the worker is unchanged.
     fn give(&mut self) -> Result<Item, AllocError>
         requires { IsWriting (ask_of (move_of machine (state self.old))) }
         ensures ok { IfOk result (λ item.
             (cell_of item ≡ told_of (move_of machine (state self.old))) ×
-            (state self.new ≡ ((state self.old).0, after_of (state self.old).1 (move_of machine (state self.old))))) }
+            (state self.new ≡ (
+              (state self.old).0,
+              after_of (state self.old).1 (move_of machine (state self.old)),
+            ))) }
         ensures err { OnErr result (state self.new ≡ state self.old) }
         ensures sure { machine.takes_memory (state self.old).1 ≡ false → IsOk result };
 

@@ -36,8 +36,11 @@ impl Inbox {
     #[inline(always)]
     pub fn take(&mut self) -> Option<Msg>
         ensures reserved { deque_capacity self.new.queue ≡ deque_capacity self.old.queue }
-        ensures some { IfSome result (λ m. (self.new.received.items ≡ self.old.received.items ++ m ∷ []) × (self.old.queue.items ≡ m ∷ self.new.queue.items)) }
-        ensures none { IfNone result ((self.new.received.items ≡ self.old.received.items) × (self.new.queue.items ≡ []) × (self.old.queue.items ≡ [])) }
+        ensures some { IfSome result (λ m. (self.new.received.items ≡
+            self.old.received.items ++ m ∷ []) ×
+            (self.old.queue.items ≡ m ∷ self.new.queue.items)) }
+        ensures none { IfNone result ((self.new.received.items ≡ self.old.received.items) ×
+            (self.new.queue.items ≡ []) × (self.old.queue.items ≡ [])) }
     {
         let message = self.queue.pop_front()?;
         self.taken = self.taken.saturating_add(1);

@@ -32,7 +32,8 @@ impl Outbox {
     /// An empty box, with room for the capacity.
     #[tactic(auto, using(flow_messages::proofs::Signals::signal_steps))]
     pub fn new(alloc: Global, capacity: usize) -> Result<Outbox, AllocError>
-        ensures fresh { IfOk result (λ o. (o.sent.items ≡ []) × (o.queue.items ≡ []) × (o.room ≡ capacity)) }
+        ensures fresh { IfOk result (λ o. (o.sent.items ≡ []) × (o.queue.items ≡ []) ×
+            (o.room ≡ capacity)) }
         ensures reserved { IfOk result (λ o. capacity ≤ deque_capacity o.queue) }
     {
         let queue = VecDeque::with_capacity(alloc, capacity)?;
@@ -50,11 +51,17 @@ impl Outbox {
     #[tactic(auto, using(flow_messages::proofs::Signals::signal_steps))]
     pub fn put(&mut self, message: Msg) -> Result<(), Refused>
         ensures reserved { deque_capacity self.new.queue ≡ deque_capacity self.old.queue }
-        ensures ok { OnOk result ((self.new.sent.items ≡ self.old.sent.items ++ message ∷ []) × (self.new.queue.items ≡ self.old.queue.items ++ message ∷ []) × (self.new.room + 1 ≡ self.old.room)) }
-        ensures refused { IfErr result (λ e. (e.message ≡ message) × (self.new.sent.items ≡ self.old.sent.items) × (self.new.queue.items ≡ self.old.queue.items) × (self.new.room ≡ self.old.room)) }
-        ensures closed { IsErrAnd result (λ e. e.why ≡ Closed) ↔ (ended (signals self.old.sent.items) ≡ true) }
+        ensures ok { OnOk result ((self.new.sent.items ≡ self.old.sent.items ++ message ∷ []) ×
+            (self.new.queue.items ≡ self.old.queue.items ++ message ∷ []) ×
+            (self.new.room + 1 ≡ self.old.room)) }
+        ensures refused { IfErr result (λ e. (e.message ≡ message) ×
+            (self.new.sent.items ≡ self.old.sent.items) ×
+            (self.new.queue.items ≡ self.old.queue.items) × (self.new.room ≡ self.old.room)) }
+        ensures closed { IsErrAnd result (λ e. e.why ≡ Closed) ↔
+            (ended (signals self.old.sent.items) ≡ true) }
         ensures full { IsErrAnd result (λ e. e.why ≡ Full) → self.new.room ≡ 0 }
-        ensures succeeds { ended (signals self.old.sent.items) ≡ false → 0 < self.old.room → IsOk result }
+        ensures succeeds { ended (signals self.old.sent.items) ≡ false → 0 < self.old.room →
+            IsOk result }
     {
         if self.closed {
             return Err(Refused {
@@ -102,7 +109,8 @@ impl Outbox {
 
     // Moves all messages behind those of the reader's box.
     fn append_to(&mut self, inbox: &mut Inbox)
-        requires { length inbox.old.queue.items + length self.old.queue.items ≤ deque_capacity inbox.old.queue }
+        requires { length inbox.old.queue.items + length self.old.queue.items ≤
+            deque_capacity inbox.old.queue }
         ensures outbox_reserved { deque_capacity self.new.queue ≡ deque_capacity self.old.queue }
         ensures inbox_reserved { deque_capacity inbox.new.queue ≡ deque_capacity inbox.old.queue }
         ensures sent { self.new.sent.items ≡ self.old.sent.items }

@@ -54,7 +54,8 @@ pub fn put_all(rt: &impl Wait, writer: EdgeWriter, messages: Vec<Msg>) -> EdgeWr
 
 // The list with one message more. A list for which there is no memory is given up.
 fn keep(taken: Result<Vec<Msg>, AllocError>, message: Msg) -> Result<Vec<Msg>, AllocError>
-    ensures { (before : List Message) → IfOk taken (λ v. v.items ≡ before) → IfOk result (λ v. v.items ≡ before ++ message ∷ []) }
+    ensures { (before : List Message) → IfOk taken (λ v. v.items ≡ before) →
+        IfOk result (λ v. v.items ≡ before ++ message ∷ []) }
 {
     let mut taken = taken?;
     taken.push(message)?;
@@ -105,7 +106,8 @@ pub fn send_across<R: Threads + Wait + Sync>(
     requires ended { ended (signals messages.items) ≡ true }
     requires orderly { orderly (signals messages.items) ≡ true }
     ensures taken { IfOk result (λ across. across.taken.items ≡ messages.items) }
-    ensures empty { IfOk result (λ across. (across.held.count ≡ 0) × (across.held.room ≡ capacity)) }
+    ensures empty { IfOk result (λ across. (across.held.count ≡ 0) ×
+        (across.held.room ≡ capacity)) }
 {
     let (writer, reader) = edge(alloc, capacity)?;
     let (mut writer, (mut reader, taken)) = thread::join(

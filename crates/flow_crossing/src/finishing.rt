@@ -48,7 +48,8 @@ pub fn send_and_finish<R: Threads + Wait + Sync>(
         rt,
         move || -> Option<FinishedMark>
             requires { (sent writer ≡ []) × (orderly (signals messages.items) ≡ true) }
-            ensures mark { IfSome result (λ mark. (r : Reader) → IsEdge writer r → IsMarkOf mark r) }
+            ensures mark { IfSome result (λ mark. (r : Reader) → IsEdge writer r →
+                IsMarkOf mark r) }
             ensures sent { IfSome result (λ mark. all_sent mark ≡ messages.items) }
         { put_and_finish(rt, writer, messages) },
         move || -> (EdgeReader, Result<Vec<Msg>, AllocError>)

@@ -22,7 +22,8 @@ pub fn deal_nodes<T: Transducer + Drop>(
     requires some { 0 < length share.now }
     requires shares { All (λ s. s < threads) share.now }
     ensures count { IfOk result (λ dealt. length dealt.items ≡ threads) }
-    ensures dealt { IfOk result (λ dealt. AreJustDealt share.now nodes.items (lists_in dealt.items)) }
+    ensures dealt { IfOk result (λ dealt. AreJustDealt share.now nodes.items
+        (lists_in dealt.items)) }
 {
     let mut dealt = empty_lists(alloc, threads)?;
     for node in nodes {

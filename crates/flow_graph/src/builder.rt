@@ -33,9 +33,11 @@ impl<T: Transducer + Drop> GraphBuilder<T> {
     pub fn node(&mut self, node: T) -> Result<usize, Refusal>
         requires { T.behaviour.opening (T.state node) ≡ T.state node }
         ensures number { IfOk result (λ number. number ≡ length (states_so_far self.old)) }
-        ensures nodes { IfOk result (λ _. states_so_far self.new ≡ states_so_far self.old ++ T.state node ∷ []) }
+        ensures nodes { IfOk result (λ _. states_so_far self.new ≡
+            states_so_far self.old ++ T.state node ∷ []) }
         ensures edges { edges_so_far self.new ≡ edges_so_far self.old }
-        ensures opened { AreOpened T.behaviour (states_so_far self.old) → AreOpened T.behaviour (states_so_far self.new) }
+        ensures opened { AreOpened T.behaviour (states_so_far self.old) →
+            AreOpened T.behaviour (states_so_far self.new) }
         ensures err { OnErr result (states_so_far self.new ≡ states_so_far self.old) }
         ensures full { (result ≡ Err TooBig) ↔ (length (states_so_far self.old) ≡ most_nodes) }
         ensures memory { IfErr result (λ refusal. (refusal ≡ TooBig) ⊎ (refusal ≡ NoMemory)) }
@@ -70,7 +72,8 @@ impl<T: Transducer + Drop> GraphBuilder<T> {
 
     /// Whether the edge may be added.
     pub fn may_join(&self, edge: Edge) -> bool
-        ensures { IsTrue result ↔ MayJoin T.behaviour (states_so_far self.now) (edges_so_far self.now) edge }
+        ensures { IsTrue result ↔ MayJoin T.behaviour (states_so_far self.now)
+            (edges_so_far self.now) edge }
     {
         if edge.writer >= edge.reader || edge.reader >= self.nodes.len() {
             return false;
@@ -92,7 +95,8 @@ impl<T: Transducer + Drop> GraphBuilder<T> {
     pub fn edge(&mut self, edge: Edge) -> Result<usize, Refusal>
         requires { MayJoin T.behaviour (states_so_far self.old) (edges_so_far self.old) edge }
         ensures number { IfOk result (λ number. number ≡ length (edges_so_far self.old)) }
-        ensures edges { IfOk result (λ _. edges_so_far self.new ≡ edges_so_far self.old ++ edge ∷ []) }
+        ensures edges { IfOk result (λ _. edges_so_far self.new ≡
+            edges_so_far self.old ++ edge ∷ []) }
         ensures nodes { states_so_far self.new ≡ states_so_far self.old }
         ensures err { OnErr result (edges_so_far self.new ≡ edges_so_far self.old) }
         ensures full { (result ≡ Err TooBig) ↔ (length (edges_so_far self.old) ≡ most_edges) }
@@ -110,7 +114,8 @@ impl<T: Transducer + Drop> GraphBuilder<T> {
 
     /// Whether each port has its edge.
     pub fn complete(&self) -> bool
-        ensures { IsTrue result ↔ IsJoined T.behaviour (states_so_far self.now) (edges_so_far self.now) }
+        ensures { IsTrue result ↔ IsJoined T.behaviour (states_so_far self.now)
+            (edges_so_far self.now) }
     {
         self.wiring.is_complete()
     }

@@ -14,7 +14,8 @@ pub struct GraphBuilder<T: Transducer> {
     pub(crate) nodes: Vec<Placed<T>>,
     pub(crate) wiring: Wiring,
     pub(crate) alloc: Global,
-    ghost kept: { IsKept T.behaviour (states_in nodes.items) wiring.ports.items wiring.edges.items },
+    ghost kept: { IsKept T.behaviour (states_in nodes.items)
+        wiring.ports.items wiring.edges.items },
     ghost seated: { AreSeated nodes.items wiring.edges.items },
 }
 

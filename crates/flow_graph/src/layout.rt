@@ -35,7 +35,9 @@ impl Layout {
         requires { FitTogether nodes.items (edges_in self) }
         ensures nodes { states_of result ≡ states_in nodes.items }
         ensures edges { edges_of result ≡ edges_in self }
-        ensures network { (states : List T.State) → map T.behaviour.opening (states_in nodes.items) ≡ map T.behaviour.opening states → IsSameNetwork T.behaviour states (edges_in self) (states_of result) (edges_of result) }
+        ensures network { (states : List T.State) →
+            map T.behaviour.opening (states_in nodes.items) ≡ map T.behaviour.opening states →
+            IsSameNetwork T.behaviour states (edges_in self) (states_of result) (edges_of result) }
     {
         Graph {
             nodes,

@@ -11,7 +11,8 @@ use kahn::Want;
 /// Whether the node makes no step again.
 pub fn is_over<T: Transducer>(graph: &Graph<T>, node: usize) -> bool
     requires { node < length (states_of graph.now) }
-    ensures { result ≡ is_over (T.behaviour.process.want (state_at T.behaviour (states_of graph.now) node)) }
+    ensures { result ≡ is_over (T.behaviour.process.want
+        (state_at T.behaviour (states_of graph.now) node)) }
 {
     matches!(graph.node(node).want(), Want::Ended | Want::Faulted(_))
 }

@@ -44,7 +44,8 @@ impl<T: Transducer> Graph<T> {
     /// Whether the ends are there of all edges of the node.
     pub fn has_ends<E: Ends>(&self, ends: &E, node: usize) -> bool
         requires { node < length (states_of self.now) }
-        ensures { IsTrue result ↔ HasEnds T.behaviour (states_of self.now) (edges_of self.now) node (E.view ends.now) }
+        ensures { IsTrue result ↔ HasEnds T.behaviour (states_of self.now) (edges_of self.now) node
+            (E.view ends.now) }
     {
         let placed = &self.nodes[node];
         has_readers(ends, &placed.inputs) && has_writers(ends, &placed.outputs)

@@ -31,7 +31,9 @@ pub fn pass_over<T: Transducer, E: WholeEnds>(
     requires some { 0 < chunk }
     requires ends { HasAllEnds (length (edges_of graph.old)) (E.view ends.old) }
     ensures shape { KeepsShape E.same E.view graph.old ends.old graph.new ends.new }
-    ensures visits { IfOk result (λ pass. Visits T.behaviour (E.capacity ends.old) nodes.now (edges_of graph.old) (states_of graph.old) (E.view ends.old) (states_of graph.new) (E.view ends.new) pass.moved) }
+    ensures visits { IfOk result (λ pass. Visits T.behaviour (E.capacity ends.old) nodes.now
+        (edges_of graph.old) (states_of graph.old) (E.view ends.old) (states_of graph.new)
+        (E.view ends.new) pass.moved) }
     ensures some { IfOk result (λ pass. pass.moved ≡ true → 0 < length nodes.now) }
 {
     let mut pass = Pass {

@@ -35,8 +35,10 @@ impl<T: Transducer + Drop> Placed<T> {
     /// Puts a transducer in its opening state, which has as many ports, in its place.
     pub(crate) fn replace(&mut self, node: T)
         requires opened { T.behaviour.opening (T.state node) ≡ T.state node }
-        requires inputs { T.behaviour.inputs (T.state node) ≡ T.behaviour.inputs (placed_state self.old) }
-        requires outputs { T.behaviour.outputs (T.state node) ≡ T.behaviour.outputs (placed_state self.old) }
+        requires inputs { T.behaviour.inputs (T.state node) ≡
+            T.behaviour.inputs (placed_state self.old) }
+        requires outputs { T.behaviour.outputs (T.state node) ≡
+            T.behaviour.outputs (placed_state self.old) }
         ensures number { self.new.number ≡ self.old.number }
         ensures node { self.new.node ≡ node }
         ensures inputs { self.new.inputs.items ≡ self.old.inputs.items }
@@ -102,7 +104,8 @@ impl<T: Transducer> Placed<T> {
     pub(crate) fn give(&mut self, port: usize, message: Msg) -> Result<(), AllocError>
         requires { T.behaviour.process.want (placed_state self.old) ≡ Read port }
         ensures place { IsSamePlace self.old self.new }
-        ensures ok { OnOk result (placed_state self.new ≡ T.behaviour.process.read (placed_state self.old) (signal_of message)) }
+        ensures ok { OnOk result (placed_state self.new ≡
+            T.behaviour.process.read (placed_state self.old) (signal_of message)) }
         ensures err { OnErr result (placed_state self.new ≡ placed_state self.old) }
         ensures sure { T.behaviour.takes_memory (placed_state self.old) ≡ false → IsOk result }
     {
@@ -113,7 +116,9 @@ impl<T: Transducer> Placed<T> {
     pub(crate) fn emit(&mut self) -> Result<Msg, AllocError>
         requires { IsWrite (T.behaviour.process.want (placed_state self.old)) }
         ensures place { IsSamePlace self.old self.new }
-        ensures ok { IfOk result (λ message. (signal_of message ≡ T.behaviour.process.written (placed_state self.old)) × (placed_state self.new ≡ T.behaviour.process.wrote (placed_state self.old))) }
+        ensures ok { IfOk result (λ message. (signal_of message ≡
+            T.behaviour.process.written (placed_state self.old)) ×
+            (placed_state self.new ≡ T.behaviour.process.wrote (placed_state self.old))) }
         ensures err { OnErr result (placed_state self.new ≡ placed_state self.old) }
         ensures sure { T.behaviour.takes_memory (placed_state self.old) ≡ false → IsOk result }
     {
@@ -132,8 +137,12 @@ impl<T: Transducer> Placed<T> {
         ensures place { IsSamePlace self.old self.new }
         ensures same { E.same ends.old ends.new }
         ensures ends { SameEnds (E.view ends.old) (E.view ends.new) }
-        ensures visited { IfOk result (λ any. Visited self.old.inputs.items self.old.outputs.items T.behaviour (placed_state self.old) (E.view ends.old) (placed_state self.new) (E.view ends.new) any) }
-        ensures broke { OnErr result (BrokeOff self.old.inputs.items self.old.outputs.items T.behaviour (placed_state self.old) (E.view ends.old) (placed_state self.new) (E.view ends.new)) }
+        ensures visited { IfOk result (λ any. Visited self.old.inputs.items self.old.outputs.items
+            T.behaviour (placed_state self.old) (E.view ends.old) (placed_state self.new)
+            (E.view ends.new) any) }
+        ensures broke { OnErr result (BrokeOff self.old.inputs.items self.old.outputs.items
+            T.behaviour (placed_state self.old) (E.view ends.old) (placed_state self.new)
+            (E.view ends.new)) }
     {
         self.node.run(&self.inputs, &self.outputs, ends, chunk)
     }
@@ -145,8 +154,10 @@ impl<T: Transducer> Placed<T> {
         requires writes { All (λ e. (E.view ends.old).writes e ≡ true) self.now.outputs.items }
         ensures same { E.same ends.old ends.new }
         ensures ends { SameEnds (E.view ends.old) (E.view ends.new) }
-        ensures looked { LeavesAlone self.now.inputs.items self.now.outputs.items (E.view ends.old) (E.view ends.new) }
-        ensures stuck { IsTrue result ↔ IsStuck self.now.inputs.items self.now.outputs.items (E.view ends.new) (T.behaviour.process.want (placed_state self.now)) }
+        ensures looked { LeavesAlone self.now.inputs.items self.now.outputs.items (E.view ends.old)
+            (E.view ends.new) }
+        ensures stuck { IsTrue result ↔ IsStuck self.now.inputs.items self.now.outputs.items
+            (E.view ends.new) (T.behaviour.process.want (placed_state self.now)) }
     {
         match self.node.want() {
             Want::Read(port) => !ends.ready(self.inputs[port]),

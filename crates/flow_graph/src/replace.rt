@@ -14,7 +14,8 @@ impl<T: Transducer + Drop> Graph<T> {
         requires { MayReplace T.behaviour (states_of self.old) number (T.state node) }
         ensures nodes { states_of self.new ≡ slice_set (states_of self.old) number (T.state node) }
         ensures edges { edges_of self.new ≡ edges_of self.old }
-        ensures opened { AreOpened T.behaviour (states_of self.old) → AreOpened T.behaviour (states_of self.new) }
+        ensures opened { AreOpened T.behaviour (states_of self.old) →
+            AreOpened T.behaviour (states_of self.new) }
     {
         self.nodes[number].replace(node);
     }

@@ -28,7 +28,8 @@ pub fn run_serial<T: Transducer, E: WholeEnds>(
     requires ends { HasAllEnds (length (edges_of graph.old)) (E.view ends.old) }
     requires reached { RunReaches (E.capacity ends.old) graph.old graph.old (E.view ends.old) }
     ensures shape { KeepsShape E.same E.view graph.old ends.old graph.new ends.new }
-    ensures run { OnOk result (RunEndsAt (E.capacity ends.old) graph.old graph.new (E.view ends.new)) }
+    ensures run { OnOk result (RunEndsAt (E.capacity ends.old) graph.old graph.new
+        (E.view ends.new)) }
 {
     // Nodes that are over need no more visits.
     let mut running = numbers_below(alloc, graph.nodes())?;
@@ -59,7 +60,8 @@ fn numbers_below(alloc: Global, end: usize) -> Result<Vec<usize>, AllocError>
 fn drop_over<T: Transducer>(graph: &Graph<T>, nodes: &mut Vec<usize>)
     requires { All (λ k. k < length (states_of graph.now)) nodes.old.items }
     ensures below { All (λ k. k < length (states_of graph.now)) nodes.new.items }
-    ensures others { (k : ℕ) → Contains nodes.old.items k → Contains nodes.new.items k ⊎ (is_over (T.behaviour.process.want (state_at T.behaviour (states_of graph.now) k)) ≡ true) }
+    ensures others { (k : ℕ) → Contains nodes.old.items k → Contains nodes.new.items k ⊎
+        (is_over (T.behaviour.process.want (state_at T.behaviour (states_of graph.now) k)) ≡ true) }
 {
     let mut kept = 0;
     for i in 0..nodes.len() {

@@ -28,7 +28,8 @@ impl<T: Transducer> Graph<T> {
     /// What the node wants.
     fn want(&self, node: usize) -> Want
         requires { node < length (states_of self.now) }
-        ensures { result ≡ T.behaviour.process.want (state_at T.behaviour (states_of self.now) node) }
+        ensures { result ≡ T.behaviour.process.want
+            (state_at T.behaviour (states_of self.now) node) }
     {
         self.nodes[node].node.want()
     }
@@ -36,7 +37,8 @@ impl<T: Transducer> Graph<T> {
     /// The edge at the input port that the node wants to read.
     fn wanted_input(&self, node: usize, port: usize) -> usize
         requires inside { node < length (states_of self.now) }
-        requires wants { T.behaviour.process.want (state_at T.behaviour (states_of self.now) node) ≡ Read port }
+        requires wants { T.behaviour.process.want (state_at T.behaviour (states_of self.now) node) ≡
+            Read port }
         ensures port { port < inputs_at T.behaviour (states_of self.now) node }
         ensures edge { result ≡ in_edge (edges_of self.now) node port }
     {
@@ -46,7 +48,8 @@ impl<T: Transducer> Graph<T> {
     /// The edge at the output port that the node wants to write.
     fn wanted_output(&self, node: usize, port: usize) -> usize
         requires inside { node < length (states_of self.now) }
-        requires wants { T.behaviour.process.want (state_at T.behaviour (states_of self.now) node) ≡ Write port }
+        requires wants { T.behaviour.process.want (state_at T.behaviour (states_of self.now) node) ≡
+            Write port }
         ensures port { port < outputs_at T.behaviour (states_of self.now) node }
         ensures edge { result ≡ out_edge (edges_of self.now) node port }
     {
@@ -57,12 +60,18 @@ impl<T: Transducer> Graph<T> {
     #[inline(always)]
     fn give(&mut self, node: usize, port: usize, message: Msg) -> Result<(), AllocError>
         requires inside { node < length (states_of self.old) }
-        requires wants { T.behaviour.process.want (state_at T.behaviour (states_of self.old) node) ≡ Read port }
+        requires wants { T.behaviour.process.want (state_at T.behaviour (states_of self.old) node) ≡
+            Read port }
         ensures edges { edges_of self.new ≡ edges_of self.old }
-        ensures openings { map T.behaviour.opening (states_of self.new) ≡ map T.behaviour.opening (states_of self.old) }
-        ensures ok { OnOk result (states_of self.new ≡ slice_set (states_of self.old) node (T.behaviour.process.read (state_at T.behaviour (states_of self.old) node) (signal_of message))) }
+        ensures openings { map T.behaviour.opening (states_of self.new) ≡
+            map T.behaviour.opening (states_of self.old) }
+        ensures ok { OnOk result (states_of self.new ≡
+            slice_set (states_of self.old) node
+            (T.behaviour.process.read (state_at T.behaviour (states_of self.old) node)
+            (signal_of message))) }
         ensures err { OnErr result (states_of self.new ≡ states_of self.old) }
-        ensures sure { T.behaviour.takes_memory (state_at T.behaviour (states_of self.old) node) ≡ false → IsOk result }
+        ensures sure { T.behaviour.takes_memory (state_at T.behaviour (states_of self.old) node) ≡
+            false → IsOk result }
     {
         self.nodes[node].give(port, message)
     }
@@ -70,13 +79,19 @@ impl<T: Transducer> Graph<T> {
     /// The message that the node wanted to write.
     fn emit(&mut self, node: usize) -> Result<Msg, AllocError>
         requires inside { node < length (states_of self.old) }
-        requires wants { IsWrite (T.behaviour.process.want (state_at T.behaviour (states_of self.old) node)) }
+        requires wants { IsWrite (T.behaviour.process.want
+            (state_at T.behaviour (states_of self.old) node)) }
         ensures edges { edges_of self.new ≡ edges_of self.old }
-        ensures openings { map T.behaviour.opening (states_of self.new) ≡ map T.behaviour.opening (states_of self.old) }
-        ensures message { IfOk result (λ message. signal_of message ≡ T.behaviour.process.written (state_at T.behaviour (states_of self.old) node)) }
-        ensures ok { OnOk result (states_of self.new ≡ slice_set (states_of self.old) node (T.behaviour.process.wrote (state_at T.behaviour (states_of self.old) node))) }
+        ensures openings { map T.behaviour.opening (states_of self.new) ≡
+            map T.behaviour.opening (states_of self.old) }
+        ensures message { IfOk result (λ message. signal_of message ≡
+            T.behaviour.process.written (state_at T.behaviour (states_of self.old) node)) }
+        ensures ok { OnOk result (states_of self.new ≡
+            slice_set (states_of self.old) node
+            (T.behaviour.process.wrote (state_at T.behaviour (states_of self.old) node))) }
         ensures err { OnErr result (states_of self.new ≡ states_of self.old) }
-        ensures sure { T.behaviour.takes_memory (state_at T.behaviour (states_of self.old) node) ≡ false → IsOk result }
+        ensures sure { T.behaviour.takes_memory (state_at T.behaviour (states_of self.old) node) ≡
+            false → IsOk result }
     {
         self.nodes[node].emit()
     }
@@ -93,7 +108,8 @@ pub fn step_once<T: Transducer, E: Ends>(
     node: usize,
 ) -> Result<Moved, AllocError>
     requires inside { node < length (states_of graph.old) }
-    requires ends { HasEnds T.behaviour (states_of graph.old) (edges_of graph.old) node (E.view ends.old) }
+    requires ends { HasEnds T.behaviour (states_of graph.old) (edges_of graph.old) node
+        (E.view ends.old) }
     ensures shape { KeepsShape E.same E.view graph.old ends.old graph.new ends.new }
     ensures turn { TakesTurn E.view node graph.old ends.old graph.new ends.new result }
 {

@@ -22,7 +22,8 @@ pub fn graph_opens<T: Transducer>(graph: &Graph<T>)
 
 /// In a sound configuration no node wants to write to an edge to which End was sent.
 pub fn no_write_after_end<T: Transducer>(graph: &Graph<T>)
-    ensures { (view : View) → WritesOpen T.behaviour (states_of graph.now) (edges_of graph.now) view }
+    ensures { (view : View) → WritesOpen T.behaviour (states_of graph.now)
+        (edges_of graph.now) view }
 {}
 
 /// Where the nodes are in their opening states, bodies over which each node's row holds are a lawful flow. Where rows

@@ -24,7 +24,9 @@ impl<T: Transducer> Graph<T> {
         requires some { 0 < chunk }
         requires ends { HasAllEnds (length (edges_of self.old)) (E.view ends.old) }
         ensures shape { KeepsShape E.same E.view self.old ends.old self.new ends.new }
-        ensures visits { IfOk result (λ any. Visits T.behaviour (E.capacity ends.old) (node ∷ []) (edges_of self.old) (states_of self.old) (E.view ends.old) (states_of self.new) (E.view ends.new) any) }
+        ensures visits { IfOk result (λ any. Visits T.behaviour (E.capacity ends.old) (node ∷ [])
+            (edges_of self.old) (states_of self.old) (E.view ends.old) (states_of self.new)
+            (E.view ends.new) any) }
     {
         self.nodes[node].run(ends, chunk)
     }

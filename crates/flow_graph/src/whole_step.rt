@@ -22,10 +22,12 @@ pub fn step_whole<T: Transducer, E: WholeEnds>(
     node: usize,
 ) -> Result<Moved, AllocError>
     requires inside { node < length (states_of graph.old) }
-    requires ends { HasEnds T.behaviour (states_of graph.old) (edges_of graph.old) node (E.view ends.old) }
+    requires ends { HasEnds T.behaviour (states_of graph.old) (edges_of graph.old) node
+        (E.view ends.old) }
     ensures shape { KeepsShape E.same E.view graph.old ends.old graph.new ends.new }
     ensures turn { TakesTurn E.view node graph.old ends.old graph.new ends.new result }
-    ensures network { IfOk result (λ moved. TurnsNetwork E.view node graph.old ends.old graph.new ends.new (E.capacity ends.old) moved) }
+    ensures network { IfOk result (λ moved. TurnsNetwork E.view node graph.old ends.old graph.new
+        ends.new (E.capacity ends.old) moved) }
 {
     step_once(graph, ends, node)
 }

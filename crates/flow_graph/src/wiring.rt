@@ -33,7 +33,8 @@ impl Ports {
 
     fn set_output(&mut self, port: usize, edge: usize)
         requires { port < length self.old.outputs.items }
-        ensures outputs { self.new.outputs.items ≡ slice_set self.old.outputs.items port (Some edge) }
+        ensures outputs { self.new.outputs.items ≡
+            slice_set self.old.outputs.items port (Some edge) }
         ensures inputs { self.new.inputs.items ≡ self.old.inputs.items }
     {
         self.outputs[port] = Some(edge);
@@ -65,8 +66,10 @@ impl Wiring {
         inputs: usize,
         outputs: usize,
     ) -> Result<(), AllocError>
-        ensures inputs { OnOk result (map length (ins self.new.ports.items) ≡ map length (ins self.old.ports.items) ++ inputs ∷ []) }
-        ensures outputs { OnOk result (map length (outs self.new.ports.items) ≡ map length (outs self.old.ports.items) ++ outputs ∷ []) }
+        ensures inputs { OnOk result (map length (ins self.new.ports.items) ≡
+            map length (ins self.old.ports.items) ++ inputs ∷ []) }
+        ensures outputs { OnOk result (map length (outs self.new.ports.items) ≡
+            map length (outs self.old.ports.items) ++ outputs ∷ []) }
         ensures edges { self.new.edges.items ≡ self.old.edges.items }
         ensures err { OnErr result (self.new.ports.items ≡ self.old.ports.items) }
     {
@@ -82,10 +85,14 @@ impl Wiring {
         requires reader { edge.reader < length self.old.ports.items }
         requires output { edge.writer_port < count_at (outs self.old.ports.items) edge.writer }
         requires input { edge.reader_port < count_at (ins self.old.ports.items) edge.reader }
-        requires free_output { length self.old.edges.items ≤ out_edge self.old.edges.items edge.writer edge.writer_port }
-        requires free_input { length self.old.edges.items ≤ in_edge self.old.edges.items edge.reader edge.reader_port }
-        ensures inputs { map length (ins self.new.ports.items) ≡ map length (ins self.old.ports.items) }
-        ensures outputs { map length (outs self.new.ports.items) ≡ map length (outs self.old.ports.items) }
+        requires free_output { length self.old.edges.items ≤
+            out_edge self.old.edges.items edge.writer edge.writer_port }
+        requires free_input { length self.old.edges.items ≤
+            in_edge self.old.edges.items edge.reader edge.reader_port }
+        ensures inputs { map length (ins self.new.ports.items) ≡
+            map length (ins self.old.ports.items) }
+        ensures outputs { map length (outs self.new.ports.items) ≡
+            map length (outs self.old.ports.items) }
         ensures ok { OnOk result (self.new.edges.items ≡ self.old.edges.items ++ edge ∷ []) }
         ensures err { OnErr result (self.new.edges.items ≡ self.old.edges.items) }
     {
@@ -99,7 +106,8 @@ impl Wiring {
     /// Whether the node has this input port, with no edge.
     pub fn is_free_input(&self, node: usize, port: usize) -> bool
         requires { node < length self.now.ports.items }
-        ensures { IsTrue result ↔ ((port < count_at (ins self.now.ports.items) node) × (length self.now.edges.items ≤ in_edge self.now.edges.items node port)) }
+        ensures { IsTrue result ↔ ((port < count_at (ins self.now.ports.items) node) ×
+            (length self.now.edges.items ≤ in_edge self.now.edges.items node port)) }
     {
         is_free(&self.ports[node].inputs, port)
     }
@@ -107,7 +115,8 @@ impl Wiring {
     /// Whether the node has this output port, with no edge.
     pub fn is_free_output(&self, node: usize, port: usize) -> bool
         requires { node < length self.now.ports.items }
-        ensures { IsTrue result ↔ ((port < count_at (outs self.now.ports.items) node) × (length self.now.edges.items ≤ out_edge self.now.edges.items node port)) }
+        ensures { IsTrue result ↔ ((port < count_at (outs self.now.ports.items) node) ×
+            (length self.now.edges.items ≤ out_edge self.now.edges.items node port)) }
     {
         is_free(&self.ports[node].outputs, port)
     }
@@ -141,7 +150,8 @@ fn all_taken(ports: &[Option<usize>]) -> bool
 
 /// Whether there is this port, with no edge.
 fn is_free(ports: &[Option<usize>], port: usize) -> bool
-    ensures { IsTrue result ↔ ((port < length ports.now) × (slice_index_or ports.now port None ≡ None)) }
+    ensures { IsTrue result ↔ ((port < length ports.now) ×
+        (slice_index_or ports.now port None ≡ None)) }
 {
     port < ports.len() && ports[port].is_none()
 }

@@ -37,7 +37,8 @@ pub trait Meeting: Ends {
         ensures met { Met (Self.view self.new) (Self.view self.new) (places self.new edge) edge };
 
     /// Ends that join are there.
-    ghost join_ends: { (a b : Self) (e : ℕ) → joins a b e → ((Self.view a).writes e ≡ true) × ((Self.view b).reads e ≡ true) };
+    ghost join_ends: { (a b : Self) (e : ℕ) → joins a b e →
+        ((Self.view a).writes e ≡ true) × ((Self.view b).reads e ≡ true) };
 
     /// Where there was no meeting, all is as after one.
     ghost meets_refl: { (e : ℕ) (a : Self) → meets e a a };
@@ -57,13 +58,16 @@ pub trait Meeting: Ends {
     ghost stays_trans: { (a b c : Self) → stays a b → stays b c → stays a c };
 
     /// What joins stays so over a meeting at another edge, of the writer's share.
-    ghost join_writer: { (a a' b : Self) (e k : ℕ) → joins a b k → k ≢ e → meets e a a' → joins a' b k };
+    ghost join_writer: { (a a' b : Self) (e k : ℕ) → joins a b k → k ≢ e → meets e a a' →
+        joins a' b k };
 
     /// What joins stays so over a meeting at another edge, of the reader's share.
-    ghost join_reader: { (a b b' : Self) (e k : ℕ) → joins a b k → k ≢ e → meets e b b' → joins a b' k };
+    ghost join_reader: { (a b b' : Self) (e k : ℕ) → joins a b k → k ≢ e → meets e b b' →
+        joins a b' k };
 
     /// What joins stays so, whatever the shares are called for between meetings.
-    ghost stay_joined: { (a a' b b' : Self) (e : ℕ) → joins a b e → Self.same a a' → Self.same b b' → joins a' b' e };
+    ghost stay_joined: { (a a' b b' : Self) (e : ℕ) → joins a b e → Self.same a a' →
+        Self.same b b' → joins a' b' e };
 
     /// The number of places stays, whatever the share is called for between meetings.
     ghost keep_places: { (a b : Self) → Self.same a b → (k : ℕ) → places b k ≡ places a k };

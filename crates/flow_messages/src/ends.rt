@@ -62,17 +62,22 @@ pub trait Ends {
         requires { (view self.old).writes edge ≡ true }
         ensures same { same self.old self.new }
         ensures ok { OnOk result (Put (view self.old) edge (signal_of message) (view self.new)) }
-        ensures refused { IfErr result (λ e. (e.message ≡ message) × LookedForRoom (view self.old) edge (view self.new)) }
-        ensures closed { IsErrAnd result (λ e. e.why ≡ Closed) ↔ (ended ((view self.old).sent edge) ≡ true) }
+        ensures refused { IfErr result (λ e. (e.message ≡ message) ×
+            LookedForRoom (view self.old) edge (view self.new)) }
+        ensures closed { IsErrAnd result (λ e. e.why ≡ Closed) ↔
+            (ended ((view self.old).sent edge) ≡ true) }
         ensures full { IsErrAnd result (λ e. e.why ≡ Full) → (view self.new).room edge ≡ 0 }
-        ensures succeeds { ended ((view self.old).sent edge) ≡ false → 0 < (view self.old).room edge → IsOk result };
+        ensures succeeds { ended ((view self.old).sent edge) ≡ false →
+            0 < (view self.old).room edge → IsOk result };
 
     /// Takes the oldest message that was not taken, or none where none is certain to be there.
     fn take(&mut self, edge: usize) -> Option<Msg>
         requires { (view self.old).reads edge ≡ true }
         ensures same { same self.old self.new }
-        ensures some { IfSome result (λ m. Taken (view self.old) edge (signal_of m) (view self.new)) }
-        ensures none { IfNone result (LookedForMessages (view self.old) edge (view self.new) × (held (view self.new) edge ≡ 0)) }
+        ensures some { IfSome result (λ m. Taken (view self.old) edge (signal_of m)
+            (view self.new)) }
+        ensures none { IfNone result (LookedForMessages (view self.old) edge (view self.new) ×
+            (held (view self.new) edge ≡ 0)) }
         ensures succeeds { 0 < held (view self.old) edge → IsSome result };
 
     ghost same_refl: { (a : Self) → same a a };

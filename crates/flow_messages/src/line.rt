@@ -33,7 +33,8 @@ impl Line {
     /// An empty edge, with its room reserved.
     #[tactic(auto, using(crate::proofs::Signals::signal_steps))]
     pub fn new(alloc: Global, capacity: usize) -> Result<Line, AllocError>
-        ensures fresh { IfOk result (λ l. (l.sent.items ≡ []) × (l.received.items ≡ []) × (l.queue.items ≡ []) × (l.capacity ≡ capacity)) }
+        ensures fresh { IfOk result (λ l. (l.sent.items ≡ []) × (l.received.items ≡ []) ×
+            (l.queue.items ≡ []) × (l.capacity ≡ capacity)) }
     {
         let queue = VecDeque::with_capacity(alloc, capacity)?;
         Ok(Line {
@@ -68,11 +69,17 @@ impl Line {
     pub fn put(&mut self, message: Msg) -> Result<(), Refused>
         ensures capacity { self.new.capacity ≡ self.old.capacity }
         ensures received { self.new.received.items ≡ self.old.received.items }
-        ensures ok { OnOk result ((self.new.sent.items ≡ self.old.sent.items ++ message ∷ []) × (self.new.queue.items ≡ self.old.queue.items ++ message ∷ [])) }
-        ensures refused { IfErr result (λ e. (e.message ≡ message) × (self.new.sent.items ≡ self.old.sent.items) × (self.new.queue.items ≡ self.old.queue.items)) }
-        ensures closed { IsErrAnd result (λ e. e.why ≡ Closed) ↔ (ended (signals self.old.sent.items) ≡ true) }
-        ensures full { IsErrAnd result (λ e. e.why ≡ Full) → self.new.capacity ≤ length self.new.queue.items }
-        ensures succeeds { ended (signals self.old.sent.items) ≡ false → length self.old.queue.items < self.old.capacity → IsOk result }
+        ensures ok { OnOk result ((self.new.sent.items ≡ self.old.sent.items ++ message ∷ []) ×
+            (self.new.queue.items ≡ self.old.queue.items ++ message ∷ [])) }
+        ensures refused { IfErr result (λ e. (e.message ≡ message) ×
+            (self.new.sent.items ≡ self.old.sent.items) ×
+            (self.new.queue.items ≡ self.old.queue.items)) }
+        ensures closed { IsErrAnd result (λ e. e.why ≡ Closed) ↔
+            (ended (signals self.old.sent.items) ≡ true) }
+        ensures full { IsErrAnd result (λ e. e.why ≡ Full) →
+            self.new.capacity ≤ length self.new.queue.items }
+        ensures succeeds { ended (signals self.old.sent.items) ≡ false →
+            length self.old.queue.items < self.old.capacity → IsOk result }
     {
         if self.closed {
             return Err(Refused {
@@ -99,8 +106,11 @@ impl Line {
     pub fn take(&mut self) -> Option<Msg>
         ensures capacity { self.new.capacity ≡ self.old.capacity }
         ensures sent { self.new.sent.items ≡ self.old.sent.items }
-        ensures some { IfSome result (λ m. (self.new.received.items ≡ self.old.received.items ++ m ∷ []) × (self.old.queue.items ≡ m ∷ self.new.queue.items)) }
-        ensures none { IfNone result ((self.new.received.items ≡ self.old.received.items) × (self.new.queue.items ≡ []) × (self.old.queue.items ≡ [])) }
+        ensures some { IfSome result (λ m. (self.new.received.items ≡
+            self.old.received.items ++ m ∷ []) ×
+            (self.old.queue.items ≡ m ∷ self.new.queue.items)) }
+        ensures none { IfNone result ((self.new.received.items ≡ self.old.received.items) ×
+            (self.new.queue.items ≡ []) × (self.old.queue.items ≡ [])) }
     {
         let message = self.queue.pop_front()?;
         self.taken = self.taken.saturating_add(1);

@@ -17,7 +17,8 @@ pub fn edge(alloc: Global, capacity: usize) -> Result<(EdgeWriter, EdgeReader), 
     requires some { 0 < capacity }
     requires limit { capacity ≤ greatest_capacity }
     ensures pair { IfOk result (λ r. IsEdge r.0 r.1) }
-    ensures writer { IfOk result (λ r. (sent r.0 ≡ []) × (certain_room r.0 ≡ capacity) × (edge_capacity r.0 ≡ capacity)) }
+    ensures writer { IfOk result (λ r. (sent r.0 ≡ []) × (certain_room r.0 ≡ capacity) ×
+        (edge_capacity r.0 ≡ capacity)) }
     ensures reader { IfOk result (λ r. (received r.1 ≡ []) × (certain_held r.1 ≡ [])) }
 {
     let (producer, consumer) = RingBuffer::with_protocol::<Global, Closing>(alloc, capacity)?;
@@ -38,8 +39,10 @@ pub fn edge(alloc: Global, capacity: usize) -> Result<(EdgeWriter, EdgeReader), 
 pub fn meet(writer: &mut EdgeWriter, reader: &mut EdgeReader) -> Held
     requires { IsEdge writer.old reader.old }
     ensures writer { SameWriter writer.old writer.new × (sent writer.new ≡ sent writer.old) }
-    ensures reader { SameReader reader.old reader.new × (received reader.new ≡ received reader.old) }
-    ensures looked { (certain_room writer.old ≤ certain_room writer.new) × IsPrefix (certain_held reader.old) (certain_held reader.new) }
+    ensures reader { SameReader reader.old reader.new ×
+        (received reader.new ≡ received reader.old) }
+    ensures looked { (certain_room writer.old ≤ certain_room writer.new) ×
+        IsPrefix (certain_held reader.old) (certain_held reader.new) }
     ensures pair { IsEdge writer.new reader.new }
     ensures fifo { received reader.new ++ certain_held reader.new ≡ sent writer.new }
     ensures count { result.count ≡ length (certain_held reader.new) }

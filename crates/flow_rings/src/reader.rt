@@ -13,8 +13,10 @@ impl EdgeReader {
     #[inline(always)]
     pub fn take(&mut self) -> Option<Msg>
         ensures same { SameReader self.old self.new }
-        ensures some { IfSome result (λ m. (received self.new ≡ received self.old ++ m ∷ []) × IsPrefix (certain_held self.old) (m ∷ certain_held self.new)) }
-        ensures none { IfNone result ((received self.new ≡ received self.old) × (certain_held self.old ≡ []) × (certain_held self.new ≡ [])) }
+        ensures some { IfSome result (λ m. (received self.new ≡ received self.old ++ m ∷ []) ×
+            IsPrefix (certain_held self.old) (m ∷ certain_held self.new)) }
+        ensures none { IfNone result ((received self.new ≡ received self.old) ×
+            (certain_held self.old ≡ []) × (certain_held self.new ≡ [])) }
         ensures open { IfSome result (λ _. ended (signals (received self.old)) ≡ false) }
         ensures succeeds { 0 < length (certain_held self.old) → IsSome result }
     {
@@ -27,7 +29,8 @@ impl EdgeReader {
     #[inline(always)]
     pub fn ready(&mut self) -> bool
         ensures same { SameReader self.old self.new }
-        ensures looked { (received self.new ≡ received self.old) × IsPrefix (certain_held self.old) (certain_held self.new) }
+        ensures looked { (received self.new ≡ received self.old) ×
+            IsPrefix (certain_held self.old) (certain_held self.new) }
         ensures value { IsTrue result ↔ (0 < length (certain_held self.new)) }
     {
         !self.ring.is_empty()
@@ -39,7 +42,8 @@ impl EdgeReader {
         requires { IsMarkOf mark.old self.old }
         ensures same { SameReader self.old self.new }
         ensures mark { IsMarkOf mark.new self.new × (all_sent mark.new ≡ all_sent mark.old) }
-        ensures looked { (received self.new ≡ received self.old) × IsPrefix (certain_held self.old) (certain_held self.new) }
+        ensures looked { (received self.new ≡ received self.old) ×
+            IsPrefix (certain_held self.old) (certain_held self.new) }
         ensures value { result ≡ length (certain_held self.new) }
         ensures all { received self.new ++ certain_held self.new ≡ all_sent mark.old }
     {

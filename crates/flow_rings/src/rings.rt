@@ -93,8 +93,10 @@ impl Rings {
     /// No end at any of the numbers below `edges`. The room for the ends is reserved here, and the
     /// call is refused where there is no memory for it.
     pub fn none(alloc: Global, edges: usize) -> Result<Rings, AllocError>
-        ensures count { IfOk result (λ rings. (length rings.writers.items ≡ edges) × (length rings.readers.items ≡ edges)) }
-        ensures free { IfOk result (λ rings. (e : ℕ) → (writer_at rings e ≡ None) × (reader_at rings e ≡ None)) }
+        ensures count { IfOk result (λ rings. (length rings.writers.items ≡ edges) ×
+            (length rings.readers.items ≡ edges)) }
+        ensures free { IfOk result (λ rings. (e : ℕ) → (writer_at rings e ≡ None) ×
+            (reader_at rings e ≡ None)) }
     {
         let mut writers = Vec::with_capacity(alloc, edges)?;
         let mut readers = Vec::with_capacity(alloc, edges)?;

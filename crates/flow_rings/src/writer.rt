@@ -17,11 +17,15 @@ impl EdgeWriter {
     #[tactic(auto, using(crate::proofs::Lists::list_steps))]
     pub fn put(&mut self, message: Msg) -> Result<(), Refused>
         ensures same { SameWriter self.old self.new }
-        ensures ok { OnOk result ((sent self.new ≡ sent self.old ++ message ∷ []) × (certain_room self.old ≤ certain_room self.new + 1)) }
-        ensures refused { IfErr result (λ e. (e.message ≡ message) × (sent self.new ≡ sent self.old) × (certain_room self.old ≤ certain_room self.new)) }
-        ensures closed { IsErrAnd result (λ e. e.why ≡ Closed) ↔ (ended (signals (sent self.old)) ≡ true) }
+        ensures ok { OnOk result ((sent self.new ≡ sent self.old ++ message ∷ []) ×
+            (certain_room self.old ≤ certain_room self.new + 1)) }
+        ensures refused { IfErr result (λ e. (e.message ≡ message) ×
+            (sent self.new ≡ sent self.old) × (certain_room self.old ≤ certain_room self.new)) }
+        ensures closed { IsErrAnd result (λ e. e.why ≡ Closed) ↔
+            (ended (signals (sent self.old)) ≡ true) }
         ensures full { IsErrAnd result (λ e. e.why ≡ Full) → certain_room self.new ≡ 0 }
-        ensures succeeds { ended (signals (sent self.old)) ≡ false → 0 < certain_room self.old → IsOk result }
+        ensures succeeds { ended (signals (sent self.old)) ≡ false → 0 < certain_room self.old →
+            IsOk result }
     {
         if self.closed {
             return Err(Refused {
@@ -47,7 +51,8 @@ impl EdgeWriter {
     #[inline(always)]
     pub fn room(&mut self) -> bool
         ensures same { SameWriter self.old self.new }
-        ensures looked { (sent self.new ≡ sent self.old) × (certain_room self.old ≤ certain_room self.new) }
+        ensures looked { (sent self.new ≡ sent self.old) ×
+            (certain_room self.old ≤ certain_room self.new) }
         ensures value { IsTrue result ↔ (0 < certain_room self.new) }
     {
         !self.ring.is_full()

@@ -37,7 +37,8 @@ pub struct Binary {
 impl Binary {
     /// A worker over this operator in this dialect, before its first instance.
     pub fn new(dialect: Dialect, operator: BinaryOperator) -> Binary
-        ensures { result ≡ record { dialect = dialect; operator = operator; progress = Progress.Start } }
+        ensures { result ≡
+            record { dialect = dialect; operator = operator; progress = Progress.Start } }
     {
         Binary {
             dialect,

@@ -76,7 +76,8 @@ impl Stage {
 impl Reduce {
     /// A worker over this reduction in this dialect, before its first instance.
     pub fn new(dialect: Dialect, reduction: Reduction) -> Reduce
-        ensures { result ≡ record { dialect = dialect; reduction = reduction; stage = Stage.Start } }
+        ensures { result ≡
+            record { dialect = dialect; reduction = reduction; stage = Stage.Start } }
     {
         Reduce {
             dialect,

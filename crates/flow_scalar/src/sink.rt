@@ -71,7 +71,8 @@ impl Worker for Sink {
 
     // It has no output, so that nobody asks for this.
     fn give(&mut self) -> Result<Item, AllocError>
-        ensures ok { IfOk result (λ item. (cell_of item ≡ told_of (sink_machine.move self.old.kind tt)) × (self.new ≡ self.old)) }
+        ensures ok { IfOk result (λ item. (cell_of item ≡
+            told_of (sink_machine.move self.old.kind tt)) × (self.new ≡ self.old)) }
         ensures err { OnErr result (self.new ≡ self.old) }
         ensures sure { sink_machine.takes_memory tt ≡ false → IsOk result }
     {

@@ -43,7 +43,8 @@ impl Stream {
     // An item that carries the same as the one at this index, counted from 0, or `None` past the last. Only the copy of
     // a vector takes memory.
     fn item(&self, alloc: Global, index: usize) -> Result<Option<Item>, AllocError>
-        ensures ok { IfOk result (λ item. option_map cell_of item ≡ slice_get (stream_cells self.now) index) }
+        ensures ok { IfOk result (λ item. option_map cell_of item ≡
+            slice_get (stream_cells self.now) index) }
         ensures within { IfOk result (λ item. IsSome item → index < usize.MAX) }
         ensures scalar { is_vector (slice_get (stream_cells self.now) index) ≡ false → IsOk result }
     {
@@ -92,7 +93,9 @@ impl Source {
     pub fn new(alloc: Global, stream: Stream) -> Source
         ensures state { ⟦<Source as Transducer>⟧.state result ≡ source_opened (items_of stream) }
         ensures of_kind { AllOf (stream_kind stream) (stream_cells stream) }
-        ensures in_range { (dialect : Dialect) → SignalsInRange dialect (closed (stream_cells stream)) → source_behaviour.in_range dialect (source_opened (items_of stream)) }
+        ensures in_range { (dialect : Dialect) → SignalsInRange dialect
+            (closed (stream_cells stream)) →
+            source_behaviour.in_range dialect (source_opened (items_of stream)) }
     {
         Source {
             alloc,
@@ -135,9 +138,13 @@ impl Transducer for Source {
     }
 
     fn give(&mut self, _port: usize, message: Msg) -> Result<(), AllocError>
-        ensures ok { OnOk result (⟦<Source as Transducer>⟧.state self.new ≡ source_behaviour.process.read (⟦<Source as Transducer>⟧.state self.old) (signal_of message)) }
-        ensures err { OnErr result (⟦<Source as Transducer>⟧.state self.new ≡ ⟦<Source as Transducer>⟧.state self.old) }
-        ensures sure { source_behaviour.takes_memory (⟦<Source as Transducer>⟧.state self.old) ≡ false → IsOk result }
+        ensures ok { OnOk result (⟦<Source as Transducer>⟧.state self.new ≡
+            source_behaviour.process.read (⟦<Source as Transducer>⟧.state self.old)
+            (signal_of message)) }
+        ensures err { OnErr result (⟦<Source as Transducer>⟧.state self.new ≡
+            ⟦<Source as Transducer>⟧.state self.old) }
+        ensures sure { source_behaviour.takes_memory (⟦<Source as Transducer>⟧.state self.old) ≡
+            false → IsOk result }
     {
         Ok(())
     }

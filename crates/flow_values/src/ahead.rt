@@ -66,7 +66,8 @@ impl Ahead {
 
     // What was last is to be read next.
     fn add(&mut self, pending: Pending) -> Result<(), AllocError>
-        ensures pending { OnOk result (self.new.pending.items ≡ self.old.pending.items ++ pending ∷ []) }
+        ensures pending { OnOk result (self.new.pending.items ≡
+            self.old.pending.items ++ pending ∷ []) }
         ensures text { self.new.text.items ≡ self.old.text.items }
     {
         self.pending.push(pending)?;
@@ -82,7 +83,8 @@ impl Ahead {
 
     // The last text of a value, and the brackets closed behind it.
     fn finish(&mut self, bytes: &[u8], brackets: usize) -> Result<(), AllocError>
-        ensures text { OnOk result (self.new.text.items ≡ self.old.text.items ++ (bytes.now ++ closes brackets)) }
+        ensures text { OnOk result (self.new.text.items ≡
+            self.old.text.items ++ (bytes.now ++ closes brackets)) }
         ensures pending { self.new.pending.items ≡ self.old.pending.items }
     {
         self.text.extend_from_slice(bytes)?;
@@ -103,7 +105,11 @@ impl Ahead {
     ) -> Result<(), AllocError>
         requires { Fits (seq (ty_of item.now)) port brackets }
         ensures text { OnOk result (self.new.text.items ≡ self.old.text.items ++ bytes.now) }
-        ensures pending { OnOk result ((after : List machine.Pending) → stack self.new.pending.items after ≡ machine.whole false (ty_of item.now) (port + 1) 0 ∷ machine.further (ty_of item.now) port brackets ∷ stack self.old.pending.items after) }
+        ensures pending { OnOk result ((after : List machine.Pending) →
+            stack self.new.pending.items after ≡
+            machine.whole false (ty_of item.now) (port + 1) 0 ∷
+            machine.further (ty_of item.now) port brackets ∷
+            stack self.old.pending.items after) }
     {
         self.say(bytes)?;
         let further = Flags {
@@ -131,7 +137,8 @@ impl Ahead {
         item: &Item,
     ) -> Result<(), Stop>
         requires { Fits (ty_of ty.now) port brackets }
-        ensures { Leads (entered (ty_of ty.now) port brackets (cell_of item.now)) result self.old self.new }
+        ensures { Leads (entered (ty_of ty.now) port brackets (cell_of item.now))
+            result self.old self.new }
     {
         match (ty, item) {
             (Ty::Int, Item::Int(number)) => {

@@ -32,7 +32,8 @@ impl Due {
 
 // Adds an item.
 fn add(dues: &mut VecDeque<Due>, port: usize, item: Item) -> Result<(), AllocError>
-    ensures { OnOk result (map due_cell dues.new.items ≡ map due_cell dues.old.items ++ due port (cell_of item) ∷ []) }
+    ensures { OnOk result (map due_cell dues.new.items ≡
+        map due_cell dues.old.items ++ due port (cell_of item) ∷ []) }
 {
     dues.push_back(Due { port, item })?;
     Ok(())
@@ -50,7 +51,8 @@ pub fn add_value(
 ) -> Result<(), AllocError>
     requires fits { port + width (ty_of ty.now) < 2 ^ 64 }
     requires of_type { is_a (ty_of ty.now) (value_of datum.now) ≡ true }
-    ensures { OnOk result (map due_cell dues.new.items ≡ map due_cell dues.old.items ++ dues_of (ty_of ty.now) port (value_of datum.now)) }
+    ensures { OnOk result (map due_cell dues.new.items ≡
+        map due_cell dues.old.items ++ dues_of (ty_of ty.now) port (value_of datum.now)) }
 {
     match (ty, datum) {
         (Ty::Int, Datum::Int(number)) => add(dues, port, Item::Int(*number)),
@@ -80,7 +82,8 @@ pub fn add_segment(
 ) -> Result<(), AllocError>
     requires fits { port + width (seq (ty_of item.now)) < 2 ^ 64 }
     requires of_type { all_are (ty_of item.now) (values_of (map value_of all.now)) ≡ true }
-    ensures { OnOk result (map due_cell dues.new.items ≡ map due_cell dues.old.items ++ segment_dues (ty_of item.now) port (map value_of all.now)) }
+    ensures { OnOk result (map due_cell dues.new.items ≡
+        map due_cell dues.old.items ++ segment_dues (ty_of item.now) port (map value_of all.now)) }
 {
     for datum in all {
         add(dues, port, Item::Bool(false))?;

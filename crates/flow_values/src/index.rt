@@ -49,7 +49,8 @@ impl Index {
     /// A worker for vectors of elements of this type, before its first vector. Its only error is that memory was
     /// refused.
     pub fn new(alloc: Global, element: Ty) -> Result<Index, AllocError>
-        ensures { IfOk result (λ worker. ⟦<Index as Worker>⟧.state worker ≡ (ty_of element, writing [])) }
+        ensures { IfOk result (λ worker. ⟦<Index as Worker>⟧.state worker ≡
+            (ty_of element, writing [])) }
     {
         let kinds = kinds(alloc, &element)?;
         Ok(Index {
@@ -63,7 +64,8 @@ impl Index {
 
 // The element at this index, counted from 0, where there is one.
 fn element_at(all: &[Datum], index: i128) -> Option<&Datum>
-    ensures { option_map (λ d. value_of d.now) result ≡ element_at (values_of (map value_of all.now)) index }
+    ensures { option_map (λ d. value_of d.now) result ≡
+        element_at (values_of (map value_of all.now)) index }
 {
     match usize::try_from(index) {
         Ok(place) => all.get(place),

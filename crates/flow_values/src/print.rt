@@ -46,7 +46,8 @@ impl Print {
     /// Before the value. Its faults are at this place, a byte offset in the program text. Its only error is that memory
     /// was refused.
     pub fn new(alloc: Global, ty: Ty, at: usize) -> Result<Print, AllocError>
-        ensures { IfOk result (λ print. ⟦<Print as Transducer>⟧.state print ≡ print_opened (ty_of ty) at) }
+        ensures { IfOk result (λ print. ⟦<Print as Transducer>⟧.state print ≡
+            print_opened (ty_of ty) at) }
     {
         let kinds = kinds(alloc, &ty)?;
         let mut pending = Vec::new(alloc);
@@ -85,7 +86,9 @@ impl Print {
     // What comes in place of what is to be read next, where this is its next item. `Shape` where it is not.
     fn ahead(&self, item: &Item) -> Result<Ahead, Stop>
         requires { self.now.stuck ≡ false }
-        ensures { let state = ⟦<Print as Transducer>⟧.state self.now in Reaches (found state.step state (cell_of item.now)) self.now.pending.items self.now.text.items result }
+        ensures { let state = ⟦<Print as Transducer>⟧.state self.now in
+            Reaches (found state.step state (cell_of item.now))
+            self.now.pending.items self.now.text.items result }
     {
         match self.pending.last() {
             Some(pending) => {
@@ -102,8 +105,13 @@ impl Print {
     // What was to be read next is done, and this comes in its place.
     fn advance(&mut self, ahead: Ahead) -> Result<(), AllocError>
         requires { self.old.stuck ≡ false }
-        ensures ok { OnOk result ((rest : List Pending) (first : Pending) → self.old.pending.items ≡ rest ++ first ∷ [] → ⟦<Print as Transducer>⟧.state self.new ≡ moved (⟦<Print as Transducer>⟧.state self.old) (Some (reading (stack ahead.pending.items (stack rest [])) (self.old.text.items ++ ahead.text.items)))) }
-        ensures err { OnErr result (⟦<Print as Transducer>⟧.state self.new ≡ ⟦<Print as Transducer>⟧.state self.old) }
+        ensures ok { OnOk result ((rest : List Pending) (first : Pending) → self.old.pending.items ≡
+            rest ++ first ∷ [] → ⟦<Print as Transducer>⟧.state self.new ≡
+            moved (⟦<Print as Transducer>⟧.state self.old)
+            (Some (reading (stack ahead.pending.items (stack rest []))
+            (self.old.text.items ++ ahead.text.items)))) }
+        ensures err { OnErr result (⟦<Print as Transducer>⟧.state self.new ≡
+            ⟦<Print as Transducer>⟧.state self.old) }
     {
         let mut pending = ahead.pending;
         self.pending.reserve(pending.len())?;
@@ -131,7 +139,8 @@ impl Transducer for Print {
 
     ghost State = { PrintState };
 
-    ghost state = { λ n. state_in (ty_of n.ty) n.pending.items n.text.items n.closing n.stuck n.at };
+    ghost state = { λ n. state_in
+        (ty_of n.ty) n.pending.items n.text.items n.closing n.stuck n.at };
 
     ghost behaviour = { print_behaviour };
 
@@ -197,9 +206,14 @@ impl Transducer for Print {
     }
 
     fn emit(&mut self) -> Result<Msg, AllocError>
-        ensures ok { IfOk result (λ message. (signal_of message ≡ print_behaviour.process.written (⟦<Print as Transducer>⟧.state self.old)) × (⟦<Print as Transducer>⟧.state self.new ≡ print_behaviour.process.wrote (⟦<Print as Transducer>⟧.state self.old))) }
-        ensures err { OnErr result (⟦<Print as Transducer>⟧.state self.new ≡ ⟦<Print as Transducer>⟧.state self.old) }
-        ensures sure { print_behaviour.takes_memory (⟦<Print as Transducer>⟧.state self.old) ≡ false → IsOk result }
+        ensures ok { IfOk result (λ message. (signal_of message ≡
+            print_behaviour.process.written (⟦<Print as Transducer>⟧.state self.old)) ×
+            (⟦<Print as Transducer>⟧.state self.new ≡
+            print_behaviour.process.wrote (⟦<Print as Transducer>⟧.state self.old))) }
+        ensures err { OnErr result (⟦<Print as Transducer>⟧.state self.new ≡
+            ⟦<Print as Transducer>⟧.state self.old) }
+        ensures sure { print_behaviour.takes_memory (⟦<Print as Transducer>⟧.state self.old) ≡
+            false → IsOk result }
     {
         Ok(Msg::End)
     }
@@ -208,6 +222,7 @@ impl Transducer for Print {
 /// A law and no code to run: where a transducer has ended that was opened as this one, it read one value of its type, and
 /// its text is the text of that value.
 pub fn prints_text(opened: &Print)
-    requires { print_behaviour.opening (⟦<Print as Transducer>⟧.state opened.now) ≡ ⟦<Print as Transducer>⟧.state opened.now }
+    requires { print_behaviour.opening (⟦<Print as Transducer>⟧.state opened.now) ≡
+        ⟦<Print as Transducer>⟧.state opened.now }
     ensures { PrintsText (⟦<Print as Transducer>⟧.state opened.now) }
 {}

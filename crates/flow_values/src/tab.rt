@@ -85,7 +85,8 @@ impl Tab {
 
     // Where a flag leads.
     fn at_flag(&self, item: &Item) -> Result<Stage, FaultKind>
-        ensures { (es : List Value) → staged es result ≡ taken (flag_taking (ty_of self.now.element) es) (cell_of item.now) }
+        ensures { (es : List Value) → staged es result ≡
+            taken (flag_taking (ty_of self.now.element) es) (cell_of item.now) }
     {
         let Item::Bool(end) = item else {
             return Err(FaultKind::Shape);
@@ -103,7 +104,10 @@ impl Tab {
     // Where all items of the next element are there, adds the element.
     fn close(&mut self) -> Result<(), Stop>
         requires { self.old.stage ≡ Stage.Item }
-        ensures state { Takes (with_parameters (ty_of self.old.element) (grown (ty_of self.old.element) (map value_of self.old.elements.items) (map cell_of self.old.items.items))) (⟦<Tab as Worker>⟧.state self.old) result (⟦<Tab as Worker>⟧.state self.new) }
+        ensures state { Takes (with_parameters (ty_of self.old.element)
+            (grown (ty_of self.old.element) (map value_of self.old.elements.items)
+            (map cell_of self.old.items.items))) (⟦<Tab as Worker>⟧.state self.old) result
+            (⟦<Tab as Worker>⟧.state self.new) }
         ensures items { self.new.items.items ≡ self.old.items.items }
     {
         if self.items.len() < self.kinds.len() - 1 {
@@ -124,7 +128,10 @@ impl Tab {
     // Takes the next item of an element.
     fn take_item(&mut self, item: Item) -> Result<(), Stop>
         requires { self.old.stage ≡ Stage.Item }
-        ensures { Takes (with_parameters (ty_of self.old.element) (item_given (ty_of self.old.element) (map value_of self.old.elements.items) (map cell_of self.old.items.items) (cell_of item))) (⟦<Tab as Worker>⟧.state self.old) result (⟦<Tab as Worker>⟧.state self.new) }
+        ensures { Takes (with_parameters (ty_of self.old.element)
+            (item_given (ty_of self.old.element) (map value_of self.old.elements.items)
+            (map cell_of self.old.items.items) (cell_of item)))
+            (⟦<Tab as Worker>⟧.state self.old) result (⟦<Tab as Worker>⟧.state self.new) }
     {
         if self.item_port() == 0 || !part_fits(&self.element, self.items.len(), &item) {
             return Err(Stop::Faulted(FaultKind::Shape));
@@ -199,7 +206,10 @@ impl Worker for Tab {
 
     ghost State = { Step };
 
-    ghost state = { λ n. (ty_of n.element, step_in n.stage (map value_of n.elements.items) (map cell_of n.items.items)) };
+    ghost state = { λ n. (
+      ty_of n.element,
+      step_in n.stage (map value_of n.elements.items) (map cell_of n.items.items),
+    ) };
 
     ghost machine = { tab_machine };
 

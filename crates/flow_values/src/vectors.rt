@@ -12,10 +12,13 @@ use snesl_data::{Datum, FaultKind, Ty};
 
 /// The elements of the vector that the item is, where they are of this type. Otherwise `Shape`.
 pub fn vector_in(element: &Ty, item: Item) -> Result<Vec<Datum>, FaultKind>
-    ensures vector { IfOk result (λ all. cell_of item ≡ datum (a_vec (values_of (map value_of all.items)))) }
-    ensures of_type { IfOk result (λ all. all_are (ty_of element.now) (values_of (map value_of all.items)) ≡ true) }
+    ensures vector { IfOk result (λ all. cell_of item ≡
+        datum (a_vec (values_of (map value_of all.items)))) }
+    ensures of_type { IfOk result (λ all. all_are (ty_of element.now)
+        (values_of (map value_of all.items)) ≡ true) }
     ensures kind { IfErr result (λ kind. kind ≡ FaultKind.Shape) }
-    ensures none { OnErr result ((vs : Values) → cell_of item ≡ datum (a_vec vs) → all_are (ty_of element.now) vs ≡ false) }
+    ensures none { OnErr result ((vs : Values) → cell_of item ≡ datum (a_vec vs) →
+        all_are (ty_of element.now) vs ≡ false) }
 {
     let Item::Vec(vector) = item else {
         return Err(FaultKind::Shape);

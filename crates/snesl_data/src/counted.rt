@@ -52,8 +52,10 @@ impl<R: Read> Read for Counted<R> {
 
     fn read(&mut self, buf: &mut [u8]) -> io::Result<usize>
         ensures bound { ReadsAtMost result buf.new }
-        ensures bytes { ReadConsumes (R.remaining (counted_inner self.old)) (R.remaining (counted_inner self.new)) result buf.new }
-        ensures counts { failures_of self.new ≡ counted (failures_of self.old) (read_failed result) }
+        ensures bytes { ReadConsumes (R.remaining (counted_inner self.old))
+            (R.remaining (counted_inner self.new)) result buf.new }
+        ensures counts { failures_of self.new ≡ counted (failures_of self.old)
+            (read_failed result) }
     {
         let result = self.inner.read(buf);
         if result.is_err() {
@@ -68,8 +70,10 @@ impl<W: Write> Write for Counted<W> {
 
     fn write(&mut self, buf: &[u8]) -> io::Result<usize>
         ensures bound { WritesAtMost result buf.now }
-        ensures bytes { WriteAppends (W.contents (counted_inner self.old)) (W.contents (counted_inner self.new)) result buf.now }
-        ensures counts { failures_of self.new ≡ counted (failures_of self.old) (write_failed result (length buf.now)) }
+        ensures bytes { WriteAppends (W.contents (counted_inner self.old))
+            (W.contents (counted_inner self.new)) result buf.now }
+        ensures counts { failures_of self.new ≡ counted (failures_of self.old)
+            (write_failed result (length buf.now)) }
     {
         let result = self.inner.write(buf);
         let has_failed = match &result {
@@ -83,8 +87,10 @@ impl<W: Write> Write for Counted<W> {
     }
 
     fn flush(&mut self) -> io::Result<()>
-        ensures bytes { Keeps (W.contents (counted_inner self.old)) (W.contents (counted_inner self.new)) }
-        ensures counts { failures_of self.new ≡ counted (failures_of self.old) (flush_failed result) }
+        ensures bytes { Keeps (W.contents (counted_inner self.old))
+            (W.contents (counted_inner self.new)) }
+        ensures counts { failures_of self.new ≡ counted (failures_of self.old)
+            (flush_failed result) }
     {
         let flushed = self.inner.flush();
         if flushed.is_err() {

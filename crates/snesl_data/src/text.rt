@@ -50,7 +50,8 @@ fn append_text(out: &mut Vec<u8>, datum: &Datum) -> Result<(), AllocError>
 
 #[cycle(texts)]
 fn append_items(out: &mut Vec<u8>, items: &[Datum]) -> Result<(), AllocError>
-    ensures { OnOk result (out.new.items ≡ out.old.items ++ items_text (values_of (map value_of items.now))) }
+    ensures { OnOk result (out.new.items ≡
+        out.old.items ++ items_text (values_of (map value_of items.now))) }
 {
     for (i, item) in items.iter().enumerate() {
         if i > 0 {

@@ -155,8 +155,10 @@ fn print_made<W: Write, E: Write>(
     err: &mut Counted<E>,
 ) -> u8
     ensures { MatchResult line
-        (λ line. Prints (taken W.contents out.old out.new) (taken E.contents err.old err.new) line.items status result)
-        (λ _. Refuses (taken W.contents out.old out.new) (taken E.contents err.old err.new) NoMemory result) }
+        (λ line. Prints (taken W.contents out.old out.new) (taken E.contents err.old err.new)
+        line.items status result)
+        (λ _. Refuses (taken W.contents out.old out.new) (taken E.contents err.old err.new)
+        NoMemory result) }
 {
     match line {
         Ok(line) => print(&line, status, out, err),

@@ -49,10 +49,11 @@ pub fn settings<'a>(alloc: Global, words: &'a [&'a str]) -> Result<Config, Refus
 
 // The configuration that the values of the options say.
 fn config_said(alloc: Global, matches: &ArgMatches<'_>) -> Result<Config, Refusal>
-    ensures fields { IfOk result (HasFields (λ name.
-        first_of name (rows_of (found_of matches.now)))) }
+    ensures fields { IfOk result
+        (HasFields (λ name. first_of name (rows_of (found_of matches.now)))) }
     ensures refused { IfErr result (RefusesBut ((config : ConfigSpec)
-        × HasFields (λ name. first_of name (rows_of (found_of matches.now))) config × IsLawful config)) }
+        × HasFields (λ name. first_of name (rows_of (found_of matches.now))) config
+        × IsLawful config)) }
 {
     let capacity = number_said(value_of(matches, "capacity"), 256, MAX_CAPACITY)?;
     let chunk = number_said(value_of(matches, "chunk"), 16, MAX_CHUNK)?;

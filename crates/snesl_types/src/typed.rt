@@ -17,7 +17,8 @@ pub struct Typed<'a> {
     pub(crate) program: &'a Program,
     pub(crate) inputs: Vec<(Vec<u8>, Ty)>,
     pub(crate) ty: Ty,
-    pub(crate) ghost typed: { ∥ HasTyping program.now.text.items (tree_of_program program.now) (declared inputs.items) (ty_of ty) ∥₁ },
+    pub(crate) ghost typed: { ∥ HasTyping program.now.text.items (tree_of_program program.now)
+        (declared inputs.items) (ty_of ty) ∥₁ },
 }
 
 impl<'a> Typed<'a> {

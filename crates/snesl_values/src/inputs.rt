@@ -142,7 +142,8 @@ fn copy_decls(alloc: Global, decls: &[(Vec<u8>, Ty)]) -> Result<Vec<(Vec<u8>, Ty
 /// A law and no code to run: the values have the names and types of the declarations for which they
 /// were read, in order.
 pub fn inputs_fit(inputs: &Inputs)
-    ensures { Fits (dialect_of inputs.now) (declarations_of inputs.now) (environment_of inputs.now) }
+    ensures { Fits (dialect_of inputs.now) (declarations_of inputs.now)
+        (environment_of inputs.now) }
 {}
 
 /// A law and no code to run: from each place on, the text spells a value of the declared type.

@@ -184,7 +184,8 @@ pub fn acts<E: CountedEnds>(ends: &mut E, edge: usize, act: Act) -> bool
 // The same in the share of this number.
 fn act_in<E: CountedEnds>(ends: &mut [E], share: usize, edge: usize, act: Act) -> bool
     requires { share < length ends.old }
-    ensures { (s : ℕ) (d : _) → s < length ends.old → E.same (slice_index_or ends.old s d) (slice_index_or ends.new s d) }
+    ensures { (s : ℕ) (d : _) → s < length ends.old →
+        E.same (slice_index_or ends.old s d) (slice_index_or ends.new s d) }
 {
     acts(&mut ends[share], edge, act)
 }

@@ -28,8 +28,10 @@ fn bare(alloc: Global, number: usize) -> Result<Share<Source, Rings>, AllocError
 /// The shares of numbers 7 and 3.
 pub fn two_bare(alloc: Global) -> Result<Vec<Share<Source, Rings>>, AllocError>
     ensures fed { IfOk result (λ shares. All (λ share. share.starved ≡ false) shares.items) }
-    ensures none { IfOk result (λ shares. All (λ share. length share.nodes.items ≡ 0) shares.items) }
-    ensures ends { IfOk result (λ shares. All (λ share. HasNoEnds (ends_of share.ends)) shares.items) }
+    ensures none { IfOk result
+        (λ shares. All (λ share. length share.nodes.items ≡ 0) shares.items) }
+    ensures ends { IfOk result
+        (λ shares. All (λ share. HasNoEnds (ends_of share.ends)) shares.items) }
 {
     Ok(vec![in alloc; bare(alloc, 7)?, bare(alloc, 3)?]?)
 }

@@ -8,12 +8,14 @@ ghost use Rattle.kahn.specs.RestTheorems.{EndsOrStalls, OneOutcome, ListedFaultI
 
 /// At rest with no fault, all nodes have ended, or a least edge is full while its writer waits.
 pub fn ends_or_stalls<State, Message>()
-    ensures { (P : Process State Message) (net : Network State) → IsWired net → AllLawful P net → EndsOrStalls P net }
+    ensures { (P : Process State Message) (net : Network State) → IsWired net → AllLawful P net →
+        EndsOrStalls P net }
 {}
 
 /// A sound configuration at rest has exactly one outcome.
 pub fn one_outcome<State, Message>()
-    ensures { (P : Process State Message) (net : Network State) → IsWired net → AllLawful P net → OneOutcome P net }
+    ensures { (P : Process State Message) (net : Network State) → IsWired net → AllLawful P net →
+        OneOutcome P net }
 {}
 
 /// The fault that is named of a list of all faults to which nodes have come is the outcome.
@@ -28,15 +30,18 @@ pub fn one_is_named()
 
 /// All maximal runs from one configuration have one outcome, whatever the schedule.
 pub fn runs_come_out_alike<State, Message>()
-    ensures { (P : Process State Message) (net : Network State) → IsWired net → RunsComeOutAlike P net }
+    ensures { (P : Process State Message) (net : Network State) → IsWired net →
+        RunsComeOutAlike P net }
 {}
 
 /// Where all nodes ended, all that was sent was received.
 pub fn all_received<State, Message>()
-    ensures { (P : Process State Message) (net : Network State) → IsWired net → AllLawful P net → AllReceived P net }
+    ensures { (P : Process State Message) (net : Network State) → IsWired net → AllLawful P net →
+        AllReceived P net }
 {}
 
 /// Where the whole traffic fits the edges, no run stalls.
 pub fn never_stalls<State, Message>()
-    ensures { (P : Process State Message) (net : Network State) → IsWired net → AllLawful P net → NeverStalls P net }
+    ensures { (P : Process State Message) (net : Network State) → IsWired net → AllLawful P net →
+        NeverStalls P net }
 {}

@@ -12,7 +12,8 @@ pub fn runs_are_sound<State, Message>()
 
 /// A step keeps a configuration sound.
 pub fn steps_keep_sound<State, Message>()
-    ensures { (P : Process State Message) (net : Network State) → IsWired net → StepsKeepSound P net }
+    ensures { (P : Process State Message) (net : Network State) → IsWired net →
+        StepsKeepSound P net }
 {}
 
 /// No edge ever holds more messages than the capacity.
@@ -22,7 +23,8 @@ pub fn runs_fit<State, Message>()
 
 /// Nothing follows the end on an edge.
 pub fn end_is_last<State, Message>()
-    ensures { (P : Process State Message) (net : Network State) → IsWired net → AllLawful P net → EndIsLast P net }
+    ensures { (P : Process State Message) (net : Network State) → IsWired net → AllLawful P net →
+        EndIsLast P net }
 {}
 
 /// Each step moves one message.

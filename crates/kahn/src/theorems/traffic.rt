@@ -9,12 +9,14 @@ ghost use Rattle.kahn.specs.TrafficTheorems.{OneTraffic, SameTraffic, CarriesFro
 /// Each sound configuration has beginnings of the one traffic, and no fault: what the edges carry is
 /// determined by the nodes alone (Kahn 1974).
 pub fn one_traffic<State, Message>()
-    ensures { (P : Process State Message) (net : Network State) → IsWired net → AllLawful P net → OneTraffic P net }
+    ensures { (P : Process State Message) (net : Network State) → IsWired net → AllLawful P net →
+        OneTraffic P net }
 {}
 
 /// Where all nodes ended, the edges carried the one traffic.
 pub fn same_traffic<State, Message>()
-    ensures { (P : Process State Message) (net : Network State) → IsWired net → AllLawful P net → SameTraffic P net }
+    ensures { (P : Process State Message) (net : Network State) → IsWired net → AllLawful P net →
+        SameTraffic P net }
 {}
 
 /// Where each node has a complete run over the same lists, these are what the edges carry.
@@ -24,7 +26,8 @@ pub fn carries_from_nodes<State, Message>()
 
 /// The whole traffic is finite, and no sound configuration exceeds it.
 pub fn whole_traffic<State, Message>()
-    ensures { (P : Process State Message) (net : Network State) → IsWired net → AllLawful P net → Settles P → WholeTraffic P net }
+    ensures { (P : Process State Message) (net : Network State) → IsWired net → AllLawful P net →
+        Settles P → WholeTraffic P net }
 {}
 
 /// Where each configuration has moved more than the one before, no more of them follow the first than twice
