@@ -42,6 +42,11 @@ class Edit:
         """The proofs that it can spoil: one for each function, or for each cycle of functions."""
         return {it.proved_with for it in self.struck}
 
+    @property
+    def has_copy(self):
+        """Whether it can strike a copy of its function, so that another edit of that function fits into the same check."""
+        return not self.is_apart and len(self.struck) == 1 and self.struck[0].has_copy
+
 
 def changes(old, new):
     """Each line that differs: its number, the bytes of the old text that are changed, and the line as it was and is."""
@@ -63,10 +68,11 @@ def of_constant(code, was, now):
 
 
 def batches_of(edits):
-    """The edits in as few batches as may be: in each no two spoil one proof."""
+    """The edits in as few batches as may be: in each no two spoil one proof, or all but one of these strike copies of their function."""
     made = []
     for edit in sorted(edits, key=lambda it: -len(it.struck)):
-        free = None if edit.is_apart else next((it for it in made if not it[0] & edit.proofs and not it[1][0].is_apart), None)
+        fits = lambda it: not it[1][0].is_apart and (edit.has_copy or not it[0] & edit.proofs)
+        free = None if edit.is_apart else next(filter(fits, made), None)
         if free is None:
             made.append(free := (set(), []))
         free[0].update(edit.proofs)

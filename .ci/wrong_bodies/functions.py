@@ -36,6 +36,8 @@ class Function:
     is_plain: bool
     # a proof file with a hole can stand for its proof, which no function has that calls itself or that a trait declares
     has_stub: bool
+    # a function of the same text and another name can stand behind it, which no method of a trait has
+    has_copy: bool
 
     @property
     def proofs(self):
@@ -75,6 +77,7 @@ class Code:
         inside = (it.word for it in self.tokens[file] if block.brace.end <= it.begin < end.begin)
         cycle = next((it[it.index("cycle") + 2] for it in heads if "cycle" in it), None)
         is_plain = not any(word in head for head in heads for word in ("const", "unsafe"))
+        has_stub = is_plain and cycle is None and not any("trait" in it for it in heads) and name not in inside
         return Function(
             name="::".join([*self.path(file, around), name]),
             file=file,
@@ -84,7 +87,8 @@ class Code:
             end=end.begin,
             cycle=cycle,
             is_plain=is_plain,
-            has_stub=is_plain and cycle is None and not any("trait" in it for it in heads) and name not in inside,
+            has_stub=has_stub,
+            has_copy=has_stub and not any("impl" in it and "for" in it for it in heads[:-1]),
         )
 
     def path(self, file, around):

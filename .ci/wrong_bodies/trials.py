@@ -3,10 +3,13 @@
 import collections
 import os
 import pathlib
+import re
 import shutil
 import signal
 import subprocess
+import types
 
+from functions import Code
 from kit import rt
 from reports import Report
 
@@ -25,6 +28,8 @@ class Trials:
 
     def __init__(self, crate, functions, room):
         self.crate, self.functions, self.copy, self.kept = crate, functions, f"{room}/copy", f"{room}/kept"
+        # the functions whose proofs no hole can stand for, as a check told
+        self.misfits = set()
         self.checks, self.seconds = 0, 0.0
         os.makedirs(self.kept)
 
@@ -33,24 +38,25 @@ class Trials:
         check is to show it."""
         made = {}
         if not is_proved:
-            report = self.report([], proved_with(edits))
+            report = self.report(Batch([]), {it.name for it in proved_with(edits)})
             unfit = {it: unfit_for(it, report) for it in edits}
             made = {it: Verdict(UNSURE, f"without it this is not proved: {names}: {report.head()}") for it, names in unfit.items() if names}
         for batch in batches:
             made |= self.verdicts_of([it for it in batch if it not in made])
         return made
 
-    def verdicts_of(self, batch):
+    def verdicts_of(self, edits):
         """The verdict on each edit of a batch. Only a check of one edit alone says another than that it is refused."""
-        if not batch:
+        if not edits:
             return {}
-        report = self.report(batch, proved_with(batch))
-        if len(batch) == 1:
-            return {batch[0]: verdict_of(batch[0], report)}
+        batch = Batch(edits)
+        report = self.report(batch, batch.struck)
+        if len(edits) == 1:
+            return {edits[0]: verdict_of(edits[0], report)}
         found = refused_in(batch, report)
-        rest = [it for it in batch if it not in (found or ())]
+        rest = [it for it in edits if it not in (found or ())]
         # one that does not compile keeps the others from the prover
-        unread = [it for it in rest if report.unread() & {*it.lines}]
+        unread = [it for it in rest if report.unread() & batch.places[it]]
         if unread:
             parts = [*([it] for it in unread), [it for it in rest if it not in unread]]
         elif found is None:
@@ -64,17 +70,16 @@ class Trials:
         return made
 
     def report(self, batch, struck):
-        """What a check with these edits says of these functions, or of the whole crate where none are given."""
+        """What a check with these edits says of the functions of these names, or of the whole crate where none are given."""
         while True:
             self.lay_out(batch, struck)
-            names = sorted(it.name for it in struck)
-            words = [*(word for name in names for word in ("--only", name)), "--allow-holes"] if struck else []
-            report = Report(self.crate, self.functions, *self.check([*words, "--incremental", self.kept]))
-            misfits = report.misfits() if struck else []
+            functions = Code(types.SimpleNamespace(folder=self.copy)).functions if batch.copies else self.functions
+            words = [*(word for name in sorted(struck) for word in ("--only", name)), "--allow-holes"] if struck else []
+            report = Report(self.crate, functions, *self.check([*words, "--incremental", self.kept]))
+            misfits = {it.name for it in report.misfits()} - self.misfits if struck else set()
             if not misfits:
                 return report
-            for function in misfits:
-                function.has_stub = False
+            self.misfits |= misfits
 
     def lay_out(self, batch, struck):
         """Makes a copy of the crate with these edits. Where functions are struck, holes stand for the proofs of the others."""
@@ -82,21 +87,29 @@ class Trials:
         for part in rt.rtlib.PARTS:
             if os.path.isdir(f"{self.crate.folder}/{part}"):
                 shutil.copytree(f"{self.crate.folder}/{part}", f"{self.copy}/{part}")
-        for path in {path for edit in batch for path, _ in edit.lines}:
-            text = pathlib.Path(self.copy, path).read_text(encoding="utf-8").split("\n")
-            for edit in batch:
-                for (file, number), line in edit.lines.items():
-                    if file == path:
-                        text[number] = line
-            pathlib.Path(self.copy, path).write_text("\n".join(text), encoding="utf-8")
+        for path in {path for edit in batch.edits for path, _ in edit.lines}:
+            text = pathlib.Path(self.copy, path).read_text(encoding="utf-8")
+            pathlib.Path(self.copy, path).write_text(batch.laid_out(path, text), encoding="utf-8")
+        for edit, name in batch.copies.items():
+            self.copy_proofs(edit.struck[0], name)
         for function in self.functions if struck else ():
-            if function.has_stub and function not in struck:
+            if function.has_stub and function.name not in struck | self.misfits:
                 folder, name = pathlib.Path(self.copy, function.proofs), function.name.rpartition("::")[2]
                 folder.mkdir(parents=True, exist_ok=True)
                 for file in ("Answers.antt", "Invariants.antt"):
                     (folder / file).unlink(missing_ok=True)
                 text = STUB.format(crate=self.crate.name, path=function.name.replace("::", "."), name=name)
                 (folder / "Proof.antt").write_text(text, encoding="utf-8")
+
+    def copy_proofs(self, function, name):
+        """Gives a copy of a function, of this name, the proof files of the function, which name themselves by it."""
+        path = function.name.replace("::", ".")
+        was, now = f".proofs.{path}.", f".proofs.{path.rpartition('.')[0]}.{name}.".replace("..", ".")
+        found = pathlib.Path(self.crate.folder, function.proofs)
+        for file in found.rglob("*.antt"):
+            made = pathlib.Path(self.copy, function.proofs).with_name(name) / file.relative_to(found)
+            made.parent.mkdir(parents=True, exist_ok=True)
+            made.write_text(file.read_text(encoding="utf-8").replace(was, now), encoding="utf-8")
 
     def check(self, words):
         """Runs a check of the copy, once more where it is killed, as for memory, and returns its status and what it said."""
@@ -120,6 +133,56 @@ class Trials:
         return process.returncode, said
 
 
+class Batch:
+    """Edits that one check tries.
+
+    `copies` are the names of copies of functions, each for an edit whose function another edit strikes. `struck` are the names of the
+    functions that the check proves, none for the whole crate. `places` are the lines of each edit by file and number, as they are laid out.
+    """
+
+    def __init__(self, edits):
+        self.edits, self.copies, self.places = edits, {}, {it: set() for it in edits}
+        names = set()
+        for edit in edits:
+            own = {it.name for it in edit.struck}
+            if own & names and edit.has_copy:
+                self.copies[edit] = f"{edit.struck[0].name.rpartition('::')[2]}_copy{len(self.copies) + 1}"
+            names |= self.names_of(edit)
+        self.struck = names if all(it.struck for it in edits) else set()
+
+    def names_of(self, edit):
+        """The names of the functions that the edit strikes, as they are laid out."""
+        if edit not in self.copies:
+            return {it.name for it in edit.struck}
+        return {edit.struck[0].name.rpartition("::")[0] + "::" * ("::" in edit.struck[0].name) + self.copies[edit]}
+
+    def laid_out(self, path, text):
+        """The text of a file with these edits. A copy of a function stands behind it."""
+        was = text.split("\n")
+        rows = [[(it, None)] for it in was]
+        for edit in self.edits:
+            lines = {number: line for (file, number), line in edit.lines.items() if file == path}
+            if edit not in self.copies:
+                for number, line in lines.items():
+                    rows[number][0] = line, edit
+            elif lines:
+                function = edit.struck[0]
+                own = [(lines.get(it, was[it]), edit if it in lines else None) for it in range(function.first - 1, function.last)]
+                rows[function.last - 1] += renamed(own, function.name.rpartition("::")[2], self.copies[edit])
+        made = [row for its in rows for row in its]
+        for number, (_, edit) in enumerate(made):
+            if edit is not None:
+                self.places[edit].add((path, number))
+        return "\n".join(line for line, _ in made)
+
+
+def renamed(rows, name, now):
+    """The lines of a function with this name in place of its own."""
+    head = next(number for number, (line, _) in enumerate(rows) if re.search(rf"\bfn {name}\b", line))
+    line, edit = rows[head]
+    return [*rows[:head], (re.sub(rf"\bfn {name}\b", f"fn {now}", line, count=1), edit), *rows[head + 1 :]]
+
+
 def proved_with(edits):
     """The functions that a check of these edits proves: those that they strike, or none, for the whole crate, where one does not tell."""
     return {it for edit in edits for it in edit.struck} if all(it.struck for it in edits) else set()
@@ -133,19 +196,19 @@ def unfit_for(edit, report):
 
 def refused_in(batch, report):
     """The edits of a batch that are refused, or None where the check does not tell its edits apart."""
-    struck = {it.name for edit in batch for it in edit.struck}
+    struck = {name for edit in batch.edits for name in batch.names_of(edit)}
     if not report.has_ended or report.elsewhere or {*report.own} - struck:
         return None
-    goals = {edit: goals_of(edit, report) for edit in batch}
+    goals = {edit: goals_of(edit, batch.names_of(edit), report) for edit in batch.edits}
     return {edit: Verdict(REFUSED, its[0]) for edit, its in goals.items() if its}
 
 
-def goals_of(edit, report):
-    """What is said of the goals that refuse the edit: of the functions that it strikes and that are not proved, and where it strikes more
-    than their bodies also of lemmas."""
-    if not edit.struck:
+def goals_of(edit, struck, report):
+    """What is said of the goals that refuse the edit: of the functions of these names, which it strikes and which are not proved, and where
+    it strikes more than their bodies also of lemmas."""
+    if not struck:
         return [*report.own.values(), *report.elsewhere]
-    unproved = [it.name for it in edit.struck if it.name in report.unproved]
+    unproved = [it for it in sorted(struck) if it in report.unproved]
     own = [report.own[it] for it in unproved if it in report.own]
     return own + report.elsewhere if edit.is_apart and unproved else own
 
@@ -158,7 +221,7 @@ def verdict_of(edit, report):
         at_limit = report.status == 3 and rt.LIMITS.search(report.said)
         why = "it met a limit of the prover, which says nothing of a contract" if at_limit else f"its check ended with status {report.status}"
         return Verdict(UNSURE, f"{why}: {report.head()}")
-    goals = goals_of(edit, report)
+    goals = goals_of(edit, {it.name for it in edit.struck}, report)
     if goals:
         return Verdict(REFUSED, goals[0])
     named = [line for name, line in report.by_name.items() if not edit.struck or name in {it.name for it in edit.struck}]

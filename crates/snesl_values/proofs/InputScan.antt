@@ -184,14 +184,14 @@ value_from-grows n (c ∷ cs) = let h : 10 * n + (c - 48) ≤ value_from (10 * n
 too_large : (v : ℕ) → (suc (greatest_integer Two)) < v → None ≡ cond (leb v (suc (greatest_integer Two))) (Some v) None
 too_large v h = sym (ap (λ b. cond b (Some v) None) (lt-leb v (suc (greatest_integer Two)) h))
 
-pub early : (cs : List ℕ) (i v : ℕ) → i < length cs → value_from v (drop i cs) ≡ value_from 0 cs
-    → suc (greatest_integer Two) < 10 * v + (get_or cs i 0 - 48) → None ≡ cond (leb (value_from 0 cs) (suc (greatest_integer Two))) (Some (value_from 0 cs)) None
-early cs i v h same over =
+pub early : (n : ℕ) (cs : List ℕ) (i v : ℕ) → i < length cs → value_from v (drop i cs) ≡ value_from n cs
+    → suc (greatest_integer Two) < 10 * v + (get_or cs i 0 - 48) → None ≡ cond (leb (value_from n cs) (suc (greatest_integer Two))) (Some (value_from n cs)) None
+early n cs i v h same over =
     let d : ℕ = get_or cs i 0 - 48 in
     let next : value_from v (drop i cs) ≡ value_from (10 * v + (get_or cs i 0 - 48)) (drop (suc i) cs) = ap (value_from v) (drop-cons cs i 0 h) in
     let grows : 10 * v + (get_or cs i 0 - 48) ≤ value_from (10 * v + (get_or cs i 0 - 48)) (drop (suc i) cs) =
     value_from-grows (10 * v + (get_or cs i 0 - 48)) (drop (suc i) cs) in
-    too_large (value_from 0 cs) (omega arith)
+    too_large (value_from n cs) (omega arith)
 
 -- digits
 pub prefix_passes : (p : ℕ → Bool) (xs : List ℕ) → AllByRecursion (λ x. IsTrue (p x)) (take_while p xs)

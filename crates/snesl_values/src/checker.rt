@@ -13,6 +13,7 @@ use crate::scan::{behind_sign, behind_word, integer_at, skip_blanks};
 use snesl_data::{Dialect, Ty};
 
 // The offset behind the sign of this byte, which has to come next.
+#[inline(always)]
 pub fn expect_sign(dialect: Dialect, text: &[u8], at: usize, byte: u8) -> Result<usize, InputError>
     requires within { at ≤ length text.now }
     requires lawful { IsTrue (is_sign byte) }

@@ -35,6 +35,7 @@ pub fn skip_blanks(text: &[u8], at: usize) -> usize
 }
 
 // The offset behind the next token, where that is the sign of this byte.
+#[inline(always)]
 pub fn behind_sign(text: &[u8], at: usize, byte: u8) -> Option<usize>
     requires within { at ≤ length text.now }
     requires lawful { IsTrue (is_sign byte) }
@@ -68,6 +69,7 @@ pub fn behind_word(text: &[u8], at: usize, expected: &[u8]) -> Option<usize>
 }
 
 // The next token, where that is an integer of the dialect, and the offset behind it.
+#[inline(always)]
 pub fn integer_at(dialect: Dialect, text: &[u8], at: usize) -> Option<(i128, usize)>
     requires { at ≤ length text.now }
     ensures taken { IfSome result (λ found.
@@ -84,6 +86,7 @@ pub fn integer_at(dialect: Dialect, text: &[u8], at: usize) -> Option<(i128, usi
 }
 
 // The integer of this sign that the digits from here on write, and the offset behind them.
+#[inline(always)]
 fn number_at(dialect: Dialect, text: &[u8], from: usize, is_negative: bool) -> Option<(i128, usize)>
     requires { from ≤ length text.now }
     ensures taken { IfSome result (IsNumber dialect text.now from is_negative) }
@@ -123,7 +126,26 @@ fn magnitude(digits: &[u8]) -> Option<u128>
     ensures { result ≡ (let number = value_from 0 digits.now in
         if nat_le number (suc (greatest_integer Two)) then Some number else None) }
 {
-    let mut value = 0u128;
+    let mut value = 0u64;
+    for (at, c) in digits.iter().enumerate() {
+        // Most numbers are small, and 64 bits are faster.
+        if value >= u64::MAX / 10 {
+            return wide_magnitude(u128::from(value), &digits[at..]);
+        }
+        value = 10 * value + u64::from(*c - b'0');
+    }
+    Some(u128::from(value))
+}
+
+// The number that this one and the digits behind it write, where it is not over the greatest
+// magnitude.
+fn wide_magnitude(number: u128, digits: &[u8]) -> Option<u128>
+    requires within { number ≤ suc (greatest_integer Two) }
+    requires digits { AllByRecursion (λ c. IsTrue (is_ascii_digit c)) digits.now }
+    ensures { result ≡ (let number = value_from number digits.now in
+        if nat_le number (suc (greatest_integer Two)) then Some number else None) }
+{
+    let mut value = number;
     for c in digits {
         let digit = u128::from(*c - b'0');
         // A test against a constant: a division for each digit would take most of the time.
