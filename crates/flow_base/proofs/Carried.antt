@@ -8,7 +8,7 @@ use Rattle.flow_messages.specs.Ends.{View, SameEnds, LookedForRoom, LookedForMes
 use Rattle.flow_messages.specs.declared.ends.Refused.{Refused}
 use Rattle.flow_messages.specs.declared.ends.Why.TheVariants.{Closed}
 use Rattle.flow_messages.specs.declared.message.Msg.{Msg}
-use Rattle.flow_base.specs.Visits.{read_from, sent_after}
+use Rattle.flow_base.specs.Visits.{read_from, sent_after, longer, Wrote}
 
 pub same_ends_refl : (a : View) → SameEnds a a
 same_ends_refl a = record { writes = λ k. refl; reads = λ k. refl }
@@ -63,18 +63,6 @@ looked_room v w f e looked = elim (cases_eq e f) [
   | inl at ↦ omega (arith, looked.more, ap v.room at, ap w.room at)
   | inr ne ↦ omega (arith, looked.room e ne)
 ]
-
--- a list with one message more, unless it has ended
-abbrev pub longer : List Signal → Signal → List Signal
-longer sent m = cond (ended sent) sent (sent ++ m ∷ [])
-
--- m was put on edge f, unless that edge had ended
-pub record Wrote (v : View) (f : ℕ) (m : Signal) (w : View) : Type 0 where
-  pub ends : SameEnds v w
-  pub sent : (e : ℕ) → w.sent e ≡ cond (eqb e f) (longer (v.sent e) m) (v.sent e)
-  pub received : (e : ℕ) → w.received e ≡ v.received e
-  pub coming : (e : ℕ) → IsPrefix (v.coming e) (w.coming e)
-  pub room : (e : ℕ) → e ≢ f → w.room e ≡ v.room e
 
 grown : (v w : View) (f : ℕ) (m : Signal) → w.sent f ≡ longer (v.sent f) m → ((e : ℕ) → e ≢ f → w.sent e ≡ v.sent e) → (e : ℕ) → w.sent e ≡ cond (eqb e f) (longer (v.sent e) m) (v.sent e)
 grown v w f m here others e = elim (cases_eq e f) [

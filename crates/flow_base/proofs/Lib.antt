@@ -1,3 +1,4 @@
 pub mod Carried
+pub mod Kernels
 pub mod Reached
 pub mod Visits

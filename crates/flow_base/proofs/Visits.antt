@@ -12,11 +12,11 @@ use Rattle.flow_messages.specs.declared.ends.Refused.{Refused}
 use Rattle.flow_messages.specs.declared.ends.Why.TheVariants.{Closed}
 use Rattle.flow_messages.specs.declared.message.Msg.{Msg}
 use Rattle.flow_base.specs.Transducers.{Behaviour, BehaviourLaws}
-use Rattle.flow_base.specs.Visits.{read_from, sent_after, edge_of, IsNone, Carried, SparesOthers, LeavesAlone, IsStuck, Visited, BrokeOff, IsReached, IsPlaced}
-use Rattle.flow_base.proofs.Carried.{looked_coming, looked_room, same_ends_refl, same_ends_then, prefix_same, prefix_then, read_append, sent_append, taken_received, taken_room, longer, Wrote, put_wrote}
+use Rattle.flow_base.specs.Visits.{read_from, sent_after, longer, Wrote, edge_of, IsNone, Carried, SparesOthers, LeavesAlone, IsStuck, Visited, BrokeOff, IsReached, IsPlaced}
+use Rattle.flow_base.proofs.Carried.{looked_coming, looked_room, same_ends_refl, same_ends_then, prefix_same, prefix_then, read_append, sent_append, taken_received, taken_room, put_wrote}
 use Rattle.flow_base.proofs.Reached.{opening_does, reached_does, opening_read, opening_wrote, reached_read, reached_wrote, wants_input, wants_output}
 
-not_nil : {X : Type 0} (h : List X) (x : X) → h ++ x ∷ [] ≡ [] → ⊥
+pub not_nil : {X : Type 0} (h : List X) (x : X) → h ++ x ∷ [] ≡ [] → ⊥
 not_nil [] x e = absurd (cc)
 not_nil (y ∷ h) x e = absurd (cc)
 
@@ -25,7 +25,7 @@ at_most_one true m = omega arith
 at_most_one false m = omega arith
 
 -- an edge that is at no port is not the edge at this port
-not_at : (edges : List ℕ) (e p : ℕ) → IsNone edges e → p < length edges → e ≢ edge_of edges p
+pub not_at : (edges : List ℕ) (e p : ℕ) → IsNone edges e → p < length edges → e ≢ edge_of edges p
 not_at edges e p none l = All-get_or (λ f. e ≢ f) edges p 0 l none
 
 -- memory was refused only where some may be taken
@@ -44,12 +44,12 @@ on_err (Ok x) p = tt
 on_err (Err x) p = p
 
 -- of two histories one has a step
-either_some : {X : Type 0} (any more : Bool) (h g : List X) → (any ≡ true → h ≡ [] → ⊥) → (more ≡ true → g ≡ [] → ⊥) → (any || more) ≡ true → h ++ g ≡ [] → ⊥
+pub either_some : {X : Type 0} (any more : Bool) (h g : List X) → (any ≡ true → h ≡ [] → ⊥) → (more ≡ true → g ≡ [] → ⊥) → (any || more) ≡ true → h ++ g ≡ [] → ⊥
 either_some any more (x ∷ h) g p q is none = absurd (cc)
 either_some true more [] g p q is none = p refl refl
 either_some false more [] g p q is none = q is none
 
-left_alone : (inputs outputs : List ℕ) (a v w : View) → LeavesAlone inputs outputs a v → LeavesAlone inputs outputs v w → LeavesAlone inputs outputs a w
+pub left_alone : (inputs outputs : List ℕ) (a v w : View) → LeavesAlone inputs outputs a v → LeavesAlone inputs outputs v w → LeavesAlone inputs outputs a w
 left_alone inputs outputs a v w h g = record {
   traffic = record {
     sent = λ e. g.traffic.sent e ∙ h.traffic.sent e;

@@ -7,6 +7,7 @@ use Rattle.snesl_data.specs.Integers.{IsInteger}
 use Rattle.flow_messages.specs.Cells.{Cell, unit, flag, int, is_of}
 use Rattle.flow_messages.specs.declared.message.Kind.{Kind}
 use Rattle.flow_messages.specs.declared.message.Kind.TheVariants.{Bool as BoolKind, Int as IntKind}
+use Rattle.flow_messages.specs.Signals.{Signal, carry, stop}
 use Rattle.flow_base.specs.Lists.{Lists}
 use Rattle.flow_base.specs.Ranges.{CellInRange}
 use Rattle.flow_base.specs.Columns.{Columns, columns, nothing, At}
@@ -32,6 +33,11 @@ taken (on_flag at_f at_t) (flag true) = at_t
 taken (on_int next) (int n) = next n
 taken (on_kind kind next) x = cond (is_of kind x) (next x) (Err Shape)
 taken _ _ = Err Shape
+
+-- the message is an item, and leads to this state
+abbrev pub Leads : {S : Type 0} → Taking S → Signal → S → Type 0
+Leads t (carry x) s = taken t x ≡ Ok s
+Leads t stop s = ⊥
 
 abbrev pub kind_taken : {S : Type 0} → Taking S → Kind
 kind_taken (on_flag at_f at_t) = BoolKind

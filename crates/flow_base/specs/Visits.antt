@@ -1,13 +1,13 @@
 -- What a visit of a transducer does over the edges at its ports.
-use Rattle.std.specs.Prelude.{◌≡◌, ◌≢◌, ℕ, ◌+◌, ◌≤◌, Bool, true, false, cond, eqb, List, [], ◌∷◌, ◌++◌, length, slice_index_or}
+use Rattle.std.specs.Prelude.{◌≡◌, ◌≢◌, ℕ, ◌+◌, ◌≤◌, Bool, true, false, cond, eqb, List, [], ◌∷◌, ◌++◌, length, slice_index_or, nat_lt}
 use Rattle.std.specs.List.{All}
 use mathlib.Core.List.{IsPrefix}
 use Rattle.kahn.specs.declared.want.Want.{Want}
 use Rattle.kahn.specs.declared.want.Want.TheVariants.{Read, Write, Ended, Faulted}
 use Rattle.kahn.specs.Basics.{Begins}
-use Rattle.kahn.specs.Processes.{Process, Event, Reads, Writes, Does}
+use Rattle.kahn.specs.Processes.{Event, Reads, Writes, Does}
 use Rattle.flow_messages.specs.Signals.{Signal, ended}
-use Rattle.flow_messages.specs.Ends.{View, held, SameTraffic}
+use Rattle.flow_messages.specs.Ends.{View, held, SameEnds, SameTraffic}
 use Rattle.flow_base.specs.Transducers.{Behaviour}
 
 -- what the events read from edge e, where input port p has the edge `edge p`
@@ -29,6 +29,18 @@ edge_of edges p = slice_index_or edges p 0
 -- edge e is none of these
 abbrev pub IsNone : List ℕ → ℕ → Type 0
 IsNone edges e = All (λ f. e ≢ f) edges
+
+-- a list with one message more, unless it has ended
+abbrev pub longer : List Signal → Signal → List Signal
+longer sent m = cond (ended sent) sent (sent ++ m ∷ [])
+
+-- m was put on edge f, unless that edge had ended
+pub record Wrote (v : View) (f : ℕ) (m : Signal) (w : View) : Type 0 where
+  pub ends : SameEnds v w
+  pub sent : (e : ℕ) → w.sent e ≡ cond (eqb e f) (longer (v.sent e) m) (v.sent e)
+  pub received : (e : ℕ) → w.received e ≡ v.received e
+  pub coming : (e : ℕ) → IsPrefix (v.coming e) (w.coming e)
+  pub room : (e : ℕ) → e ≢ f → w.room e ≡ v.room e
 
 module _ (inputs outputs : List ℕ) where
   -- The events took and put just their messages.
@@ -68,6 +80,19 @@ module _ (inputs outputs : List ℕ) where
       pub calm : any ≡ false → LeavesAlone a v
       pub stuck : any ≡ false → IsStuck v (b.process.want s)
 
+    -- From s to t it made just so many steps. That it made none says nothing of what it could.
+    pub record Went (steps : ℕ) : Type 0 where
+      pub history : List (Event Signal)
+      pub does : Does b.process s history t
+      pub counts : length history ≡ steps
+      pub carried : Carried history a v
+      pub spares : SparesOthers a v
+      pub calm : steps ≡ 0 → LeavesAlone a v
+
+    -- From s to t it made some steps, or none; `any` says which.
+    abbrev pub WentOn : Bool → Type 0
+    WentOn any = (steps : ℕ) × Went steps × (nat_lt 0 steps ≡ any)
+
     -- From s to t it made some steps, until memory was refused to one that may take some: then at most one message, of
     -- one of its edges, was received that it did not read.
     pub record BrokeOff : Type 0 where
@@ -93,3 +118,10 @@ module _ {S : Type 0} (b : Behaviour S) where
     pub each_output : length outputs ≡ b.outputs s
     pub reads : All (λ e. v.reads e ≡ true) inputs
     pub writes : All (λ e. v.writes e ≡ true) outputs
+
+-- so many input ports and output ports have these edges, and their ends are there
+pub record IsWired (inputs outputs : List ℕ) (reads_from writes_to : ℕ) (v : View) : Type 0 where
+  pub each_input : length inputs ≡ reads_from
+  pub each_output : length outputs ≡ writes_to
+  pub reads : All (λ e. v.reads e ≡ true) inputs
+  pub writes : All (λ e. v.writes e ≡ true) outputs

@@ -6,11 +6,13 @@
 //! streams; a [`Node`] makes a [`Transducer`] of it, and does all that is to be done where streams end.
 #![tactic(auto)]
 
+mod certain;
 mod node;
 mod printing;
 mod transducer;
 mod worker;
 
+pub use certain::{put_in_space, take_front};
 pub use node::{Node, Phase};
 pub use printing::Printing;
 pub use transducer::{Port, Side, Transducer, keeps_laws};

@@ -6,7 +6,7 @@ ghost use Rattle.flow_messages.specs.Ends.{SameEnds};
 ghost use Rattle.flow_base.specs.Machines.{move_of, ask_of};
 ghost use Rattle.flow_base.specs.Workers.{IsReading};
 ghost use Rattle.flow_base.specs.Nodes.{closing, opened, want_for};
-ghost use Rattle.flow_base.specs.Visits.{IsPlaced, Visited, BrokeOff};
+ghost use Rattle.flow_base.specs.Visits.{IsPlaced, WentOn, Visited, BrokeOff};
 ghost use Rattle.flow_base.specs.declared.node.Phase.TheVariants.{Working};
 
 use crate::transducer::{Port, Side, Transducer};
@@ -158,7 +158,70 @@ impl<W: Worker> Node<W> {
         }
     }
 
-    // Steps while it works, at most `chunk`. How many it made.
+    // Single steps to where the kernel may go on, at most `chunk`. How many it made.
+    #[inline(always)]
+    fn finish<E: Ends>(
+        &mut self,
+        inputs: &[usize],
+        outputs: &[usize],
+        ends: &mut E,
+        chunk: usize,
+    ) -> Result<usize, AllocError>
+        requires placed { IsPlaced ⟦<Node<W> as Transducer>⟧.behaviour inputs.now outputs.now
+            (⟦<Node<W> as Transducer>⟧.state self.old) (E.view ends.old) }
+        ensures same { E.same ends.old ends.new }
+        ensures ends { SameEnds (E.view ends.old) (E.view ends.new) }
+        ensures within { IfOk result (λ made. made ≤ chunk) }
+        ensures went { IfOk result (λ made. WentOn inputs.now outputs.now
+            ⟦<Node<W> as Transducer>⟧.behaviour (⟦<Node<W> as Transducer>⟧.state self.old)
+            (E.view ends.old) (⟦<Node<W> as Transducer>⟧.state self.new) (E.view ends.new)
+            (nat_lt 0 made)) }
+        ensures broke { OnErr result (BrokeOff inputs.now outputs.now
+            ⟦<Node<W> as Transducer>⟧.behaviour (⟦<Node<W> as Transducer>⟧.state self.old)
+            (E.view ends.old) (⟦<Node<W> as Transducer>⟧.state self.new) (E.view ends.new)) }
+    {
+        for made in 0..chunk {
+            if self.worker.is_between() {
+                return Ok(made);
+            }
+            if !self.step(inputs, outputs, ends)? {
+                return Ok(made);
+            }
+        }
+        Ok(chunk)
+    }
+
+    // The rest of an instance that has begun, and then whole instances, at most `chunk` steps. How many it made.
+    #[inline(always)]
+    fn whole<E: Ends>(
+        &mut self,
+        inputs: &[usize],
+        outputs: &[usize],
+        ends: &mut E,
+        chunk: usize,
+    ) -> Result<usize, AllocError>
+        requires placed { IsPlaced ⟦<Node<W> as Transducer>⟧.behaviour inputs.now outputs.now
+            (⟦<Node<W> as Transducer>⟧.state self.old) (E.view ends.old) }
+        ensures same { E.same ends.old ends.new }
+        ensures ends { SameEnds (E.view ends.old) (E.view ends.new) }
+        ensures within { IfOk result (λ made. made ≤ chunk) }
+        ensures went { IfOk result (λ made. WentOn inputs.now outputs.now
+            ⟦<Node<W> as Transducer>⟧.behaviour (⟦<Node<W> as Transducer>⟧.state self.old)
+            (E.view ends.old) (⟦<Node<W> as Transducer>⟧.state self.new) (E.view ends.new)
+            (nat_lt 0 made)) }
+        ensures broke { OnErr result (BrokeOff inputs.now outputs.now
+            ⟦<Node<W> as Transducer>⟧.behaviour (⟦<Node<W> as Transducer>⟧.state self.old)
+            (E.view ends.old) (⟦<Node<W> as Transducer>⟧.state self.new) (E.view ends.new)) }
+    {
+        let first = self.finish(inputs, outputs, ends, chunk)?;
+        if let Phase::Working = self.phase {
+            let more = self.worker.kernel(inputs, outputs, ends, chunk - first);
+            return Ok(first + more);
+        }
+        Ok(first)
+    }
+
+    // Steps while it works, at most `chunk`: whole instances first, and then one step after another. How many it made.
     #[inline(always)]
     fn work<E: Ends>(
         &mut self,
@@ -182,7 +245,11 @@ impl<W: Worker> Node<W> {
             ⟦<Node<W> as Transducer>⟧.behaviour (⟦<Node<W> as Transducer>⟧.state self.old)
             (E.view ends.old) (⟦<Node<W> as Transducer>⟧.state self.new) (E.view ends.new)) }
     {
-        for made in 0..chunk {
+        let whole = self.whole(inputs, outputs, ends, chunk)?;
+        if !matches!(self.phase, Phase::Working) {
+            return Ok(whole);
+        }
+        for made in whole..chunk {
             match self.want_on() {
                 Want::Read(port) => {
                     prove!(port < inputs.len());

@@ -3,7 +3,7 @@
 ghost use Rattle.std.specs.Prelude.{◌≡◌, false, IfOk, OnErr, IsOk};
 ghost use Rattle.flow_base.specs.Computed.{ComputesRow};
 
-use flow_messages::{Item, Kind};
+use flow_messages::{Ends, Item, Kind};
 use snesl_data::FaultKind;
 use std::alloc::AllocError;
 
@@ -51,8 +51,12 @@ impl From<AllocError> for Stop {
 ///
 /// Its laws speak of an abstract state, and of what items carry.
 pub trait Worker {
-    ghost use Rattle.std.specs.Prelude.{ℕ};
+    ghost use Rattle.std.specs.Prelude.{◌≤◌, ℕ};
     ghost use Rattle.flow_messages.specs.Cells.{cell_of};
+    ghost use Rattle.flow_messages.specs.Ends.{SameEnds};
+    ghost use Rattle.flow_base.specs.Nodes.{behaviour_of, node_state};
+    ghost use Rattle.flow_base.specs.Visits.{IsWired, Went};
+    ghost use Rattle.flow_base.specs.declared.node.Phase.TheVariants.{Working};
     ghost use Rattle.flow_base.specs.Workers.{Takes, IsReading, IsWriting};
     ghost use Rattle.flow_base.specs.Machines.{Machine, MachineLaws, move_of, ask_of, given_of, told_of, after_of, with_parameters};
     ghost use Rattle.flow_base.specs.declared.worker.Stop.TheVariants.{OutOfMemory};
@@ -110,6 +114,35 @@ pub trait Worker {
             ))) }
         ensures err { OnErr result (state self.new ≡ state self.old) }
         ensures sure { machine.takes_memory (state self.old).1 ≡ false → IsOk result };
+
+    /// Whether its kernel may go on from here; elsewhere a visit makes single steps first. It says only how fast a visit
+    /// is, and so promises nothing.
+    fn is_between(&self) -> bool {
+        true
+    }
+
+    /// Whole instances in one loop, as many as its ends are certain of, and at most `most` steps; or fewer, or none.
+    /// How many steps it made. They are the steps of a node that works with this worker, in their order.
+    ///
+    /// It takes only messages that it goes on with: an end, a fault and a want of memory are left to single steps.
+    fn kernel<E: Ends>(
+        &mut self,
+        inputs: &[usize],
+        outputs: &[usize],
+        ends: &mut E,
+        most: usize,
+    ) -> usize
+        requires wired { IsWired inputs.now outputs.now (machine.inputs (state self.old).0)
+            (machine.outputs (state self.old).0) (E.view ends.old) }
+        ensures same { E.same ends.old ends.new }
+        ensures ends { SameEnds (E.view ends.old) (E.view ends.new) }
+        ensures within { result ≤ most }
+        ensures went { (at : ℕ) → Went inputs.now outputs.now (behaviour_of machine)
+            (node_state (state self.old) Working at) (E.view ends.old)
+            (node_state (state self.new) Working at) (E.view ends.new) result }
+    {
+        0
+    }
 
     /// What it keeps to in each state; whole instances are what the row says.
     ghost laws: { MachineLaws machine };

@@ -1,8 +1,9 @@
 -- One line of a table, and the others.
-use Rattle.std.proofs.Common.{◌≡◌, ◌≢◌, ℕ, zero, suc, ◌+◌, ◌-◌, ◌<◌, ◌≤◌, List, [], ◌∷◌, ◌++◌, length, map, refl, ap, sym, ◌∙◌, get_or, set, arith, length-set, length-append, append-nil, ◌⊎◌, inl, inr}
+use Rattle.std.proofs.Common.{◌≡◌, ◌≢◌, ℕ, zero, suc, ◌+◌, ◌-◌, ◌<◌, ◌≤◌, List, [], ◌∷◌, ◌++◌, length, map, refl, ap, subst, sym, ◌∙◌, get_or, set, arith, length-set, length-append, append-nil, ◌⊎◌, inl, inr}
 use Rattle.std.proofs.lemmas.List.{get_or-map, map-set, get_or-set_same, get_or-set_other, length-map}
 use Rattle.std.proofs.lemmas.List.Elements.{All-append}
 use Rattle.std.proofs.lemmas.Bool.{cases_eq}
+use mathlib.Core.List.{IsPrefix}
 use Rattle.std.specs.List.{All}
 use Rattle.std.specs.Prelude.{Option, Some, None, Result, Ok, Err, OnOk, IfErr, IfSome, IfNone, IsSome}
 use Rattle.flow_messages.specs.declared.message.Msg.{Msg}
@@ -114,6 +115,18 @@ module _ (ls : List Line) (e : ℕ) (old new : Line) (h : e < length ls) (is : o
 -- as many messages are certain to come as the line's queue holds
 pub line-held : (ls : List Line) (e : ℕ) (l : Line) → e < length ls → l ≡ get_or ls e l → held (view_of_lines ls) e ≡ length l.queue.items
 line-held ls e l h is = ap length (at_line-here coming_on ls e [] l h is) ∙ signals-length l.queue.items
+
+-- the oldest message on a line is the first that is certain to come
+first_queued : (ms : List Msg) (m : Msg) → 0 < length ms → m ≡ get_or ms 0 m → IsPrefix (signal_of m ∷ []) (signals ms)
+first_queued [] m some is = absurd (omega arith)
+first_queued (n ∷ ms) m some is = (signals ms, ap (λ x. signal_of x ∷ signals ms) is ∙ sym (signals-cons n ms))
+
+pub line-front : (ls : List Line) (e : ℕ) (l : Line) (m : Msg) → e < length ls → l ≡ get_or ls e l → 0 < length l.queue.items → m ≡ get_or l.queue.items 0 m → IsPrefix (signal_of m ∷ []) ((view_of_lines ls).coming e)
+line-front ls e l m h is some first = subst (IsPrefix (signal_of m ∷ [])) (sym (at_line-here coming_on ls e [] l h is)) (first_queued l.queue.items m some first)
+
+-- there is room for as many messages as the line may hold besides
+pub line-space : (ls : List Line) (e : ℕ) (l : Line) → e < length ls → l ≡ get_or ls e l → (view_of_lines ls).room e ≡ l.capacity - length l.queue.items
+line-space ls e l h is = at_line-here room_on ls e 0 l h is
 
 -- a look that finds no more
 pub looked-same : (v : View) (e : ℕ) → LookedForMessages v e v

@@ -21,7 +21,8 @@ pub struct Refused {
 ///
 /// No call takes memory, and none waits.
 pub trait Ends {
-    ghost use Rattle.std.specs.Prelude.{◌≡◌, ◌<◌, ◌↔◌, true, false, IsTrue, IsOk, IsSome, IfSome, IfNone, OnOk, IfErr, IsErrAnd};
+    ghost use Rattle.std.specs.Prelude.{◌≡◌, ◌<◌, ◌≤◌, ◌↔◌, true, false, [], ◌∷◌, IsTrue, IsOk, IsSome, IfSome, IfNone, OnOk, IfErr, IsErrAnd};
+    ghost use mathlib.Core.List.{IsPrefix};
     ghost use Rattle.flow_messages.specs.Signals.{signal_of, ended};
     ghost use Rattle.flow_messages.specs.Ends.{View, held, LookedForRoom, LookedForMessages, Put, Taken};
     ghost use Rattle.flow_messages.specs.declared.ends.Why.TheVariants.{Full, Closed};
@@ -53,6 +54,24 @@ pub trait Ends {
         ensures same { same self.old self.new }
         ensures looked { LookedForMessages (view self.old) edge (view self.new) }
         ensures value { IsTrue result ↔ (0 < held (view self.new) edge) };
+
+    /// How many messages more the edge is certain to have room for, or fewer of them.
+    fn space(&mut self, edge: usize) -> usize
+        requires { (view self.old).writes edge ≡ true }
+        ensures same { same self.old self.new }
+        ensures looked { LookedForRoom (view self.old) edge (view self.new) }
+        ensures value { result ≤ (view self.new).room edge }
+    {
+        if self.room(edge) { 1 } else { 0 }
+    }
+
+    /// The message that the next take is certain to give, where these ends can show it. It stays.
+    fn front(&self, edge: usize) -> Option<&Msg>
+        requires { (view self.now).reads edge ≡ true }
+        ensures { IfSome result (λ m. IsPrefix (signal_of m.now ∷ []) ((view self.now).coming edge)) }
+    {
+        None
+    }
 
     /// Puts a message behind all others.
     ///

@@ -1,5 +1,5 @@
 // One edge in one thread.
-ghost use Rattle.std.specs.Prelude.{◌≡◌, ◌+◌, ◌-◌, ◌<◌, ◌≤◌, ◌↔◌, true, false, [], ◌∷◌, ◌++◌, length, IsTrue, IsOk, IsSome, OnOk, IfOk, IfErr, IsErrAnd, IfSome, IfNone};
+ghost use Rattle.std.specs.Prelude.{◌≡◌, ◌+◌, ◌-◌, ◌<◌, ◌≤◌, ◌↔◌, true, false, [], ◌∷◌, ◌++◌, length, slice_index_or, IsTrue, IsOk, IsSome, OnOk, IfOk, IfErr, IsErrAnd, IfSome, IfNone};
 ghost use Rattle.std.specs.VecDeque.{deque_capacity};
 ghost use Rattle.std.specs.Io.Iter.{u64_saturate};
 ghost use Rattle.flow_messages.specs.Signals.{signals, ended, orderly};
@@ -53,6 +53,23 @@ impl Line {
         ensures { IsTrue result ↔ (0 < self.now.capacity - length self.now.queue.items) }
     {
         self.queue.len() < self.capacity
+    }
+
+    /// How many messages more it may hold.
+    #[inline(always)]
+    pub fn space(&self) -> usize
+        ensures { result ≡ self.now.capacity - length self.now.queue.items }
+    {
+        self.capacity - self.queue.len()
+    }
+
+    /// The oldest message that it holds.
+    #[inline(always)]
+    pub fn front(&self) -> Option<&Msg>
+        ensures some { IfSome result (λ m. m.now ≡ slice_index_or self.now.queue.items 0 m.now) }
+        ensures variant { IsSome result ↔ (0 < length self.now.queue.items) }
+    {
+        self.queue.front()
     }
 
     /// Whether it holds a message.

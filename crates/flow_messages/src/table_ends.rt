@@ -62,6 +62,16 @@ impl Ends for Table {
     }
 
     #[inline(always)]
+    fn space(&mut self, edge: usize) -> usize {
+        self.lines[edge].space()
+    }
+
+    #[inline(always)]
+    fn front(&self, edge: usize) -> Option<&Msg> {
+        self.lines[edge].front()
+    }
+
+    #[inline(always)]
     fn put(&mut self, edge: usize, message: Msg) -> Result<(), Refused> {
         self.lines[edge].put(message)
     }

@@ -1,11 +1,17 @@
 // Operators on two scalars.
 
-ghost use Rattle.std.specs.Prelude.{◌≡◌};
+ghost use Rattle.std.specs.Prelude.{◌≡◌, Ok, IfSome};
+ghost use Rattle.flow_base.specs.Machines.{Leads};
+ghost use Rattle.flow_messages.specs.Signals.{signal_of};
+ghost use Rattle.snesl_operators.specs.Operators.{binary_operand};
+ghost use Rattle.flow_scalar.specs.Operands.{on_operand};
+ghost use Rattle.flow_scalar.specs.BinaryMachine.{binary_next};
+ghost use Rattle.flow_scalar.specs.declared.binary.Progress.TheVariants.{Left as LeftState, Value as ValueState};
 
 use crate::operand::operand_of;
 use crate::scalars::{item_of, kind_of};
-use flow_base::{Ask, Stop, Worker};
-use flow_messages::{Item, Kind};
+use flow_base::{Ask, Stop, Worker, put_in_space, take_front};
+use flow_messages::{Ends, Item, Kind, Msg};
 use snesl_data::Dialect;
 use snesl_operators::{BinaryOperator, Scalar};
 use std::alloc::AllocError;
@@ -44,6 +50,39 @@ impl Binary {
             dialect,
             operator,
             progress: Progress::Start,
+        }
+    }
+
+    // The operand that the message is, where it is one.
+    #[inline(always)]
+    #[tactic(auto, using(crate::proofs::Leading::operand_taken))]
+    fn left_at(&self, message: &Msg) -> Option<Scalar>
+        ensures { IfSome result (λ a. Leads (on_operand (binary_operand self.now.operator) (λ k. Ok (LeftState k))) (signal_of message.now) (LeftState a)) }
+    {
+        match message {
+            Msg::Item(item) => match operand_of(self.operator.operand(), item) {
+                Ok(operand) => Some(operand),
+                Err(_) => None,
+            },
+            Msg::End => None,
+        }
+    }
+
+    // The value that the message leads to after this left operand, where it leads to one.
+    #[inline(always)]
+    #[tactic(auto, using(crate::proofs::Leading::operand_taken))]
+    fn value_at(&self, left: Scalar, message: &Msg) -> Option<Scalar>
+        ensures { IfSome result (λ v. Leads (on_operand (binary_operand self.now.operator) (binary_next self.now.dialect self.now.operator left)) (signal_of message.now) (ValueState v)) }
+    {
+        match message {
+            Msg::Item(item) => match operand_of(self.operator.operand(), item) {
+                Ok(operand) => match self.operator.apply(self.dialect, left, operand) {
+                    Ok(value) => Some(value),
+                    Err(_) => None,
+                },
+                Err(_) => None,
+            },
+            Msg::End => None,
         }
     }
 }
@@ -112,5 +151,48 @@ impl Worker for Binary {
             }
             _ => unreachable!(),
         }
+    }
+
+    fn is_between(&self) -> bool {
+        matches!(self.progress, Progress::Start)
+    }
+
+    #[inline(always)]
+    fn kernel<E: Ends>(
+        &mut self,
+        inputs: &[usize],
+        outputs: &[usize],
+        ends: &mut E,
+        most: usize,
+    ) -> usize {
+        let Progress::Start = self.progress else {
+            return 0;
+        };
+        let lefts = inputs[0];
+        let rights = inputs[1];
+        // Two messages of one edge are not seen at once.
+        if lefts == rights {
+            return 0;
+        }
+        let to = outputs[0];
+        let whole = ends.space(to).min(most / 3);
+        for made in 0..whole {
+            let Some(first) = ends.front(lefts) else {
+                return 3 * made;
+            };
+            let Some(left) = self.left_at(first) else {
+                return 3 * made;
+            };
+            let Some(second) = ends.front(rights) else {
+                return 3 * made;
+            };
+            let Some(value) = self.value_at(left, second) else {
+                return 3 * made;
+            };
+            take_front(ends, lefts);
+            take_front(ends, rights);
+            put_in_space(ends, to, Msg::Item(item_of(value)));
+        }
+        3 * whole
     }
 }

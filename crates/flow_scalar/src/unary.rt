@@ -1,11 +1,16 @@
 // Operators on one scalar.
 
-ghost use Rattle.std.specs.Prelude.{◌≡◌, None};
+ghost use Rattle.std.specs.Prelude.{◌≡◌, Some, None, IfSome};
+ghost use Rattle.flow_base.specs.Machines.{Leads};
+ghost use Rattle.flow_messages.specs.Signals.{signal_of};
+ghost use Rattle.snesl_operators.specs.Operators.{unary_operand};
+ghost use Rattle.flow_scalar.specs.Operands.{on_operand};
+ghost use Rattle.flow_scalar.specs.UnaryMachine.{unary_next};
 
 use crate::operand::operand_of;
 use crate::scalars::{item_of, kind_of};
-use flow_base::{Ask, Stop, Worker};
-use flow_messages::{Item, Kind};
+use flow_base::{Ask, Stop, Worker, put_in_space, take_front};
+use flow_messages::{Ends, Item, Kind, Msg};
 use snesl_data::Dialect;
 use snesl_operators::{Scalar, UnaryOperator};
 use std::alloc::AllocError;
@@ -32,6 +37,24 @@ impl Unary {
             dialect,
             operator,
             value: None,
+        }
+    }
+
+    // The value that the message leads to, where it leads to one.
+    #[inline(always)]
+    #[tactic(auto, using(crate::proofs::Leading::operand_taken))]
+    fn value_at(&self, message: &Msg) -> Option<Scalar>
+        ensures { IfSome result (λ v. Leads (on_operand (unary_operand self.now.operator) (unary_next self.now.dialect self.now.operator)) (signal_of message.now) (Some v)) }
+    {
+        match message {
+            Msg::Item(item) => match operand_of(self.operator.operand(), item) {
+                Ok(operand) => match self.operator.apply(self.dialect, operand) {
+                    Ok(value) => Some(value),
+                    Err(_) => None,
+                },
+                Err(_) => None,
+            },
+            Msg::End => None,
         }
     }
 }
@@ -94,5 +117,36 @@ impl Worker for Unary {
             }
             None => unreachable!(),
         }
+    }
+
+    fn is_between(&self) -> bool {
+        self.value.is_none()
+    }
+
+    #[inline(always)]
+    fn kernel<E: Ends>(
+        &mut self,
+        inputs: &[usize],
+        outputs: &[usize],
+        ends: &mut E,
+        most: usize,
+    ) -> usize {
+        if self.value.is_some() {
+            return 0;
+        }
+        let from = inputs[0];
+        let to = outputs[0];
+        let whole = ends.space(to).min(most / 2);
+        for made in 0..whole {
+            let Some(message) = ends.front(from) else {
+                return 2 * made;
+            };
+            let Some(value) = self.value_at(message) else {
+                return 2 * made;
+            };
+            take_front(ends, from);
+            put_in_space(ends, to, Msg::Item(item_of(value)));
+        }
+        2 * whole
     }
 }

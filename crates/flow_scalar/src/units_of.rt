@@ -1,9 +1,11 @@
 // A Unit for each element that flags stand for.
 
-ghost use Rattle.std.specs.Prelude.{◌≡◌, false};
+ghost use Rattle.std.specs.Prelude.{◌≡◌, false, IfSome};
+ghost use Rattle.flow_messages.specs.Cells.{flag};
+ghost use Rattle.flow_messages.specs.Signals.{carry, signal_of};
 
-use flow_base::{Ask, Stop, Worker};
-use flow_messages::{Item, Kind};
+use flow_base::{Ask, Stop, Worker, put_in_space, take_front};
+use flow_messages::{Ends, Item, Kind, Msg};
 use snesl_data::FaultKind;
 use std::alloc::AllocError;
 
@@ -16,6 +18,17 @@ use std::alloc::AllocError;
 pub struct UnitsOf {
     // A flag came that stands for an element, and a Unit is to be written for it.
     due: bool,
+}
+
+// The flag that the message is, where it is one.
+#[inline(always)]
+fn flag_of(message: &Msg) -> Option<bool>
+    ensures { IfSome result (λ b. signal_of message.now ≡ carry (flag b)) }
+{
+    match message {
+        Msg::Item(Item::Bool(truth)) => Some(*truth),
+        _ => None,
+    }
 }
 
 impl UnitsOf {
@@ -78,5 +91,41 @@ impl Worker for UnitsOf {
     fn give(&mut self) -> Result<Item, AllocError> {
         self.due = false;
         Ok(Item::Unit)
+    }
+
+    fn is_between(&self) -> bool {
+        !self.due
+    }
+
+    // A flag of an element is two steps, and one that ends a segment is one.
+    #[inline(always)]
+    fn kernel<E: Ends>(
+        &mut self,
+        inputs: &[usize],
+        outputs: &[usize],
+        ends: &mut E,
+        most: usize,
+    ) -> usize {
+        if self.due {
+            return 0;
+        }
+        let from = inputs[0];
+        let to = outputs[0];
+        let mut made = 0;
+        for _ in 0..ends.space(to).min(most / 2) {
+            let Some(message) = ends.front(from) else {
+                return made;
+            };
+            let Some(last) = flag_of(message) else {
+                return made;
+            };
+            take_front(ends, from);
+            made += 1;
+            if !last {
+                put_in_space(ends, to, Msg::Item(Item::Unit));
+                made += 1;
+            }
+        }
+        made
     }
 }

@@ -1,0 +1,32 @@
+// Calls of ends that are certain to succeed.
+
+ghost use Rattle.std.specs.Prelude.{◌≡◌, ◌+◌, ◌<◌, ◌≤◌, true, [], ◌∷◌};
+ghost use mathlib.Core.List.{IsPrefix};
+ghost use Rattle.flow_messages.specs.Signals.{Signal, signal_of};
+ghost use Rattle.flow_messages.specs.Ends.{Taken};
+ghost use Rattle.flow_base.specs.Visits.{Wrote};
+
+use flow_messages::{Ends, Msg};
+
+/// Takes the message that was seen at the front, and drops it.
+#[inline(always)]
+pub fn take_front<E: Ends>(ends: &mut E, edge: usize)
+    requires { (E.view ends.old).reads edge ≡ true }
+    ensures same { E.same ends.old ends.new }
+    ensures taken { (m : Signal) → IsPrefix (m ∷ []) ((E.view ends.old).coming edge) →
+        Taken (E.view ends.old) edge m (E.view ends.new) }
+{
+    let _ = ends.take(edge);
+}
+
+/// Puts a message where room is certain. It is dropped where `End` was put on the edge before.
+#[inline(always)]
+pub fn put_in_space<E: Ends>(ends: &mut E, edge: usize, message: Msg)
+    requires writes { (E.view ends.old).writes edge ≡ true }
+    requires certain { 0 < (E.view ends.old).room edge }
+    ensures same { E.same ends.old ends.new }
+    ensures wrote { Wrote (E.view ends.old) edge (signal_of message) (E.view ends.new) }
+    ensures room { (E.view ends.old).room edge ≤ (E.view ends.new).room edge + 1 }
+{
+    let _ = ends.put(edge, message);
+}
