@@ -3,8 +3,8 @@
 ghost use Rattle.std.specs.Prelude.{◌≡◌};
 ghost use Rattle.flow_scalar.specs.IotaMachine.{number_after};
 
-use flow_base::{Ask, Stop, Worker};
-use flow_messages::{Item, Kind};
+use flow_base::{Ask, Stop, Worker, put_in_space};
+use flow_messages::{Ends, Item, Kind, Msg};
 use snesl_data::FaultKind;
 use std::alloc::AllocError;
 
@@ -114,5 +114,42 @@ impl Worker for Iota {
             }
             Iota::Between => unreachable!(),
         }
+    }
+
+    fn is_between(&self) -> bool {
+        !matches!(self, Iota::Number { .. })
+    }
+
+    // The pairs of a flag and a number that are left of a segment.
+    #[inline(always)]
+    fn kernel<E: Ends>(
+        &mut self,
+        _inputs: &[usize],
+        outputs: &[usize],
+        ends: &mut E,
+        most: usize,
+    ) -> usize {
+        let Iota::Flag { next: first, end } = *self else {
+            return 0;
+        };
+        let flags = outputs[0];
+        let numbers = outputs[1];
+        // Room for two messages on one edge is not seen at once.
+        if flags == numbers {
+            return 0;
+        }
+        let whole = ends.space(flags).min(ends.space(numbers)).min(most / 2);
+        let mut next = first;
+        for made in 0..whole {
+            if next >= end {
+                *self = Iota::Flag { next, end };
+                return 2 * made;
+            }
+            put_in_space(ends, flags, Msg::Item(Item::Bool(false)));
+            put_in_space(ends, numbers, Msg::Item(Item::Int(next)));
+            next += 1;
+        }
+        *self = Iota::Flag { next, end };
+        2 * whole
     }
 }
