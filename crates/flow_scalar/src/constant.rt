@@ -1,10 +1,12 @@
 // A constant, once for each item.
 
-ghost use Rattle.std.specs.Prelude.{◌≡◌, false};
+ghost use Rattle.std.specs.Prelude.{◌≡◌, true, false};
+ghost use Rattle.flow_messages.specs.Cells.{unit};
+ghost use Rattle.flow_messages.specs.Signals.{carry, signal_of};
 
 use crate::scalars::{item_of, kind_of};
-use flow_base::{Ask, Stop, Worker};
-use flow_messages::{Item, Kind};
+use flow_base::{Ask, Stop, Worker, put_in_space, take_front};
+use flow_messages::{Ends, Item, Kind, Msg};
 use snesl_data::FaultKind;
 use snesl_operators::Scalar;
 use std::alloc::AllocError;
@@ -18,6 +20,14 @@ pub struct Const {
     scalar: Scalar,
     // A Unit came, and the scalar is to be written for it.
     due: bool,
+}
+
+// Whether the message is a Unit.
+#[inline(always)]
+fn is_unit(message: &Msg) -> bool
+    ensures { result ≡ true → signal_of message.now ≡ carry unit }
+{
+    matches!(message, Msg::Item(Item::Unit))
 }
 
 impl Const {
@@ -81,5 +91,36 @@ impl Worker for Const {
     fn give(&mut self) -> Result<Item, AllocError> {
         self.due = false;
         Ok(item_of(self.scalar))
+    }
+
+    fn is_between(&self) -> bool {
+        !self.due
+    }
+
+    #[inline(always)]
+    fn kernel<E: Ends>(
+        &mut self,
+        inputs: &[usize],
+        outputs: &[usize],
+        ends: &mut E,
+        most: usize,
+    ) -> usize {
+        if self.due {
+            return 0;
+        }
+        let from = inputs[0];
+        let to = outputs[0];
+        let whole = ends.space(to).min(most / 2);
+        for made in 0..whole {
+            let Some(message) = ends.front(from) else {
+                return 2 * made;
+            };
+            if !is_unit(message) {
+                return 2 * made;
+            }
+            take_front(ends, from);
+            put_in_space(ends, to, Msg::Item(item_of(self.scalar)));
+        }
+        2 * whole
     }
 }

@@ -1,0 +1,86 @@
+use Rattle.std.proofs.Common.{◌≡◌, ◌+◌, ◌<◌, ◌*◌, Bool, true, false, length, refl, sym, ◌∙◌, ap, subst, arith}
+use Rattle.std.proofs.lemmas.List.Elements.{All-get_or}
+use Rattle.flow_messages.specs.Cells.{unit}
+use Rattle.flow_messages.specs.Signals.{signal_of, carry}
+use Rattle.flow_base.specs.Nodes.{NodeState, behaviour_of, node_state}
+use Rattle.flow_base.specs.Visits.{edge_of, Went, Wrote}
+use Rattle.flow_base.specs.declared.node.Phase.TheVariants.{Working}
+use Rattle.flow_base.proofs.Carried.{same_ends_then, taken_room}
+use Rattle.flow_base.proofs.Kernels.{went_none, went_looked, went_read, went_write}
+use Rattle.snesl_operators.specs.declared.scalar.Scalar.{Scalar}
+use Rattle.flow_scalar.specs.Scalars.{cell_of_scalar}
+use Rattle.flow_scalar.specs.ConstMachine.{const_machine, const_view}
+use Rattle.flow_scalar.proofs.Leading.{two_more}
+use Rattle.flow_scalar.proofs.constant.ConstWorker.kernel.Goals as goal
+
+-- it made no step
+pub returns-then-self-clause-went : goal.returns-then-self-clause-went
+returns-then-self-clause-went g c = λ at. went_none (behaviour_of const_machine) c.args.inputs.now c.args.outputs.now (node_state (const_view c.args.self.now) Working at) (g.E.Ends.view c.args.ends.now)
+
+pub loop-made-init : goal.loop-made-init
+loop-made-init g c =
+    let b = behaviour_of const_machine in
+    let ins = c.args.inputs.now in
+    let outs = c.args.outputs.now in
+    let a = g.E.Ends.view c.args.ends.now in
+    let u = g.E.Ends.view c.space.new.self in
+    let there : 0 < length outs = omega (arith, c.requires.wired.each_output) in
+    record {
+      same = c.space.ensures.same;
+      ends = c.space.ensures.looked.ends;
+      room = omega (arith, c.space.ensures.value, c.min-whole.ensures);
+      went = λ at. let s = node_state (const_view c.args.self.now) Working at in went_looked b ins outs (went_none b ins outs s a) 0 u there c.space.ensures.looked;
+    }
+
+-- the steps are two for each instance
+pub returns-clause-went : goal.returns-clause-went
+returns-clause-went g c =
+    let view = g.E.Ends.view in
+    let all : c.loop-made.made ≡ c.min-whole.result = omega arith in
+    λ at. let s = node_state (const_view c.args.self.now) Working at in
+    subst (Went c.args.inputs.now c.args.outputs.now (behaviour_of const_machine) s (view c.args.ends.now) s (view c.loop-made.ends)) (ap (λ n. 2 * n) all) (c.loop-made.invariant.went at)
+
+pub put_in_space-requires-clause-writes : goal.put_in_space-requires-clause-writes
+put_in_space-requires-clause-writes g c =
+    let outs = c.args.outputs.now in
+    let a = g.E.Ends.view c.args.ends.now in
+    let there : 0 < length outs = omega (arith, c.requires.wired.each_output) in
+    let taken = c.take_front.ensures.taken (signal_of c.in-Some.message.now) c.in-Some.ensures in
+    taken.ends.writes _ ∙ c.loop-made.invariant.ends.writes _ ∙ All-get_or (λ e. a.writes e ≡ true) outs 0 0 there c.requires.wired.writes
+
+pub put_in_space-requires-clause-certain : goal.put_in_space-requires-clause-certain
+put_in_space-requires-clause-certain g c =
+    let taken = c.take_front.ensures.taken (signal_of c.in-Some.message.now) c.in-Some.ensures in
+    omega (arith, c.loop-made.invariant.room, taken_room (g.E.Ends.view c.loop-made.ends) (g.E.Ends.view c.take_front.new.ends) _ (edge_of c.args.outputs.now 0) _ taken)
+
+pub loop-made-preserved : goal.loop-made-preserved
+loop-made-preserved g c =
+    let b = behaviour_of const_machine in
+    let ins = c.args.inputs.now in
+    let outs = c.args.outputs.now in
+    let view = g.E.Ends.view in
+    let n = c.args.self.now in
+    let a = view c.args.ends.now in
+    let v = view c.loop-made.ends in
+    let u = view c.take_front.new.ends in
+    let w = view c.put_in_space.new.ends in
+    let x = signal_of c.in-Some.message.now in
+    let taken = c.take_front.ensures.taken x c.in-Some.ensures in
+    let is : x ≡ carry unit = c.is_unit.ensures c.if-not-is_unit.false in
+    let reads : 0 < length ins = omega (arith, c.requires.wired.each_input) in
+    let writes : 0 < length outs = omega (arith, c.requires.wired.each_output) in
+    let inv = c.loop-made.invariant in
+    let E = g.met.E.Ends in
+    record {
+      same = E.same_trans c.args.ends.now c.take_front.new.ends c.put_in_space.new.ends (E.same_trans c.args.ends.now c.loop-made.ends c.take_front.new.ends inv.same c.take_front.ensures.same) c.put_in_space.ensures.same;
+      ends = same_ends_then a u w (same_ends_then a v u inv.ends taken.ends) c.put_in_space.ensures.wrote.ends;
+      room = omega (arith, inv.room, taken_room v u _ (edge_of outs 0) _ taken, c.put_in_space.ensures.room);
+      went = λ at.
+          let s = node_state (const_view n) Working at in
+          let on : Bool → NodeState (Scalar × Bool) = λ q. node_state (n.scalar, q) Working at in
+          let at_start : on false ≡ s = ap on (sym c.if-self.false) in
+          let began = subst (λ k. Went ins outs b s a k v (2 * c.loop-made.made)) (sym at_start) (inv.went at) in
+          let read = went_read b ins outs began 0 x (on true) u reads refl taken (sym (ap (b.process.read (on false)) is)) in
+          let wrote = went_write b ins outs read 0 (carry (cell_of_scalar n.scalar)) (on false) w writes refl refl (subst (λ k. Wrote u (edge_of outs 0) k w) (ap carry c.item_of.ensures) c.put_in_space.ensures.wrote) refl in
+          subst (λ k. Went ins outs b s a k w (2 * (c.loop-made.made + 1))) at_start (subst (Went ins outs b s a (on false) w) (two_more c.loop-made.made) wrote);
+    }
