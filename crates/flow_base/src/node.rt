@@ -213,6 +213,10 @@ impl<W: Worker> Node<W> {
             ⟦<Node<W> as Transducer>⟧.behaviour (⟦<Node<W> as Transducer>⟧.state self.old)
             (E.view ends.old) (⟦<Node<W> as Transducer>⟧.state self.new) (E.view ends.new)) }
     {
+        // Where hardly an instance fits into a visit, single steps are faster.
+        if chunk / 2 <= outputs.len() {
+            return Ok(0);
+        }
         let first = self.finish(inputs, outputs, ends, chunk)?;
         if let Phase::Working = self.phase {
             let more = self.worker.kernel(inputs, outputs, ends, chunk - first);
