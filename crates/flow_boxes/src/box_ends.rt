@@ -87,6 +87,22 @@ impl Ends for Boxes {
     }
 
     #[inline(always)]
+    fn space(&mut self, edge: usize) -> usize {
+        match &self.outboxes[edge] {
+            Some(outbox) => outbox.room,
+            None => unreachable!(),
+        }
+    }
+
+    #[inline(always)]
+    fn front(&self, edge: usize) -> Option<&Msg> {
+        match &self.inboxes[edge] {
+            Some(inbox) => inbox.front(),
+            None => unreachable!(),
+        }
+    }
+
+    #[inline(always)]
     fn put(&mut self, edge: usize, message: Msg) -> Result<(), Refused> {
         match &mut self.outboxes[edge] {
             Some(outbox) => outbox.put(message),

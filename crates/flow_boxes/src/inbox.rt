@@ -1,5 +1,5 @@
 // The reader's box of an edge.
-ghost use Rattle.std.specs.Prelude.{◌≡◌, ◌≤◌, [], ◌∷◌, ◌++◌, length, IfOk, IfSome, IfNone};
+ghost use Rattle.std.specs.Prelude.{◌≡◌, ◌<◌, ◌≤◌, ◌↔◌, [], ◌∷◌, ◌++◌, length, slice_index_or, IfOk, IsSome, IfSome, IfNone};
 ghost use Rattle.std.specs.VecDeque.{deque_capacity};
 ghost use Rattle.std.specs.Io.Iter.{u64_saturate};
 
@@ -30,6 +30,15 @@ impl Inbox {
             taken: 0,
             received: History::new(),
         })
+    }
+
+    /// The oldest message that it holds.
+    #[inline(always)]
+    pub fn front(&self) -> Option<&Msg>
+        ensures some { IfSome result (λ m. m.now ≡ slice_index_or self.now.queue.items 0 m.now) }
+        ensures variant { IsSome result ↔ (0 < length self.now.queue.items) }
+    {
+        self.queue.front()
     }
 
     /// Takes the oldest message.

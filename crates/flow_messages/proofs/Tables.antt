@@ -5,7 +5,7 @@ use Rattle.std.proofs.lemmas.List.Elements.{All-append}
 use Rattle.std.proofs.lemmas.Bool.{cases_eq}
 use mathlib.Core.List.{IsPrefix}
 use Rattle.std.specs.List.{All}
-use Rattle.std.specs.Prelude.{Option, Some, None, Result, Ok, Err, OnOk, IfErr, IfSome, IfNone, IsSome}
+use Rattle.std.specs.Prelude.{Option, Some, None, Result, Ok, Err, OnOk, IfErr, IfSome, IfNone, IsSome, ◌↔◌}
 use Rattle.flow_messages.specs.declared.message.Msg.{Msg}
 use Rattle.flow_messages.specs.declared.line.Line.{Line}
 use Rattle.flow_messages.specs.Signals.{Signal, signals, signal_of}
@@ -116,8 +116,13 @@ module _ (ls : List Line) (e : ℕ) (old new : Line) (h : e < length ls) (is : o
 pub line-held : (ls : List Line) (e : ℕ) (l : Line) → e < length ls → l ≡ get_or ls e l → held (view_of_lines ls) e ≡ length l.queue.items
 line-held ls e l h is = ap length (at_line-here coming_on ls e [] l h is) ∙ signals-length l.queue.items
 
+-- what is shown where there are some
+pub seen : {X : Type 0} (P Q : X → Type 0) (r : Option X) (n : ℕ) → IsSome r ↔ (0 < n) → ((x : X) → 0 < n → P x → Q x) → IfSome r P → IfSome r Q
+seen P Q (Some x) n iff f p = f x (iff.0 refl) p
+seen P Q None n iff f p = tt
+
 -- the oldest message on a line is the first that is certain to come
-first_queued : (ms : List Msg) (m : Msg) → 0 < length ms → m ≡ get_or ms 0 m → IsPrefix (signal_of m ∷ []) (signals ms)
+pub first_queued : (ms : List Msg) (m : Msg) → 0 < length ms → m ≡ get_or ms 0 m → IsPrefix (signal_of m ∷ []) (signals ms)
 first_queued [] m some is = absurd (omega arith)
 first_queued (n ∷ ms) m some is = (signals ms, ap (λ x. signal_of x ∷ signals ms) is ∙ sym (signals-cons n ms))
 

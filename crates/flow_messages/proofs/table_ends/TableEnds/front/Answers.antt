@@ -1,11 +1,7 @@
-use Rattle.std.proofs.Common.{ℕ, ◌<◌, length, arith, refl, Option, Some, None, IfSome, IsSome, ◌↔◌}
+use Rattle.std.proofs.Common.{◌<◌, length, arith}
 use borrow.Author.Tests.{ltb-true}
-use Rattle.flow_messages.proofs.Tables.{line-front}
+use Rattle.flow_messages.proofs.Tables.{seen, line-front}
 use Rattle.flow_messages.proofs.table_ends.TableEnds.front.Goals as goal
-
-seen : {X : Type 0} (P Q : X → Type 0) (r : Option X) (n : ℕ) → IsSome r ↔ (0 < n) → ((x : X) → 0 < n → P x → Q x) → IfSome r P → IfSome r Q
-seen P Q (Some x) n iff f p = f x (iff.0 refl) p
-seen P Q None n iff f p = tt
 
 pub returns : goal.returns
 returns c =
