@@ -7,7 +7,7 @@ use Rattle.flow_messages.specs.Signals.{signals, signal_of}
 use Rattle.flow_messages.specs.Ends.{View, held, SameEnds, LookedForRoom, LookedForMessages, Put, Taken}
 use Rattle.flow_messages.specs.Tables.{at_line}
 use Rattle.flow_messages.specs.TableLaws.{signals-length}
-use Rattle.flow_messages.proofs.Signals.{signals-cons, signals-snoc}
+use Rattle.flow_messages.proofs.Signals.{signals-nil, signals-cons, signals-snoc}
 use Rattle.flow_messages.proofs.Tables.{at_line-here, at_line-same, at_line-other, at_line-kept}
 use Rattle.flow_rings.specs.declared.ring.EdgeWriter.{EdgeWriter}
 use Rattle.flow_rings.specs.declared.ring.EdgeReader.{EdgeReader}
@@ -87,6 +87,13 @@ module _ (ws : List (Option EdgeWriter)) (rs : List (Option EdgeReader)) (e : �
 
   pub had_held : held from e ≡ length (certain_held r)
   had_held = ap length had_coming ∙ signals-length (certain_held r)
+
+  -- the first message that is certain to be held is the first that is certain to come
+  pub reader-front : (m : Msg) → IsPrefix (m ∷ []) (certain_held r) → IsPrefix (signal_of m ∷ []) (from.coming e)
+  reader-front m first =
+      let said = signals-prefix (m ∷ []) (certain_held r) first in
+      let one : signals (m ∷ []) ≡ signal_of m ∷ [] = signals-cons m [] ∙ ap (λ l. signal_of m ∷ l) signals-nil in
+      (said.0, ap (λ l. l ++ said.0) (sym one) ∙ said.1 ∙ sym had_coming)
 
   pub reader-empty : certain_held v ≡ [] → held till e ≡ 0
   reader-empty none = reader-held ∙ ap length none

@@ -36,6 +36,17 @@ impl EdgeReader {
         !self.ring.is_empty()
     }
 
+    /// The oldest message that was not taken, where the edge was seen to hold one. It stays.
+    #[inline(always)]
+    pub fn front(&self) -> Option<&Msg>
+        ensures { IfSome result (λ m. IsPrefix (m.now ∷ []) (certain_held self.now)) }
+    {
+        if self.ring.cached_slots() == 0 {
+            return None;
+        }
+        Some(self.ring.peek_known())
+    }
+
     /// How many messages are left to take, where the writer of this edge has left its mark. What was
     /// taken and what is left are then all that was ever put.
     pub fn after(&mut self, mark: &mut FinishedMark) -> usize

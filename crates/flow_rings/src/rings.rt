@@ -53,6 +53,22 @@ impl Ends for Rings {
     }
 
     #[inline(always)]
+    fn space(&mut self, edge: usize) -> usize {
+        match &mut self.writers[edge] {
+            Some(writer) => writer.space(),
+            None => unreachable!(),
+        }
+    }
+
+    #[inline(always)]
+    fn front(&self, edge: usize) -> Option<&Msg> {
+        match &self.readers[edge] {
+            Some(reader) => reader.front(),
+            None => unreachable!(),
+        }
+    }
+
+    #[inline(always)]
     fn put(&mut self, edge: usize, message: Msg) -> Result<(), Refused> {
         match &mut self.writers[edge] {
             Some(writer) => writer.put(message),

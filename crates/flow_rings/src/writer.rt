@@ -58,6 +58,17 @@ impl EdgeWriter {
         !self.ring.is_full()
     }
 
+    /// How many messages more the edge is certain to have room for. Only the reader makes more.
+    #[inline(always)]
+    pub fn space(&mut self) -> usize
+        ensures same { SameWriter self.old self.new }
+        ensures looked { (sent self.new ≡ sent self.old) ×
+            (certain_room self.old ≤ certain_room self.new) }
+        ensures value { result ≡ certain_room self.new }
+    {
+        self.ring.slots()
+    }
+
     /// Gives up the writer for a mark of all that it has put, or for none where the reader was dropped
     /// before. No `End` is put.
     pub fn finish(self) -> Option<FinishedMark>
