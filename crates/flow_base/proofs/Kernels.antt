@@ -1,13 +1,12 @@
 -- What a kernel makes, one step after another.
 use Rattle.std.proofs.Common.{◌≡◌, ℕ, ◌+◌, ◌<◌, ◌≤◌, Bool, true, false, cond, eqb, nat_lt, ◌||◌, zero, suc, List, [], ◌∷◌, ◌++◌, length, refl, sym, ◌∙◌, ap, subst, arith, append-nil, append_assoc, length-append, Option, Some, None, IfSome, IsSome, Result, Ok, Err, OnOk, IfErr, IsOk, IsErrAnd, ◌↔◌}
-use Rattle.std.proofs.lemmas.Bool.{or_parts}
 use Rattle.std.proofs.lemmas.Bool.Decides.{nat_tests}
 use mathlib.Core.List.{IsPrefix}
 use Rattle.kahn.specs.declared.want.Want.TheVariants.{Read, Write}
 use Rattle.kahn.specs.Processes.{Reads, Writes}
 use Rattle.kahn.proofs.History.{does_then}
 use Rattle.flow_messages.specs.Signals.{Signal, signal_of, carry, stop, ended}
-use Rattle.flow_messages.specs.Ends.{View, held, SameEnds, LookedForRoom, Put, Taken}
+use Rattle.flow_messages.specs.Ends.{View, held, SameEnds, LookedForRoom, LookedForMessages, Put, Taken}
 use Rattle.flow_messages.specs.declared.ends.Refused.{Refused}
 use Rattle.flow_messages.specs.declared.ends.Why.TheVariants.{Closed}
 use Rattle.flow_messages.specs.declared.message.Msg.{Msg}
@@ -16,8 +15,8 @@ use Rattle.flow_base.specs.Machines.{Machine, Taking, taken, given_of, Leads}
 use Rattle.flow_base.specs.Nodes.{node_state, given_in, moved}
 use Rattle.flow_base.specs.declared.node.Phase.TheVariants.{Working}
 use Rattle.flow_base.specs.Transducers.{Behaviour, BehaviourLaws}
-use Rattle.flow_base.specs.Visits.{read_from, sent_after, longer, Wrote, edge_of, IsNone, Went, WentOn, IsPlaced, IsWired}
-use Rattle.flow_base.proofs.Carried.{looked_room, same_ends_refl, prefix_same, prefix_then, read_append, sent_append, taken_received, taken_room, put_wrote}
+use Rattle.flow_base.specs.Visits.{read_from, sent_after, longer, Wrote, edge_of, LeavesAlone, Went, WentOn, IsPlaced, IsWired}
+use Rattle.flow_base.proofs.Carried.{looked_coming, looked_room, same_ends_refl, prefix_same, prefix_then, read_append, sent_append, taken_received, taken_room, put_wrote}
 use Rattle.flow_base.proofs.Reached.{opening_does, reached_does}
 use Rattle.flow_base.proofs.Visits.{Made, left_alone, not_at}
 
@@ -64,6 +63,25 @@ leads_on m p s next at t stop reads leads = absurd leads
 pub wired : {S : Type 0} (b : Behaviour S) (inputs outputs : List ℕ) (s : S) (v : View) → IsPlaced b inputs outputs s v → IsWired inputs outputs (b.inputs s) (b.outputs s) v
 wired b inputs outputs s v placed = record { each_input = placed.each_input; each_output = placed.each_output; reads = placed.reads; writes = placed.writes }
 
+-- who does nothing leaves all alone, and who looks for messages at an input does
+pub alone_still : (inputs outputs : List ℕ) (a : View) → LeavesAlone inputs outputs a a
+alone_still inputs outputs a = record {
+  traffic = record { sent = λ k. refl; received = λ k. refl };
+  more_coming = λ e. prefix_same (a.coming e) (a.coming e) refl;
+  more_room = λ e. omega arith;
+  coming = λ e none. refl;
+  room = λ e none. refl;
+}
+
+pub alone_looked : (inputs outputs : List ℕ) (v w : View) (p : ℕ) → p < length inputs → LookedForMessages v (edge_of inputs p) w → LeavesAlone inputs outputs v w
+alone_looked inputs outputs v w p there looked = record {
+  traffic = looked.traffic;
+  more_coming = λ e. looked_coming v w (edge_of inputs p) e looked;
+  more_room = λ e. omega (arith, looked.room e);
+  coming = λ e none. looked.coming e (not_at inputs e p none there);
+  room = λ e none. looked.room e;
+}
+
 -- one event more
 one_longer : {X : Type 0} (h : List X) (x : X) (n : ℕ) → length h ≡ n → length (h ++ x ∷ []) ≡ n + 1
 one_longer h x n counts = length-append h (x ∷ []) ∙ ap (λ l. l + 1) counts
@@ -82,13 +100,7 @@ module _ {S : Type 0} (b : Behaviour S) (inputs outputs : List ℕ) where
     carried = record { received = λ e. sym (append-nil (a.received e)); sent = λ e. refl };
     spares = record { coming = λ e none. prefix_same (a.coming e) (a.coming e) refl; room = λ e none. omega arith };
     counts = refl;
-    calm = λ h. record {
-      traffic = record { sent = λ k. refl; received = λ k. refl };
-      more_coming = λ e. prefix_same (a.coming e) (a.coming e) refl;
-      more_room = λ e. omega arith;
-      coming = λ e none. refl;
-      room = λ e none. refl;
-    };
+    calm = λ h. alone_still inputs outputs a;
   }
 
   module _ {s : S} {a : View} {t : S} {v : View} {n : ℕ} (went : Went inputs outputs b s a t v n) where
@@ -136,30 +148,32 @@ module _ {S : Type 0} (b : Behaviour S) (inputs outputs : List ℕ) where
           calm = λ h. absurd (omega arith);
         }
 
+    -- it only looked
+    pub went_alone : (w : View) → LeavesAlone inputs outputs v w → Went inputs outputs b s a t w n
+    went_alone w alone = record {
+      history = went.history;
+      does = went.does;
+      counts = went.counts;
+      carried = record {
+        received = λ e. alone.traffic.received e ∙ went.carried.received e;
+        sent = λ e. alone.traffic.sent e ∙ went.carried.sent e;
+      };
+      spares = record {
+        coming = λ e none. prefix_then (a.coming e) (v.coming e) (w.coming e) (went.spares.coming e none) (alone.more_coming e);
+        room = λ e none. omega (arith, went.spares.room e none, alone.more_room e);
+      };
+      calm = λ h. left_alone inputs outputs a v w (went.calm h) alone;
+    }
+
     -- it looked for room
     pub went_looked : (q : ℕ) (w : View) → q < length outputs → LookedForRoom v (edge_of outputs q) w → Went inputs outputs b s a t w n
-    went_looked q w there looked =
-        let other : (e : ℕ) → IsNone outputs e → w.room e ≡ v.room e = λ e none. looked.room e (not_at outputs e q none there) in
-        record {
-          history = went.history;
-          does = went.does;
-          carried = record {
-            received = λ e. looked.traffic.received e ∙ went.carried.received e;
-            sent = λ e. looked.traffic.sent e ∙ went.carried.sent e;
-          };
-          spares = record {
-            coming = λ e none. prefix_then (a.coming e) (v.coming e) (w.coming e) (went.spares.coming e none) (prefix_same (v.coming e) (w.coming e) (looked.coming e));
-            room = λ e none. omega (arith, went.spares.room e none, other e none);
-          };
-          counts = went.counts;
-          calm = λ h. left_alone inputs outputs a v w (went.calm h) (record {
-            traffic = looked.traffic;
-            more_coming = λ e. prefix_same (v.coming e) (w.coming e) (looked.coming e);
-            more_room = λ e. looked_room v w (edge_of outputs q) e looked;
-            coming = λ e none. looked.coming e;
-            room = other;
-          });
-        }
+    went_looked q w there looked = went_alone w (record {
+      traffic = looked.traffic;
+      more_coming = λ e. prefix_same (v.coming e) (w.coming e) (looked.coming e);
+      more_room = λ e. looked_room v w (edge_of outputs q) e looked;
+      coming = λ e none. looked.coming e;
+      room = λ e none. looked.room e (not_at outputs e q none there);
+    })
 
 -- where some steps were made, and where none were
 some_made : {X : Type 0} (h : List X) (n : ℕ) (any : Bool) → length h ≡ n → nat_lt 0 n ≡ any → any ≡ true → h ≡ [] → ⊥
@@ -232,6 +246,9 @@ module _ {S : Type 0} (b : Behaviour S) (inputs outputs : List ℕ) where
         };
         calm = λ is. left_alone inputs outputs a v w (first.calm (omega arith)) (next.calm (omega arith));
       }
+
+  pub went_on_alone : (m : ℕ) {s : S} {a : View} {t : S} {v : View} → WentOn inputs outputs b s a t v (nat_lt 0 m) → (w : View) → LeavesAlone inputs outputs v w → WentOn inputs outputs b s a t w (nat_lt 0 m)
+  went_on_alone m {s} {a} {t} {v} (n, went, is) w alone = (n, went_alone b inputs outputs went w alone, is)
 
   pub went_then : (m : ℕ) {s : S} {a : View} {t : S} {v : View} {u : S} {w : View} {k : ℕ} → WentOn inputs outputs b s a t v (nat_lt 0 m) → Went inputs outputs b t v u w k → WentOn inputs outputs b s a u w (nat_lt 0 (m + k))
   went_then m {s} {a} {t} {v} {u} {w} {k} (n, first, is) next = (n + k, went_further first next, sym (some_in_all n k) ∙ ap (λ any. any || nat_lt 0 k) is ∙ some_in_all m k)

@@ -1,10 +1,11 @@
 // Calls of ends that are certain to succeed.
 
-ghost use Rattle.std.specs.Prelude.{◌≡◌, ◌+◌, ◌<◌, ◌≤◌, true, [], ◌∷◌};
+ghost use Rattle.std.specs.Prelude.{◌≡◌, ℕ, ◌+◌, ◌<◌, ◌≤◌, true, List, [], ◌∷◌};
+ghost use Rattle.std.specs.List.{All};
 ghost use mathlib.Core.List.{IsPrefix};
 ghost use Rattle.flow_messages.specs.Signals.{Signal, signal_of};
-ghost use Rattle.flow_messages.specs.Ends.{Taken};
-ghost use Rattle.flow_base.specs.Visits.{Wrote};
+ghost use Rattle.flow_messages.specs.Ends.{SameEnds, Taken};
+ghost use Rattle.flow_base.specs.Visits.{LeavesAlone, Wrote};
 
 use flow_messages::{Ends, Msg};
 
@@ -29,4 +30,18 @@ pub fn put_in_space<E: Ends>(ends: &mut E, edge: usize, message: Msg)
     ensures room { (E.view ends.old).room edge ≤ (E.view ends.new).room edge + 1 }
 {
     let _ = ends.put(edge, message);
+}
+
+/// Looks for messages on all of these edges. Ends between threads are certain only of what they saw.
+#[inline(always)]
+pub(crate) fn look_for_messages<E: Ends>(ends: &mut E, edges: &[usize])
+    requires { All (λ e. (E.view ends.old).reads e ≡ true) edges.now }
+    ensures same { E.same ends.old ends.new }
+    ensures ends { SameEnds (E.view ends.old) (E.view ends.new) }
+    ensures looked { (outputs : List ℕ) →
+        LeavesAlone edges.now outputs (E.view ends.old) (E.view ends.new) }
+{
+    for edge in edges {
+        let _ = ends.ready(*edge);
+    }
 }

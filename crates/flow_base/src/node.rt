@@ -9,6 +9,7 @@ ghost use Rattle.flow_base.specs.Nodes.{closing, opened, want_for};
 ghost use Rattle.flow_base.specs.Visits.{IsPlaced, WentOn, Visited, BrokeOff};
 ghost use Rattle.flow_base.specs.declared.node.Phase.TheVariants.{Working};
 
+use crate::certain::look_for_messages;
 use crate::transducer::{Port, Side, Transducer};
 use crate::worker::{Ask, Stop, Worker};
 use flow_messages::{Ends, Msg};
@@ -219,6 +220,7 @@ impl<W: Worker> Node<W> {
         }
         let first = self.finish(inputs, outputs, ends, chunk)?;
         if let Phase::Working = self.phase {
+            look_for_messages(ends, inputs);
             let more = self.worker.kernel(inputs, outputs, ends, chunk - first);
             return Ok(first + more);
         }
