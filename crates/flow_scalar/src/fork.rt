@@ -1,10 +1,18 @@
 // Copies of each item.
 
-ghost use Rattle.std.specs.Prelude.{suc, ◌≡◌, ◌<◌, ◌≤◌};
-ghost use Rattle.flow_scalar.specs.ForkMachine.{fork_ports, idle};
+ghost use Rattle.std.specs.Prelude.{suc, ◌≡◌, ◌≢◌, ◌+◌, ◌<◌, ◌≤◌, ℕ, true, false, Ok, List, length, IfSome};
+ghost use Rattle.std.specs.List.{All};
+ghost use Rattle.flow_messages.specs.Cells.{cell_of, is_of};
+ghost use Rattle.flow_messages.specs.Ends.{View, SameEnds};
+ghost use Rattle.flow_messages.specs.Signals.{signal_of};
+ghost use Rattle.flow_base.specs.Machines.{Leads, on_kind};
+ghost use Rattle.flow_base.specs.Nodes.{NodeState, behaviour_of, node_state};
+ghost use Rattle.flow_base.specs.Visits.{edge_of, Went};
+ghost use Rattle.flow_base.specs.declared.node.Phase.TheVariants.{Working};
+ghost use Rattle.flow_scalar.specs.ForkMachine.{ForkPorts, Step, fork_ports, fork_machine, idle, holding};
 
-use flow_base::{Ask, Stop, Worker};
-use flow_messages::{Item, Kind};
+use flow_base::{Ask, Stop, Worker, put_in_space, take_front};
+use flow_messages::{Ends, Item, Kind, Msg};
 use snesl_data::FaultKind;
 use std::alloc::{AllocError, Global};
 
@@ -41,6 +49,99 @@ impl Fork {
             held: None,
             next: 0,
         }
+    }
+
+    // A copy of the item that the message is, where it is one of the kind.
+    #[inline(always)]
+    fn item_at(&self, message: &Msg) -> Option<Item>
+        requires scalar { self.now.kind ≢ Kind.Vec }
+        ensures scalar { IfSome result (λ x. is_of Kind.Vec (cell_of x) ≡ false) }
+        ensures leads { IfSome result (λ x. (others : ℕ) →
+            Leads (on_kind self.now.kind (λ y. Ok (holding y others))) (signal_of message.now)
+            (holding (cell_of x) others)) }
+    {
+        match message {
+            Msg::Item(item) => {
+                if !self.kind.fits(item) {
+                    return None;
+                }
+                Some(copy_of(item))
+            }
+            Msg::End => None,
+        }
+    }
+}
+
+// Whether no two edges are the same: each has a greater number than the one before it, as it has where the outputs were
+// joined in their order.
+fn rise(edges: &[usize]) -> bool
+    ensures { result ≡ true → (p q : ℕ) → p < q → q < length edges.now →
+        edge_of edges.now p < edge_of edges.now q }
+{
+    for port in 1..edges.len() {
+        if edges[port] <= edges[port - 1] {
+            return false;
+        }
+    }
+    true
+}
+
+// How many messages each of the outputs has room for. To look for room is no step.
+#[inline(always)]
+fn least_space<E: Ends>(ends: &mut E, outputs: &[usize]) -> usize
+    requires writes { All (λ e. (E.view ends.old).writes e ≡ true) outputs.now }
+    ensures same { E.same ends.old ends.new }
+    ensures ends { SameEnds (E.view ends.old) (E.view ends.new) }
+    ensures room { (q : ℕ) → q < length outputs.now →
+        result ≤ (E.view ends.new).room (edge_of outputs.now q) }
+    ensures went { (inputs : List ℕ) → (s : NodeState (ForkPorts × Step)) →
+        Went inputs outputs.now (behaviour_of fork_machine) s (E.view ends.old) s
+        (E.view ends.new) 0 }
+{
+    let mut least = usize::MAX;
+    for port in 0..outputs.len() {
+        least = least.min(ends.space(outputs[port]));
+    }
+    least
+}
+
+// Another item that carries the same. It takes no memory, and so cannot fail.
+#[inline(always)]
+fn copy_of(item: &Item) -> Item
+    requires scalar { is_of Kind.Vec (cell_of item.now) ≡ false }
+    ensures { cell_of result ≡ cell_of item.now }
+{
+    match item {
+        Item::Unit => Item::Unit,
+        Item::Bool(truth) => Item::Bool(*truth),
+        Item::Int(number) => Item::Int(*number),
+        Item::Vec(_) => unreachable!(),
+    }
+}
+
+// Puts a copy of the item on each output, where there is room. These are the steps of a fork that holds the item.
+#[inline(always)]
+fn put_on_each<E: Ends>(ends: &mut E, outputs: &[usize], item: &Item)
+    requires scalar { is_of Kind.Vec (cell_of item.now) ≡ false }
+    requires writes { All (λ e. (E.view ends.old).writes e ≡ true) outputs.now }
+    requires rise { (p q : ℕ) → p < q → q < length outputs.now →
+        edge_of outputs.now p < edge_of outputs.now q }
+    requires room { (q : ℕ) → q < length outputs.now →
+        0 < (E.view ends.old).room (edge_of outputs.now q) }
+    ensures same { E.same ends.old ends.new }
+    ensures ends { SameEnds (E.view ends.old) (E.view ends.new) }
+    ensures room { (q : ℕ) → q < length outputs.now →
+        (E.view ends.old).room (edge_of outputs.now q) ≤
+        (E.view ends.new).room (edge_of outputs.now q) + 1 }
+    ensures went { (inputs : List ℕ) → (p : ForkPorts) → suc p.others ≡ length outputs.now →
+        (at : ℕ) → (s : NodeState (ForkPorts × Step)) → (a : View) → (n : ℕ) →
+        Went inputs outputs.now (behaviour_of fork_machine) s a
+        (node_state (p, holding (cell_of item.now) p.others) Working at) (E.view ends.old) n →
+        Went inputs outputs.now (behaviour_of fork_machine) s a
+        (node_state (p, idle) Working at) (E.view ends.new) (n + length outputs.now) }
+{
+    for port in 0..outputs.len() {
+        put_in_space(ends, outputs[port], Msg::Item(copy_of(item)));
     }
 }
 
@@ -106,5 +207,45 @@ impl Worker for Fork {
             Some(item) => Ok(item),
             None => unreachable!(),
         }
+    }
+
+    fn is_between(&self) -> bool {
+        self.held.is_none()
+    }
+
+    #[inline(always)]
+    fn kernel<E: Ends>(
+        &mut self,
+        inputs: &[usize],
+        outputs: &[usize],
+        ends: &mut E,
+        most: usize,
+    ) -> usize {
+        // An instance is a step for each output and one more, and a copy of a vector takes memory.
+        if most <= outputs.len() || self.held.is_some() || matches!(self.kind, Kind::Vec) {
+            return 0;
+        }
+        let from = inputs[0];
+        // Where nothing came, no output is looked at.
+        if ends.front(from).is_none() {
+            return 0;
+        }
+        // The room of an edge is certain for one output alone.
+        if !rise(outputs) {
+            return 0;
+        }
+        let steps = outputs.len() + 1;
+        let whole = least_space(ends, outputs).min(most / steps);
+        for made in 0..whole {
+            let Some(message) = ends.front(from) else {
+                return steps * made;
+            };
+            let Some(item) = self.item_at(message) else {
+                return steps * made;
+            };
+            take_front(ends, from);
+            put_on_each(ends, outputs, &item);
+        }
+        steps * whole
     }
 }
