@@ -1,10 +1,12 @@
 // How many elements each segment has.
 
-ghost use Rattle.std.specs.Prelude.{◌≡◌};
-ghost use Rattle.flow_scalar.specs.LengthMachine.{one_more, length_ended};
+ghost use Rattle.std.specs.Prelude.{◌≡◌, IfSome};
+ghost use Rattle.flow_messages.specs.Signals.{signal_of};
+ghost use Rattle.flow_base.specs.Machines.{Leads};
+ghost use Rattle.flow_scalar.specs.LengthMachine.{one_more, length_ended, length_counts};
 
-use flow_base::{Ask, Stop, Worker};
-use flow_messages::{Item, Kind};
+use flow_base::{Ask, Stop, Worker, put_in_space, take_front};
+use flow_messages::{Ends, Item, Kind, Msg};
 use snesl_data::{Dialect, FaultKind};
 use std::alloc::AllocError;
 
@@ -47,6 +49,27 @@ impl Count {
             Ok(Count::Due(count as i128))
         } else {
             Err(FaultKind::Overflow)
+        }
+    }
+
+    // Where the message leads after so many elements, where it leads on.
+    #[inline(always)]
+    fn after_message(dialect: Dialect, count: u128, message: &Msg) -> Option<Count>
+        ensures { IfSome result (λ next.
+            Leads (length_counts dialect count) (signal_of message.now) next) }
+    {
+        match message {
+            Msg::Item(Item::Bool(last)) => {
+                if *last {
+                    match Count::after_end(dialect, count) {
+                        Ok(due) => Some(due),
+                        Err(_) => None,
+                    }
+                } else {
+                    Some(Count::after_element(dialect, count))
+                }
+            }
+            _ => None,
         }
     }
 }
@@ -125,5 +148,42 @@ impl Worker for Length {
         };
         self.count = Count::Counting(0);
         Ok(Item::Int(number))
+    }
+
+    // Each round is one step, so it goes on from any state, and within a segment too.
+    #[inline(always)]
+    fn kernel<E: Ends>(
+        &mut self,
+        inputs: &[usize],
+        outputs: &[usize],
+        ends: &mut E,
+        most: usize,
+    ) -> usize {
+        let from = inputs[0];
+        let to = outputs[0];
+        let mut room = ends.space(to);
+        for made in 0..most {
+            match self.count {
+                Count::Counting(count) => {
+                    let Some(message) = ends.front(from) else {
+                        return made;
+                    };
+                    let Some(next) = Count::after_message(self.dialect, count, message) else {
+                        return made;
+                    };
+                    take_front(ends, from);
+                    self.count = next;
+                }
+                Count::Due(number) => {
+                    if room == 0 {
+                        return made;
+                    }
+                    put_in_space(ends, to, Msg::Item(Item::Int(number)));
+                    room -= 1;
+                    self.count = Count::Counting(0);
+                }
+            }
+        }
+        most
     }
 }
