@@ -1,10 +1,15 @@
 // Reductions of segments.
 
-ghost use Rattle.std.specs.Prelude.{◌≡◌};
+ghost use Rattle.std.specs.Prelude.{◌≡◌, IfSome};
+ghost use Rattle.flow_messages.specs.Signals.{signal_of};
+ghost use Rattle.flow_base.specs.Machines.{Leads, on_kind};
+ghost use Rattle.flow_scalar.specs.Scalars.{scalar_in};
+ghost use Rattle.flow_scalar.specs.ReduceMachine.{at_flag, at_element, reduced_kind};
+ghost use Rattle.flow_scalar.specs.declared.reduce.Stage.TheVariants.{Flag as FlagState};
 
 use crate::scalars::{item_of, kind_of, scalar_of};
-use flow_base::{Ask, Stop, Worker};
-use flow_messages::{Item, Kind};
+use flow_base::{Ask, Stop, Worker, put_in_space, take_front};
+use flow_messages::{Ends, Item, Kind, Msg};
 use snesl_data::{Dialect, FaultKind};
 use snesl_operators::{Reduction, Scalar};
 use std::alloc::AllocError;
@@ -41,7 +46,7 @@ enum Stage {
 impl Stage {
     ghost use Rattle.flow_messages.specs.Cells.{cell_of};
     ghost use Rattle.flow_base.specs.Machines.{taken, given_of};
-    ghost use Rattle.flow_scalar.specs.ReduceMachine.{at_flag, reduce_move};
+    ghost use Rattle.flow_scalar.specs.ReduceMachine.{reduce_move};
 
     // Where the item leads that comes as a flag, after elements that reduce to what is so far.
     #[inline(always)]
@@ -71,6 +76,20 @@ impl Stage {
             Stage::Value(_) => Err(FaultKind::Shape),
         }
     }
+
+    // Where the message leads that comes as a flag, where it leads on.
+    #[inline(always)]
+    fn after_flag(so_far: Option<Scalar>, message: &Msg) -> Option<Stage>
+        ensures { IfSome result (λ next. Leads (at_flag so_far) (signal_of message.now) next) }
+    {
+        match message {
+            Msg::Item(item) => match Stage::at_flag(so_far, item) {
+                Ok(next) => Some(next),
+                Err(_) => None,
+            },
+            Msg::End => None,
+        }
+    }
 }
 
 impl Reduce {
@@ -83,6 +102,27 @@ impl Reduce {
             dialect,
             reduction,
             stage: Stage::Start,
+        }
+    }
+
+    // What the elements so far and the one in the message reduce to, where it leads on.
+    #[inline(always)]
+    #[tactic(auto, using(crate::specs::laws::Reduce::element_is))]
+    fn more_at(&self, so_far: Option<Scalar>, message: &Msg) -> Option<Option<Scalar>>
+        ensures { IfSome result (λ more.
+            Leads (on_kind (reduced_kind self.now.reduction)
+            (λ x. at_element self.now.dialect self.now.reduction so_far (scalar_in x)))
+            (signal_of message.now) (FlagState more)) }
+    {
+        match message {
+            Msg::Item(item) => match scalar_of(item) {
+                Some(element) => match self.reduction.more(self.dialect, so_far, element) {
+                    Ok(more) => Some(more),
+                    Err(_) => None,
+                },
+                None => None,
+            },
+            Msg::End => None,
         }
     }
 }
@@ -149,5 +189,61 @@ impl Worker for Reduce {
             }
             _ => unreachable!(),
         }
+    }
+
+    fn is_between(&self) -> bool {
+        matches!(self.stage, Stage::Start | Stage::Flag(_))
+    }
+
+    // Each round is two steps: a flag with its element, or the end of a segment with its value.
+    #[inline(always)]
+    fn kernel<E: Ends>(
+        &mut self,
+        inputs: &[usize],
+        outputs: &[usize],
+        ends: &mut E,
+        most: usize,
+    ) -> usize {
+        let mut so_far = match self.stage {
+            Stage::Start => self.reduction.nothing(),
+            Stage::Flag(so_far) => so_far,
+            _ => return 0,
+        };
+        let (flags, elements, to) = (inputs[0], inputs[1], outputs[0]);
+        // Two messages of one edge are not seen at once.
+        if flags == elements {
+            return 0;
+        }
+        let whole = ends.space(to).min(most / 2);
+        for made in 0..whole {
+            let Some(flag) = ends.front(flags) else {
+                return 2 * made;
+            };
+            let Some(reached) = Stage::after_flag(so_far, flag) else {
+                return 2 * made;
+            };
+            match reached {
+                Stage::Element(before) => {
+                    let Some(element) = ends.front(elements) else {
+                        return 2 * made;
+                    };
+                    let Some(more) = self.more_at(before, element) else {
+                        return 2 * made;
+                    };
+                    take_front(ends, flags);
+                    take_front(ends, elements);
+                    so_far = more;
+                    self.stage = Stage::Flag(more);
+                }
+                Stage::Value(value) => {
+                    take_front(ends, flags);
+                    put_in_space(ends, to, Msg::Item(item_of(value)));
+                    so_far = self.reduction.nothing();
+                    self.stage = Stage::Start;
+                }
+                _ => return 2 * made,
+            }
+        }
+        2 * whole
     }
 }
