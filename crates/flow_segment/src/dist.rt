@@ -2,8 +2,9 @@
 
 ghost use Rattle.std.specs.Prelude.{◌≡◌};
 
-use flow_base::{Ask, Stop, Worker};
-use flow_messages::{Item, Kind};
+use crate::fronts::{flag_at, scalar_at, scalar_copy};
+use flow_base::{Ask, Stop, Worker, put_in_space, take_front};
+use flow_messages::{Ends, Item, Kind, Msg};
 use snesl_data::FaultKind;
 use std::alloc::{AllocError, Global};
 
@@ -111,5 +112,60 @@ impl Worker for Dist {
         };
         self.copies = false;
         Ok(copy)
+    }
+
+    fn is_between(&self) -> bool {
+        !self.copies
+    }
+
+    // A flag of an element is two steps, and an item or a flag that ends a segment is one.
+    #[inline(always)]
+    fn kernel<E: Ends>(
+        &mut self,
+        inputs: &[usize],
+        outputs: &[usize],
+        ends: &mut E,
+        most: usize,
+    ) -> usize {
+        if self.copies {
+            return 0;
+        }
+        let items = inputs[0];
+        let flags = inputs[1];
+        let to = outputs[0];
+        let mut made = 0;
+        for _ in 0..ends.space(to).min(most / 2) {
+            let Some(held) = &self.held else {
+                let Some(message) = ends.front(items) else {
+                    return made;
+                };
+                let Some(item) = scalar_at(self.kind, message) else {
+                    return made;
+                };
+                take_front(ends, items);
+                self.held = Some(item);
+                made += 1;
+                continue;
+            };
+            let Some(message) = ends.front(flags) else {
+                return made;
+            };
+            let Some(last) = flag_at(message) else {
+                return made;
+            };
+            if last {
+                take_front(ends, flags);
+                self.held = None;
+                made += 1;
+                continue;
+            }
+            let Some(copy) = scalar_copy(held) else {
+                return made;
+            };
+            take_front(ends, flags);
+            put_in_space(ends, to, Msg::Item(copy));
+            made += 2;
+        }
+        made
     }
 }
