@@ -2,8 +2,9 @@
 
 ghost use Rattle.std.specs.Prelude.{◌≡◌};
 
-use flow_base::{Ask, Stop, Worker};
-use flow_messages::{Item, Kind};
+use crate::fronts::{flag_at, scalar_at};
+use flow_base::{Ask, Stop, Worker, put_in_space, take_front};
+use flow_messages::{Ends, Item, Kind, Msg};
 use snesl_data::FaultKind;
 use std::alloc::AllocError;
 use std::mem;
@@ -110,5 +111,54 @@ impl Worker for Pack {
             Pair::Copy(item) => Ok(item),
             _ => unreachable!(),
         }
+    }
+
+    fn is_between(&self) -> bool {
+        matches!(self.pair, Pair::Start)
+    }
+
+    // A pair that is kept is three steps, and one that is not is two.
+    #[inline(always)]
+    fn kernel<E: Ends>(
+        &mut self,
+        inputs: &[usize],
+        outputs: &[usize],
+        ends: &mut E,
+        most: usize,
+    ) -> usize {
+        let Pair::Start = self.pair else {
+            return 0;
+        };
+        let truths = inputs[0];
+        let items = inputs[1];
+        // Two messages of one edge are not seen at once.
+        if truths == items {
+            return 0;
+        }
+        let to = outputs[0];
+        let mut made = 0;
+        for _ in 0..ends.space(to).min(most / 3) {
+            let Some(first) = ends.front(truths) else {
+                return made;
+            };
+            let Some(keep) = flag_at(first) else {
+                return made;
+            };
+            let Some(second) = ends.front(items) else {
+                return made;
+            };
+            let Some(item) = scalar_at(self.kind, second) else {
+                return made;
+            };
+            take_front(ends, truths);
+            take_front(ends, items);
+            if !keep {
+                made += 2;
+                continue;
+            }
+            put_in_space(ends, to, Msg::Item(item));
+            made += 3;
+        }
+        made
     }
 }
