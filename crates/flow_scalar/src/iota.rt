@@ -1,9 +1,12 @@
 // The numbers from 0 on that are below a number.
 
-ghost use Rattle.std.specs.Prelude.{◌≡◌};
+ghost use Rattle.std.specs.Prelude.{◌≡◌, ◌≤ℤ◌, pos, true, [], ◌∷◌, IfSome};
+ghost use mathlib.Core.List.{IsPrefix};
+ghost use Rattle.flow_messages.specs.Cells.{int};
+ghost use Rattle.flow_messages.specs.Signals.{carry, signal_of};
 ghost use Rattle.flow_scalar.specs.IotaMachine.{number_after};
 
-use flow_base::{Ask, Stop, Worker, put_in_space};
+use flow_base::{Ask, Stop, Worker, put_in_space, take_front};
 use flow_messages::{Ends, Item, Kind, Msg};
 use snesl_data::FaultKind;
 use std::alloc::AllocError;
@@ -23,6 +26,30 @@ pub enum Iota {
     Flag { next: i128, end: i128 },
     /// The number `next` is due, and then a flag.
     Number { next: i128, end: i128 },
+}
+
+// The integer that the message is, where it is one from 0 on.
+#[inline(always)]
+fn count_of(message: &Msg) -> Option<i128>
+    ensures { IfSome result (λ n. (signal_of message.now ≡ carry (int n)) × (pos 0 ≤ℤ n)) }
+{
+    match message {
+        Msg::Item(Item::Int(count)) if *count >= 0 => Some(*count),
+        _ => None,
+    }
+}
+
+// The integer at the front of this edge, where one from 0 on is there.
+#[inline(always)]
+fn count_at<E: Ends>(ends: &E, edge: usize) -> Option<i128>
+    requires { (E.view ends.now).reads edge ≡ true }
+    ensures { IfSome result (λ n.
+        IsPrefix (carry (int n) ∷ []) ((E.view ends.now).coming edge) × (pos 0 ≤ℤ n)) }
+{
+    match ends.front(edge) {
+        Some(message) => count_of(message),
+        None => None,
+    }
 }
 
 impl Iota {
@@ -116,22 +143,24 @@ impl Worker for Iota {
         }
     }
 
+    // The first integer is read by a single step.
     fn is_between(&self) -> bool {
-        !matches!(self, Iota::Number { .. })
+        matches!(self, Iota::Flag { .. })
     }
 
-    // The pairs of a flag and a number that are left of a segment.
+    // Each round is two steps: a flag and a number, or the flag that ends a segment and the next integer.
     #[inline(always)]
     fn kernel<E: Ends>(
         &mut self,
-        _inputs: &[usize],
+        inputs: &[usize],
         outputs: &[usize],
         ends: &mut E,
         most: usize,
     ) -> usize {
-        let Iota::Flag { next: first, end } = *self else {
+        let Iota::Flag { mut next, mut end } = *self else {
             return 0;
         };
+        let from = inputs[0];
         let flags = outputs[0];
         let numbers = outputs[1];
         // Room for two messages on one edge is not seen at once.
@@ -139,15 +168,21 @@ impl Worker for Iota {
             return 0;
         }
         let whole = ends.space(flags).min(ends.space(numbers)).min(most / 2);
-        let mut next = first;
         for made in 0..whole {
-            if next >= end {
-                *self = Iota::Flag { next, end };
-                return 2 * made;
+            if next < end {
+                put_in_space(ends, flags, Msg::Item(Item::Bool(false)));
+                put_in_space(ends, numbers, Msg::Item(Item::Int(next)));
+                next += 1;
+            } else {
+                let Some(count) = count_at(ends, from) else {
+                    *self = Iota::Flag { next, end };
+                    return 2 * made;
+                };
+                put_in_space(ends, flags, Msg::Item(Item::Bool(true)));
+                take_front(ends, from);
+                next = 0;
+                end = count;
             }
-            put_in_space(ends, flags, Msg::Item(Item::Bool(false)));
-            put_in_space(ends, numbers, Msg::Item(Item::Int(next)));
-            next += 1;
         }
         *self = Iota::Flag { next, end };
         2 * whole

@@ -7,12 +7,12 @@ use Rattle.flow_scalar.specs.declared.iota.Iota.TheVariants.{Flag}
 use Rattle.flow_scalar.specs.IotaMachine.{iota_machine, iota_view}
 use Rattle.flow_scalar.proofs.iota.IotaWorker.kernel.Given as goal
 
--- the pairs so far, one in each round
+-- the pairs of steps so far, one in each round
 abbrev pub invariant-loop-made : goal.invariant-loop-made
 invariant-loop-made g l = let view = g.E.Ends.view in record {
   same : g.E.Ends.same l.fn.ends l.ends;
   ends : SameEnds (view l.fn.ends) (view l.ends);
   flag_room : l.whole ≤ (view l.ends).room l.flags + l.made;
   number_room : l.whole ≤ (view l.ends).room l.numbers + l.made;
-  went : (at : ℕ) → Went l.fn._inputs l.fn.outputs (behaviour_of iota_machine) (node_state (iota_view l.fn.self) Working at) (view l.fn.ends) (node_state (iota_view (Flag l.next l.end)) Working at) (view l.ends) (2 * l.made);
+  went : (at : ℕ) → Went l.fn.inputs l.fn.outputs (behaviour_of iota_machine) (node_state (iota_view l.fn.self) Working at) (view l.fn.ends) (node_state (iota_view (Flag l.next l.end)) Working at) (view l.ends) (2 * l.made);
 }
