@@ -162,17 +162,19 @@ impl Worker for Length {
         let from = inputs[0];
         let to = outputs[0];
         let mut room = ends.space(to);
+        // A copy, which need not be read back in each round.
+        let mut count = self.count;
         for made in 0..most {
-            match self.count {
-                Count::Counting(count) => {
+            count = match count {
+                Count::Counting(elements) => {
                     let Some(message) = ends.front(from) else {
                         return made;
                     };
-                    let Some(next) = Count::after_message(self.dialect, count, message) else {
+                    let Some(next) = Count::after_message(self.dialect, elements, message) else {
                         return made;
                     };
                     take_front(ends, from);
-                    self.count = next;
+                    next
                 }
                 Count::Due(number) => {
                     if room == 0 {
@@ -180,9 +182,10 @@ impl Worker for Length {
                     }
                     put_in_space(ends, to, Msg::Item(Item::Int(number)));
                     room -= 1;
-                    self.count = Count::Counting(0);
+                    Count::Counting(0)
                 }
-            }
+            };
+            self.count = count;
         }
         most
     }

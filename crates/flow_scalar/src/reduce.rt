@@ -1,10 +1,11 @@
 // Reductions of segments.
 
 ghost use Rattle.std.specs.Prelude.{◌≡◌, IfSome};
+ghost use Rattle.std.specs.Option.{IsSomeAnd};
 ghost use Rattle.flow_messages.specs.Signals.{signal_of};
 ghost use Rattle.flow_base.specs.Machines.{Leads, on_kind};
 ghost use Rattle.flow_scalar.specs.Scalars.{scalar_in};
-ghost use Rattle.flow_scalar.specs.ReduceMachine.{at_flag, at_element, reduced_kind};
+ghost use Rattle.flow_scalar.specs.ReduceMachine.{at_element, reduced_kind};
 ghost use Rattle.flow_scalar.specs.declared.reduce.Stage.TheVariants.{Flag as FlagState};
 
 use crate::scalars::{item_of, kind_of, scalar_of};
@@ -46,7 +47,7 @@ enum Stage {
 impl Stage {
     ghost use Rattle.flow_messages.specs.Cells.{cell_of};
     ghost use Rattle.flow_base.specs.Machines.{taken, given_of};
-    ghost use Rattle.flow_scalar.specs.ReduceMachine.{reduce_move};
+    ghost use Rattle.flow_scalar.specs.ReduceMachine.{at_flag, reduce_move, LeadsAtFlag};
 
     // Where the item leads that comes as a flag, after elements that reduce to what is so far.
     #[inline(always)]
@@ -77,17 +78,23 @@ impl Stage {
         }
     }
 
-    // Where the message leads that comes as a flag, where it leads on.
+    // Where the message leads where a flag comes, if it is there and leads on.
     #[inline(always)]
-    fn after_flag(so_far: Option<Scalar>, message: &Msg) -> Option<Stage>
-        ensures { IfSome result (λ next. Leads (at_flag so_far) (signal_of message.now) next) }
+    fn after_flag(self, reduction: Reduction, message: Option<&Msg>) -> Option<Stage>
+        ensures { IfSome result (λ next. IsSomeAnd message.entry (λ m.
+            LeadsAtFlag reduction self (signal_of m.now) next)) }
     {
-        match message {
-            Msg::Item(item) => match Stage::at_flag(so_far, item) {
-                Ok(next) => Some(next),
-                Err(_) => None,
-            },
-            Msg::End => None,
+        let Some(Msg::Item(item)) = message else {
+            return None;
+        };
+        let next = match self {
+            Stage::Start => Stage::at_flag(reduction.nothing(), item),
+            Stage::Flag(so_far) => Stage::at_flag(so_far, item),
+            _ => return None,
+        };
+        match next {
+            Ok(next) => Some(next),
+            Err(_) => None,
         }
     }
 }
@@ -105,24 +112,24 @@ impl Reduce {
         }
     }
 
-    // What the elements so far and the one in the message reduce to, where it leads on.
+    // What the elements so far and the one in the message reduce to, if it is there and leads on.
     #[inline(always)]
     #[tactic(auto, using(crate::specs::laws::Reduce::element_is))]
-    fn more_at(&self, so_far: Option<Scalar>, message: &Msg) -> Option<Option<Scalar>>
-        ensures { IfSome result (λ more.
+    fn more_at(&self, so_far: Option<Scalar>, message: Option<&Msg>) -> Option<Option<Scalar>>
+        ensures { IfSome result (λ more. IsSomeAnd message.entry (λ m.
             Leads (on_kind (reduced_kind self.now.reduction)
             (λ x. at_element self.now.dialect self.now.reduction so_far (scalar_in x)))
-            (signal_of message.now) (FlagState more)) }
+            (signal_of m.now) (FlagState more))) }
     {
-        match message {
-            Msg::Item(item) => match scalar_of(item) {
-                Some(element) => match self.reduction.more(self.dialect, so_far, element) {
-                    Ok(more) => Some(more),
-                    Err(_) => None,
-                },
-                None => None,
+        let Some(Msg::Item(item)) = message else {
+            return None;
+        };
+        match scalar_of(item) {
+            Some(element) => match self.reduction.more(self.dialect, so_far, element) {
+                Ok(more) => Some(more),
+                Err(_) => None,
             },
-            Msg::End => None,
+            None => None,
         }
     }
 }
@@ -204,45 +211,35 @@ impl Worker for Reduce {
         ends: &mut E,
         most: usize,
     ) -> usize {
-        let mut so_far = match self.stage {
-            Stage::Start => self.reduction.nothing(),
-            Stage::Flag(so_far) => so_far,
-            _ => return 0,
-        };
         let (flags, elements, to) = (inputs[0], inputs[1], outputs[0]);
         // Two messages of one edge are not seen at once.
         if flags == elements {
             return 0;
         }
         let whole = ends.space(to).min(most / 2);
+        // A copy, which need not be read back in each round.
+        let mut stage = self.stage;
         for made in 0..whole {
-            let Some(flag) = ends.front(flags) else {
+            let Some(reached) = stage.after_flag(self.reduction, ends.front(flags)) else {
                 return 2 * made;
             };
-            let Some(reached) = Stage::after_flag(so_far, flag) else {
-                return 2 * made;
-            };
-            match reached {
+            stage = match reached {
                 Stage::Element(before) => {
-                    let Some(element) = ends.front(elements) else {
-                        return 2 * made;
-                    };
-                    let Some(more) = self.more_at(before, element) else {
+                    let Some(more) = self.more_at(before, ends.front(elements)) else {
                         return 2 * made;
                     };
                     take_front(ends, flags);
                     take_front(ends, elements);
-                    so_far = more;
-                    self.stage = Stage::Flag(more);
+                    Stage::Flag(more)
                 }
                 Stage::Value(value) => {
                     take_front(ends, flags);
                     put_in_space(ends, to, Msg::Item(item_of(value)));
-                    so_far = self.reduction.nothing();
-                    self.stage = Stage::Start;
+                    Stage::Start
                 }
                 _ => return 2 * made,
-            }
+            };
+            self.stage = stage;
         }
         2 * whole
     }

@@ -2,7 +2,7 @@
 
 ghost use Rattle.std.specs.Prelude.{◌≡◌};
 
-use crate::fronts::{flag_at, scalar_at, scalar_copy};
+use crate::fronts::{flag_in_front, scalar_copy, scalar_in_front};
 use flow_base::{Ask, Stop, Worker, put_in_space, take_front};
 use flow_messages::{Ends, Item, Kind, Msg};
 use snesl_data::FaultKind;
@@ -136,10 +136,7 @@ impl Worker for Dist {
         let mut made = 0;
         for _ in 0..ends.space(to).min(most / 2) {
             let Some(held) = &self.held else {
-                let Some(message) = ends.front(items) else {
-                    return made;
-                };
-                let Some(item) = scalar_at(self.kind, message) else {
+                let Some(item) = scalar_in_front(ends, items, self.kind) else {
                     return made;
                 };
                 take_front(ends, items);
@@ -147,10 +144,7 @@ impl Worker for Dist {
                 made += 1;
                 continue;
             };
-            let Some(message) = ends.front(flags) else {
-                return made;
-            };
-            let Some(last) = flag_at(message) else {
+            let Some(last) = flag_in_front(ends, flags) else {
                 return made;
             };
             if last {

@@ -1,29 +1,34 @@
-// What a message at the front of an edge is, for whole instances.
+// What is in front of an edge, for whole instances. It stays there.
 
-ghost use Rattle.std.specs.Prelude.{◌≡◌, true, IfSome};
+ghost use Rattle.std.specs.Prelude.{◌≡◌, true, [], ◌∷◌, IfSome};
+ghost use mathlib.Core.List.{IsPrefix};
 ghost use Rattle.flow_messages.specs.Cells.{cell_of, flag, is_of};
-ghost use Rattle.flow_messages.specs.Signals.{carry, signal_of};
+ghost use Rattle.flow_messages.specs.Signals.{carry};
 
-use flow_messages::{Item, Kind, Msg};
+use flow_messages::{Ends, Item, Kind, Msg};
 
-// The flag that the message is, where it is one.
+// The flag in front of the edge, where one is there.
 #[inline(always)]
-pub(crate) fn flag_at(message: &Msg) -> Option<bool>
-    ensures { IfSome result (λ truth. signal_of message.now ≡ carry (flag truth)) }
+pub(crate) fn flag_in_front<E: Ends>(ends: &E, edge: usize) -> Option<bool>
+    requires { (E.view ends.now).reads edge ≡ true }
+    ensures { IfSome result (λ truth.
+        IsPrefix (carry (flag truth) ∷ []) ((E.view ends.now).coming edge)) }
 {
-    match message {
+    match ends.front(edge)? {
         Msg::Item(Item::Bool(truth)) => Some(*truth),
         _ => None,
     }
 }
 
-// A copy of the item that the message is, where it is one of this kind and no vector, whose copy takes memory.
+// A copy of the item in front of the edge, where one of this kind is there and no vector, whose copy takes memory.
 #[inline(always)]
-pub(crate) fn scalar_at(kind: Kind, message: &Msg) -> Option<Item>
-    ensures { IfSome result (λ item. (signal_of message.now ≡ carry (cell_of item)) ×
+pub(crate) fn scalar_in_front<E: Ends>(ends: &E, edge: usize, kind: Kind) -> Option<Item>
+    requires { (E.view ends.now).reads edge ≡ true }
+    ensures { IfSome result (λ item.
+        IsPrefix (carry (cell_of item) ∷ []) ((E.view ends.now).coming edge) ×
         (is_of kind (cell_of item) ≡ true)) }
 {
-    match (kind, message) {
+    match (kind, ends.front(edge)?) {
         (Kind::Unit, Msg::Item(Item::Unit)) => Some(Item::Unit),
         (Kind::Bool, Msg::Item(Item::Bool(truth))) => Some(Item::Bool(*truth)),
         (Kind::Int, Msg::Item(Item::Int(number))) => Some(Item::Int(*number)),

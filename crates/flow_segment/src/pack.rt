@@ -2,7 +2,7 @@
 
 ghost use Rattle.std.specs.Prelude.{◌≡◌};
 
-use crate::fronts::{flag_at, scalar_at};
+use crate::fronts::{flag_in_front, scalar_in_front};
 use flow_base::{Ask, Stop, Worker, put_in_space, take_front};
 use flow_messages::{Ends, Item, Kind, Msg};
 use snesl_data::FaultKind;
@@ -138,16 +138,10 @@ impl Worker for Pack {
         let to = outputs[0];
         let mut made = 0;
         for _ in 0..ends.space(to).min(most / 3) {
-            let Some(first) = ends.front(truths) else {
+            let Some(keep) = flag_in_front(ends, truths) else {
                 return made;
             };
-            let Some(keep) = flag_at(first) else {
-                return made;
-            };
-            let Some(second) = ends.front(items) else {
-                return made;
-            };
-            let Some(item) = scalar_at(self.kind, second) else {
+            let Some(item) = scalar_in_front(ends, items, self.kind) else {
                 return made;
             };
             take_front(ends, truths);

@@ -1,4 +1,4 @@
-use Rattle.std.proofs.Common.{rules, ◌≡◌, ℕ, zero, suc, ◌+◌, ◌<◌, ◌≤◌, length, refl, sym, ap, subst, arith}
+use Rattle.std.proofs.Common.{rules, ◌≡◌, ℕ, zero, suc, ◌+◌, ◌<◌, ◌≤◌, length, refl, sym, ◌∙◌, ap, subst, arith}
 use Rattle.std.specs.Int.{w128}
 use mir.Val.{to_z, of_z}
 use Rattle.kahn.specs.declared.want.Want.TheVariants.{Read}
@@ -15,7 +15,6 @@ use Rattle.flow_base.proofs.Kernels.{went_none, went_looked, went_read, went_wri
 use Rattle.flow_scalar.specs.LengthMachine.{length_counts, length_move, length_machine, length_view}
 use Rattle.flow_scalar.specs.declared.length.Count.{Count}
 use Rattle.flow_scalar.specs.declared.length.Count.TheVariants.{Counting}
-use Rattle.flow_scalar.specs.declared.length.Length.{Length}
 use Rattle.flow_scalar.proofs.length.LengthWorker.kernel.Goals.{in-Counting+in-Some+in-Some-after_message, in-Due+else-room-eq0}
 use Rattle.flow_scalar.proofs.length.LengthWorker.kernel.Goals as goal
 
@@ -40,6 +39,7 @@ loop-made-init g c =
       same = c.space-room.ensures.same;
       ends = c.space-room.ensures.looked.ends;
       room = c.space-room.ensures.value;
+      held = refl;
       went = λ at. let s = node_state (length_view c.args.self.now) Working at in went_looked b ins outs (went_none b ins outs s a) 0 u there c.space-room.ensures.looked;
     }
 
@@ -57,24 +57,24 @@ loop-made-preserved g c =
     let inv = c.loop-made.invariant in
     let E = g.met.E.Ends in
     let first = c.args.ends.now in
-    let after = λ (n : Length) (at : ℕ). node_state (length_view n) Working at in
-    let began = after c.args.self.now in
-    elim c.match-self.branch [
+    let began = λ (at : ℕ). node_state (length_view c.args.self.now) Working at in
+    elim c.match-count.branch [
       | in-Counting+in-Some+in-Some-after_message w ↦ (let u = view w.take_front.new.ends in
           let x = signal_of w.in-Some.message.now in
           let taken = w.take_front.ensures.taken x w.in-Some.ensures in
-          let count = w.in-Counting.count in
+          let count = w.in-Counting.elements in
           let next = w.in-Some-after_message.next in
           let reads : 0 < length ins = omega (arith, c.requires.wired.each_input) in
           record {
             same = subst (g.E.Ends.same first) (sym w.ends-is) (E.same_trans first c.loop-made.ends w.take_front.new.ends inv.same w.take_front.ensures.same);
             ends = subst (λ q. SameEnds a (view q)) (sym w.ends-is) (same_ends_then a v u inv.ends taken.ends);
-            room = subst (λ q. c.match-self.room ≤ (view q).room (edge_of outs 0)) (sym w.ends-is) (omega (arith, inv.room, w.room-is, taken_room v u _ (edge_of outs 0) _ taken));
+            room = subst (λ q. c.match-count.room ≤ (view q).room (edge_of outs 0)) (sym w.ends-is) (omega (arith, inv.room, w.room-is, taken_room v u _ (edge_of outs 0) _ taken));
+            held = refl;
             went = λ at.
                 let on : Count → NodeState (Dialect × Count) = λ q. node_state (p, q) Working at in
-                let here = subst (λ k. Went ins outs b (began at) a k v made) (ap on w.in-Counting.is) (inv.went at) in
+                let here = subst (λ k. Went ins outs b (began at) a k v made) (ap on (sym inv.held ∙ w.in-Counting.is)) (inv.went at) in
                 let read = went_read b ins outs here 0 x (on next) u reads (counts_want p count at) taken (leads_on m p (Counting count) next at (length_counts p count) x (counts_read p count) w.in-Some-after_message.ensures) in
-                subst (λ q. Went ins outs b (began at) a (after q at) (view c.match-self.ends) (made + 1)) (sym w.self-is) (subst (λ q. Went ins outs b (began at) a (on next) (view q) (made + 1)) (sym w.ends-is) read);
+                subst (λ q. Went ins outs b (began at) a (on q) (view c.match-count.ends) (made + 1)) (sym w.count-is) (subst (λ q. Went ins outs b (began at) a (on next) (view q) (made + 1)) (sym w.ends-is) read);
           })
       | in-Due+else-room-eq0 w ↦ (let z = view w.put_in_space.new.ends in
           let number = w.in-Due.number in
@@ -83,12 +83,13 @@ loop-made-preserved g c =
           record {
             same = subst (g.E.Ends.same first) (sym w.ends-is) (E.same_trans first c.loop-made.ends w.put_in_space.new.ends inv.same w.put_in_space.ensures.same);
             ends = subst (λ q. SameEnds a (view q)) (sym w.ends-is) (same_ends_then a v z inv.ends w.put_in_space.ensures.wrote.ends);
-            room = subst (λ q. c.match-self.room ≤ (view q).room (edge_of outs 0)) (sym w.ends-is) (omega (arith, inv.room, w.room-is, w.put_in_space.ensures.room));
+            room = subst (λ q. c.match-count.room ≤ (view q).room (edge_of outs 0)) (sym w.ends-is) (omega (arith, inv.room, w.room-is, w.put_in_space.ensures.room));
+            held = refl;
             went = λ at.
                 let on : Count → NodeState (Dialect × Count) = λ q. node_state (p, q) Working at in
-                let here = subst (λ k. Went ins outs b (began at) a k v made) (ap on w.in-Due.is) (inv.went at) in
+                let here = subst (λ k. Went ins outs b (began at) a k v made) (ap on (sym inv.held ∙ w.in-Due.is)) (inv.went at) in
                 let wrote = went_write b ins outs here 0 (carry (int number)) (on (Counting 0)) z writes refl refl (subst (λ k. Wrote v (edge_of outs 0) (carry (int k)) z) back w.put_in_space.ensures.wrote) refl in
-                subst (λ q. Went ins outs b (began at) a (after q at) (view c.match-self.ends) (made + 1)) (sym w.self-is) (subst (λ q. Went ins outs b (began at) a (on (Counting 0)) (view q) (made + 1)) (sym w.ends-is) wrote);
+                subst (λ q. Went ins outs b (began at) a (on q) (view c.match-count.ends) (made + 1)) (sym w.count-is) (subst (λ q. Went ins outs b (began at) a (on (Counting 0)) (view q) (made + 1)) (sym w.ends-is) wrote);
           })
     ]
 

@@ -1,4 +1,4 @@
-use Rattle.std.proofs.Common.{ℕ, ◌≤◌}
+use Rattle.std.proofs.Common.{◌≡◌, ℕ, ◌≤◌}
 use Rattle.flow_messages.specs.Ends.{SameEnds}
 use Rattle.flow_base.specs.Nodes.{behaviour_of, node_state}
 use Rattle.flow_base.specs.Visits.{Went}
@@ -12,5 +12,6 @@ invariant-loop-made g l = let view = g.E.Ends.view in record {
   same : g.E.Ends.same l.fn.ends l.ends;
   ends : SameEnds (view l.fn.ends) (view l.ends);
   room : l.room ≤ (view l.ends).room l.to;
+  held : l.count ≡ l.self.count;
   went : (at : ℕ) → Went l.fn.inputs l.fn.outputs (behaviour_of length_machine) (node_state (length_view l.fn.self) Working at) (view l.fn.ends) (node_state (length_view l.self) Working at) (view l.ends) l.made;
 }

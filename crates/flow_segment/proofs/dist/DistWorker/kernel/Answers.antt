@@ -1,7 +1,7 @@
 use Rattle.std.proofs.Common.{◌≡◌, ◌+◌, ◌<◌, Bool, true, false, length, Option, Some, None, Ok, refl, sym, ◌∙◌, ap, subst, arith}
 use Rattle.std.proofs.lemmas.List.Elements.{All-get_or}
 use Rattle.flow_messages.specs.Cells.{cell_of, flag}
-use Rattle.flow_messages.specs.Signals.{signal_of, carry}
+use Rattle.flow_messages.specs.Signals.{carry}
 use Rattle.flow_messages.specs.declared.message.Item.{Item}
 use Rattle.flow_messages.specs.declared.message.Kind.{Kind}
 use Rattle.flow_base.specs.Machines.{on_kind}
@@ -54,10 +54,10 @@ loop-preserved-in_default g c =
     let a = view c.args.ends.now in
     let v = view c.loop.ends in
     let u = view c.take_front.new.ends in
-    let x = signal_of c.in-Some-front.message.now in
-    let taken = c.take_front.ensures.taken x c.in-Some-front.ensures in
-    let item = c.in-Some-scalar_at.item in
-    let is = c.in-Some-scalar_at.ensures in
+    let item = c.in-Some-scalar_in_front.item in
+    let is = c.in-Some-scalar_in_front.ensures in
+    let x = carry (cell_of item) in
+    let taken = c.take_front.ensures.taken x is.0 in
     let reads : 0 < length ins = omega (arith, c.requires.wired.each_input) in
     let inv = c.loop.invariant in
     let E = g.met.E.Ends in
@@ -71,7 +71,7 @@ loop-preserved-in_default g c =
           let s = node_state (dist_view c.args.self.now) Working at in
           let on : Step → NodeState (Kind × Step) = λ q. node_state (k, q) Working at in
           let began = subst (λ q. Went ins outs b s a (on q) v c.loop.made) (starts n.held n.copies c.in_default.is) (inv.went at) in
-          let leads = item_leads k (λ i. Ok (at_flag i)) (at_flag (cell_of item)) x (cell_of item) is.0 is.1 refl in
+          let leads = item_leads k (λ i. Ok (at_flag i)) (at_flag (cell_of item)) (cell_of item) is.1 refl in
           let one = went_read b ins outs began 0 x (on (at_flag (cell_of item))) u reads refl taken (leads_on dist_machine k at_start (at_flag (cell_of item)) at (on_kind k (λ i. Ok (at_flag i))) x (λ i. refl) leads) in
           subst (λ q. Went ins outs b s a (on q) u (c.loop.made + 1)) (sym (holds (Some item) n.copies item refl inv.idle)) one;
     }
@@ -89,9 +89,9 @@ loop-preserved-then-last g c =
     let a = view c.args.ends.now in
     let v = view c.loop.ends in
     let u = view c.take_front-then-last.new.ends in
-    let x = signal_of c.in-Some-front-2.message.now in
-    let taken = c.take_front-then-last.ensures.taken x c.in-Some-front-2.ensures in
-    let read_as : x ≡ carry (flag true) = c.in-Some-flag_at.ensures ∙ ap (λ t. carry (flag t)) c.if-last.true in
+    let x = carry (flag c.in-Some-flag_in_front.last) in
+    let taken = c.take_front-then-last.ensures.taken x c.in-Some-flag_in_front.ensures in
+    let read_as : x ≡ carry (flag true) = ap (λ t. carry (flag t)) c.if-last.true in
     let reads : 1 < length ins = omega (arith, c.requires.wired.each_input) in
     let inv = c.loop.invariant in
     let E = g.met.E.Ends in
@@ -113,13 +113,13 @@ put_in_space-requires-clause-writes g c =
     let outs = c.args.outputs.now in
     let a = g.E.Ends.view c.args.ends.now in
     let there : 0 < length outs = omega (arith, c.requires.wired.each_output) in
-    let taken = c.take_front-in-loop.ensures.taken (signal_of c.in-Some-front-2.message.now) c.in-Some-front-2.ensures in
+    let taken = c.take_front-in-loop.ensures.taken (carry (flag c.in-Some-flag_in_front.last)) c.in-Some-flag_in_front.ensures in
     taken.ends.writes _ ∙ c.loop.invariant.ends.writes _ ∙ All-get_or (λ e. a.writes e ≡ true) outs 0 0 there c.requires.wired.writes
 
 pub put_in_space-requires-clause-certain : goal.put_in_space-requires-clause-certain
 put_in_space-requires-clause-certain g c =
     let view = g.E.Ends.view in
-    let taken = c.take_front-in-loop.ensures.taken (signal_of c.in-Some-front-2.message.now) c.in-Some-front-2.ensures in
+    let taken = c.take_front-in-loop.ensures.taken (carry (flag c.in-Some-flag_in_front.last)) c.in-Some-flag_in_front.ensures in
     omega (arith, c.loop.invariant.room, taken_room (view c.loop.ends) (view c.take_front-in-loop.new.ends) _ (edge_of c.args.outputs.now 0) _ taken)
 
 -- it read the flag of an element and wrote a copy
@@ -137,9 +137,9 @@ loop-preserved g c =
     let v = view c.loop.ends in
     let u = view c.take_front-in-loop.new.ends in
     let z = view c.put_in_space.new.ends in
-    let x = signal_of c.in-Some-front-2.message.now in
-    let taken = c.take_front-in-loop.ensures.taken x c.in-Some-front-2.ensures in
-    let read_as : x ≡ carry (flag false) = c.in-Some-flag_at.ensures ∙ ap (λ t. carry (flag t)) c.if-last.false in
+    let x = carry (flag c.in-Some-flag_in_front.last) in
+    let taken = c.take_front-in-loop.ensures.taken x c.in-Some-flag_in_front.ensures in
+    let read_as : x ≡ carry (flag false) = ap (λ t. carry (flag t)) c.if-last.false in
     let reads : 1 < length ins = omega (arith, c.requires.wired.each_input) in
     let writes : 0 < length outs = omega (arith, c.requires.wired.each_output) in
     let more : (c.loop.made + 1) + 1 ≡ c.loop.made + 2 = omega arith in

@@ -2,7 +2,7 @@ use Rattle.std.proofs.Common.{◌≡◌, ◌≢◌, ◌+◌, ◌<◌, true, fals
 use Rattle.std.proofs.lemmas.List.Elements.{All-get_or}
 use mathlib.Core.List.{IsPrefix}
 use Rattle.flow_messages.specs.Cells.{cell_of, flag}
-use Rattle.flow_messages.specs.Signals.{signal_of, carry}
+use Rattle.flow_messages.specs.Signals.{carry}
 use Rattle.flow_messages.specs.declared.message.Kind.{Kind}
 use Rattle.flow_base.specs.Machines.{on_kind}
 use Rattle.flow_base.specs.Nodes.{NodeState, behaviour_of, node_state}
@@ -42,7 +42,7 @@ take_front-requires-in-loop g c =
     let ins = c.args.inputs.now in
     let a = g.E.Ends.view c.args.ends.now in
     let there : 1 < length ins = omega (arith, c.requires.wired.each_input) in
-    let first = c.take_front.ensures.taken (signal_of c.in-Some.first.now) c.in-Some.ensures in
+    let first = c.take_front.ensures.taken (carry (flag c.in-Some.keep)) c.in-Some.ensures in
     first.ends.reads _ ∙ c.loop.invariant.ends.reads _ ∙ All-get_or (λ e. a.reads e ≡ true) ins 1 0 there c.requires.wired.reads
 
 pub put_in_space-requires-clause-writes : goal.put_in_space-requires-clause-writes
@@ -50,11 +50,11 @@ put_in_space-requires-clause-writes g c =
     let ins = c.args.inputs.now in
     let outs = c.args.outputs.now in
     let a = g.E.Ends.view c.args.ends.now in
-    let x = signal_of c.in-Some.first.now in
-    let y = signal_of c.in-Some-front.second.now in
+    let x = carry (flag c.in-Some.keep) in
+    let y = carry (cell_of c.in-Some-scalar_in_front.item) in
     let apart : edge_of ins 1 ≢ edge_of ins 0 = λ e. c.if-truths-items.false (sym e) in
     let first = c.take_front.ensures.taken x c.in-Some.ensures in
-    let second = c.take_front-in-loop.ensures.taken y (subst (IsPrefix (y ∷ [])) (sym (first.coming (edge_of ins 1) apart)) c.in-Some-front.ensures) in
+    let second = c.take_front-in-loop.ensures.taken y (subst (IsPrefix (y ∷ [])) (sym (first.coming (edge_of ins 1) apart)) c.in-Some-scalar_in_front.ensures.0) in
     let there : 0 < length outs = omega (arith, c.requires.wired.each_output) in
     second.ends.writes _ ∙ first.ends.writes _ ∙ c.loop.invariant.ends.writes _ ∙ All-get_or (λ e. a.writes e ≡ true) outs 0 0 there c.requires.wired.writes
 
@@ -66,11 +66,11 @@ put_in_space-requires-clause-certain g c =
     let v = view c.loop.ends in
     let u = view c.take_front.new.ends in
     let w = view c.take_front-in-loop.new.ends in
-    let x = signal_of c.in-Some.first.now in
-    let y = signal_of c.in-Some-front.second.now in
+    let x = carry (flag c.in-Some.keep) in
+    let y = carry (cell_of c.in-Some-scalar_in_front.item) in
     let apart : edge_of ins 1 ≢ edge_of ins 0 = λ e. c.if-truths-items.false (sym e) in
     let first = c.take_front.ensures.taken x c.in-Some.ensures in
-    let second = c.take_front-in-loop.ensures.taken y (subst (IsPrefix (y ∷ [])) (sym (first.coming (edge_of ins 1) apart)) c.in-Some-front.ensures) in
+    let second = c.take_front-in-loop.ensures.taken y (subst (IsPrefix (y ∷ [])) (sym (first.coming (edge_of ins 1) apart)) c.in-Some-scalar_in_front.ensures.0) in
     omega (arith, c.loop.invariant.room, taken_room v u _ to _ first, taken_room u w _ to _ second)
 
 -- a pair that is not kept
@@ -87,15 +87,15 @@ loop-preserved-then-not-keep g c =
     let v = view c.loop.ends in
     let u = view c.take_front.new.ends in
     let w = view c.take_front-in-loop.new.ends in
-    let x = signal_of c.in-Some.first.now in
-    let y = signal_of c.in-Some-front.second.now in
+    let x = carry (flag c.in-Some.keep) in
+    let y = carry (cell_of c.in-Some-scalar_in_front.item) in
     let apart : edge_of ins 1 ≢ edge_of ins 0 = λ e. c.if-truths-items.false (sym e) in
     let first = c.take_front.ensures.taken x c.in-Some.ensures in
-    let second = c.take_front-in-loop.ensures.taken y (subst (IsPrefix (y ∷ [])) (sym (first.coming (edge_of ins 1) apart)) c.in-Some-front.ensures) in
-    let item = cell_of c.in-Some-scalar_at.item in
-    let is = c.in-Some-scalar_at.ensures in
+    let second = c.take_front-in-loop.ensures.taken y (subst (IsPrefix (y ∷ [])) (sym (first.coming (edge_of ins 1) apart)) c.in-Some-scalar_in_front.ensures.0) in
+    let item = cell_of c.in-Some-scalar_in_front.item in
+    let is = c.in-Some-scalar_in_front.ensures in
     let reads : 1 < length ins = omega (arith, c.requires.wired.each_input) in
-    let read_as : x ≡ carry (flag false) = c.in-Some-flag_at.ensures ∙ ap (λ t. carry (flag t)) c.if-not-keep.true in
+    let read_as : x ≡ carry (flag false) = ap (λ t. carry (flag t)) c.if-not-keep.true in
     let more : (c.loop.made + 1) + 1 ≡ c.loop.made + 2 = omega arith in
     let inv = c.loop.invariant in
     let E = g.met.E.Ends in
@@ -112,7 +112,7 @@ loop-preserved-then-not-keep g c =
           let start : on at_start ≡ s = ap (λ q. on (step_of q)) (sym c.in-Start.is) in
           let began = subst (λ q. Went ins outs b s a q v c.loop.made) (sym start) (inv.went at) in
           let one = went_read b ins outs began 0 x (on (at_item false)) u (omega arith) refl first (sym (ap (b.process.read (on at_start)) read_as)) in
-          let leads = item_leads k (λ i. Ok at_start) at_start y item is.0 is.1 refl in
+          let leads = item_leads k (λ i. Ok at_start) at_start item is.1 refl in
           let two = went_read b ins outs one 1 y (on at_start) w reads refl second (leads_on pack_machine k (at_item false) at_start at (on_kind k (λ i. Ok at_start)) y (λ i. refl) leads) in
           subst (λ q. Went ins outs b s a q w (c.loop.made + 2)) start (subst (Went ins outs b s a (on at_start) w) more two);
     }
@@ -131,17 +131,17 @@ loop-preserved g c =
     let v = view c.loop.ends in
     let u = view c.take_front.new.ends in
     let w = view c.take_front-in-loop.new.ends in
-    let x = signal_of c.in-Some.first.now in
-    let y = signal_of c.in-Some-front.second.now in
+    let x = carry (flag c.in-Some.keep) in
+    let y = carry (cell_of c.in-Some-scalar_in_front.item) in
     let apart : edge_of ins 1 ≢ edge_of ins 0 = λ e. c.if-truths-items.false (sym e) in
     let first = c.take_front.ensures.taken x c.in-Some.ensures in
-    let second = c.take_front-in-loop.ensures.taken y (subst (IsPrefix (y ∷ [])) (sym (first.coming (edge_of ins 1) apart)) c.in-Some-front.ensures) in
-    let item = cell_of c.in-Some-scalar_at.item in
-    let is = c.in-Some-scalar_at.ensures in
+    let second = c.take_front-in-loop.ensures.taken y (subst (IsPrefix (y ∷ [])) (sym (first.coming (edge_of ins 1) apart)) c.in-Some-scalar_in_front.ensures.0) in
+    let item = cell_of c.in-Some-scalar_in_front.item in
+    let is = c.in-Some-scalar_in_front.ensures in
     let reads : 1 < length ins = omega (arith, c.requires.wired.each_input) in
     let writes : 0 < length outs = omega (arith, c.requires.wired.each_output) in
     let z = view c.put_in_space.new.ends in
-    let read_as : x ≡ carry (flag true) = c.in-Some-flag_at.ensures ∙ ap (λ t. carry (flag t)) c.if-not-keep.false in
+    let read_as : x ≡ carry (flag true) = ap (λ t. carry (flag t)) c.if-not-keep.false in
     let more : ((c.loop.made + 1) + 1) + 1 ≡ c.loop.made + 3 = omega arith in
     let inv = c.loop.invariant in
     let E = g.met.E.Ends in
@@ -158,7 +158,7 @@ loop-preserved g c =
           let start : on at_start ≡ s = ap (λ q. on (step_of q)) (sym c.in-Start.is) in
           let began = subst (λ q. Went ins outs b s a q v c.loop.made) (sym start) (inv.went at) in
           let one = went_read b ins outs began 0 x (on (at_item true)) u (omega arith) refl first (sym (ap (b.process.read (on at_start)) read_as)) in
-          let leads = item_leads k (λ i. Ok (at_copy i)) (at_copy item) y item is.0 is.1 refl in
+          let leads = item_leads k (λ i. Ok (at_copy i)) (at_copy item) item is.1 refl in
           let two = went_read b ins outs one 1 y (on (at_copy item)) w reads refl second (leads_on pack_machine k (at_item true) (at_copy item) at (on_kind k (λ i. Ok (at_copy i))) y (λ i. refl) leads) in
           let three = went_write b ins outs two 0 (carry item) (on at_start) z writes refl refl c.put_in_space.ensures.wrote refl in
           subst (λ q. Went ins outs b s a q z (c.loop.made + 3)) start (subst (Went ins outs b s a (on at_start) z) more three);
