@@ -1,9 +1,12 @@
 // Workers over flags alone.
 
-ghost use Rattle.std.specs.Prelude.{◌≡◌};
+ghost use Rattle.std.specs.Prelude.{◌≡◌, true, [], ◌∷◌, IfSome};
+ghost use mathlib.Core.List.{IsPrefix};
+ghost use Rattle.flow_messages.specs.Signals.{Signal};
+ghost use Rattle.flow_base.specs.Machines.{Leads, on_flag};
 
-use flow_base::{Ask, Stop, Worker};
-use flow_messages::{Item, Kind};
+use flow_base::{Ask, Stop, Worker, put_in_space, take_front};
+use flow_messages::{Ends, Item, Kind, Msg};
 use snesl_data::FaultKind;
 use std::alloc::AllocError;
 
@@ -58,6 +61,25 @@ impl<S: Stage> OverFlags<S> {
         ensures { result ≡ record { stage = S.table.start } }
     {
         OverFlags { stage: S::start() }
+    }
+}
+
+// The stage to which the flag at the front of the edge leads, where one is seen there and leads to one.
+#[inline(always)]
+fn stage_at<S: Copy, E: Ends>(
+    at_f: Result<S, FaultKind>,
+    at_t: Result<S, FaultKind>,
+    ends: &E,
+    edge: usize,
+) -> Option<S>
+    requires { (E.view ends.now).reads edge ≡ true }
+    ensures { IfSome result (λ next. (m : Signal) ×
+        IsPrefix (m ∷ []) ((E.view ends.now).coming edge) × Leads (on_flag at_f at_t) m next) }
+{
+    match ends.front(edge) {
+        Some(Msg::Item(Item::Bool(false))) => at_f.ok(),
+        Some(Msg::Item(Item::Bool(true))) => at_t.ok(),
+        _ => None,
     }
 }
 
@@ -118,5 +140,45 @@ impl<S: Stage> Worker for OverFlags<S> {
             }
             _ => Ok(Item::Unit),
         }
+    }
+
+    // Each round is one step, so it may go on from everywhere, and its ports may have one edge.
+    #[inline(always)]
+    fn kernel<E: Ends>(
+        &mut self,
+        inputs: &[usize],
+        outputs: &[usize],
+        ends: &mut E,
+        most: usize,
+    ) -> usize {
+        for made in 0..most {
+            match self.stage.step() {
+                Step::Begin(at_f, at_t) => {
+                    let from = inputs[0];
+                    let Some(next) = stage_at(at_f, at_t, ends, from) else {
+                        return made;
+                    };
+                    take_front(ends, from);
+                    self.stage = next;
+                }
+                Step::Take(port, at_f, at_t) => {
+                    let from = inputs[port];
+                    let Some(next) = stage_at(at_f, at_t, ends, from) else {
+                        return made;
+                    };
+                    take_front(ends, from);
+                    self.stage = next;
+                }
+                Step::Give(port, flag, next) => {
+                    let to = outputs[port];
+                    if ends.space(to) == 0 {
+                        return made;
+                    }
+                    put_in_space(ends, to, Msg::Item(Item::Bool(flag)));
+                    self.stage = next;
+                }
+            }
+        }
+        most
     }
 }

@@ -1,0 +1,15 @@
+use Rattle.std.proofs.Common.{ℕ}
+use Rattle.flow_messages.specs.Ends.{SameEnds}
+use Rattle.flow_base.specs.Nodes.{behaviour_of, node_state}
+use Rattle.flow_base.specs.Visits.{Went}
+use Rattle.flow_base.specs.declared.node.Phase.TheVariants.{Working}
+use Rattle.flow_segment.specs.FlagTables.{over_flags, stage_view}
+use Rattle.flow_segment.proofs.over_flags.OverFlagsWorker.kernel.Given as goal
+
+-- the steps so far, one in each round
+abbrev pub invariant-loop-made : goal.invariant-loop-made
+invariant-loop-made g l = let view = g.E.Ends.view in record {
+  same : g.E.Ends.same l.fn.ends l.ends;
+  ends : SameEnds (view l.fn.ends) (view l.ends);
+  went : (at : ℕ) → Went l.fn.inputs l.fn.outputs (behaviour_of (over_flags g.S.Stage.table)) (node_state (stage_view l.fn.self) Working at) (view l.fn.ends) (node_state (stage_view l.self) Working at) (view l.ends) l.made;
+}
