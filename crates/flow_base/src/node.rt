@@ -17,6 +17,9 @@ use kahn::Want;
 use snesl_data::{Fault, FaultKind};
 use std::alloc::AllocError;
 
+// A kernel goes on only in visits of so many steps and more.
+const LEAST_FOR_KERNEL: usize = 64;
+
 /// How far a node is.
 #[derive(Clone, Copy, Debug, PartialEq, Eq)]
 pub enum Phase {
@@ -214,8 +217,8 @@ impl<W: Worker> Node<W> {
             ⟦<Node<W> as Transducer>⟧.behaviour (⟦<Node<W> as Transducer>⟧.state self.old)
             (E.view ends.old) (⟦<Node<W> as Transducer>⟧.state self.new) (E.view ends.new)) }
     {
-        // Where hardly an instance fits into a visit, single steps are faster.
-        if chunk / 2 <= outputs.len() {
+        // In short visits, and where hardly an instance fits into one, single steps are faster.
+        if chunk < LEAST_FOR_KERNEL || chunk / 2 <= outputs.len() {
             return Ok(0);
         }
         let first = self.finish(inputs, outputs, ends, chunk)?;

@@ -46,7 +46,7 @@ returns-in-Working-clause-went g c =
     went_then b ins outs c.in_ok-first.first first next
 
 -- it made no step
-pub returns-then-chunk-outputs-clause-went : goal.returns-then-chunk-outputs-clause-went
-returns-then-chunk-outputs-clause-went g c =
+pub returns-then-chunk-lt-LEAST_FOR_KERNEL-clause-went : goal.returns-then-chunk-lt-LEAST_FOR_KERNEL-clause-went
+returns-then-chunk-lt-LEAST_FOR_KERNEL-clause-went g c =
     let node = node_of g.W.Worker.state g.W.Worker.machine g.met.W.Worker.laws in
     (0, went_none node.behaviour c.args.inputs.now c.args.outputs.now (node.state c.args.self.now) (g.E.Ends.view c.args.ends.now), refl)
