@@ -68,7 +68,8 @@ pub trait Ends {
     /// The message that the next take is certain to give, where these ends can show it. It stays.
     fn front(&self, edge: usize) -> Option<&Msg>
         requires { (view self.now).reads edge ≡ true }
-        ensures { IfSome result (λ m. IsPrefix (signal_of m.now ∷ []) ((view self.now).coming edge)) }
+        ensures { IfSome result (λ m. IsPrefix (signal_of m.now ∷ [])
+            ((view self.now).coming edge)) }
     {
         None
     }

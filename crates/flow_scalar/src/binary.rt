@@ -57,7 +57,8 @@ impl Binary {
     #[inline(always)]
     #[tactic(auto, using(crate::proofs::Leading::operand_taken))]
     fn left_at(&self, message: &Msg) -> Option<Scalar>
-        ensures { IfSome result (λ a. Leads (on_operand (binary_operand self.now.operator) (λ k. Ok (LeftState k))) (signal_of message.now) (LeftState a)) }
+        ensures { IfSome result (λ a. Leads (on_operand (binary_operand self.now.operator)
+            (λ k. Ok (LeftState k))) (signal_of message.now) (LeftState a)) }
     {
         match message {
             Msg::Item(item) => match operand_of(self.operator.operand(), item) {
@@ -72,7 +73,9 @@ impl Binary {
     #[inline(always)]
     #[tactic(auto, using(crate::proofs::Leading::operand_taken))]
     fn value_at(&self, left: Scalar, message: &Msg) -> Option<Scalar>
-        ensures { IfSome result (λ v. Leads (on_operand (binary_operand self.now.operator) (binary_next self.now.dialect self.now.operator left)) (signal_of message.now) (ValueState v)) }
+        ensures { IfSome result (λ v. Leads (on_operand (binary_operand self.now.operator)
+            (binary_next self.now.dialect self.now.operator left)) (signal_of message.now)
+            (ValueState v)) }
     {
         match message {
             Msg::Item(item) => match operand_of(self.operator.operand(), item) {

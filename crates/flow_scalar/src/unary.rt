@@ -44,7 +44,8 @@ impl Unary {
     #[inline(always)]
     #[tactic(auto, using(crate::proofs::Leading::operand_taken))]
     fn value_at(&self, message: &Msg) -> Option<Scalar>
-        ensures { IfSome result (λ v. Leads (on_operand (unary_operand self.now.operator) (unary_next self.now.dialect self.now.operator)) (signal_of message.now) (Some v)) }
+        ensures { IfSome result (λ v. Leads (on_operand (unary_operand self.now.operator)
+            (unary_next self.now.dialect self.now.operator)) (signal_of message.now) (Some v)) }
     {
         match message {
             Msg::Item(item) => match operand_of(self.operator.operand(), item) {
