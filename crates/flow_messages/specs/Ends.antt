@@ -1,7 +1,7 @@
 -- What a contract sees of the ends of a set of edges, each by its number.
-use Rattle.std.specs.Prelude.{◌≡◌, ◌≢◌, ℕ, ◌+◌, ◌≤◌, Bool, List, [], ◌∷◌, ◌++◌, length}
+use Rattle.std.specs.Prelude.{◌≡◌, ◌≢◌, ℕ, ◌+◌, ◌≤◌, Bool, cond, List, [], ◌∷◌, ◌++◌, length}
 use mathlib.Core.List.{IsPrefix}
-use Rattle.flow_messages.specs.Signals.{Signal}
+use Rattle.flow_messages.specs.Signals.{Signal, ended}
 
 pub record View : Type 0 where
   pub sent : ℕ → List Signal  -- what was put, the oldest first
@@ -62,3 +62,25 @@ pub record Taken (a : View) (e : ℕ) (m : Signal) (b : View) : Type 0 where
   pub room_here : a.room e ≤ b.room e
   pub coming : (k : ℕ) → k ≢ e → b.coming k ≡ a.coming k
   pub coming_here : IsPrefix (a.coming e) (m ∷ b.coming e)
+
+-- these messages were taken from edge e, in order: the first of what was certain
+pub record TakenAll (a : View) (e : ℕ) (ms : List Signal) (b : View) : Type 0 where
+  pub ends : SameEnds a b
+  pub received : b.received e ≡ a.received e ++ ms
+  pub others : (k : ℕ) → k ≢ e → b.received k ≡ a.received k
+  pub sent : (k : ℕ) → b.sent k ≡ a.sent k
+  pub room : (k : ℕ) → k ≢ e → b.room k ≡ a.room k
+  pub room_here : a.room e ≤ b.room e
+  pub coming : (k : ℕ) → k ≢ e → b.coming k ≡ a.coming k
+  pub coming_here : IsPrefix (a.coming e) (ms ++ b.coming e)
+
+-- these messages were put on edge e, in order, unless it had ended
+pub record PutAll (a : View) (e : ℕ) (ms : List Signal) (b : View) : Type 0 where
+  pub ends : SameEnds a b
+  pub sent : b.sent e ≡ cond (ended (a.sent e)) (a.sent e) (a.sent e ++ ms)
+  pub others : (k : ℕ) → k ≢ e → b.sent k ≡ a.sent k
+  pub received : (k : ℕ) → b.received k ≡ a.received k
+  pub coming : (k : ℕ) → k ≢ e → b.coming k ≡ a.coming k
+  pub coming_here : IsPrefix (a.coming e) (b.coming e)
+  pub room : (k : ℕ) → k ≢ e → b.room k ≡ a.room k
+  pub room_here : a.room e ≤ b.room e + length ms

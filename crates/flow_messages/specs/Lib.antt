@@ -1,6 +1,7 @@
 pub mod Cells
 pub mod Signals
 pub mod Ends
+pub mod Rows
 pub mod Whole
 pub mod Limits
 pub mod Tables

@@ -1,5 +1,5 @@
 // The ends of a set of edges.
-use crate::message::Msg;
+use crate::message::{Item, Msg};
 
 /// Why a message was not put on an edge.
 #[derive(Clone, Copy, Debug, PartialEq, Eq)]
@@ -19,12 +19,14 @@ pub struct Refused {
 
 /// Some ends of some edges, each named by its edge's number.
 ///
-/// No call takes memory, and none waits.
+/// No call takes memory, and none waits. Ends that hold items of one kind side by side show them as rows, so that many are
+/// read, taken or put in one call; others show none, and then go one message at a time.
 pub trait Ends {
-    ghost use Rattle.std.specs.Prelude.{◌≡◌, ◌<◌, ◌≤◌, ◌↔◌, true, false, [], ◌∷◌, IsTrue, IsOk, IsSome, IfSome, IfNone, OnOk, IfErr, IsErrAnd};
+    ghost use Rattle.std.specs.Prelude.{◌≡◌, ◌<◌, ◌≤◌, ◌↔◌, true, false, [], ◌∷◌, IsTrue, IsOk, IsSome, IfSome, IfNone, OnOk, IfErr, IsErrAnd, length, take};
     ghost use mathlib.Core.List.{IsPrefix};
     ghost use Rattle.flow_messages.specs.Signals.{signal_of, ended};
-    ghost use Rattle.flow_messages.specs.Ends.{View, held, LookedForRoom, LookedForMessages, Put, Taken};
+    ghost use Rattle.flow_messages.specs.Ends.{View, held, LookedForRoom, LookedForMessages, Put, Taken, TakenAll, PutAll};
+    ghost use Rattle.flow_messages.specs.Rows.{units_said, flags_said, ints_said};
     ghost use Rattle.flow_messages.specs.declared.ends.Why.TheVariants.{Full, Closed};
 
     /// What was put and taken on each edge, and what is certain.
@@ -99,6 +101,82 @@ pub trait Ends {
         ensures none { IfNone result (LookedForMessages (view self.old) edge (view self.new) ×
             (held (view self.new) edge ≡ 0)) }
         ensures succeeds { 0 < held (view self.old) edge → IsSome result };
+
+    /// How many units the next takes are certain to give, where these ends count them, or fewer.
+    fn units(&self, edge: usize) -> usize
+        requires { (view self.now).reads edge ≡ true }
+        ensures { IsPrefix (units_said result) ((view self.now).coming edge) }
+    {
+        let _ = edge;
+        0
+    }
+
+    /// The truth values that the next takes are certain to give, where these ends show them, or the first of them.
+    fn flags(&self, edge: usize) -> &[bool]
+        requires { (view self.now).reads edge ≡ true }
+        ensures { IsPrefix (flags_said result.now) ((view self.now).coming edge) }
+    {
+        let _ = edge;
+        &[]
+    }
+
+    /// The integers that the next takes are certain to give, where these ends show them, or the first of them.
+    fn ints(&self, edge: usize) -> &[i128]
+        requires { (view self.now).reads edge ≡ true }
+        ensures { IsPrefix (ints_said result.now) ((view self.now).coming edge) }
+    {
+        let _ = edge;
+        &[]
+    }
+
+    /// Takes so many of the messages that are certain, and drops them.
+    fn skip(&mut self, edge: usize, count: usize)
+        requires reads { (view self.old).reads edge ≡ true }
+        requires certain { count ≤ held (view self.old) edge }
+        ensures same { same self.old self.new }
+        ensures taken { TakenAll (view self.old) edge (take count ((view self.old).coming edge))
+            (view self.new) }
+    {
+        for _ in 0..count {
+            let _ = self.take(edge);
+        }
+    }
+
+    /// Puts so many units where room is certain. They are dropped where `End` was put on the edge before.
+    fn put_units(&mut self, edge: usize, count: usize)
+        requires writes { (view self.old).writes edge ≡ true }
+        requires certain { count ≤ (view self.old).room edge }
+        ensures same { same self.old self.new }
+        ensures put { PutAll (view self.old) edge (units_said count) (view self.new) }
+    {
+        for _ in 0..count {
+            let _ = self.put(edge, Msg::Item(Item::Unit));
+        }
+    }
+
+    /// Puts these truth values where room is certain. They are dropped where `End` was put on the edge before.
+    fn put_flags(&mut self, edge: usize, flags: &[bool])
+        requires writes { (view self.old).writes edge ≡ true }
+        requires certain { length flags.now ≤ (view self.old).room edge }
+        ensures same { same self.old self.new }
+        ensures put { PutAll (view self.old) edge (flags_said flags.now) (view self.new) }
+    {
+        for flag in flags {
+            let _ = self.put(edge, Msg::Item(Item::Bool(*flag)));
+        }
+    }
+
+    /// Puts these integers where room is certain. They are dropped where `End` was put on the edge before.
+    fn put_ints(&mut self, edge: usize, ints: &[i128])
+        requires writes { (view self.old).writes edge ≡ true }
+        requires certain { length ints.now ≤ (view self.old).room edge }
+        ensures same { same self.old self.new }
+        ensures put { PutAll (view self.old) edge (ints_said ints.now) (view self.new) }
+    {
+        for int in ints {
+            let _ = self.put(edge, Msg::Item(Item::Int(*int)));
+        }
+    }
 
     ghost same_refl: { (a : Self) → same a a };
 
