@@ -2,3 +2,4 @@ pub mod Signals
 pub mod Counts
 pub mod Tables
 pub mod Waiting
+pub mod Rows

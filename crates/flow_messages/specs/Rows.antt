@@ -1,12 +1,11 @@
 -- What items of one kind say, side by side.
-use Rattle.std.specs.Prelude.{ℕ, ℤ, Bool, List, map, zero, suc, [], ◌∷◌}
+use Rattle.std.specs.Prelude.{ℕ, ℤ, Bool, List, map, replicate}
 use Rattle.flow_messages.specs.Cells.{Cell, unit, flag, int}
 use Rattle.flow_messages.specs.Signals.{Signal, carry}
 
 -- so many units
-unfoldable pub units_said : ℕ → List Signal
-units_said zero = []
-units_said (suc n) = carry unit ∷ units_said n
+abbrev pub units_said : ℕ → List Signal
+units_said n = replicate n (carry unit)
 
 -- these truth values
 abbrev pub flags_said : List Bool → List Signal
