@@ -1,8 +1,10 @@
 -- Lists of messages, one message later.
-use Rattle.std.proofs.Common.{◌≡◌, true, false, List, [], ◌∷◌, ◌++◌, refl, ap, sym, ◌∙◌, append_assoc}
+use Rattle.std.proofs.Common.{◌≡◌, ℕ, zero, suc, true, false, List, [], ◌∷◌, ◌++◌, map, replicate, take, refl, ap, sym, ◌∙◌}
+use Rattle.flow_messages.specs.declared.message.Item.{Item as ItemType}
 use Rattle.flow_messages.specs.declared.message.Msg.{Msg}
 use Rattle.flow_messages.specs.declared.message.Msg.TheVariants.{Item, End}
-use Rattle.flow_messages.specs.Signals.{signals, signal_of, is_stop, ended, orderly}
+use Rattle.flow_messages.specs.Cells.{cell_of}
+use Rattle.flow_messages.specs.Signals.{signals, signal_of, carry, is_stop, ended, orderly}
 
 -- the message put last decides, where the list had no stop
 pub ended-snoc : (ms : List Msg) (m : Msg) → ended (signals ms) ≡ false → ended (signals (ms ++ m ∷ [])) ≡ is_stop (signal_of m)
@@ -43,6 +45,55 @@ signals-snoc (n ∷ ms) m = ap (λ l. signal_of n ∷ l) (signals-snoc ms m)
 
 pub ruleset signal_steps = (ended-snoc, orderly-snoc, ended-nil, orderly-nil)
 
--- what was taken and what is held are what was put, one put later
-pub fifo-put : {X : Type 0} (r q s q' s' : List X) (m : X) → r ++ q ≡ s → q' ≡ q ++ m ∷ [] → s' ≡ s ++ m ∷ [] → r ++ q' ≡ s'
-fifo-put r q s q' s' m fifo queue sent = ap (λ x. r ++ x) queue ∙ sym (append_assoc r q (m ∷ [])) ∙ ap (λ x. x ++ m ∷ []) fifo ∙ sym sent
+-- a list without a stop goes on with another
+pub ended-more : (ms ns : List Msg) → ended (signals ms) ≡ false → ended (signals (ms ++ ns)) ≡ ended (signals ns)
+unfolding ended signals
+ended-more [] ns h = refl
+ended-more (Item x ∷ ms) ns h = ended-more ms ns h
+ended-more (End ∷ ms) ns h = cc
+
+pub orderly-more : (ms ns : List Msg) → ended (signals ms) ≡ false → orderly (signals (ms ++ ns)) ≡ orderly (signals ns)
+unfolding ended orderly signals
+orderly-more [] ns h = refl
+orderly-more (Item x ∷ ms) ns h = orderly-more ms ns h
+orderly-more (End ∷ ms) ns h = cc
+
+-- no stop stands in a row
+module _ {X : Type 0} (f : X → ItemType) where
+  pub row-ended : (xs : List X) → ended (signals (map (λ x. Item (f x)) xs)) ≡ false
+  unfolding ended signals
+  row-ended [] = refl
+  row-ended (x ∷ xs) = row-ended xs
+
+  pub row-orderly : (xs : List X) → orderly (signals (map (λ x. Item (f x)) xs)) ≡ true
+  unfolding orderly signals
+  row-orderly [] = refl
+  row-orderly (x ∷ xs) = row-orderly xs
+
+pub units-ended : (x : ItemType) (n : ℕ) → ended (signals (replicate n (Item x))) ≡ false
+unfolding ended signals
+units-ended x zero = refl
+units-ended x (suc n) = units-ended x n
+
+pub units-orderly : (x : ItemType) (n : ℕ) → orderly (signals (replicate n (Item x))) ≡ true
+unfolding orderly signals
+units-orderly x zero = refl
+units-orderly x (suc n) = units-orderly x n
+
+-- what a row of messages says
+pub signals-row : {X : Type 0} (f : X → ItemType) (xs : List X) → signals (map (λ x. Item (f x)) xs) ≡ map (λ x. carry (cell_of (f x))) xs
+unfolding signals
+signals-row f [] = refl
+signals-row f (x ∷ xs) = ap (λ l. carry (cell_of (f x)) ∷ l) (signals-row f xs)
+
+pub signals-units : (x : ItemType) (n : ℕ) → signals (replicate n (Item x)) ≡ replicate n (carry (cell_of x))
+unfolding signals
+signals-units x zero = refl
+signals-units x (suc n) = ap (λ l. carry (cell_of x) ∷ l) (signals-units x n)
+
+-- the first of some messages say the first of what they say
+pub signals-take : (n : ℕ) (ms : List Msg) → signals (take n ms) ≡ take n (signals ms)
+unfolding signals
+signals-take zero ms = refl
+signals-take (suc n) [] = refl
+signals-take (suc n) (m ∷ ms) = ap (λ l. signal_of m ∷ l) (signals-take n ms)

@@ -2,6 +2,10 @@ pub mod Cells
 pub mod Signals
 pub mod Ends
 pub mod Rows
+pub mod Contents
+pub mod Runs
+pub mod Stores
+pub mod Lines
 pub mod Whole
 pub mod Limits
 pub mod Tables

@@ -3,6 +3,8 @@ use Rattle.std.specs.Prelude.{◌≡◌, ℕ, ◌-◌, List, [], length, map, sl
 use Rattle.flow_messages.specs.declared.line.Line.{Line}
 use Rattle.flow_messages.specs.declared.table.Table.{Table}
 use Rattle.flow_messages.specs.Signals.{signals}
+use Rattle.flow_messages.specs.Stores.{content_of}
+use Rattle.flow_messages.specs.Lines.{gone}
 use Rattle.flow_messages.specs.Ends.{View}
 
 -- f at the line of edge e, and d where there is none
@@ -13,9 +15,9 @@ at_line f lines e d = slice_index_or (map f lines) e d
 abbrev pub view_of_lines : List Line → View
 view_of_lines lines = record {
   sent = λ e. at_line (λ l. signals l.sent.items) lines e [];
-  received = λ e. at_line (λ l. signals l.received.items) lines e [];
-  coming = λ e. at_line (λ l. signals l.queue.items) lines e [];
-  room = λ e. at_line (λ l. l.capacity - length l.queue.items) lines e 0;
+  received = λ e. at_line (λ l. signals (gone l.sent.items (content_of l.store))) lines e [];
+  coming = λ e. at_line (λ l. signals (content_of l.store)) lines e [];
+  room = λ e. at_line (λ l. l.store.capacity - length (content_of l.store)) lines e 0;
   writes = λ e. nat_lt e (length lines);
   reads = λ e. nat_lt e (length lines);
 }

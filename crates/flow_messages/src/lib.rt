@@ -10,6 +10,8 @@ mod counted;
 mod ends;
 mod line;
 mod message;
+mod run;
+mod store;
 mod table;
 mod table_ends;
 mod theorems;

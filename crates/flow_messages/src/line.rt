@@ -1,102 +1,93 @@
 // One edge in one thread.
-ghost use Rattle.std.specs.Prelude.{◌≡◌, ◌+◌, ◌-◌, ◌<◌, ◌≤◌, ◌↔◌, true, false, [], ◌∷◌, ◌++◌, length, slice_index_or, IsTrue, IsOk, IsSome, OnOk, IfOk, IfErr, IsErrAnd, IfSome, IfNone};
-ghost use Rattle.std.specs.VecDeque.{deque_capacity};
+ghost use Rattle.std.specs.Prelude.{◌≡◌, ◌+◌, ◌-◌, ◌<◌, ◌≤◌, ◌↔◌, true, false, cond, [], ◌∷◌, ◌++◌, length, take, drop, IsTrue, IsOk, OnOk, IfOk, IfErr, IsErrAnd, IfSome, IfNone};
 ghost use Rattle.std.specs.Io.Iter.{u64_saturate};
+ghost use mathlib.Core.List.{IsPrefix};
+ghost use Rattle.flow_messages.specs.Limits.{greatest_capacity};
 ghost use Rattle.flow_messages.specs.Signals.{signals, ended, orderly};
+ghost use Rattle.flow_messages.specs.Contents.{unit_messages, flag_messages, int_messages};
+ghost use Rattle.flow_messages.specs.Stores.{content_of};
+ghost use Rattle.flow_messages.specs.Lines.{gone};
 ghost use Rattle.flow_messages.specs.declared.ends.Why.TheVariants.{Full, Closed};
 
 use crate::ends::{Refused, Why};
-use crate::message::Msg;
+use crate::message::{Item, Msg};
+use crate::store::Store;
 use flow_history::History;
 use std::alloc::{AllocError, Global};
-use std::collections::VecDeque;
+use std::mem::replace;
 
 /// The messages that one edge holds, the oldest first, and room for as many as its capacity.
 #[derive(Drop)]
 pub struct Line {
-    pub queue: VecDeque<Msg>,
-    pub capacity: usize,
+    pub store: Store,
     closed: bool,
     /// How many messages were taken. The count stays at `u64::MAX`.
     pub taken: u64,
     pub sent: History<Msg>,
-    pub received: History<Msg>,
-    ghost fifo: { received.items ++ queue.items ≡ sent.items },
+    ghost fifo: { gone sent.items (content_of store) ++ content_of store ≡ sent.items },
     ghost closes: { closed ≡ ended (signals sent.items) },
-    ghost counts: { taken ≡ u64_saturate (length received.items) },
+    ghost counts: { taken ≡ u64_saturate (length (gone sent.items (content_of store))) },
     ghost orderly: { orderly (signals sent.items) ≡ true },
-    ghost bound: { length queue.items ≤ capacity },
-    ghost reserved: { capacity ≤ deque_capacity queue },
 }
 
 impl Line {
     /// An empty edge, with its room reserved.
     #[tactic(auto, using(crate::proofs::Signals::signal_steps))]
     pub fn new(alloc: Global, capacity: usize) -> Result<Line, AllocError>
-        ensures fresh { IfOk result (λ l. (l.sent.items ≡ []) × (l.received.items ≡ []) ×
-            (l.queue.items ≡ []) × (l.capacity ≡ capacity)) }
+        requires limit { capacity ≤ greatest_capacity }
+        ensures fresh { IfOk result (λ l. (l.sent.items ≡ []) × (content_of l.store ≡ []) ×
+            (l.store.capacity ≡ capacity)) }
     {
-        let queue = VecDeque::with_capacity(alloc, capacity)?;
+        let store = Store::new(alloc, capacity)?;
         Ok(Line {
-            queue,
-            capacity,
+            store,
             closed: false,
             taken: 0,
             sent: History::new(),
-            received: History::new(),
         })
     }
 
     /// Whether it holds fewer messages than it may.
     #[inline(always)]
     pub fn room(&self) -> bool
-        ensures { IsTrue result ↔ (0 < self.now.capacity - length self.now.queue.items) }
+        ensures { IsTrue result ↔
+            (0 < self.now.store.capacity - length (content_of self.now.store)) }
     {
-        self.queue.len() < self.capacity
+        self.store.len() < self.store.capacity
     }
 
     /// How many messages more it may hold.
     #[inline(always)]
     pub fn space(&self) -> usize
-        ensures { result ≡ self.now.capacity - length self.now.queue.items }
+        ensures { result ≡ self.now.store.capacity - length (content_of self.now.store) }
     {
-        self.capacity - self.queue.len()
-    }
-
-    /// The oldest message that it holds.
-    #[inline(always)]
-    pub fn front(&self) -> Option<&Msg>
-        ensures some { IfSome result (λ m. m.now ≡ slice_index_or self.now.queue.items 0 m.now) }
-        ensures variant { IsSome result ↔ (0 < length self.now.queue.items) }
-    {
-        self.queue.front()
+        self.store.capacity - self.store.len()
     }
 
     /// Whether it holds a message.
     #[inline(always)]
     pub fn ready(&self) -> bool
-        ensures { IsTrue result ↔ (0 < length self.now.queue.items) }
+        ensures { IsTrue result ↔ (0 < length (content_of self.now.store)) }
     {
-        !self.queue.is_empty()
+        self.store.len() > 0
     }
 
     /// Puts a message behind all others, or gives it back.
     #[inline(always)]
     #[tactic(auto, using(crate::proofs::Signals::signal_steps))]
     pub fn put(&mut self, message: Msg) -> Result<(), Refused>
-        ensures capacity { self.new.capacity ≡ self.old.capacity }
-        ensures received { self.new.received.items ≡ self.old.received.items }
+        ensures capacity { self.new.store.capacity ≡ self.old.store.capacity }
         ensures ok { OnOk result ((self.new.sent.items ≡ self.old.sent.items ++ message ∷ []) ×
-            (self.new.queue.items ≡ self.old.queue.items ++ message ∷ [])) }
+            (content_of self.new.store ≡ content_of self.old.store ++ message ∷ [])) }
         ensures refused { IfErr result (λ e. (e.message ≡ message) ×
             (self.new.sent.items ≡ self.old.sent.items) ×
-            (self.new.queue.items ≡ self.old.queue.items)) }
+            (content_of self.new.store ≡ content_of self.old.store)) }
         ensures closed { IsErrAnd result (λ e. e.why ≡ Closed) ↔
             (ended (signals self.old.sent.items) ≡ true) }
         ensures full { IsErrAnd result (λ e. e.why ≡ Full) →
-            self.new.capacity ≤ length self.new.queue.items }
+            self.new.store.capacity ≤ length (content_of self.new.store) }
         ensures succeeds { ended (signals self.old.sent.items) ≡ false →
-            length self.old.queue.items < self.old.capacity → IsOk result }
+            length (content_of self.old.store) < self.old.store.capacity → IsOk result }
     {
         if self.closed {
             return Err(Refused {
@@ -104,7 +95,7 @@ impl Line {
                 why: Why::Closed,
             });
         }
-        if self.queue.len() >= self.capacity {
+        if self.store.len() >= self.store.capacity {
             return Err(Refused {
                 message,
                 why: Why::Full,
@@ -112,7 +103,7 @@ impl Line {
         }
         let closes = message.is_end();
         let sent = self.sent.with(&message);
-        self.queue.push_back_reserved(message);
+        self.store.push(message);
         self.closed = closes;
         self.sent = sent;
         Ok(())
@@ -121,18 +112,81 @@ impl Line {
     /// Takes the oldest message.
     #[inline(always)]
     pub fn take(&mut self) -> Option<Msg>
-        ensures capacity { self.new.capacity ≡ self.old.capacity }
+        ensures capacity { self.new.store.capacity ≡ self.old.store.capacity }
         ensures sent { self.new.sent.items ≡ self.old.sent.items }
-        ensures some { IfSome result (λ m. (self.new.received.items ≡
-            self.old.received.items ++ m ∷ []) ×
-            (self.old.queue.items ≡ m ∷ self.new.queue.items)) }
-        ensures none { IfNone result ((self.new.received.items ≡ self.old.received.items) ×
-            (self.new.queue.items ≡ []) × (self.old.queue.items ≡ [])) }
+        ensures some { IfSome result (λ m. content_of self.old.store ≡
+            m ∷ content_of self.new.store) }
+        ensures none { IfNone result ((content_of self.new.store ≡ []) ×
+            (content_of self.old.store ≡ [])) }
     {
-        let message = self.queue.pop_front()?;
+        let message = self.store.pop()?;
         self.taken = self.taken.saturating_add(1);
-        self.received = self.received.with(&message);
         Some(message)
+    }
+
+    /// Takes so many of the oldest messages, and drops them.
+    #[inline(always)]
+    pub fn skip(&mut self, count: usize)
+        requires { count ≤ length (content_of self.old.store) }
+        ensures capacity { self.new.store.capacity ≡ self.old.store.capacity }
+        ensures sent { self.new.sent.items ≡ self.old.sent.items }
+        ensures rest { content_of self.new.store ≡ drop count (content_of self.old.store) }
+    {
+        self.store.skip(count);
+        self.taken = self.taken.saturating_add(count as u64);
+    }
+
+    /// Puts so many units behind all others, unless `End` was put on it.
+    #[inline(always)]
+    pub fn put_units(&mut self, count: usize)
+        requires { length (content_of self.old.store) + count ≤ self.old.store.capacity }
+        ensures capacity { self.new.store.capacity ≡ self.old.store.capacity }
+        ensures sent { self.new.sent.items ≡ cond (ended (signals self.old.sent.items))
+            self.old.sent.items (self.old.sent.items ++ unit_messages count) }
+        ensures held { content_of self.new.store ≡ cond (ended (signals self.old.sent.items))
+            (content_of self.old.store) (content_of self.old.store ++ unit_messages count) }
+    {
+        if self.closed {
+            return;
+        }
+        self.sent = with_units(replace(&mut self.sent, History::new()), count);
+        self.store.put_units(count);
+    }
+
+    /// Puts these truth values behind all others, unless `End` was put on it.
+    #[inline(always)]
+    pub fn put_flags(&mut self, flags: &[bool])
+        requires { length (content_of self.old.store) + length flags.now ≤
+            self.old.store.capacity }
+        ensures capacity { self.new.store.capacity ≡ self.old.store.capacity }
+        ensures sent { self.new.sent.items ≡ cond (ended (signals self.old.sent.items))
+            self.old.sent.items (self.old.sent.items ++ flag_messages flags.now) }
+        ensures held { content_of self.new.store ≡ cond (ended (signals self.old.sent.items))
+            (content_of self.old.store) (content_of self.old.store ++ flag_messages flags.now) }
+    {
+        if self.closed {
+            return;
+        }
+        self.sent = with_flags(replace(&mut self.sent, History::new()), flags);
+        self.store.put_flags(flags);
+    }
+
+    /// Puts these integers behind all others, unless `End` was put on it.
+    #[inline(always)]
+    pub fn put_ints(&mut self, ints: &[i128])
+        requires { length (content_of self.old.store) + length ints.now ≤
+            self.old.store.capacity }
+        ensures capacity { self.new.store.capacity ≡ self.old.store.capacity }
+        ensures sent { self.new.sent.items ≡ cond (ended (signals self.old.sent.items))
+            self.old.sent.items (self.old.sent.items ++ int_messages ints.now) }
+        ensures held { content_of self.new.store ≡ cond (ended (signals self.old.sent.items))
+            (content_of self.old.store) (content_of self.old.store ++ int_messages ints.now) }
+    {
+        if self.closed {
+            return;
+        }
+        self.sent = with_ints(replace(&mut self.sent, History::new()), ints);
+        self.store.put_ints(ints);
     }
 
     /// How many messages were put on it. The count stays at `u64::MAX`.
@@ -140,6 +194,44 @@ impl Line {
         ensures { result ≡ u64_saturate (length self.now.sent.items) }
     {
         // What was put was taken or is held, so a put has nothing to count.
-        self.taken.saturating_add(self.queue.len() as u64)
+        self.taken.saturating_add(self.store.len() as u64)
     }
+}
+
+// A history has no bytes, so its loops are none at run time.
+
+// The history with so many units more.
+#[inline(always)]
+fn with_units(sent: History<Msg>, count: usize) -> History<Msg>
+    ensures { result.items ≡ sent.items ++ unit_messages count }
+{
+    let mut all = sent;
+    for _ in 0..count {
+        all = all.with(&Msg::Item(Item::Unit));
+    }
+    all
+}
+
+// The history with these truth values more.
+#[inline(always)]
+fn with_flags(sent: History<Msg>, flags: &[bool]) -> History<Msg>
+    ensures { result.items ≡ sent.items ++ flag_messages flags.now }
+{
+    let mut all = sent;
+    for flag in flags {
+        all = all.with(&Msg::Item(Item::Bool(*flag)));
+    }
+    all
+}
+
+// The history with these integers more.
+#[inline(always)]
+fn with_ints(sent: History<Msg>, ints: &[i128]) -> History<Msg>
+    ensures { result.items ≡ sent.items ++ int_messages ints.now }
+{
+    let mut all = sent;
+    for int in ints {
+        all = all.with(&Msg::Item(Item::Int(*int)));
+    }
+    all
 }

@@ -12,5 +12,5 @@ pub const MAX_CAPACITY: usize = 65_536;
 pub struct Table {
     pub(crate) lines: Vec<Line>,
     pub(crate) capacity: usize,
-    ghost even: { All (λ l. l.capacity ≡ capacity) lines.items },
+    ghost even: { All (λ l. l.store.capacity ≡ capacity) lines.items },
 }

@@ -68,7 +68,7 @@ impl Ends for Table {
 
     #[inline(always)]
     fn front(&self, edge: usize) -> Option<&Msg> {
-        self.lines[edge].front()
+        self.lines[edge].store.front()
     }
 
     #[inline(always)]
@@ -79,6 +79,41 @@ impl Ends for Table {
     #[inline(always)]
     fn take(&mut self, edge: usize) -> Option<Msg> {
         self.lines[edge].take()
+    }
+
+    #[inline(always)]
+    fn units(&self, edge: usize) -> usize {
+        self.lines[edge].store.units()
+    }
+
+    #[inline(always)]
+    fn flags(&self, edge: usize) -> &[bool] {
+        self.lines[edge].store.flags()
+    }
+
+    #[inline(always)]
+    fn ints(&self, edge: usize) -> &[i128] {
+        self.lines[edge].store.ints()
+    }
+
+    #[inline(always)]
+    fn skip(&mut self, edge: usize, count: usize) {
+        self.lines[edge].skip(count);
+    }
+
+    #[inline(always)]
+    fn put_units(&mut self, edge: usize, count: usize) {
+        self.lines[edge].put_units(count);
+    }
+
+    #[inline(always)]
+    fn put_flags(&mut self, edge: usize, flags: &[bool]) {
+        self.lines[edge].put_flags(flags);
+    }
+
+    #[inline(always)]
+    fn put_ints(&mut self, edge: usize, ints: &[i128]) {
+        self.lines[edge].put_ints(ints);
     }
 
     ghost same_refl = { same_capacity_refl };
@@ -96,7 +131,7 @@ impl WholeEnds for Table {
     }
 
     fn held(&self, edge: usize) -> usize {
-        self.lines[edge].queue.len()
+        self.lines[edge].store.len()
     }
 
     ghost whole = { whole_table };

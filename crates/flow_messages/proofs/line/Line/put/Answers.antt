@@ -1,6 +1,20 @@
-use Rattle.flow_messages.proofs.Signals.{fifo-put}
+use Rattle.std.proofs.Common.{◌≡◌, ◌+◌, ◌-◌, ◌<◌, ◌≤◌, true, false, [], ◌∷◌, ◌++◌, length, take, drop, refl, sym, ap, ◌∙◌, subst, arith}
+use Rattle.std.proofs.lemmas.List.{take-append-drop, length-take-le}
+use Rattle.flow_messages.specs.Signals.{signals, ended, orderly}
+use Rattle.flow_messages.specs.Stores.{content_of}
+use Rattle.flow_messages.specs.Lines.{gone}
+use Rattle.flow_messages.proofs.Signals.{ended-snoc, orderly-snoc}
+use Rattle.flow_messages.proofs.Lines.{fifo_put, count_put}
 use Rattle.flow_messages.proofs.line.Line.put.Goals as goal
 
 pub invariant_of-self-clause-fifo : goal.invariant_of-self-clause-fifo
 invariant_of-self-clause-fifo c =
-    fifo-put _ c.args.self.now.queue.items _ _ _ c.args.message c.args.self.now.fifo c.push_back_reserved.ensures.items c.with-sent.ensures
+    let l = c.args.self.now in
+    let m = c.args.message in
+    subst (λ k. gone k (content_of c.push.new.self) ++ content_of c.push.new.self ≡ k) (sym c.with-sent.ensures) (subst (λ k. gone (l.sent.items ++ m ∷ []) k ++ k ≡ l.sent.items ++ m ∷ []) (sym c.push.ensures.content) (fifo_put l.sent.items (content_of l.store) l.fifo (m ∷ [])))
+
+pub invariant_of-self-clause-counts : goal.invariant_of-self-clause-counts
+invariant_of-self-clause-counts c =
+    let l = c.args.self.now in
+    let m = c.args.message in
+    rw (c.with-sent.ensures, c.push.ensures.content) (count_put l.sent.items (content_of l.store) l.fifo (m ∷ []) l.taken l.counts)

@@ -8,5 +8,5 @@ invariant-loop l = record {
   count : length l.lines.items ≡ l.counter;
   sent : (e : ℕ) → (view_of_lines l.lines.items).sent e ≡ [];
   received : (e : ℕ) → (view_of_lines l.lines.items).received e ≡ [];
-  even : All (λ line. line.capacity ≡ l.capacity) l.lines.items;
+  even : All (λ line. line.store.capacity ≡ l.capacity) l.lines.items;
 }

@@ -1,4 +1,4 @@
-use Rattle.std.proofs.Common.{◌<◌, length, arith}
+use Rattle.std.proofs.Common.{◌≡◌, ◌<◌, length, arith, sym, ◌∙◌, subst, ap}
 use borrow.Author.Tests.{ltb-true}
 use Rattle.flow_messages.proofs.Tables.{line-put, line-kept, line-full, on_ok, if_err}
 use Rattle.flow_messages.proofs.table_ends.TableEnds.put.Goals as goal
@@ -7,13 +7,13 @@ pub returns-clause-ok : goal.returns-clause-ok
 returns-clause-ok c =
     let ls = c.args.self.now.lines.items in
     let h : c.args.edge < length ls = omega (arith, ltb-true) in
-    on_ok c.put.result (λ p. line-put ls c.args.edge _ _ h c.index_mut.ensures.value c.args.message p.0 c.put.ensures.received p.1 c.put.ensures.capacity) c.put.ensures.ok
+    on_ok c.put.result (λ p. line-put ls c.args.edge _ _ h c.index_mut.ensures.value c.args.message p.0 p.1 c.put.ensures.capacity) c.put.ensures.ok
 
 pub returns-clause-refused : goal.returns-clause-refused
 returns-clause-refused c =
     let ls = c.args.self.now.lines.items in
     let h : c.args.edge < length ls = omega (arith, ltb-true) in
-    if_err _ _ c.put.result (λ e p. (p.0, (line-kept ls c.args.edge _ _ h c.index_mut.ensures.value p.1 c.put.ensures.received p.2 c.put.ensures.capacity).0)) c.put.ensures.refused
+    if_err _ _ c.put.result (λ e p. (p.0, (line-kept ls c.args.edge _ _ h c.index_mut.ensures.value p.1 p.2 c.put.ensures.capacity).0)) c.put.ensures.refused
 
 pub returns-clause-full : goal.returns-clause-full
 returns-clause-full c =

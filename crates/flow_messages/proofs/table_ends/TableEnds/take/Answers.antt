@@ -1,5 +1,6 @@
-use Rattle.std.proofs.Common.{◌<◌, length, arith, sym, ◌∙◌}
+use Rattle.std.proofs.Common.{◌≡◌, ◌<◌, length, arith, sym, ◌∙◌, subst, ap}
 use borrow.Author.Tests.{ltb-true}
+use Rattle.flow_messages.specs.Stores.{content_of}
 use Rattle.flow_messages.proofs.Tables.{line-taken, line-kept, line-empty, line-held, if_some, if_none, some_unless_empty}
 use Rattle.flow_messages.proofs.table_ends.TableEnds.take.Goals as goal
 
@@ -7,7 +8,7 @@ pub returns-clause-some : goal.returns-clause-some
 returns-clause-some c =
     let ls = c.args.self.now.lines.items in
     let h : c.args.edge < length ls = omega (arith, ltb-true) in
-    if_some _ _ c.take.result (λ m p. line-taken ls c.args.edge _ _ h c.index_mut.ensures.value m p.0 c.take.ensures.sent p.1 c.take.ensures.capacity) c.take.ensures.some
+    if_some _ _ c.take.result (λ m p. line-taken ls c.args.edge _ _ h c.index_mut.ensures.value m c.take.ensures.sent p c.take.ensures.capacity) c.take.ensures.some
 
 pub returns-clause-none : goal.returns-clause-none
 returns-clause-none c =
@@ -15,8 +16,8 @@ returns-clause-none c =
     let h : c.args.edge < length ls = omega (arith, ltb-true) in
     let new = c.take.new.self in
     if_none c.take.result (λ p. (
-      (line-kept ls c.args.edge _ new h c.index_mut.ensures.value c.take.ensures.sent p.0 (p.1 ∙ sym p.2) c.take.ensures.capacity).1,
-      line-empty ls c.args.edge _ new h c.index_mut.ensures.value p.1,
+      (line-kept ls c.args.edge _ new h c.index_mut.ensures.value c.take.ensures.sent (p.0 ∙ sym p.1) c.take.ensures.capacity).1,
+      line-empty ls c.args.edge _ new h c.index_mut.ensures.value p.0,
     )) c.take.ensures.none
 
 pub returns-clause-succeeds : goal.returns-clause-succeeds
@@ -24,4 +25,4 @@ returns-clause-succeeds c some =
     let ls = c.args.self.now.lines.items in
     let h : c.args.edge < length ls = omega (arith, ltb-true) in
     let old = c.index_mut.result.now in
-    some_unless_empty c.take.result old.queue.items (omega (arith, some, line-held ls c.args.edge old h c.index_mut.ensures.value)) (if_none c.take.result (λ p. p.2) c.take.ensures.none)
+    some_unless_empty c.take.result (content_of old.store) (omega (arith, some, line-held ls c.args.edge old h c.index_mut.ensures.value)) (if_none c.take.result (λ p. p.1) c.take.ensures.none)

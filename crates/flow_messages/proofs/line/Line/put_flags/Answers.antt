@@ -1,0 +1,26 @@
+use Rattle.std.proofs.Common.{◌≡◌, ◌+◌, ◌-◌, ◌<◌, ◌≤◌, true, false, [], ◌∷◌, ◌++◌, length, take, drop, refl, sym, ap, ◌∙◌, subst, arith}
+use Rattle.std.proofs.lemmas.List.{take-append-drop, length-take-le}
+use Rattle.flow_messages.specs.Signals.{signals, ended, orderly}
+use Rattle.flow_messages.specs.Stores.{content_of}
+use Rattle.flow_messages.specs.Lines.{gone}
+use Rattle.flow_messages.specs.Contents.{flag_messages}
+use Rattle.flow_messages.specs.declared.message.Item.TheVariants.{Bool as BoolItem, Int as IntItem}
+use Rattle.flow_messages.proofs.Signals.{ended-more, orderly-more, row-ended, row-orderly}
+use Rattle.flow_messages.proofs.Lines.{fifo_put, count_put}
+use Rattle.flow_messages.proofs.line.Line.put_flags.Goals as goal
+
+pub invariant_of-self : goal.invariant_of-self
+invariant_of-self c =
+    let l = c.args.self.now in
+    let s = l.sent.items in
+    let now = content_of l.store in
+    let row = flag_messages c.args.flags.now in
+    let free : ended (signals s) ≡ false = sym l.closes ∙ c.if-self.false in
+    let sent = c.with_flags-self.ensures ∙ ap (λ h. h.items ++ row) c.replace.ensures.value in
+    let held = c.put_flags.ensures.content in
+    record {
+      fifo = rw (sent, held) (fifo_put s now l.fifo row);
+      closes = c.if-self.false ∙ sym (ap (λ k. ended (signals k)) sent ∙ ended-more s row free ∙ row-ended BoolItem c.args.flags.now);
+      counts = rw (sent, held) (count_put s now l.fifo row l.taken l.counts);
+      orderly = ap (λ k. orderly (signals k)) sent ∙ orderly-more s row free ∙ row-orderly BoolItem c.args.flags.now;
+    }

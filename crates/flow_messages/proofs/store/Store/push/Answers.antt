@@ -1,0 +1,115 @@
+use Rattle.std.proofs.Common.{◌≡◌, ◌+◌, ◌<◌, ℤ, [], ◌∷◌, ◌++◌, ap, sym, length, ◌∙◌, rules, arith, length-append}
+use Rattle.std.specs.VecDeque.{deque_len}
+use Rattle.std.proofs.lemmas.Int.{to_z-of_z}
+use mir.Val.{SFits}
+use mir.Syntax.{w128}
+use Rattle.flow_messages.specs.declared.message.Msg.{Msg}
+use Rattle.flow_messages.specs.declared.message.Msg.TheVariants.{Item as ItemMsg}
+use Rattle.flow_messages.specs.declared.message.Item.TheVariants.{Unit as UnitItem, Bool as BoolItem, Int as IntItem}
+use Rattle.flow_messages.specs.Runs.{run_items}
+use Rattle.flow_messages.specs.Contents.{content}
+use Rattle.flow_messages.proofs.Contents.{length-content, put_queue, put_units, put_flags, put_ints}
+use Rattle.flow_messages.proofs.store.Store.push.Goals as goal
+
+pub put-requires : goal.put-requires
+put-requires c =
+    let s = c.args.self.now in
+    let flags = run_items s.flags in
+    let ints = run_items s.ints in
+    let queue = s.queue.items in
+    let room : length ints < s.ints.most = omega (arith, length-content s.units flags ints queue) in
+    record { room = room }
+
+pub invariant_of-self-clause-counts : goal.invariant_of-self-clause-counts
+invariant_of-self-clause-counts c =
+    let s = c.args.self.now in
+    let flags = run_items s.flags in
+    let ints = run_items s.ints in
+    let queue = s.queue.items in
+    omega (arith, length-content s.units flags ints queue, length-content s.units flags (run_items c.put.new.self) queue, simp length-append at (ap length c.put.ensures.items))
+
+pub returns-in-Item-Int-clause-content : goal.returns-in-Item-Int-clause-content
+returns-in-Item-Int-clause-content c =
+    let s = c.args.self.now in
+    let flags = run_items s.flags in
+    let ints = run_items s.ints in
+    let queue = s.queue.items in
+    let none : deque_len s.queue ≡ 0 = search rules in
+    let n = c.in-Item-Int.number in
+    let is : c.args.message ≡ ItemMsg (IntItem n) = search rules in
+    let fits : SFits w128 n = search rules in
+    let put : run_items c.put.new.self ≡ ints ++ n ∷ [] = c.put.ensures.items ∙ ap (λ (k : ℤ). ints ++ k ∷ []) (to_z-of_z w128 n fits) in
+    ap (λ l. content s.units flags l queue) put ∙ put_ints s.units flags ints (n ∷ []) queue (omega arith)
+    ∙ ap (λ (m : Msg). content s.units flags ints queue ++ m ∷ []) (sym is)
+
+pub put-requires-in-Item-Bool : goal.put-requires-in-Item-Bool
+put-requires-in-Item-Bool c =
+    let s = c.args.self.now in
+    let flags = run_items s.flags in
+    let ints = run_items s.ints in
+    let queue = s.queue.items in
+    let room : length flags < s.flags.most = omega (arith, length-content s.units flags ints queue) in
+    record { room = room }
+
+pub invariant_of-self-in-Item-Bool-clause-counts : goal.invariant_of-self-in-Item-Bool-clause-counts
+invariant_of-self-in-Item-Bool-clause-counts c =
+    let s = c.args.self.now in
+    let flags = run_items s.flags in
+    let ints = run_items s.ints in
+    let queue = s.queue.items in
+    omega (arith, length-content s.units flags ints queue, length-content s.units (run_items c.put-in-Item-Bool.new.self) ints queue, simp length-append at (ap length c.put-in-Item-Bool.ensures.items))
+
+pub returns-in-Item-Bool-clause-content : goal.returns-in-Item-Bool-clause-content
+returns-in-Item-Bool-clause-content c =
+    let s = c.args.self.now in
+    let flags = run_items s.flags in
+    let ints = run_items s.ints in
+    let queue = s.queue.items in
+    let none : deque_len s.queue ≡ 0 = search rules in
+    let no_ints : length ints ≡ 0 = search rules in
+    let b = c.in-Item-Bool.truth in
+    let is : c.args.message ≡ ItemMsg (BoolItem b) = search rules in
+    ap (λ l. content s.units l ints queue) c.put-in-Item-Bool.ensures.items ∙ put_flags s.units flags (b ∷ []) ints queue no_ints (omega arith)
+    ∙ ap (λ (m : Msg). content s.units flags ints queue ++ m ∷ []) (sym is)
+
+pub invariant_of-self-in-Item-Unit-clause-counts : goal.invariant_of-self-in-Item-Unit-clause-counts
+invariant_of-self-in-Item-Unit-clause-counts c =
+    let s = c.args.self.now in
+    let flags = run_items s.flags in
+    let ints = run_items s.ints in
+    let queue = s.queue.items in
+    omega (arith, length-content s.units flags ints queue, length-content (s.units + 1) flags ints queue)
+
+pub returns-in-Item-Unit-clause-content : goal.returns-in-Item-Unit-clause-content
+returns-in-Item-Unit-clause-content c =
+    let s = c.args.self.now in
+    let flags = run_items s.flags in
+    let ints = run_items s.ints in
+    let queue = s.queue.items in
+    let sum = length-content s.units flags ints queue in
+    let is : c.args.message ≡ ItemMsg UnitItem = search rules in
+    put_units s.units 1 flags ints queue (omega arith) (omega arith) (omega arith) ∙ ap (λ (m : Msg). content s.units flags ints queue ++ m ∷ []) (sym is)
+
+pub push_back_reserved-requires : goal.push_back_reserved-requires
+push_back_reserved-requires c =
+    let s = c.args.self.now in
+    let flags = run_items s.flags in
+    let ints = run_items s.ints in
+    let queue = s.queue.items in
+    omega (arith, length-content s.units flags ints queue)
+
+pub invariant_of-self-2-clause-counts : goal.invariant_of-self-2-clause-counts
+invariant_of-self-2-clause-counts c =
+    let s = c.args.self.now in
+    let flags = run_items s.flags in
+    let ints = run_items s.ints in
+    let queue = s.queue.items in
+    omega (arith, length-content s.units flags ints queue, length-content s.units flags ints c.push_back_reserved.new.self.items, simp length-append at (ap length c.push_back_reserved.ensures.items))
+
+pub returns-clause-content : goal.returns-clause-content
+returns-clause-content c =
+    let s = c.args.self.now in
+    let flags = run_items s.flags in
+    let ints = run_items s.ints in
+    let queue = s.queue.items in
+    ap (content s.units flags ints) c.push_back_reserved.ensures.items ∙ put_queue s.units flags ints queue (c.args.message ∷ [])

@@ -1,0 +1,24 @@
+use Rattle.std.proofs.Common.{◌≡◌, ◌<◌, length, arith, sym, ◌∙◌, subst, ap}
+use borrow.Author.Tests.{ltb-true}
+use Rattle.flow_messages.specs.declared.message.Item.TheVariants.{Unit as UnitItem, Bool as BoolItem, Int as IntItem}
+use Rattle.flow_messages.specs.Contents.{flag_messages}
+use Rattle.flow_messages.proofs.Signals.{signals-row}
+use Rattle.std.proofs.Common.{◌+◌, ◌≤◌, set}
+use Rattle.flow_messages.specs.Ends.{PutAll}
+use Rattle.flow_messages.specs.Tables.{view_of_lines}
+use Rattle.flow_messages.proofs.Tables.{line-put_row, line-space}
+use Rattle.flow_messages.proofs.table_ends.TableEnds.put_flags.Goals as goal
+
+pub put_flags-requires : goal.put_flags-requires
+put_flags-requires c =
+    let ls = c.args.self.now.lines.items in
+    let h : c.args.edge < length ls = omega (arith, ltb-true) in
+    omega (arith, c.requires.certain, line-space ls c.args.edge _ h c.index_mut.ensures.value)
+
+pub returns-clause-put : goal.returns-clause-put
+returns-clause-put c =
+    let ls = c.args.self.now.lines.items in
+    let h : c.args.edge < length ls = omega (arith, ltb-true) in
+    let new = c.put_flags.new.self in
+    let row = flag_messages c.args.flags.now in
+    subst (λ l. PutAll (view_of_lines ls) c.args.edge l (view_of_lines (set ls c.args.edge new))) (signals-row BoolItem c.args.flags.now) (line-put_row ls c.args.edge _ new h c.index_mut.ensures.value row c.put_flags.ensures.sent c.put_flags.ensures.held c.put_flags.ensures.capacity)

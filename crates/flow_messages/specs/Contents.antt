@@ -1,0 +1,21 @@
+-- The messages that an edge holds, where items of one kind lie side by side.
+use Rattle.std.specs.Prelude.{ℕ, ℤ, Bool, List, ◌++◌, map, replicate}
+use Rattle.flow_messages.specs.declared.message.Msg.{Msg}
+use Rattle.flow_messages.specs.declared.message.Msg.TheVariants.{Item as ItemMsg}
+use Rattle.flow_messages.specs.declared.message.Item.TheVariants.{Unit as UnitItem, Bool as BoolItem, Int as IntItem}
+
+-- so many unit items
+abbrev pub unit_messages : ℕ → List Msg
+unit_messages n = replicate n (ItemMsg UnitItem)
+
+-- these truth values, as items
+abbrev pub flag_messages : List Bool → List Msg
+flag_messages flags = map (λ b. ItemMsg (BoolItem b)) flags
+
+-- these integers, as items
+abbrev pub int_messages : List ℤ → List Msg
+int_messages ints = map (λ n. ItemMsg (IntItem n)) ints
+
+-- so many unit items, then these truth values and these integers as items, then these messages
+unfoldable pub content : ℕ → List Bool → List ℤ → List Msg → List Msg
+content units flags ints queue = unit_messages units ++ (flag_messages flags ++ (int_messages ints ++ queue))

@@ -1,0 +1,128 @@
+// Items of one kind, side by side.
+ghost use Rattle.std.specs.Prelude.{◌≡◌, ◌+◌, ◌<◌, ◌≤◌, ◌==◌, [], ◌∷◌, ◌++◌, length, drop, IfOk, IfSome, IfNone};
+ghost use Rattle.std.specs.Vec.{vec_capacity};
+ghost use Rattle.flow_messages.specs.Limits.{greatest_capacity};
+
+use std::alloc::{AllocError, Global};
+
+/// Items side by side, the oldest first, and room for as many as `most`. Those that were taken lie before the others until no
+/// other is left, or the others move to the front.
+#[derive(Drop)]
+pub struct Run<T> {
+    items: Vec<T>,
+    taken: usize,
+    pub most: usize,
+    ghost taken_within: { taken ≤ length items.items },
+    ghost bound: { length items.items ≤ taken + most },
+    ghost reserved: { most + most ≤ vec_capacity items },
+}
+
+impl<T: Copy + Drop> Run<T> {
+    ghost use Rattle.flow_messages.specs.Runs.{run_items};
+
+    /// An empty run, with its room reserved.
+    pub fn new(alloc: Global, most: usize) -> Result<Run<T>, AllocError>
+        requires limit { most ≤ greatest_capacity }
+        ensures empty { IfOk result (λ r. (run_items r ≡ []) × (r.most ≡ most)) }
+    {
+        let items = Vec::with_capacity(alloc, most + most)?;
+        Ok(Run {
+            items,
+            taken: 0,
+            most,
+        })
+    }
+
+    /// What it holds, the oldest first.
+    #[inline(always)]
+    pub fn held(&self) -> &[T]
+        ensures { result.now ≡ run_items self.now }
+    {
+        &self.items[self.taken..]
+    }
+
+    /// How many items it holds.
+    #[inline(always)]
+    pub fn len(&self) -> usize
+        ensures { result ≡ length (run_items self.now) }
+    {
+        self.items.len() - self.taken
+    }
+
+    /// Whether it holds no item.
+    #[inline(always)]
+    pub fn is_empty(&self) -> bool
+        ensures { result ≡ (length (run_items self.now) == 0) }
+    {
+        self.items.len() == self.taken
+    }
+
+    /// Puts an item behind all others.
+    #[inline(always)]
+    pub fn put(&mut self, item: T)
+        requires room { length (run_items self.old) < self.old.most }
+        ensures items { run_items self.new ≡ run_items self.old ++ item ∷ [] }
+        ensures most { self.new.most ≡ self.old.most }
+    {
+        if self.items.len() >= self.most + self.most {
+            self.move_down();
+        }
+        self.items.push_reserved(item);
+    }
+
+    /// Puts these items behind all others, in order.
+    #[inline(always)]
+    pub fn put_all(&mut self, items: &[T])
+        requires room { length (run_items self.old) + length items.now ≤ self.old.most }
+        ensures items { run_items self.new ≡ run_items self.old ++ items.now }
+        ensures most { self.new.most ≡ self.old.most }
+    {
+        if self.items.len() + items.len() > self.most + self.most {
+            self.move_down();
+        }
+        let _fits = self.items.extend_from_slice(items);
+    }
+
+    /// Takes this many of the oldest.
+    #[inline(always)]
+    pub fn skip(&mut self, count: usize)
+        requires there { count ≤ length (run_items self.old) }
+        ensures items { run_items self.new ≡ drop count (run_items self.old) }
+        ensures most { self.new.most ≡ self.old.most }
+    {
+        if count == self.len() {
+            self.items.clear();
+            self.taken = 0;
+        } else {
+            self.taken += count;
+        }
+    }
+
+    /// Takes the oldest.
+    #[inline(always)]
+    pub fn take(&mut self) -> Option<T>
+        ensures some { IfSome result (λ x. run_items self.old ≡ x ∷ run_items self.new) }
+        ensures none { IfNone result ((run_items self.old ≡ []) × (run_items self.new ≡ [])) }
+        ensures most { self.new.most ≡ self.old.most }
+    {
+        if self.is_empty() {
+            return None;
+        }
+        let item = self.items[self.taken];
+        self.skip(1);
+        Some(item)
+    }
+
+    /// Moves what it holds to the front, so that there is room behind it.
+    #[inline(never)]
+    fn move_down(&mut self)
+        ensures items { run_items self.new ≡ run_items self.old }
+        ensures taken { self.new.taken ≡ 0 }
+        ensures most { self.new.most ≡ self.old.most }
+    {
+        let left = self.len();
+        self.items.copy_within(self.taken.., 0);
+        self.items.truncate(left);
+        self.taken = 0;
+    }
+}
