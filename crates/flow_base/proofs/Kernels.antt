@@ -227,7 +227,7 @@ module _ {S : Type 0} {b : Behaviour S} {inputs outputs : List ℕ} {s : S} {a :
 
 -- steps, and then more steps
 module _ {S : Type 0} (b : Behaviour S) (inputs outputs : List ℕ) where
-  went_further : {s : S} {a : View} {t : S} {v : View} {n : ℕ} {u : S} {w : View} {k : ℕ} → Went inputs outputs b s a t v n → Went inputs outputs b t v u w k → Went inputs outputs b s a u w (n + k)
+  pub went_further : {s : S} {a : View} {t : S} {v : View} {n : ℕ} {u : S} {w : View} {k : ℕ} → Went inputs outputs b s a t v n → Went inputs outputs b t v u w k → Went inputs outputs b s a u w (n + k)
   went_further {s} {a} {t} {v} {n} {u} {w} {k} first next =
       let g = first.history in
       let h = next.history in

@@ -1,0 +1,299 @@
+-- What a kernel makes of rows: many messages taken or put in one call, and the history of whole rounds.
+use Rattle.std.proofs.Common.{◌≡◌, ◌≢◌, ℕ, ℤ, zero, suc, ◌+◌, ◌<◌, ◌≤◌, Bool, true, false, cond, eqb, List, [], ◌∷◌, ◌++◌, length, take, refl, sym, ◌∙◌, ap, subst, arith, append-nil, append_assoc, length-append, eq-eqb, ne_eqb, inl, inr}
+use Rattle.std.proofs.lemmas.Bool.{cases_eq, cases_Bool}
+use Rattle.std.proofs.lemmas.List.{take-append-le, take-map, length-map}
+use mathlib.Core.List.{IsPrefix}
+use Rattle.kahn.specs.declared.want.Want.TheVariants.{Read, Write}
+use Rattle.kahn.specs.Processes.{Event, Reads, Writes, Does}
+use Rattle.kahn.proofs.History.{does_then}
+use Rattle.flow_messages.specs.Cells.{Cell, unit, flag, int}
+use Rattle.flow_messages.specs.Signals.{Signal, carry, stop, ended}
+use Rattle.flow_messages.specs.Ends.{View, SameEnds, TakenAll, PutAll}
+use Rattle.flow_messages.specs.Rows.{units_said, flags_said, ints_said}
+use Rattle.flow_base.specs.Transducers.{Behaviour}
+use Rattle.flow_base.specs.Visits.{read_from, sent_after, edge_of, IsNone, Went}
+use Rattle.flow_base.proofs.Carried.{same_ends_refl, same_ends_then, prefix_same, prefix_then, read_append, sent_append}
+use Rattle.flow_base.proofs.Visits.{not_at}
+use Rattle.flow_base.proofs.Kernels.{went_further}
+
+-- a row, and more of it
+pub row_then : (b : Bool) (xs ys : List Signal) → cond b xs [] ++ cond b ys [] ≡ cond b (xs ++ ys) []
+row_then true xs ys = refl
+row_then false xs ys = refl
+
+-- an edge that is one is not the other
+apart_tests : (e f g : ℕ) → f ≢ g → eqb e f ≡ true → eqb e g ≡ false
+apart_tests e f g apart is = elim (cases_eq e f) [
+  | inl at ↦ ne_eqb e g (λ same. apart (sym at ∙ same))
+  | inr ne ↦ absurd (let no = ne_eqb e f ne in cc)
+]
+
+tests_then : (b c : Bool) (xs ys xs' ys' : List Signal) → (b ≡ true → c ≡ false) → (cond b xs [] ++ cond c ys []) ++ (cond b xs' [] ++ cond c ys' []) ≡ cond b (xs ++ xs') [] ++ cond c (ys ++ ys') []
+tests_then true true xs ys xs' ys' apart = absurd (cc (apart refl))
+tests_then true false xs ys xs' ys' apart = simp append-nil
+tests_then false true xs ys xs' ys' apart = refl
+tests_then false false xs ys xs' ys' apart = refl
+
+-- two rows of edges that are not one, and more of both
+pub rows_then : (e f g : ℕ) (xs ys xs' ys' : List Signal) → f ≢ g → (cond (eqb e f) xs [] ++ cond (eqb e g) ys []) ++ (cond (eqb e f) xs' [] ++ cond (eqb e g) ys' []) ≡ cond (eqb e f) (xs ++ xs') [] ++ cond (eqb e g) (ys ++ ys') []
+rows_then e f g xs ys xs' ys' apart = tests_then (eqb e f) (eqb e g) xs ys xs' ys' (apart_tests e f g apart)
+
+-- rows that have not ended
+pub ended_none : ended [] ≡ false
+unfolding ended
+ended_none = refl
+
+pub ended_append : (ms ns : List Signal) → ended ms ≡ false → ended ns ≡ false → ended (ms ++ ns) ≡ false
+unfolding ended
+ended_append [] ns free other = other
+ended_append (carry x ∷ ms) ns free other = ended_append ms ns free other
+ended_append (stop ∷ ms) ns free other = absurd (cc)
+
+pub ended_row : (b : Bool) (ms : List Signal) → ended ms ≡ false → ended (cond b ms []) ≡ false
+ended_row true ms free = free
+ended_row false ms free = ended_none
+
+pub ended_one : (x : Cell) → ended (carry x ∷ []) ≡ false
+unfolding ended
+ended_one x = refl
+
+pub ended_units : (n : ℕ) → ended (units_said n) ≡ false
+unfolding ended units_said
+ended_units zero = refl
+ended_units (suc n) = ended_units n
+
+pub ended_flags : (bs : List Bool) → ended (flags_said bs) ≡ false
+unfolding ended
+ended_flags [] = refl
+ended_flags (b ∷ bs) = ended_flags bs
+
+pub ended_ints : (ns : List ℤ) → ended (ints_said ns) ≡ false
+unfolding ended
+ended_ints [] = refl
+ended_ints (n ∷ ns) = ended_ints ns
+
+-- the first of a row
+pub take_flags : (k : ℕ) (bs : List Bool) → take k (flags_said bs) ≡ flags_said (take k bs)
+take_flags k bs = take-map (λ b. carry (flag b)) k bs
+
+pub take_ints : (k : ℕ) (ns : List ℤ) → take k (ints_said ns) ≡ ints_said (take k ns)
+take_ints k ns = take-map (λ n. carry (int n)) k ns
+
+pub take_units : (k n : ℕ) → k ≤ n → take k (units_said n) ≡ units_said k
+unfolding units_said
+take_units zero n within = refl
+take_units (suc k) zero within = absurd (omega arith)
+take_units (suc k) (suc n) within = ap (λ l. carry unit ∷ l) (take_units k n (omega arith))
+
+-- how long rows are
+pub length_units : (n : ℕ) → length (units_said n) ≡ n
+unfolding units_said
+length_units zero = refl
+length_units (suc n) = omega (arith, length_units n)
+
+pub length_flags : (bs : List Bool) → length (flags_said bs) ≡ length bs
+length_flags bs = length-map bs (λ b. carry (flag b))
+
+pub length_ints : (ns : List ℤ) → length (ints_said ns) ≡ length ns
+length_ints ns = length-map ns (λ n. carry (int n))
+
+-- what is shown is what is certain, as far as it goes
+pub shown : (ms c : List Signal) (k : ℕ) → IsPrefix ms c → k ≤ length ms → take k c ≡ take k ms
+shown ms c k (more, is) within = ap (take k) (sym is) ∙ take-append-le k ms more within
+
+-- what was sent, with one row more and with two
+after_then : (l ms ns : List Signal) → ended ms ≡ false → cond (ended (cond (ended l) l (l ++ ms))) (cond (ended l) l (l ++ ms)) (cond (ended l) l (l ++ ms) ++ ns) ≡ cond (ended l) l (l ++ (ms ++ ns))
+after_then l ms ns unended = elim (cases_Bool (ended l)) [
+  | inl shut ↦ grind (arith, shut)
+  | inr free ↦ let still = ended_append l ms free unended in let same = append_assoc l ms ns in grind (arith, free, still, same)
+]
+
+-- and with none
+after_none : (l : List Signal) → l ≡ cond (ended l) l (l ++ [])
+after_none l = elim (cases_Bool (ended l)) [
+  | inl shut ↦ ap (λ b. cond b l (l ++ [])) (sym shut)
+  | inr free ↦ sym (append-nil l) ∙ ap (λ b. cond b l (l ++ [])) (sym free)
+]
+
+-- a row that goes to this edge or to another
+after_row : (b : Bool) (l ms : List Signal) → cond b (cond (ended l) l (l ++ ms)) l ≡ cond (ended l) l (l ++ cond b ms [])
+after_row true l ms = refl
+after_row false l ms = after_none l
+
+-- what many takes add to what was received from edge e
+taken_all_received : (v w : View) (f e : ℕ) (ms : List Signal) → TakenAll v f ms w → w.received e ≡ v.received e ++ cond (eqb e f) ms []
+taken_all_received v w f e ms t = elim (cases_eq e f) [
+  | inl at ↦ ap w.received at ∙ t.received ∙ ap (λ k. v.received k ++ ms) (sym at) ∙ ap (λ b. v.received e ++ cond b ms []) (sym (eq-eqb e f at))
+  | inr ne ↦ t.others e ne ∙ sym (append-nil (v.received e)) ∙ ap (λ b. v.received e ++ cond b ms []) (sym (ne_eqb e f ne))
+]
+
+taken_all_room : (v w : View) (f e : ℕ) (ms : List Signal) → TakenAll v f ms w → v.room e ≤ w.room e
+taken_all_room v w f e ms t = elim (cases_eq e f) [
+  | inl at ↦ omega (arith, t.room_here, ap v.room at, ap w.room at)
+  | inr ne ↦ omega (arith, t.room e ne)
+]
+
+-- what many puts add to what was sent on edge e
+put_all_sent : (v w : View) (f e : ℕ) (ms : List Signal) → PutAll v f ms w → w.sent e ≡ cond (ended (v.sent e)) (v.sent e) (v.sent e ++ cond (eqb e f) ms [])
+put_all_sent v w f e ms p = elim (cases_eq e f) [
+  | inl at ↦ ap w.sent at ∙ p.sent ∙ ap (λ k. cond (ended (v.sent k)) (v.sent k) (v.sent k ++ ms)) (sym at) ∙ ap (λ b. cond (ended (v.sent e)) (v.sent e) (v.sent e ++ cond b ms [])) (sym (eq-eqb e f at))
+  | inr ne ↦ p.others e ne ∙ after_none (v.sent e) ∙ ap (λ b. cond (ended (v.sent e)) (v.sent e) (v.sent e ++ cond b ms [])) (sym (ne_eqb e f ne))
+]
+
+put_all_coming : (v w : View) (f e : ℕ) (ms : List Signal) → PutAll v f ms w → IsPrefix (v.coming e) (w.coming e)
+put_all_coming v w f e ms p = elim (cases_eq e f) [
+  | inl at ↦ subst (λ k. IsPrefix (v.coming k) (w.coming k)) (sym at) p.coming_here
+  | inr ne ↦ prefix_same (v.coming e) (w.coming e) (p.coming e ne)
+]
+
+module _ (inputs outputs : List ℕ) where
+  -- what was taken from each edge and put on each, and the other ends lost nothing
+  pub record Shifted (reads writes : ℕ → List Signal) (v w : View) : Type 0 where
+    pub ends : SameEnds v w
+    pub received : (e : ℕ) → w.received e ≡ v.received e ++ reads e
+    pub sent : (e : ℕ) → w.sent e ≡ cond (ended (v.sent e)) (v.sent e) (v.sent e ++ writes e)
+    pub no_end : (e : ℕ) → ended (writes e) ≡ false
+    pub coming : (e : ℕ) → IsNone inputs e → IsPrefix (v.coming e) (w.coming e)
+    pub room : (e : ℕ) → IsNone outputs e → v.room e ≤ w.room e
+
+  pub shifted_none : (v : View) → Shifted (λ e. []) (λ e. []) v v
+  shifted_none v = record {
+    ends = same_ends_refl v;
+    received = λ e. sym (append-nil (v.received e));
+    sent = λ e. after_none (v.sent e);
+    no_end = λ e. ended_none;
+    coming = λ e none. prefix_same (v.coming e) (v.coming e) refl;
+    room = λ e none. omega arith;
+  }
+
+  module _ {reads writes : ℕ → List Signal} {v u : View} (made : Shifted reads writes v u) where
+    -- many messages are taken
+    pub shifted_skip : (p : ℕ) (ms : List Signal) (w : View) → p < length inputs → TakenAll u (edge_of inputs p) ms w → Shifted (λ e. reads e ++ cond (eqb e (edge_of inputs p)) ms []) writes v w
+    shifted_skip p ms w there taken =
+        let f = edge_of inputs p in
+        record {
+          ends = same_ends_then v u w made.ends taken.ends;
+          received = λ e. taken_all_received u w f e ms taken ∙ ap (λ l. l ++ cond (eqb e f) ms []) (made.received e) ∙ append_assoc (v.received e) (reads e) (cond (eqb e f) ms []);
+          sent = λ e. taken.sent e ∙ made.sent e;
+          no_end = made.no_end;
+          coming = λ e none. prefix_then (v.coming e) (u.coming e) (w.coming e) (made.coming e none) (prefix_same (u.coming e) (w.coming e) (taken.coming e (not_at inputs e p none there)));
+          room = λ e none. omega (arith, made.room e none, taken_all_room u w f e ms taken);
+        }
+
+    -- many messages are put
+    pub shifted_put : (q : ℕ) (ms : List Signal) (w : View) → q < length outputs → ended ms ≡ false → PutAll u (edge_of outputs q) ms w → Shifted reads (λ e. writes e ++ cond (eqb e (edge_of outputs q)) ms []) v w
+    shifted_put q ms w there free put =
+        let g = edge_of outputs q in
+        record {
+          ends = same_ends_then v u w made.ends put.ends;
+          received = λ e. put.received e ∙ made.received e;
+          sent = λ e. put_all_sent u w g e ms put ∙ ap (λ l. cond (ended l) l (l ++ cond (eqb e g) ms [])) (made.sent e) ∙ after_then (v.sent e) (writes e) (cond (eqb e g) ms []) (made.no_end e);
+          no_end = λ e. ended_append (writes e) (cond (eqb e g) ms []) (made.no_end e) (ended_row (eqb e g) ms free);
+          coming = λ e none. prefix_then (v.coming e) (u.coming e) (w.coming e) (made.coming e none) (put_all_coming u w g e ms put);
+          room = λ e none. omega (arith, made.room e none, put.room e (not_at outputs e q none there));
+        }
+
+    -- the same messages, told otherwise
+    pub shifted_as : (reads' writes' : ℕ → List Signal) → ((e : ℕ) → reads e ≡ reads' e) → ((e : ℕ) → writes e ≡ writes' e) → Shifted reads' writes' v u
+    shifted_as reads' writes' same_reads same_writes = record {
+      ends = made.ends;
+      received = λ e. made.received e ∙ ap (λ l. v.received e ++ l) (same_reads e);
+      sent = λ e. made.sent e ∙ ap (λ l. cond (ended (v.sent e)) (v.sent e) (v.sent e ++ l)) (same_writes e);
+      no_end = λ e. ap ended (sym (same_writes e)) ∙ made.no_end e;
+      coming = made.coming;
+      room = made.room;
+    }
+
+  module _ {S : Type 0} (b : Behaviour S) where
+    -- whole rounds from s to t, which read and write just these messages, in so many steps; no end is written
+    pub record Rounds (s t : S) (reads writes : ℕ → List Signal) (n : ℕ) : Type 0 where
+      pub history : List (Event Signal)
+      pub does : Does b.process s history t
+      pub counts : length history ≡ n
+      pub read : (e : ℕ) → read_from (edge_of inputs) e history ≡ reads e
+      pub wrote : (e : ℕ) (l : List Signal) → sent_after (edge_of outputs) e l history ≡ cond (ended l) l (l ++ writes e)
+      pub no_end : (e : ℕ) → ended (writes e) ≡ false
+
+    pub rounds_none : (s : S) → Rounds s s (λ e. []) (λ e. []) 0
+    unfolding read_from sent_after
+    rounds_none s = record {
+      history = [];
+      does = refl;
+      counts = refl;
+      read = λ e. refl;
+      wrote = λ e l. after_none l;
+      no_end = λ e. ended_none;
+    }
+
+    module _ {s t : S} {reads writes : ℕ → List Signal} {n : ℕ} (made : Rounds s t reads writes n) where
+      -- it reads a message
+      pub rounds_read : (p : ℕ) (m : Signal) (u : S) → b.process.want t ≡ Read p → u ≡ b.process.read t m → Rounds s u (λ e. reads e ++ cond (eqb e (edge_of inputs p)) (m ∷ []) []) writes (n + 1)
+      unfolding read_from sent_after
+      rounds_read p m u wants is =
+          let h = made.history in
+          record {
+            history = h ++ Reads p m ∷ [];
+            does = does_then b.process s t u h (Reads p m ∷ []) made.does (wants, sym is);
+            counts = length-append h (Reads p m ∷ []) ∙ ap (λ l. l + 1) made.counts;
+            read = λ e. sym (read_append (edge_of inputs) e h (Reads p m ∷ [])) ∙ ap (λ l. l ++ cond (eqb e (edge_of inputs p)) (m ∷ []) []) (made.read e);
+            wrote = λ e l. sent_append (edge_of outputs) e l h (Reads p m ∷ []) ∙ made.wrote e l;
+            no_end = made.no_end;
+          }
+
+      -- it writes an item
+      pub rounds_write : (q : ℕ) (x : Cell) (u : S) → b.process.want t ≡ Write q → carry x ≡ b.process.written t → u ≡ b.process.wrote t → Rounds s u reads (λ e. writes e ++ cond (eqb e (edge_of outputs q)) (carry x ∷ []) []) (n + 1)
+      unfolding read_from sent_after
+      rounds_write q x u wants told is =
+          let h = made.history in
+          let g = edge_of outputs q in
+          record {
+            history = h ++ Writes q (carry x) ∷ [];
+            does = does_then b.process s t u h (Writes q (carry x) ∷ []) made.does (wants, sym told, sym is);
+            counts = length-append h (Writes q (carry x) ∷ []) ∙ ap (λ l. l + 1) made.counts;
+            read = λ e. sym (read_append (edge_of inputs) e h (Writes q (carry x) ∷ [])) ∙ append-nil (read_from (edge_of inputs) e h) ∙ made.read e;
+            wrote = λ e l. sent_append (edge_of outputs) e l h (Writes q (carry x) ∷ []) ∙ ap (λ k. cond (eqb e g) (cond (ended k) k (k ++ carry x ∷ [])) k) (made.wrote e l) ∙ after_row (eqb e g) (cond (ended l) l (l ++ writes e)) (carry x ∷ []) ∙ after_then l (writes e) (cond (eqb e g) (carry x ∷ []) []) (made.no_end e);
+            no_end = λ e. ended_append (writes e) (cond (eqb e g) (carry x ∷ []) []) (made.no_end e) (ended_row (eqb e g) (carry x ∷ []) (ended_one x));
+          }
+
+      -- and then more rounds
+      pub rounds_then : {u : S} {reads' writes' : ℕ → List Signal} {k : ℕ} → Rounds t u reads' writes' k → Rounds s u (λ e. reads e ++ reads' e) (λ e. writes e ++ writes' e) (n + k)
+      rounds_then {u} {reads'} {writes'} {k} next =
+          let g = made.history in
+          let h = next.history in
+          record {
+            history = g ++ h;
+            does = does_then b.process s t u g h made.does next.does;
+            counts = length-append g h ∙ ap (λ l. l + length h) made.counts ∙ ap (λ l. n + l) next.counts;
+            read = λ e. sym (read_append (edge_of inputs) e g h) ∙ ap (λ l. l ++ read_from (edge_of inputs) e h) (made.read e) ∙ ap (λ l. reads e ++ l) (next.read e);
+            wrote = λ e l. sent_append (edge_of outputs) e l g h ∙ ap (λ k. sent_after (edge_of outputs) e k h) (made.wrote e l) ∙ next.wrote e (cond (ended l) l (l ++ writes e)) ∙ after_then l (writes e) (writes' e) (made.no_end e);
+            no_end = λ e. ended_append (writes e) (writes' e) (made.no_end e) (next.no_end e);
+          }
+
+      -- the same messages, told otherwise
+      pub rounds_as : (reads' writes' : ℕ → List Signal) → ((e : ℕ) → reads e ≡ reads' e) → ((e : ℕ) → writes e ≡ writes' e) → Rounds s t reads' writes' n
+      rounds_as reads' writes' same_reads same_writes = record {
+        history = made.history;
+        does = made.does;
+        counts = made.counts;
+        read = λ e. made.read e ∙ same_reads e;
+        wrote = λ e l. made.wrote e l ∙ ap (λ k. cond (ended l) l (l ++ k)) (same_writes e);
+        no_end = λ e. ap ended (sym (same_writes e)) ∙ made.no_end e;
+      }
+
+      -- rounds over the rows of the ends are steps
+      pub rounds_went : {v w : View} → Shifted reads writes v w → 0 < n → Went inputs outputs b s v t w n
+      rounds_went {v} {w} shifted some = record {
+        history = made.history;
+        does = made.does;
+        counts = made.counts;
+        carried = record {
+          received = λ e. shifted.received e ∙ ap (λ l. v.received e ++ l) (sym (made.read e));
+          sent = λ e. shifted.sent e ∙ sym (made.wrote e (v.sent e));
+        };
+        spares = record { coming = shifted.coming; room = shifted.room };
+        calm = λ none. absurd (omega arith);
+      }
+
+    -- what a kernel has made goes on by rounds over the rows of its ends
+    pub went_rounds : {s : S} {a : View} {t : S} {v : View} {n : ℕ} {u : S} {reads writes : ℕ → List Signal} {k : ℕ} → Went inputs outputs b s a t v n → Rounds t u reads writes k → 0 < k → (w : View) → Shifted reads writes v w → Went inputs outputs b s a u w (n + k)
+    went_rounds went rounds some w shifted = went_further b inputs outputs went (rounds_went rounds shifted some)
