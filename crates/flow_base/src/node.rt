@@ -195,7 +195,41 @@ impl<W: Worker> Node<W> {
         Ok(chunk)
     }
 
-    // The rest of an instance that has begun, and then whole instances, at most `chunk` steps. How many it made.
+    // The rest of an instance that has begun, and then whole instances, over rows and then one by one, at most `chunk`
+    // steps. How many it made. It stands alone, so that the loop of single steps keeps its values in registers.
+    #[inline(never)]
+    fn whole_instances<E: Ends>(
+        &mut self,
+        inputs: &[usize],
+        outputs: &[usize],
+        ends: &mut E,
+        chunk: usize,
+    ) -> Result<usize, AllocError>
+        requires placed { IsPlaced ⟦<Node<W> as Transducer>⟧.behaviour inputs.now outputs.now
+            (⟦<Node<W> as Transducer>⟧.state self.old) (E.view ends.old) }
+        ensures same { E.same ends.old ends.new }
+        ensures ends { SameEnds (E.view ends.old) (E.view ends.new) }
+        ensures within { IfOk result (λ made. made ≤ chunk) }
+        ensures went { IfOk result (λ made. WentOn inputs.now outputs.now
+            ⟦<Node<W> as Transducer>⟧.behaviour (⟦<Node<W> as Transducer>⟧.state self.old)
+            (E.view ends.old) (⟦<Node<W> as Transducer>⟧.state self.new) (E.view ends.new)
+            (nat_lt 0 made)) }
+        ensures broke { OnErr result (BrokeOff inputs.now outputs.now
+            ⟦<Node<W> as Transducer>⟧.behaviour (⟦<Node<W> as Transducer>⟧.state self.old)
+            (E.view ends.old) (⟦<Node<W> as Transducer>⟧.state self.new) (E.view ends.new)) }
+    {
+        let first = self.finish(inputs, outputs, ends, chunk)?;
+        if let Phase::Working = self.phase {
+            look_for_messages(ends, inputs);
+            let left = chunk - first;
+            let rows = self.worker.blocks(inputs, outputs, ends, left);
+            let more = self.worker.kernel(inputs, outputs, ends, left - rows);
+            return Ok(first + rows + more);
+        }
+        Ok(first)
+    }
+
+    // The same in long visits, and nothing in short ones. How many steps it made.
     #[inline(always)]
     fn whole<E: Ends>(
         &mut self,
@@ -221,13 +255,7 @@ impl<W: Worker> Node<W> {
         if chunk < LEAST_FOR_KERNEL || chunk / 2 <= outputs.len() {
             return Ok(0);
         }
-        let first = self.finish(inputs, outputs, ends, chunk)?;
-        if let Phase::Working = self.phase {
-            look_for_messages(ends, inputs);
-            let more = self.worker.kernel(inputs, outputs, ends, chunk - first);
-            return Ok(first + more);
-        }
-        Ok(first)
+        self.whole_instances(inputs, outputs, ends, chunk)
     }
 
     // Steps while it works, at most `chunk`: whole instances first, and then one step after another. How many it made.

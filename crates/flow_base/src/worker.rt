@@ -121,6 +121,27 @@ pub trait Worker {
         true
     }
 
+    /// As the kernel, but over the rows that its ends show: many messages are looked at, taken or put in one call. It
+    /// makes whole rounds, at most `most` steps; or fewer, or none. How many steps it made.
+    fn blocks<E: Ends>(
+        &mut self,
+        inputs: &[usize],
+        outputs: &[usize],
+        ends: &mut E,
+        most: usize,
+    ) -> usize
+        requires wired { IsWired inputs.now outputs.now (machine.inputs (state self.old).0)
+            (machine.outputs (state self.old).0) (E.view ends.old) }
+        ensures same { E.same ends.old ends.new }
+        ensures ends { SameEnds (E.view ends.old) (E.view ends.new) }
+        ensures within { result ≤ most }
+        ensures went { (at : ℕ) → Went inputs.now outputs.now (behaviour_of machine)
+            (node_state (state self.old) Working at) (E.view ends.old)
+            (node_state (state self.new) Working at) (E.view ends.new) result }
+    {
+        0
+    }
+
     /// Whole instances in one loop, as many as its ends are certain of, and at most `most` steps; or fewer, or none.
     /// How many steps it made. They are the steps of a node that works with this worker, in their order.
     ///

@@ -1,49 +1,7 @@
-use Rattle.std.proofs.Common.{refl, sym, subst}
+use Rattle.std.proofs.Common.{refl}
 use Rattle.flow_base.specs.Members.{node_of}
-use Rattle.flow_base.specs.Nodes.{node_state}
-use Rattle.flow_base.specs.Visits.{Went}
-use Rattle.flow_base.proofs.Carried.{same_ends_then}
-use Rattle.flow_base.proofs.Visits.{placed_on}
-use Rattle.flow_base.proofs.Kernels.{wired, made_went, went_none, went_on_alone, went_then}
+use Rattle.flow_base.proofs.Kernels.{went_none}
 use Rattle.flow_base.proofs.node.Node.whole.Goals as goal
-
--- its ends are still there where an instance may begin
-pub look_for_messages-requires : goal.look_for_messages-requires
-look_for_messages-requires g c =
-    let node = node_of g.W.Worker.state g.W.Worker.machine g.met.W.Worker.laws in
-    let placed = c.requires.placed in
-    (placed_on node.laws placed (made_went c.in_ok-first.ensures.went node.laws placed c.finish.ensures.ends)).reads
-
--- and where it has looked for messages
-pub kernel-more-requires : goal.kernel-more-requires
-kernel-more-requires g c =
-    let node = node_of g.W.Worker.state g.W.Worker.machine g.met.W.Worker.laws in
-    let b = node.behaviour in
-    let ins = c.args.inputs.now in
-    let outs = c.args.outputs.now in
-    let view = g.E.Ends.view in
-    let placed = c.requires.placed in
-    let v = view c.finish.new.ends in
-    let w = view c.look_for_messages.new.ends in
-    let ends = same_ends_then (view c.args.ends.now) v w c.finish.ensures.ends c.look_for_messages.ensures.ends in
-    let went = went_on_alone b ins outs c.in_ok-first.first c.in_ok-first.ensures.went w (c.look_for_messages.ensures.looked outs) in
-    record { wired = wired b ins outs (node.state c.finish.new.self) w (placed_on node.laws placed (made_went went node.laws placed ends)) }
-
--- the steps to where an instance may begin, and those of the kernel
-pub returns-in-Working-clause-went : goal.returns-in-Working-clause-went
-returns-in-Working-clause-went g c =
-    let state = g.W.Worker.state in
-    let node = node_of state g.W.Worker.machine g.met.W.Worker.laws in
-    let b = node.behaviour in
-    let ins = c.args.inputs.now in
-    let outs = c.args.outputs.now in
-    let view = g.E.Ends.view in
-    let n = c.finish.new.self in
-    let kernel = c.kernel-more in
-    let w = view c.look_for_messages.new.ends in
-    let first = went_on_alone b ins outs c.in_ok-first.first c.in_ok-first.ensures.went w (c.look_for_messages.ensures.looked outs) in
-    let next = subst (λ p. Went ins outs b (node_state (state n.worker) p n.at) w (node_state (state kernel.new.self) p n.at) (view kernel.new.ends) kernel.result) (sym c.in-Working.is) (kernel.ensures.went n.at) in
-    went_then b ins outs c.in_ok-first.first first next
 
 -- it made no step
 pub returns-then-chunk-lt-LEAST_FOR_KERNEL-clause-went : goal.returns-then-chunk-lt-LEAST_FOR_KERNEL-clause-went
