@@ -26,6 +26,7 @@ unsafe impl<T: Send> Send for History<T> {}
 
 impl<T> History<T> {
     /// Nothing has happened.
+    #[inline(always)]
     pub fn new() -> History<T>
         ensures { result.items ≡ [] }
     {
@@ -33,6 +34,7 @@ impl<T> History<T> {
     }
 
     /// The history with one item more, the newest.
+    #[inline(always)]
     pub fn with(&self, item: &T) -> History<T>
         ensures { result.items ≡ self.now.items ++ item.now ∷ [] }
     {

@@ -136,6 +136,14 @@ impl Line {
         self.taken = self.taken.saturating_add(count as u64);
     }
 
+    // Whether `End` was put on it.
+    #[inline(always)]
+    fn is_closed(&self) -> bool
+        ensures { result ≡ ended (signals self.now.sent.items) }
+    {
+        self.closed
+    }
+
     /// Puts so many units behind all others, unless `End` was put on it.
     #[inline(always)]
     pub fn put_units(&mut self, count: usize)
@@ -146,7 +154,7 @@ impl Line {
         ensures held { content_of self.new.store ≡ cond (ended (signals self.old.sent.items))
             (content_of self.old.store) (content_of self.old.store ++ unit_messages count) }
     {
-        if self.closed {
+        if self.is_closed() {
             return;
         }
         self.sent = with_units(replace(&mut self.sent, History::new()), count);
@@ -164,7 +172,7 @@ impl Line {
         ensures held { content_of self.new.store ≡ cond (ended (signals self.old.sent.items))
             (content_of self.old.store) (content_of self.old.store ++ flag_messages flags.now) }
     {
-        if self.closed {
+        if self.is_closed() {
             return;
         }
         self.sent = with_flags(replace(&mut self.sent, History::new()), flags);
@@ -182,7 +190,7 @@ impl Line {
         ensures held { content_of self.new.store ≡ cond (ended (signals self.old.sent.items))
             (content_of self.old.store) (content_of self.old.store ++ int_messages ints.now) }
     {
-        if self.closed {
+        if self.is_closed() {
             return;
         }
         self.sent = with_ints(replace(&mut self.sent, History::new()), ints);

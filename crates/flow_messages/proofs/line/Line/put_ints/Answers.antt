@@ -15,12 +15,12 @@ invariant_of-self c =
     let s = l.sent.items in
     let now = content_of l.store in
     let row = int_messages c.args.ints.now in
-    let free : ended (signals s) ≡ false = sym l.closes ∙ c.if-self.false in
+    let free : ended (signals s) ≡ false = sym c.is_closed.ensures ∙ c.if-is_closed.false in
     let sent = c.with_ints-self.ensures ∙ ap (λ h. h.items ++ row) c.replace.ensures.value in
     let held = c.put_ints.ensures.content in
     record {
       fifo = rw (sent, held) (fifo_put s now l.fifo row);
-      closes = c.if-self.false ∙ sym (ap (λ k. ended (signals k)) sent ∙ ended-more s row free ∙ row-ended IntItem c.args.ints.now);
+      closes = l.closes ∙ free ∙ sym (ap (λ k. ended (signals k)) sent ∙ ended-more s row free ∙ row-ended IntItem c.args.ints.now);
       counts = rw (sent, held) (count_put s now l.fifo row l.taken l.counts);
       orderly = ap (λ k. orderly (signals k)) sent ∙ orderly-more s row free ∙ row-orderly IntItem c.args.ints.now;
     }
