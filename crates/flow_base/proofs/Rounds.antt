@@ -58,7 +58,7 @@ unfolding ended
 ended_one x = refl
 
 pub ended_units : (n : ℕ) → ended (units_said n) ≡ false
-unfolding ended units_said
+unfolding ended
 ended_units zero = refl
 ended_units (suc n) = ended_units n
 
@@ -80,14 +80,12 @@ pub take_ints : (k : ℕ) (ns : List ℤ) → take k (ints_said ns) ≡ ints_sai
 take_ints k ns = take-map (λ n. carry (int n)) k ns
 
 pub take_units : (k n : ℕ) → k ≤ n → take k (units_said n) ≡ units_said k
-unfolding units_said
 take_units zero n within = refl
 take_units (suc k) zero within = absurd (omega arith)
 take_units (suc k) (suc n) within = ap (λ l. carry unit ∷ l) (take_units k n (omega arith))
 
 -- how long rows are
 pub length_units : (n : ℕ) → length (units_said n) ≡ n
-unfolding units_said
 length_units zero = refl
 length_units (suc n) = omega (arith, length_units n)
 
