@@ -197,6 +197,11 @@ pub seen : {X : Type 0} (P Q : X → Type 0) (r : Option X) (n : ℕ) → IsSome
 seen P Q (Some x) n iff f p = f x (iff.0 refl) p
 seen P Q None n iff f p = tt
 
+-- the oldest message of a queue is the first that is certain to come
+pub first_queued : (ms : List Msg) (m : Msg) → 0 < length ms → m ≡ get_or ms 0 m → IsPrefix (signal_of m ∷ []) (signals ms)
+first_queued [] m some is = absurd (omega arith)
+first_queued (n ∷ ms) m some is = (signals ms, ap (λ x. signal_of x ∷ signals ms) is ∙ sym (signals-cons n ms))
+
 -- a look that finds no more
 pub looked-same : (v : View) (e : ℕ) → LookedForMessages v e v
 looked-same v e = record {

@@ -29,6 +29,19 @@ pub enum Act {
     HasEnds(bool, bool),
     /// How many messages were sent and received, where both ends are there.
     Counts(u64, u64),
+    Rows(Row),
+}
+
+/// What is done with many items of one kind at once, and what is to be seen of them.
+#[derive(Clone, Copy)]
+pub enum Row {
+    PutsUnits(usize),
+    PutsFlags(&'static [bool]),
+    PutsInts(&'static [i128]),
+    ShowsUnits(usize),
+    ShowsFlags(&'static [bool]),
+    ShowsInts(&'static [i128]),
+    SkipsOne,
 }
 
 // A step of a course.
@@ -73,8 +86,32 @@ const EACH_WAY: Course = Course {
     ],
 };
 
-const OVER_BOXES: [Course; 3] = [
+// Ends between threads show no row. A row that was put comes one message after another.
+const ROWS: Course = Course {
+    name: "rows",
+    shares: Shares::One,
+    capacity: 2,
+    steps: &[
+        Step::At(0, 0, Act::Rows(Row::PutsInts(&[5, 6]))),
+        Step::Meet,
+        Step::At(0, 0, Act::Rows(Row::ShowsInts(&[]))),
+        Step::At(0, 0, Act::Rows(Row::SkipsOne)),
+        Step::At(0, 0, Act::Takes(Some(6))),
+        Step::Meet,
+        Step::At(0, 0, Act::Rows(Row::PutsFlags(&[true]))),
+        Step::At(0, 0, Act::Rows(Row::PutsUnits(1))),
+        Step::Meet,
+        Step::At(0, 0, Act::Rows(Row::ShowsFlags(&[]))),
+        Step::At(0, 0, Act::Rows(Row::SkipsOne)),
+        Step::At(0, 0, Act::Rows(Row::ShowsUnits(0))),
+        Step::At(0, 0, Act::Rows(Row::SkipsOne)),
+        Step::At(0, 0, Act::Counts(4, 4)),
+    ],
+};
+
+const OVER_BOXES: [Course; 4] = [
     EACH_WAY,
+    ROWS,
     Course {
         name: "messages pass between rounds only",
         shares: Shares::Two,
@@ -119,8 +156,9 @@ const OVER_BOXES: [Course; 3] = [
     },
 ];
 
-const OVER_RINGS: [Course; 3] = [
+const OVER_RINGS: [Course; 4] = [
     EACH_WAY,
+    ROWS,
     Course {
         name: "messages cross in order",
         shares: Shares::Two,
@@ -178,7 +216,30 @@ pub fn acts<E: CountedEnds>(ends: &mut E, edge: usize, act: Act) -> bool
                 && ends.sent_count(edge) == sent
                 && ends.received_count(edge) == received
         }
+        Act::Rows(row) => goes_in_rows(ends, edge, row),
     }
+}
+
+// Does this with a row of an edge. Whether what is to come of it comes.
+fn goes_in_rows<E: CountedEnds>(ends: &mut E, edge: usize, row: Row) -> bool
+    ensures { E.same ends.old ends.new }
+{
+    let (writes, reads) = (ends.has_writer(edge), ends.has_reader(edge));
+    match row {
+        Row::PutsUnits(count) if writes && ends.space(edge) >= count => ends.put_units(edge, count),
+        Row::PutsFlags(flags) if writes && ends.space(edge) >= flags.len() => {
+            ends.put_flags(edge, flags);
+        }
+        Row::PutsInts(ints) if writes && ends.space(edge) >= ints.len() => {
+            ends.put_ints(edge, ints);
+        }
+        Row::SkipsOne if reads && ends.ready(edge) => ends.skip(edge, 1),
+        Row::ShowsUnits(count) => return reads && ends.units(edge) == count,
+        Row::ShowsFlags(flags) => return reads && ends.flags(edge) == flags,
+        Row::ShowsInts(ints) => return reads && ends.ints(edge) == ints,
+        _ => return false,
+    }
+    true
 }
 
 // The same in the share of this number.

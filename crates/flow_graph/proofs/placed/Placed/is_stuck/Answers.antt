@@ -125,3 +125,18 @@ returns-in-Write-clause-stuck g c =
     let u = view c.room.new.self in
     let value = subst (λ e. IsTrue c.room.result ↔ (0 < u.room e)) at c.room.ensures.value in
     subst (λ w. IsTrue (not c.room.result) ↔ IsStuck ins outs u w) (sym wants) (not_there c.room.result _ value)
+
+pub index-requires : goal.index-requires
+index-requires g c =
+    let b = g.T.Transducer.behaviour in
+    let laws = g.met.T.Transducer.laws in
+    let x = c.args.self.now in
+    let s = g.T.Transducer.state x.node in
+    let ins = x.inputs.items in
+    let outs = x.outputs.items in
+    let view = g.E.Ends.view in
+    let placed : IsPlaced b ins outs s (view c.args.ends.now) = record { reached = x.reached; each_input = x.each_input; each_output = x.each_output; reads = c.requires.reads; writes = c.requires.writes } in
+    let made = made_none laws placed in
+    let wants : b.process.want s ≡ Read c.in-Read.port = sym c.want.ensures ∙ c.in-Read.is in
+    let inside : c.in-Read.port < length x.inputs.items = input_there laws placed made c.in-Read.port wants in
+    omega (arith, inside, x.inputs.ok.0)
