@@ -1,2 +1,5 @@
+pub mod BinaryRows
 pub mod Leading
 pub mod Sending
+pub mod UnaryRows
+pub mod ValueRows

@@ -1,11 +1,12 @@
 -- An operator on two scalars, as a machine.
-use Rattle.std.specs.Prelude.{◌≡◌, false, Result, Ok}
+use Rattle.std.specs.Prelude.{◌≡◌, ℕ, ◌<◌, ℤ, pos, Bool, false, List, slice_index_or, Result, Ok}
 use Rattle.snesl_data.specs.declared.dialect.Dialect.{Dialect}
 use Rattle.snesl_data.specs.declared.dialect.Dialect.TheVariants.{One}
 use Rattle.snesl_data.specs.declared.fault.FaultKind.{FaultKind}
 use Rattle.snesl_operators.specs.Operators.{type_of, ScalarInRange, binary_operand, binary_result, binary_value}
 use Rattle.snesl_operators.specs.Reductions.{and_then}
 use Rattle.snesl_operators.specs.declared.scalar.Scalar.{Scalar}
+use Rattle.snesl_operators.specs.declared.scalar.Scalar.TheVariants.{Int, Bool as Truth}
 use Rattle.snesl_operators.specs.declared.operator.BinaryOperator.{BinaryOperator}
 use Rattle.snesl_operators.specs.declared.operator.BinaryOperator.TheVariants.{Add}
 use Rattle.flow_base.specs.Machines.{Move, begins, takes, gives, Machine, one_write}
@@ -59,3 +60,11 @@ binary_machine = record {
 -- what the machine sees of a worker
 abbrev pub binary_view : Binary → (Dialect × BinaryOperator) × Progress
 binary_view n = ((n.dialect, n.operator), n.progress)
+
+-- the values at the first n pairs of these integers are these integers
+abbrev pub IntsAt : Dialect → BinaryOperator → List ℤ → List ℤ → List ℤ → ℕ → Type 0
+IntsAt dialect op xs ys zs n = (k : ℕ) → k < n → binary_value dialect op (Int (slice_index_or xs k (pos 0))) (Int (slice_index_or ys k (pos 0))) ≡ Ok (Int (slice_index_or zs k (pos 0)))
+
+-- the values at the first n pairs of these integers are these truth values
+abbrev pub FlagsAt : Dialect → BinaryOperator → List ℤ → List ℤ → List Bool → ℕ → Type 0
+FlagsAt dialect op xs ys zs n = (k : ℕ) → k < n → binary_value dialect op (Int (slice_index_or xs k (pos 0))) (Int (slice_index_or ys k (pos 0))) ≡ Ok (Truth (slice_index_or zs k false))

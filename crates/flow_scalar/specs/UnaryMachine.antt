@@ -1,11 +1,12 @@
 -- An operator on one scalar, as a machine.
-use Rattle.std.specs.Prelude.{◌≡◌, false, Option, Some, None, IfSome, Result, Ok}
+use Rattle.std.specs.Prelude.{◌≡◌, ℕ, ◌<◌, ℤ, pos, Bool, false, List, slice_index_or, Option, Some, None, IfSome, Result, Ok}
 use Rattle.snesl_data.specs.declared.dialect.Dialect.{Dialect}
 use Rattle.snesl_data.specs.declared.dialect.Dialect.TheVariants.{One}
 use Rattle.snesl_data.specs.declared.fault.FaultKind.{FaultKind}
 use Rattle.snesl_operators.specs.Operators.{type_of, ScalarInRange, unary_operand, unary_value}
 use Rattle.snesl_operators.specs.Reductions.{and_then}
 use Rattle.snesl_operators.specs.declared.scalar.Scalar.{Scalar}
+use Rattle.snesl_operators.specs.declared.scalar.Scalar.TheVariants.{Int, Bool as Truth}
 use Rattle.snesl_operators.specs.declared.operator.UnaryOperator.{UnaryOperator}
 use Rattle.snesl_operators.specs.declared.operator.UnaryOperator.TheVariants.{Not}
 use Rattle.flow_base.specs.Machines.{Move, begins, gives, Machine, one_write}
@@ -48,3 +49,11 @@ unary_machine = record {
 -- what the machine sees of a worker
 abbrev pub unary_view : Unary → (Dialect × UnaryOperator) × Option Scalar
 unary_view n = ((n.dialect, n.operator), n.value)
+
+-- the values at the first n of these integers are these
+abbrev pub IntsAt : Dialect → UnaryOperator → List ℤ → List ℤ → ℕ → Type 0
+IntsAt dialect op xs zs n = (k : ℕ) → k < n → unary_value dialect op (Int (slice_index_or xs k (pos 0))) ≡ Ok (Int (slice_index_or zs k (pos 0)))
+
+-- the values at the first n of these truth values are these
+abbrev pub FlagsAt : Dialect → UnaryOperator → List Bool → List Bool → ℕ → Type 0
+FlagsAt dialect op xs zs n = (k : ℕ) → k < n → unary_value dialect op (Truth (slice_index_or xs k false)) ≡ Ok (Truth (slice_index_or zs k false))

@@ -1,20 +1,27 @@
 // Operators on two scalars.
 
-ghost use Rattle.std.specs.Prelude.{◌≡◌, Ok, IfSome};
+ghost use Rattle.std.specs.Prelude.{◌≡◌, ◌≢◌, ℕ, ◌≤◌, length, Ok, IfSome};
 ghost use Rattle.flow_base.specs.Machines.{Leads};
+ghost use Rattle.flow_base.specs.Nodes.{behaviour_of, node_state};
+ghost use Rattle.flow_base.specs.Visits.{edge_of, IsWired, Went};
+ghost use Rattle.flow_base.specs.declared.node.Phase.TheVariants.{Working};
+ghost use Rattle.flow_messages.specs.Ends.{SameEnds};
 ghost use Rattle.flow_messages.specs.Signals.{signal_of};
 ghost use Rattle.snesl_operators.specs.Operators.{binary_operand};
 ghost use Rattle.flow_scalar.specs.Operands.{on_operand};
-ghost use Rattle.flow_scalar.specs.BinaryMachine.{binary_next};
-ghost use Rattle.flow_scalar.specs.declared.binary.Progress.TheVariants.{Left as LeftState, Value as ValueState};
+ghost use Rattle.flow_scalar.specs.BinaryMachine.{binary_next, binary_machine, binary_view, IntsAt, FlagsAt};
+ghost use Rattle.flow_scalar.specs.declared.binary.Progress.TheVariants.{Start, Left as LeftState, Value as ValueState};
 
 use crate::operand::operand_of;
 use crate::scalars::{item_of, kind_of};
 use flow_base::{Ask, Stop, Worker, put_in_space, take_front};
 use flow_messages::{Ends, Item, Kind, Msg};
 use snesl_data::Dialect;
-use snesl_operators::{BinaryOperator, Scalar};
+use snesl_operators::{BinaryOperator, Scalar, ScalarType};
 use std::alloc::AllocError;
+
+// So many values are computed before they are put.
+const BLOCK: usize = 64;
 
 /// How far an instance is.
 #[derive(Clone, Copy, Debug, PartialEq, Eq)]
@@ -88,6 +95,136 @@ impl Binary {
             Msg::End => None,
         }
     }
+
+    // The integers at the first of these pairs, as many as there is room for and as do not fault.
+    #[inline(always)]
+    fn ints_of(
+        &self,
+        lefts: &[i128],
+        rights: &[i128],
+        room: usize,
+        values: &mut [i128; BLOCK],
+    ) -> usize
+        ensures room { result ≤ room }
+        ensures lefts { result ≤ length lefts.now }
+        ensures rights { result ≤ length rights.now }
+        ensures block { result ≤ 64 }
+        ensures values { IntsAt self.now.dialect self.now.operator lefts.now rights.now values.new
+            result }
+    {
+        let whole = lefts.len().min(rights.len()).min(room).min(BLOCK);
+        for at in 0..whole {
+            let left = Scalar::Int(lefts[at]);
+            let right = Scalar::Int(rights[at]);
+            let Ok(Scalar::Int(value)) = self.operator.apply(self.dialect, left, right) else {
+                return at;
+            };
+            values[at] = value;
+        }
+        whole
+    }
+
+    // The truth values at the first of these pairs, as many as there is room for and as do not fault.
+    #[inline(always)]
+    fn flags_of(
+        &self,
+        lefts: &[i128],
+        rights: &[i128],
+        room: usize,
+        values: &mut [bool; BLOCK],
+    ) -> usize
+        ensures room { result ≤ room }
+        ensures lefts { result ≤ length lefts.now }
+        ensures rights { result ≤ length rights.now }
+        ensures block { result ≤ 64 }
+        ensures values { FlagsAt self.now.dialect self.now.operator lefts.now rights.now values.new
+            result }
+    {
+        let whole = lefts.len().min(rights.len()).min(room).min(BLOCK);
+        for at in 0..whole {
+            let left = Scalar::Int(lefts[at]);
+            let right = Scalar::Int(rights[at]);
+            let Ok(Scalar::Bool(value)) = self.operator.apply(self.dialect, left, right) else {
+                return at;
+            };
+            values[at] = value;
+        }
+        whole
+    }
+
+    // Whole rounds over rows of integers, to a row of integers.
+    #[inline(always)]
+    fn int_blocks<E: Ends>(
+        &self,
+        inputs: &[usize],
+        outputs: &[usize],
+        ends: &mut E,
+        most: usize,
+    ) -> usize
+        requires start { self.now.progress ≡ Start }
+        requires apart { edge_of inputs.now 0 ≢ edge_of inputs.now 1 }
+        requires wired { IsWired inputs.now outputs.now 2 1 (E.view ends.old) }
+        ensures same { E.same ends.old ends.new }
+        ensures ends { SameEnds (E.view ends.old) (E.view ends.new) }
+        ensures within { result ≤ most }
+        ensures went { (at : ℕ) → Went inputs.now outputs.now (behaviour_of binary_machine)
+            (node_state (binary_view self.now) Working at) (E.view ends.old)
+            (node_state (binary_view self.now) Working at) (E.view ends.new) result }
+    {
+        let lefts = inputs[0];
+        let rights = inputs[1];
+        let to = outputs[0];
+        let mut values = [0i128; BLOCK];
+        let mut made = 0;
+        'rounds: loop {
+            let room = ends.space(to).min((most - made) / 3);
+            let count = self.ints_of(ends.ints(lefts), ends.ints(rights), room, &mut values);
+            if count == 0 {
+                return made;
+            }
+            ends.skip(lefts, count);
+            ends.skip(rights, count);
+            ends.put_ints(to, &values[..count]);
+            made += 3 * count;
+        }
+    }
+
+    // Whole rounds over rows of integers, to a row of truth values.
+    #[inline(always)]
+    fn flag_blocks<E: Ends>(
+        &self,
+        inputs: &[usize],
+        outputs: &[usize],
+        ends: &mut E,
+        most: usize,
+    ) -> usize
+        requires start { self.now.progress ≡ Start }
+        requires apart { edge_of inputs.now 0 ≢ edge_of inputs.now 1 }
+        requires wired { IsWired inputs.now outputs.now 2 1 (E.view ends.old) }
+        ensures same { E.same ends.old ends.new }
+        ensures ends { SameEnds (E.view ends.old) (E.view ends.new) }
+        ensures within { result ≤ most }
+        ensures went { (at : ℕ) → Went inputs.now outputs.now (behaviour_of binary_machine)
+            (node_state (binary_view self.now) Working at) (E.view ends.old)
+            (node_state (binary_view self.now) Working at) (E.view ends.new) result }
+    {
+        let lefts = inputs[0];
+        let rights = inputs[1];
+        let to = outputs[0];
+        let mut values = [false; BLOCK];
+        let mut made = 0;
+        'rounds: loop {
+            let room = ends.space(to).min((most - made) / 3);
+            let count = self.flags_of(ends.ints(lefts), ends.ints(rights), room, &mut values);
+            if count == 0 {
+                return made;
+            }
+            ends.skip(lefts, count);
+            ends.skip(rights, count);
+            ends.put_flags(to, &values[..count]);
+            made += 3 * count;
+        }
+    }
 }
 
 impl Worker for Binary {
@@ -158,6 +295,30 @@ impl Worker for Binary {
 
     fn is_between(&self) -> bool {
         matches!(self.progress, Progress::Start)
+    }
+
+    #[inline(always)]
+    fn blocks<E: Ends>(
+        &mut self,
+        inputs: &[usize],
+        outputs: &[usize],
+        ends: &mut E,
+        most: usize,
+    ) -> usize {
+        let Progress::Start = self.progress else {
+            return 0;
+        };
+        // Two rows of one edge are not seen at once.
+        if inputs[0] == inputs[1] {
+            return 0;
+        }
+        if ends.ints(inputs[0]).is_empty() || ends.ints(inputs[1]).is_empty() {
+            return 0;
+        }
+        match self.operator.result() {
+            ScalarType::Int => self.int_blocks(inputs, outputs, ends, most),
+            ScalarType::Bool => self.flag_blocks(inputs, outputs, ends, most),
+        }
     }
 
     #[inline(always)]

@@ -1,19 +1,26 @@
 // Operators on one scalar.
 
-ghost use Rattle.std.specs.Prelude.{◌≡◌, Some, None, IfSome};
+ghost use Rattle.std.specs.Prelude.{◌≡◌, ℕ, ◌≤◌, length, Some, None, IfSome};
 ghost use Rattle.flow_base.specs.Machines.{Leads};
+ghost use Rattle.flow_base.specs.Nodes.{behaviour_of, node_state};
+ghost use Rattle.flow_base.specs.Visits.{IsWired, Went};
+ghost use Rattle.flow_base.specs.declared.node.Phase.TheVariants.{Working};
+ghost use Rattle.flow_messages.specs.Ends.{SameEnds};
 ghost use Rattle.flow_messages.specs.Signals.{signal_of};
 ghost use Rattle.snesl_operators.specs.Operators.{unary_operand};
 ghost use Rattle.flow_scalar.specs.Operands.{on_operand};
-ghost use Rattle.flow_scalar.specs.UnaryMachine.{unary_next};
+ghost use Rattle.flow_scalar.specs.UnaryMachine.{unary_next, unary_machine, unary_view, IntsAt, FlagsAt};
 
 use crate::operand::operand_of;
 use crate::scalars::{item_of, kind_of};
 use flow_base::{Ask, Stop, Worker, put_in_space, take_front};
 use flow_messages::{Ends, Item, Kind, Msg};
 use snesl_data::Dialect;
-use snesl_operators::{Scalar, UnaryOperator};
+use snesl_operators::{Scalar, ScalarType, UnaryOperator};
 use std::alloc::AllocError;
+
+// So many values are computed before they are put.
+const BLOCK: usize = 64;
 
 /// Writes the operator's value at each item. Each item is an instance.
 ///
@@ -56,6 +63,112 @@ impl Unary {
                 Err(_) => None,
             },
             Msg::End => None,
+        }
+    }
+
+    // The integers at the first of these operands, as many as there is room for and as do not fault.
+    #[inline(always)]
+    fn ints_of(&self, operands: &[i128], room: usize, values: &mut [i128; BLOCK]) -> usize
+        ensures room { result ≤ room }
+        ensures operands { result ≤ length operands.now }
+        ensures block { result ≤ 64 }
+        ensures values { IntsAt self.now.dialect self.now.operator operands.now values.new result }
+    {
+        let whole = operands.len().min(room).min(BLOCK);
+        for at in 0..whole {
+            let operand = Scalar::Int(operands[at]);
+            let Ok(Scalar::Int(value)) = self.operator.apply(self.dialect, operand) else {
+                return at;
+            };
+            values[at] = value;
+        }
+        whole
+    }
+
+    // The truth values at the first of these operands, as many as there is room for and as do not fault.
+    #[inline(always)]
+    fn flags_of(&self, operands: &[bool], room: usize, values: &mut [bool; BLOCK]) -> usize
+        ensures room { result ≤ room }
+        ensures operands { result ≤ length operands.now }
+        ensures block { result ≤ 64 }
+        ensures values { FlagsAt self.now.dialect self.now.operator operands.now values.new result }
+    {
+        let whole = operands.len().min(room).min(BLOCK);
+        for at in 0..whole {
+            let operand = Scalar::Bool(operands[at]);
+            let Ok(Scalar::Bool(value)) = self.operator.apply(self.dialect, operand) else {
+                return at;
+            };
+            values[at] = value;
+        }
+        whole
+    }
+
+    // Whole rounds over a row of integers, to another.
+    #[inline(always)]
+    fn int_blocks<E: Ends>(
+        &self,
+        inputs: &[usize],
+        outputs: &[usize],
+        ends: &mut E,
+        most: usize,
+    ) -> usize
+        requires start { self.now.value ≡ None }
+        requires wired { IsWired inputs.now outputs.now 1 1 (E.view ends.old) }
+        ensures same { E.same ends.old ends.new }
+        ensures ends { SameEnds (E.view ends.old) (E.view ends.new) }
+        ensures within { result ≤ most }
+        ensures went { (at : ℕ) → Went inputs.now outputs.now (behaviour_of unary_machine)
+            (node_state (unary_view self.now) Working at) (E.view ends.old)
+            (node_state (unary_view self.now) Working at) (E.view ends.new) result }
+    {
+        let from = inputs[0];
+        let to = outputs[0];
+        let mut values = [0i128; BLOCK];
+        let mut made = 0;
+        'rounds: loop {
+            let room = ends.space(to).min((most - made) / 2);
+            let count = self.ints_of(ends.ints(from), room, &mut values);
+            if count == 0 {
+                return made;
+            }
+            ends.skip(from, count);
+            ends.put_ints(to, &values[..count]);
+            made += 2 * count;
+        }
+    }
+
+    // Whole rounds over a row of truth values, to another.
+    #[inline(always)]
+    fn flag_blocks<E: Ends>(
+        &self,
+        inputs: &[usize],
+        outputs: &[usize],
+        ends: &mut E,
+        most: usize,
+    ) -> usize
+        requires start { self.now.value ≡ None }
+        requires wired { IsWired inputs.now outputs.now 1 1 (E.view ends.old) }
+        ensures same { E.same ends.old ends.new }
+        ensures ends { SameEnds (E.view ends.old) (E.view ends.new) }
+        ensures within { result ≤ most }
+        ensures went { (at : ℕ) → Went inputs.now outputs.now (behaviour_of unary_machine)
+            (node_state (unary_view self.now) Working at) (E.view ends.old)
+            (node_state (unary_view self.now) Working at) (E.view ends.new) result }
+    {
+        let from = inputs[0];
+        let to = outputs[0];
+        let mut values = [false; BLOCK];
+        let mut made = 0;
+        'rounds: loop {
+            let room = ends.space(to).min((most - made) / 2);
+            let count = self.flags_of(ends.flags(from), room, &mut values);
+            if count == 0 {
+                return made;
+            }
+            ends.skip(from, count);
+            ends.put_flags(to, &values[..count]);
+            made += 2 * count;
         }
     }
 }
@@ -122,6 +235,33 @@ impl Worker for Unary {
 
     fn is_between(&self) -> bool {
         self.value.is_none()
+    }
+
+    #[inline(always)]
+    fn blocks<E: Ends>(
+        &mut self,
+        inputs: &[usize],
+        outputs: &[usize],
+        ends: &mut E,
+        most: usize,
+    ) -> usize {
+        if self.value.is_some() {
+            return 0;
+        }
+        match self.operator.operand() {
+            ScalarType::Int => {
+                if ends.ints(inputs[0]).is_empty() {
+                    return 0;
+                }
+                self.int_blocks(inputs, outputs, ends, most)
+            }
+            ScalarType::Bool => {
+                if ends.flags(inputs[0]).is_empty() {
+                    return 0;
+                }
+                self.flag_blocks(inputs, outputs, ends, most)
+            }
+        }
     }
 
     #[inline(always)]
