@@ -7,7 +7,8 @@ ghost use Rattle.flow_base.specs.Visits.{edge_of, IsWired, Went};
 ghost use Rattle.flow_base.specs.declared.node.Phase.TheVariants.{Working};
 ghost use Rattle.flow_messages.specs.Ends.{SameEnds};
 ghost use Rattle.flow_messages.specs.Signals.{signal_of};
-ghost use Rattle.snesl_operators.specs.Operators.{binary_operand};
+ghost use Rattle.snesl_operators.specs.Operators.{binary_operand, binary_value};
+ghost use Rattle.snesl_operators.specs.declared.scalar.Scalar.TheVariants.{Int};
 ghost use Rattle.flow_scalar.specs.Operands.{on_operand};
 ghost use Rattle.flow_scalar.specs.BinaryMachine.{binary_next, binary_machine, binary_view, IntsAt, FlagsAt};
 ghost use Rattle.flow_scalar.specs.declared.binary.Progress.TheVariants.{Start, Left as LeftState, Value as ValueState};
@@ -22,6 +23,52 @@ use std::alloc::AllocError;
 
 // So many values are computed before they are put.
 const BLOCK: usize = 64;
+
+// The integer at two integers, where there is one. Most fit 64 bits, which are faster to compute with.
+#[inline(always)]
+fn int_at(operator: BinaryOperator, dialect: Dialect, left: i128, right: i128) -> Option<i128>
+    ensures { IfSome result
+        (λ v. binary_value dialect operator (Int left) (Int right) ≡ Ok (Int v)) }
+{
+    if let (Ok(m), Ok(n)) = (i64::try_from(left), i64::try_from(right)) {
+        let narrow = match operator {
+            BinaryOperator::Add => m.checked_add(n),
+            BinaryOperator::Subtract => m.checked_sub(n),
+            BinaryOperator::Multiply => m.checked_mul(n),
+            _ => None,
+        };
+        if let Some(value) = narrow {
+            return Some(i128::from(value));
+        }
+    }
+    match operator.apply(dialect, Scalar::Int(left), Scalar::Int(right)) {
+        Ok(Scalar::Int(value)) => Some(value),
+        _ => None,
+    }
+}
+
+// The integers at the first of these pairs, as many as do not fault.
+#[inline(always)]
+fn ints_by(
+    operator: BinaryOperator,
+    dialect: Dialect,
+    lefts: &[i128],
+    rights: &[i128],
+    values: &mut [i128; BLOCK],
+) -> usize
+    requires rights { length lefts.now ≤ length rights.now }
+    requires block { length lefts.now ≤ 64 }
+    ensures within { result ≤ length lefts.now }
+    ensures values { IntsAt dialect operator lefts.now rights.now values.new result }
+{
+    for at in 0..lefts.len() {
+        let Some(value) = int_at(operator, dialect, lefts[at], rights[at]) else {
+            return at;
+        };
+        values[at] = value;
+    }
+    lefts.len()
+}
 
 /// How far an instance is.
 #[derive(Clone, Copy, Debug, PartialEq, Eq)]
@@ -113,15 +160,20 @@ impl Binary {
             result }
     {
         let whole = lefts.len().min(rights.len()).min(room).min(BLOCK);
-        for at in 0..whole {
-            let left = Scalar::Int(lefts[at]);
-            let right = Scalar::Int(rights[at]);
-            let Ok(Scalar::Int(value)) = self.operator.apply(self.dialect, left, right) else {
-                return at;
-            };
-            values[at] = value;
+        let lefts = &lefts[..whole];
+        let rights = &rights[..whole];
+        let dialect = self.dialect;
+        // Each of these calls is a loop of its own, in which nothing asks which operator it is.
+        match self.operator {
+            BinaryOperator::Add => ints_by(BinaryOperator::Add, dialect, lefts, rights, values),
+            BinaryOperator::Subtract => {
+                ints_by(BinaryOperator::Subtract, dialect, lefts, rights, values)
+            }
+            BinaryOperator::Multiply => {
+                ints_by(BinaryOperator::Multiply, dialect, lefts, rights, values)
+            }
+            operator => ints_by(operator, dialect, lefts, rights, values),
         }
-        whole
     }
 
     // The truth values at the first of these pairs, as many as there is room for and as do not fault.
