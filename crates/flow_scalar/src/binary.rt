@@ -70,6 +70,31 @@ fn ints_by(
     lefts.len()
 }
 
+// The truth values at the first of these pairs, as many as do not fault.
+#[inline(always)]
+fn flags_by(
+    operator: BinaryOperator,
+    dialect: Dialect,
+    lefts: &[i128],
+    rights: &[i128],
+    values: &mut [bool; BLOCK],
+) -> usize
+    requires rights { length lefts.now ≤ length rights.now }
+    requires block { length lefts.now ≤ 64 }
+    ensures within { result ≤ length lefts.now }
+    ensures values { FlagsAt dialect operator lefts.now rights.now values.new result }
+{
+    for at in 0..lefts.len() {
+        let left = Scalar::Int(lefts[at]);
+        let right = Scalar::Int(rights[at]);
+        let Ok(Scalar::Bool(value)) = operator.apply(dialect, left, right) else {
+            return at;
+        };
+        values[at] = value;
+    }
+    lefts.len()
+}
+
 /// How far an instance is.
 #[derive(Clone, Copy, Debug, PartialEq, Eq)]
 pub enum Progress {
@@ -193,15 +218,35 @@ impl Binary {
             result }
     {
         let whole = lefts.len().min(rights.len()).min(room).min(BLOCK);
-        for at in 0..whole {
-            let left = Scalar::Int(lefts[at]);
-            let right = Scalar::Int(rights[at]);
-            let Ok(Scalar::Bool(value)) = self.operator.apply(self.dialect, left, right) else {
-                return at;
-            };
-            values[at] = value;
+        let lefts = &lefts[..whole];
+        let rights = &rights[..whole];
+        let dialect = self.dialect;
+        // As for integers, a loop for each.
+        match self.operator {
+            BinaryOperator::EqualIntegers => {
+                flags_by(
+                    BinaryOperator::EqualIntegers,
+                    dialect,
+                    lefts,
+                    rights,
+                    values,
+                )
+            }
+            BinaryOperator::Less => {
+                flags_by(BinaryOperator::Less, dialect, lefts, rights, values)
+            }
+            BinaryOperator::AtMost => {
+                flags_by(BinaryOperator::AtMost, dialect, lefts, rights, values)
+            }
+            BinaryOperator::Greater => {
+                flags_by(BinaryOperator::Greater, dialect, lefts, rights, values)
+            }
+            BinaryOperator::AtLeast => {
+                flags_by(BinaryOperator::AtLeast, dialect, lefts, rights, values)
+            }
+            // No other gives a truth value at two integers.
+            _ => 0,
         }
-        whole
     }
 
     // Whole rounds over rows of integers, to a row of integers.

@@ -3,13 +3,13 @@ use borrow.Author.Count.{below_more}
 use Rattle.std.proofs.lemmas.List.{length-set, get_or-set_same, get_or-set_other}
 use Rattle.snesl_operators.specs.Operators.{binary_value}
 use Rattle.snesl_operators.specs.declared.scalar.Scalar.TheVariants.{Int, Bool as Truth}
-use Rattle.flow_scalar.proofs.binary.Binary.flags_of.Goals as goal
+use Rattle.flow_scalar.proofs.binary.flags_by.Goals as goal
 
 -- one value more
 pub loop-at-preserved : goal.loop-at-preserved
 loop-at-preserved c =
-    let d = c.args.self.now.dialect in
-    let op = c.args.self.now.operator in
+    let d = c.args.dialect in
+    let op = c.args.operator in
     let xs = c.args.lefts.now in
     let ys = c.args.rights.now in
     let zs = c.loop-at.values in
