@@ -3,3 +3,5 @@ pub mod Leading
 pub mod Sending
 pub mod UnaryRows
 pub mod ValueRows
+pub mod SingleRows
+pub mod UnitsOfRows

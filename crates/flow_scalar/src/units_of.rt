@@ -1,6 +1,7 @@
 // A Unit for each element that flags stand for.
 
-ghost use Rattle.std.specs.Prelude.{◌≡◌, false, IfSome};
+ghost use Rattle.std.specs.Prelude.{◌≡◌, false, not, IfSome};
+ghost use Rattle.std.specs.List.{count_by};
 ghost use Rattle.flow_messages.specs.Cells.{flag};
 ghost use Rattle.flow_messages.specs.Signals.{carry, signal_of};
 
@@ -29,6 +30,18 @@ fn flag_of(message: &Msg) -> Option<bool>
         Msg::Item(Item::Bool(truth)) => Some(*truth),
         _ => None,
     }
+}
+
+// How many of the flags stand for an element.
+#[inline(always)]
+fn elements_in(flags: &[bool]) -> usize
+    ensures { result ≡ count_by not flags.now }
+{
+    let mut elements = 0;
+    for ends in flags {
+        elements += usize::from(!*ends);
+    }
+    elements
 }
 
 impl UnitsOf {
@@ -95,6 +108,33 @@ impl Worker for UnitsOf {
 
     fn is_between(&self) -> bool {
         !self.due
+    }
+
+    // A flag is one step, and the unit of an element one more.
+    #[inline(always)]
+    fn blocks<E: Ends>(
+        &mut self,
+        inputs: &[usize],
+        outputs: &[usize],
+        ends: &mut E,
+        most: usize,
+    ) -> usize {
+        let from = inputs[0];
+        // Where no flags are shown, the output is not looked at.
+        if self.due || ends.flags(from).is_empty() {
+            return 0;
+        }
+        let to = outputs[0];
+        let room = ends.space(to);
+        let flags = ends.flags(from);
+        let whole = flags.len().min(room).min(most / 2);
+        if whole == 0 {
+            return 0;
+        }
+        let units = elements_in(&flags[..whole]);
+        ends.skip(from, whole);
+        ends.put_units(to, units);
+        whole + units
     }
 
     // A flag of an element is two steps, and one that ends a segment is one.
