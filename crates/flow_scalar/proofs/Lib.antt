@@ -1,4 +1,5 @@
 pub mod BinaryRows
+pub mod ForkRows
 pub mod Leading
 pub mod Sending
 pub mod UnaryRows

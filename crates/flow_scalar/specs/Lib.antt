@@ -1,5 +1,6 @@
 pub mod BinaryMachine
 pub mod ConstMachine
+pub mod ForkCopies
 pub mod ForkMachine
 pub mod ForkNode
 pub mod IotaMachine

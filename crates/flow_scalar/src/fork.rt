@@ -5,16 +5,21 @@ ghost use Rattle.std.specs.List.{All};
 ghost use Rattle.flow_messages.specs.Cells.{cell_of, is_of};
 ghost use Rattle.flow_messages.specs.Ends.{View, SameEnds};
 ghost use Rattle.flow_messages.specs.Signals.{signal_of};
+ghost use Rattle.flow_messages.specs.Rows.{units_said, flags_said, ints_said};
 ghost use Rattle.flow_base.specs.Machines.{Leads, on_kind};
 ghost use Rattle.flow_base.specs.Nodes.{NodeState, behaviour_of, node_state};
 ghost use Rattle.flow_base.specs.Visits.{edge_of, Went};
 ghost use Rattle.flow_base.specs.declared.node.Phase.TheVariants.{Working};
+ghost use Rattle.flow_scalar.specs.ForkCopies.{PutOnEach, CopiedOn};
 ghost use Rattle.flow_scalar.specs.ForkMachine.{ForkPorts, Step, fork_ports, fork_machine, idle, holding};
 
 use flow_base::{Ask, Stop, Worker, put_in_space, take_front};
 use flow_messages::{Ends, Item, Kind, Msg};
 use snesl_data::FaultKind;
 use std::alloc::{AllocError, Global};
+
+// How many items are copied at most before they are put: they come as a slice of the ends, which the puts change.
+const BLOCK: usize = 64;
 
 /// Reads items of one kind and writes each to every output, the outputs in order. Each item is an instance. An item of
 /// another kind is a fault of kind `Shape`.
@@ -145,6 +150,207 @@ fn put_on_each<E: Ends>(ends: &mut E, outputs: &[usize], item: &Item)
     }
 }
 
+// Puts these units on each output, where there is room.
+#[inline(always)]
+fn put_units_on_each<E: Ends>(ends: &mut E, outputs: &[usize], count: usize)
+    requires writes { All (λ e. (E.view ends.old).writes e ≡ true) outputs.now }
+    requires rise { (p q : ℕ) → p < q → q < length outputs.now →
+        edge_of outputs.now p < edge_of outputs.now q }
+    requires room { (q : ℕ) → q < length outputs.now →
+        count ≤ (E.view ends.old).room (edge_of outputs.now q) }
+    ensures same { E.same ends.old ends.new }
+    ensures put { PutOnEach outputs.now (length outputs.now) (units_said count) (E.view ends.old)
+        (E.view ends.new) }
+{
+    for port in 0..outputs.len() {
+        ends.put_units(outputs[port], count);
+    }
+}
+
+// Puts these truth values on each output, where there is room.
+#[inline(always)]
+fn put_flags_on_each<E: Ends>(ends: &mut E, outputs: &[usize], flags: &[bool])
+    requires writes { All (λ e. (E.view ends.old).writes e ≡ true) outputs.now }
+    requires rise { (p q : ℕ) → p < q → q < length outputs.now →
+        edge_of outputs.now p < edge_of outputs.now q }
+    requires room { (q : ℕ) → q < length outputs.now →
+        length flags.now ≤ (E.view ends.old).room (edge_of outputs.now q) }
+    ensures same { E.same ends.old ends.new }
+    ensures put { PutOnEach outputs.now (length outputs.now) (flags_said flags.now) (E.view ends.old)
+        (E.view ends.new) }
+{
+    for port in 0..outputs.len() {
+        ends.put_flags(outputs[port], flags);
+    }
+}
+
+// Puts these integers on each output, where there is room.
+#[inline(always)]
+fn put_ints_on_each<E: Ends>(ends: &mut E, outputs: &[usize], ints: &[i128])
+    requires writes { All (λ e. (E.view ends.old).writes e ≡ true) outputs.now }
+    requires rise { (p q : ℕ) → p < q → q < length outputs.now →
+        edge_of outputs.now p < edge_of outputs.now q }
+    requires room { (q : ℕ) → q < length outputs.now →
+        length ints.now ≤ (E.view ends.old).room (edge_of outputs.now q) }
+    ensures same { E.same ends.old ends.new }
+    ensures put { PutOnEach outputs.now (length outputs.now) (ints_said ints.now) (E.view ends.old)
+        (E.view ends.new) }
+{
+    for port in 0..outputs.len() {
+        ends.put_ints(outputs[port], ints);
+    }
+}
+
+// Copies the units that are shown to each output, where there is room. How many.
+#[inline(always)]
+fn units_to_each<E: Ends>(
+    ends: &mut E,
+    from: usize,
+    outputs: &[usize],
+    most: usize,
+) -> usize
+    requires reads { (E.view ends.old).reads from ≡ true }
+    requires writes { All (λ e. (E.view ends.old).writes e ≡ true) outputs.now }
+    requires rise { (p q : ℕ) → p < q → q < length outputs.now →
+        edge_of outputs.now p < edge_of outputs.now q }
+    requires room { (q : ℕ) → q < length outputs.now →
+        most ≤ (E.view ends.old).room (edge_of outputs.now q) }
+    ensures same { E.same ends.old ends.new }
+    ensures ends { SameEnds (E.view ends.old) (E.view ends.new) }
+    ensures within { result ≤ most }
+    ensures room { (q : ℕ) → q < length outputs.now →
+        (E.view ends.old).room (edge_of outputs.now q) ≤
+        (E.view ends.new).room (edge_of outputs.now q) + result }
+    ensures copied { CopiedOn Kind.Unit from outputs.now (E.view ends.old)
+        (E.view ends.new) result }
+{
+    let count = ends.units(from).min(most);
+    if count == 0 {
+        return 0;
+    }
+    ends.skip(from, count);
+    put_units_on_each(ends, outputs, count);
+    count
+}
+
+// Copies the truth values that are shown to each output, where there is room. How many.
+#[inline(always)]
+fn flags_to_each<E: Ends>(
+    ends: &mut E,
+    from: usize,
+    outputs: &[usize],
+    most: usize,
+    row: &mut [bool],
+) -> usize
+    requires reads { (E.view ends.old).reads from ≡ true }
+    requires writes { All (λ e. (E.view ends.old).writes e ≡ true) outputs.now }
+    requires rise { (p q : ℕ) → p < q → q < length outputs.now →
+        edge_of outputs.now p < edge_of outputs.now q }
+    requires room { (q : ℕ) → q < length outputs.now →
+        most ≤ (E.view ends.old).room (edge_of outputs.now q) }
+    ensures same { E.same ends.old ends.new }
+    ensures ends { SameEnds (E.view ends.old) (E.view ends.new) }
+    ensures within { result ≤ most }
+    ensures room { (q : ℕ) → q < length outputs.now →
+        (E.view ends.old).room (edge_of outputs.now q) ≤
+        (E.view ends.new).room (edge_of outputs.now q) + result }
+    ensures copied { CopiedOn Kind.Bool from outputs.now (E.view ends.old)
+        (E.view ends.new) result }
+{
+    let shown = ends.flags(from);
+    let count = shown.len().min(most).min(row.len());
+    if count == 0 {
+        return 0;
+    }
+    row[..count].copy_from_slice(&shown[..count]);
+    ends.skip(from, count);
+    put_flags_on_each(ends, outputs, &row[..count]);
+    count
+}
+
+// Copies the integers that are shown to each output, where there is room. How many.
+#[inline(always)]
+fn ints_to_each<E: Ends>(
+    ends: &mut E,
+    from: usize,
+    outputs: &[usize],
+    most: usize,
+    row: &mut [i128],
+) -> usize
+    requires reads { (E.view ends.old).reads from ≡ true }
+    requires writes { All (λ e. (E.view ends.old).writes e ≡ true) outputs.now }
+    requires rise { (p q : ℕ) → p < q → q < length outputs.now →
+        edge_of outputs.now p < edge_of outputs.now q }
+    requires room { (q : ℕ) → q < length outputs.now →
+        most ≤ (E.view ends.old).room (edge_of outputs.now q) }
+    ensures same { E.same ends.old ends.new }
+    ensures ends { SameEnds (E.view ends.old) (E.view ends.new) }
+    ensures within { result ≤ most }
+    ensures room { (q : ℕ) → q < length outputs.now →
+        (E.view ends.old).room (edge_of outputs.now q) ≤
+        (E.view ends.new).room (edge_of outputs.now q) + result }
+    ensures copied { CopiedOn Kind.Int from outputs.now (E.view ends.old)
+        (E.view ends.new) result }
+{
+    let shown = ends.ints(from);
+    let count = shown.len().min(most).min(row.len());
+    if count == 0 {
+        return 0;
+    }
+    row[..count].copy_from_slice(&shown[..count]);
+    ends.skip(from, count);
+    put_ints_on_each(ends, outputs, &row[..count]);
+    count
+}
+
+// Copies items of this kind that are shown to each output, where there is room: the units, or the others as far as the
+// rows that they are copied through. How many.
+#[inline(always)]
+fn block_to_each<E: Ends>(
+    ends: &mut E,
+    kind: Kind,
+    from: usize,
+    outputs: &[usize],
+    most: usize,
+    flags: &mut [bool],
+    ints: &mut [i128],
+) -> usize
+    requires reads { (E.view ends.old).reads from ≡ true }
+    requires writes { All (λ e. (E.view ends.old).writes e ≡ true) outputs.now }
+    requires rise { (p q : ℕ) → p < q → q < length outputs.now →
+        edge_of outputs.now p < edge_of outputs.now q }
+    requires room { (q : ℕ) → q < length outputs.now →
+        most ≤ (E.view ends.old).room (edge_of outputs.now q) }
+    ensures same { E.same ends.old ends.new }
+    ensures ends { SameEnds (E.view ends.old) (E.view ends.new) }
+    ensures within { result ≤ most }
+    ensures room { (q : ℕ) → q < length outputs.now →
+        (E.view ends.old).room (edge_of outputs.now q) ≤
+        (E.view ends.new).room (edge_of outputs.now q) + result }
+    ensures copied { CopiedOn kind from outputs.now (E.view ends.old) (E.view ends.new)
+        result }
+{
+    match kind {
+        Kind::Unit => units_to_each(ends, from, outputs, most),
+        Kind::Bool => flags_to_each(ends, from, outputs, most, flags),
+        Kind::Int => ints_to_each(ends, from, outputs, most, ints),
+        Kind::Vec => 0,
+    }
+}
+
+// Whether items of this kind are shown.
+#[inline(always)]
+fn shows<E: Ends>(ends: &E, edge: usize, kind: Kind) -> bool
+    requires { (E.view ends.now).reads edge ≡ true }
+{
+    match kind {
+        Kind::Unit => ends.units(edge) > 0,
+        Kind::Bool => !ends.flags(edge).is_empty(),
+        Kind::Int => !ends.ints(edge).is_empty(),
+        Kind::Vec => false,
+    }
+}
+
 impl Worker for Fork {
     ghost use Rattle.flow_scalar.specs.ForkMachine.{ForkPorts, fork_ports, Step, step_of, fork_machine};
     ghost use Rattle.flow_scalar.specs.laws.Fork.{fork_laws};
@@ -211,6 +417,40 @@ impl Worker for Fork {
 
     fn is_between(&self) -> bool {
         self.held.is_none()
+    }
+
+    #[inline(always)]
+    fn blocks<E: Ends>(
+        &mut self,
+        inputs: &[usize],
+        outputs: &[usize],
+        ends: &mut E,
+        most: usize,
+    ) -> usize {
+        let from = inputs[0];
+        // An instance is a step for each output and one more. Where nothing is shown, no output is looked at.
+        if most <= outputs.len() || self.held.is_some() || !shows(ends, from, self.kind) {
+            return 0;
+        }
+        // The room of an edge is certain for one output alone.
+        if !rise(outputs) {
+            return 0;
+        }
+        let steps = outputs.len() + 1;
+        let whole = least_space(ends, outputs).min(most / steps);
+        let mut flags = [false; BLOCK];
+        let mut ints = [0; BLOCK];
+        let mut made = 0;
+        while made < whole {
+            let left = whole - made;
+            let count =
+                block_to_each(ends, self.kind, from, outputs, left, &mut flags, &mut ints);
+            if count == 0 {
+                return steps * made;
+            }
+            made += count;
+        }
+        steps * made
     }
 
     #[inline(always)]

@@ -1,0 +1,28 @@
+use Rattle.std.proofs.Common.{◌+◌, ◌*◌, ◌<◌, ◌≤◌, length, sym, ap, subst, arith}
+use Rattle.flow_messages.specs.Cells.{unit, is_of}
+use Rattle.flow_messages.specs.Ends.{TakenAll}
+use Rattle.flow_messages.specs.Rows.{units_said}
+use Rattle.flow_base.proofs.Rounds.{ended_units, take_units, length_units}
+use Rattle.flow_scalar.proofs.SingleRows.{skipped}
+use Rattle.flow_scalar.proofs.ForkRows.{copies_units, copies_went, copied_none}
+use Rattle.flow_scalar.proofs.fork.units_to_each.Goals as goal
+
+-- it made no step
+pub returns-then-count-eq0-clause-copied : goal.returns-then-count-eq0-clause-copied
+returns-then-count-eq0-clause-copied g c = copied_none _ c.args.from c.args.outputs.now (g.E.Ends.view c.args.ends.now)
+
+pub returns-clause-copied : goal.returns-clause-copied
+returns-clause-copied g c = λ ins there is p kind counts at.
+    let outs = c.args.outputs.now in
+    let view = g.E.Ends.view in
+    let a = view c.args.ends.now in
+    let u = view c.skip.new.self in
+    let w = view c.put_units_on_each.new.ends in
+    let shown = c.units.result in
+    let count = c.min-count.result in
+    let within : count ≤ shown = omega (arith, c.min-count.ensures) in
+    let taken = skipped count (units_said shown) (units_said count) a c.args.from u c.units.ensures (omega (arith, within, length_units shown)) (take_units count shown within) c.skip.ensures.taken in
+    let here = subst (λ e. TakenAll a e (units_said count) u) (sym is) taken in
+    let some : 0 < (length outs + 1) * count = grind (arith, c.if-count-eq0.false) in
+    let copies = copies_units ins outs p at c.requires.rise counts (ap (λ k. is_of k unit) kind) count in
+    copies_went ins outs p at (units_said count) ((length outs + 1) * count) there copies some (ended_units count) a u w here c.put_units_on_each.ensures.put
