@@ -1,5 +1,6 @@
 pub mod BinaryRows
 pub mod ForkRows
+pub mod IotaRows
 pub mod Leading
 pub mod Sending
 pub mod UnaryRows

@@ -1,10 +1,16 @@
 // The numbers from 0 on that are below a number.
 
-ghost use Rattle.std.specs.Prelude.{◌≡◌, ◌≤ℤ◌, pos, true, [], ◌∷◌, IfSome};
+ghost use Rattle.std.specs.Prelude.{◌≡◌, ◌≢◌, ◌+ℤ◌, ◌≤ℤ◌, ℕ, ◌*◌, ◌<◌, ◌≤◌, pos, true, [], ◌∷◌, List, get_or, length, IfSome, MatchOption};
+ghost use Rattle.std.specs.List.{All};
 ghost use mathlib.Core.List.{IsPrefix};
 ghost use Rattle.flow_messages.specs.Cells.{int};
+ghost use Rattle.flow_messages.specs.Ends.{SameEnds};
 ghost use Rattle.flow_messages.specs.Signals.{carry, signal_of};
-ghost use Rattle.flow_scalar.specs.IotaMachine.{number_after};
+ghost use Rattle.flow_base.specs.Nodes.{behaviour_of, node_state};
+ghost use Rattle.flow_base.specs.Visits.{edge_of, IsWired, Went};
+ghost use Rattle.flow_base.specs.declared.node.Phase.TheVariants.{Working};
+ghost use Rattle.flow_scalar.specs.IotaMachine.{number_after, iota_machine, iota_view};
+ghost use Rattle.flow_scalar.specs.declared.iota.Iota.TheVariants.{Flag};
 
 use flow_base::{Ask, Stop, Worker, put_in_space, take_front};
 use flow_messages::{Ends, Item, Kind, Msg};
@@ -50,6 +56,106 @@ fn count_at<E: Ends>(ends: &E, edge: usize) -> Option<i128>
         Some(message) => count_of(message),
         None => None,
     }
+}
+
+// The most numbers that are put in one call.
+const BLOCK: usize = 64;
+
+// The flags of a block of elements.
+const ELEMENTS: [bool; BLOCK] = [false; BLOCK];
+
+// How many numbers of a block are left from `next` on below `end`. The end less a negative number may not fit.
+#[inline(always)]
+fn numbers_left(next: i128, end: i128) -> usize
+    ensures block { result ≤ 64 }
+    ensures below { 0 < result → (next +ℤ pos result) ≤ℤ end }
+{
+    if next < 0 || end <= next {
+        return 0;
+    }
+    (end - next).min(64) as usize
+}
+
+// Fills so many places with the numbers from `next` on.
+#[inline(always)]
+fn fill(block: &mut [i128; BLOCK], next: i128, end: i128, count: usize)
+    requires within { count ≤ 64 }
+    requires below { (next +ℤ pos count) ≤ℤ end }
+    ensures filled { (k : ℕ) → k < count → get_or block.new k (pos 0) ≡ next +ℤ pos k }
+    ensures length { length block.new ≡ 64 }
+{
+    for place in 0..count {
+        block[place] = next + place as i128;
+    }
+}
+
+// Writes numbers below `end` from `next` on, each after a flag: a block of them, or what is left or has room. How many.
+#[inline(always)]
+fn put_numbers<E: Ends>(
+    next: i128,
+    end: i128,
+    outputs: &[usize],
+    ends: &mut E,
+    most: usize,
+    block: &mut [i128; BLOCK],
+) -> usize
+    requires two { length outputs.now ≡ 2 }
+    requires apart { edge_of outputs.now 0 ≢ edge_of outputs.now 1 }
+    requires writes { All (λ e. (E.view ends.old).writes e ≡ true) outputs.now }
+    ensures same { E.same ends.old ends.new }
+    ensures ends { SameEnds (E.view ends.old) (E.view ends.new) }
+    ensures within { 2 * result ≤ most }
+    ensures below { 0 < result → (next +ℤ pos result) ≤ℤ end }
+    ensures went { (inputs : List ℕ) (at : ℕ) → Went inputs outputs.now
+        (behaviour_of iota_machine) (node_state (iota_view (Flag next end)) Working at)
+        (E.view ends.old)
+        (node_state (iota_view (Flag (next +ℤ pos result) end)) Working at)
+        (E.view ends.new) (2 * result) }
+{
+    let (flags, numbers) = (outputs[0], outputs[1]);
+    let left = numbers_left(next, end).min(most / 2);
+    let count = left.min(ends.space(flags)).min(ends.space(numbers));
+    if count == 0 {
+        return 0;
+    }
+    fill(block, next, end, count);
+    ends.put_flags(flags, &ELEMENTS[..count]);
+    ends.put_ints(numbers, &block[..count]);
+    count
+}
+
+// Writes the flag that ends a segment and reads the integer of the next, where both can be. That integer.
+#[inline(always)]
+fn next_segment<E: Ends>(
+    next: i128,
+    end: i128,
+    inputs: &[usize],
+    outputs: &[usize],
+    ends: &mut E,
+) -> Option<i128>
+    requires wired { IsWired inputs.now outputs.now 1 2 (E.view ends.old) }
+    requires at_end { end ≤ℤ next }
+    ensures same { E.same ends.old ends.new }
+    ensures ends { SameEnds (E.view ends.old) (E.view ends.new) }
+    ensures went { (at : ℕ) → MatchOption result
+        (Went inputs.now outputs.now (behaviour_of iota_machine)
+        (node_state (iota_view (Flag next end)) Working at) (E.view ends.old)
+        (node_state (iota_view (Flag next end)) Working at) (E.view ends.new) 0)
+        (λ count. Went inputs.now outputs.now (behaviour_of iota_machine)
+        (node_state (iota_view (Flag next end)) Working at) (E.view ends.old)
+        (node_state (iota_view (Flag (pos 0) count)) Working at) (E.view ends.new) 2) }
+{
+    let (from, flags) = (inputs[0], outputs[0]);
+    let [shown, ..] = ends.ints(from) else {
+        return None;
+    };
+    let count = *shown;
+    if count < 0 || ends.space(flags) == 0 {
+        return None;
+    }
+    ends.put_flags(flags, &[true]);
+    ends.skip(from, 1);
+    Some(count)
 }
 
 impl Iota {
@@ -146,6 +252,47 @@ impl Worker for Iota {
     // The first integer is read by a single step.
     fn is_between(&self) -> bool {
         matches!(self, Iota::Flag { .. })
+    }
+
+    // Each round is a block of flags and numbers, or the flag that ends a segment and the next integer.
+    #[inline(always)]
+    fn blocks<E: Ends>(
+        &mut self,
+        inputs: &[usize],
+        outputs: &[usize],
+        ends: &mut E,
+        most: usize,
+    ) -> usize {
+        let Iota::Flag { mut next, mut end } = *self else {
+            return 0;
+        };
+        // Nothing is shown at the end of a segment, or both rows go to one edge.
+        if outputs[0] == outputs[1] || next >= end && ends.ints(inputs[0]).is_empty() {
+            return 0;
+        }
+        let mut block = [0i128; BLOCK];
+        let mut made = 0;
+        loop {
+            if next < end {
+                let count = put_numbers(next, end, outputs, ends, most - made, &mut block);
+                if count == 0 {
+                    break;
+                }
+                next += count as i128;
+                made += 2 * count;
+            } else {
+                if most - made < 2 {
+                    break;
+                }
+                let Some(count) = next_segment(next, end, inputs, outputs, ends) else {
+                    break;
+                };
+                (next, end) = (0, count);
+                made += 2;
+            }
+        }
+        *self = Iota::Flag { next, end };
+        made
     }
 
     // Each round is two steps: a flag and a number, or the flag that ends a segment and the next integer.

@@ -1,0 +1,58 @@
+use Rattle.std.proofs.Common.{◌≡◌, ◌≢◌, ◌+◌, ◌<◌, ◌≤◌, ◌*◌, ℕ, ℤ, pos, ◌+ℤ◌, ◌≤ℤ◌, length, take, get_or, List, to_z, of_z, refl, sym, ◌∙◌, ap, subst, arith, rules}
+use Rattle.std.specs.Int.{w128}
+use Rattle.std.proofs.lemmas.Int.{ints}
+use Rattle.flow_messages.specs.Ends.{PutAll}
+use Rattle.flow_messages.specs.Rows.{flags_said, ints_said}
+use Rattle.flow_base.specs.Nodes.{behaviour_of}
+use Rattle.flow_base.specs.Visits.{edge_of, Went}
+use Rattle.flow_base.proofs.Carried.{same_ends_then}
+use Rattle.flow_base.proofs.Kernels.{went_none, went_looked}
+use Rattle.flow_scalar.specs.declared.iota.Iota.TheVariants.{Flag}
+use Rattle.flow_scalar.specs.IotaMachine.{iota_machine}
+use Rattle.flow_scalar.proofs.IotaRows.{numbers_row, elements_are, filled_row, on, numbers_went}
+use Rattle.flow_scalar.proofs.iota.put_numbers.Goals as goal
+
+pub returns-then-count-eq0-clause-went : goal.returns-then-count-eq0-clause-went
+returns-then-count-eq0-clause-went g c = λ ins at.
+    let b = behaviour_of iota_machine in
+    let outs = c.args.outputs.now in
+    let view = g.E.Ends.view in
+    let a = view c.args.ends.now in
+    let s = on at (Flag c.args.next c.args.end) in
+    let found = went_looked b ins outs (went_none b ins outs s a) 0 (view c.space.new.self) (omega arith) c.space.ensures.looked in
+    let looked = went_looked b ins outs found 1 (view c.space-2.new.self) (omega (arith, c.requires.two)) c.space-2.ensures.looked in
+    let same : c.args.next ≡ c.args.next +ℤ pos 0 = omega (arith, ints) in
+    subst (λ k. Went ins outs b s a (on at (Flag k c.args.end)) (view c.space-2.new.self) 0) same looked
+
+pub returns-clause-ends : goal.returns-clause-ends
+returns-clause-ends g c =
+    let view = g.E.Ends.view in
+    let a = view c.args.ends.now in
+    let v = view c.space.new.self in
+    let u = view c.space-2.new.self in
+    let w = view c.put_flags.new.self in
+    let x = view c.put_ints.new.self in
+    same_ends_then a w x (same_ends_then a u w (same_ends_then a v u c.space.ensures.looked.ends c.space-2.ensures.looked.ends) c.put_flags.ensures.put.ends) c.put_ints.ensures.put.ends
+
+pub returns-clause-went : goal.returns-clause-went
+returns-clause-went g c = λ ins at.
+    let b = behaviour_of iota_machine in
+    let outs = c.args.outputs.now in
+    let view = g.E.Ends.view in
+    let a = view c.args.ends.now in
+    let s = on at (Flag c.args.next c.args.end) in
+    let found = went_looked b ins outs (went_none b ins outs s a) 0 (view c.space.new.self) (omega arith) c.space.ensures.looked in
+    let looked = went_looked b ins outs found 1 (view c.space-2.new.self) (omega (arith, c.requires.two)) c.space-2.ensures.looked in
+    let n = c.min-count.result in
+    let below = c.numbers_left.ensures.below in
+    let some : 0 < n = omega arith in
+    let fits : (c.args.next +ℤ pos n) ≤ℤ c.args.end = omega (arith, ints, below (omega arith)) in
+    let u = view c.put_flags.new.self in
+    let w = view c.put_ints.new.self in
+    let back : to_z w128 (of_z w128 c.args.next) ≡ c.args.next = search rules in
+    let filled : (k : ℕ) → k < n → get_or c.fill.new.block k (pos 0) ≡ c.args.next +ℤ pos k = λ k h. c.fill.ensures.filled k h ∙ ap (λ q. q +ℤ pos k) back in
+    let within : n ≤ 64 = omega (arith, c.numbers_left.ensures.block) in
+    let row : take n c.fill.new.block ≡ numbers_row c.args.next n = filled_row c.args.next n c.fill.new.block (omega (arith, c.fill.ensures.length)) filled in
+    let flagged = subst (λ bs. PutAll (view c.space-2.new.self) (edge_of outs 0) (flags_said bs) u) (elements_are n 64 within) c.put_flags.ensures.put in
+    let numbered = subst (λ ns. PutAll u (edge_of outs 1) (ints_said ns) w) row c.put_ints.ensures.put in
+    numbers_went ins outs c.requires.apart (omega (arith, c.requires.two)) at c.args.end n c.args.next fits some a (view c.space-2.new.self) u w looked flagged numbered
