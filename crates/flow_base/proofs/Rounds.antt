@@ -9,7 +9,7 @@ use Rattle.kahn.proofs.History.{does_then}
 use Rattle.flow_messages.specs.Cells.{Cell, unit, flag, int}
 use Rattle.flow_messages.specs.Signals.{Signal, carry, stop, ended}
 use Rattle.flow_messages.specs.Ends.{View, SameEnds, TakenAll, PutAll}
-use Rattle.flow_messages.specs.Rows.{units_said, flags_said, ints_said}
+use Rattle.flow_messages.specs.Blocks.{units_said, flags_said, ints_said}
 use Rattle.flow_base.specs.Transducers.{Behaviour}
 use Rattle.flow_base.specs.Visits.{read_from, sent_after, edge_of, IsNone, Went}
 use Rattle.flow_base.proofs.Carried.{same_ends_refl, same_ends_then, prefix_same, prefix_then, read_append, sent_append}

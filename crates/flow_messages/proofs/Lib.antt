@@ -2,6 +2,6 @@ pub mod Signals
 pub mod Counts
 pub mod Tables
 pub mod Waiting
-pub mod Rows
+pub mod Blocks
 pub mod Lines
 pub mod Contents

@@ -1,7 +1,7 @@
 pub mod Cells
 pub mod Signals
 pub mod Ends
-pub mod Rows
+pub mod Blocks
 pub mod Contents
 pub mod Runs
 pub mod Stores

@@ -26,7 +26,7 @@ pub trait Ends {
     ghost use mathlib.Core.List.{IsPrefix};
     ghost use Rattle.flow_messages.specs.Signals.{signal_of, ended};
     ghost use Rattle.flow_messages.specs.Ends.{View, held, LookedForRoom, LookedForMessages, Put, Taken, TakenAll, PutAll};
-    ghost use Rattle.flow_messages.specs.Rows.{units_said, flags_said, ints_said};
+    ghost use Rattle.flow_messages.specs.Blocks.{units_said, flags_said, ints_said};
     ghost use Rattle.flow_messages.specs.declared.ends.Why.TheVariants.{Full, Closed};
 
     /// What was put and taken on each edge, and what is certain.

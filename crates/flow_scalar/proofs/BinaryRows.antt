@@ -12,7 +12,7 @@ use Rattle.snesl_operators.specs.declared.operator.BinaryOperator.TheVariants.{A
 use Rattle.flow_messages.specs.Cells.{int}
 use Rattle.flow_messages.specs.Signals.{Signal, carry}
 use Rattle.flow_messages.specs.Ends.{View, LookedForRoom, TakenAll, PutAll}
-use Rattle.flow_messages.specs.Rows.{ints_said}
+use Rattle.flow_messages.specs.Blocks.{ints_said}
 use Rattle.flow_base.specs.Machines.{taken}
 use Rattle.flow_base.specs.Nodes.{NodeState, behaviour_of, node_state}
 use Rattle.flow_base.specs.Visits.{edge_of, Went}

@@ -8,7 +8,7 @@ use Rattle.kahn.specs.declared.want.Want.TheVariants.{Write}
 use Rattle.snesl_data.specs.declared.fault.FaultKind.TheVariants.{Shape}
 use Rattle.flow_messages.specs.Cells.{Cell, unit, flag, int, is_of}
 use Rattle.flow_messages.specs.Ends.{View, TakenAll, PutAll}
-use Rattle.flow_messages.specs.Rows.{units_said, flags_said, ints_said}
+use Rattle.flow_messages.specs.Blocks.{units_said, flags_said, ints_said}
 use Rattle.flow_messages.specs.declared.message.Kind.{Kind}
 use Rattle.flow_messages.specs.Signals.{Signal, carry, ended}
 use Rattle.flow_base.specs.Machines.{Move, gives, on_kind, ask_of, told_of, after_of}

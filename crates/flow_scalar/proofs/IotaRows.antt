@@ -6,7 +6,7 @@ use Rattle.std.proofs.lemmas.Int.{ints}
 use mathlib.Core.List.{IsPrefix}
 use Rattle.flow_messages.specs.Cells.{flag, int}
 use Rattle.flow_messages.specs.Ends.{View, TakenAll, PutAll}
-use Rattle.flow_messages.specs.Rows.{flags_said, ints_said}
+use Rattle.flow_messages.specs.Blocks.{flags_said, ints_said}
 use Rattle.flow_messages.specs.Signals.{Signal, carry}
 use Rattle.flow_base.specs.Machines.{on_int}
 use Rattle.flow_base.specs.Nodes.{NodeState, behaviour_of, node_state}

@@ -4,7 +4,7 @@ use Rattle.std.specs.List.{count_by}
 use Rattle.std.proofs.lemmas.List.Recursion.{is_count_by}
 use Rattle.flow_messages.specs.Cells.{unit, flag}
 use Rattle.flow_messages.specs.Signals.{carry}
-use Rattle.flow_messages.specs.Rows.{units_said, flags_said}
+use Rattle.flow_messages.specs.Blocks.{units_said, flags_said}
 use Rattle.flow_base.specs.Nodes.{NodeState, behaviour_of, node_state}
 use Rattle.flow_base.specs.declared.node.Phase.TheVariants.{Working}
 use Rattle.flow_scalar.specs.UnitsOfMachine.{units_of_machine}

@@ -3,7 +3,7 @@ use Rattle.std.proofs.Common.{◌≡◌, ℕ, ◌+◌, ◌<◌, Bool, true, fals
 use Rattle.std.proofs.lemmas.List.{take_more, map-append}
 use Rattle.snesl_operators.specs.declared.scalar.Scalar.{Scalar}
 use Rattle.flow_messages.specs.Signals.{Signal, carry, ended}
-use Rattle.flow_messages.specs.Rows.{ints_said}
+use Rattle.flow_messages.specs.Blocks.{ints_said}
 use Rattle.flow_scalar.specs.Scalars.{cell_of_scalar}
 
 -- what these values say

@@ -5,7 +5,7 @@ ghost use Rattle.std.specs.List.{All};
 ghost use Rattle.flow_messages.specs.Cells.{cell_of, is_of};
 ghost use Rattle.flow_messages.specs.Ends.{View, SameEnds};
 ghost use Rattle.flow_messages.specs.Signals.{signal_of};
-ghost use Rattle.flow_messages.specs.Rows.{units_said, flags_said, ints_said};
+ghost use Rattle.flow_messages.specs.Blocks.{units_said, flags_said, ints_said};
 ghost use Rattle.flow_base.specs.Machines.{Leads, on_kind};
 ghost use Rattle.flow_base.specs.Nodes.{NodeState, behaviour_of, node_state};
 ghost use Rattle.flow_base.specs.Visits.{edge_of, Went};

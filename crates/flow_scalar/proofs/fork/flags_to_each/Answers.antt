@@ -2,7 +2,7 @@ use Rattle.std.proofs.Common.{◌≡◌, ◌+◌, ◌*◌, ◌<◌, ◌≤◌, l
 use Rattle.std.proofs.lemmas.List.{length-take-le}
 use Rattle.flow_messages.specs.Cells.{flag, is_of}
 use Rattle.flow_messages.specs.Ends.{TakenAll}
-use Rattle.flow_messages.specs.Rows.{flags_said}
+use Rattle.flow_messages.specs.Blocks.{flags_said}
 use Rattle.flow_base.proofs.Rounds.{ended_flags, take_flags, length_flags}
 use Rattle.flow_scalar.specs.ForkCopies.{PutOnEach}
 use Rattle.flow_scalar.proofs.SingleRows.{skipped}

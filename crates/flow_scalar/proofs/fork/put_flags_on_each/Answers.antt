@@ -1,6 +1,6 @@
 use Rattle.std.proofs.Common.{◌≡◌, true, ◌∙◌, arith}
 use Rattle.std.proofs.lemmas.List.Elements.{All-get_or}
-use Rattle.flow_messages.specs.Rows.{flags_said}
+use Rattle.flow_messages.specs.Blocks.{flags_said}
 use Rattle.flow_base.proofs.Rounds.{ended_flags}
 use Rattle.flow_scalar.proofs.ForkRows.{put_on_none, put_on_more}
 use Rattle.flow_scalar.proofs.fork.put_flags_on_each.Goals as goal

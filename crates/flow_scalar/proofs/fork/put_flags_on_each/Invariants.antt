@@ -1,4 +1,4 @@
-use Rattle.flow_messages.specs.Rows.{flags_said}
+use Rattle.flow_messages.specs.Blocks.{flags_said}
 use Rattle.flow_scalar.specs.ForkCopies.{PutOnEach}
 use Rattle.flow_scalar.proofs.fork.put_flags_on_each.Given as goal
 

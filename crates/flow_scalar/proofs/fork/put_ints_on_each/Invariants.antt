@@ -1,4 +1,4 @@
-use Rattle.flow_messages.specs.Rows.{ints_said}
+use Rattle.flow_messages.specs.Blocks.{ints_said}
 use Rattle.flow_scalar.specs.ForkCopies.{PutOnEach}
 use Rattle.flow_scalar.proofs.fork.put_ints_on_each.Given as goal
 

@@ -1,4 +1,4 @@
-use Rattle.flow_messages.specs.Rows.{units_said}
+use Rattle.flow_messages.specs.Blocks.{units_said}
 use Rattle.flow_scalar.specs.ForkCopies.{PutOnEach}
 use Rattle.flow_scalar.proofs.fork.put_units_on_each.Given as goal
 

@@ -1,7 +1,7 @@
 use Rattle.std.proofs.Common.{◌+◌, ◌*◌, ◌<◌, ◌≤◌, length, sym, ap, subst, arith}
 use Rattle.flow_messages.specs.Cells.{unit, is_of}
 use Rattle.flow_messages.specs.Ends.{TakenAll}
-use Rattle.flow_messages.specs.Rows.{units_said}
+use Rattle.flow_messages.specs.Blocks.{units_said}
 use Rattle.flow_base.proofs.Rounds.{ended_units, take_units, length_units}
 use Rattle.flow_scalar.proofs.SingleRows.{skipped}
 use Rattle.flow_scalar.proofs.ForkRows.{copies_units, copies_went, copied_none}

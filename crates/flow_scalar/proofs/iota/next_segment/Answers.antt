@@ -5,7 +5,7 @@ use Rattle.std.proofs.lemmas.Int.{ints}
 use mathlib.Core.List.{IsPrefix}
 use Rattle.flow_messages.specs.Cells.{flag, int}
 use Rattle.flow_messages.specs.Ends.{TakenAll}
-use Rattle.flow_messages.specs.Rows.{ints_said}
+use Rattle.flow_messages.specs.Blocks.{ints_said}
 use Rattle.flow_messages.specs.Signals.{carry}
 use Rattle.flow_base.specs.Nodes.{behaviour_of}
 use Rattle.flow_base.specs.Visits.{edge_of, Went}

@@ -2,7 +2,7 @@ use Rattle.std.proofs.Common.{◌≡◌, ◌≢◌, ◌+◌, ◌<◌, ◌≤◌,
 use Rattle.std.specs.Int.{w128}
 use Rattle.std.proofs.lemmas.Int.{ints}
 use Rattle.flow_messages.specs.Ends.{PutAll}
-use Rattle.flow_messages.specs.Rows.{flags_said, ints_said}
+use Rattle.flow_messages.specs.Blocks.{flags_said, ints_said}
 use Rattle.flow_base.specs.Nodes.{behaviour_of}
 use Rattle.flow_base.specs.Visits.{edge_of, Went}
 use Rattle.flow_base.proofs.Carried.{same_ends_then}

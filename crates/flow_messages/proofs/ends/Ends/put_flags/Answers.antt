@@ -3,8 +3,8 @@ use Rattle.std.proofs.lemmas.List.{length-map, length-take-le, take_all}
 use Rattle.flow_messages.specs.Cells.{flag}
 use Rattle.flow_messages.specs.Signals.{carry}
 use Rattle.flow_messages.specs.Ends.{PutAll}
-use Rattle.flow_messages.specs.Rows.{flags_said}
-use Rattle.flow_messages.proofs.Rows.{put_none, put_next, row_next, items_go_on}
+use Rattle.flow_messages.specs.Blocks.{flags_said}
+use Rattle.flow_messages.proofs.Blocks.{put_none, put_next, row_next, items_go_on}
 use Rattle.flow_messages.proofs.ends.Ends.put_flags.Goals as goal
 
 pub loop-flag-init : goal.loop-flag-init

@@ -4,8 +4,8 @@ use Rattle.std.proofs.lemmas.List.{length-map, length-take-le, take_all}
 use Rattle.flow_messages.specs.Cells.{int}
 use Rattle.flow_messages.specs.Signals.{carry}
 use Rattle.flow_messages.specs.Ends.{PutAll}
-use Rattle.flow_messages.specs.Rows.{ints_said}
-use Rattle.flow_messages.proofs.Rows.{put_none, put_next, row_next, items_go_on}
+use Rattle.flow_messages.specs.Blocks.{ints_said}
+use Rattle.flow_messages.proofs.Blocks.{put_none, put_next, row_next, items_go_on}
 use Rattle.flow_messages.proofs.ends.Ends.put_ints.Goals as goal
 
 pub loop-int-init : goal.loop-int-init

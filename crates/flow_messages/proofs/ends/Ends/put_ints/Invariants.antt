@@ -1,6 +1,6 @@
 use Rattle.std.proofs.Common.{take}
 use Rattle.flow_messages.specs.Ends.{PutAll}
-use Rattle.flow_messages.specs.Rows.{ints_said}
+use Rattle.flow_messages.specs.Blocks.{ints_said}
 use Rattle.flow_messages.proofs.ends.Ends.put_ints.Given as goal
 
 -- what was put so far

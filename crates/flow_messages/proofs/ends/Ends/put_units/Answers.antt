@@ -3,8 +3,8 @@ use Rattle.std.proofs.lemmas.List.{length-replicate, replicate_more}
 use Rattle.flow_messages.specs.Cells.{unit}
 use Rattle.flow_messages.specs.Signals.{carry, ended}
 use Rattle.flow_messages.specs.Ends.{PutAll}
-use Rattle.flow_messages.specs.Rows.{units_said}
-use Rattle.flow_messages.proofs.Rows.{put_none, put_next, units_go_on}
+use Rattle.flow_messages.specs.Blocks.{units_said}
+use Rattle.flow_messages.proofs.Blocks.{put_none, put_next, units_go_on}
 use Rattle.flow_messages.proofs.ends.Ends.put_units.Goals as goal
 
 pub loop-init : goal.loop-init

@@ -1,6 +1,6 @@
 use Rattle.std.proofs.Common.{◌≡◌, ◌+◌, ◌<◌, ◌≤◌, take, length, arith, add-one, ap, subst, sym, ◌∙◌}
 use Rattle.flow_messages.specs.Ends.{TakenAll}
-use Rattle.flow_messages.proofs.Rows.{taken_none, taken_next}
+use Rattle.flow_messages.proofs.Blocks.{taken_none, taken_next}
 use Rattle.flow_messages.proofs.ends.Ends.skip.Goals as goal
 
 pub loop-init : goal.loop-init

@@ -9,7 +9,7 @@ use Rattle.flow_messages.specs.declared.message.Msg.{Msg}
 use Rattle.flow_messages.specs.declared.ends.Refused.{Refused}
 use Rattle.flow_messages.specs.declared.ends.Why.TheVariants.{Closed}
 use Rattle.flow_messages.specs.Signals.{Signal, signal_of, carry, stop, is_stop, ended}
-use Rattle.flow_messages.specs.Rows.{units_said}
+use Rattle.flow_messages.specs.Blocks.{units_said}
 use Rattle.flow_messages.specs.Ends.{View, held, SameEnds, LookedForRoom, Put, Taken, TakenAll, PutAll}
 
 prefix_then : {X : Type 0} (xs ys zs : List X) → IsPrefix xs ys → IsPrefix ys zs → IsPrefix xs zs
