@@ -1,5 +1,5 @@
 pub mod Carried
 pub mod Kernels
 pub mod Reached
-pub mod Rounds
+pub mod Batches
 pub mod Visits

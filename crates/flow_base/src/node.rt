@@ -195,7 +195,7 @@ impl<W: Worker> Node<W> {
         Ok(chunk)
     }
 
-    // The rest of an instance that has begun, and then whole instances, over rows and then one by one, at most `chunk`
+    // The rest of an instance that has begun, and then whole instances, over slices and then one by one, at most `chunk`
     // steps. How many it made. It stands alone, so that the loop of single steps keeps its values in registers.
     #[inline(never)]
     fn whole_instances<E: Ends>(
@@ -222,9 +222,9 @@ impl<W: Worker> Node<W> {
         if let Phase::Working = self.phase {
             look_for_messages(ends, inputs);
             let left = chunk - first;
-            let rows = self.worker.blocks(inputs, outputs, ends, left);
-            let more = self.worker.kernel(inputs, outputs, ends, left - rows);
-            return Ok(first + rows + more);
+            let whole = self.worker.blocks(inputs, outputs, ends, left);
+            let more = self.worker.kernel(inputs, outputs, ends, left - whole);
+            return Ok(first + whole + more);
         }
         Ok(first)
     }

@@ -121,7 +121,7 @@ pub trait Worker {
         true
     }
 
-    /// As the kernel, but over the rows that its ends show: many messages are looked at, taken or put in one call. It
+    /// As the kernel, but over the slices that its ends show: many messages are looked at, taken or put in one call. It
     /// makes whole rounds, at most `most` steps; or fewer, or none. How many steps it made.
     fn blocks<E: Ends>(
         &mut self,

@@ -126,9 +126,9 @@ module _ (a v w : View) (e : ℕ) (ms : List Signal) (m : Signal) (message : Msg
       room_here = omega (arith, all.room_here, refused.1.more, length-append ms (m ∷ []));
     }
 
--- what a row says, with one item more
-pub row_next : {X : Type 0} (f : X → Signal) (xs : List X) (i : ℕ) (d : X) → i < length xs → map f (take (i + 1) xs) ≡ map f (take i xs) ++ f (get_or xs i d) ∷ []
-row_next f xs i d low = ap (λ k. map f (take k xs)) (add-one i) ∙ ap (map f) (take-suc xs i d low) ∙ map-append f (take i xs) (get_or xs i d ∷ [])
+-- what a block says, with one item more
+pub block_next : {X : Type 0} (f : X → Signal) (xs : List X) (i : ℕ) (d : X) → i < length xs → map f (take (i + 1) xs) ≡ map f (take i xs) ++ f (get_or xs i d) ∷ []
+block_next f xs i d low = ap (λ k. map f (take k xs)) (add-one i) ∙ ap (map f) (take-suc xs i d low) ∙ map-append f (take i xs) (get_or xs i d ∷ [])
 
 -- items say no end
 pub items_go_on : {X : Type 0} (f : X → Signal) → ((x : X) → is_stop (f x) ≡ false) → (xs : List X) → ended (map f xs) ≡ false

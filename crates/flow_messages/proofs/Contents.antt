@@ -1,4 +1,4 @@
--- Messages in rows: what is put, taken and seen.
+-- Messages in blocks: what is put, taken and seen.
 use Rattle.std.proofs.Common.{◌≡◌, ℕ, ℤ, zero, suc, ◌+◌, ◌-◌, ◌<◌, ◌≤◌, Bool, List, [], ◌∷◌, ◌++◌, length, drop, take, map, get_or, min, refl, sym, ap, ◌∙◌, arith, add-one, suc-add, zero-add, append_assoc, append-nil, length-append, length-drop}
 use Rattle.std.proofs.lemmas.List.{length-map, length-replicate, replicate-append-replicate, drop-replicate, drop-append-le, drop-map, map-append, replicate_more}
 use Rattle.std.proofs.lemmas.Grind.{take_at_read}
@@ -108,7 +108,7 @@ take_int u f i i' n q none no_flags is =
     ap (λ (k : ℕ). content k f i q) none ∙ ap (λ (l : List Bool). content 0 l i q) no_flags ∙ ap (λ (l : List ℤ). content 0 [] l q) is
     ∙ ap (λ (l : List Bool). ItemMsg (IntItem n) ∷ content 0 l i' q) (sym no_flags) ∙ ap (λ (k : ℕ). ItemMsg (IntItem n) ∷ content k f i' q) (sym none)
 
--- where there are no rows
+-- where there are no blocks
 pub only_queue : (u : ℕ) (f : List Bool) (i : List ℤ) (q : List Msg) → u ≡ 0 → f ≡ [] → i ≡ [] → content u f i q ≡ q
 only_queue u f i q none no_flags no_ints =
     ap (λ (k : ℕ). content k f i q) none ∙ ap (λ (l : List Bool). content 0 l i q) no_flags ∙ ap (λ (l : List ℤ). content 0 [] l q) no_ints ∙ content-queue q
@@ -218,8 +218,8 @@ unit_more q q' q'' n is next =
     next ∙ ap (λ (l : List Msg). l ++ ItemMsg UnitItem ∷ []) is ∙ append_assoc q (unit_messages n) (ItemMsg UnitItem ∷ [])
     ∙ ap (λ (l : List Msg). q ++ l) (replicate_more n (ItemMsg UnitItem))
 
-pub row_more : {X : Type 0} (f : X → Msg) (xs : List X) (k : ℕ) (d : X) (q q' q'' : List Msg) → k < length xs → q' ≡ q ++ map f (take k xs) → q'' ≡ q' ++ f (get_or xs k d) ∷ [] → q'' ≡ q ++ map f (take (k + 1) xs)
-row_more {X} f xs k d q q' q'' low is next =
+pub block_more : {X : Type 0} (f : X → Msg) (xs : List X) (k : ℕ) (d : X) (q q' q'' : List Msg) → k < length xs → q' ≡ q ++ map f (take k xs) → q'' ≡ q' ++ f (get_or xs k d) ∷ [] → q'' ≡ q ++ map f (take (k + 1) xs)
+block_more {X} f xs k d q q' q'' low is next =
     let x = get_or xs k d in
     let longer : take (k + 1) xs ≡ take k xs ++ x ∷ [] = (take_at_read xs k d low).1 in
     next ∙ ap (λ (l : List Msg). l ++ f x ∷ []) is ∙ append_assoc q (map f (take k xs)) (f x ∷ [])

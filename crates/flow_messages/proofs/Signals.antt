@@ -58,17 +58,17 @@ orderly-more [] ns h = refl
 orderly-more (Item x ∷ ms) ns h = orderly-more ms ns h
 orderly-more (End ∷ ms) ns h = cc
 
--- no stop stands in a row
+-- no stop stands in a block
 module _ {X : Type 0} (f : X → ItemType) where
-  pub row-ended : (xs : List X) → ended (signals (map (λ x. Item (f x)) xs)) ≡ false
+  pub block-ended : (xs : List X) → ended (signals (map (λ x. Item (f x)) xs)) ≡ false
   unfolding ended signals
-  row-ended [] = refl
-  row-ended (x ∷ xs) = row-ended xs
+  block-ended [] = refl
+  block-ended (x ∷ xs) = block-ended xs
 
-  pub row-orderly : (xs : List X) → orderly (signals (map (λ x. Item (f x)) xs)) ≡ true
+  pub block-orderly : (xs : List X) → orderly (signals (map (λ x. Item (f x)) xs)) ≡ true
   unfolding orderly signals
-  row-orderly [] = refl
-  row-orderly (x ∷ xs) = row-orderly xs
+  block-orderly [] = refl
+  block-orderly (x ∷ xs) = block-orderly xs
 
 pub units-ended : (x : ItemType) (n : ℕ) → ended (signals (replicate n (Item x))) ≡ false
 unfolding ended signals
@@ -80,11 +80,11 @@ unfolding orderly signals
 units-orderly x zero = refl
 units-orderly x (suc n) = units-orderly x n
 
--- what a row of messages says
-pub signals-row : {X : Type 0} (f : X → ItemType) (xs : List X) → signals (map (λ x. Item (f x)) xs) ≡ map (λ x. carry (cell_of (f x))) xs
+-- what a block of messages says
+pub signals-block : {X : Type 0} (f : X → ItemType) (xs : List X) → signals (map (λ x. Item (f x)) xs) ≡ map (λ x. carry (cell_of (f x))) xs
 unfolding signals
-signals-row f [] = refl
-signals-row f (x ∷ xs) = ap (λ l. carry (cell_of (f x)) ∷ l) (signals-row f xs)
+signals-block f [] = refl
+signals-block f (x ∷ xs) = ap (λ l. carry (cell_of (f x)) ∷ l) (signals-block f xs)
 
 pub signals-units : (x : ItemType) (n : ℕ) → signals (replicate n (Item x)) ≡ replicate n (carry (cell_of x))
 unfolding signals

@@ -53,7 +53,7 @@ coming_on l = signals (content_of l.store)
 abbrev room_on : Line → ℕ
 room_on l = l.store.capacity - length (content_of l.store)
 
--- a row of one message
+-- a block of one message
 taken_one : (a b : View) (e : ℕ) (m : Signal) → TakenAll a e (m ∷ []) b → Taken a e m b
 taken_one a b e m all = record { ends = all.ends; received = all.received; others = all.others; sent = all.sent; room = all.room; room_here = all.room_here; coming = all.coming; coming_here = all.coming_here }
 
@@ -135,9 +135,9 @@ module _ (ls : List Line) (e : ℕ) (old new : Line) (h : e < length ls) (is : o
         record { ends = same_ends; traffic = traffic; room = room; coming = λ k _. coming k; more = ([], append-nil (before.coming e) ∙ sym (coming e)) },
       )
 
-  -- a row was put on it, unless it had ended
-  pub line-put_row : (ms : List Msg) → new.sent.items ≡ cond (ended (signals old.sent.items)) old.sent.items (old.sent.items ++ ms) → content_of new.store ≡ cond (ended (signals old.sent.items)) (content_of old.store) (content_of old.store ++ ms) → new.store.capacity ≡ old.store.capacity → PutAll before e (signals ms) after
-  line-put_row ms sent held capacity = by_end (cases_Bool (ended (signals old.sent.items))) where
+  -- a block was put on it, unless it had ended
+  pub line-put_block : (ms : List Msg) → new.sent.items ≡ cond (ended (signals old.sent.items)) old.sent.items (old.sent.items ++ ms) → content_of new.store ≡ cond (ended (signals old.sent.items)) (content_of old.store) (content_of old.store ++ ms) → new.store.capacity ≡ old.store.capacity → PutAll before e (signals ms) after
+  line-put_block ms sent held capacity = by_end (cases_Bool (ended (signals old.sent.items))) where
     here : ended (before.sent e) ≡ ended (signals old.sent.items)
     here = ap ended (at_line-here sent_on ls e [] old h is)
 

@@ -19,7 +19,7 @@ pub struct Refused {
 
 /// Some ends of some edges, each named by its edge's number.
 ///
-/// No call takes memory, and none waits. Ends that hold items of one kind side by side show them as rows, so that many are
+/// No call takes memory, and none waits. Ends that hold items of one kind side by side show them as slices, so that many are
 /// read, taken or put in one call; others show none, and then go one message at a time.
 pub trait Ends {
     ghost use Rattle.std.specs.Prelude.{◌≡◌, ◌<◌, ◌≤◌, ◌↔◌, true, false, [], ◌∷◌, IsTrue, IsOk, IsSome, IfSome, IfNone, OnOk, IfErr, IsErrAnd, length, take};

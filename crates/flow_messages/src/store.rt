@@ -1,4 +1,4 @@
-// Messages in rows, by their kind.
+// Messages by their kind, side by side.
 ghost use Rattle.std.specs.Prelude.{◌≡◌, ◌+◌, ◌<◌, ◌≤◌, [], ◌∷◌, ◌++◌, length, drop, IfOk, IfSome, IfNone};
 ghost use Rattle.std.specs.VecDeque.{deque_len, deque_capacity};
 ghost use mathlib.Core.List.{IsPrefix};
@@ -89,7 +89,7 @@ impl Store {
         self.ints.held()
     }
 
-    /// The oldest message, where it does not lie in a row.
+    /// The oldest message, where it does not lie beside others of its kind.
     #[inline(always)]
     pub fn front(&self) -> Option<&Msg>
         ensures { IfSome result (λ m. IsPrefix (m.now ∷ []) (content_of self.now)) }

@@ -1,9 +1,9 @@
-pub mod BinaryRows
-pub mod ForkRows
-pub mod IotaRows
+pub mod BinaryBlocks
+pub mod ForkBlocks
+pub mod IotaBlocks
 pub mod Leading
 pub mod Sending
-pub mod UnaryRows
-pub mod ValueRows
-pub mod SingleRows
-pub mod UnitsOfRows
+pub mod UnaryBlocks
+pub mod ValueBlocks
+pub mod SingleBlocks
+pub mod UnitsOfBlocks

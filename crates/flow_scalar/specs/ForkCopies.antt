@@ -1,4 +1,4 @@
--- What it does at the ends to copy a row.
+-- What it does at the ends to copy a block.
 use Rattle.std.specs.Prelude.{◌≡◌, ℕ, zero, suc, ◌+◌, ◌*◌, ◌<◌, ◌≤◌, Bool, false, ◌||◌, cond, eqb, List, [], ◌++◌, length}
 use mathlib.Core.List.{IsPrefix}
 use Rattle.flow_messages.specs.Ends.{View, SameEnds}

@@ -249,7 +249,7 @@ impl Binary {
         }
     }
 
-    // Whole rounds over rows of integers, to a row of integers.
+    // Whole rounds over blocks of integers, to a block of integers.
     #[inline(always)]
     fn int_blocks<E: Ends>(
         &self,
@@ -286,7 +286,7 @@ impl Binary {
         }
     }
 
-    // Whole rounds over rows of integers, to a row of truth values.
+    // Whole rounds over blocks of integers, to a block of truth values.
     #[inline(always)]
     fn flag_blocks<E: Ends>(
         &self,
@@ -405,7 +405,7 @@ impl Worker for Binary {
         let Progress::Start = self.progress else {
             return 0;
         };
-        // Two rows of one edge are not seen at once.
+        // Two blocks of one edge are not seen at once.
         if inputs[0] == inputs[1] {
             return 0;
         }

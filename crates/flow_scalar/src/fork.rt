@@ -203,12 +203,7 @@ fn put_ints_on_each<E: Ends>(ends: &mut E, outputs: &[usize], ints: &[i128])
 
 // Copies the units that are shown to each output, where there is room. How many.
 #[inline(always)]
-fn units_to_each<E: Ends>(
-    ends: &mut E,
-    from: usize,
-    outputs: &[usize],
-    most: usize,
-) -> usize
+fn units_to_each<E: Ends>(ends: &mut E, from: usize, outputs: &[usize], most: usize) -> usize
     requires reads { (E.view ends.old).reads from ≡ true }
     requires writes { All (λ e. (E.view ends.old).writes e ≡ true) outputs.now }
     requires rise { (p q : ℕ) → p < q → q < length outputs.now →
@@ -240,7 +235,7 @@ fn flags_to_each<E: Ends>(
     from: usize,
     outputs: &[usize],
     most: usize,
-    row: &mut [bool],
+    block: &mut [bool],
 ) -> usize
     requires reads { (E.view ends.old).reads from ≡ true }
     requires writes { All (λ e. (E.view ends.old).writes e ≡ true) outputs.now }
@@ -258,13 +253,13 @@ fn flags_to_each<E: Ends>(
         (E.view ends.new) result }
 {
     let shown = ends.flags(from);
-    let count = shown.len().min(most).min(row.len());
+    let count = shown.len().min(most).min(block.len());
     if count == 0 {
         return 0;
     }
-    row[..count].copy_from_slice(&shown[..count]);
+    block[..count].copy_from_slice(&shown[..count]);
     ends.skip(from, count);
-    put_flags_on_each(ends, outputs, &row[..count]);
+    put_flags_on_each(ends, outputs, &block[..count]);
     count
 }
 
@@ -275,7 +270,7 @@ fn ints_to_each<E: Ends>(
     from: usize,
     outputs: &[usize],
     most: usize,
-    row: &mut [i128],
+    block: &mut [i128],
 ) -> usize
     requires reads { (E.view ends.old).reads from ≡ true }
     requires writes { All (λ e. (E.view ends.old).writes e ≡ true) outputs.now }
@@ -293,18 +288,18 @@ fn ints_to_each<E: Ends>(
         (E.view ends.new) result }
 {
     let shown = ends.ints(from);
-    let count = shown.len().min(most).min(row.len());
+    let count = shown.len().min(most).min(block.len());
     if count == 0 {
         return 0;
     }
-    row[..count].copy_from_slice(&shown[..count]);
+    block[..count].copy_from_slice(&shown[..count]);
     ends.skip(from, count);
-    put_ints_on_each(ends, outputs, &row[..count]);
+    put_ints_on_each(ends, outputs, &block[..count]);
     count
 }
 
 // Copies items of this kind that are shown to each output, where there is room: the units, or the others as far as the
-// rows that they are copied through. How many.
+// blocks that they are copied through. How many.
 #[inline(always)]
 fn block_to_each<E: Ends>(
     ends: &mut E,
@@ -443,8 +438,7 @@ impl Worker for Fork {
         let mut made = 0;
         while made < whole {
             let left = whole - made;
-            let count =
-                block_to_each(ends, self.kind, from, outputs, left, &mut flags, &mut ints);
+            let count = block_to_each(ends, self.kind, from, outputs, left, &mut flags, &mut ints);
             if count == 0 {
                 return steps * made;
             }

@@ -266,7 +266,7 @@ impl Worker for Iota {
         let Iota::Flag { mut next, mut end } = *self else {
             return 0;
         };
-        // Nothing is shown at the end of a segment, or both rows go to one edge.
+        // Nothing is shown at the end of a segment, or both blocks go to one edge.
         if outputs[0] == outputs[1] || next >= end && ends.ints(inputs[0]).is_empty() {
             return 0;
         }

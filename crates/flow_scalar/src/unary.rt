@@ -104,7 +104,7 @@ impl Unary {
         whole
     }
 
-    // Whole rounds over a row of integers, to another.
+    // Whole rounds over a block of integers, to another.
     #[inline(always)]
     fn int_blocks<E: Ends>(
         &self,
@@ -138,7 +138,7 @@ impl Unary {
         }
     }
 
-    // Whole rounds over a row of truth values, to another.
+    // Whole rounds over a block of truth values, to another.
     #[inline(always)]
     fn flag_blocks<E: Ends>(
         &self,

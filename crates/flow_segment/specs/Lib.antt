@@ -26,4 +26,4 @@ pub use Rattle.flow_values.specs.TabMachine
 pub use Rattle.flow_values.specs.SeqMachine
 pub use Rattle.flow_values.specs.IndexMachine
 pub use Rattle.flow_values.specs.PrintMachine
-pub use Rattle.flow_values.specs.Rows as ValueRows
+pub use Rattle.flow_values.specs.Rows as ValueBlocks

@@ -29,12 +29,12 @@ pub enum Act {
     HasEnds(bool, bool),
     /// How many messages were sent and received, where both ends are there.
     Counts(u64, u64),
-    Rows(Row),
+    Blocks(Block),
 }
 
 /// What is done with many items of one kind at once, and what is to be seen of them.
 #[derive(Clone, Copy)]
-pub enum Row {
+pub enum Block {
     PutsUnits(usize),
     PutsFlags(&'static [bool]),
     PutsInts(&'static [i128]),
@@ -86,32 +86,32 @@ const EACH_WAY: Course = Course {
     ],
 };
 
-// Ends between threads show no row. A row that was put comes one message after another.
-const ROWS: Course = Course {
-    name: "rows",
+// Ends between threads show no slice. A block that was put comes one message after another.
+const BLOCKS: Course = Course {
+    name: "blocks",
     shares: Shares::One,
     capacity: 2,
     steps: &[
-        Step::At(0, 0, Act::Rows(Row::PutsInts(&[5, 6]))),
+        Step::At(0, 0, Act::Blocks(Block::PutsInts(&[5, 6]))),
         Step::Meet,
-        Step::At(0, 0, Act::Rows(Row::ShowsInts(&[]))),
-        Step::At(0, 0, Act::Rows(Row::SkipsOne)),
+        Step::At(0, 0, Act::Blocks(Block::ShowsInts(&[]))),
+        Step::At(0, 0, Act::Blocks(Block::SkipsOne)),
         Step::At(0, 0, Act::Takes(Some(6))),
         Step::Meet,
-        Step::At(0, 0, Act::Rows(Row::PutsFlags(&[true]))),
-        Step::At(0, 0, Act::Rows(Row::PutsUnits(1))),
+        Step::At(0, 0, Act::Blocks(Block::PutsFlags(&[true]))),
+        Step::At(0, 0, Act::Blocks(Block::PutsUnits(1))),
         Step::Meet,
-        Step::At(0, 0, Act::Rows(Row::ShowsFlags(&[]))),
-        Step::At(0, 0, Act::Rows(Row::SkipsOne)),
-        Step::At(0, 0, Act::Rows(Row::ShowsUnits(0))),
-        Step::At(0, 0, Act::Rows(Row::SkipsOne)),
+        Step::At(0, 0, Act::Blocks(Block::ShowsFlags(&[]))),
+        Step::At(0, 0, Act::Blocks(Block::SkipsOne)),
+        Step::At(0, 0, Act::Blocks(Block::ShowsUnits(0))),
+        Step::At(0, 0, Act::Blocks(Block::SkipsOne)),
         Step::At(0, 0, Act::Counts(4, 4)),
     ],
 };
 
 const OVER_BOXES: [Course; 4] = [
     EACH_WAY,
-    ROWS,
+    BLOCKS,
     Course {
         name: "messages pass between rounds only",
         shares: Shares::Two,
@@ -158,7 +158,7 @@ const OVER_BOXES: [Course; 4] = [
 
 const OVER_RINGS: [Course; 4] = [
     EACH_WAY,
-    ROWS,
+    BLOCKS,
     Course {
         name: "messages cross in order",
         shares: Shares::Two,
@@ -216,27 +216,27 @@ pub fn acts<E: CountedEnds>(ends: &mut E, edge: usize, act: Act) -> bool
                 && ends.sent_count(edge) == sent
                 && ends.received_count(edge) == received
         }
-        Act::Rows(row) => goes_in_rows(ends, edge, row),
+        Act::Blocks(row) => goes_in_blocks(ends, edge, block),
     }
 }
 
-// Does this with a row of an edge. Whether what is to come of it comes.
-fn goes_in_rows<E: CountedEnds>(ends: &mut E, edge: usize, row: Row) -> bool
+// Does this with a block of an edge. Whether what is to come of it comes.
+fn goes_in_blocks<E: CountedEnds>(ends: &mut E, edge: usize, block: Block) -> bool
     ensures { E.same ends.old ends.new }
 {
     let (writes, reads) = (ends.has_writer(edge), ends.has_reader(edge));
-    match row {
-        Row::PutsUnits(count) if writes && ends.space(edge) >= count => ends.put_units(edge, count),
-        Row::PutsFlags(flags) if writes && ends.space(edge) >= flags.len() => {
+    match block {
+        Block::PutsUnits(count) if writes && ends.space(edge) >= count => ends.put_units(edge, count),
+        Block::PutsFlags(flags) if writes && ends.space(edge) >= flags.len() => {
             ends.put_flags(edge, flags);
         }
-        Row::PutsInts(ints) if writes && ends.space(edge) >= ints.len() => {
+        Block::PutsInts(ints) if writes && ends.space(edge) >= ints.len() => {
             ends.put_ints(edge, ints);
         }
-        Row::SkipsOne if reads && ends.ready(edge) => ends.skip(edge, 1),
-        Row::ShowsUnits(count) => return reads && ends.units(edge) == count,
-        Row::ShowsFlags(flags) => return reads && ends.flags(edge) == flags,
-        Row::ShowsInts(ints) => return reads && ends.ints(edge) == ints,
+        Block::SkipsOne if reads && ends.ready(edge) => ends.skip(edge, 1),
+        Block::ShowsUnits(count) => return reads && ends.units(edge) == count,
+        Block::ShowsFlags(flags) => return reads && ends.flags(edge) == flags,
+        Block::ShowsInts(ints) => return reads && ends.ints(edge) == ints,
         _ => return false,
     }
     true

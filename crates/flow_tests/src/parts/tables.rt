@@ -1,5 +1,5 @@
 // Edges of one thread.
-use crate::parts::courses::{Act, Row, acts};
+use crate::parts::courses::{Act, Block, acts};
 use flow_messages::{Ends, Table, WholeEnds, Why};
 use std::process::Abort;
 use std::test::Fail;
@@ -60,36 +60,36 @@ fn three_edges(rt: HostRuntime) -> Result<(), Fail> {
     Ok(())
 }
 
-// Rows of each kind are seen on the first edge, and taken in part. On the second, items of other kinds stand in the order of
-// their puts, and no row is put after `End`.
-const IN_ROWS: [(usize, Act); 22] = [
-    (0, Act::Rows(Row::PutsInts(&[7, 8, 9]))),
-    (0, Act::Rows(Row::ShowsInts(&[7, 8, 9]))),
-    (0, Act::Rows(Row::ShowsFlags(&[]))),
-    (0, Act::Rows(Row::SkipsOne)),
+// Blocks of each kind are seen on the first edge, and taken in part. On the second, items of other kinds stand in the order of
+// their puts, and no block is put after `End`.
+const IN_BLOCKS: [(usize, Act); 22] = [
+    (0, Act::Blocks(Block::PutsInts(&[7, 8, 9]))),
+    (0, Act::Blocks(Block::ShowsInts(&[7, 8, 9]))),
+    (0, Act::Blocks(Block::ShowsFlags(&[]))),
+    (0, Act::Blocks(Block::SkipsOne)),
     (0, Act::Takes(Some(8))),
-    (0, Act::Rows(Row::ShowsInts(&[9]))),
+    (0, Act::Blocks(Block::ShowsInts(&[9]))),
     (0, Act::Takes(Some(9))),
-    (0, Act::Rows(Row::PutsFlags(&[true, false]))),
-    (0, Act::Rows(Row::ShowsFlags(&[true, false]))),
-    (0, Act::Rows(Row::SkipsOne)),
-    (0, Act::Rows(Row::SkipsOne)),
-    (0, Act::Rows(Row::PutsUnits(4))),
+    (0, Act::Blocks(Block::PutsFlags(&[true, false]))),
+    (0, Act::Blocks(Block::ShowsFlags(&[true, false]))),
+    (0, Act::Blocks(Block::SkipsOne)),
+    (0, Act::Blocks(Block::SkipsOne)),
+    (0, Act::Blocks(Block::PutsUnits(4))),
     (0, Act::HasRoom(false)),
-    (0, Act::Rows(Row::SkipsOne)),
-    (0, Act::Rows(Row::ShowsUnits(3))),
-    (1, Act::Rows(Row::PutsInts(&[1]))),
-    (1, Act::Rows(Row::PutsUnits(1))),
-    (1, Act::Rows(Row::ShowsUnits(0))),
+    (0, Act::Blocks(Block::SkipsOne)),
+    (0, Act::Blocks(Block::ShowsUnits(3))),
+    (1, Act::Blocks(Block::PutsInts(&[1]))),
+    (1, Act::Blocks(Block::PutsUnits(1))),
+    (1, Act::Blocks(Block::ShowsUnits(0))),
     (1, Act::Puts(None)),
-    (1, Act::Rows(Row::PutsInts(&[2]))),
+    (1, Act::Blocks(Block::PutsInts(&[2]))),
     (1, Act::Takes(Some(1))),
     (1, Act::Counts(3, 1)),
 ];
 
 #[test]
-fn rows(rt: HostRuntime) -> Result<(), Fail> {
+fn blocks(rt: HostRuntime) -> Result<(), Fail> {
     let mut table = Table::new(rt.alloc(), 2, 4)?;
-    assert_eq!(rt; first_wrong(&mut table, &IN_ROWS), None);
+    assert_eq!(rt; first_wrong(&mut table, &IN_BLOCKS), None);
     Ok(())
 }

@@ -1,8 +1,8 @@
 use Rattle.std.proofs.Common.{◌≡◌, true, ◌∙◌, arith}
 use Rattle.std.proofs.lemmas.List.Elements.{All-get_or}
 use Rattle.flow_messages.specs.Blocks.{flags_said}
-use Rattle.flow_base.proofs.Rounds.{ended_flags}
-use Rattle.flow_scalar.proofs.ForkRows.{put_on_none, put_on_more}
+use Rattle.flow_base.proofs.Batches.{ended_flags}
+use Rattle.flow_scalar.proofs.ForkBlocks.{put_on_none, put_on_more}
 use Rattle.flow_scalar.proofs.fork.put_flags_on_each.Goals as goal
 
 pub loop-port-init : goal.loop-port-init

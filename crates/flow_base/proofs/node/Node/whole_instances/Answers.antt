@@ -15,8 +15,8 @@ look_for_messages-requires g c =
     (placed_on node.laws placed (made_went c.in_ok-first.ensures.went node.laws placed c.finish.ensures.ends)).reads
 
 -- where it has looked for messages
-pub blocks-rows-requires : goal.blocks-rows-requires
-blocks-rows-requires g c =
+pub blocks-whole-requires : goal.blocks-whole-requires
+blocks-whole-requires g c =
     let node = node_of g.W.Worker.state g.W.Worker.machine g.met.W.Worker.laws in
     let b = node.behaviour in
     let ins = c.args.inputs.now in
@@ -29,7 +29,7 @@ blocks-rows-requires g c =
     let went = went_on_alone b ins outs c.in_ok-first.first c.in_ok-first.ensures.went w (c.look_for_messages.ensures.looked outs) in
     record { wired = wired b ins outs (node.state c.finish.new.self) w (placed_on node.laws placed (made_went went node.laws placed ends)) }
 
--- and where it has gone over the rows
+-- and where it has gone over the whole
 pub kernel-more-requires : goal.kernel-more-requires
 kernel-more-requires g c =
     let state = g.W.Worker.state in
@@ -39,19 +39,19 @@ kernel-more-requires g c =
     let outs = c.args.outputs.now in
     let view = g.E.Ends.view in
     let n = c.finish.new.self in
-    let rows = c.blocks-rows in
+    let whole = c.blocks-whole in
     let placed = c.requires.placed in
     let a = view c.args.ends.now in
     let v = view c.finish.new.ends in
     let w = view c.look_for_messages.new.ends in
-    let x = view rows.new.ends in
-    let ends = same_ends_then a w x (same_ends_then a v w c.finish.ensures.ends c.look_for_messages.ensures.ends) rows.ensures.ends in
+    let x = view whole.new.ends in
+    let ends = same_ends_then a w x (same_ends_then a v w c.finish.ensures.ends c.look_for_messages.ensures.ends) whole.ensures.ends in
     let first = went_on_alone b ins outs c.in_ok-first.first c.in_ok-first.ensures.went w (c.look_for_messages.ensures.looked outs) in
-    let next = subst (λ p. Went ins outs b (node_state (state n.worker) p n.at) w (node_state (state rows.new.self) p n.at) x rows.result) (sym c.in-Working.is) (rows.ensures.went n.at) in
+    let next = subst (λ p. Went ins outs b (node_state (state n.worker) p n.at) w (node_state (state whole.new.self) p n.at) x whole.result) (sym c.in-Working.is) (whole.ensures.went n.at) in
     let went = went_then b ins outs c.in_ok-first.first first next in
-    record { wired = wired b ins outs (node_state (state rows.new.self) n.phase n.at) x (placed_on node.laws placed (made_went went node.laws placed ends)) }
+    record { wired = wired b ins outs (node_state (state whole.new.self) n.phase n.at) x (placed_on node.laws placed (made_went went node.laws placed ends)) }
 
--- the steps to where an instance may begin, those over the rows, and those of the kernel
+-- the steps to where an instance may begin, those over the whole, and those of the kernel
 pub returns-in-Working-clause-went : goal.returns-in-Working-clause-went
 returns-in-Working-clause-went g c =
     let state = g.W.Worker.state in
@@ -61,11 +61,11 @@ returns-in-Working-clause-went g c =
     let outs = c.args.outputs.now in
     let view = g.E.Ends.view in
     let n = c.finish.new.self in
-    let rows = c.blocks-rows in
+    let whole = c.blocks-whole in
     let kernel = c.kernel-more in
     let w = view c.look_for_messages.new.ends in
-    let x = view rows.new.ends in
+    let x = view whole.new.ends in
     let first = went_on_alone b ins outs c.in_ok-first.first c.in_ok-first.ensures.went w (c.look_for_messages.ensures.looked outs) in
-    let next = subst (λ p. Went ins outs b (node_state (state n.worker) p n.at) w (node_state (state rows.new.self) p n.at) x rows.result) (sym c.in-Working.is) (rows.ensures.went n.at) in
-    let last = subst (λ p. Went ins outs b (node_state (state rows.new.self) p n.at) x (node_state (state kernel.new.self) p n.at) (view kernel.new.ends) kernel.result) (sym c.in-Working.is) (kernel.ensures.went n.at) in
-    went_then b ins outs (c.in_ok-first.first + rows.result) (went_then b ins outs c.in_ok-first.first first next) last
+    let next = subst (λ p. Went ins outs b (node_state (state n.worker) p n.at) w (node_state (state whole.new.self) p n.at) x whole.result) (sym c.in-Working.is) (whole.ensures.went n.at) in
+    let last = subst (λ p. Went ins outs b (node_state (state whole.new.self) p n.at) x (node_state (state kernel.new.self) p n.at) (view kernel.new.ends) kernel.result) (sym c.in-Working.is) (kernel.ensures.went n.at) in
+    went_then b ins outs (c.in_ok-first.first + whole.result) (went_then b ins outs c.in_ok-first.first first next) last

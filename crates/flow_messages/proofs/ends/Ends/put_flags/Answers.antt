@@ -4,7 +4,7 @@ use Rattle.flow_messages.specs.Cells.{flag}
 use Rattle.flow_messages.specs.Signals.{carry}
 use Rattle.flow_messages.specs.Ends.{PutAll}
 use Rattle.flow_messages.specs.Blocks.{flags_said}
-use Rattle.flow_messages.proofs.Blocks.{put_none, put_next, row_next, items_go_on}
+use Rattle.flow_messages.proofs.Blocks.{put_none, put_next, block_next, items_go_on}
 use Rattle.flow_messages.proofs.ends.Ends.put_flags.Goals as goal
 
 pub loop-flag-init : goal.loop-flag-init
@@ -28,7 +28,7 @@ loop-flag-preserved g c =
     let next = put_next a v w c.args.edge ms m _ c.put.result c.loop-flag.invariant.put no_end short c.put.ensures.ok c.put.ensures.refused c.put.ensures.closed c.put.ensures.succeeds in
     record {
       same = g.met.Self.Ends.same_trans c.args.self.now c.loop-flag.self c.put.new.self c.loop-flag.invariant.same c.put.ensures.same;
-      put = subst (λ l. PutAll a c.args.edge l w) (sym (row_next (λ b. carry (flag b)) ns i false c.loop-flag-test.true)) next;
+      put = subst (λ l. PutAll a c.args.edge l w) (sym (block_next (λ b. carry (flag b)) ns i false c.loop-flag-test.true)) next;
     }
 
 pub returns : goal.returns

@@ -5,7 +5,7 @@ use Rattle.flow_messages.specs.Cells.{int}
 use Rattle.flow_messages.specs.Signals.{carry}
 use Rattle.flow_messages.specs.Ends.{PutAll}
 use Rattle.flow_messages.specs.Blocks.{ints_said}
-use Rattle.flow_messages.proofs.Blocks.{put_none, put_next, row_next, items_go_on}
+use Rattle.flow_messages.proofs.Blocks.{put_none, put_next, block_next, items_go_on}
 use Rattle.flow_messages.proofs.ends.Ends.put_ints.Goals as goal
 
 pub loop-int-init : goal.loop-int-init
@@ -30,7 +30,7 @@ loop-int-preserved g c =
     let back : to_z w128 (of_z w128 x) ≡ x = search rules in
     record {
       same = g.met.Self.Ends.same_trans c.args.self.now c.loop-int.self c.put.new.self c.loop-int.invariant.same c.put.ensures.same;
-      put = subst (λ l. PutAll a c.args.edge l w) (ap (λ (y : ℤ). ms ++ carry (int y) ∷ []) back ∙ sym (row_next (λ n. carry (int n)) ns i (pos 0) c.loop-int-test.true)) next;
+      put = subst (λ l. PutAll a c.args.edge l w) (ap (λ (y : ℤ). ms ++ carry (int y) ∷ []) back ∙ sym (block_next (λ n. carry (int n)) ns i (pos 0) c.loop-int-test.true)) next;
     }
 
 pub returns : goal.returns

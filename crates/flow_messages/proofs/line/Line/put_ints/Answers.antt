@@ -5,7 +5,7 @@ use Rattle.flow_messages.specs.Stores.{content_of}
 use Rattle.flow_messages.specs.Lines.{gone}
 use Rattle.flow_messages.specs.Contents.{int_messages}
 use Rattle.flow_messages.specs.declared.message.Item.TheVariants.{Bool as BoolItem, Int as IntItem}
-use Rattle.flow_messages.proofs.Signals.{ended-more, orderly-more, row-ended, row-orderly}
+use Rattle.flow_messages.proofs.Signals.{ended-more, orderly-more, block-ended, block-orderly}
 use Rattle.flow_messages.proofs.Lines.{fifo_put, count_put}
 use Rattle.flow_messages.proofs.line.Line.put_ints.Goals as goal
 
@@ -14,13 +14,13 @@ invariant_of-self c =
     let l = c.args.self.now in
     let s = l.sent.items in
     let now = content_of l.store in
-    let row = int_messages c.args.ints.now in
+    let block = int_messages c.args.ints.now in
     let free : ended (signals s) ≡ false = sym c.is_closed.ensures ∙ c.if-is_closed.false in
-    let sent = c.with_ints-self.ensures ∙ ap (λ h. h.items ++ row) c.replace.ensures.value in
+    let sent = c.with_ints-self.ensures ∙ ap (λ h. h.items ++ block) c.replace.ensures.value in
     let held = c.put_ints.ensures.content in
     record {
-      fifo = rw (sent, held) (fifo_put s now l.fifo row);
-      closes = l.closes ∙ free ∙ sym (ap (λ k. ended (signals k)) sent ∙ ended-more s row free ∙ row-ended IntItem c.args.ints.now);
-      counts = rw (sent, held) (count_put s now l.fifo row l.taken l.counts);
-      orderly = ap (λ k. orderly (signals k)) sent ∙ orderly-more s row free ∙ row-orderly IntItem c.args.ints.now;
+      fifo = rw (sent, held) (fifo_put s now l.fifo block);
+      closes = l.closes ∙ free ∙ sym (ap (λ k. ended (signals k)) sent ∙ ended-more s block free ∙ block-ended IntItem c.args.ints.now);
+      counts = rw (sent, held) (count_put s now l.fifo block l.taken l.counts);
+      orderly = ap (λ k. orderly (signals k)) sent ∙ orderly-more s block free ∙ block-orderly IntItem c.args.ints.now;
     }

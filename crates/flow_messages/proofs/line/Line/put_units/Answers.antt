@@ -14,13 +14,13 @@ invariant_of-self c =
     let l = c.args.self.now in
     let s = l.sent.items in
     let now = content_of l.store in
-    let row = unit_messages c.args.count in
+    let block = unit_messages c.args.count in
     let free : ended (signals s) ≡ false = sym c.is_closed.ensures ∙ c.if-is_closed.false in
-    let sent = c.with_units-self.ensures ∙ ap (λ h. h.items ++ row) c.replace.ensures.value in
+    let sent = c.with_units-self.ensures ∙ ap (λ h. h.items ++ block) c.replace.ensures.value in
     let held = c.put_units.ensures.content in
     record {
-      fifo = rw (sent, held) (fifo_put s now l.fifo row);
-      closes = l.closes ∙ free ∙ sym (ap (λ k. ended (signals k)) sent ∙ ended-more s row free ∙ units-ended _ c.args.count);
-      counts = rw (sent, held) (count_put s now l.fifo row l.taken l.counts);
-      orderly = ap (λ k. orderly (signals k)) sent ∙ orderly-more s row free ∙ units-orderly _ c.args.count;
+      fifo = rw (sent, held) (fifo_put s now l.fifo block);
+      closes = l.closes ∙ free ∙ sym (ap (λ k. ended (signals k)) sent ∙ ended-more s block free ∙ units-ended _ c.args.count);
+      counts = rw (sent, held) (count_put s now l.fifo block l.taken l.counts);
+      orderly = ap (λ k. orderly (signals k)) sent ∙ orderly-more s block free ∙ units-orderly _ c.args.count;
     }

@@ -6,7 +6,7 @@ use Rattle.flow_messages.proofs.Signals.{signals-units}
 use Rattle.std.proofs.Common.{◌+◌, ◌≤◌, set}
 use Rattle.flow_messages.specs.Ends.{PutAll}
 use Rattle.flow_messages.specs.Tables.{view_of_lines}
-use Rattle.flow_messages.proofs.Tables.{line-put_row, line-space}
+use Rattle.flow_messages.proofs.Tables.{line-put_block, line-space}
 use Rattle.flow_messages.proofs.table_ends.TableEnds.put_units.Goals as goal
 
 pub put_units-requires : goal.put_units-requires
@@ -20,5 +20,5 @@ returns-clause-put c =
     let ls = c.args.self.now.lines.items in
     let h : c.args.edge < length ls = omega (arith, ltb-true) in
     let new = c.put_units.new.self in
-    let row = unit_messages c.args.count in
-    subst (λ l. PutAll (view_of_lines ls) c.args.edge l (view_of_lines (set ls c.args.edge new))) (signals-units UnitItem c.args.count) (line-put_row ls c.args.edge _ new h c.index_mut.ensures.value row c.put_units.ensures.sent c.put_units.ensures.held c.put_units.ensures.capacity)
+    let block = unit_messages c.args.count in
+    subst (λ l. PutAll (view_of_lines ls) c.args.edge l (view_of_lines (set ls c.args.edge new))) (signals-units UnitItem c.args.count) (line-put_block ls c.args.edge _ new h c.index_mut.ensures.value block c.put_units.ensures.sent c.put_units.ensures.held c.put_units.ensures.capacity)

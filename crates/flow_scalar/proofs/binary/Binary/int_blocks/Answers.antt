@@ -10,7 +10,7 @@ use Rattle.snesl_operators.specs.declared.operator.BinaryOperator.{BinaryOperato
 use Rattle.flow_scalar.specs.declared.binary.Progress.{Progress}
 use Rattle.flow_scalar.specs.declared.binary.Progress.TheVariants.{Start}
 use Rattle.flow_scalar.specs.BinaryMachine.{binary_machine, binary_view}
-use Rattle.flow_scalar.proofs.BinaryRows.{block_went}
+use Rattle.flow_scalar.proofs.BinaryBlocks.{block_went}
 use Rattle.flow_scalar.proofs.binary.Binary.int_blocks.Goals as goal
 
 pub rounds-init : goal.rounds-init

@@ -6,7 +6,7 @@ use Rattle.flow_base.proofs.Carried.{same_ends_then}
 use Rattle.flow_base.proofs.Kernels.{went_none, went_further}
 use Rattle.flow_scalar.specs.ForkMachine.{ForkPorts, Step, fork_ports, step_of, idle, fork_machine}
 use Rattle.flow_scalar.proofs.Leading.{nothing}
-use Rattle.flow_scalar.proofs.ForkRows.{fork_view}
+use Rattle.flow_scalar.proofs.ForkBlocks.{fork_view}
 use Rattle.flow_scalar.proofs.fork.ForkWorker.blocks.Goals as goal
 
 -- the steps of so many instances, and of more
@@ -53,11 +53,11 @@ returns-then-count-eq0-clause-went g c =
     let reads : 0 < length ins = omega (arith, c.requires.wired.each_input) in
     let none = nothing n.held (sym c.is_some.ensures ∙ c.if-is_some.false) in
     λ at.
-        let on : Step → NodeState (ForkPorts × Step) = λ s. node_state (p, s) Working at in
-        let s = node_state (fork_view n) Working at in
-        let at_start : on idle ≡ s = ap (λ o. on (step_of n.outputs n.next o)) (sym none) in
-        let copied = subst (λ k. Went ins outs b k v k w ((length outs + 1) * count)) at_start (c.block_to_each-count.ensures.copied ins reads refl p refl (sym c.requires.wired.each_output) at) in
-        subst (Went ins outs b s (view c.args.ends.now) s w) (instances_none (length outs + 1) c.loop-made.made count c.if-count-eq0.true) (went_further b ins outs (c.loop-made.invariant.went at) copied)
+    let on : Step → NodeState (ForkPorts × Step) = λ s. node_state (p, s) Working at in
+    let s = node_state (fork_view n) Working at in
+    let at_start : on idle ≡ s = ap (λ o. on (step_of n.outputs n.next o)) (sym none) in
+    let copied = subst (λ k. Went ins outs b k v k w ((length outs + 1) * count)) at_start (c.block_to_each-count.ensures.copied ins reads refl p refl (sym c.requires.wired.each_output) at) in
+    subst (Went ins outs b s (view c.args.ends.now) s w) (instances_none (length outs + 1) c.loop-made.made count c.if-count-eq0.true) (went_further b ins outs (c.loop-made.invariant.went at) copied)
 
 pub loop-made-preserved : goal.loop-made-preserved
 loop-made-preserved g c =

@@ -4,7 +4,7 @@ use Rattle.flow_base.specs.Nodes.{behaviour_of, node_state}
 use Rattle.flow_base.specs.Visits.{edge_of, Went}
 use Rattle.flow_base.specs.declared.node.Phase.TheVariants.{Working}
 use Rattle.flow_scalar.specs.ForkMachine.{fork_machine}
-use Rattle.flow_scalar.proofs.ForkRows.{fork_view}
+use Rattle.flow_scalar.proofs.ForkBlocks.{fork_view}
 use Rattle.flow_scalar.proofs.fork.ForkWorker.blocks.Given as goal
 
 -- the instances so far

@@ -10,7 +10,7 @@ use Rattle.flow_base.proofs.Kernels.{went_none, went_further}
 use Rattle.flow_scalar.specs.declared.iota.Iota.{Iota}
 use Rattle.flow_scalar.specs.declared.iota.Iota.TheVariants.{Flag}
 use Rattle.flow_scalar.specs.IotaMachine.{iota_machine, iota_view}
-use Rattle.flow_scalar.proofs.IotaRows.{on}
+use Rattle.flow_scalar.proofs.IotaBlocks.{on}
 use Rattle.flow_scalar.proofs.iota.IotaWorker.blocks.Goals as goal
 
 flag_of_both : {next end n e : ℤ} → next ≡ n → end ≡ e → Flag next end ≡ Flag n e

@@ -9,7 +9,7 @@ use Rattle.snesl_data.specs.declared.dialect.Dialect.{Dialect}
 use Rattle.snesl_operators.specs.declared.operator.UnaryOperator.{UnaryOperator}
 use Rattle.snesl_operators.specs.declared.scalar.Scalar.{Scalar}
 use Rattle.flow_scalar.specs.UnaryMachine.{unary_machine, unary_view}
-use Rattle.flow_scalar.proofs.UnaryRows.{block_went}
+use Rattle.flow_scalar.proofs.UnaryBlocks.{block_went}
 use Rattle.flow_scalar.proofs.unary.Unary.flag_blocks.Goals as goal
 
 pub rounds-init : goal.rounds-init

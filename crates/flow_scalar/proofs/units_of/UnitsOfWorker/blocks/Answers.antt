@@ -6,10 +6,10 @@ use Rattle.flow_base.specs.Nodes.{behaviour_of, node_state}
 use Rattle.flow_base.specs.Visits.{edge_of, Went}
 use Rattle.flow_base.specs.declared.node.Phase.TheVariants.{Working}
 use Rattle.flow_base.proofs.Kernels.{went_none, went_looked}
-use Rattle.flow_base.proofs.Rounds.{ended_units, take_flags, length_flags}
+use Rattle.flow_base.proofs.Batches.{ended_units, take_flags, length_flags}
 use Rattle.flow_scalar.specs.UnitsOfMachine.{units_of_machine, units_of_view}
-use Rattle.flow_scalar.proofs.SingleRows.{singles_went, skipped}
-use Rattle.flow_scalar.proofs.UnitsOfRows.{on, elements, counted, units_of_rounds}
+use Rattle.flow_scalar.proofs.SingleBlocks.{singles_went, skipped}
+use Rattle.flow_scalar.proofs.UnitsOfBlocks.{on, elements, counted, units_of_rounds}
 use Rattle.flow_scalar.proofs.units_of.UnitsOfWorker.blocks.Goals as goal
 
 -- it made no step
@@ -51,8 +51,8 @@ returns-clause-went g c =
     let steps : 0 + (length flags + elements flags) ≡ whole + units = omega (arith, long, of_units) in
     let some : 0 < length flags + elements flags = omega (arith, long, c.if-whole-eq0.false) in
     λ at.
-        let s = node_state (units_of_view c.args.self.now) Working at in
-        let at_start : on ins outs at false ≡ s = ap (on ins outs at) (sym c.if-self.false) in
-        let looked = went_looked b ins outs (went_none b ins outs (on ins outs at false) a) 0 u writes c.space-room.ensures.looked in
-        let went = singles_went ins outs b (flags_said flags) (units_said (elements flags)) reads writes looked (units_of_rounds ins outs at flags) some (ended_units (elements flags)) v w taken put in
-        subst (λ k. Went ins outs b k a k w (whole + units)) at_start (subst (Went ins outs b (on ins outs at false) a (on ins outs at false) w) steps went)
+    let s = node_state (units_of_view c.args.self.now) Working at in
+    let at_start : on ins outs at false ≡ s = ap (on ins outs at) (sym c.if-self.false) in
+    let looked = went_looked b ins outs (went_none b ins outs (on ins outs at false) a) 0 u writes c.space-room.ensures.looked in
+    let went = singles_went ins outs b (flags_said flags) (units_said (elements flags)) reads writes looked (units_of_rounds ins outs at flags) some (ended_units (elements flags)) v w taken put in
+    subst (λ k. Went ins outs b k a k w (whole + units)) at_start (subst (Went ins outs b (on ins outs at false) a (on ins outs at false) w) steps went)

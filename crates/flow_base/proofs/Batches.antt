@@ -1,4 +1,4 @@
--- What a kernel makes of rows: many messages taken or put in one call, and the history of whole rounds.
+-- What a kernel makes of blocks: many messages taken or put in one call, and the history of whole rounds.
 use Rattle.std.proofs.Common.{◌≡◌, ◌≢◌, ℕ, ℤ, zero, suc, ◌+◌, ◌<◌, ◌≤◌, Bool, true, false, cond, eqb, List, [], ◌∷◌, ◌++◌, length, take, refl, sym, ◌∙◌, ap, subst, arith, append-nil, append_assoc, length-append, eq-eqb, ne_eqb, inl, inr}
 use Rattle.std.proofs.lemmas.Bool.{cases_eq, cases_Bool}
 use Rattle.std.proofs.lemmas.List.{take-append-le, take-map, length-map}
@@ -16,10 +16,10 @@ use Rattle.flow_base.proofs.Carried.{same_ends_refl, same_ends_then, prefix_same
 use Rattle.flow_base.proofs.Visits.{not_at}
 use Rattle.flow_base.proofs.Kernels.{went_further}
 
--- a row, and more of it
-pub row_then : (b : Bool) (xs ys : List Signal) → cond b xs [] ++ cond b ys [] ≡ cond b (xs ++ ys) []
-row_then true xs ys = refl
-row_then false xs ys = refl
+-- a block, and more of it
+pub block_then : (b : Bool) (xs ys : List Signal) → cond b xs [] ++ cond b ys [] ≡ cond b (xs ++ ys) []
+block_then true xs ys = refl
+block_then false xs ys = refl
 
 -- an edge that is one is not the other
 apart_tests : (e f g : ℕ) → f ≢ g → eqb e f ≡ true → eqb e g ≡ false
@@ -34,11 +34,11 @@ tests_then true false xs ys xs' ys' apart = simp append-nil
 tests_then false true xs ys xs' ys' apart = refl
 tests_then false false xs ys xs' ys' apart = refl
 
--- two rows of edges that are not one, and more of both
-pub rows_then : (e f g : ℕ) (xs ys xs' ys' : List Signal) → f ≢ g → (cond (eqb e f) xs [] ++ cond (eqb e g) ys []) ++ (cond (eqb e f) xs' [] ++ cond (eqb e g) ys' []) ≡ cond (eqb e f) (xs ++ xs') [] ++ cond (eqb e g) (ys ++ ys') []
-rows_then e f g xs ys xs' ys' apart = tests_then (eqb e f) (eqb e g) xs ys xs' ys' (apart_tests e f g apart)
+-- two blocks of edges that are not one, and more of both
+pub blocks_then : (e f g : ℕ) (xs ys xs' ys' : List Signal) → f ≢ g → (cond (eqb e f) xs [] ++ cond (eqb e g) ys []) ++ (cond (eqb e f) xs' [] ++ cond (eqb e g) ys' []) ≡ cond (eqb e f) (xs ++ xs') [] ++ cond (eqb e g) (ys ++ ys') []
+blocks_then e f g xs ys xs' ys' apart = tests_then (eqb e f) (eqb e g) xs ys xs' ys' (apart_tests e f g apart)
 
--- rows that have not ended
+-- blocks that have not ended
 pub ended_none : ended [] ≡ false
 unfolding ended
 ended_none = refl
@@ -49,9 +49,9 @@ ended_append [] ns free other = other
 ended_append (carry x ∷ ms) ns free other = ended_append ms ns free other
 ended_append (stop ∷ ms) ns free other = absurd (cc)
 
-pub ended_row : (b : Bool) (ms : List Signal) → ended ms ≡ false → ended (cond b ms []) ≡ false
-ended_row true ms free = free
-ended_row false ms free = ended_none
+pub ended_block : (b : Bool) (ms : List Signal) → ended ms ≡ false → ended (cond b ms []) ≡ false
+ended_block true ms free = free
+ended_block false ms free = ended_none
 
 pub ended_one : (x : Cell) → ended (carry x ∷ []) ≡ false
 unfolding ended
@@ -72,7 +72,7 @@ unfolding ended
 ended_ints [] = refl
 ended_ints (n ∷ ns) = ended_ints ns
 
--- the first of a row
+-- the first of a block
 pub take_flags : (k : ℕ) (bs : List Bool) → take k (flags_said bs) ≡ flags_said (take k bs)
 take_flags k bs = take-map (λ b. carry (flag b)) k bs
 
@@ -84,7 +84,7 @@ take_units zero n within = refl
 take_units (suc k) zero within = absurd (omega arith)
 take_units (suc k) (suc n) within = ap (λ l. carry unit ∷ l) (take_units k n (omega arith))
 
--- how long rows are
+-- how long blocks are
 pub length_units : (n : ℕ) → length (units_said n) ≡ n
 length_units zero = refl
 length_units (suc n) = omega (arith, length_units n)
@@ -99,7 +99,7 @@ length_ints ns = length-map ns (λ n. carry (int n))
 pub shown : (ms c : List Signal) (k : ℕ) → IsPrefix ms c → k ≤ length ms → take k c ≡ take k ms
 shown ms c k (more, is) within = ap (take k) (sym is) ∙ take-append-le k ms more within
 
--- what was sent, with one row more and with two
+-- what was sent, with one block more and with two
 after_then : (l ms ns : List Signal) → ended ms ≡ false → cond (ended (cond (ended l) l (l ++ ms))) (cond (ended l) l (l ++ ms)) (cond (ended l) l (l ++ ms) ++ ns) ≡ cond (ended l) l (l ++ (ms ++ ns))
 after_then l ms ns unended = elim (cases_Bool (ended l)) [
   | inl shut ↦ grind (arith, shut)
@@ -113,7 +113,7 @@ after_none l = elim (cases_Bool (ended l)) [
   | inr free ↦ sym (append-nil l) ∙ ap (λ b. cond b l (l ++ [])) (sym free)
 ]
 
--- a row that goes to this edge or to another
+-- a block that goes to this edge or to another
 after_row : (b : Bool) (l ms : List Signal) → cond b (cond (ended l) l (l ++ ms)) l ≡ cond (ended l) l (l ++ cond b ms [])
 after_row true l ms = refl
 after_row false l ms = after_none l
@@ -186,7 +186,7 @@ module _ (inputs outputs : List ℕ) where
           ends = same_ends_then v u w made.ends put.ends;
           received = λ e. put.received e ∙ made.received e;
           sent = λ e. put_all_sent u w g e ms put ∙ ap (λ l. cond (ended l) l (l ++ cond (eqb e g) ms [])) (made.sent e) ∙ after_then (v.sent e) (writes e) (cond (eqb e g) ms []) (made.no_end e);
-          no_end = λ e. ended_append (writes e) (cond (eqb e g) ms []) (made.no_end e) (ended_row (eqb e g) ms free);
+          no_end = λ e. ended_append (writes e) (cond (eqb e g) ms []) (made.no_end e) (ended_block (eqb e g) ms free);
           coming = λ e none. prefix_then (v.coming e) (u.coming e) (w.coming e) (made.coming e none) (put_all_coming u w g e ms put);
           room = λ e none. omega (arith, made.room e none, put.room e (not_at outputs e q none there));
         }
@@ -204,7 +204,7 @@ module _ (inputs outputs : List ℕ) where
 
   module _ {S : Type 0} (b : Behaviour S) where
     -- whole rounds from s to t, which read and write just these messages, in so many steps; no end is written
-    pub record Rounds (s t : S) (reads writes : ℕ → List Signal) (n : ℕ) : Type 0 where
+    pub record Batch (s t : S) (reads writes : ℕ → List Signal) (n : ℕ) : Type 0 where
       pub history : List (Event Signal)
       pub does : Does b.process s history t
       pub counts : length history ≡ n
@@ -212,9 +212,9 @@ module _ (inputs outputs : List ℕ) where
       pub wrote : (e : ℕ) (l : List Signal) → sent_after (edge_of outputs) e l history ≡ cond (ended l) l (l ++ writes e)
       pub no_end : (e : ℕ) → ended (writes e) ≡ false
 
-    pub rounds_none : (s : S) → Rounds s s (λ e. []) (λ e. []) 0
+    pub batch_none : (s : S) → Batch s s (λ e. []) (λ e. []) 0
     unfolding read_from sent_after
-    rounds_none s = record {
+    batch_none s = record {
       history = [];
       does = refl;
       counts = refl;
@@ -223,11 +223,11 @@ module _ (inputs outputs : List ℕ) where
       no_end = λ e. ended_none;
     }
 
-    module _ {s t : S} {reads writes : ℕ → List Signal} {n : ℕ} (made : Rounds s t reads writes n) where
+    module _ {s t : S} {reads writes : ℕ → List Signal} {n : ℕ} (made : Batch s t reads writes n) where
       -- it reads a message
-      pub rounds_read : (p : ℕ) (m : Signal) (u : S) → b.process.want t ≡ Read p → u ≡ b.process.read t m → Rounds s u (λ e. reads e ++ cond (eqb e (edge_of inputs p)) (m ∷ []) []) writes (n + 1)
+      pub batch_read : (p : ℕ) (m : Signal) (u : S) → b.process.want t ≡ Read p → u ≡ b.process.read t m → Batch s u (λ e. reads e ++ cond (eqb e (edge_of inputs p)) (m ∷ []) []) writes (n + 1)
       unfolding read_from sent_after
-      rounds_read p m u wants is =
+      batch_read p m u wants is =
           let h = made.history in
           record {
             history = h ++ Reads p m ∷ [];
@@ -239,9 +239,9 @@ module _ (inputs outputs : List ℕ) where
           }
 
       -- it writes an item
-      pub rounds_write : (q : ℕ) (x : Cell) (u : S) → b.process.want t ≡ Write q → carry x ≡ b.process.written t → u ≡ b.process.wrote t → Rounds s u reads (λ e. writes e ++ cond (eqb e (edge_of outputs q)) (carry x ∷ []) []) (n + 1)
+      pub batch_write : (q : ℕ) (x : Cell) (u : S) → b.process.want t ≡ Write q → carry x ≡ b.process.written t → u ≡ b.process.wrote t → Batch s u reads (λ e. writes e ++ cond (eqb e (edge_of outputs q)) (carry x ∷ []) []) (n + 1)
       unfolding read_from sent_after
-      rounds_write q x u wants told is =
+      batch_write q x u wants told is =
           let h = made.history in
           let g = edge_of outputs q in
           record {
@@ -250,12 +250,12 @@ module _ (inputs outputs : List ℕ) where
             counts = length-append h (Writes q (carry x) ∷ []) ∙ ap (λ l. l + 1) made.counts;
             read = λ e. sym (read_append (edge_of inputs) e h (Writes q (carry x) ∷ [])) ∙ append-nil (read_from (edge_of inputs) e h) ∙ made.read e;
             wrote = λ e l. sent_append (edge_of outputs) e l h (Writes q (carry x) ∷ []) ∙ ap (λ k. cond (eqb e g) (cond (ended k) k (k ++ carry x ∷ [])) k) (made.wrote e l) ∙ after_row (eqb e g) (cond (ended l) l (l ++ writes e)) (carry x ∷ []) ∙ after_then l (writes e) (cond (eqb e g) (carry x ∷ []) []) (made.no_end e);
-            no_end = λ e. ended_append (writes e) (cond (eqb e g) (carry x ∷ []) []) (made.no_end e) (ended_row (eqb e g) (carry x ∷ []) (ended_one x));
+            no_end = λ e. ended_append (writes e) (cond (eqb e g) (carry x ∷ []) []) (made.no_end e) (ended_block (eqb e g) (carry x ∷ []) (ended_one x));
           }
 
       -- and then more rounds
-      pub rounds_then : {u : S} {reads' writes' : ℕ → List Signal} {k : ℕ} → Rounds t u reads' writes' k → Rounds s u (λ e. reads e ++ reads' e) (λ e. writes e ++ writes' e) (n + k)
-      rounds_then {u} {reads'} {writes'} {k} next =
+      pub batch_then : {u : S} {reads' writes' : ℕ → List Signal} {k : ℕ} → Batch t u reads' writes' k → Batch s u (λ e. reads e ++ reads' e) (λ e. writes e ++ writes' e) (n + k)
+      batch_then {u} {reads'} {writes'} {k} next =
           let g = made.history in
           let h = next.history in
           record {
@@ -268,8 +268,8 @@ module _ (inputs outputs : List ℕ) where
           }
 
       -- the same messages, told otherwise
-      pub rounds_as : (reads' writes' : ℕ → List Signal) → ((e : ℕ) → reads e ≡ reads' e) → ((e : ℕ) → writes e ≡ writes' e) → Rounds s t reads' writes' n
-      rounds_as reads' writes' same_reads same_writes = record {
+      pub batch_as : (reads' writes' : ℕ → List Signal) → ((e : ℕ) → reads e ≡ reads' e) → ((e : ℕ) → writes e ≡ writes' e) → Batch s t reads' writes' n
+      batch_as reads' writes' same_reads same_writes = record {
         history = made.history;
         does = made.does;
         counts = made.counts;
@@ -278,9 +278,9 @@ module _ (inputs outputs : List ℕ) where
         no_end = λ e. ap ended (sym (same_writes e)) ∙ made.no_end e;
       }
 
-      -- rounds over the rows of the ends are steps
-      pub rounds_went : {v w : View} → Shifted reads writes v w → 0 < n → Went inputs outputs b s v t w n
-      rounds_went {v} {w} shifted some = record {
+      -- rounds over the blocks of the ends are steps
+      pub batch_went : {v w : View} → Shifted reads writes v w → 0 < n → Went inputs outputs b s v t w n
+      batch_went {v} {w} shifted some = record {
         history = made.history;
         does = made.does;
         counts = made.counts;
@@ -292,6 +292,6 @@ module _ (inputs outputs : List ℕ) where
         calm = λ none. absurd (omega arith);
       }
 
-    -- what a kernel has made goes on by rounds over the rows of its ends
-    pub went_rounds : {s : S} {a : View} {t : S} {v : View} {n : ℕ} {u : S} {reads writes : ℕ → List Signal} {k : ℕ} → Went inputs outputs b s a t v n → Rounds t u reads writes k → 0 < k → (w : View) → Shifted reads writes v w → Went inputs outputs b s a u w (n + k)
-    went_rounds went rounds some w shifted = went_further b inputs outputs went (rounds_went rounds shifted some)
+    -- what a kernel has made goes on by rounds over the blocks of its ends
+    pub went_batch : {s : S} {a : View} {t : S} {v : View} {n : ℕ} {u : S} {reads writes : ℕ → List Signal} {k : ℕ} → Went inputs outputs b s a t v n → Batch t u reads writes k → 0 < k → (w : View) → Shifted reads writes v w → Went inputs outputs b s a u w (n + k)
+    went_batch went rounds some w shifted = went_further b inputs outputs went (batch_went rounds shifted some)

@@ -1,4 +1,4 @@
--- A unit for each element that flags stand for, over rows.
+-- A unit for each element that flags stand for, over blocks.
 use Rattle.std.proofs.Common.{◌≡◌, ℕ, suc, ◌+◌, Bool, true, false, not, cond, List, [], ◌∷◌, length, refl, subst, arith}
 use Rattle.std.specs.List.{count_by}
 use Rattle.std.proofs.lemmas.List.Recursion.{is_count_by}
@@ -8,7 +8,7 @@ use Rattle.flow_messages.specs.Blocks.{units_said, flags_said}
 use Rattle.flow_base.specs.Nodes.{NodeState, behaviour_of, node_state}
 use Rattle.flow_base.specs.declared.node.Phase.TheVariants.{Working}
 use Rattle.flow_scalar.specs.UnitsOfMachine.{units_of_machine}
-use Rattle.flow_scalar.proofs.SingleRows.{Singles, singles_none, singles_read, singles_one, singles_more}
+use Rattle.flow_scalar.proofs.SingleBlocks.{Singles, singles_none, singles_read, singles_one, singles_more}
 
 -- how many of the flags stand for an element
 abbrev pub elements : List Bool → ℕ

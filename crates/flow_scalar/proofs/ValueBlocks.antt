@@ -10,7 +10,7 @@ use Rattle.flow_scalar.specs.Scalars.{cell_of_scalar}
 abbrev pub values_said : {A : Type 0} → (A → Scalar) → List A → List Signal
 values_said said zs = map (λ z. carry (cell_of_scalar (said z))) zs
 
--- one more of a row
+-- one more of a block
 pub one_more : {A : Type 0} (f : A → Signal) (xs : List A) (n : ℕ) (none : A) → n < length xs → map f (take n xs) ++ f (get_or xs n none) ∷ [] ≡ map f (take (n + 1) xs)
 one_more f xs n none within = sym (ap (map f) (take_more xs n none within) ∙ map-append f (take n xs) (get_or xs n none ∷ []))
 
@@ -20,7 +20,7 @@ unfolding ended
 ended_values said [] = refl
 ended_values said (z ∷ zs) = ended_values said zs
 
--- a row of nothing
+-- a block of nothing
 pub no_row : (b : Bool) → ints_said [] ≡ cond b (ints_said []) []
 no_row true = refl
 no_row false = refl

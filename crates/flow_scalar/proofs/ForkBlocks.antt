@@ -1,4 +1,4 @@
--- Copies of rows.
+-- Copies of blocks.
 use Rattle.std.proofs.Common.{◌≡◌, ◌≢◌, ℕ, ℤ, zero, suc, ◌+◌, ◌-◌, ◌*◌, ◌<◌, ◌≤◌, Bool, true, false, ◌||◌, cond, eqb, List, [], ◌∷◌, ◌++◌, length, take, Ok, Err, refl, sym, ◌∙◌, ap, subst, arith, append-nil, ne_eqb, inl, inr}
 use Rattle.std.proofs.lemmas.Bool.{cases_eq}
 use Rattle.std.proofs.Math.Seq.{take-length}
@@ -17,11 +17,11 @@ use Rattle.flow_base.specs.Visits.{edge_of, Went}
 use Rattle.flow_base.specs.declared.node.Phase.TheVariants.{Working}
 use Rattle.flow_base.proofs.Carried.{same_ends_refl, same_ends_then, prefix_same, prefix_then}
 use Rattle.flow_base.proofs.Kernels.{leads_on, went_none}
-use Rattle.flow_base.proofs.Rounds.{Rounds, Shifted, row_then, rounds_none, rounds_read, rounds_write, rounds_then, rounds_as, shifted_none, shifted_skip, shifted_put, rounds_went, ended_row}
+use Rattle.flow_base.proofs.Batches.{Batch, Shifted, block_then, batch_none, batch_read, batch_write, batch_then, batch_as, shifted_none, shifted_skip, shifted_put, batch_went, ended_block}
 use Rattle.flow_scalar.specs.ForkCopies.{is_among, PutOnEach, CopiedOn}
 use Rattle.flow_scalar.specs.ForkMachine.{ForkPorts, Step, fork_ports, step_of, idle, holding, fork_move, fork_machine}
 use Rattle.flow_scalar.specs.declared.fork.Fork.{Fork}
-use Rattle.flow_scalar.proofs.SingleRows.{row_none}
+use Rattle.flow_scalar.proofs.SingleBlocks.{row_none}
 
 -- what the machine sees of a fork
 abbrev pub fork_view : Fork → ForkPorts × Step
@@ -49,15 +49,15 @@ next_among edges rises n there e is = elim (cases_eq e (edge_of edges n)) [
   | inr ne ↦ absurd (let no = ne_eqb e (edge_of edges n) ne in cc)
 ]
 
-joined : (b c : Bool) (row : List Signal) → (c ≡ true → b ≡ false) → cond b row [] ++ cond c row [] ≡ cond (b || c) row []
-joined true true row apart = absurd (cc (apart refl))
-joined true false row apart = append-nil row
-joined false true row apart = refl
-joined false false row apart = refl
+joined : (b c : Bool) (block : List Signal) → (c ≡ true → b ≡ false) → cond b block [] ++ cond c block [] ≡ cond (b || c) block []
+joined true true block apart = absurd (cc (apart refl))
+joined true false block apart = append-nil block
+joined false true block apart = refl
+joined false false block apart = refl
 
--- a row on one output more
-one_more : (edges : List ℕ) → Rises edges → (n : ℕ) → n < length edges → (row : List Signal) (e : ℕ) → cond (is_among edges n e) row [] ++ cond (eqb e (edge_of edges n)) row [] ≡ cond (is_among edges (suc n) e) row []
-one_more edges rises n there row e = joined (is_among edges n e) (eqb e (edge_of edges n)) row (next_among edges rises n there e)
+-- a block on one output more
+one_more : (edges : List ℕ) → Rises edges → (n : ℕ) → n < length edges → (block : List Signal) (e : ℕ) → cond (is_among edges n e) block [] ++ cond (eqb e (edge_of edges n)) block [] ≡ cond (is_among edges (suc n) e) block []
+one_more edges rises n there block e = joined (is_among edges n e) (eqb e (edge_of edges n)) block (next_among edges rises n there e)
 
 -- so many outputs are to get the item
 abbrev owing : Cell → ℕ → Step
@@ -74,11 +74,11 @@ module _ (inputs outputs : List ℕ) (p : ForkPorts) (at : ℕ) where
 
   -- the item is written to so many outputs
   abbrev Part : Cell → ℕ → ℕ → Type 0
-  Part x q n = Rounds inputs outputs (behaviour_of fork_machine) (on idle) (on (owing x (length outputs - q))) (λ e. cond (eqb e (edge_of inputs 0)) (carry x ∷ []) []) (λ e. cond (is_among outputs q e) (carry x ∷ []) []) n
+  Part x q n = Batch inputs outputs (behaviour_of fork_machine) (on idle) (on (owing x (length outputs - q))) (λ e. cond (eqb e (edge_of inputs 0)) (carry x ∷ []) []) (λ e. cond (is_among outputs q e) (carry x ∷ []) []) n
 
-  -- a row goes to each output
+  -- a block goes to each output
   abbrev pub Copies : List Signal → ℕ → Type 0
-  Copies row n = Rounds inputs outputs (behaviour_of fork_machine) (on idle) (on idle) (λ e. cond (eqb e (edge_of inputs 0)) row []) (λ e. cond (is_among outputs (length outputs) e) row []) n
+  Copies block n = Batch inputs outputs (behaviour_of fork_machine) (on idle) (on idle) (λ e. cond (eqb e (edge_of inputs 0)) block []) (λ e. cond (is_among outputs (length outputs) e) block []) n
 
   module _ (rises : Rises outputs) (counts : suc p.others ≡ length outputs) where
     part : (x : Cell) → is_of p.kind x ≡ true → (q : ℕ) → q ≤ length outputs → Part x q (q + 1)
@@ -86,7 +86,7 @@ module _ (inputs outputs : List ℕ) (p : ForkPorts) (at : ℕ) where
         let b = behaviour_of fork_machine in
         let all : owing x (length outputs - 0) ≡ holding x p.others = ap (owing x) (let same : length outputs - 0 ≡ suc p.others = omega (arith, counts) in same) in
         let leads = leads_on fork_machine p idle (holding x p.others) at (on_kind p.kind (λ y. Ok (holding y p.others))) (carry x) (λ y. refl) (ap (λ t. cond t (Ok (holding x p.others)) (Err Shape)) fits) in
-        rounds_read inputs outputs b (rounds_none inputs outputs b (on idle)) 0 (carry x) (on (owing x (length outputs - 0))) refl (ap on all ∙ leads)
+        batch_read inputs outputs b (batch_none inputs outputs b (on idle)) 0 (carry x) (on (owing x (length outputs - 0))) refl (ap on all ∙ leads)
     part x fits (suc q) within =
         let b = behaviour_of fork_machine in
         let left = length outputs - suc q in
@@ -96,28 +96,28 @@ module _ (inputs outputs : List ℕ) (p : ForkPorts) (at : ℕ) where
         let state : Move Step → NodeState (ForkPorts × Step) = λ m. on (after_of (holding x left) m) in
         let move = gives_next p x left in
         let before = part x fits q (omega (arith, within)) in
-        let so_far = subst (λ l. Rounds inputs outputs b (on idle) (on (owing x l)) (λ e. cond (eqb e (edge_of inputs 0)) (carry x ∷ []) []) (λ e. cond (is_among outputs q e) (carry x ∷ []) []) (q + 1)) now before in
-        let wrote = rounds_write inputs outputs b so_far q x (on (owing x left)) (ap (λ m. want_for (ask_of m)) move ∙ ap Write (sym is)) (sym (ap (λ m. carry (told_of m)) move)) (sym (ap state move)) in
-        let same = rounds_as inputs outputs b wrote _ _ (λ e. refl) (one_more outputs rises q there (carry x ∷ [])) in
+        let so_far = subst (λ l. Batch inputs outputs b (on idle) (on (owing x l)) (λ e. cond (eqb e (edge_of inputs 0)) (carry x ∷ []) []) (λ e. cond (is_among outputs q e) (carry x ∷ []) []) (q + 1)) now before in
+        let wrote = batch_write inputs outputs b so_far q x (on (owing x left)) (ap (λ m. want_for (ask_of m)) move ∙ ap Write (sym is)) (sym (ap (λ m. carry (told_of m)) move)) (sym (ap state move)) in
+        let same = batch_as inputs outputs b wrote _ _ (λ e. refl) (one_more outputs rises q there (carry x ∷ [])) in
         let steps : (q + 1) + 1 ≡ suc q + 1 = omega arith in
         subst (Part x (suc q)) steps same
 
     one : (x : Cell) → is_of p.kind x ≡ true → Copies (carry x ∷ []) (length outputs + 1)
     one x fits =
         let none : length outputs - length outputs ≡ 0 = omega arith in
-        subst (λ l. Rounds inputs outputs (behaviour_of fork_machine) (on idle) (on (owing x l)) (λ e. cond (eqb e (edge_of inputs 0)) (carry x ∷ []) []) (λ e. cond (is_among outputs (length outputs) e) (carry x ∷ []) []) (length outputs + 1)) none (part x fits (length outputs) (omega arith))
+        subst (λ l. Batch inputs outputs (behaviour_of fork_machine) (on idle) (on (owing x l)) (λ e. cond (eqb e (edge_of inputs 0)) (carry x ∷ []) []) (λ e. cond (is_among outputs (length outputs) e) (carry x ∷ []) []) (length outputs + 1)) none (part x fits (length outputs) (omega arith))
 
     copies_none : Copies [] ((length outputs + 1) * 0)
     copies_none =
         let b = behaviour_of fork_machine in
         let none : 0 ≡ (length outputs + 1) * 0 = omega arith in
-        subst (Copies []) none (rounds_as inputs outputs b (rounds_none inputs outputs b (on idle)) _ _ (λ e. sym (row_none (eqb e (edge_of inputs 0)))) (λ e. sym (row_none (is_among outputs (length outputs) e))))
+        subst (Copies []) none (batch_as inputs outputs b (batch_none inputs outputs b (on idle)) _ _ (λ e. sym (row_none (eqb e (edge_of inputs 0)))) (λ e. sym (row_none (is_among outputs (length outputs) e))))
 
-    copies_more : (x : Cell) → is_of p.kind x ≡ true → (row : List Signal) (n : ℕ) → Copies row ((length outputs + 1) * n) → Copies (carry x ∷ row) ((length outputs + 1) * suc n)
-    copies_more x fits row n next =
+    copies_more : (x : Cell) → is_of p.kind x ≡ true → (block : List Signal) (n : ℕ) → Copies block ((length outputs + 1) * n) → Copies (carry x ∷ block) ((length outputs + 1) * suc n)
+    copies_more x fits block n next =
         let b = behaviour_of fork_machine in
         let steps : (length outputs + 1) + (length outputs + 1) * n ≡ (length outputs + 1) * suc n = grind arith in
-        subst (Copies (carry x ∷ row)) steps (rounds_as inputs outputs b (rounds_then inputs outputs b (one x fits) next) _ _ (λ e. row_then (eqb e (edge_of inputs 0)) (carry x ∷ []) row) (λ e. row_then (is_among outputs (length outputs) e) (carry x ∷ []) row))
+        subst (Copies (carry x ∷ block)) steps (batch_as inputs outputs b (batch_then inputs outputs b (one x fits) next) _ _ (λ e. block_then (eqb e (edge_of inputs 0)) (carry x ∷ []) block) (λ e. block_then (is_among outputs (length outputs) e) (carry x ∷ []) block))
 
     pub copies_units : is_of p.kind unit ≡ true → (n : ℕ) → Copies (units_said n) ((length outputs + 1) * n)
     copies_units fits zero = copies_none
@@ -162,7 +162,7 @@ module _ (outputs : List ℕ) (ms : List Signal) where
         ends = made.ends;
         received = λ e. made.received e ∙ sym (append-nil (a.received e));
         sent = made.sent;
-        no_end = λ e. ended_row (is_among outputs q e) ms free;
+        no_end = λ e. ended_block (is_among outputs q e) ms free;
         coming = λ e none. made.coming e;
         room = made.room;
       } in
@@ -185,23 +185,23 @@ module _ (outputs : List ℕ) (ms : List Signal) where
         room_next = λ k le lt. let later : q < k = omega (arith, le) in omega (arith, made.room_next k (omega (arith, later)) lt, put.room (edge_of outputs k) (behind k later lt));
       })
 
--- a row that is taken, and put on each output, is so many instances
+-- a block that is taken, and put on each output, is so many instances
 module _ (inputs outputs : List ℕ) (p : ForkPorts) (at : ℕ) where
-  pub copies_went : (row : List Signal) (n : ℕ) → 0 < length inputs → Copies inputs outputs p at row n → 0 < n → ended row ≡ false → (a u w : View) → TakenAll a (edge_of inputs 0) row u → PutOnEach outputs (length outputs) row u w →
+  pub copies_went : (block : List Signal) (n : ℕ) → 0 < length inputs → Copies inputs outputs p at block n → 0 < n → ended block ≡ false → (a u w : View) → TakenAll a (edge_of inputs 0) block u → PutOnEach outputs (length outputs) block u w →
       Went inputs outputs (behaviour_of fork_machine) (on inputs outputs p at idle) a (on inputs outputs p at idle) w n
-  copies_went row n reads copies some free a u w taken put =
+  copies_went block n reads copies some free a u w taken put =
       let b = behaviour_of fork_machine in
       let f = edge_of inputs 0 in
-      let start = shifted_skip inputs outputs (shifted_none inputs outputs a) 0 row u reads taken in
-      let shifted : Shifted inputs outputs (λ e. cond (eqb e f) row []) (λ e. cond (is_among outputs (length outputs) e) row []) a w = record {
+      let start = shifted_skip inputs outputs (shifted_none inputs outputs a) 0 block u reads taken in
+      let shifted : Shifted inputs outputs (λ e. cond (eqb e f) block []) (λ e. cond (is_among outputs (length outputs) e) block []) a w = record {
         ends = same_ends_then a u w taken.ends put.ends;
         received = λ e. put.received e ∙ start.received e;
-        sent = λ e. put.sent e ∙ ap (λ l. cond (ended l) l (l ++ cond (is_among outputs (length outputs) e) row [])) (taken.sent e);
-        no_end = λ e. ended_row (is_among outputs (length outputs) e) row free;
+        sent = λ e. put.sent e ∙ ap (λ l. cond (ended l) l (l ++ cond (is_among outputs (length outputs) e) block [])) (taken.sent e);
+        no_end = λ e. ended_block (is_among outputs (length outputs) e) block free;
         coming = λ e none. prefix_then (a.coming e) (u.coming e) (w.coming e) (start.coming e none) (put.coming e);
         room = λ e none. omega (arith, start.room e none, put.room e none);
       } in
-      rounds_went inputs outputs b copies shifted some
+      batch_went inputs outputs b copies shifted some
 
 -- no instance is no step
 pub copied_none : (kind : Kind) (from : ℕ) (outputs : List ℕ) (a : View) → CopiedOn kind from outputs a a 0

@@ -1,4 +1,4 @@
--- Whole rounds of an operator on two scalars, over rows of integers.
+-- Whole rounds of an operator on two scalars, over blocks of integers.
 use Rattle.std.proofs.Common.{◌≡◌, ◌≢◌, ℕ, ℤ, pos, zero, suc, ◌+◌, ◌*◌, ◌<◌, ◌≤◌, Bool, cond, eqb, List, [], ◌∷◌, ◌++◌, length, take, get_or, Ok, refl, sym, ◌∙◌, ap, subst, arith, true, false}
 use mathlib.Core.List.{IsPrefix}
 use Rattle.snesl_data.specs.declared.dialect.Dialect.{Dialect}
@@ -18,14 +18,14 @@ use Rattle.flow_base.specs.Nodes.{NodeState, behaviour_of, node_state}
 use Rattle.flow_base.specs.Visits.{edge_of, Went}
 use Rattle.flow_base.specs.declared.node.Phase.TheVariants.{Working}
 use Rattle.flow_base.proofs.Kernels.{leads_on, went_looked}
-use Rattle.flow_base.proofs.Rounds.{Rounds, row_then, rows_then, rounds_none, rounds_read, rounds_write, rounds_then, rounds_as, shifted_none, shifted_skip, shifted_put, went_rounds, shown, take_ints, length_ints}
+use Rattle.flow_base.proofs.Batches.{Batch, block_then, blocks_then, batch_none, batch_read, batch_write, batch_then, batch_as, shifted_none, shifted_skip, shifted_put, went_batch, shown, take_ints, length_ints}
 use Rattle.flow_scalar.specs.Operands.{operand_in, on_operand}
 use Rattle.flow_scalar.specs.Scalars.{cell_of_scalar}
 use Rattle.flow_scalar.specs.declared.binary.Progress.{Progress}
 use Rattle.flow_scalar.specs.declared.binary.Progress.TheVariants.{Start, Left, Value}
 use Rattle.flow_scalar.specs.BinaryMachine.{binary_next, binary_machine}
 use Rattle.flow_scalar.proofs.Leading.{operand_taken}
-use Rattle.flow_scalar.proofs.ValueRows.{values_said, one_more, ended_values, no_row}
+use Rattle.flow_scalar.proofs.ValueBlocks.{values_said, one_more, ended_values, no_row}
 
 -- what has a value at two integers takes integers
 takes_ints : (dialect : Dialect) (op : BinaryOperator) (x y : ℤ) (v : Scalar) → binary_value dialect op (Int x) (Int y) ≡ Ok v → binary_operand op ≡ IntType
@@ -43,7 +43,7 @@ takes_ints dialect AtLeast x y v e = refl
 takes_ints dialect And x y v e = absurd (cc)
 takes_ints dialect Or x y v e = absurd (cc)
 
--- two rows of nothing
+-- two blocks of nothing
 no_rows : (b c : Bool) → ints_said [] ≡ cond b (ints_said []) [] ++ cond c (ints_said []) []
 no_rows true true = refl
 no_rows true false = refl
@@ -54,9 +54,9 @@ module _ (dialect : Dialect) (op : BinaryOperator) (inputs outputs : List ℕ) (
   abbrev on : Progress → NodeState ((Dialect × BinaryOperator) × Progress)
   on q = node_state ((dialect, op), q) Working at
 
-  -- rounds that read these two rows and write this one
+  -- rounds that read these two blocks and write this one
   abbrev Pairs : List Signal → List Signal → List Signal → ℕ → Type 0
-  Pairs xs ys zs n = Rounds inputs outputs (behaviour_of binary_machine) (on Start) (on Start) (λ e. cond (eqb e (edge_of inputs 0)) xs [] ++ cond (eqb e (edge_of inputs 1)) ys []) (λ e. cond (eqb e (edge_of outputs 0)) zs []) n
+  Pairs xs ys zs n = Batch inputs outputs (behaviour_of binary_machine) (on Start) (on Start) (λ e. cond (eqb e (edge_of inputs 0)) xs [] ++ cond (eqb e (edge_of inputs 1)) ys []) (λ e. cond (eqb e (edge_of outputs 0)) zs []) n
 
   -- a pair at which there is a value is a round
   pair : (x y : ℤ) (v : Scalar) → binary_value dialect op (Int x) (Int y) ≡ Ok v → Pairs (carry (int x) ∷ []) (carry (int y) ∷ []) (carry (cell_of_scalar v) ∷ []) 3
@@ -70,9 +70,9 @@ module _ (dialect : Dialect) (op : BinaryOperator) (inputs outputs : List ℕ) (
       let next = on_operand type (binary_next dialect op (Int x)) in
       let to_left : taken begin (int x) ≡ Ok (Left (Int x)) = operand_taken type (λ k. Ok (Left k)) (int x) (Int x) first in
       let to_value : taken next (int y) ≡ Ok (Value v) = operand_taken type (binary_next dialect op (Int x)) (int y) (Int y) second ∙ ap (λ r. and_then r (λ v. Ok (Value v))) e in
-      let one = rounds_read inputs outputs b (rounds_none inputs outputs b (on Start)) 0 (carry (int x)) (on (Left (Int x))) refl (leads_on binary_machine (dialect, op) Start (Left (Int x)) at begin (carry (int x)) (λ y. refl) to_left) in
-      let two = rounds_read inputs outputs b one 1 (carry (int y)) (on (Value v)) refl (leads_on binary_machine (dialect, op) (Left (Int x)) (Value v) at next (carry (int y)) (λ y. refl) to_value) in
-      rounds_as inputs outputs b (rounds_write inputs outputs b two 0 (cell_of_scalar v) (on Start) refl refl refl) _ _ (λ e. refl) (λ e. refl)
+      let one = batch_read inputs outputs b (batch_none inputs outputs b (on Start)) 0 (carry (int x)) (on (Left (Int x))) refl (leads_on binary_machine (dialect, op) Start (Left (Int x)) at begin (carry (int x)) (λ y. refl) to_left) in
+      let two = batch_read inputs outputs b one 1 (carry (int y)) (on (Value v)) refl (leads_on binary_machine (dialect, op) (Left (Int x)) (Value v) at next (carry (int y)) (λ y. refl) to_value) in
+      batch_as inputs outputs b (batch_write inputs outputs b two 0 (cell_of_scalar v) (on Start) refl refl refl) _ _ (λ e. refl) (λ e. refl)
 
   module _ {A : Type 0} (said : A → Scalar) (none : A) (apart : edge_of inputs 0 ≢ edge_of inputs 1) where
     -- the values at the first n pairs are these
@@ -97,16 +97,16 @@ module _ (dialect : Dialect) (op : BinaryOperator) (inputs outputs : List ℕ) (
         let rights = one_more say ys n (pos 0) in_ys in
         let values = one_more tell zs n none in_zs in
         let count : 3 * n + 3 ≡ 3 * (n + 1) = omega arith in
-        subst (Pairs (ints_said (take (n + 1) xs)) (ints_said (take (n + 1) ys)) (values_said said (take (n + 1) zs))) count (rounds_as inputs outputs b (rounds_then inputs outputs b made (pair x y (said z) value)) _ _ (λ e. rows_then e l r (ints_said (take n xs)) (ints_said (take n ys)) (say x ∷ []) (say y ∷ []) apart ∙ ap (λ k. cond (eqb e l) k [] ++ cond (eqb e r) (ints_said (take n ys) ++ say y ∷ []) []) lefts ∙ ap (λ k. cond (eqb e l) (ints_said (take (n + 1) xs)) [] ++ cond (eqb e r) k []) rights) (λ e. row_then (eqb e o) (values_said said (take n zs)) (tell z ∷ []) ∙ ap (λ k. cond (eqb e o) k []) values))
+        subst (Pairs (ints_said (take (n + 1) xs)) (ints_said (take (n + 1) ys)) (values_said said (take (n + 1) zs))) count (batch_as inputs outputs b (batch_then inputs outputs b made (pair x y (said z) value)) _ _ (λ e. blocks_then e l r (ints_said (take n xs)) (ints_said (take n ys)) (say x ∷ []) (say y ∷ []) apart ∙ ap (λ k. cond (eqb e l) k [] ++ cond (eqb e r) (ints_said (take n ys) ++ say y ∷ []) []) lefts ∙ ap (λ k. cond (eqb e l) (ints_said (take (n + 1) xs)) [] ++ cond (eqb e r) k []) rights) (λ e. block_then (eqb e o) (values_said said (take n zs)) (tell z ∷ []) ∙ ap (λ k. cond (eqb e o) k []) values))
 
     -- pairs at which there are values are rounds
     pub block : (xs ys : List ℤ) (zs : List A) (n : ℕ) → n ≤ length xs → n ≤ length ys → n ≤ length zs → ValuesAt xs ys zs n → Block xs ys zs n
-    block xs ys zs zero in_xs in_ys in_zs values = rounds_as inputs outputs (behaviour_of binary_machine) (rounds_none inputs outputs (behaviour_of binary_machine) (on Start)) _ _ (λ e. no_rows (eqb e (edge_of inputs 0)) (eqb e (edge_of inputs 1))) (λ e. no_row (eqb e (edge_of outputs 0)))
+    block xs ys zs zero in_xs in_ys in_zs values = batch_as inputs outputs (behaviour_of binary_machine) (batch_none inputs outputs (behaviour_of binary_machine) (on Start)) _ _ (λ e. no_rows (eqb e (edge_of inputs 0)) (eqb e (edge_of inputs 1))) (λ e. no_row (eqb e (edge_of outputs 0)))
     block xs ys zs (suc n) in_xs in_ys in_zs values =
         let is : n + 1 ≡ suc n = omega arith in
         subst (Block xs ys zs) is (block_more xs ys zs n (omega arith) (omega arith) (omega arith) (values n (omega arith)) (block xs ys zs n (omega arith) (omega arith) (omega arith) (λ k below. values k (omega arith))))
 
-    -- a block over rows of the ends is steps
+    -- a block over blocks of the ends is steps
     pub block_went : {a v : View} {made : ℕ} (u : View) (xs ys : List ℤ) (zs : List A) (n : ℕ) (w1 w2 w : View) → 1 < length inputs → 0 < length outputs → Went inputs outputs (behaviour_of binary_machine) (on Start) a (on Start) v made → LookedForRoom v (edge_of outputs 0) u →
         0 < n → n ≤ length xs → n ≤ length ys → n ≤ length zs → ValuesAt xs ys zs n → IsPrefix (ints_said xs) (u.coming (edge_of inputs 0)) → IsPrefix (ints_said ys) (u.coming (edge_of inputs 1)) →
         TakenAll u (edge_of inputs 0) (take n (u.coming (edge_of inputs 0))) w1 → TakenAll w1 (edge_of inputs 1) (take n (w1.coming (edge_of inputs 1))) w2 → PutAll w2 (edge_of outputs 0) (values_said said (take n zs)) w →
@@ -121,4 +121,4 @@ module _ (dialect : Dialect) (op : BinaryOperator) (inputs outputs : List ℕ) (
         let first = subst (λ k. TakenAll u l k w1) left t1 in
         let second = subst (λ k. TakenAll w1 r k w2) right t2 in
         let here = went_looked b inputs outputs went 0 u one looked in
-        went_rounds inputs outputs b here (block xs ys zs n in_xs in_ys in_zs values) (omega arith) w (shifted_put inputs outputs (shifted_skip inputs outputs (shifted_skip inputs outputs (shifted_none inputs outputs u) 0 (ints_said (take n xs)) w1 (omega arith) first) 1 (ints_said (take n ys)) w2 two second) 0 (values_said said (take n zs)) w one (ended_values said (take n zs)) p)
+        went_batch inputs outputs b here (block xs ys zs n in_xs in_ys in_zs values) (omega arith) w (shifted_put inputs outputs (shifted_skip inputs outputs (shifted_skip inputs outputs (shifted_none inputs outputs u) 0 (ints_said (take n xs)) w1 (omega arith) first) 1 (ints_said (take n ys)) w2 two second) 0 (values_said said (take n zs)) w one (ended_values said (take n zs)) p)

@@ -1,4 +1,4 @@
--- What Iota makes of rows: a flag and a number for each of many numbers.
+-- What Iota makes of blocks: a flag and a number for each of many numbers.
 use Rattle.std.proofs.Common.{◌≡◌, ◌≢◌, ℕ, zero, suc, ◌+◌, ◌<◌, ◌≤◌, ◌*◌, ℤ, pos, negsuc, ◌+ℤ◌, ◌≤ℤ◌, Bool, true, false, cond, not, eqb, List, [], ◌∷◌, ◌++◌, length, take, get_or, refl, sym, ◌∙◌, ap, subst, arith, inl, inr}
 use Rattle.std.specs.Prelude.{Ok, int_lt, replicate}
 use Rattle.std.proofs.lemmas.Bool.{cases_eq}
@@ -14,7 +14,7 @@ use Rattle.flow_base.specs.Visits.{edge_of, Went}
 use Rattle.flow_base.specs.declared.node.Phase.TheVariants.{Working}
 use Rattle.flow_base.proofs.Carried.{prefix_same}
 use Rattle.flow_base.proofs.Kernels.{leads_on}
-use Rattle.flow_base.proofs.Rounds.{Rounds, rounds_none, rounds_read, rounds_write, rounds_then, rounds_as, rows_then, shifted_none, shifted_skip, shifted_put, went_rounds, shown, ended_flags, ended_ints, ended_one}
+use Rattle.flow_base.proofs.Batches.{Batch, batch_none, batch_read, batch_write, batch_then, batch_as, blocks_then, shifted_none, shifted_skip, shifted_put, went_batch, shown, ended_flags, ended_ints, ended_one}
 use Rattle.flow_scalar.specs.declared.iota.Iota.{Iota}
 use Rattle.flow_scalar.specs.declared.iota.Iota.TheVariants.{Between, Flag, Number}
 use Rattle.flow_scalar.specs.IotaMachine.{first_flag, iota_machine}
@@ -61,7 +61,7 @@ pub first_shown : (xs : List ℤ) (c : List Signal) → 0 < length xs → IsPref
 first_shown [] c some seen = absurd (omega arith)
 first_shown (x ∷ xs) c some seen = shown (ints_said (x ∷ xs)) c 1 seen (omega arith)
 
--- rows of nothing
+-- blocks of nothing
 no_rows : (b c : Bool) → ◌≡◌ {A = List Signal} [] (cond b [] [] ++ cond c [] [])
 no_rows true true = refl
 no_rows true false = refl
@@ -74,41 +74,41 @@ on at s = node_state (tt, s) Working at
 module _ (ins outs : List ℕ) where
   -- a flag and a number for each number that is left, in so many rounds
   pub numbers_rounds : edge_of outs 0 ≢ edge_of outs 1 → (at : ℕ) (end : ℤ) (n : ℕ) (next : ℤ) → (next +ℤ pos n) ≤ℤ end →
-      Rounds ins outs (behaviour_of iota_machine) (on at (Flag next end)) (on at (Flag (next +ℤ pos n) end)) (λ e. []) (λ e. cond (eqb e (edge_of outs 0)) (flags_said (elements_row n)) [] ++ cond (eqb e (edge_of outs 1)) (ints_said (numbers_row next n)) []) (2 * n)
+      Batch ins outs (behaviour_of iota_machine) (on at (Flag next end)) (on at (Flag (next +ℤ pos n) end)) (λ e. []) (λ e. cond (eqb e (edge_of outs 0)) (flags_said (elements_row n)) [] ++ cond (eqb e (edge_of outs 1)) (ints_said (numbers_row next n)) []) (2 * n)
   numbers_rounds apart at end zero next below =
       let b = behaviour_of iota_machine in
       let same : next ≡ next +ℤ pos 0 = omega (arith, ints) in
       let writes = λ (e : ℕ). cond (eqb e (edge_of outs 0)) (flags_said (elements_row 0)) [] ++ cond (eqb e (edge_of outs 1)) (ints_said (numbers_row next 0)) [] in
-      subst (λ k. Rounds ins outs b (on at (Flag next end)) (on at (Flag k end)) (λ e. []) writes 0) same (rounds_as ins outs b (rounds_none ins outs b (on at (Flag next end))) _ _ (λ e. refl) (λ e. no_rows (eqb e (edge_of outs 0)) (eqb e (edge_of outs 1))))
+      subst (λ k. Batch ins outs b (on at (Flag next end)) (on at (Flag k end)) (λ e. []) writes 0) same (batch_as ins outs b (batch_none ins outs b (on at (Flag next end))) _ _ (λ e. refl) (λ e. no_rows (eqb e (edge_of outs 0)) (eqb e (edge_of outs 1))))
   numbers_rounds apart at end (suc n) next below =
       let b = behaviour_of iota_machine in
       let test : int_lt next end ≡ true = grind (arith, ints) in
-      let one = rounds_write ins outs b (rounds_none ins outs b (on at (Flag next end))) 0 (flag false) (on at (Number next end)) refl (ap (λ t. carry (flag (not t))) (sym test)) (ap (λ t. on at (cond t (Number next end) Between)) (sym test)) in
-      let two = rounds_write ins outs b one 1 (int next) (on at (Flag (next +ℤ pos 1) end)) refl refl (ap (λ t. on at (Flag (cond t (next +ℤ pos 1) end) end)) (sym test)) in
+      let one = batch_write ins outs b (batch_none ins outs b (on at (Flag next end))) 0 (flag false) (on at (Number next end)) refl (ap (λ t. carry (flag (not t))) (sym test)) (ap (λ t. on at (cond t (Number next end) Between)) (sym test)) in
+      let two = batch_write ins outs b one 1 (int next) (on at (Flag (next +ℤ pos 1) end)) refl refl (ap (λ t. on at (Flag (cond t (next +ℤ pos 1) end) end)) (sym test)) in
       let rest = numbers_rounds apart at end n (next +ℤ pos 1) (omega (arith, ints)) in
       let writes = λ (e : ℕ). cond (eqb e (edge_of outs 0)) (flags_said (elements_row (suc n))) [] ++ cond (eqb e (edge_of outs 1)) (ints_said (numbers_row next (suc n))) [] in
-      let all = rounds_as ins outs b (rounds_then ins outs b two rest) (λ e. []) writes (λ e. refl) (λ e. rows_then e (edge_of outs 0) (edge_of outs 1) (carry (flag false) ∷ []) (carry (int next) ∷ []) (flags_said (elements_row n)) (ints_said (numbers_row (next +ℤ pos 1) n)) apart) in
+      let all = batch_as ins outs b (batch_then ins outs b two rest) (λ e. []) writes (λ e. refl) (λ e. blocks_then e (edge_of outs 0) (edge_of outs 1) (carry (flag false) ∷ []) (carry (int next) ∷ []) (flags_said (elements_row n)) (ints_said (numbers_row (next +ℤ pos 1) n)) apart) in
       let count : 2 + 2 * n ≡ 2 * suc n = omega arith in
       let same : (next +ℤ pos 1) +ℤ pos n ≡ next +ℤ pos (suc n) = omega (arith, ints) in
-      subst (λ k. Rounds ins outs b (on at (Flag next end)) (on at (Flag k end)) (λ e. []) writes (2 * suc n)) same (subst (Rounds ins outs b (on at (Flag next end)) (on at (Flag ((next +ℤ pos 1) +ℤ pos n) end)) (λ e. []) writes) count all)
+      subst (λ k. Batch ins outs b (on at (Flag next end)) (on at (Flag k end)) (λ e. []) writes (2 * suc n)) same (subst (Batch ins outs b (on at (Flag next end)) (on at (Flag ((next +ℤ pos 1) +ℤ pos n) end)) (λ e. []) writes) count all)
 
   -- the flag that ends a segment, and the integer of the next
   pub segment_rounds : (at : ℕ) (next end count : ℤ) → int_lt next end ≡ false → pos 0 ≤ℤ count →
-      Rounds ins outs (behaviour_of iota_machine) (on at (Flag next end)) (on at (Flag (pos 0) count)) (λ e. cond (eqb e (edge_of ins 0)) (carry (int count) ∷ []) []) (λ e. cond (eqb e (edge_of outs 0)) (carry (flag true) ∷ []) []) 2
+      Batch ins outs (behaviour_of iota_machine) (on at (Flag next end)) (on at (Flag (pos 0) count)) (λ e. cond (eqb e (edge_of ins 0)) (carry (int count) ∷ []) []) (λ e. cond (eqb e (edge_of outs 0)) (carry (flag true) ∷ []) []) 2
   segment_rounds at next end count test natural =
       let b = behaviour_of iota_machine in
       let x = carry (int count) in
-      let one = rounds_write ins outs b (rounds_none ins outs b (on at (Flag next end))) 0 (flag true) (on at Between) refl (ap (λ t. carry (flag (not t))) (sym test)) (ap (λ t. on at (cond t (Number next end) Between)) (sym test)) in
-      rounds_read ins outs b one 0 x (on at (Flag (pos 0) count)) refl (leads_on iota_machine tt Between (Flag (pos 0) count) at (on_int first_flag) x (λ y. refl) (starts count natural))
+      let one = batch_write ins outs b (batch_none ins outs b (on at (Flag next end))) 0 (flag true) (on at Between) refl (ap (λ t. carry (flag (not t))) (sym test)) (ap (λ t. on at (cond t (Number next end) Between)) (sym test)) in
+      batch_read ins outs b one 0 x (on at (Flag (pos 0) count)) refl (leads_on iota_machine tt Between (Flag (pos 0) count) at (on_int first_flag) x (λ y. refl) (starts count natural))
 
-  -- rows that are put are those rounds
+  -- blocks that are put are those rounds
   pub numbers_went : edge_of outs 0 ≢ edge_of outs 1 → 1 < length outs → (at : ℕ) (end : ℤ) (n : ℕ) (next : ℤ) → (next +ℤ pos n) ≤ℤ end → 0 < n → (a v u w : View) → Went ins outs (behaviour_of iota_machine) (on at (Flag next end)) a (on at (Flag next end)) v 0 →
       PutAll v (edge_of outs 0) (flags_said (elements_row n)) u → PutAll u (edge_of outs 1) (ints_said (numbers_row next n)) w → Went ins outs (behaviour_of iota_machine) (on at (Flag next end)) a (on at (Flag (next +ℤ pos n) end)) w (2 * n)
   numbers_went apart there at end n next below some a v u w went flagged numbered =
       let b = behaviour_of iota_machine in
       let one = shifted_put ins outs (shifted_none ins outs v) 0 (flags_said (elements_row n)) u (omega arith) (ended_flags (elements_row n)) flagged in
       let two = shifted_put ins outs one 1 (ints_said (numbers_row next n)) w there (ended_ints (numbers_row next n)) numbered in
-      let all = went_rounds ins outs b went (numbers_rounds apart at end n next below) (omega arith) w two in
+      let all = went_batch ins outs b went (numbers_rounds apart at end n next below) (omega arith) w two in
       let count : 0 + 2 * n ≡ 2 * n = omega arith in
       subst (Went ins outs b (on at (Flag next end)) a (on at (Flag (next +ℤ pos n) end)) w) count all
 
@@ -118,4 +118,4 @@ module _ (ins outs : List ℕ) where
       let b = behaviour_of iota_machine in
       let one = shifted_put ins outs (shifted_none ins outs v) 0 (carry (flag true) ∷ []) u writes (ended_one (flag true)) flagged in
       let two = shifted_skip ins outs one 0 (carry (int count) ∷ []) w reads taken in
-      went_rounds ins outs b went (segment_rounds at next end count test natural) (omega arith) w two
+      went_batch ins outs b went (segment_rounds at next end count test natural) (omega arith) w two
