@@ -17,7 +17,9 @@ use kahn::Want;
 use snesl_data::{Fault, FaultKind};
 use std::alloc::AllocError;
 
-// A kernel goes on only in visits of so many steps and more.
+// A worker goes over slices only in visits of so many steps and more, and its kernel goes on in longer ones.
+const LEAST_FOR_BLOCKS: usize = 8;
+
 const LEAST_FOR_KERNEL: usize = 64;
 
 /// How far a node is.
@@ -229,7 +231,37 @@ impl<W: Worker> Node<W> {
         Ok(first)
     }
 
-    // The same in long visits, and nothing in short ones. How many steps it made.
+    // The rest of an instance that has begun, and then whole instances over slices, at most `chunk` steps. How many it made.
+    #[inline(never)]
+    fn whole_blocks<E: Ends>(
+        &mut self,
+        inputs: &[usize],
+        outputs: &[usize],
+        ends: &mut E,
+        chunk: usize,
+    ) -> Result<usize, AllocError>
+        requires placed { IsPlaced ⟦<Node<W> as Transducer>⟧.behaviour inputs.now outputs.now
+            (⟦<Node<W> as Transducer>⟧.state self.old) (E.view ends.old) }
+        ensures same { E.same ends.old ends.new }
+        ensures ends { SameEnds (E.view ends.old) (E.view ends.new) }
+        ensures within { IfOk result (λ made. made ≤ chunk) }
+        ensures went { IfOk result (λ made. WentOn inputs.now outputs.now
+            ⟦<Node<W> as Transducer>⟧.behaviour (⟦<Node<W> as Transducer>⟧.state self.old)
+            (E.view ends.old) (⟦<Node<W> as Transducer>⟧.state self.new) (E.view ends.new)
+            (nat_lt 0 made)) }
+        ensures broke { OnErr result (BrokeOff inputs.now outputs.now
+            ⟦<Node<W> as Transducer>⟧.behaviour (⟦<Node<W> as Transducer>⟧.state self.old)
+            (E.view ends.old) (⟦<Node<W> as Transducer>⟧.state self.new) (E.view ends.new)) }
+    {
+        let first = self.finish(inputs, outputs, ends, chunk)?;
+        if let Phase::Working = self.phase {
+            let whole = self.worker.blocks(inputs, outputs, ends, chunk - first);
+            return Ok(first + whole);
+        }
+        Ok(first)
+    }
+
+    // The same in long visits, over slices alone in shorter ones, and nothing in short ones. How many steps it made.
     #[inline(always)]
     fn whole<E: Ends>(
         &mut self,
@@ -252,8 +284,11 @@ impl<W: Worker> Node<W> {
             (E.view ends.old) (⟦<Node<W> as Transducer>⟧.state self.new) (E.view ends.new)) }
     {
         // In short visits, and where hardly an instance fits into one, single steps are faster.
-        if chunk < LEAST_FOR_KERNEL || chunk / 2 <= outputs.len() {
+        if chunk < LEAST_FOR_BLOCKS || chunk / 2 <= outputs.len() {
             return Ok(0);
+        }
+        if chunk < LEAST_FOR_KERNEL {
+            return self.whole_blocks(inputs, outputs, ends, chunk);
         }
         self.whole_instances(inputs, outputs, ends, chunk)
     }

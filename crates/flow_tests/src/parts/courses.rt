@@ -216,7 +216,7 @@ pub fn acts<E: CountedEnds>(ends: &mut E, edge: usize, act: Act) -> bool
                 && ends.sent_count(edge) == sent
                 && ends.received_count(edge) == received
         }
-        Act::Blocks(row) => goes_in_blocks(ends, edge, block),
+        Act::Blocks(block) => goes_in_blocks(ends, edge, block),
     }
 }
 

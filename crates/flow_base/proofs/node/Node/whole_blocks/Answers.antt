@@ -1,0 +1,32 @@
+use Rattle.std.proofs.Common.{sym, subst}
+use Rattle.flow_base.specs.Members.{node_of}
+use Rattle.flow_base.specs.Nodes.{node_state}
+use Rattle.flow_base.specs.Visits.{Went}
+use Rattle.flow_base.proofs.Visits.{placed_on}
+use Rattle.flow_base.proofs.Kernels.{wired, made_went, went_then}
+use Rattle.flow_base.proofs.node.Node.whole_blocks.Goals as goal
+
+-- its ends are still there where an instance may begin
+pub blocks-whole-requires : goal.blocks-whole-requires
+blocks-whole-requires g c =
+    let node = node_of g.W.Worker.state g.W.Worker.machine g.met.W.Worker.laws in
+    let b = node.behaviour in
+    let ins = c.args.inputs.now in
+    let outs = c.args.outputs.now in
+    let v = g.E.Ends.view c.finish.new.ends in
+    record { wired = wired b ins outs (node.state c.finish.new.self) v (placed_on node.laws c.requires.placed (made_went c.in_ok-first.ensures.went node.laws c.requires.placed c.finish.ensures.ends)) }
+
+-- the steps to where an instance may begin, and those over slices
+pub returns-in-Working-clause-went : goal.returns-in-Working-clause-went
+returns-in-Working-clause-went g c =
+    let state = g.W.Worker.state in
+    let node = node_of state g.W.Worker.machine g.met.W.Worker.laws in
+    let b = node.behaviour in
+    let ins = c.args.inputs.now in
+    let outs = c.args.outputs.now in
+    let view = g.E.Ends.view in
+    let n = c.finish.new.self in
+    let whole = c.blocks-whole in
+    let v = view c.finish.new.ends in
+    let next = subst (λ p. Went ins outs b (node_state (state n.worker) p n.at) v (node_state (state whole.new.self) p n.at) (view whole.new.ends) whole.result) (sym c.in-Working.is) (whole.ensures.went n.at) in
+    went_then b ins outs c.in_ok-first.first c.in_ok-first.ensures.went next
