@@ -1,6 +1,8 @@
 pub mod BinaryBlocks
 pub mod ForkBlocks
 pub mod IotaBlocks
+pub mod ConstRows
+pub mod ForkRows
 pub mod Leading
 pub mod Sending
 pub mod UnaryBlocks

@@ -1,8 +1,10 @@
 // A constant, once for each item.
 
-ghost use Rattle.std.specs.Prelude.{◌≡◌, true, false};
+ghost use Rattle.std.specs.Prelude.{◌≡◌, ◌≤◌, true, false};
 ghost use Rattle.flow_messages.specs.Cells.{unit};
+ghost use Rattle.flow_messages.specs.Ends.{SameEnds};
 ghost use Rattle.flow_messages.specs.Signals.{carry, signal_of};
+ghost use Rattle.flow_scalar.specs.ConstCopies.{WrittenFor};
 
 use crate::scalars::{item_of, kind_of};
 use flow_base::{Ask, Stop, Worker, put_in_space, take_front};
@@ -10,6 +12,9 @@ use flow_messages::{Ends, Item, Kind, Msg};
 use snesl_data::FaultKind;
 use snesl_operators::Scalar;
 use std::alloc::AllocError;
+
+// How many of the scalar are put at most in one call.
+const BLOCK: usize = 64;
 
 /// Writes a scalar once for each Unit. Each Unit is an instance.
 ///
@@ -28,6 +33,56 @@ fn is_unit(message: &Msg) -> bool
     ensures { result ≡ true → signal_of message.now ≡ carry unit }
 {
     matches!(message, Msg::Item(Item::Unit))
+}
+
+// Writes the integer once for each unit that is shown, where there is room. How many steps: two for each unit.
+#[inline(always)]
+fn ints_for_units<E: Ends>(ends: &mut E, from: usize, to: usize, number: i128, most: usize) -> usize
+    requires reads { (E.view ends.old).reads from ≡ true }
+    requires writes { (E.view ends.old).writes to ≡ true }
+    ensures same { E.same ends.old ends.new }
+    ensures ends { SameEnds (E.view ends.old) (E.view ends.new) }
+    ensures within { result ≤ most }
+    ensures written { WrittenFor (Scalar.Int number) from to (E.view ends.old)
+        (E.view ends.new) result }
+{
+    let row = [number; BLOCK];
+    let mut made = 0;
+    loop {
+        let room = ends.space(to);
+        let count = ends.units(from).min(room).min((most - made) / 2).min(BLOCK);
+        if count == 0 {
+            return made;
+        }
+        ends.skip(from, count);
+        ends.put_ints(to, &row[..count]);
+        made += 2 * count;
+    }
+}
+
+// Writes the truth value once for each unit that is shown, where there is room. How many steps: two for each unit.
+#[inline(always)]
+fn flags_for_units<E: Ends>(ends: &mut E, from: usize, to: usize, truth: bool, most: usize) -> usize
+    requires reads { (E.view ends.old).reads from ≡ true }
+    requires writes { (E.view ends.old).writes to ≡ true }
+    ensures same { E.same ends.old ends.new }
+    ensures ends { SameEnds (E.view ends.old) (E.view ends.new) }
+    ensures within { result ≤ most }
+    ensures written { WrittenFor (Scalar.Bool truth) from to (E.view ends.old)
+        (E.view ends.new) result }
+{
+    let row = [truth; BLOCK];
+    let mut made = 0;
+    loop {
+        let room = ends.space(to);
+        let count = ends.units(from).min(room).min((most - made) / 2).min(BLOCK);
+        if count == 0 {
+            return made;
+        }
+        ends.skip(from, count);
+        ends.put_flags(to, &row[..count]);
+        made += 2 * count;
+    }
 }
 
 impl Const {
@@ -95,6 +150,26 @@ impl Worker for Const {
 
     fn is_between(&self) -> bool {
         !self.due
+    }
+
+    #[inline(always)]
+    fn blocks<E: Ends>(
+        &mut self,
+        inputs: &[usize],
+        outputs: &[usize],
+        ends: &mut E,
+        most: usize,
+    ) -> usize {
+        let from = inputs[0];
+        // Where no units are shown, the output is not looked at.
+        if self.due || ends.units(from) == 0 {
+            return 0;
+        }
+        let to = outputs[0];
+        match self.scalar {
+            Scalar::Int(number) => ints_for_units(ends, from, to, number, most),
+            Scalar::Bool(truth) => flags_for_units(ends, from, to, truth, most),
+        }
     }
 
     #[inline(always)]
