@@ -9,3 +9,6 @@ pub mod UnaryBlocks
 pub mod ValueBlocks
 pub mod SingleBlocks
 pub mod UnitsOfBlocks
+pub mod SingleRows
+pub mod SinkRows
+pub mod UnitsOfRows

@@ -15,6 +15,7 @@ pub mod ScalarCells
 pub mod Scalars
 pub mod ScanAddMachine
 pub mod SinkMachine
+pub mod SinkShown
 pub mod SourceBehaviour
 pub mod Streams
 pub mod UnaryMachine

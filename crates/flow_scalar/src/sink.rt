@@ -3,6 +3,7 @@
 ghost use Rattle.std.specs.Prelude.{◌≡◌, true, false, Ok, IfOk, OnErr, IsOk};
 ghost use Rattle.flow_base.specs.Machines.{Leads, on_kind};
 ghost use Rattle.flow_messages.specs.Signals.{signal_of};
+ghost use Rattle.flow_scalar.specs.SinkShown.{Shown};
 
 use flow_base::{Ask, Stop, Worker, take_front};
 use flow_messages::{Ends, Item, Kind, Msg};
@@ -14,6 +15,20 @@ use std::alloc::AllocError;
 #[derive(Clone, Copy, Debug, PartialEq, Eq)]
 pub struct Sink {
     kind: Kind,
+}
+
+// How many items of the kind are shown.
+#[inline(always)]
+fn shown_of<E: Ends>(ends: &E, edge: usize, kind: Kind) -> usize
+    requires { (E.view ends.now).reads edge ≡ true }
+    ensures { Shown kind result ((E.view ends.now).coming edge) }
+{
+    match kind {
+        Kind::Unit => ends.units(edge),
+        Kind::Bool => ends.flags(edge).len(),
+        Kind::Int => ends.ints(edge).len(),
+        Kind::Vec => 0,
+    }
 }
 
 impl Sink {
@@ -91,6 +106,23 @@ impl Worker for Sink {
         ensures sure { sink_machine.takes_memory tt ≡ false → IsOk result }
     {
         Ok(Item::Unit)
+    }
+
+    #[inline(always)]
+    fn blocks<E: Ends>(
+        &mut self,
+        inputs: &[usize],
+        outputs: &[usize],
+        ends: &mut E,
+        most: usize,
+    ) -> usize {
+        let from = inputs[0];
+        let count = shown_of(ends, from, self.kind).min(most);
+        if count == 0 {
+            return 0;
+        }
+        ends.skip(from, count);
+        count
     }
 
     #[inline(always)]

@@ -1,0 +1,18 @@
+-- What is shown of a kind.
+use Rattle.std.specs.Prelude.{◌≡◌, ℕ, Ok, List, [], ◌∷◌, length}
+use mathlib.Core.List.{IsPrefix}
+use Rattle.flow_messages.specs.Signals.{Signal}
+use Rattle.flow_messages.specs.declared.message.Kind.{Kind}
+use Rattle.flow_base.specs.Machines.{Leads, on_kind}
+
+-- each is an item of the kind
+abbrev pub EachFits : Kind → List Signal → Type 0
+EachFits kind [] = Unit {0}
+EachFits kind (m ∷ ms) = Leads (on_kind kind (λ _. Ok (tt {0}))) m tt × EachFits kind ms
+
+-- so many items of the kind are certain, one behind another
+pub record Shown (kind : Kind) (n : ℕ) (coming : List Signal) : Type 0 where
+  pub row : List Signal
+  pub first : IsPrefix row coming
+  pub long : length row ≡ n
+  pub fits : EachFits kind row
