@@ -4,6 +4,7 @@ pub mod IotaBlocks
 pub mod ConstRows
 pub mod ForkRows
 pub mod Leading
+pub mod ReduceRows
 pub mod Sending
 pub mod UnaryBlocks
 pub mod ValueBlocks

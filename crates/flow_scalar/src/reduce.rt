@@ -1,12 +1,19 @@
 // Reductions of segments.
 
-ghost use Rattle.std.specs.Prelude.{◌≡◌, IfSome};
+ghost use Rattle.std.specs.Prelude.{◌≡◌, ◌≢◌, ◌≤◌, ◌<◌, ◌*◌, ℕ, true, false, List, length, take, get_or, Some, IfSome, Ok};
+ghost use Rattle.std.specs.List.{All};
 ghost use Rattle.std.specs.Option.{IsSomeAnd};
+ghost use Rattle.flow_messages.specs.Ends.{SameEnds};
 ghost use Rattle.flow_messages.specs.Signals.{signal_of};
 ghost use Rattle.flow_base.specs.Machines.{Leads, on_kind};
+ghost use Rattle.flow_base.specs.Nodes.{behaviour_of, node_state};
+ghost use Rattle.flow_base.specs.Visits.{edge_of, IsWired, Went};
+ghost use Rattle.flow_base.specs.declared.node.Phase.TheVariants.{Working};
 ghost use Rattle.flow_scalar.specs.Scalars.{scalar_in};
-ghost use Rattle.flow_scalar.specs.ReduceMachine.{at_element, reduced_kind};
-ghost use Rattle.flow_scalar.specs.declared.reduce.Stage.TheVariants.{Flag as FlagState};
+ghost use Rattle.flow_scalar.specs.ReduceMachine.{at_element, reduced_kind, reduce_machine, reduce_view};
+ghost use Rattle.flow_scalar.specs.ReduceRows.{reduced_ints, AwaitsFlag};
+ghost use Rattle.snesl_operators.specs.declared.scalar.Scalar.TheVariants.{Int as IntScalar};
+ghost use Rattle.flow_scalar.specs.declared.reduce.Stage.TheVariants.{Start as StartState, Flag as FlagState};
 
 use crate::scalars::{item_of, kind_of, scalar_of};
 use flow_base::{Ask, Stop, Worker, put_in_space, take_front};
@@ -78,6 +85,29 @@ impl Stage {
         }
     }
 
+    // What the elements so far reduce to, where a flag comes.
+    #[inline(always)]
+    fn so_far(self, reduction: Reduction) -> Option<Option<Scalar>>
+        ensures { IfSome result (λ so_far. AwaitsFlag reduction self so_far) }
+    {
+        match self {
+            Stage::Start => Some(reduction.nothing()),
+            Stage::Flag(so_far) => Some(so_far),
+            _ => None,
+        }
+    }
+
+    // The integer that the elements so far reduce to, where a flag comes and there is one.
+    #[inline(always)]
+    fn int(self, reduction: Reduction) -> Option<i128>
+        ensures { IfSome result (λ n. AwaitsFlag reduction self (Some (IntScalar n))) }
+    {
+        match self.so_far(reduction) {
+            Some(Some(Scalar::Int(number))) => Some(number),
+            _ => None,
+        }
+    }
+
     // Where the message leads where a flag comes, if it is there and leads on.
     #[inline(always)]
     fn after_flag(self, reduction: Reduction, message: Option<&Msg>) -> Option<Stage>
@@ -97,6 +127,30 @@ impl Stage {
             Err(_) => None,
         }
     }
+}
+
+// How many flags at the front stand for elements, up to so many.
+#[inline(always)]
+fn elements_ahead(flags: &[bool], most: usize) -> usize
+    ensures within { result ≤ most }
+    ensures shown { result ≤ length flags.now }
+    ensures ahead { (k : ℕ) → k < result → get_or flags.now k true ≡ false }
+{
+    let least = most.min(flags.len());
+    for place in 0..least {
+        if flags[place] {
+            return place;
+        }
+    }
+    least
+}
+
+// Whether the first flag ends a segment.
+#[inline(always)]
+fn begins_with_end(flags: &[bool]) -> bool
+    ensures { result ≡ true → get_or flags.now 0 false ≡ true }
+{
+    flags.len() > 0 && flags[0]
 }
 
 impl Reduce {
@@ -131,6 +185,103 @@ impl Reduce {
             },
             None => None,
         }
+    }
+}
+
+impl Reduce {
+    // Adds the elements to what is so far, until one faults. How many, and what all of these reduce to.
+    #[inline(always)]
+    fn more_of(&self, so_far: Option<Scalar>, elements: &[i128]) -> (usize, Option<Scalar>)
+        ensures within { result.0 ≤ length elements.now }
+        ensures reduced { reduced_ints self.now.dialect self.now.reduction so_far
+            (take result.0 elements.now) ≡ Ok result.1 }
+    {
+        let mut reduced = so_far;
+        for place in 0..elements.len() {
+            match self
+                .reduction
+                .more(self.dialect, reduced, Scalar::Int(elements[place]))
+            {
+                Ok(more) => reduced = more,
+                Err(_) => return (place, reduced),
+            }
+        }
+        (elements.len(), reduced)
+    }
+
+    // Reads flags that stand for elements, each with its element, while both are shown and no element faults. How many,
+    // and where they lead.
+    #[inline(always)]
+    fn take_elements<E: Ends>(
+        &self,
+        stage: Stage,
+        inputs: &[usize],
+        ends: &mut E,
+        most: usize,
+    ) -> (usize, Stage)
+        requires two { length inputs.now ≡ 2 }
+        requires apart { edge_of inputs.now 0 ≢ edge_of inputs.now 1 }
+        requires reads { All (λ e. (E.view ends.old).reads e ≡ true) inputs.now }
+        ensures same { E.same ends.old ends.new }
+        ensures ends { SameEnds (E.view ends.old) (E.view ends.new) }
+        ensures within { 2 * result.0 ≤ most }
+        ensures went { (outputs : List ℕ) (at : ℕ) → Went inputs.now outputs
+            (behaviour_of reduce_machine)
+            (node_state ((self.now.dialect, self.now.reduction), stage) Working at)
+            (E.view ends.old)
+            (node_state ((self.now.dialect, self.now.reduction), result.1) Working at)
+            (E.view ends.new) (2 * result.0) }
+    {
+        let (flags, elements) = (inputs[0], inputs[1]);
+        let Some(so_far) = stage.so_far(self.reduction) else {
+            return (0, stage);
+        };
+        let row = ends.ints(elements);
+        let ahead = elements_ahead(ends.flags(flags), row.len().min(most / 2));
+        let (count, more) = self.more_of(so_far, &row[..ahead]);
+        if count == 0 {
+            return (0, stage);
+        }
+        ends.skip(flags, count);
+        ends.skip(elements, count);
+        (count, Stage::Flag(more))
+    }
+
+    // Reads the flag that ends a segment and writes the segment's value, an integer, where both can be. Whether it did.
+    #[inline(always)]
+    fn end_segment<E: Ends>(
+        &self,
+        stage: Stage,
+        inputs: &[usize],
+        outputs: &[usize],
+        ends: &mut E,
+    ) -> bool
+        requires wired { IsWired inputs.now outputs.now 2 1 (E.view ends.old) }
+        ensures same { E.same ends.old ends.new }
+        ensures ends { SameEnds (E.view ends.old) (E.view ends.new) }
+        ensures ended { result ≡ true → (at : ℕ) → Went inputs.now outputs.now
+            (behaviour_of reduce_machine)
+            (node_state ((self.now.dialect, self.now.reduction), stage) Working at)
+            (E.view ends.old)
+            (node_state ((self.now.dialect, self.now.reduction), StartState) Working at)
+            (E.view ends.new) 2 }
+        ensures stays { result ≡ false → (at : ℕ) → Went inputs.now outputs.now
+            (behaviour_of reduce_machine)
+            (node_state ((self.now.dialect, self.now.reduction), stage) Working at)
+            (E.view ends.old)
+            (node_state ((self.now.dialect, self.now.reduction), stage) Working at)
+            (E.view ends.new) 0 }
+    {
+        let (flags, to) = (inputs[0], outputs[0]);
+        let Some(value) = stage.int(self.reduction) else {
+            return false;
+        };
+        if !begins_with_end(ends.flags(flags)) || ends.space(to) == 0 {
+            return false;
+        }
+        ends.put_ints(to, &[value]);
+        ends.skip(flags, 1);
+        true
     }
 }
 
@@ -200,6 +351,36 @@ impl Worker for Reduce {
 
     fn is_between(&self) -> bool {
         matches!(self.stage, Stage::Start | Stage::Flag(_))
+    }
+
+    // Each round is a row of flags with their elements, and the end of their segment with its value.
+    #[inline(always)]
+    fn blocks<E: Ends>(
+        &mut self,
+        inputs: &[usize],
+        outputs: &[usize],
+        ends: &mut E,
+        most: usize,
+    ) -> usize {
+        // Nothing is shown, or both rows come from one edge.
+        if inputs[0] == inputs[1] || ends.flags(inputs[0]).is_empty() {
+            return 0;
+        }
+        let mut stage = self.stage;
+        let mut made = 0;
+        loop {
+            let (count, reached) = self.take_elements(stage, inputs, ends, most - made);
+            stage = reached;
+            made += 2 * count;
+            if most - made >= 2 && self.end_segment(stage, inputs, outputs, ends) {
+                stage = Stage::Start;
+                made += 2;
+            } else if count == 0 {
+                break;
+            }
+        }
+        self.stage = stage;
+        made
     }
 
     // Each round is two steps: a flag with its element, or the end of a segment with its value.
