@@ -1,6 +1,6 @@
 // Reductions of segments.
 
-ghost use Rattle.std.specs.Prelude.{◌≡◌, ◌≢◌, ◌≤◌, ◌<◌, ◌*◌, ℕ, true, false, List, length, take, get_or, Some, IfSome, Ok};
+ghost use Rattle.std.specs.Prelude.{◌≡◌, ◌≢◌, ◌≤◌, ◌<◌, ◌*◌, ℕ, true, false, List, length, take, get_or, int_lt, if◌then◌else◌, Some, IfSome, Ok};
 ghost use Rattle.std.specs.List.{All};
 ghost use Rattle.std.specs.Option.{IsSomeAnd};
 ghost use Rattle.flow_messages.specs.Ends.{SameEnds};
@@ -12,6 +12,8 @@ ghost use Rattle.flow_base.specs.declared.node.Phase.TheVariants.{Working};
 ghost use Rattle.flow_scalar.specs.Scalars.{scalar_in};
 ghost use Rattle.flow_scalar.specs.ReduceMachine.{at_element, reduced_kind, reduce_machine, reduce_view};
 ghost use Rattle.flow_scalar.specs.ReduceRows.{reduced_ints, AwaitsFlag};
+ghost use Rattle.snesl_data.specs.declared.dialect.Dialect.{Dialect};
+ghost use Rattle.snesl_operators.specs.declared.operator.Reduction.TheVariants.{Sum as SumOf, Max as MaxOf};
 ghost use Rattle.snesl_operators.specs.declared.scalar.Scalar.TheVariants.{Int as IntScalar};
 ghost use Rattle.flow_scalar.specs.declared.reduce.Stage.TheVariants.{Start as StartState, Flag as FlagState};
 
@@ -19,7 +21,7 @@ use crate::scalars::{item_of, kind_of, scalar_of};
 use flow_base::{Ask, Stop, Worker, put_in_space, take_front};
 use flow_messages::{Ends, Item, Kind, Msg};
 use snesl_data::{Dialect, FaultKind};
-use snesl_operators::{Reduction, Scalar};
+use snesl_operators::{Reduction, Scalar, sum};
 use std::alloc::AllocError;
 
 /// Writes for each segment what its elements reduce to. Each segment is an instance.
@@ -145,6 +147,44 @@ fn elements_ahead(flags: &[bool], most: usize) -> usize
     least
 }
 
+// Adds the elements to the sum, until one takes it out of the range. How many, and the sum of all of these.
+#[inline(always)]
+fn sum_of(dialect: Dialect, total: i128, elements: &[i128]) -> (usize, i128)
+    ensures within { result.0 ≤ length elements.now }
+    ensures reduced { reduced_ints dialect SumOf (Some (IntScalar total))
+        (take result.0 elements.now) ≡ Ok (Some (IntScalar result.1)) }
+{
+    let mut reached = total;
+    for place in 0..elements.len() {
+        match sum(dialect, reached, elements[place]) {
+            Ok(more) => reached = more,
+            Err(_) => return (place, reached),
+        }
+    }
+    (elements.len(), reached)
+}
+
+// The greater of two integers.
+#[inline(always)]
+fn greater(m: i128, n: i128) -> i128
+    ensures { result ≡ (if int_lt m n then n else m) }
+{
+    if m < n { n } else { m }
+}
+
+// The greatest of the elements and of what came before them.
+#[inline(always)]
+fn greatest_of(before: i128, elements: &[i128]) -> i128
+    ensures { (dialect : Dialect) → reduced_ints dialect MaxOf (Some (IntScalar before))
+        elements.now ≡ Ok (Some (IntScalar result)) }
+{
+    let mut greatest = before;
+    for place in 0..elements.len() {
+        greatest = greater(greatest, elements[place]);
+    }
+    greatest
+}
+
 // Whether the first flag ends a segment.
 #[inline(always)]
 fn begins_with_end(flags: &[bool]) -> bool
@@ -196,17 +236,22 @@ impl Reduce {
         ensures reduced { reduced_ints self.now.dialect self.now.reduction so_far
             (take result.0 elements.now) ≡ Ok result.1 }
     {
-        let mut reduced = so_far;
-        for place in 0..elements.len() {
-            match self
-                .reduction
-                .more(self.dialect, reduced, Scalar::Int(elements[place]))
-            {
-                Ok(more) => reduced = more,
-                Err(_) => return (place, reduced),
+        match (self.reduction, so_far) {
+            (Reduction::Sum, Some(Scalar::Int(total))) => {
+                let (count, total) = sum_of(self.dialect, total, elements);
+                (count, Some(Scalar::Int(total)))
             }
+            (Reduction::Max, Some(Scalar::Int(greatest))) => {
+                let greatest = greatest_of(greatest, elements);
+                (elements.len(), Some(Scalar::Int(greatest)))
+            }
+            (Reduction::Max, None) if elements.len() > 0 => {
+                let greatest = greatest_of(elements[0], elements);
+                (elements.len(), Some(Scalar::Int(greatest)))
+            }
+            // Truth values are left to single steps.
+            _ => (0, so_far),
         }
-        (elements.len(), reduced)
     }
 
     // Reads flags that stand for elements, each with its element, while both are shown and no element faults. How many,
