@@ -1,12 +1,19 @@
 -- What Reduce makes of rows: flags and the elements that they stand for, and the ends of segments.
-use Rattle.std.proofs.Common.{◌≡◌, ◌≢◌, ℕ, zero, suc, ◌+◌, ◌<◌, ◌≤◌, ◌*◌, ℤ, pos, Bool, true, false, cond, eqb, List, [], ◌∷◌, ◌++◌, length, take, get_or, Option, Some, None, Result, Ok, Err, refl, sym, ◌∙◌, ap, subst, arith, inl, inr}
-use Rattle.std.proofs.lemmas.Bool.{cases_eq}
+use Rattle.std.proofs.Common.{◌≡◌, ◌≢◌, ℕ, zero, suc, ◌+◌, ◌<◌, ◌≤◌, ◌*◌, ℤ, pos, negsuc, ◌+ℤ◌, ◌≤ℤ◌, Bool, true, false, cond, eqb, List, [], ◌∷◌, ◌++◌, length, take, get_or, Option, Some, None, Result, Ok, Err, refl, sym, ◌∙◌, ap, subst, arith}
+use Rattle.std.specs.Prelude.{if◌then◌else◌}
+use Rattle.std.proofs.lemmas.Bool.Decides.{nat_tests}
+use Rattle.std.proofs.lemmas.Int.{ints}
 use mathlib.Core.List.{IsPrefix}
 use Rattle.kahn.specs.declared.want.Want.TheVariants.{Read}
 use Rattle.snesl_data.specs.declared.dialect.Dialect.{Dialect}
 use Rattle.snesl_data.specs.declared.fault.FaultKind.{FaultKind}
-use Rattle.snesl_operators.specs.Reductions.{and_then, reduced_nothing, reduced_more, reduced_all}
+use Rattle.snesl_data.specs.declared.dialect.Dialect.TheVariants.{One, Two}
+use Rattle.snesl_data.specs.declared.fault.FaultKind.TheVariants.{Overflow}
+use Rattle.snesl_data.specs.Integers.{is_integer}
+use Rattle.snesl_operators.specs.Operators.{ranged, an_integer}
+use Rattle.snesl_operators.specs.Reductions.{some_of, and_then, reduced_nothing, reduced_more, reduced_all}
 use Rattle.snesl_operators.specs.declared.operator.Reduction.{Reduction}
+use Rattle.snesl_operators.specs.declared.operator.Reduction.TheVariants.{Sum}
 use Rattle.snesl_operators.specs.declared.scalar.Scalar.{Scalar}
 use Rattle.snesl_operators.specs.declared.scalar.Scalar.TheVariants.{Int}
 use Rattle.flow_messages.specs.Cells.{Cell, flag, int}
@@ -144,3 +151,17 @@ module _ (ins outs : List ℕ) where
       let one = shifted_put ins outs (shifted_none ins outs v) 0 (carry (int n) ∷ []) u writes (ended_one (int n)) put in
       let two = shifted_skip ins outs one 0 (carry (flag true) ∷ []) w reads taken in
       went_rounds ins outs b went (end_rounds p at s n awaits) (omega arith) w two
+
+-- an integer of 64 bits lies in the range of each dialect
+pub small_ranged : (dialect : Dialect) (z : ℤ) → negsuc 9223372036854775807 ≤ℤ z → z ≤ℤ pos 9223372036854775807 → ranged dialect z ≡ Ok z
+small_ranged dialect z low high = ap (λ b. if b then Ok z else Err Overflow) (small_is dialect z low high)
+  where
+    small_is : (dialect : Dialect) (z : ℤ) → negsuc 9223372036854775807 ≤ℤ z → z ≤ℤ pos 9223372036854775807 → is_integer dialect z ≡ true
+    small_is One (pos n) low high = let le : n ≤ 9223372036854775807 = omega (arith, ints) in grind (arith, nat_tests)
+    small_is One (negsuc n) low high = let le : n ≤ 9223372036854775807 = omega (arith, ints) in grind (arith, nat_tests)
+    small_is Two (pos n) low high = let le : n ≤ 170141183460469231731687303715884105727 = omega (arith, ints) in grind (arith, nat_tests)
+    small_is Two (negsuc n) low high = let le : n ≤ 170141183460469231731687303715884105727 = omega (arith, ints) in grind (arith, nat_tests)
+
+-- a sum of 64 bits is one element more of a sum
+pub small_sum_more : (dialect : Dialect) (m x k : ℤ) → k ≡ m +ℤ x → negsuc 9223372036854775807 ≤ℤ k → k ≤ℤ pos 9223372036854775807 → reduced_more dialect Sum (Some (Int m)) (Int x) ≡ Ok (Some (Int k))
+small_sum_more dialect m x k is low high = ap (λ z. some_of (an_integer (ranged dialect z))) (sym is) ∙ ap (λ r. some_of (an_integer r)) (small_ranged dialect k low high)

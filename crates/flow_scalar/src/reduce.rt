@@ -1,6 +1,6 @@
 // Reductions of segments.
 
-ghost use Rattle.std.specs.Prelude.{◌≡◌, ◌≢◌, ◌≤◌, ◌<◌, ◌*◌, ℕ, true, false, List, length, take, get_or, int_lt, if◌then◌else◌, Some, IfSome, Ok};
+ghost use Rattle.std.specs.Prelude.{◌≡◌, ◌≢◌, ◌+ℤ◌, ◌≤◌, ◌<◌, ◌*◌, ℕ, true, false, List, length, take, get_or, int_lt, if◌then◌else◌, Some, IfSome, Ok};
 ghost use Rattle.std.specs.List.{All};
 ghost use Rattle.std.specs.Option.{IsSomeAnd};
 ghost use Rattle.flow_messages.specs.Ends.{SameEnds};
@@ -147,6 +147,34 @@ fn elements_ahead(flags: &[bool], most: usize) -> usize
     least
 }
 
+// The sum, where it and the second integer fit 64 bits as the first does.
+#[inline(always)]
+fn small_sum(m: i64, n: i128) -> Option<i64>
+    ensures { IfSome result (λ k. k ≡ m +ℤ n) }
+{
+    match i64::try_from(n) {
+        Ok(small) => m.checked_add(small),
+        Err(_) => None,
+    }
+}
+
+// As `sum_of`, while all fit 64 bits.
+#[inline(always)]
+fn small_sum_of(total: i64, elements: &[i128]) -> (usize, i64)
+    ensures within { result.0 ≤ length elements.now }
+    ensures reduced { (dialect : Dialect) → reduced_ints dialect SumOf (Some (IntScalar total))
+        (take result.0 elements.now) ≡ Ok (Some (IntScalar result.1)) }
+{
+    let mut reached = total;
+    for place in 0..elements.len() {
+        let Some(more) = small_sum(reached, elements[place]) else {
+            return (place, reached);
+        };
+        reached = more;
+    }
+    (elements.len(), reached)
+}
+
 // Adds the elements to the sum, until one takes it out of the range. How many, and the sum of all of these.
 #[inline(always)]
 fn sum_of(dialect: Dialect, total: i128, elements: &[i128]) -> (usize, i128)
@@ -154,6 +182,12 @@ fn sum_of(dialect: Dialect, total: i128, elements: &[i128]) -> (usize, i128)
     ensures reduced { reduced_ints dialect SumOf (Some (IntScalar total))
         (take result.0 elements.now) ≡ Ok (Some (IntScalar result.1)) }
 {
+    if let Ok(small) = i64::try_from(total) {
+        let (count, reached) = small_sum_of(small, elements);
+        if count > 0 {
+            return (count, reached as i128);
+        }
+    }
     let mut reached = total;
     for place in 0..elements.len() {
         match sum(dialect, reached, elements[place]) {
