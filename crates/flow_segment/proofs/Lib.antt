@@ -1,1 +1,2 @@
+mod DistRows
 mod Leading

@@ -1,6 +1,14 @@
 // An item for each element of a segment.
 
-ghost use Rattle.std.specs.Prelude.{◌≡◌};
+ghost use Rattle.std.specs.Prelude.{◌≡◌, ◌*◌, ◌<◌, ◌≤◌, ℕ, true, false, [], ◌∷◌, get_or, length, pos, replicate, IfNone, IfSome};
+ghost use Rattle.flow_messages.specs.Cells.{cell_of, is_of};
+ghost use Rattle.flow_messages.specs.Ends.{SameEnds, PutAll, TakenAll};
+ghost use Rattle.flow_messages.specs.Signals.{carry};
+ghost use Rattle.flow_messages.specs.declared.message.Kind.TheVariants.{Vec as VecKind};
+ghost use Rattle.flow_base.specs.Nodes.{behaviour_of, node_state};
+ghost use Rattle.flow_base.specs.Visits.{IsWired, Went};
+ghost use Rattle.flow_base.specs.declared.node.Phase.TheVariants.{Working};
+ghost use Rattle.flow_segment.specs.DistMachine.{dist_machine, dist_view};
 
 use crate::fronts::{flag_in_front, scalar_copy, scalar_in_front};
 use flow_base::{Ask, Stop, Worker, put_in_space, take_front};
@@ -27,6 +35,120 @@ pub struct Dist {
     copies: bool,
 }
 
+// The most copies that are put in one call.
+const BLOCK: usize = 64;
+
+// Truth values that are copied.
+const TRUES: [bool; BLOCK] = [true; BLOCK];
+
+const FALSES: [bool; BLOCK] = [false; BLOCK];
+
+// Fills so many places with the integer.
+#[inline(always)]
+fn fill(block: &mut [i128; BLOCK], value: i128, count: usize)
+    requires { count ≤ 64 }
+    ensures length { length block.new ≡ 64 }
+    ensures filled { (k : ℕ) → k < count → get_or block.new k (pos 0) ≡ value }
+{
+    for place in 0..count {
+        block[place] = value;
+    }
+}
+
+// How many flags at the front stand for elements, up to so many.
+#[inline(always)]
+fn elements_ahead(flags: &[bool], most: usize) -> usize
+    ensures most { result ≤ most }
+    ensures shown { result ≤ length flags.now }
+    ensures ahead { (k : ℕ) → k < result → get_or flags.now k true ≡ false }
+{
+    let least = most.min(flags.len());
+    for place in 0..least {
+        if flags[place] {
+            return place;
+        }
+    }
+    least
+}
+
+// Whether the flag at this place is shown and ends a segment.
+#[inline(always)]
+fn ends_at(flags: &[bool], place: usize) -> bool
+    ensures shown { result ≡ true → place < length flags.now }
+    ensures ends { result ≡ true → get_or flags.now place false ≡ true }
+{
+    place < flags.len() && flags[place]
+}
+
+// Puts so many copies of an item that is no vector.
+#[inline(always)]
+fn put_copies<E: Ends>(
+    item: &Item,
+    to: usize,
+    count: usize,
+    ends: &mut E,
+    block: &mut [i128; BLOCK],
+)
+    requires scalar { is_of VecKind (cell_of item.now) ≡ false }
+    requires block { count ≤ 64 }
+    requires writes { (E.view ends.old).writes to ≡ true }
+    requires certain { count ≤ (E.view ends.old).room to }
+    ensures same { E.same ends.old ends.new }
+    ensures put { PutAll (E.view ends.old) to (replicate count (carry (cell_of item.now)))
+        (E.view ends.new) }
+{
+    match item {
+        Item::Unit => ends.put_units(to, count),
+        Item::Bool(truth) => {
+            if *truth {
+                ends.put_flags(to, &TRUES[..count]);
+            } else {
+                ends.put_flags(to, &FALSES[..count]);
+            }
+        }
+        Item::Int(value) => {
+            fill(block, *value, count);
+            ends.put_ints(to, &block[..count]);
+        }
+        Item::Vec(_) => unreachable!(),
+    }
+}
+
+// Takes the item of this kind that is shown in front, where it is no vector.
+#[inline(always)]
+fn take_shown<E: Ends>(kind: Kind, from: usize, ends: &mut E) -> Option<Item>
+    requires reads { (E.view ends.old).reads from ≡ true }
+    ensures same { E.same ends.old ends.new }
+    ensures none { IfNone result (E.view ends.new ≡ E.view ends.old) }
+    ensures taken { IfSome result (λ item.
+        TakenAll (E.view ends.old) from (carry (cell_of item) ∷ []) (E.view ends.new)) }
+    ensures kind { IfSome result (λ item. is_of kind (cell_of item) ≡ true) }
+{
+    let item = match kind {
+        Kind::Int => {
+            let [first, ..] = ends.ints(from) else {
+                return None;
+            };
+            Item::Int(*first)
+        }
+        Kind::Bool => {
+            let [first, ..] = ends.flags(from) else {
+                return None;
+            };
+            Item::Bool(*first)
+        }
+        Kind::Unit => {
+            if ends.units(from) == 0 {
+                return None;
+            }
+            Item::Unit
+        }
+        Kind::Vec => return None,
+    };
+    ends.skip(from, 1);
+    Some(item)
+}
+
 impl Dist {
     ghost use Rattle.flow_segment.specs.DistMachine.{at_start};
 
@@ -40,6 +162,74 @@ impl Dist {
             held: None,
             copies: false,
         }
+    }
+
+    // Where no item is held, holds the next, if it is shown. How many steps it made.
+    #[inline(always)]
+    fn hold_next<E: Ends>(&mut self, inputs: &[usize], outputs: &[usize], ends: &mut E) -> usize
+        requires empty { self.old.held ≡ None }
+        requires idle { self.old.copies ≡ false }
+        requires wired { IsWired inputs.now outputs.now 2 1 (E.view ends.old) }
+        ensures idle { self.new.copies ≡ false }
+        ensures same { E.same ends.old ends.new }
+        ensures ends { SameEnds (E.view ends.old) (E.view ends.new) }
+        ensures within { result ≤ 1 }
+        ensures went { (at : ℕ) → Went inputs.now outputs.now (behaviour_of dist_machine)
+            (node_state (dist_view self.old) Working at) (E.view ends.old)
+            (node_state (dist_view self.new) Working at) (E.view ends.new) result }
+    {
+        let Some(item) = take_shown(self.kind, inputs[0], ends) else {
+            return 0;
+        };
+        self.held = Some(item);
+        1
+    }
+
+    // Where no item is held, holds the next. Otherwise writes copies for the elements of its segment that are shown, and
+    // reads the flag that ends the segment where it comes next. How many steps it made.
+    #[inline(always)]
+    fn round<E: Ends>(
+        &mut self,
+        inputs: &[usize],
+        outputs: &[usize],
+        ends: &mut E,
+        most: usize,
+        block: &mut [i128; BLOCK],
+    ) -> usize
+        requires idle { self.old.copies ≡ false }
+        requires some { 0 < most }
+        requires wired { IsWired inputs.now outputs.now 2 1 (E.view ends.old) }
+        ensures idle { self.new.copies ≡ false }
+        ensures same { E.same ends.old ends.new }
+        ensures ends { SameEnds (E.view ends.old) (E.view ends.new) }
+        ensures within { result ≤ most }
+        ensures went { (at : ℕ) → Went inputs.now outputs.now (behaviour_of dist_machine)
+            (node_state (dist_view self.old) Working at) (E.view ends.old)
+            (node_state (dist_view self.new) Working at) (E.view ends.new) result }
+    {
+        let Some(item) = &self.held else {
+            return self.hold_next(inputs, outputs, ends);
+        };
+        let (flags, to) = (inputs[1], outputs[0]);
+        if Kind::Vec.fits(item) {
+            return 0;
+        }
+        let room = ends.space(to).min(most / 2).min(BLOCK);
+        let shown = ends.flags(flags);
+        let count = elements_ahead(shown, room);
+        // The flag that ends the segment is taken with those of its elements.
+        if count < most - count && ends_at(shown, count) {
+            ends.skip(flags, count + 1);
+            put_copies(item, to, count, ends, block);
+            self.held = None;
+            return 2 * count + 1;
+        }
+        if count == 0 {
+            return 0;
+        }
+        ends.skip(flags, count);
+        put_copies(item, to, count, ends, block);
+        2 * count
     }
 }
 
@@ -116,6 +306,32 @@ impl Worker for Dist {
 
     fn is_between(&self) -> bool {
         !self.copies
+    }
+
+    // Each round is an item, or copies of it and the flag that ends its segment.
+    #[inline(always)]
+    fn blocks<E: Ends>(
+        &mut self,
+        inputs: &[usize],
+        outputs: &[usize],
+        ends: &mut E,
+        most: usize,
+    ) -> usize {
+        if self.copies || ends.flags(inputs[1]).is_empty() {
+            return 0;
+        }
+        let mut block = [0i128; BLOCK];
+        let mut made = 0;
+        'rounds: loop {
+            if made == most {
+                return made;
+            }
+            let steps = self.round(inputs, outputs, ends, most - made, &mut block);
+            if steps == 0 {
+                return made;
+            }
+            made += steps;
+        }
     }
 
     // A flag of an element is two steps, and an item or a flag that ends a segment is one.

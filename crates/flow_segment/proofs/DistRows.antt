@@ -1,0 +1,134 @@
+-- What Dist makes of rows: copies of an item for the elements of its segment.
+use Rattle.std.proofs.Common.{◌≡◌, ℕ, zero, suc, ◌+◌, ◌*◌, ◌<◌, ◌≤◌, ℤ, pos, Bool, true, false, cond, eqb, List, [], ◌∷◌, ◌++◌, length, take, get_or, Option, Some, None, Ok, refl, sym, ◌∙◌, ap, subst, arith}
+use Rattle.std.specs.Prelude.{replicate}
+use mathlib.Core.List.{IsPrefix}
+use Rattle.flow_messages.specs.Cells.{Cell, cell_of, is_of, unit, flag, int}
+use Rattle.flow_messages.specs.Ends.{View, LookedForRoom, TakenAll, PutAll}
+use Rattle.flow_messages.specs.Rows.{units_said, flags_said, ints_said}
+use Rattle.flow_messages.specs.Signals.{Signal, carry, ended}
+use Rattle.flow_messages.specs.declared.message.Item.{Item}
+use Rattle.flow_messages.specs.declared.message.Kind.{Kind}
+use Rattle.flow_base.specs.Machines.{on_kind}
+use Rattle.flow_base.specs.Nodes.{NodeState, behaviour_of, node_state}
+use Rattle.flow_base.specs.Visits.{edge_of, Went}
+use Rattle.flow_base.specs.declared.node.Phase.TheVariants.{Working}
+use Rattle.flow_base.proofs.Kernels.{went_none, went_looked, leads_on}
+use Rattle.flow_base.proofs.Rounds.{Rounds, row_then, rounds_none, rounds_read, rounds_write, rounds_then, rounds_as, shifted_none, shifted_skip, shifted_put, went_rounds, shown}
+use Rattle.flow_segment.specs.DistMachine.{Step, at_start, at_flag, at_copy, step_of, dist_machine}
+use Rattle.flow_segment.proofs.Leading.{item_leads}
+
+-- how far a worker is that holds nothing, and one that holds this item
+pub empty_at : (held : Option Item) (copies : Bool) → held ≡ None → step_of held copies ≡ at_start
+empty_at held copies none = ap (λ o. step_of o copies) none
+
+pub held_at : (held : Option Item) (copies : Bool) (item : Item) → held ≡ Some item → copies ≡ false → step_of held copies ≡ at_flag (cell_of item)
+held_at held copies item some idle = ap (λ o. step_of o copies) some ∙ ap (step_of (Some item)) idle
+
+-- places that all hold one value
+pub same_row : {A : Type 0} (x d : A) (n : ℕ) (xs : List A) → n ≤ length xs → ((k : ℕ) → k < n → get_or xs k d ≡ x) → take n xs ≡ replicate n x
+same_row x d zero xs within same = refl
+same_row x d (suc n) [] within same = absurd (omega arith)
+same_row x d (suc n) (y ∷ xs) within same =
+    let first : y ≡ x = same 0 (omega arith) in
+    let rest : take n xs ≡ replicate n x = same_row x d n xs (omega arith) (λ k h. same (suc k) (omega arith)) in
+    ap (λ z. z ∷ take n xs) first ∙ ap (λ l. x ∷ l) rest
+
+-- the flags of elements, and the flag that ends their segment
+pub segment_row : (n : ℕ) (xs : List Bool) → n < length xs → ((k : ℕ) → k < n → get_or xs k true ≡ false) → get_or xs n false ≡ true → flags_said (take (suc n) xs) ≡ flags_said (replicate n false) ++ carry (flag true) ∷ []
+segment_row n [] within same last = absurd (omega arith)
+segment_row zero (y ∷ xs) within same last = ap (λ z. carry (flag z) ∷ []) last
+segment_row (suc n) (y ∷ xs) within same last =
+    let first : y ≡ false = same 0 (omega arith) in
+    let rest = segment_row n xs (omega arith) (λ k h. same (suc k) (omega arith)) last in
+    ap (λ z. carry (flag z) ∷ flags_said (take (suc n) xs)) first ∙ ap (λ l. carry (flag false) ∷ l) rest
+
+-- rows of one value
+pub flags_same : (n : ℕ) (b : Bool) → flags_said (replicate n b) ≡ replicate n (carry (flag b))
+flags_same zero b = refl
+flags_same (suc n) b = ap (λ l. carry (flag b) ∷ l) (flags_same n b)
+
+pub ints_same : (n : ℕ) (v : ℤ) → ints_said (replicate n v) ≡ replicate n (carry (int v))
+ints_same zero v = refl
+ints_same (suc n) v = ap (λ l. carry (int v) ∷ l) (ints_same n v)
+
+-- copies have not ended
+pub ended_copies : (n : ℕ) (x : Cell) → ended (replicate n (carry x)) ≡ false
+unfolding ended
+ended_copies zero x = refl
+ended_copies (suc n) x = ended_copies n x
+
+-- what is skipped is what was shown
+pub skipped : (k : ℕ) (ms row : List Signal) (v : View) (e : ℕ) (w : View) → IsPrefix ms (v.coming e) → k ≤ length ms → take k ms ≡ row → TakenAll v e (take k (v.coming e)) w → TakenAll v e row w
+skipped k ms row v e w first within is taken = subst (λ l. TakenAll v e l w) (shown ms (v.coming e) k first within ∙ is) taken
+
+-- the first that is shown is the next that comes
+pub first_int : (xs : List ℤ) (c : List Signal) → 0 < length xs → IsPrefix (ints_said xs) c → take 1 c ≡ carry (int (get_or xs 0 (pos 0))) ∷ []
+first_int [] c some seen = absurd (omega arith)
+first_int (x ∷ xs) c some seen = shown (ints_said (x ∷ xs)) c 1 seen (omega arith)
+
+pub first_flag : (xs : List Bool) (c : List Signal) → 0 < length xs → IsPrefix (flags_said xs) c → take 1 c ≡ carry (flag (get_or xs 0 false)) ∷ []
+first_flag [] c some seen = absurd (omega arith)
+first_flag (x ∷ xs) c some seen = shown (flags_said (x ∷ xs)) c 1 seen (omega arith)
+
+pub first_unit : (n : ℕ) (c : List Signal) → (n ≡ 0 → ⊥) → IsPrefix (units_said n) c → take 1 c ≡ carry unit ∷ []
+first_unit zero c some seen = absurd (some refl)
+first_unit (suc n) c some seen = shown (units_said (suc n)) c 1 seen (omega arith)
+
+-- no message on any edge
+abbrev no_messages : List Signal
+no_messages = []
+
+row_none : (b : Bool) → no_messages ≡ cond b no_messages no_messages
+row_none true = refl
+row_none false = refl
+
+module _ (ins outs : List ℕ) (kind : Kind) (at : ℕ) where
+  abbrev on : Step → NodeState (Kind × Step)
+  on s = node_state (kind, s) Working at
+
+  -- rounds from a row of flags to a row of copies
+  abbrev Copies : Step → Step → List Signal → List Signal → ℕ → Type 0
+  Copies s t xs zs n = Rounds ins outs (behaviour_of dist_machine) (on s) (on t) (λ e. cond (eqb e (edge_of ins 1)) xs []) (λ e. cond (eqb e (edge_of outs 0)) zs []) n
+
+  -- a copy for the flag of each element
+  pub copies_rounds : (x : Cell) (n : ℕ) → Copies (at_flag x) (at_flag x) (flags_said (replicate n false)) (replicate n (carry x)) (2 * n)
+  copies_rounds x zero =
+      let b = behaviour_of dist_machine in
+      rounds_as ins outs b (rounds_none ins outs b (on (at_flag x))) (λ e. cond (eqb e (edge_of ins 1)) [] []) (λ e. cond (eqb e (edge_of outs 0)) [] []) (λ e. row_none (eqb e (edge_of ins 1))) (λ e. row_none (eqb e (edge_of outs 0)))
+  copies_rounds x (suc n) =
+      let b = behaviour_of dist_machine in
+      let reads = λ (e : ℕ). cond (eqb e (edge_of ins 1)) (flags_said (replicate (suc n) false)) [] in
+      let writes = λ (e : ℕ). cond (eqb e (edge_of outs 0)) (replicate (suc n) (carry x)) [] in
+      let one = rounds_read ins outs b (rounds_none ins outs b (on (at_flag x))) 1 (carry (flag false)) (on (at_copy x)) refl refl in
+      let two = rounds_write ins outs b one 0 x (on (at_flag x)) refl refl refl in
+      let all = rounds_as ins outs b (rounds_then ins outs b two (copies_rounds x n)) reads writes (λ e. row_then (eqb e (edge_of ins 1)) (carry (flag false) ∷ []) (flags_said (replicate n false))) (λ e. row_then (eqb e (edge_of outs 0)) (carry x ∷ []) (replicate n (carry x))) in
+      let steps : 2 + 2 * n ≡ 2 * suc n = omega arith in
+      subst (Rounds ins outs b (on (at_flag x)) (on (at_flag x)) reads writes) steps all
+
+  -- and then the flag that ends the segment
+  pub segment_rounds : (x : Cell) (n : ℕ) → Copies (at_flag x) at_start (flags_said (replicate n false) ++ carry (flag true) ∷ []) (replicate n (carry x)) (2 * n + 1)
+  segment_rounds x n =
+      let b = behaviour_of dist_machine in
+      let reads = λ (e : ℕ). cond (eqb e (edge_of ins 1)) (flags_said (replicate n false) ++ carry (flag true) ∷ []) [] in
+      let writes = λ (e : ℕ). cond (eqb e (edge_of outs 0)) (replicate n (carry x)) [] in
+      let all = rounds_read ins outs b (copies_rounds x n) 1 (carry (flag true)) (on at_start) refl refl in
+      rounds_as ins outs b all reads writes (λ e. row_then (eqb e (edge_of ins 1)) (flags_said (replicate n false)) (carry (flag true) ∷ [])) (λ e. refl)
+
+  -- rows that are taken and put are those rounds
+  pub copies_went : {t : Step} {k : ℕ} (x : Cell) (xs : List Signal) (n : ℕ) → 1 < length ins → 0 < length outs → (a v w z : View) → LookedForRoom a (edge_of outs 0) v → Copies (at_flag x) t xs (replicate n (carry x)) k → 0 < k →
+      TakenAll v (edge_of ins 1) xs w → PutAll w (edge_of outs 0) (replicate n (carry x)) z → Went ins outs (behaviour_of dist_machine) (on (at_flag x)) a (on t) z k
+  copies_went {t} {k} x xs n reads writes a v w z looked rounds some taken put =
+      let b = behaviour_of dist_machine in
+      let began = went_looked b ins outs (went_none b ins outs (on (at_flag x)) a) 0 v writes looked in
+      let one = shifted_skip ins outs (shifted_none ins outs v) 1 xs w reads taken in
+      let two = shifted_put ins outs one 0 (replicate n (carry x)) z writes (ended_copies n x) put in
+      let steps : 0 + k ≡ k = omega arith in
+      subst (Went ins outs b (on (at_flag x)) a (on t) z) steps (went_rounds ins outs b began rounds some z two)
+
+  -- an item of the kind is read
+  pub item_went : 0 < length ins → (x : Cell) → is_of kind x ≡ true → (a w : View) → TakenAll a (edge_of ins 0) (carry x ∷ []) w → Went ins outs (behaviour_of dist_machine) (on at_start) a (on (at_flag x)) w 1
+  item_went there x fits a w taken =
+      let b = behaviour_of dist_machine in
+      let leads = item_leads kind (λ i. Ok (at_flag i)) (at_flag x) x fits refl in
+      let one = rounds_read ins outs b (rounds_none ins outs b (on at_start)) 0 (carry x) (on (at_flag x)) refl (leads_on dist_machine kind at_start (at_flag x) at (on_kind kind (λ i. Ok (at_flag i))) (carry x) (λ i. refl) leads) in
+      went_rounds ins outs b (went_none b ins outs (on at_start) a) one (omega arith) w (shifted_skip ins outs (shifted_none ins outs a) 0 (carry x ∷ []) w there taken)

@@ -1,0 +1,32 @@
+use Rattle.std.proofs.Common.{◌≡◌, ℕ, ◌<◌, ◌≤◌, true, false, pos, take, get_or, to_z, of_z, sym, ◌∙◌, ap, subst, arith, rules}
+use Rattle.std.specs.Int.{w128}
+use Rattle.std.specs.Prelude.{replicate}
+use Rattle.std.proofs.lemmas.List.{take-replicate}
+use Rattle.flow_messages.specs.Cells.{cell_of, flag}
+use Rattle.flow_messages.specs.Ends.{PutAll}
+use Rattle.flow_messages.specs.Rows.{flags_said, ints_said}
+use Rattle.flow_messages.specs.Signals.{carry}
+use Rattle.flow_segment.proofs.DistRows.{same_row, flags_same, ints_same}
+use Rattle.flow_segment.proofs.dist.put_copies.Goals as goal
+
+pub returns-then-truth-clause-put : goal.returns-then-truth-clause-put
+returns-then-truth-clause-put g c =
+    let n = c.args.count in
+    let says : flags_said (take n (replicate 64 true)) ≡ replicate n (carry (cell_of c.args.item.now)) = ap flags_said (take-replicate n 64 true c.requires.block) ∙ flags_same n true ∙ ap (λ b. replicate n (carry (flag b))) (sym c.if-truth.true) ∙ ap (λ i. replicate n (carry (cell_of i))) (sym c.in-Bool.is) in
+    subst (λ ms. PutAll (g.E.Ends.view c.args.ends.now) c.args.to ms (g.E.Ends.view c.put_flags.new.self)) says c.put_flags.ensures.put
+
+pub returns-else-truth-clause-put : goal.returns-else-truth-clause-put
+returns-else-truth-clause-put g c =
+    let n = c.args.count in
+    let says : flags_said (take n (replicate 64 false)) ≡ replicate n (carry (cell_of c.args.item.now)) = ap flags_said (take-replicate n 64 false c.requires.block) ∙ flags_same n false ∙ ap (λ b. replicate n (carry (flag b))) (sym c.if-truth.false) ∙ ap (λ i. replicate n (carry (cell_of i))) (sym c.in-Bool.is) in
+    subst (λ ms. PutAll (g.E.Ends.view c.args.ends.now) c.args.to ms (g.E.Ends.view c.put_flags-else-truth.new.self)) says c.put_flags-else-truth.ensures.put
+
+pub returns-in-Int-clause-put : goal.returns-in-Int-clause-put
+returns-in-Int-clause-put g c =
+    let n = c.args.count in
+    let v = c.in-Int.value in
+    let xs = c.fill.new.block in
+    let back : to_z w128 (of_z w128 v) ≡ v = search rules in
+    let filled : (k : ℕ) → k < n → get_or xs k (pos 0) ≡ v = λ k h. c.fill.ensures.filled k h ∙ back in
+    let says : ints_said (take n xs) ≡ replicate n (carry (cell_of c.args.item.now)) = ap ints_said (same_row v (pos 0) n xs (omega (arith, c.requires.block, c.fill.ensures.length)) filled) ∙ ints_same n v ∙ ap (λ i. replicate n (carry (cell_of i))) (sym c.in-Int.is) in
+    subst (λ ms. PutAll (g.E.Ends.view c.args.ends.now) c.args.to ms (g.E.Ends.view c.put_ints.new.self)) says c.put_ints.ensures.put
