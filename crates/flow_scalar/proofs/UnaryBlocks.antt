@@ -83,7 +83,7 @@ module _ (dialect : Dialect) (op : UnaryOperator) (inputs outputs : List ℕ) (a
         let b = behaviour_of unary_machine in
         let f = edge_of inputs 0 in
         let tell = λ (k : A). carry (cell_of_scalar (said k)) in
-        let block : take n (u.coming f) ≡ values_said said (take n xs) = shown (values_said said xs) (u.coming f) n shows (omega (arith, length-map xs tell)) ∙ take-map tell n xs in
-        let first = subst (λ k. TakenAll u f k w1) block t in
+        let seen : take n (u.coming f) ≡ values_said said (take n xs) = shown (values_said said xs) (u.coming f) n shows (omega (arith, length-map xs tell)) ∙ take-map tell n xs in
+        let first = subst (λ k. TakenAll u f k w1) seen t in
         let here = went_looked b inputs outputs went 0 u writes looked in
         went_batch inputs outputs b here (block xs zs n in_xs in_zs values) (omega arith) w (shifted_put inputs outputs (shifted_skip inputs outputs (shifted_none inputs outputs u) 0 (values_said said (take n xs)) w1 reads first) 0 (values_said said (take n zs)) w writes (ended_values said (take n zs)) p)

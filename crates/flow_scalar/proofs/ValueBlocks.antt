@@ -1,4 +1,4 @@
--- Rows of the values of operators.
+-- Blocks of the values of operators.
 use Rattle.std.proofs.Common.{◌≡◌, ℕ, ◌+◌, ◌<◌, Bool, true, false, cond, List, [], ◌∷◌, ◌++◌, length, take, map, get_or, refl, sym, ◌∙◌, ap}
 use Rattle.std.proofs.lemmas.List.{take_more, map-append}
 use Rattle.snesl_operators.specs.declared.scalar.Scalar.{Scalar}

@@ -1,4 +1,4 @@
--- A constant in rows, at the ends.
+-- A constant in blocks, at the ends.
 use Rattle.std.specs.Prelude.{◌≡◌, ℕ, ◌<◌, false, List, length}
 use Rattle.snesl_operators.specs.declared.scalar.Scalar.{Scalar}
 use Rattle.flow_messages.specs.Ends.{View}

@@ -10,7 +10,7 @@ pub mod OperandLaws
 pub mod Operands
 pub mod OwnDialect
 pub mod ReduceMachine
-pub mod ReduceRows
+pub mod ReduceBlocks
 pub mod Rows
 pub mod ScalarCells
 pub mod Scalars

@@ -12,7 +12,7 @@ EachFits kind (m ∷ ms) = Leads (on_kind kind (λ _. Ok (tt {0}))) m tt × Each
 
 -- so many items of the kind are certain, one behind another
 pub record Shown (kind : Kind) (n : ℕ) (coming : List Signal) : Type 0 where
-  pub row : List Signal
-  pub first : IsPrefix row coming
-  pub long : length row ≡ n
-  pub fits : EachFits kind row
+  pub block : List Signal
+  pub first : IsPrefix block coming
+  pub long : length block ≡ n
+  pub fits : EachFits kind block

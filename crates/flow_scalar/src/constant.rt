@@ -46,7 +46,7 @@ fn ints_for_units<E: Ends>(ends: &mut E, from: usize, to: usize, number: i128, m
     ensures written { WrittenFor (Scalar.Int number) from to (E.view ends.old)
         (E.view ends.new) result }
 {
-    let row = [number; BLOCK];
+    let block = [number; BLOCK];
     let mut made = 0;
     loop {
         let room = ends.space(to);
@@ -55,7 +55,7 @@ fn ints_for_units<E: Ends>(ends: &mut E, from: usize, to: usize, number: i128, m
             return made;
         }
         ends.skip(from, count);
-        ends.put_ints(to, &row[..count]);
+        ends.put_ints(to, &block[..count]);
         made += 2 * count;
     }
 }
@@ -71,7 +71,7 @@ fn flags_for_units<E: Ends>(ends: &mut E, from: usize, to: usize, truth: bool, m
     ensures written { WrittenFor (Scalar.Bool truth) from to (E.view ends.old)
         (E.view ends.new) result }
 {
-    let row = [truth; BLOCK];
+    let block = [truth; BLOCK];
     let mut made = 0;
     loop {
         let room = ends.space(to);
@@ -80,7 +80,7 @@ fn flags_for_units<E: Ends>(ends: &mut E, from: usize, to: usize, truth: bool, m
             return made;
         }
         ends.skip(from, count);
-        ends.put_flags(to, &row[..count]);
+        ends.put_flags(to, &block[..count]);
         made += 2 * count;
     }
 }

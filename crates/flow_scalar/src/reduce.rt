@@ -11,7 +11,7 @@ ghost use Rattle.flow_base.specs.Visits.{edge_of, IsWired, Went};
 ghost use Rattle.flow_base.specs.declared.node.Phase.TheVariants.{Working};
 ghost use Rattle.flow_scalar.specs.Scalars.{scalar_in};
 ghost use Rattle.flow_scalar.specs.ReduceMachine.{at_element, reduced_kind, reduce_machine, reduce_view};
-ghost use Rattle.flow_scalar.specs.ReduceRows.{reduced_ints, AwaitsFlag};
+ghost use Rattle.flow_scalar.specs.ReduceBlocks.{reduced_ints, AwaitsFlag};
 ghost use Rattle.snesl_data.specs.declared.dialect.Dialect.{Dialect};
 ghost use Rattle.snesl_operators.specs.declared.operator.Reduction.TheVariants.{Sum as SumOf, Max as MaxOf};
 ghost use Rattle.snesl_operators.specs.declared.scalar.Scalar.TheVariants.{Int as IntScalar};
@@ -315,9 +315,9 @@ impl Reduce {
         let Some(so_far) = stage.so_far(self.reduction) else {
             return (0, stage);
         };
-        let row = ends.ints(elements);
-        let ahead = elements_ahead(ends.flags(flags), row.len().min(most / 2));
-        let (count, more) = self.more_of(so_far, &row[..ahead]);
+        let block = ends.ints(elements);
+        let ahead = elements_ahead(ends.flags(flags), block.len().min(most / 2));
+        let (count, more) = self.more_of(so_far, &block[..ahead]);
         if count == 0 {
             return (0, stage);
         }
@@ -432,7 +432,7 @@ impl Worker for Reduce {
         matches!(self.stage, Stage::Start | Stage::Flag(_))
     }
 
-    // Each round is a row of flags with their elements, and the end of their segment with its value.
+    // Each round is a block of flags with their elements, and the end of their segment with its value.
     #[inline(always)]
     fn blocks<E: Ends>(
         &mut self,
@@ -441,7 +441,7 @@ impl Worker for Reduce {
         ends: &mut E,
         most: usize,
     ) -> usize {
-        // Nothing is shown, or both rows come from one edge.
+        // Nothing is shown, or both blocks come from one edge.
         if inputs[0] == inputs[1] || ends.flags(inputs[0]).is_empty() {
             return 0;
         }

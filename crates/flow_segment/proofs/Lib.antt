@@ -1,2 +1,2 @@
-mod DistRows
+mod DistBlocks
 mod Leading

@@ -3,7 +3,7 @@ use Rattle.std.specs.Prelude.{Ok}
 use Rattle.snesl_data.specs.declared.dialect.Dialect.{Dialect}
 use Rattle.snesl_operators.specs.declared.operator.Reduction.TheVariants.{Max}
 use Rattle.snesl_operators.specs.declared.scalar.Scalar.TheVariants.{Int}
-use Rattle.flow_scalar.specs.ReduceRows.{reduced_ints}
+use Rattle.flow_scalar.specs.ReduceBlocks.{reduced_ints}
 use Rattle.flow_scalar.proofs.reduce.greatest_of.Given as goal
 
 abbrev pub invariant-loop-place : goal.invariant-loop-place

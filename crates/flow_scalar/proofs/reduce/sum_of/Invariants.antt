@@ -2,7 +2,7 @@ use Rattle.std.proofs.Common.{◌≡◌, take, Some}
 use Rattle.std.specs.Prelude.{Ok}
 use Rattle.snesl_operators.specs.declared.operator.Reduction.TheVariants.{Sum}
 use Rattle.snesl_operators.specs.declared.scalar.Scalar.TheVariants.{Int}
-use Rattle.flow_scalar.specs.ReduceRows.{reduced_ints}
+use Rattle.flow_scalar.specs.ReduceBlocks.{reduced_ints}
 use Rattle.flow_scalar.proofs.reduce.sum_of.Given as goal
 
 abbrev pub invariant-loop-place : goal.invariant-loop-place

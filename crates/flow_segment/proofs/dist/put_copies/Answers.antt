@@ -4,9 +4,9 @@ use Rattle.std.specs.Prelude.{replicate}
 use Rattle.std.proofs.lemmas.List.{take-replicate}
 use Rattle.flow_messages.specs.Cells.{cell_of, flag}
 use Rattle.flow_messages.specs.Ends.{PutAll}
-use Rattle.flow_messages.specs.Rows.{flags_said, ints_said}
+use Rattle.flow_messages.specs.Blocks.{flags_said, ints_said}
 use Rattle.flow_messages.specs.Signals.{carry}
-use Rattle.flow_segment.proofs.DistRows.{same_row, flags_same, ints_same}
+use Rattle.flow_segment.proofs.DistBlocks.{same_row, flags_same, ints_same}
 use Rattle.flow_segment.proofs.dist.put_copies.Goals as goal
 
 pub returns-then-truth-clause-put : goal.returns-then-truth-clause-put

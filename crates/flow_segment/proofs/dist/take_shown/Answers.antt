@@ -3,7 +3,7 @@ use Rattle.std.specs.Int.{w128}
 use Rattle.flow_messages.specs.Cells.{cell_of, int}
 use Rattle.flow_messages.specs.Ends.{TakenAll}
 use Rattle.flow_messages.specs.Signals.{carry}
-use Rattle.flow_segment.proofs.DistRows.{first_int, first_flag, first_unit}
+use Rattle.flow_segment.proofs.DistBlocks.{first_int, first_flag, first_unit}
 use Rattle.flow_segment.proofs.dist.take_shown.Goals.{in-Int+in-len1-up, in-Bool+in-len1-up-flags, in-Unit+else-units-eq0}
 use Rattle.flow_segment.proofs.dist.take_shown.Goals as goal
 

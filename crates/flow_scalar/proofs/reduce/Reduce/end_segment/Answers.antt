@@ -5,15 +5,15 @@ use Rattle.snesl_data.specs.declared.dialect.Dialect.{Dialect}
 use Rattle.snesl_operators.specs.declared.operator.Reduction.{Reduction}
 use Rattle.flow_messages.specs.Cells.{int}
 use Rattle.flow_messages.specs.Ends.{TakenAll, PutAll}
-use Rattle.flow_messages.specs.Rows.{flags_said}
+use Rattle.flow_messages.specs.Blocks.{flags_said}
 use Rattle.flow_messages.specs.Signals.{carry}
 use Rattle.flow_base.specs.Nodes.{behaviour_of}
 use Rattle.flow_base.specs.Visits.{edge_of, Went}
 use Rattle.flow_base.proofs.Carried.{prefix_then}
 use Rattle.flow_base.proofs.Kernels.{went_none, went_looked}
 use Rattle.flow_scalar.specs.ReduceMachine.{reduce_machine}
-use Rattle.flow_scalar.proofs.IotaRows.{coming_still}
-use Rattle.flow_scalar.proofs.ReduceRows.{stage_on, first_flag_taken, end_went}
+use Rattle.flow_scalar.proofs.IotaBlocks.{coming_still}
+use Rattle.flow_scalar.proofs.ReduceBlocks.{stage_on, first_flag_taken, end_went}
 use Rattle.flow_scalar.proofs.reduce.Reduce.end_segment.Goals.{then-not-begins_with_end-via-then-not-begins_with_end, then-not-begins_with_end-via-else-not-begins_with_end+then-space-eq0}
 use Rattle.flow_scalar.proofs.reduce.Reduce.end_segment.Goals as goal
 

@@ -8,7 +8,7 @@ use Rattle.flow_base.specs.declared.node.Phase.TheVariants.{Working}
 use Rattle.flow_base.proofs.Carried.{same_ends_refl, same_ends_then}
 use Rattle.flow_base.proofs.Kernels.{went_none, went_further}
 use Rattle.flow_scalar.specs.ReduceMachine.{reduce_machine, reduce_view}
-use Rattle.flow_scalar.proofs.ReduceRows.{stage_on, went_stays}
+use Rattle.flow_scalar.proofs.ReduceBlocks.{stage_on, went_stays}
 use Rattle.flow_scalar.proofs.reduce.ReduceWorker.blocks.Goals.{else-most-made-ge2-via-then-most-made-ge2+else-end_segment, else-most-made-ge2-via-else-most-made-ge2}
 use Rattle.flow_scalar.proofs.reduce.ReduceWorker.blocks.Goals as goal
 

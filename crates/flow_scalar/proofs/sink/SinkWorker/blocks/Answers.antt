@@ -2,7 +2,7 @@ use Rattle.std.proofs.Common.{◌<◌, length, arith}
 use Rattle.flow_base.specs.Nodes.{behaviour_of}
 use Rattle.flow_base.proofs.Kernels.{went_none}
 use Rattle.flow_scalar.specs.SinkMachine.{sink_machine}
-use Rattle.flow_scalar.proofs.SinkRows.{on, sink_went}
+use Rattle.flow_scalar.proofs.SinkBlocks.{on, sink_went}
 use Rattle.flow_scalar.proofs.sink.SinkWorker.blocks.Goals as goal
 
 -- it made no step

@@ -5,7 +5,7 @@ use Rattle.flow_base.specs.Visits.{Went}
 use Rattle.flow_base.specs.declared.node.Phase.TheVariants.{Working}
 use Rattle.flow_base.proofs.Kernels.{went_none}
 use Rattle.flow_segment.specs.DistMachine.{at_flag, dist_machine, dist_view}
-use Rattle.flow_segment.proofs.DistRows.{empty_at, held_at, item_went}
+use Rattle.flow_segment.proofs.DistBlocks.{empty_at, held_at, item_went}
 use Rattle.flow_segment.proofs.dist.Dist.hold_next.Goals as goal
 
 -- nothing is shown

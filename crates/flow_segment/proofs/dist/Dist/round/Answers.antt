@@ -1,15 +1,15 @@
 use Rattle.std.proofs.Common.{◌≡◌, ◌+◌, ◌*◌, ◌<◌, ◌≤◌, suc, true, false, [], ◌∷◌, ◌++◌, length, take, sym, ◌∙◌, ap, subst, arith}
 use Rattle.std.specs.Prelude.{replicate}
 use Rattle.flow_messages.specs.Cells.{cell_of, flag}
-use Rattle.flow_messages.specs.Rows.{flags_said}
+use Rattle.flow_messages.specs.Blocks.{flags_said}
 use Rattle.flow_messages.specs.Signals.{carry}
 use Rattle.flow_base.specs.Nodes.{behaviour_of, node_state}
 use Rattle.flow_base.specs.Visits.{edge_of, Went}
 use Rattle.flow_base.specs.declared.node.Phase.TheVariants.{Working}
 use Rattle.flow_base.proofs.Kernels.{went_none, went_looked}
-use Rattle.flow_base.proofs.Rounds.{take_flags, length_flags}
+use Rattle.flow_base.proofs.Batches.{take_flags, length_flags}
 use Rattle.flow_segment.specs.DistMachine.{at_start, at_flag, dist_machine, dist_view}
-use Rattle.flow_segment.proofs.DistRows.{held_at, same_row, segment_row, skipped, copies_rounds, segment_rounds, copies_went}
+use Rattle.flow_segment.proofs.DistBlocks.{held_at, same_row, segment_row, skipped, copies_rounds, segment_rounds, copies_went}
 use Rattle.flow_segment.proofs.dist.Dist.round.Goals as goal
 
 -- it made no step
@@ -46,8 +46,8 @@ returns-then-ends_at-clause-went g c =
     let within : n < length xs = c.ends_at.ensures.shown c.if-ends_at.true in
     let next : n + 1 ≡ suc n = omega arith in
     let flags = flags_said (replicate n false) ++ carry (flag true) ∷ [] in
-    let row : take (n + 1) (flags_said xs) ≡ flags = take_flags (n + 1) xs ∙ ap (λ k. flags_said (take k xs)) next ∙ segment_row n xs within c.elements_ahead-count.ensures.ahead (c.ends_at.ensures.ends c.if-ends_at.true) in
-    let taken = skipped (n + 1) (flags_said xs) flags v (edge_of ins 1) w c.flags-shown.ensures (omega (arith, length_flags xs)) row c.skip.ensures.taken in
+    let block : take (n + 1) (flags_said xs) ≡ flags = take_flags (n + 1) xs ∙ ap (λ k. flags_said (take k xs)) next ∙ segment_row n xs within c.elements_ahead-count.ensures.ahead (c.ends_at.ensures.ends c.if-ends_at.true) in
+    let taken = skipped (n + 1) (flags_said xs) flags v (edge_of ins 1) w c.flags-shown.ensures (omega (arith, length_flags xs)) block c.skip.ensures.taken in
     λ at.
     let went = copies_went ins outs m.kind at x flags n reads writes a v w z c.space.ensures.looked (segment_rounds ins outs m.kind at x n) (omega arith) taken c.put_copies.ensures.put in
     subst (λ q. Went ins outs b (node_state (m.kind, q) Working at) a (node_state (m.kind, at_start) Working at) z (2 * n + 1)) (sym (held_at m.held m.copies c.in-Some.item c.in-Some.is c.requires.idle)) went
@@ -71,8 +71,8 @@ returns-clause-went g c =
     let writes : 0 < length outs = omega (arith, c.requires.wired.each_output) in
     let made = c.elements_ahead-count.ensures in
     let flags = flags_said (replicate n false) in
-    let row : take n (flags_said xs) ≡ flags = take_flags n xs ∙ ap flags_said (same_row false true n xs made.shown made.ahead) in
-    let taken = skipped n (flags_said xs) flags v (edge_of ins 1) w c.flags-shown.ensures (omega (arith, length_flags xs, made.shown)) row c.skip-2.ensures.taken in
+    let block : take n (flags_said xs) ≡ flags = take_flags n xs ∙ ap flags_said (same_row false true n xs made.shown made.ahead) in
+    let taken = skipped n (flags_said xs) flags v (edge_of ins 1) w c.flags-shown.ensures (omega (arith, length_flags xs, made.shown)) block c.skip-2.ensures.taken in
     λ at.
     let went = copies_went ins outs m.kind at x flags n reads writes a v w z c.space.ensures.looked (copies_rounds ins outs m.kind at x n) (omega (arith, c.if-count-eq0.false)) taken c.put_copies-2.ensures.put in
     subst (λ q. Went ins outs b (node_state (m.kind, q) Working at) a (node_state (m.kind, q) Working at) z (2 * n)) (sym (held_at m.held m.copies c.in-Some.item c.in-Some.is c.requires.idle)) went

@@ -1,4 +1,4 @@
--- What Reduce makes of rows: flags and the elements that they stand for, and the ends of segments.
+-- What Reduce makes of blocks: flags and the elements that they stand for, and the ends of segments.
 use Rattle.std.proofs.Common.{◌≡◌, ◌≢◌, ℕ, zero, suc, ◌+◌, ◌<◌, ◌≤◌, ◌*◌, ℤ, pos, negsuc, ◌+ℤ◌, ◌≤ℤ◌, Bool, true, false, cond, eqb, List, [], ◌∷◌, ◌++◌, length, take, get_or, Option, Some, None, Result, Ok, Err, refl, sym, ◌∙◌, ap, subst, arith}
 use Rattle.std.specs.Prelude.{if◌then◌else◌}
 use Rattle.std.proofs.lemmas.Bool.Decides.{nat_tests}
@@ -18,7 +18,7 @@ use Rattle.snesl_operators.specs.declared.scalar.Scalar.{Scalar}
 use Rattle.snesl_operators.specs.declared.scalar.Scalar.TheVariants.{Int}
 use Rattle.flow_messages.specs.Cells.{Cell, flag, int}
 use Rattle.flow_messages.specs.Ends.{View, TakenAll, PutAll}
-use Rattle.flow_messages.specs.Rows.{flags_said, ints_said}
+use Rattle.flow_messages.specs.Blocks.{flags_said, ints_said}
 use Rattle.flow_messages.specs.Signals.{Signal, carry}
 use Rattle.flow_base.specs.Machines.{on_kind, taken, given_of}
 use Rattle.flow_base.specs.Nodes.{NodeState, behaviour_of, node_state, given_in}
@@ -26,14 +26,14 @@ use Rattle.flow_base.specs.Transducers.{Behaviour}
 use Rattle.flow_base.specs.Visits.{edge_of, Went}
 use Rattle.flow_base.specs.declared.node.Phase.TheVariants.{Working}
 use Rattle.flow_base.proofs.Kernels.{went_none, went_further, leads_on}
-use Rattle.flow_base.proofs.Rounds.{Rounds, rounds_none, rounds_read, rounds_write, rounds_then, rounds_as, rows_then, shifted_none, shifted_skip, shifted_put, went_rounds, shown, take_flags, take_ints, length_flags, length_ints, ended_one}
+use Rattle.flow_base.proofs.Batches.{Batch, batch_none, batch_read, batch_write, batch_then, batch_as, blocks_then, shifted_none, shifted_skip, shifted_put, went_batch, shown, take_flags, take_ints, length_flags, length_ints, ended_one}
 use Rattle.flow_scalar.specs.Scalars.{scalar_in}
 use Rattle.flow_scalar.specs.ReduceMachine.{at_flag, at_element, reduced_kind, reduce_move, reduce_machine}
-use Rattle.flow_scalar.specs.ReduceRows.{reduced_ints, AwaitsFlag}
+use Rattle.flow_scalar.specs.ReduceBlocks.{reduced_ints, AwaitsFlag}
 use Rattle.flow_scalar.specs.declared.reduce.Stage.{Stage}
 use Rattle.flow_scalar.specs.declared.reduce.Stage.TheVariants.{Start, Flag, Element, Value}
 use Rattle.flow_scalar.specs.laws.Reduce.{element_is}
-use Rattle.flow_scalar.proofs.IotaRows.{elements_row}
+use Rattle.flow_scalar.proofs.IotaBlocks.{elements_row}
 
 abbrev pub stage_on : Dialect × Reduction → ℕ → Stage → NodeState ((Dialect × Reduction) × Stage)
 stage_on p at s = node_state (p, s) Working at
@@ -93,18 +93,18 @@ awaits_takes p (Element held) so_far awaits y = absurd awaits
 awaits_takes p (Value value) so_far awaits y = absurd awaits
 
 module _ (ins outs : List ℕ) where
-  -- rows of flags and of elements
+  -- blocks of flags and of elements
   abbrev pub Elements : Dialect × Reduction → ℕ → Stage → Stage → List ℤ → Type 0
-  Elements p at s t xs = Rounds ins outs (behaviour_of reduce_machine) (stage_on p at s) (stage_on p at t) (λ e. cond (eqb e (edge_of ins 0)) (flags_said (elements_row (length xs))) [] ++ cond (eqb e (edge_of ins 1)) (ints_said xs) []) (λ e. []) (2 * length xs)
+  Elements p at s t xs = Batch ins outs (behaviour_of reduce_machine) (stage_on p at s) (stage_on p at t) (λ e. cond (eqb e (edge_of ins 0)) (flags_said (elements_row (length xs))) [] ++ cond (eqb e (edge_of ins 1)) (ints_said xs) []) (λ e. []) (2 * length xs)
 
   one_element : (p : Dialect × Reduction) (at : ℕ) (s : Stage) (so_far more : Option Scalar) (x : ℤ) → AwaitsFlag p.1 s so_far → reduced_more p.0 p.1 so_far (Int x) ≡ Ok more → Elements p at s (Flag more) (x ∷ [])
   one_element p at s so_far more x awaits is =
       let b = behaviour_of reduce_machine in
       let flagged = leads_on reduce_machine p s (Element so_far) at (at_flag so_far) (carry (flag false)) (awaits_takes p s so_far awaits) refl in
-      let one = rounds_read ins outs b (rounds_none ins outs b (stage_on p at s)) 0 (carry (flag false)) (stage_on p at (Element so_far)) (awaits_wants p s so_far at awaits) flagged in
+      let one = batch_read ins outs b (batch_none ins outs b (stage_on p at s)) 0 (carry (flag false)) (stage_on p at (Element so_far)) (awaits_wants p s so_far at awaits) flagged in
       let taking = on_kind (reduced_kind p.1) (λ k. at_element p.0 p.1 so_far (scalar_in k)) in
       let leads : taken taking (int x) ≡ Ok (Flag more) = element_is p.0 p.1 so_far (int x) ∙ ap (λ r. and_then r (λ held. Ok (Flag held))) is in
-      rounds_as ins outs b (rounds_read ins outs b one 1 (carry (int x)) (stage_on p at (Flag more)) refl (leads_on reduce_machine p (Element so_far) (Flag more) at taking (carry (int x)) (λ y. refl) leads)) _ _ (λ e. refl) (λ e. refl)
+      batch_as ins outs b (batch_read ins outs b one 1 (carry (int x)) (stage_on p at (Flag more)) refl (leads_on reduce_machine p (Element so_far) (Flag more) at taking (carry (int x)) (λ y. refl) leads)) _ _ (λ e. refl) (λ e. refl)
 
   pub elements_rounds : edge_of ins 0 ≢ edge_of ins 1 → (p : Dialect × Reduction) (at : ℕ) (more : Option Scalar) (s : Stage) (so_far : Option Scalar) (x : ℤ) (xs : List ℤ) → AwaitsFlag p.1 s so_far → reduced_ints p.0 p.1 so_far (x ∷ xs) ≡ Ok more → Elements p at s (Flag more) (x ∷ xs)
   elements_rounds apart p at more s so_far x [] awaits is = go (reduced_more p.0 p.1 so_far (Int x)) refl is
@@ -119,20 +119,20 @@ module _ (ins outs : List ℕ) where
       go (Ok held) first rest is =
           let b = behaviour_of reduce_machine in
           let reads = λ (e : ℕ). cond (eqb e (edge_of ins 0)) (flags_said (elements_row (length (x ∷ y ∷ ys)))) [] ++ cond (eqb e (edge_of ins 1)) (ints_said (x ∷ y ∷ ys)) [] in
-          let all = rounds_as ins outs b (rounds_then ins outs b (one_element p at s so_far held x awaits first) (rest held is)) reads (λ e. []) (λ e. rows_then e (edge_of ins 0) (edge_of ins 1) (carry (flag false) ∷ []) (carry (int x) ∷ []) (flags_said (elements_row (length (y ∷ ys)))) (ints_said (y ∷ ys)) apart) (λ e. refl) in
+          let all = batch_as ins outs b (batch_then ins outs b (one_element p at s so_far held x awaits first) (rest held is)) reads (λ e. []) (λ e. blocks_then e (edge_of ins 0) (edge_of ins 1) (carry (flag false) ∷ []) (carry (int x) ∷ []) (flags_said (elements_row (length (y ∷ ys)))) (ints_said (y ∷ ys)) apart) (λ e. refl) in
           let count : 2 + 2 * length (y ∷ ys) ≡ 2 * length (x ∷ y ∷ ys) = omega arith in
-          subst (Rounds ins outs b (stage_on p at s) (stage_on p at (Flag more)) reads (λ e. [])) count all
+          subst (Batch ins outs b (stage_on p at s) (stage_on p at (Flag more)) reads (λ e. [])) count all
 
   -- the end of a segment
   pub end_rounds : (p : Dialect × Reduction) (at : ℕ) (s : Stage) (n : ℤ) → AwaitsFlag p.1 s (Some (Int n)) →
-      Rounds ins outs (behaviour_of reduce_machine) (stage_on p at s) (stage_on p at Start) (λ e. cond (eqb e (edge_of ins 0)) (carry (flag true) ∷ []) []) (λ e. cond (eqb e (edge_of outs 0)) (carry (int n) ∷ []) []) 2
+      Batch ins outs (behaviour_of reduce_machine) (stage_on p at s) (stage_on p at Start) (λ e. cond (eqb e (edge_of ins 0)) (carry (flag true) ∷ []) []) (λ e. cond (eqb e (edge_of outs 0)) (carry (int n) ∷ []) []) 2
   end_rounds p at s n awaits =
       let b = behaviour_of reduce_machine in
       let flagged = leads_on reduce_machine p s (Value (Int n)) at (at_flag (Some (Int n))) (carry (flag true)) (awaits_takes p s (Some (Int n)) awaits) refl in
-      let one = rounds_read ins outs b (rounds_none ins outs b (stage_on p at s)) 0 (carry (flag true)) (stage_on p at (Value (Int n))) (awaits_wants p s (Some (Int n)) at awaits) flagged in
-      rounds_write ins outs b one 0 (int n) (stage_on p at Start) refl refl refl
+      let one = batch_read ins outs b (batch_none ins outs b (stage_on p at s)) 0 (carry (flag true)) (stage_on p at (Value (Int n))) (awaits_wants p s (Some (Int n)) at awaits) flagged in
+      batch_write ins outs b one 0 (int n) (stage_on p at Start) refl refl refl
 
-  -- rows that are skipped are those rounds
+  -- blocks that are skipped are those rounds
   pub elements_went : edge_of ins 0 ≢ edge_of ins 1 → 1 < length ins → (p : Dialect × Reduction) (at : ℕ) (more : Option Scalar) (s : Stage) (so_far : Option Scalar) (xs : List ℤ) → 0 < length xs → AwaitsFlag p.1 s so_far → reduced_ints p.0 p.1 so_far xs ≡ Ok more → (a v w : View) →
       TakenAll a (edge_of ins 0) (flags_said (elements_row (length xs))) v → TakenAll v (edge_of ins 1) (ints_said xs) w → Went ins outs (behaviour_of reduce_machine) (stage_on p at s) a (stage_on p at (Flag more)) w (2 * length xs)
   elements_went apart there p at more s so_far [] some awaits is a v w flags elements = absurd (omega arith)
@@ -140,7 +140,7 @@ module _ (ins outs : List ℕ) where
       let b = behaviour_of reduce_machine in
       let one = shifted_skip ins outs (shifted_none ins outs a) 0 (flags_said (elements_row (length (x ∷ xs)))) v (omega arith) flags in
       let two = shifted_skip ins outs one 1 (ints_said (x ∷ xs)) w there elements in
-      let all = went_rounds ins outs b (went_none b ins outs (stage_on p at s) a) (elements_rounds apart p at more s so_far x xs awaits is) (omega arith) w two in
+      let all = went_batch ins outs b (went_none b ins outs (stage_on p at s) a) (elements_rounds apart p at more s so_far x xs awaits is) (omega arith) w two in
       let count : 0 + 2 * length (x ∷ xs) ≡ 2 * length (x ∷ xs) = omega arith in
       subst (Went ins outs b (stage_on p at s) a (stage_on p at (Flag more)) w) count all
 
@@ -150,7 +150,7 @@ module _ (ins outs : List ℕ) where
       let b = behaviour_of reduce_machine in
       let one = shifted_put ins outs (shifted_none ins outs v) 0 (carry (int n) ∷ []) u writes (ended_one (int n)) put in
       let two = shifted_skip ins outs one 0 (carry (flag true) ∷ []) w reads taken in
-      went_rounds ins outs b went (end_rounds p at s n awaits) (omega arith) w two
+      went_batch ins outs b went (end_rounds p at s n awaits) (omega arith) w two
 
 -- an integer of 64 bits lies in the range of each dialect
 pub small_ranged : (dialect : Dialect) (z : ℤ) → negsuc 9223372036854775807 ≤ℤ z → z ≤ℤ pos 9223372036854775807 → ranged dialect z ≡ Ok z

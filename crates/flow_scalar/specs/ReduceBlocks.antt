@@ -1,4 +1,4 @@
--- What Reduce makes of rows of flags and integers.
+-- What Reduce makes of blocks of flags and integers.
 use Rattle.std.specs.Prelude.{◌≡◌, ℤ, List, [], ◌∷◌, Option, Result, Ok, Err}
 use Rattle.snesl_data.specs.declared.dialect.Dialect.{Dialect}
 use Rattle.snesl_data.specs.declared.fault.FaultKind.{FaultKind}

@@ -1,18 +1,18 @@
--- A constant once for each unit, over rows.
+-- A constant once for each unit, over blocks.
 use Rattle.std.proofs.Common.{◌≡◌, ℕ, ℤ, zero, suc, ◌+◌, ◌*◌, ◌<◌, ◌≤◌, Bool, true, false, List, [], ◌∷◌, take, replicate, refl, sym, ◌∙◌, ap, subst, arith}
 use Rattle.std.proofs.lemmas.List.{take-replicate}
 use Rattle.snesl_operators.specs.declared.scalar.Scalar.{Scalar}
 use Rattle.flow_messages.specs.Cells.{Cell, unit, flag, int}
 use Rattle.flow_messages.specs.Ends.{View, LookedForRoom, TakenAll, PutAll}
 use Rattle.flow_messages.specs.Signals.{Signal, carry, ended}
-use Rattle.flow_messages.specs.Rows.{units_said, flags_said, ints_said}
+use Rattle.flow_messages.specs.Blocks.{units_said, flags_said, ints_said}
 use Rattle.flow_base.specs.Nodes.{NodeState, behaviour_of, node_state}
 use Rattle.flow_base.specs.declared.node.Phase.TheVariants.{Working}
 use Rattle.flow_base.proofs.Kernels.{went_none, went_looked}
 use Rattle.flow_scalar.specs.Scalars.{cell_of_scalar}
 use Rattle.flow_scalar.specs.ConstMachine.{const_machine}
 use Rattle.flow_scalar.specs.ConstCopies.{WrittenFor}
-use Rattle.flow_scalar.proofs.SingleRows.{Singles, singles_none, singles_one, singles_more, singles_went}
+use Rattle.flow_scalar.proofs.SingleBlocks.{Singles, singles_none, singles_one, singles_more, singles_went}
 
 -- so many of an item
 abbrev pub copies : Cell → ℕ → List Signal
@@ -31,7 +31,7 @@ said_flags : (b : Bool) (count : ℕ) → flags_said (replicate count b) ≡ cop
 said_flags b zero = refl
 said_flags b (suc count) = ap (λ l. carry (flag b) ∷ l) (said_flags b count)
 
--- the first of a row of one integer or one truth value
+-- the first of a block of one integer or one truth value
 pub row_ints : (n : ℤ) (count block : ℕ) → count ≤ block → ints_said (take count (replicate block n)) ≡ copies (int n) count
 row_ints n count block within = ap ints_said (take-replicate count block n within) ∙ said_ints n count
 
@@ -66,7 +66,7 @@ module _ (k : Scalar) (from to : ℕ) where
   pub written_more : (a v u w : View) (n count : ℕ) → WrittenFor k from to a v n → 0 < count → TakenAll v from (units_said count) u → PutAll u to (copies (cell_of_scalar k) count) w → WrittenFor k from to a w (n + 2 * count)
   written_more a v u w n count written some taken put inputs outputs reads is_from writes is_to at =
       let b = behaviour_of const_machine in
-      let row = copies (cell_of_scalar k) count in
+      let block = copies (cell_of_scalar k) count in
       let here = subst (λ e. TakenAll v e (units_said count) u) (sym is_from) taken in
-      let there = subst (λ e. PutAll u e row w) (sym is_to) put in
-      singles_went inputs outputs b (units_said count) row reads writes (written inputs outputs reads is_from writes is_to at) (rounds k inputs outputs at count) (omega (arith, some)) (ended_copies (cell_of_scalar k) count) u w here there
+      let there = subst (λ e. PutAll u e block w) (sym is_to) put in
+      singles_went inputs outputs b (units_said count) block reads writes (written inputs outputs reads is_from writes is_to at) (rounds k inputs outputs at count) (omega (arith, some)) (ended_copies (cell_of_scalar k) count) u w here there

@@ -1,10 +1,10 @@
--- What Dist makes of rows: copies of an item for the elements of its segment.
+-- What Dist makes of blocks: copies of an item for the elements of its segment.
 use Rattle.std.proofs.Common.{◌≡◌, ℕ, zero, suc, ◌+◌, ◌*◌, ◌<◌, ◌≤◌, ℤ, pos, Bool, true, false, cond, eqb, List, [], ◌∷◌, ◌++◌, length, take, get_or, Option, Some, None, Ok, refl, sym, ◌∙◌, ap, subst, arith}
 use Rattle.std.specs.Prelude.{replicate}
 use mathlib.Core.List.{IsPrefix}
 use Rattle.flow_messages.specs.Cells.{Cell, cell_of, is_of, unit, flag, int}
 use Rattle.flow_messages.specs.Ends.{View, LookedForRoom, TakenAll, PutAll}
-use Rattle.flow_messages.specs.Rows.{units_said, flags_said, ints_said}
+use Rattle.flow_messages.specs.Blocks.{units_said, flags_said, ints_said}
 use Rattle.flow_messages.specs.Signals.{Signal, carry, ended}
 use Rattle.flow_messages.specs.declared.message.Item.{Item}
 use Rattle.flow_messages.specs.declared.message.Kind.{Kind}
@@ -13,7 +13,7 @@ use Rattle.flow_base.specs.Nodes.{NodeState, behaviour_of, node_state}
 use Rattle.flow_base.specs.Visits.{edge_of, Went}
 use Rattle.flow_base.specs.declared.node.Phase.TheVariants.{Working}
 use Rattle.flow_base.proofs.Kernels.{went_none, went_looked, leads_on}
-use Rattle.flow_base.proofs.Rounds.{Rounds, row_then, rounds_none, rounds_read, rounds_write, rounds_then, rounds_as, shifted_none, shifted_skip, shifted_put, went_rounds, shown}
+use Rattle.flow_base.proofs.Batches.{Batch, block_then, batch_none, batch_read, batch_write, batch_then, batch_as, shifted_none, shifted_skip, shifted_put, went_batch, shown}
 use Rattle.flow_segment.specs.DistMachine.{Step, at_start, at_flag, at_copy, step_of, dist_machine}
 use Rattle.flow_segment.proofs.Leading.{item_leads}
 
@@ -42,7 +42,7 @@ segment_row (suc n) (y ∷ xs) within same last =
     let rest = segment_row n xs (omega arith) (λ k h. same (suc k) (omega arith)) last in
     ap (λ z. carry (flag z) ∷ flags_said (take (suc n) xs)) first ∙ ap (λ l. carry (flag false) ∷ l) rest
 
--- rows of one value
+-- blocks of one value
 pub flags_same : (n : ℕ) (b : Bool) → flags_said (replicate n b) ≡ replicate n (carry (flag b))
 flags_same zero b = refl
 flags_same (suc n) b = ap (λ l. carry (flag b) ∷ l) (flags_same n b)
@@ -58,8 +58,8 @@ ended_copies zero x = refl
 ended_copies (suc n) x = ended_copies n x
 
 -- what is skipped is what was shown
-pub skipped : (k : ℕ) (ms row : List Signal) (v : View) (e : ℕ) (w : View) → IsPrefix ms (v.coming e) → k ≤ length ms → take k ms ≡ row → TakenAll v e (take k (v.coming e)) w → TakenAll v e row w
-skipped k ms row v e w first within is taken = subst (λ l. TakenAll v e l w) (shown ms (v.coming e) k first within ∙ is) taken
+pub skipped : (k : ℕ) (ms block : List Signal) (v : View) (e : ℕ) (w : View) → IsPrefix ms (v.coming e) → k ≤ length ms → take k ms ≡ block → TakenAll v e (take k (v.coming e)) w → TakenAll v e block w
+skipped k ms block v e w first within is taken = subst (λ l. TakenAll v e l w) (shown ms (v.coming e) k first within ∙ is) taken
 
 -- the first that is shown is the next that comes
 pub first_int : (xs : List ℤ) (c : List Signal) → 0 < length xs → IsPrefix (ints_said xs) c → take 1 c ≡ carry (int (get_or xs 0 (pos 0))) ∷ []
@@ -86,24 +86,24 @@ module _ (ins outs : List ℕ) (kind : Kind) (at : ℕ) where
   abbrev on : Step → NodeState (Kind × Step)
   on s = node_state (kind, s) Working at
 
-  -- rounds from a row of flags to a row of copies
+  -- rounds from a block of flags to a block of copies
   abbrev Copies : Step → Step → List Signal → List Signal → ℕ → Type 0
-  Copies s t xs zs n = Rounds ins outs (behaviour_of dist_machine) (on s) (on t) (λ e. cond (eqb e (edge_of ins 1)) xs []) (λ e. cond (eqb e (edge_of outs 0)) zs []) n
+  Copies s t xs zs n = Batch ins outs (behaviour_of dist_machine) (on s) (on t) (λ e. cond (eqb e (edge_of ins 1)) xs []) (λ e. cond (eqb e (edge_of outs 0)) zs []) n
 
   -- a copy for the flag of each element
   pub copies_rounds : (x : Cell) (n : ℕ) → Copies (at_flag x) (at_flag x) (flags_said (replicate n false)) (replicate n (carry x)) (2 * n)
   copies_rounds x zero =
       let b = behaviour_of dist_machine in
-      rounds_as ins outs b (rounds_none ins outs b (on (at_flag x))) (λ e. cond (eqb e (edge_of ins 1)) [] []) (λ e. cond (eqb e (edge_of outs 0)) [] []) (λ e. row_none (eqb e (edge_of ins 1))) (λ e. row_none (eqb e (edge_of outs 0)))
+      batch_as ins outs b (batch_none ins outs b (on (at_flag x))) (λ e. cond (eqb e (edge_of ins 1)) [] []) (λ e. cond (eqb e (edge_of outs 0)) [] []) (λ e. row_none (eqb e (edge_of ins 1))) (λ e. row_none (eqb e (edge_of outs 0)))
   copies_rounds x (suc n) =
       let b = behaviour_of dist_machine in
       let reads = λ (e : ℕ). cond (eqb e (edge_of ins 1)) (flags_said (replicate (suc n) false)) [] in
       let writes = λ (e : ℕ). cond (eqb e (edge_of outs 0)) (replicate (suc n) (carry x)) [] in
-      let one = rounds_read ins outs b (rounds_none ins outs b (on (at_flag x))) 1 (carry (flag false)) (on (at_copy x)) refl refl in
-      let two = rounds_write ins outs b one 0 x (on (at_flag x)) refl refl refl in
-      let all = rounds_as ins outs b (rounds_then ins outs b two (copies_rounds x n)) reads writes (λ e. row_then (eqb e (edge_of ins 1)) (carry (flag false) ∷ []) (flags_said (replicate n false))) (λ e. row_then (eqb e (edge_of outs 0)) (carry x ∷ []) (replicate n (carry x))) in
+      let one = batch_read ins outs b (batch_none ins outs b (on (at_flag x))) 1 (carry (flag false)) (on (at_copy x)) refl refl in
+      let two = batch_write ins outs b one 0 x (on (at_flag x)) refl refl refl in
+      let all = batch_as ins outs b (batch_then ins outs b two (copies_rounds x n)) reads writes (λ e. block_then (eqb e (edge_of ins 1)) (carry (flag false) ∷ []) (flags_said (replicate n false))) (λ e. block_then (eqb e (edge_of outs 0)) (carry x ∷ []) (replicate n (carry x))) in
       let steps : 2 + 2 * n ≡ 2 * suc n = omega arith in
-      subst (Rounds ins outs b (on (at_flag x)) (on (at_flag x)) reads writes) steps all
+      subst (Batch ins outs b (on (at_flag x)) (on (at_flag x)) reads writes) steps all
 
   -- and then the flag that ends the segment
   pub segment_rounds : (x : Cell) (n : ℕ) → Copies (at_flag x) at_start (flags_said (replicate n false) ++ carry (flag true) ∷ []) (replicate n (carry x)) (2 * n + 1)
@@ -111,10 +111,10 @@ module _ (ins outs : List ℕ) (kind : Kind) (at : ℕ) where
       let b = behaviour_of dist_machine in
       let reads = λ (e : ℕ). cond (eqb e (edge_of ins 1)) (flags_said (replicate n false) ++ carry (flag true) ∷ []) [] in
       let writes = λ (e : ℕ). cond (eqb e (edge_of outs 0)) (replicate n (carry x)) [] in
-      let all = rounds_read ins outs b (copies_rounds x n) 1 (carry (flag true)) (on at_start) refl refl in
-      rounds_as ins outs b all reads writes (λ e. row_then (eqb e (edge_of ins 1)) (flags_said (replicate n false)) (carry (flag true) ∷ [])) (λ e. refl)
+      let all = batch_read ins outs b (copies_rounds x n) 1 (carry (flag true)) (on at_start) refl refl in
+      batch_as ins outs b all reads writes (λ e. block_then (eqb e (edge_of ins 1)) (flags_said (replicate n false)) (carry (flag true) ∷ [])) (λ e. refl)
 
-  -- rows that are taken and put are those rounds
+  -- blocks that are taken and put are those rounds
   pub copies_went : {t : Step} {k : ℕ} (x : Cell) (xs : List Signal) (n : ℕ) → 1 < length ins → 0 < length outs → (a v w z : View) → LookedForRoom a (edge_of outs 0) v → Copies (at_flag x) t xs (replicate n (carry x)) k → 0 < k →
       TakenAll v (edge_of ins 1) xs w → PutAll w (edge_of outs 0) (replicate n (carry x)) z → Went ins outs (behaviour_of dist_machine) (on (at_flag x)) a (on t) z k
   copies_went {t} {k} x xs n reads writes a v w z looked rounds some taken put =
@@ -123,12 +123,12 @@ module _ (ins outs : List ℕ) (kind : Kind) (at : ℕ) where
       let one = shifted_skip ins outs (shifted_none ins outs v) 1 xs w reads taken in
       let two = shifted_put ins outs one 0 (replicate n (carry x)) z writes (ended_copies n x) put in
       let steps : 0 + k ≡ k = omega arith in
-      subst (Went ins outs b (on (at_flag x)) a (on t) z) steps (went_rounds ins outs b began rounds some z two)
+      subst (Went ins outs b (on (at_flag x)) a (on t) z) steps (went_batch ins outs b began rounds some z two)
 
   -- an item of the kind is read
   pub item_went : 0 < length ins → (x : Cell) → is_of kind x ≡ true → (a w : View) → TakenAll a (edge_of ins 0) (carry x ∷ []) w → Went ins outs (behaviour_of dist_machine) (on at_start) a (on (at_flag x)) w 1
   item_went there x fits a w taken =
       let b = behaviour_of dist_machine in
       let leads = item_leads kind (λ i. Ok (at_flag i)) (at_flag x) x fits refl in
-      let one = rounds_read ins outs b (rounds_none ins outs b (on at_start)) 0 (carry x) (on (at_flag x)) refl (leads_on dist_machine kind at_start (at_flag x) at (on_kind kind (λ i. Ok (at_flag i))) (carry x) (λ i. refl) leads) in
-      went_rounds ins outs b (went_none b ins outs (on at_start) a) one (omega arith) w (shifted_skip ins outs (shifted_none ins outs a) 0 (carry x ∷ []) w there taken)
+      let one = batch_read ins outs b (batch_none ins outs b (on at_start)) 0 (carry x) (on (at_flag x)) refl (leads_on dist_machine kind at_start (at_flag x) at (on_kind kind (λ i. Ok (at_flag i))) (carry x) (λ i. refl) leads) in
+      went_batch ins outs b (went_none b ins outs (on at_start) a) one (omega arith) w (shifted_skip ins outs (shifted_none ins outs a) 0 (carry x ∷ []) w there taken)

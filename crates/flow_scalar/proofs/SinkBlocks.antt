@@ -1,9 +1,9 @@
--- Rows that nothing is written for.
+-- Blocks that nothing is written for.
 use Rattle.std.proofs.Common.{◌≡◌, ℕ, ℤ, zero, suc, ◌+◌, ◌<◌, ◌≤◌, Bool, Ok, List, [], ◌∷◌, length, take, refl, subst, arith}
 use Rattle.std.proofs.lemmas.List.{length-take-le}
 use Rattle.flow_messages.specs.Ends.{View, TakenAll}
 use Rattle.flow_messages.specs.Signals.{Signal}
-use Rattle.flow_messages.specs.Rows.{units_said, flags_said, ints_said}
+use Rattle.flow_messages.specs.Blocks.{units_said, flags_said, ints_said}
 use Rattle.flow_messages.specs.declared.message.Kind.{Kind}
 use Rattle.flow_messages.specs.declared.message.Kind.TheVariants.{Unit as UnitKind, Bool as BoolKind, Int as IntKind}
 use Rattle.flow_base.specs.Machines.{on_kind}
@@ -13,7 +13,7 @@ use Rattle.flow_base.specs.declared.node.Phase.TheVariants.{Working}
 use Rattle.flow_base.proofs.Kernels.{leads_on, went_none}
 use Rattle.flow_scalar.specs.SinkMachine.{sink_machine}
 use Rattle.flow_scalar.specs.SinkShown.{EachFits, Shown}
-use Rattle.flow_scalar.proofs.SingleRows.{Swallows, swallows_none, swallows_one, swallows_more, swallows_went, skipped}
+use Rattle.flow_scalar.proofs.SingleBlocks.{Swallows, swallows_none, swallows_one, swallows_more, swallows_went, skipped}
 
 -- items of one kind fit
 pub fit_units : (n : ℕ) → EachFits UnitKind (units_said n)
@@ -28,30 +28,30 @@ pub fit_ints : (ns : List ℤ) → EachFits IntKind (ints_said ns)
 fit_ints [] = tt
 fit_ints (n ∷ ns) = (refl, fit_ints ns)
 
-fit_first : (kind : Kind) (n : ℕ) (row : List Signal) → EachFits kind row → EachFits kind (take n row)
-fit_first kind zero row fits = tt
+fit_first : (kind : Kind) (n : ℕ) (block : List Signal) → EachFits kind block → EachFits kind (take n block)
+fit_first kind zero block fits = tt
 fit_first kind (suc n) [] fits = tt
-fit_first kind (suc n) (m ∷ row) (fits, more) = (fits, fit_first kind n row more)
+fit_first kind (suc n) (m ∷ block) (fits, more) = (fits, fit_first kind n block more)
 
 module _ (inputs outputs : List ℕ) (kind : Kind) (at : ℕ) where
   abbrev pub on : NodeState (Kind × Unit {0})
   on = node_state (kind, tt) Working at
 
   -- each item is a step
-  rounds : (row : List Signal) → EachFits kind row → Swallows inputs outputs (behaviour_of sink_machine) on on row (length row)
+  rounds : (block : List Signal) → EachFits kind block → Swallows inputs outputs (behaviour_of sink_machine) on on block (length block)
   rounds [] fits = swallows_none inputs outputs (behaviour_of sink_machine) on
-  rounds (m ∷ row) (fits, more) =
+  rounds (m ∷ block) (fits, more) =
       let b = behaviour_of sink_machine in
       let one = swallows_one inputs outputs b on on m refl (leads_on sink_machine kind tt tt at (on_kind kind (λ _. Ok tt)) m (λ y. refl) fits) in
-      let steps : 1 + length row ≡ length (m ∷ row) = omega arith in
-      subst (Swallows inputs outputs b on on (m ∷ row)) steps (swallows_more inputs outputs b (m ∷ []) row one (rounds row more))
+      let steps : 1 + length block ≡ length (m ∷ block) = omega arith in
+      subst (Swallows inputs outputs b on on (m ∷ block)) steps (swallows_more inputs outputs b (m ∷ []) block one (rounds block more))
 
   -- what was shown is skipped
   pub sink_went : (a w : View) (n count : ℕ) → 0 < length inputs → Shown kind n (a.coming (edge_of inputs 0)) → count ≤ n → 0 < count → TakenAll a (edge_of inputs 0) (take count (a.coming (edge_of inputs 0))) w → Went inputs outputs (behaviour_of sink_machine) on a on w count
   sink_went a w n count reads shown within some taken =
       let b = behaviour_of sink_machine in
-      let row = take count shown.row in
-      let long : length row ≡ count = length-take-le count shown.row (omega (arith, within, shown.long)) in
-      let took = skipped count shown.row row a (edge_of inputs 0) w shown.first (omega (arith, within, shown.long)) refl taken in
-      let steps : 0 + length row ≡ count = omega (arith, long) in
-      subst (Went inputs outputs b on a on w) steps (swallows_went inputs outputs b row reads (went_none b inputs outputs on a) (rounds row (fit_first kind count shown.row shown.fits)) (omega (arith, long, some)) w took)
+      let block = take count shown.block in
+      let long : length block ≡ count = length-take-le count shown.block (omega (arith, within, shown.long)) in
+      let took = skipped count shown.block block a (edge_of inputs 0) w shown.first (omega (arith, within, shown.long)) refl taken in
+      let steps : 0 + length block ≡ count = omega (arith, long) in
+      subst (Went inputs outputs b on a on w) steps (swallows_went inputs outputs b block reads (went_none b inputs outputs on a) (rounds block (fit_first kind count shown.block shown.fits)) (omega (arith, long, some)) w took)
