@@ -159,8 +159,8 @@ fn put_units_on_each<E: Ends>(ends: &mut E, outputs: &[usize], count: usize)
     requires room { (q : ℕ) → q < length outputs.now →
         count ≤ (E.view ends.old).room (edge_of outputs.now q) }
     ensures same { E.same ends.old ends.new }
-    ensures put { PutOnEach outputs.now (length outputs.now) (units_said count) (E.view ends.old)
-        (E.view ends.new) }
+    ensures put { PutOnEach outputs.now (length outputs.now) (units_said count)
+        (E.view ends.old) (E.view ends.new) }
 {
     for port in 0..outputs.len() {
         ends.put_units(outputs[port], count);
@@ -176,8 +176,8 @@ fn put_flags_on_each<E: Ends>(ends: &mut E, outputs: &[usize], flags: &[bool])
     requires room { (q : ℕ) → q < length outputs.now →
         length flags.now ≤ (E.view ends.old).room (edge_of outputs.now q) }
     ensures same { E.same ends.old ends.new }
-    ensures put { PutOnEach outputs.now (length outputs.now) (flags_said flags.now) (E.view ends.old)
-        (E.view ends.new) }
+    ensures put { PutOnEach outputs.now (length outputs.now) (flags_said flags.now)
+        (E.view ends.old) (E.view ends.new) }
 {
     for port in 0..outputs.len() {
         ends.put_flags(outputs[port], flags);
@@ -193,8 +193,8 @@ fn put_ints_on_each<E: Ends>(ends: &mut E, outputs: &[usize], ints: &[i128])
     requires room { (q : ℕ) → q < length outputs.now →
         length ints.now ≤ (E.view ends.old).room (edge_of outputs.now q) }
     ensures same { E.same ends.old ends.new }
-    ensures put { PutOnEach outputs.now (length outputs.now) (ints_said ints.now) (E.view ends.old)
-        (E.view ends.new) }
+    ensures put { PutOnEach outputs.now (length outputs.now) (ints_said ints.now)
+        (E.view ends.old) (E.view ends.new) }
 {
     for port in 0..outputs.len() {
         ends.put_ints(outputs[port], ints);

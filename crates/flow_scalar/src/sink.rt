@@ -117,12 +117,16 @@ impl Worker for Sink {
         most: usize,
     ) -> usize {
         let from = inputs[0];
-        let count = shown_of(ends, from, self.kind).min(most);
-        if count == 0 {
-            return 0;
+        let mut taken = 0;
+        while taken < most {
+            let count = shown_of(ends, from, self.kind).min(most - taken);
+            if count == 0 {
+                return taken;
+            }
+            ends.skip(from, count);
+            taken += count;
         }
-        ends.skip(from, count);
-        count
+        taken
     }
 
     #[inline(always)]

@@ -119,22 +119,26 @@ impl Worker for UnitsOf {
         ends: &mut E,
         most: usize,
     ) -> usize {
+        if self.due {
+            return 0;
+        }
         let from = inputs[0];
-        // Where no flags are shown, the output is not looked at.
-        if self.due || ends.flags(from).is_empty() {
-            return 0;
-        }
         let to = outputs[0];
-        let room = ends.space(to);
-        let flags = ends.flags(from);
-        let whole = flags.len().min(room).min(most / 2);
-        if whole == 0 {
-            return 0;
+        let mut steps = 0;
+        // Where no flags are shown, the output is not looked at.
+        while !ends.flags(from).is_empty() {
+            let room = ends.space(to);
+            let flags = ends.flags(from);
+            let whole = flags.len().min(room).min((most - steps) / 2);
+            if whole == 0 {
+                return steps;
+            }
+            let units = elements_in(&flags[..whole]);
+            ends.skip(from, whole);
+            ends.put_units(to, units);
+            steps += whole + units;
         }
-        let units = elements_in(&flags[..whole]);
-        ends.skip(from, whole);
-        ends.put_units(to, units);
-        whole + units
+        steps
     }
 
     // A flag of an element is two steps, and one that ends a segment is one.
