@@ -43,15 +43,14 @@ const TRUES: [bool; BLOCK] = [true; BLOCK];
 
 const FALSES: [bool; BLOCK] = [false; BLOCK];
 
-// Fills so many places with the integer.
+// Puts the integer in each place.
 #[inline(always)]
-fn fill(block: &mut [i128; BLOCK], value: i128, count: usize)
-    requires { count ≤ 64 }
-    ensures length { length block.new ≡ 64 }
-    ensures filled { (k : ℕ) → k < count → get_or block.new k (pos 0) ≡ value }
+fn fill(places: &mut [i128], value: i128)
+    ensures length { length places.new ≡ length places.old }
+    ensures filled { (k : ℕ) → k < length places.old → get_or places.new k (pos 0) ≡ value }
 {
-    for place in 0..count {
-        block[place] = value;
+    for place in 0..places.len() {
+        places[place] = value;
     }
 }
 
@@ -107,8 +106,9 @@ fn put_copies<E: Ends>(
             }
         }
         Item::Int(value) => {
-            fill(block, *value, count);
-            ends.put_ints(to, &block[..count]);
+            let copies = &mut block[..count];
+            fill(copies, *value);
+            ends.put_ints(to, copies);
         }
         Item::Vec(_) => unreachable!(),
     }
@@ -318,6 +318,9 @@ impl Worker for Dist {
         most: usize,
     ) -> usize {
         if self.copies || ends.flags(inputs[1]).is_empty() {
+            return 0;
+        }
+        if let Kind::Vec = self.kind {
             return 0;
         }
         let mut block = [0i128; BLOCK];

@@ -3,6 +3,6 @@ use Rattle.flow_segment.proofs.dist.fill.Given as goal
 
 abbrev pub invariant-loop-place : goal.invariant-loop-place
 invariant-loop-place l = record {
-  length : length l.block ≡ 64;
-  filled : (k : ℕ) → k < l.place → get_or l.block k (pos 0) ≡ l.value;
+  length : length l.places ≡ length l.fn.places;
+  filled : (k : ℕ) → k < l.place → get_or l.places k (pos 0) ≡ l.value;
 }

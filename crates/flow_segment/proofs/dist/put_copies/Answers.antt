@@ -1,7 +1,7 @@
-use Rattle.std.proofs.Common.{◌≡◌, ℕ, ◌<◌, ◌≤◌, true, false, pos, take, get_or, to_z, of_z, sym, ◌∙◌, ap, subst, arith, rules}
+use Rattle.std.proofs.Common.{◌≡◌, ℕ, ◌<◌, ◌≤◌, true, false, pos, length, take, get_or, to_z, of_z, sym, ◌∙◌, ap, subst, arith, rules}
 use Rattle.std.specs.Int.{w128}
 use Rattle.std.specs.Prelude.{replicate}
-use Rattle.std.proofs.lemmas.List.{take-replicate}
+use Rattle.std.proofs.lemmas.List.{take-replicate, take_all, length-take-le}
 use Rattle.flow_messages.specs.Cells.{cell_of, flag}
 use Rattle.flow_messages.specs.Ends.{PutAll}
 use Rattle.flow_messages.specs.Blocks.{flags_said, ints_said}
@@ -25,8 +25,12 @@ pub returns-in-Int-clause-put : goal.returns-in-Int-clause-put
 returns-in-Int-clause-put g c =
     let n = c.args.count in
     let v = c.in-Int.value in
-    let xs = c.fill.new.block in
+    let xs = c.fill.new.places in
     let back : to_z w128 (of_z w128 v) ≡ v = search rules in
-    let filled : (k : ℕ) → k < n → get_or xs k (pos 0) ≡ v = λ k h. c.fill.ensures.filled k h ∙ back in
-    let says : ints_said (take n xs) ≡ replicate n (carry (cell_of c.args.item.now)) = ap ints_said (same_row v (pos 0) n xs (omega (arith, c.requires.block, c.fill.ensures.length)) filled) ∙ ints_same n v ∙ ap (λ i. replicate n (carry (cell_of i))) (sym c.in-Int.is) in
+    let block : length c.args.block.now ≡ 64 = c.told-block in
+    let part : length (take n c.args.block.now) ≡ n = length-take-le n c.args.block.now (omega (arith, c.requires.block)) in
+    let long : length xs ≡ n = c.fill.ensures.length ∙ part in
+    let filled : (k : ℕ) → k < n → get_or xs k (pos 0) ≡ v = λ k h. c.fill.ensures.filled k (omega arith) ∙ back in
+    let same : xs ≡ replicate n v = sym (take_all n xs (omega arith)) ∙ same_row v (pos 0) n xs (omega arith) filled in
+    let says : ints_said xs ≡ replicate n (carry (cell_of c.args.item.now)) = ap ints_said same ∙ ints_same n v ∙ ap (λ i. replicate n (carry (cell_of i))) (sym c.in-Int.is) in
     subst (λ ms. PutAll (g.E.Ends.view c.args.ends.now) c.args.to ms (g.E.Ends.view c.put_ints.new.self)) says c.put_ints.ensures.put
