@@ -1,4 +1,4 @@
-use Rattle.std.proofs.Common.{◌≡◌, pos, false, [], ◌∷◌, get_or, to_z, of_z, sym, ◌∙◌, ap, subst, arith, rules}
+use Rattle.std.proofs.Common.{◌≡◌, pos, [], ◌∷◌, get_or, to_z, of_z, sym, ◌∙◌, ap, subst, rules}
 use Rattle.std.specs.Int.{w128}
 use Rattle.flow_messages.specs.Cells.{cell_of, int}
 use Rattle.flow_messages.specs.Ends.{TakenAll}

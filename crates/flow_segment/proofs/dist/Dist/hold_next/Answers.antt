@@ -1,4 +1,4 @@
-use Rattle.std.proofs.Common.{◌≡◌, ◌<◌, length, Some, refl, sym, subst, arith}
+use Rattle.std.proofs.Common.{◌<◌, length, Some, refl, sym, subst, arith}
 use Rattle.flow_messages.specs.Cells.{cell_of}
 use Rattle.flow_base.specs.Nodes.{behaviour_of, node_state}
 use Rattle.flow_base.specs.Visits.{Went}

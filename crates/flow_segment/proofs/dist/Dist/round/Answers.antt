@@ -1,4 +1,4 @@
-use Rattle.std.proofs.Common.{◌≡◌, ◌+◌, ◌*◌, ◌<◌, ◌≤◌, suc, true, false, [], ◌∷◌, ◌++◌, length, take, sym, ◌∙◌, ap, subst, arith}
+use Rattle.std.proofs.Common.{◌≡◌, ◌+◌, ◌*◌, ◌<◌, suc, true, false, [], ◌∷◌, ◌++◌, length, take, sym, ◌∙◌, ap, subst, arith}
 use Rattle.std.specs.Prelude.{replicate}
 use Rattle.flow_messages.specs.Cells.{cell_of, flag}
 use Rattle.flow_messages.specs.Blocks.{flags_said}
@@ -10,6 +10,9 @@ use Rattle.flow_base.proofs.Kernels.{went_none, went_looked}
 use Rattle.flow_base.proofs.Batches.{take_flags, length_flags}
 use Rattle.flow_segment.specs.DistMachine.{at_start, at_flag, dist_machine, dist_view}
 use Rattle.flow_segment.proofs.DistBlocks.{held_at, same_row, segment_row, skipped, copies_rounds, segment_rounds, copies_went}
+use Rattle.flow_base.proofs.Rounds.{take_flags, length_flags}
+use Rattle.flow_segment.specs.DistMachine.{at_start, dist_machine, dist_view}
+use Rattle.flow_segment.proofs.DistRows.{held_at, same_row, segment_row, skipped, copies_rounds, segment_rounds, copies_went}
 use Rattle.flow_segment.proofs.dist.Dist.round.Goals as goal
 
 -- it made no step

@@ -1,4 +1,4 @@
-use Rattle.std.proofs.Common.{◌≡◌, ◌+◌, ap, subst, arith, sym, ◌∙◌}
+use Rattle.std.proofs.Common.{◌≡◌, ◌+◌, subst, arith}
 use Rattle.flow_base.specs.Nodes.{behaviour_of, node_state}
 use Rattle.flow_base.specs.Visits.{Went}
 use Rattle.flow_base.specs.declared.node.Phase.TheVariants.{Working}
