@@ -214,7 +214,7 @@ impl Dist {
         if Kind::Vec.fits(item) {
             return 0;
         }
-        let room = ends.space(to).min(most / 2).min(BLOCK);
+        let room = ends.space(to).min(BLOCK).min(most / 2);
         let shown = ends.flags(flags);
         let count = elements_ahead(shown, room);
         // The flag that ends the segment is taken with those of its elements.
