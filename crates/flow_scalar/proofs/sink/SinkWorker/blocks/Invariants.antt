@@ -3,7 +3,7 @@ use Rattle.flow_messages.specs.Ends.{SameEnds}
 use Rattle.flow_base.specs.Nodes.{behaviour_of}
 use Rattle.flow_base.specs.Visits.{Went}
 use Rattle.flow_scalar.specs.SinkMachine.{sink_machine}
-use Rattle.flow_scalar.proofs.SinkRows.{on}
+use Rattle.flow_scalar.proofs.SinkBlocks.{on}
 use Rattle.flow_scalar.proofs.sink.SinkWorker.blocks.Given as goal
 
 -- the items so far, one in each step
