@@ -1,6 +1,4 @@
 -- What Dist makes of blocks: copies of an item for the elements of its segment.
-use Rattle.std.proofs.Common.{◌≡◌, ℕ, zero, suc, ◌+◌, ◌*◌, ◌<◌, ◌≤◌, ℤ, pos, Bool, true, false, cond, eqb, List, [], ◌∷◌, ◌++◌, length, take, get_or, Option, Some, None, Ok, refl, sym, ◌∙◌, ap, subst, arith}
--- What Dist makes of blocks: copies of an item for the elements of its segment.
 use Rattle.std.proofs.Common.{◌≡◌, ℕ, zero, suc, ◌+◌, ◌*◌, ◌<◌, ◌≤◌, ℤ, pos, Bool, true, false, cond, eqb, List, [], ◌∷◌, ◌++◌, length, take, get_or, Option, Some, None, Ok, refl, ◌∙◌, ap, subst, arith}
 use Rattle.std.specs.Prelude.{replicate}
 use mathlib.Core.List.{IsPrefix}

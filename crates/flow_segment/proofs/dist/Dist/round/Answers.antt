@@ -8,9 +8,6 @@ use Rattle.flow_base.specs.Visits.{edge_of, Went}
 use Rattle.flow_base.specs.declared.node.Phase.TheVariants.{Working}
 use Rattle.flow_base.proofs.Kernels.{went_none, went_looked}
 use Rattle.flow_base.proofs.Batches.{take_flags, length_flags}
-use Rattle.flow_segment.specs.DistMachine.{at_start, at_flag, dist_machine, dist_view}
-use Rattle.flow_segment.proofs.DistBlocks.{held_at, same_row, segment_row, skipped, copies_rounds, segment_rounds, copies_went}
-use Rattle.flow_base.proofs.Batches.{take_flags, length_flags}
 use Rattle.flow_segment.specs.DistMachine.{at_start, dist_machine, dist_view}
 use Rattle.flow_segment.proofs.DistBlocks.{held_at, same_row, segment_row, skipped, copies_rounds, segment_rounds, copies_went}
 use Rattle.flow_segment.proofs.dist.Dist.round.Goals as goal
