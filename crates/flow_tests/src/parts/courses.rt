@@ -226,7 +226,9 @@ fn goes_in_blocks<E: CountedEnds>(ends: &mut E, edge: usize, block: Block) -> bo
 {
     let (writes, reads) = (ends.has_writer(edge), ends.has_reader(edge));
     match block {
-        Block::PutsUnits(count) if writes && ends.space(edge) >= count => ends.put_units(edge, count),
+        Block::PutsUnits(count) if writes && ends.space(edge) >= count => ends.put_units(
+            edge, count,
+        ),
         Block::PutsFlags(flags) if writes && ends.space(edge) >= flags.len() => {
             ends.put_flags(edge, flags);
         }
