@@ -1,5 +1,5 @@
 -- What Reduce makes of blocks: flags and the elements that they stand for, and the ends of segments.
-use Rattle.std.proofs.Common.{◌≡◌, ◌≢◌, ℕ, zero, suc, ◌+◌, ◌<◌, ◌≤◌, ◌*◌, ℤ, pos, negsuc, ◌+ℤ◌, ◌≤ℤ◌, Bool, true, false, cond, eqb, List, [], ◌∷◌, ◌++◌, length, take, get_or, Option, Some, None, Result, Ok, Err, refl, sym, ◌∙◌, ap, subst, arith}
+use Rattle.std.proofs.Common.{◌≡◌, ◌≢◌, ℕ, zero, suc, ◌+◌, ◌<◌, ◌≤◌, ◌*◌, ℤ, pos, negsuc, ◌+ℤ◌, ◌≤ℤ◌, Bool, true, false, cond, eqb, List, [], ◌∷◌, ◌++◌, length, take, get_or, Option, Some, Result, Ok, Err, refl, sym, ◌∙◌, ap, subst, arith}
 use Rattle.std.specs.Prelude.{if◌then◌else◌}
 use Rattle.std.proofs.lemmas.Bool.Decides.{nat_tests}
 use Rattle.std.proofs.lemmas.Int.{ints}
@@ -11,7 +11,7 @@ use Rattle.snesl_data.specs.declared.dialect.Dialect.TheVariants.{One, Two}
 use Rattle.snesl_data.specs.declared.fault.FaultKind.TheVariants.{Overflow}
 use Rattle.snesl_data.specs.Integers.{is_integer}
 use Rattle.snesl_operators.specs.Operators.{ranged, an_integer}
-use Rattle.snesl_operators.specs.Reductions.{some_of, and_then, reduced_nothing, reduced_more, reduced_all}
+use Rattle.snesl_operators.specs.Reductions.{some_of, and_then, reduced_more}
 use Rattle.snesl_operators.specs.declared.operator.Reduction.{Reduction}
 use Rattle.snesl_operators.specs.declared.operator.Reduction.TheVariants.{Sum}
 use Rattle.snesl_operators.specs.declared.scalar.Scalar.{Scalar}
@@ -21,14 +21,14 @@ use Rattle.flow_messages.specs.Ends.{View, TakenAll, PutAll}
 use Rattle.flow_messages.specs.Blocks.{flags_said, ints_said}
 use Rattle.flow_messages.specs.Signals.{Signal, carry}
 use Rattle.flow_base.specs.Machines.{on_kind, taken, given_of}
-use Rattle.flow_base.specs.Nodes.{NodeState, behaviour_of, node_state, given_in}
+use Rattle.flow_base.specs.Nodes.{NodeState, behaviour_of, node_state}
 use Rattle.flow_base.specs.Transducers.{Behaviour}
 use Rattle.flow_base.specs.Visits.{edge_of, Went}
 use Rattle.flow_base.specs.declared.node.Phase.TheVariants.{Working}
 use Rattle.flow_base.proofs.Kernels.{went_none, went_further, leads_on}
 use Rattle.flow_base.proofs.Batches.{Batch, batch_none, batch_read, batch_write, batch_then, batch_as, blocks_then, shifted_none, shifted_skip, shifted_put, went_batch, shown, take_flags, take_ints, length_flags, length_ints, ended_one}
 use Rattle.flow_scalar.specs.Scalars.{scalar_in}
-use Rattle.flow_scalar.specs.ReduceMachine.{at_flag, at_element, reduced_kind, reduce_move, reduce_machine}
+use Rattle.flow_scalar.specs.ReduceMachine.{at_flag, at_element, reduced_kind, reduce_machine}
 use Rattle.flow_scalar.specs.ReduceBlocks.{reduced_ints, AwaitsFlag}
 use Rattle.flow_scalar.specs.declared.reduce.Stage.{Stage}
 use Rattle.flow_scalar.specs.declared.reduce.Stage.TheVariants.{Start, Flag, Element, Value}

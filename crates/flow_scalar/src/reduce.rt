@@ -288,8 +288,7 @@ impl Reduce {
         }
     }
 
-    // Reads flags that stand for elements, each with its element, while both are shown and no element faults. How many,
-    // and where they lead.
+    // Reads the elements that are shown, each after its flag, until one faults. How many, and where they lead.
     #[inline(always)]
     fn take_elements<E: Ends>(
         &self,

@@ -1,4 +1,4 @@
-use Rattle.std.proofs.Common.{◌≡◌, ◌+◌, ◌++◌, [], ◌∷◌, Some, ℤ, negsuc, ◌+ℤ◌, ◌≤ℤ◌, take, get_or, pos, sym, ◌∙◌, ap, subst, arith, rules, to_z, of_z}
+use Rattle.std.proofs.Common.{◌≡◌, ◌+◌, ◌++◌, [], ◌∷◌, Some, negsuc, ◌+ℤ◌, ◌≤ℤ◌, take, get_or, pos, sym, ◌∙◌, ap, arith, rules, to_z, of_z}
 use Rattle.std.specs.Int.{w64, w128}
 use Rattle.std.specs.Prelude.{Ok}
 use Rattle.std.proofs.lemmas.Int.{ints}

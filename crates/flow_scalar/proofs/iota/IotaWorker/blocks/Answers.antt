@@ -1,13 +1,11 @@
-use Rattle.std.proofs.Common.{◌≡◌, ◌≢◌, ◌+◌, ◌<◌, ◌≤◌, ◌*◌, ℤ, pos, ◌+ℤ◌, ◌≤ℤ◌, length, refl, sym, ◌∙◌, ap, subst, arith, rules, to_z, of_z}
+use Rattle.std.proofs.Common.{◌≡◌, ◌+◌, ◌<◌, ◌*◌, ℤ, pos, ◌+ℤ◌, sym, ◌∙◌, ap, subst, arith, rules, to_z, of_z}
 use Rattle.std.specs.Int.{w128}
 use Rattle.std.proofs.lemmas.Int.{ints}
-use Rattle.flow_messages.specs.Ends.{SameEnds}
-use Rattle.flow_base.specs.Nodes.{NodeState, behaviour_of, node_state}
-use Rattle.flow_base.specs.Visits.{edge_of, Went}
+use Rattle.flow_base.specs.Nodes.{behaviour_of, node_state}
+use Rattle.flow_base.specs.Visits.{Went}
 use Rattle.flow_base.specs.declared.node.Phase.TheVariants.{Working}
 use Rattle.flow_base.proofs.Carried.{same_ends_refl, same_ends_then}
 use Rattle.flow_base.proofs.Kernels.{went_none, went_further}
-use Rattle.flow_scalar.specs.declared.iota.Iota.{Iota}
 use Rattle.flow_scalar.specs.declared.iota.Iota.TheVariants.{Flag}
 use Rattle.flow_scalar.specs.IotaMachine.{iota_machine, iota_view}
 use Rattle.flow_scalar.proofs.IotaBlocks.{on}

@@ -1,4 +1,4 @@
-use Rattle.std.proofs.Common.{◌≡◌, ◌≢◌, ℕ, ◌+◌, ◌<◌, ◌≤◌, ◌*◌, ℤ, pos, [], ◌∷◌, length, take, get_or, true, false, refl, sym, ◌∙◌, ap, subst, arith, rules, to_z, of_z}
+use Rattle.std.proofs.Common.{◌≡◌, ◌<◌, [], ◌∷◌, length, get_or, true, false, sym, subst, arith, rules, to_z, of_z}
 use Rattle.std.specs.Int.{w128}
 use mathlib.Core.List.{IsPrefix}
 use Rattle.snesl_data.specs.declared.dialect.Dialect.{Dialect}

@@ -1,4 +1,4 @@
-use Rattle.std.proofs.Common.{◌≡◌, ◌+◌, ◌≤◌, ◌*◌, true, false, refl, sym, ◌∙◌, ap, subst, arith, rules}
+use Rattle.std.proofs.Common.{◌+◌, ◌≤◌, ◌*◌, sym, subst, arith}
 use Rattle.snesl_data.specs.declared.dialect.Dialect.{Dialect}
 use Rattle.snesl_operators.specs.declared.operator.Reduction.{Reduction}
 use Rattle.flow_messages.specs.Ends.{SameEnds}
