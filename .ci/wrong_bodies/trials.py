@@ -10,7 +10,7 @@ import subprocess
 import types
 
 from functions import Code
-from kit import rt
+from kit import LIMITS, rt
 from reports import Report
 
 # What a try comes to: only the first passes.
@@ -218,7 +218,7 @@ def verdict_of(edit, report):
     if report.is_bad(edit):
         return Verdict(BAD, report.head())
     if not report.has_ended:
-        at_limit = report.status == 3 and rt.LIMITS.search(report.said)
+        at_limit = report.status == 3 and LIMITS.search(report.said)
         why = "it met a limit of the prover, which says nothing of a contract" if at_limit else f"its check ended with status {report.status}"
         return Verdict(UNSURE, f"{why}: {report.head()}")
     goals = goals_of(edit, {it.name for it in edit.struck}, report)
