@@ -1,16 +1,15 @@
 -- The edges of a graph at rest: each has its ends, and holds at most the capacity.
-use Rattle.std.proofs.Common.{ℕ, zero, suc, ◌≡◌, ◌+◌, ◌<◌, ◌≤◌, ◌⊎◌, inl, inr, true, List, [], ◌∷◌, length, get_or, refl, sym, ◌∙◌, ap, subst, arith}
+use Rattle.std.proofs.Common.{ℕ, ◌≡◌, ◌+◌, ◌<◌, ◌≤◌, ◌⊎◌, inl, inr, true, List, [], ◌∷◌, length, get_or, refl, sym, ◌∙◌, ap, subst, arith}
 use Rattle.std.proofs.lemmas.List.{get_or-map}
 use Rattle.std.proofs.lemmas.Bool.{cases_lt}
 use Rattle.std.specs.List.{All}
 use Rattle.std.specs.Io.Iter.{u64_saturate}
 use Rattle.std.proofs.Props.{props}
 use mathlib.Core.Logic.{∥∥₁_elim}
-use Rattle.flow_messages.specs.declared.line.Line.{Line}
 use Rattle.flow_messages.specs.Ends.{View, held}
 use Rattle.flow_messages.specs.Signals.{Signal}
-use Rattle.flow_messages.specs.TableLaws.{signals-length, whole_table}
-use Rattle.flow_messages.specs.Tables.{view_of_lines, ends_of, capacity_of}
+use Rattle.flow_messages.specs.TableLaws.{whole_table, table_holds}
+use Rattle.flow_messages.specs.Tables.{ends_of, capacity_of}
 use Rattle.flow_messages.proofs.Waiting.{waits-length}
 use Rattle.flow_graph.specs.declared.edge.Edge.{Edge}
 use Rattle.flow_graph.specs.Edges.{edge_at}
@@ -24,12 +23,6 @@ use Rattle.flow_drive.specs.declared.lines.Lines.{Lines}
 use Rattle.flow_drive.specs.declared.lines.Lines.TheVariants.{Whole, Shared}
 use Rattle.flow_drive.specs.Edges.{seen_by, traffic_by, AreJoined, traffic_in, capacity_in, AreThere}
 
--- no line holds more than its capacity
-table_fits : (capacity : ℕ) (lines : List Line) → All (λ l. l.capacity ≡ capacity) lines → (e : ℕ) → held (view_of_lines lines) e ≤ capacity
-table_fits capacity [] even e = omega arith
-table_fits capacity (l ∷ lines) even zero = omega (arith, l.bound, even 0 l (omega arith), signals-length l.queue.items)
-table_fits capacity (l ∷ lines) even (suc e) = table_fits capacity lines (λ k d low. even (suc k) d (omega arith)) e
-
 -- where the ends of all edges have met, no edge holds more than the capacity
 module _ {Y : Type 0} (view : Y → View) (share : List ℕ) (edges : List Edge) (ends : List Y) (most : ℕ) (met : AllMet share edges (seen_by view ends) most) (e : ℕ) where
   pub ends_fit : (e < length edges) ⊎ (length edges ≤ e) → let traffic = traffic_by view share edges ends in length (traffic.sent e) ≤ length (traffic.received e) + most
@@ -40,7 +33,7 @@ module _ {Y : Type 0} (view : Y → View) (share : List ℕ) (edges : List Edge)
 -- no edge holds more than the capacity
 pub lines_fit : (edges : List Edge) (lines : Lines) → AreThere edges lines → (e : ℕ) → length ((traffic_in edges lines).sent e) ≤ length ((traffic_in edges lines).received e) + capacity_in lines
 lines_fit edges (Whole table) there e =
-    omega (arith, table_fits table.capacity table.lines.items table.even e, ap length ((whole_table table).coming e), waits-length (capacity_of table) (ends_of table) e (whole_table table))
+    omega (arith, table_holds table e, ap length ((whole_table table).coming e), waits-length (capacity_of table) (ends_of table) e (whole_table table))
 lines_fit edges (Shared boxes) there e =
     ∥∥₁_elim (there.shared boxes refl) (hlevel props) (λ joined. ends_fit view_of boxes.share.items edges boxes.ends.items boxes.capacity joined.met e (cases_lt e (length edges)))
 

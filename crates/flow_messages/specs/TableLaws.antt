@@ -1,5 +1,5 @@
 -- What every table keeps.
-use Rattle.std.proofs.Common.{◌≡◌, ℕ, zero, suc, ◌+◌, ◌<◌, true, List, [], ◌∷◌, ◌++◌, length, drop, refl, sym, ap, ◌∙◌, arith}
+use Rattle.std.proofs.Common.{◌≡◌, ℕ, zero, suc, ◌+◌, ◌<◌, ◌≤◌, true, List, [], ◌∷◌, ◌++◌, length, drop, refl, sym, ap, ◌∙◌, arith}
 use Rattle.std.proofs.Math.Seq.{drop-append_seam}
 use Rattle.std.specs.List.{All}
 use Rattle.flow_messages.specs.declared.line.Line.{Line}
@@ -57,6 +57,15 @@ lines_room : (capacity : ℕ) (ls : List Line) → All (λ l. l.store.capacity �
 lines_room capacity [] even e there = absurd (omega arith)
 lines_room capacity (l ∷ ls) even zero there = omega (arith, l.store.bound, l.store.counts, even 0 l (omega arith), signals-length (content_of l.store))
 lines_room capacity (l ∷ ls) even (suc e) there = lines_room capacity ls (λ k d low. even (suc k) d (omega arith)) e (omega arith)
+
+lines_hold : (capacity : ℕ) (ls : List Line) → All (λ l. l.store.capacity ≡ capacity) ls → (e : ℕ) → held (view_of_lines ls) e ≤ capacity
+lines_hold capacity [] even e = omega arith
+lines_hold capacity (l ∷ ls) even zero = omega (arith, l.store.bound, l.store.counts, even 0 l (omega arith), signals-length (content_of l.store))
+lines_hold capacity (l ∷ ls) even (suc e) = lines_hold capacity ls (λ k d low. even (suc k) d (omega arith)) e
+
+-- no edge of a table holds more than its capacity
+pub table_holds : (t : Table) (e : ℕ) → held (ends_of t) e ≤ capacity_of t
+table_holds t e = lines_hold t.capacity t.lines.items t.even e
 
 lines_orderly : (ls : List Line) (e : ℕ) → orderly ((view_of_lines ls).sent e) ≡ true
 unfolding orderly
