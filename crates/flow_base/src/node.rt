@@ -9,7 +9,7 @@ ghost use Rattle.flow_base.specs.Nodes.{closing, opened, want_for};
 ghost use Rattle.flow_base.specs.Visits.{IsPlaced, WentOn, Visited, BrokeOff};
 ghost use Rattle.flow_base.specs.declared.node.Phase.TheVariants.{Working};
 
-use crate::certain::look_for_messages;
+use crate::certain::{look_for_messages, shows_slices};
 use crate::transducer::{Port, Side, Transducer};
 use crate::worker::{Ask, Stop, Worker};
 use flow_messages::{Ends, Msg};
@@ -288,6 +288,9 @@ impl<W: Worker> Node<W> {
             return Ok(0);
         }
         if chunk < LEAST_FOR_KERNEL {
+            if !shows_slices(ends, inputs) {
+                return Ok(0);
+            }
             return self.whole_blocks(inputs, outputs, ends, chunk);
         }
         self.whole_instances(inputs, outputs, ends, chunk)
