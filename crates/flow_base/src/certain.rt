@@ -45,21 +45,3 @@ pub(crate) fn look_for_messages<E: Ends>(ends: &mut E, edges: &[usize])
         let _ = ends.ready(*edge);
     }
 }
-
-// Fewer items side by side are taken by single steps faster than over a slice.
-const LEAST_SHOWN: usize = 4;
-
-/// Whether one of these edges shows items side by side, and not only a few. It says only how fast a visit is.
-#[inline(always)]
-pub(crate) fn shows_slices<E: Ends>(ends: &E, edges: &[usize]) -> bool
-    requires { All (λ e. (E.view ends.now).reads e ≡ true) edges.now }
-{
-    for edge in edges {
-        let ints = ends.ints(*edge).len();
-        let flags = ends.flags(*edge).len();
-        if ints.max(flags).max(ends.units(*edge)) >= LEAST_SHOWN {
-            return true;
-        }
-    }
-    false
-}

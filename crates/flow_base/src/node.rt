@@ -9,7 +9,7 @@ ghost use Rattle.flow_base.specs.Nodes.{closing, opened, want_for};
 ghost use Rattle.flow_base.specs.Visits.{IsPlaced, WentOn, Visited, BrokeOff};
 ghost use Rattle.flow_base.specs.declared.node.Phase.TheVariants.{Working};
 
-use crate::certain::{look_for_messages, shows_slices};
+use crate::certain::look_for_messages;
 use crate::transducer::{Port, Side, Transducer};
 use crate::worker::{Ask, Stop, Worker};
 use flow_messages::{Ends, Msg};
@@ -56,6 +56,8 @@ pub struct Node<W> {
     worker: W,
     phase: Phase,
     at: usize,
+    // Whether its last visit made as many steps as it might. It says only how fast the next one is.
+    is_busy: bool,
 }
 
 impl<W: Worker> Node<W> {
@@ -67,6 +69,7 @@ impl<W: Worker> Node<W> {
             worker,
             phase: Phase::Working,
             at,
+            is_busy: true,
         }
     }
 
@@ -288,7 +291,8 @@ impl<W: Worker> Node<W> {
             return Ok(0);
         }
         if chunk < LEAST_FOR_KERNEL {
-            if !shows_slices(ends, inputs) {
+            // Where the last visit found too few messages, this one hardly finds many.
+            if !self.is_busy {
                 return Ok(0);
             }
             return self.whole_blocks(inputs, outputs, ends, chunk);
@@ -472,6 +476,7 @@ impl<W: Worker> Transducer for Node<W> {
             return self.close(inputs, outputs, ends, chunk);
         }
         let made = self.work(inputs, outputs, ends, chunk)?;
+        self.is_busy = made == chunk;
         if made == chunk || matches!(self.phase, Phase::Working) {
             return Ok(made > 0);
         }

@@ -9,7 +9,7 @@ returns-then-chunk-lt-LEAST_FOR_BLOCKS-clause-went g c =
     let node = node_of g.W.Worker.state g.W.Worker.machine g.met.W.Worker.laws in
     (0, went_none node.behaviour c.args.inputs.now c.args.outputs.now (node.state c.args.self.now) (g.E.Ends.view c.args.ends.now), refl)
 
-pub returns-then-not-shows_slices-clause-went : goal.returns-then-not-shows_slices-clause-went
-returns-then-not-shows_slices-clause-went g c =
+pub returns-then-not-self-clause-went : goal.returns-then-not-self-clause-went
+returns-then-not-self-clause-went g c =
     let node = node_of g.W.Worker.state g.W.Worker.machine g.met.W.Worker.laws in
     (0, went_none node.behaviour c.args.inputs.now c.args.outputs.now (node.state c.args.self.now) (g.E.Ends.view c.args.ends.now), refl)
