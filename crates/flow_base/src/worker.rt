@@ -7,6 +7,10 @@ use flow_messages::{Ends, Item, Kind};
 use snesl_data::FaultKind;
 use std::alloc::AllocError;
 
+/// How many items a worker that goes over slices computes at most before it puts them. A slice borrows the ends that show
+/// it, and a put changes them.
+pub const BLOCK: usize = 64;
+
 /// What a worker wants next.
 #[derive(Clone, Copy, Debug, PartialEq, Eq)]
 pub enum Ask {

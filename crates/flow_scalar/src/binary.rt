@@ -15,14 +15,11 @@ ghost use Rattle.flow_scalar.specs.declared.binary.Progress.TheVariants.{Start, 
 
 use crate::operand::operand_of;
 use crate::scalars::{item_of, kind_of};
-use flow_base::{Ask, Stop, Worker, put_in_space, take_front};
+use flow_base::{Ask, BLOCK, Stop, Worker, put_in_space, take_front};
 use flow_messages::{Ends, Item, Kind, Msg};
 use snesl_data::Dialect;
 use snesl_operators::{BinaryOperator, Scalar, ScalarType};
 use std::alloc::AllocError;
-
-// So many values are computed before they are put.
-const BLOCK: usize = 64;
 
 // The integer at two integers, where there is one. Most fit 64 bits, which are faster to compute with.
 #[inline(always)]

@@ -7,14 +7,11 @@ ghost use Rattle.flow_messages.specs.Signals.{carry, signal_of};
 ghost use Rattle.flow_scalar.specs.ConstCopies.{WrittenFor};
 
 use crate::scalars::{item_of, kind_of};
-use flow_base::{Ask, Stop, Worker, put_in_space, take_front};
+use flow_base::{Ask, BLOCK, Stop, Worker, put_in_space, take_front};
 use flow_messages::{Ends, Item, Kind, Msg};
 use snesl_data::FaultKind;
 use snesl_operators::Scalar;
 use std::alloc::AllocError;
-
-// How many of the scalar are put at most in one call.
-const BLOCK: usize = 64;
 
 /// Writes a scalar once for each Unit. Each Unit is an instance.
 ///

@@ -13,13 +13,10 @@ ghost use Rattle.flow_base.specs.declared.node.Phase.TheVariants.{Working};
 ghost use Rattle.flow_scalar.specs.ForkCopies.{PutOnEach, CopiedOn};
 ghost use Rattle.flow_scalar.specs.ForkMachine.{ForkPorts, Step, fork_ports, fork_machine, idle, holding};
 
-use flow_base::{Ask, Stop, Worker, put_in_space, take_front};
+use flow_base::{Ask, BLOCK, Stop, Worker, put_in_space, take_front};
 use flow_messages::{Ends, Item, Kind, Msg};
 use snesl_data::FaultKind;
 use std::alloc::{AllocError, Global};
-
-// How many items are copied at most before they are put: they come as a slice of the ends, which the puts change.
-const BLOCK: usize = 64;
 
 /// Reads items of one kind and writes each to every output, the outputs in order. Each item is an instance. An item of
 /// another kind is a fault of kind `Shape`.

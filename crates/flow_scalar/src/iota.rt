@@ -12,7 +12,7 @@ ghost use Rattle.flow_base.specs.declared.node.Phase.TheVariants.{Working};
 ghost use Rattle.flow_scalar.specs.IotaMachine.{number_after, iota_machine, iota_view};
 ghost use Rattle.flow_scalar.specs.declared.iota.Iota.TheVariants.{Flag};
 
-use flow_base::{Ask, Stop, Worker, put_in_space, take_front};
+use flow_base::{Ask, BLOCK, Stop, Worker, put_in_space, take_front};
 use flow_messages::{Ends, Item, Kind, Msg};
 use snesl_data::FaultKind;
 use std::alloc::AllocError;
@@ -57,9 +57,6 @@ fn count_at<E: Ends>(ends: &E, edge: usize) -> Option<i128>
         None => None,
     }
 }
-
-// The most numbers that are put in one call.
-const BLOCK: usize = 64;
 
 // The flags of a block of elements.
 const ELEMENTS: [bool; BLOCK] = [false; BLOCK];

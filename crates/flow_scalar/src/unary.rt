@@ -13,14 +13,11 @@ ghost use Rattle.flow_scalar.specs.UnaryMachine.{unary_next, unary_machine, unar
 
 use crate::operand::operand_of;
 use crate::scalars::{item_of, kind_of};
-use flow_base::{Ask, Stop, Worker, put_in_space, take_front};
+use flow_base::{Ask, BLOCK, Stop, Worker, put_in_space, take_front};
 use flow_messages::{Ends, Item, Kind, Msg};
 use snesl_data::Dialect;
 use snesl_operators::{Scalar, ScalarType, UnaryOperator};
 use std::alloc::AllocError;
-
-// So many values are computed before they are put.
-const BLOCK: usize = 64;
 
 /// Writes the operator's value at each item. Each item is an instance.
 ///

@@ -11,7 +11,7 @@ ghost use Rattle.flow_base.specs.declared.node.Phase.TheVariants.{Working};
 ghost use Rattle.flow_segment.specs.DistMachine.{dist_machine, dist_view};
 
 use crate::fronts::{flag_in_front, scalar_copy, scalar_in_front};
-use flow_base::{Ask, Stop, Worker, put_in_space, take_front};
+use flow_base::{Ask, BLOCK, Stop, Worker, put_in_space, take_front};
 use flow_messages::{Ends, Item, Kind, Msg};
 use snesl_data::FaultKind;
 use std::alloc::{AllocError, Global};
@@ -34,9 +34,6 @@ pub struct Dist {
     // Whether a copy of the held item is to be written.
     copies: bool,
 }
-
-// The most copies that are put in one call.
-const BLOCK: usize = 64;
 
 // Truth values that are copied.
 const TRUES: [bool; BLOCK] = [true; BLOCK];
