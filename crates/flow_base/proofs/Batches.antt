@@ -99,6 +99,10 @@ length_ints ns = length-map ns (λ n. carry (int n))
 pub shown : (ms c : List Signal) (k : ℕ) → IsPrefix ms c → k ≤ length ms → take k c ≡ take k ms
 shown ms c k (more, is) within = ap (take k) (sym is) ∙ take-append-le k ms more within
 
+-- what is skipped is what was shown
+pub skipped : (k : ℕ) (ms block : List Signal) (v : View) (e : ℕ) (w : View) → IsPrefix ms (v.coming e) → k ≤ length ms → take k ms ≡ block → TakenAll v e (take k (v.coming e)) w → TakenAll v e block w
+skipped k ms block v e w first within is taken = subst (λ l. TakenAll v e l w) (shown ms (v.coming e) k first within ∙ is) taken
+
 -- what was sent, with one block more and with two
 after_then : (l ms ns : List Signal) → ended ms ≡ false → cond (ended (cond (ended l) l (l ++ ms))) (cond (ended l) l (l ++ ms)) (cond (ended l) l (l ++ ms) ++ ns) ≡ cond (ended l) l (l ++ (ms ++ ns))
 after_then l ms ns unended = elim (cases_Bool (ended l)) [

@@ -25,7 +25,7 @@ use Rattle.flow_scalar.specs.declared.binary.Progress.{Progress}
 use Rattle.flow_scalar.specs.declared.binary.Progress.TheVariants.{Start, Left, Value}
 use Rattle.flow_scalar.specs.BinaryMachine.{binary_next, binary_machine}
 use Rattle.flow_scalar.proofs.Leading.{operand_taken}
-use Rattle.flow_scalar.proofs.ValueBlocks.{values_said, one_more, ended_values, no_row}
+use Rattle.flow_scalar.proofs.ValueBlocks.{values_said, one_more, ended_values, no_block}
 
 -- what has a value at two integers takes integers
 takes_ints : (dialect : Dialect) (op : BinaryOperator) (x y : ℤ) (v : Scalar) → binary_value dialect op (Int x) (Int y) ≡ Ok v → binary_operand op ≡ IntType
@@ -44,11 +44,11 @@ takes_ints dialect And x y v e = absurd (cc)
 takes_ints dialect Or x y v e = absurd (cc)
 
 -- two blocks of nothing
-no_rows : (b c : Bool) → ints_said [] ≡ cond b (ints_said []) [] ++ cond c (ints_said []) []
-no_rows true true = refl
-no_rows true false = refl
-no_rows false true = refl
-no_rows false false = refl
+no_blocks : (b c : Bool) → ints_said [] ≡ cond b (ints_said []) [] ++ cond c (ints_said []) []
+no_blocks true true = refl
+no_blocks true false = refl
+no_blocks false true = refl
+no_blocks false false = refl
 
 module _ (dialect : Dialect) (op : BinaryOperator) (inputs outputs : List ℕ) (at : ℕ) where
   abbrev on : Progress → NodeState ((Dialect × BinaryOperator) × Progress)
@@ -101,7 +101,7 @@ module _ (dialect : Dialect) (op : BinaryOperator) (inputs outputs : List ℕ) (
 
     -- pairs at which there are values are rounds
     pub block : (xs ys : List ℤ) (zs : List A) (n : ℕ) → n ≤ length xs → n ≤ length ys → n ≤ length zs → ValuesAt xs ys zs n → Block xs ys zs n
-    block xs ys zs zero in_xs in_ys in_zs values = batch_as inputs outputs (behaviour_of binary_machine) (batch_none inputs outputs (behaviour_of binary_machine) (on Start)) _ _ (λ e. no_rows (eqb e (edge_of inputs 0)) (eqb e (edge_of inputs 1))) (λ e. no_row (eqb e (edge_of outputs 0)))
+    block xs ys zs zero in_xs in_ys in_zs values = batch_as inputs outputs (behaviour_of binary_machine) (batch_none inputs outputs (behaviour_of binary_machine) (on Start)) _ _ (λ e. no_blocks (eqb e (edge_of inputs 0)) (eqb e (edge_of inputs 1))) (λ e. no_block (eqb e (edge_of outputs 0)))
     block xs ys zs (suc n) in_xs in_ys in_zs values =
         let is : n + 1 ≡ suc n = omega arith in
         subst (Block xs ys zs) is (block_more xs ys zs n (omega arith) (omega arith) (omega arith) (values n (omega arith)) (block xs ys zs n (omega arith) (omega arith) (omega arith) (λ k below. values k (omega arith))))

@@ -32,11 +32,11 @@ said_flags b zero = refl
 said_flags b (suc count) = ap (λ l. carry (flag b) ∷ l) (said_flags b count)
 
 -- the first of a block of one integer or one truth value
-pub row_ints : (n : ℤ) (count block : ℕ) → count ≤ block → ints_said (take count (replicate block n)) ≡ copies (int n) count
-row_ints n count block within = ap ints_said (take-replicate count block n within) ∙ said_ints n count
+pub block_ints : (n : ℤ) (count block : ℕ) → count ≤ block → ints_said (take count (replicate block n)) ≡ copies (int n) count
+block_ints n count block within = ap ints_said (take-replicate count block n within) ∙ said_ints n count
 
-pub row_flags : (b : Bool) (count block : ℕ) → count ≤ block → flags_said (take count (replicate block b)) ≡ copies (flag b) count
-row_flags b count block within = ap flags_said (take-replicate count block b within) ∙ said_flags b count
+pub block_flags : (b : Bool) (count block : ℕ) → count ≤ block → flags_said (take count (replicate block b)) ≡ copies (flag b) count
+block_flags b count block within = ap flags_said (take-replicate count block b within) ∙ said_flags b count
 
 module _ (k : Scalar) (inputs outputs : List ℕ) (at : ℕ) where
   -- between two instances, and where the constant is due

@@ -21,7 +21,7 @@ use Rattle.flow_base.proofs.Batches.{Batch, Shifted, block_then, batch_none, bat
 use Rattle.flow_scalar.specs.ForkCopies.{is_among, PutOnEach, CopiedOn}
 use Rattle.flow_scalar.specs.ForkMachine.{ForkPorts, Step, fork_ports, step_of, idle, holding, fork_move, fork_machine}
 use Rattle.flow_scalar.specs.declared.fork.Fork.{Fork}
-use Rattle.flow_scalar.proofs.SingleBlocks.{row_none}
+use Rattle.flow_scalar.proofs.SingleBlocks.{block_none}
 
 -- what the machine sees of a fork
 abbrev pub fork_view : Fork → ForkPorts × Step
@@ -111,7 +111,7 @@ module _ (inputs outputs : List ℕ) (p : ForkPorts) (at : ℕ) where
     copies_none =
         let b = behaviour_of fork_machine in
         let none : 0 ≡ (length outputs + 1) * 0 = omega arith in
-        subst (Copies []) none (batch_as inputs outputs b (batch_none inputs outputs b (on idle)) _ _ (λ e. sym (row_none (eqb e (edge_of inputs 0)))) (λ e. sym (row_none (is_among outputs (length outputs) e))))
+        subst (Copies []) none (batch_as inputs outputs b (batch_none inputs outputs b (on idle)) _ _ (λ e. sym (block_none (eqb e (edge_of inputs 0)))) (λ e. sym (block_none (is_among outputs (length outputs) e))))
 
     copies_more : (x : Cell) → is_of p.kind x ≡ true → (block : List Signal) (n : ℕ) → Copies block ((length outputs + 1) * n) → Copies (carry x ∷ block) ((length outputs + 1) * suc n)
     copies_more x fits block n next =

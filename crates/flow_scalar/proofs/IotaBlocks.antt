@@ -20,28 +20,28 @@ use Rattle.flow_scalar.specs.declared.iota.Iota.TheVariants.{Between, Flag, Numb
 use Rattle.flow_scalar.specs.IotaMachine.{first_flag, iota_machine}
 
 -- so many numbers from this one on
-abbrev pub numbers_row : ℤ → ℕ → List ℤ
-numbers_row next zero = []
-numbers_row next (suc n) = next ∷ numbers_row (next +ℤ pos 1) n
+abbrev pub numbers_block : ℤ → ℕ → List ℤ
+numbers_block next zero = []
+numbers_block next (suc n) = next ∷ numbers_block (next +ℤ pos 1) n
 
 -- the flags of so many elements
-abbrev pub elements_row : ℕ → List Bool
-elements_row zero = []
-elements_row (suc n) = false ∷ elements_row n
+abbrev pub elements_block : ℕ → List Bool
+elements_block zero = []
+elements_block (suc n) = false ∷ elements_block n
 
-pub elements_are : (n m : ℕ) → n ≤ m → take n (replicate m false) ≡ elements_row n
+pub elements_are : (n m : ℕ) → n ≤ m → take n (replicate m false) ≡ elements_block n
 elements_are zero m within = refl
 elements_are (suc n) zero within = absurd (omega arith)
 elements_are (suc n) (suc m) within = ap (λ l. false ∷ l) (elements_are n m (omega arith))
 
 -- places that were filled with the numbers from this one on
-pub filled_row : (next : ℤ) (n : ℕ) (xs : List ℤ) → n ≤ length xs → ((k : ℕ) → k < n → get_or xs k (pos 0) ≡ next +ℤ pos k) → take n xs ≡ numbers_row next n
-filled_row next zero xs within filled = refl
-filled_row next (suc n) [] within filled = absurd (omega arith)
-filled_row next (suc n) (x ∷ xs) within filled =
+pub filled_block : (next : ℤ) (n : ℕ) (xs : List ℤ) → n ≤ length xs → ((k : ℕ) → k < n → get_or xs k (pos 0) ≡ next +ℤ pos k) → take n xs ≡ numbers_block next n
+filled_block next zero xs within filled = refl
+filled_block next (suc n) [] within filled = absurd (omega arith)
+filled_block next (suc n) (x ∷ xs) within filled =
     let first : x ≡ next = let at : x ≡ next +ℤ pos 0 = filled 0 (omega arith) in omega (arith, ints) in
     let others : (k : ℕ) → k < n → get_or xs k (pos 0) ≡ (next +ℤ pos 1) +ℤ pos k = λ k h. let at : get_or xs k (pos 0) ≡ next +ℤ pos (suc k) = filled (suc k) (omega arith) in omega (arith, ints) in
-    let rest : take n xs ≡ numbers_row (next +ℤ pos 1) n = filled_row (next +ℤ pos 1) n xs (omega arith) others in
+    let rest : take n xs ≡ numbers_block (next +ℤ pos 1) n = filled_block (next +ℤ pos 1) n xs (omega arith) others in
     cc
 
 -- an integer from 0 on starts a segment
@@ -62,11 +62,11 @@ first_shown [] c some seen = absurd (omega arith)
 first_shown (x ∷ xs) c some seen = shown (ints_said (x ∷ xs)) c 1 seen (omega arith)
 
 -- blocks of nothing
-no_rows : (b c : Bool) → ◌≡◌ {A = List Signal} [] (cond b [] [] ++ cond c [] [])
-no_rows true true = refl
-no_rows true false = refl
-no_rows false true = refl
-no_rows false false = refl
+no_blocks : (b c : Bool) → ◌≡◌ {A = List Signal} [] (cond b [] [] ++ cond c [] [])
+no_blocks true true = refl
+no_blocks true false = refl
+no_blocks false true = refl
+no_blocks false false = refl
 
 abbrev pub on : ℕ → Iota → NodeState (Unit {0} × Iota)
 on at s = node_state (tt, s) Working at
@@ -74,20 +74,20 @@ on at s = node_state (tt, s) Working at
 module _ (ins outs : List ℕ) where
   -- a flag and a number for each number that is left, in so many rounds
   pub numbers_rounds : edge_of outs 0 ≢ edge_of outs 1 → (at : ℕ) (end : ℤ) (n : ℕ) (next : ℤ) → (next +ℤ pos n) ≤ℤ end →
-      Batch ins outs (behaviour_of iota_machine) (on at (Flag next end)) (on at (Flag (next +ℤ pos n) end)) (λ e. []) (λ e. cond (eqb e (edge_of outs 0)) (flags_said (elements_row n)) [] ++ cond (eqb e (edge_of outs 1)) (ints_said (numbers_row next n)) []) (2 * n)
+      Batch ins outs (behaviour_of iota_machine) (on at (Flag next end)) (on at (Flag (next +ℤ pos n) end)) (λ e. []) (λ e. cond (eqb e (edge_of outs 0)) (flags_said (elements_block n)) [] ++ cond (eqb e (edge_of outs 1)) (ints_said (numbers_block next n)) []) (2 * n)
   numbers_rounds apart at end zero next below =
       let b = behaviour_of iota_machine in
       let same : next ≡ next +ℤ pos 0 = omega (arith, ints) in
-      let writes = λ (e : ℕ). cond (eqb e (edge_of outs 0)) (flags_said (elements_row 0)) [] ++ cond (eqb e (edge_of outs 1)) (ints_said (numbers_row next 0)) [] in
-      subst (λ k. Batch ins outs b (on at (Flag next end)) (on at (Flag k end)) (λ e. []) writes 0) same (batch_as ins outs b (batch_none ins outs b (on at (Flag next end))) _ _ (λ e. refl) (λ e. no_rows (eqb e (edge_of outs 0)) (eqb e (edge_of outs 1))))
+      let writes = λ (e : ℕ). cond (eqb e (edge_of outs 0)) (flags_said (elements_block 0)) [] ++ cond (eqb e (edge_of outs 1)) (ints_said (numbers_block next 0)) [] in
+      subst (λ k. Batch ins outs b (on at (Flag next end)) (on at (Flag k end)) (λ e. []) writes 0) same (batch_as ins outs b (batch_none ins outs b (on at (Flag next end))) _ _ (λ e. refl) (λ e. no_blocks (eqb e (edge_of outs 0)) (eqb e (edge_of outs 1))))
   numbers_rounds apart at end (suc n) next below =
       let b = behaviour_of iota_machine in
       let test : int_lt next end ≡ true = grind (arith, ints) in
       let one = batch_write ins outs b (batch_none ins outs b (on at (Flag next end))) 0 (flag false) (on at (Number next end)) refl (ap (λ t. carry (flag (not t))) (sym test)) (ap (λ t. on at (cond t (Number next end) Between)) (sym test)) in
       let two = batch_write ins outs b one 1 (int next) (on at (Flag (next +ℤ pos 1) end)) refl refl (ap (λ t. on at (Flag (cond t (next +ℤ pos 1) end) end)) (sym test)) in
       let rest = numbers_rounds apart at end n (next +ℤ pos 1) (omega (arith, ints)) in
-      let writes = λ (e : ℕ). cond (eqb e (edge_of outs 0)) (flags_said (elements_row (suc n))) [] ++ cond (eqb e (edge_of outs 1)) (ints_said (numbers_row next (suc n))) [] in
-      let all = batch_as ins outs b (batch_then ins outs b two rest) (λ e. []) writes (λ e. refl) (λ e. blocks_then e (edge_of outs 0) (edge_of outs 1) (carry (flag false) ∷ []) (carry (int next) ∷ []) (flags_said (elements_row n)) (ints_said (numbers_row (next +ℤ pos 1) n)) apart) in
+      let writes = λ (e : ℕ). cond (eqb e (edge_of outs 0)) (flags_said (elements_block (suc n))) [] ++ cond (eqb e (edge_of outs 1)) (ints_said (numbers_block next (suc n))) [] in
+      let all = batch_as ins outs b (batch_then ins outs b two rest) (λ e. []) writes (λ e. refl) (λ e. blocks_then e (edge_of outs 0) (edge_of outs 1) (carry (flag false) ∷ []) (carry (int next) ∷ []) (flags_said (elements_block n)) (ints_said (numbers_block (next +ℤ pos 1) n)) apart) in
       let count : 2 + 2 * n ≡ 2 * suc n = omega arith in
       let same : (next +ℤ pos 1) +ℤ pos n ≡ next +ℤ pos (suc n) = omega (arith, ints) in
       subst (λ k. Batch ins outs b (on at (Flag next end)) (on at (Flag k end)) (λ e. []) writes (2 * suc n)) same (subst (Batch ins outs b (on at (Flag next end)) (on at (Flag ((next +ℤ pos 1) +ℤ pos n) end)) (λ e. []) writes) count all)
@@ -103,11 +103,11 @@ module _ (ins outs : List ℕ) where
 
   -- blocks that are put are those rounds
   pub numbers_went : edge_of outs 0 ≢ edge_of outs 1 → 1 < length outs → (at : ℕ) (end : ℤ) (n : ℕ) (next : ℤ) → (next +ℤ pos n) ≤ℤ end → 0 < n → (a v u w : View) → Went ins outs (behaviour_of iota_machine) (on at (Flag next end)) a (on at (Flag next end)) v 0 →
-      PutAll v (edge_of outs 0) (flags_said (elements_row n)) u → PutAll u (edge_of outs 1) (ints_said (numbers_row next n)) w → Went ins outs (behaviour_of iota_machine) (on at (Flag next end)) a (on at (Flag (next +ℤ pos n) end)) w (2 * n)
+      PutAll v (edge_of outs 0) (flags_said (elements_block n)) u → PutAll u (edge_of outs 1) (ints_said (numbers_block next n)) w → Went ins outs (behaviour_of iota_machine) (on at (Flag next end)) a (on at (Flag (next +ℤ pos n) end)) w (2 * n)
   numbers_went apart there at end n next below some a v u w went flagged numbered =
       let b = behaviour_of iota_machine in
-      let one = shifted_put ins outs (shifted_none ins outs v) 0 (flags_said (elements_row n)) u (omega arith) (ended_flags (elements_row n)) flagged in
-      let two = shifted_put ins outs one 1 (ints_said (numbers_row next n)) w there (ended_ints (numbers_row next n)) numbered in
+      let one = shifted_put ins outs (shifted_none ins outs v) 0 (flags_said (elements_block n)) u (omega arith) (ended_flags (elements_block n)) flagged in
+      let two = shifted_put ins outs one 1 (ints_said (numbers_block next n)) w there (ended_ints (numbers_block next n)) numbered in
       let all = went_batch ins outs b went (numbers_rounds apart at end n next below) (omega arith) w two in
       let count : 0 + 2 * n ≡ 2 * n = omega arith in
       subst (Went ins outs b (on at (Flag next end)) a (on at (Flag (next +ℤ pos n) end)) w) count all

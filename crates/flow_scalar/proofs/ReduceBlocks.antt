@@ -33,7 +33,7 @@ use Rattle.flow_scalar.specs.ReduceBlocks.{reduced_ints, AwaitsFlag}
 use Rattle.flow_scalar.specs.declared.reduce.Stage.{Stage}
 use Rattle.flow_scalar.specs.declared.reduce.Stage.TheVariants.{Start, Flag, Element, Value}
 use Rattle.flow_scalar.specs.laws.Reduce.{element_is}
-use Rattle.flow_scalar.proofs.IotaBlocks.{elements_row}
+use Rattle.flow_scalar.proofs.IotaBlocks.{elements_block}
 
 abbrev pub stage_on : Dialect × Reduction → ℕ → Stage → NodeState ((Dialect × Reduction) × Stage)
 stage_on p at s = node_state (p, s) Working at
@@ -60,12 +60,12 @@ pub one_int_more : (dialect : Dialect) (reduction : Reduction) (so_far held more
 one_int_more dialect reduction so_far held more xs x before is = ints_more dialect reduction so_far xs x ∙ ap (λ r. and_then r (λ m. reduced_more dialect reduction m (Int x))) before ∙ is
 
 -- the first flags are those of elements
-pub first_elements : (n : ℕ) (bs : List Bool) → n ≤ length bs → ((k : ℕ) → k < n → get_or bs k true ≡ false) → take n bs ≡ elements_row n
+pub first_elements : (n : ℕ) (bs : List Bool) → n ≤ length bs → ((k : ℕ) → k < n → get_or bs k true ≡ false) → take n bs ≡ elements_block n
 first_elements zero bs within ahead = refl
 first_elements (suc n) [] within ahead = absurd (omega arith)
 first_elements (suc n) (b ∷ bs) within ahead =
     let first : b ≡ false = ahead 0 (omega arith) in
-    let rest : take n bs ≡ elements_row n = first_elements n bs (omega arith) (λ k h. ahead (suc k) (omega arith)) in
+    let rest : take n bs ≡ elements_block n = first_elements n bs (omega arith) (λ k h. ahead (suc k) (omega arith)) in
     cc
 
 -- what is shown is what many takes give
@@ -95,7 +95,7 @@ awaits_takes p (Value value) so_far awaits y = absurd awaits
 module _ (ins outs : List ℕ) where
   -- blocks of flags and of elements
   abbrev pub Elements : Dialect × Reduction → ℕ → Stage → Stage → List ℤ → Type 0
-  Elements p at s t xs = Batch ins outs (behaviour_of reduce_machine) (stage_on p at s) (stage_on p at t) (λ e. cond (eqb e (edge_of ins 0)) (flags_said (elements_row (length xs))) [] ++ cond (eqb e (edge_of ins 1)) (ints_said xs) []) (λ e. []) (2 * length xs)
+  Elements p at s t xs = Batch ins outs (behaviour_of reduce_machine) (stage_on p at s) (stage_on p at t) (λ e. cond (eqb e (edge_of ins 0)) (flags_said (elements_block (length xs))) [] ++ cond (eqb e (edge_of ins 1)) (ints_said xs) []) (λ e. []) (2 * length xs)
 
   one_element : (p : Dialect × Reduction) (at : ℕ) (s : Stage) (so_far more : Option Scalar) (x : ℤ) → AwaitsFlag p.1 s so_far → reduced_more p.0 p.1 so_far (Int x) ≡ Ok more → Elements p at s (Flag more) (x ∷ [])
   one_element p at s so_far more x awaits is =
@@ -118,8 +118,8 @@ module _ (ins outs : List ℕ) where
       go (Err kind) first rest is = absurd (cc)
       go (Ok held) first rest is =
           let b = behaviour_of reduce_machine in
-          let reads = λ (e : ℕ). cond (eqb e (edge_of ins 0)) (flags_said (elements_row (length (x ∷ y ∷ ys)))) [] ++ cond (eqb e (edge_of ins 1)) (ints_said (x ∷ y ∷ ys)) [] in
-          let all = batch_as ins outs b (batch_then ins outs b (one_element p at s so_far held x awaits first) (rest held is)) reads (λ e. []) (λ e. blocks_then e (edge_of ins 0) (edge_of ins 1) (carry (flag false) ∷ []) (carry (int x) ∷ []) (flags_said (elements_row (length (y ∷ ys)))) (ints_said (y ∷ ys)) apart) (λ e. refl) in
+          let reads = λ (e : ℕ). cond (eqb e (edge_of ins 0)) (flags_said (elements_block (length (x ∷ y ∷ ys)))) [] ++ cond (eqb e (edge_of ins 1)) (ints_said (x ∷ y ∷ ys)) [] in
+          let all = batch_as ins outs b (batch_then ins outs b (one_element p at s so_far held x awaits first) (rest held is)) reads (λ e. []) (λ e. blocks_then e (edge_of ins 0) (edge_of ins 1) (carry (flag false) ∷ []) (carry (int x) ∷ []) (flags_said (elements_block (length (y ∷ ys)))) (ints_said (y ∷ ys)) apart) (λ e. refl) in
           let count : 2 + 2 * length (y ∷ ys) ≡ 2 * length (x ∷ y ∷ ys) = omega arith in
           subst (Batch ins outs b (stage_on p at s) (stage_on p at (Flag more)) reads (λ e. [])) count all
 
@@ -134,11 +134,11 @@ module _ (ins outs : List ℕ) where
 
   -- blocks that are skipped are those rounds
   pub elements_went : edge_of ins 0 ≢ edge_of ins 1 → 1 < length ins → (p : Dialect × Reduction) (at : ℕ) (more : Option Scalar) (s : Stage) (so_far : Option Scalar) (xs : List ℤ) → 0 < length xs → AwaitsFlag p.1 s so_far → reduced_ints p.0 p.1 so_far xs ≡ Ok more → (a v w : View) →
-      TakenAll a (edge_of ins 0) (flags_said (elements_row (length xs))) v → TakenAll v (edge_of ins 1) (ints_said xs) w → Went ins outs (behaviour_of reduce_machine) (stage_on p at s) a (stage_on p at (Flag more)) w (2 * length xs)
+      TakenAll a (edge_of ins 0) (flags_said (elements_block (length xs))) v → TakenAll v (edge_of ins 1) (ints_said xs) w → Went ins outs (behaviour_of reduce_machine) (stage_on p at s) a (stage_on p at (Flag more)) w (2 * length xs)
   elements_went apart there p at more s so_far [] some awaits is a v w flags elements = absurd (omega arith)
   elements_went apart there p at more s so_far (x ∷ xs) some awaits is a v w flags elements =
       let b = behaviour_of reduce_machine in
-      let one = shifted_skip ins outs (shifted_none ins outs a) 0 (flags_said (elements_row (length (x ∷ xs)))) v (omega arith) flags in
+      let one = shifted_skip ins outs (shifted_none ins outs a) 0 (flags_said (elements_block (length (x ∷ xs)))) v (omega arith) flags in
       let two = shifted_skip ins outs one 1 (ints_said (x ∷ xs)) w there elements in
       let all = went_batch ins outs b (went_none b ins outs (stage_on p at s) a) (elements_rounds apart p at more s so_far x xs awaits is) (omega arith) w two in
       let count : 0 + 2 * length (x ∷ xs) ≡ 2 * length (x ∷ xs) = omega arith in

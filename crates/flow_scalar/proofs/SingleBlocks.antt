@@ -13,17 +13,13 @@ use Rattle.flow_base.proofs.Batches.{Batch, block_then, batch_none, batch_read, 
 abbrev no_messages : List Signal
 no_messages = []
 
-pub row_none : (b : Bool) → cond b no_messages no_messages ≡ no_messages
-row_none true = refl
-row_none false = refl
+pub block_none : (b : Bool) → cond b no_messages no_messages ≡ no_messages
+block_none true = refl
+block_none false = refl
 
 -- what is shown is certain
 pub shown_certain : (k : ℕ) (ms c : List Signal) → IsPrefix ms c → k ≤ length ms → k ≤ length c
 shown_certain k ms c (more, is) within = omega (arith, within, length-append ms more, ap length is)
-
--- what is skipped is what was shown
-pub skipped : (k : ℕ) (ms block : List Signal) (v : View) (e : ℕ) (w : View) → IsPrefix ms (v.coming e) → k ≤ length ms → take k ms ≡ block → TakenAll v e (take k (v.coming e)) w → TakenAll v e block w
-skipped k ms block v e w first within is taken = subst (λ l. TakenAll v e l w) (shown ms (v.coming e) k first within ∙ is) taken
 
 module _ (inputs outputs : List ℕ) {S : Type 0} (b : Behaviour S) where
   -- a block of port 0, which nothing is written for
@@ -31,7 +27,7 @@ module _ (inputs outputs : List ℕ) {S : Type 0} (b : Behaviour S) where
   Swallows s t xs n = Batch inputs outputs b s t (λ e. cond (eqb e (edge_of inputs 0)) xs []) (λ e. []) n
 
   pub swallows_none : (s : S) → Swallows s s [] 0
-  swallows_none s = batch_as inputs outputs b (batch_none inputs outputs b s) _ _ (λ e. sym (row_none (eqb e (edge_of inputs 0)))) (λ e. refl)
+  swallows_none s = batch_as inputs outputs b (batch_none inputs outputs b s) _ _ (λ e. sym (block_none (eqb e (edge_of inputs 0)))) (λ e. refl)
 
   pub swallows_one : (s t : S) (m : Signal) → b.process.want s ≡ Read 0 → t ≡ b.process.read s m → Swallows s t (m ∷ []) 1
   swallows_one s t m wants is = batch_as inputs outputs b (batch_read inputs outputs b (batch_none inputs outputs b s) 0 m t wants is) _ _ (λ e. refl) (λ e. refl)
@@ -47,10 +43,10 @@ module _ (inputs outputs : List ℕ) {S : Type 0} (b : Behaviour S) where
   Singles s t xs zs n = Batch inputs outputs b s t (λ e. cond (eqb e (edge_of inputs 0)) xs []) (λ e. cond (eqb e (edge_of outputs 0)) zs []) n
 
   pub singles_none : (s : S) → Singles s s [] [] 0
-  singles_none s = batch_as inputs outputs b (batch_none inputs outputs b s) _ _ (λ e. sym (row_none (eqb e (edge_of inputs 0)))) (λ e. sym (row_none (eqb e (edge_of outputs 0))))
+  singles_none s = batch_as inputs outputs b (batch_none inputs outputs b s) _ _ (λ e. sym (block_none (eqb e (edge_of inputs 0)))) (λ e. sym (block_none (eqb e (edge_of outputs 0))))
 
   pub singles_read : (s t : S) (m : Signal) → b.process.want s ≡ Read 0 → t ≡ b.process.read s m → Singles s t (m ∷ []) [] 1
-  singles_read s t m wants is = batch_as inputs outputs b (batch_read inputs outputs b (batch_none inputs outputs b s) 0 m t wants is) _ _ (λ e. refl) (λ e. sym (row_none (eqb e (edge_of outputs 0))))
+  singles_read s t m wants is = batch_as inputs outputs b (batch_read inputs outputs b (batch_none inputs outputs b s) 0 m t wants is) _ _ (λ e. refl) (λ e. sym (block_none (eqb e (edge_of outputs 0))))
 
   pub singles_one : (s t u : S) (m : Signal) (x : Cell) → b.process.want s ≡ Read 0 → t ≡ b.process.read s m → b.process.want t ≡ Write 0 → carry x ≡ b.process.written t → u ≡ b.process.wrote t → Singles s u (m ∷ []) (carry x ∷ []) 2
   singles_one s t u m x wants is wants_then told is_then = batch_as inputs outputs b (batch_write inputs outputs b (batch_read inputs outputs b (batch_none inputs outputs b s) 0 m t wants is) 0 x u wants_then told is_then) _ _ (λ e. refl) (λ e. refl)

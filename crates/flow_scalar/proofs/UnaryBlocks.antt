@@ -21,7 +21,7 @@ use Rattle.flow_scalar.specs.Operands.{operand_in, on_operand}
 use Rattle.flow_scalar.specs.Scalars.{cell_of_scalar}
 use Rattle.flow_scalar.specs.UnaryMachine.{unary_next, unary_machine}
 use Rattle.flow_scalar.proofs.Leading.{operand_taken}
-use Rattle.flow_scalar.proofs.ValueBlocks.{values_said, one_more, ended_values, no_row}
+use Rattle.flow_scalar.proofs.ValueBlocks.{values_said, one_more, ended_values, no_block}
 
 -- what has a value at an operand takes it
 takes_it : (dialect : Dialect) (op : UnaryOperator) (x v : Scalar) → unary_value dialect op x ≡ Ok v → operand_in (unary_operand op) (cell_of_scalar x) ≡ Ok x
@@ -69,7 +69,7 @@ module _ (dialect : Dialect) (op : UnaryOperator) (inputs outputs : List ℕ) (a
 
     -- operands at which there are values are rounds
     pub block : (xs zs : List A) (n : ℕ) → n ≤ length xs → n ≤ length zs → ValuesAt xs zs n → Block xs zs n
-    block xs zs zero in_xs in_zs values = batch_as inputs outputs (behaviour_of unary_machine) (batch_none inputs outputs (behaviour_of unary_machine) (on None)) _ _ (λ e. no_row (eqb e (edge_of inputs 0))) (λ e. no_row (eqb e (edge_of outputs 0)))
+    block xs zs zero in_xs in_zs values = batch_as inputs outputs (behaviour_of unary_machine) (batch_none inputs outputs (behaviour_of unary_machine) (on None)) _ _ (λ e. no_block (eqb e (edge_of inputs 0))) (λ e. no_block (eqb e (edge_of outputs 0)))
     block xs zs (suc n) in_xs in_zs values =
         let is : n + 1 ≡ suc n = omega arith in
         subst (Block xs zs) is (block_more xs zs n (omega arith) (omega arith) (values n (omega arith)) (block xs zs n (omega arith) (omega arith) (λ k below. values k (omega arith))))

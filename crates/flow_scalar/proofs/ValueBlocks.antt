@@ -21,6 +21,6 @@ ended_values said [] = refl
 ended_values said (z ∷ zs) = ended_values said zs
 
 -- a block of nothing
-pub no_row : (b : Bool) → ints_said [] ≡ cond b (ints_said []) []
-no_row true = refl
-no_row false = refl
+pub no_block : (b : Bool) → ints_said [] ≡ cond b (ints_said []) []
+no_block true = refl
+no_block false = refl

@@ -25,21 +25,21 @@ pub held_at : (held : Option Item) (copies : Bool) (item : Item) → held ≡ So
 held_at held copies item some idle = ap (λ o. step_of o copies) some ∙ ap (step_of (Some item)) idle
 
 -- places that all hold one value
-pub same_row : {A : Type 0} (x d : A) (n : ℕ) (xs : List A) → n ≤ length xs → ((k : ℕ) → k < n → get_or xs k d ≡ x) → take n xs ≡ replicate n x
-same_row x d zero xs within same = refl
-same_row x d (suc n) [] within same = absurd (omega arith)
-same_row x d (suc n) (y ∷ xs) within same =
+pub same_block : {A : Type 0} (x d : A) (n : ℕ) (xs : List A) → n ≤ length xs → ((k : ℕ) → k < n → get_or xs k d ≡ x) → take n xs ≡ replicate n x
+same_block x d zero xs within same = refl
+same_block x d (suc n) [] within same = absurd (omega arith)
+same_block x d (suc n) (y ∷ xs) within same =
     let first : y ≡ x = same 0 (omega arith) in
-    let rest : take n xs ≡ replicate n x = same_row x d n xs (omega arith) (λ k h. same (suc k) (omega arith)) in
+    let rest : take n xs ≡ replicate n x = same_block x d n xs (omega arith) (λ k h. same (suc k) (omega arith)) in
     ap (λ z. z ∷ take n xs) first ∙ ap (λ l. x ∷ l) rest
 
 -- the flags of elements, and the flag that ends their segment
-pub segment_row : (n : ℕ) (xs : List Bool) → n < length xs → ((k : ℕ) → k < n → get_or xs k true ≡ false) → get_or xs n false ≡ true → flags_said (take (suc n) xs) ≡ flags_said (replicate n false) ++ carry (flag true) ∷ []
-segment_row n [] within same last = absurd (omega arith)
-segment_row zero (y ∷ xs) within same last = ap (λ z. carry (flag z) ∷ []) last
-segment_row (suc n) (y ∷ xs) within same last =
+pub segment_block : (n : ℕ) (xs : List Bool) → n < length xs → ((k : ℕ) → k < n → get_or xs k true ≡ false) → get_or xs n false ≡ true → flags_said (take (suc n) xs) ≡ flags_said (replicate n false) ++ carry (flag true) ∷ []
+segment_block n [] within same last = absurd (omega arith)
+segment_block zero (y ∷ xs) within same last = ap (λ z. carry (flag z) ∷ []) last
+segment_block (suc n) (y ∷ xs) within same last =
     let first : y ≡ false = same 0 (omega arith) in
-    let rest = segment_row n xs (omega arith) (λ k h. same (suc k) (omega arith)) last in
+    let rest = segment_block n xs (omega arith) (λ k h. same (suc k) (omega arith)) last in
     ap (λ z. carry (flag z) ∷ flags_said (take (suc n) xs)) first ∙ ap (λ l. carry (flag false) ∷ l) rest
 
 -- blocks of one value
@@ -56,10 +56,6 @@ pub ended_copies : (n : ℕ) (x : Cell) → ended (replicate n (carry x)) ≡ fa
 unfolding ended
 ended_copies zero x = refl
 ended_copies (suc n) x = ended_copies n x
-
--- what is skipped is what was shown
-pub skipped : (k : ℕ) (ms block : List Signal) (v : View) (e : ℕ) (w : View) → IsPrefix ms (v.coming e) → k ≤ length ms → take k ms ≡ block → TakenAll v e (take k (v.coming e)) w → TakenAll v e block w
-skipped k ms block v e w first within is taken = subst (λ l. TakenAll v e l w) (shown ms (v.coming e) k first within ∙ is) taken
 
 -- the first that is shown is the next that comes
 pub first_int : (xs : List ℤ) (c : List Signal) → 0 < length xs → IsPrefix (ints_said xs) c → take 1 c ≡ carry (int (get_or xs 0 (pos 0))) ∷ []
@@ -78,9 +74,9 @@ first_unit (suc n) c some seen = shown (units_said (suc n)) c 1 seen (omega arit
 abbrev no_messages : List Signal
 no_messages = []
 
-row_none : (b : Bool) → no_messages ≡ cond b no_messages no_messages
-row_none true = refl
-row_none false = refl
+block_none : (b : Bool) → no_messages ≡ cond b no_messages no_messages
+block_none true = refl
+block_none false = refl
 
 module _ (ins outs : List ℕ) (kind : Kind) (at : ℕ) where
   abbrev on : Step → NodeState (Kind × Step)
@@ -94,7 +90,7 @@ module _ (ins outs : List ℕ) (kind : Kind) (at : ℕ) where
   pub copies_rounds : (x : Cell) (n : ℕ) → Copies (at_flag x) (at_flag x) (flags_said (replicate n false)) (replicate n (carry x)) (2 * n)
   copies_rounds x zero =
       let b = behaviour_of dist_machine in
-      batch_as ins outs b (batch_none ins outs b (on (at_flag x))) (λ e. cond (eqb e (edge_of ins 1)) [] []) (λ e. cond (eqb e (edge_of outs 0)) [] []) (λ e. row_none (eqb e (edge_of ins 1))) (λ e. row_none (eqb e (edge_of outs 0)))
+      batch_as ins outs b (batch_none ins outs b (on (at_flag x))) (λ e. cond (eqb e (edge_of ins 1)) [] []) (λ e. cond (eqb e (edge_of outs 0)) [] []) (λ e. block_none (eqb e (edge_of ins 1))) (λ e. block_none (eqb e (edge_of outs 0)))
   copies_rounds x (suc n) =
       let b = behaviour_of dist_machine in
       let reads = λ (e : ℕ). cond (eqb e (edge_of ins 1)) (flags_said (replicate (suc n) false)) [] in

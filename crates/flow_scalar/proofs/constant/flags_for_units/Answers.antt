@@ -3,10 +3,9 @@ use Rattle.snesl_operators.specs.declared.scalar.Scalar.TheVariants.{Bool as Tru
 use Rattle.flow_messages.specs.Ends.{PutAll}
 use Rattle.flow_messages.specs.Blocks.{units_said}
 use Rattle.flow_base.proofs.Carried.{same_ends_refl, same_ends_then}
-use Rattle.flow_base.proofs.Batches.{take_units, length_units}
+use Rattle.flow_base.proofs.Batches.{take_units, length_units, skipped}
 use Rattle.flow_scalar.specs.Scalars.{cell_of_scalar}
-use Rattle.flow_scalar.proofs.SingleBlocks.{skipped}
-use Rattle.flow_scalar.proofs.ConstBlocks.{copies, row_flags, written_none, written_looked, written_more}
+use Rattle.flow_scalar.proofs.ConstBlocks.{copies, block_flags, written_none, written_looked, written_more}
 use Rattle.flow_scalar.proofs.constant.flags_for_units.Goals as goal
 
 pub loop-block-init : goal.loop-block-init
@@ -43,7 +42,7 @@ loop-block-preserved g c =
     let block : count ≤ 64 = omega (arith, c.min-count.ensures) in
     let some : 0 < count = omega (arith, c.if-count-eq0.false) in
     let taken = skipped count (units_said c.units.result) (units_said count) u from x c.units.ensures (omega (arith, shown, length_units c.units.result)) (take_units count c.units.result shown) c.skip.ensures.taken in
-    let put : PutAll x to (copies (cell_of_scalar k) count) w = subst (λ l. PutAll x to l w) (row_flags c.args.truth count 64 block) c.put_flags.ensures.put in
+    let put : PutAll x to (copies (cell_of_scalar k) count) w = subst (λ l. PutAll x to l w) (block_flags c.args.truth count 64 block) c.put_flags.ensures.put in
     let E = g.met.E.Ends in
     record {
       same = E.same_trans c.args.ends.now c.skip.new.self c.put_flags.new.self (E.same_trans c.args.ends.now c.space-room.new.self c.skip.new.self (E.same_trans c.args.ends.now c.loop-block.ends c.space-room.new.self inv.same c.space-room.ensures.same) c.skip.ensures.same) c.put_flags.ensures.same;

@@ -3,9 +3,8 @@ use Rattle.std.proofs.lemmas.List.{length-take-le}
 use Rattle.flow_messages.specs.Cells.{flag, is_of}
 use Rattle.flow_messages.specs.Ends.{TakenAll}
 use Rattle.flow_messages.specs.Blocks.{flags_said}
-use Rattle.flow_base.proofs.Batches.{ended_flags, take_flags, length_flags}
+use Rattle.flow_base.proofs.Batches.{ended_flags, take_flags, length_flags, skipped}
 use Rattle.flow_scalar.specs.ForkCopies.{PutOnEach}
-use Rattle.flow_scalar.proofs.SingleBlocks.{skipped}
 use Rattle.flow_scalar.proofs.ForkBlocks.{Copies, copies_flags, copies_went, copied_none, filled}
 use Rattle.flow_scalar.proofs.fork.flags_to_each.Goals as goal
 

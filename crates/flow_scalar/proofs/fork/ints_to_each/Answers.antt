@@ -3,9 +3,8 @@ use Rattle.std.proofs.lemmas.List.{length-take-le}
 use Rattle.flow_messages.specs.Cells.{int, is_of}
 use Rattle.flow_messages.specs.Ends.{TakenAll}
 use Rattle.flow_messages.specs.Blocks.{ints_said}
-use Rattle.flow_base.proofs.Batches.{ended_ints, take_ints, length_ints}
+use Rattle.flow_base.proofs.Batches.{ended_ints, take_ints, length_ints, skipped}
 use Rattle.flow_scalar.specs.ForkCopies.{PutOnEach}
-use Rattle.flow_scalar.proofs.SingleBlocks.{skipped}
 use Rattle.flow_scalar.proofs.ForkBlocks.{Copies, copies_ints, copies_went, copied_none, filled}
 use Rattle.flow_scalar.proofs.fork.ints_to_each.Goals as goal
 

@@ -2,8 +2,7 @@ use Rattle.std.proofs.Common.{◌+◌, ◌*◌, ◌<◌, ◌≤◌, length, sym,
 use Rattle.flow_messages.specs.Cells.{unit, is_of}
 use Rattle.flow_messages.specs.Ends.{TakenAll}
 use Rattle.flow_messages.specs.Blocks.{units_said}
-use Rattle.flow_base.proofs.Batches.{ended_units, take_units, length_units}
-use Rattle.flow_scalar.proofs.SingleBlocks.{skipped}
+use Rattle.flow_base.proofs.Batches.{ended_units, take_units, length_units, skipped}
 use Rattle.flow_scalar.proofs.ForkBlocks.{copies_units, copies_went, copied_none}
 use Rattle.flow_scalar.proofs.fork.units_to_each.Goals as goal
 

@@ -9,7 +9,7 @@ use Rattle.flow_base.proofs.Carried.{same_ends_then}
 use Rattle.flow_base.proofs.Kernels.{went_none, went_looked}
 use Rattle.flow_scalar.specs.declared.iota.Iota.TheVariants.{Flag}
 use Rattle.flow_scalar.specs.IotaMachine.{iota_machine}
-use Rattle.flow_scalar.proofs.IotaBlocks.{numbers_row, elements_are, filled_row, on, numbers_went}
+use Rattle.flow_scalar.proofs.IotaBlocks.{numbers_block, elements_are, filled_block, on, numbers_went}
 use Rattle.flow_scalar.proofs.iota.put_numbers.Goals as goal
 
 pub returns-then-count-eq0-clause-went : goal.returns-then-count-eq0-clause-went
@@ -52,7 +52,7 @@ returns-clause-went g c = λ ins at.
     let back : to_z w128 (of_z w128 c.args.next) ≡ c.args.next = search rules in
     let filled : (k : ℕ) → k < n → get_or c.fill.new.block k (pos 0) ≡ c.args.next +ℤ pos k = λ k h. c.fill.ensures.filled k h ∙ ap (λ q. q +ℤ pos k) back in
     let within : n ≤ 64 = omega (arith, c.numbers_left.ensures.block) in
-    let block : take n c.fill.new.block ≡ numbers_row c.args.next n = filled_row c.args.next n c.fill.new.block (omega (arith, c.fill.ensures.length)) filled in
+    let block : take n c.fill.new.block ≡ numbers_block c.args.next n = filled_block c.args.next n c.fill.new.block (omega (arith, c.fill.ensures.length)) filled in
     let flagged = subst (λ bs. PutAll (view c.space-2.new.self) (edge_of outs 0) (flags_said bs) u) (elements_are n 64 within) c.put_flags.ensures.put in
     let numbered = subst (λ ns. PutAll u (edge_of outs 1) (ints_said ns) w) block c.put_ints.ensures.put in
     numbers_went ins outs c.requires.apart (omega (arith, c.requires.two)) at c.args.end n c.args.next fits some a (view c.space-2.new.self) u w looked flagged numbered

@@ -6,7 +6,7 @@ use Rattle.flow_messages.specs.Cells.{cell_of, flag}
 use Rattle.flow_messages.specs.Ends.{PutAll}
 use Rattle.flow_messages.specs.Blocks.{flags_said, ints_said}
 use Rattle.flow_messages.specs.Signals.{carry}
-use Rattle.flow_segment.proofs.DistBlocks.{same_row, flags_same, ints_same}
+use Rattle.flow_segment.proofs.DistBlocks.{same_block, flags_same, ints_same}
 use Rattle.flow_segment.proofs.dist.put_copies.Goals as goal
 
 pub returns-then-truth-clause-put : goal.returns-then-truth-clause-put
@@ -31,6 +31,6 @@ returns-in-Int-clause-put g c =
     let part : length (take n c.args.block.now) ≡ n = length-take-le n c.args.block.now (omega (arith, c.requires.block)) in
     let long : length xs ≡ n = c.fill.ensures.length ∙ part in
     let filled : (k : ℕ) → k < n → get_or xs k (pos 0) ≡ v = λ k h. c.fill.ensures.filled k (omega arith) ∙ back in
-    let same : xs ≡ replicate n v = sym (take_all n xs (omega arith)) ∙ same_row v (pos 0) n xs (omega arith) filled in
+    let same : xs ≡ replicate n v = sym (take_all n xs (omega arith)) ∙ same_block v (pos 0) n xs (omega arith) filled in
     let says : ints_said xs ≡ replicate n (carry (cell_of c.args.item.now)) = ap ints_said same ∙ ints_same n v ∙ ap (λ i. replicate n (carry (cell_of i))) (sym c.in-Int.is) in
     subst (λ ms. PutAll (g.E.Ends.view c.args.ends.now) c.args.to ms (g.E.Ends.view c.put_ints.new.self)) says c.put_ints.ensures.put

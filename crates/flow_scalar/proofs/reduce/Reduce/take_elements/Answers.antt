@@ -11,7 +11,7 @@ use Rattle.flow_base.proofs.Kernels.{went_none}
 use Rattle.flow_scalar.specs.ReduceMachine.{reduce_machine}
 use Rattle.flow_scalar.specs.ReduceBlocks.{reduced_ints}
 use Rattle.flow_scalar.specs.declared.reduce.Stage.TheVariants.{Flag}
-use Rattle.flow_scalar.proofs.IotaBlocks.{elements_row}
+use Rattle.flow_scalar.proofs.IotaBlocks.{elements_block}
 use Rattle.flow_scalar.proofs.ReduceBlocks.{stage_on, first_elements, flags_taken, ints_taken, elements_went}
 use Rattle.flow_scalar.proofs.reduce.Reduce.take_elements.Goals as goal
 
@@ -42,8 +42,8 @@ returns-clause-went g c = λ outs at.
     let long : length (take n xs) ≡ n = length-take n xs ∙ omega arith in
     let some : 0 < length (take n xs) = omega (arith, long, c.if-count-eq0.false) in
     let reduced : reduced_ints p.0 p.1 c.in-Some.so_far (take n xs) ≡ Ok more = ap (reduced_ints p.0 p.1 c.in-Some.so_far) (sym block) ∙ c.more_of-count.ensures.reduced in
-    let front : take n bs ≡ elements_row n = first_elements n bs (omega (arith, c.elements_ahead-ahead.ensures.shown)) (λ k h. c.elements_ahead-ahead.ensures.ahead k (omega arith)) in
-    let flags = flags_taken bs (a.coming (edge_of ins 0)) n c.flags.ensures (omega (arith, c.elements_ahead-ahead.ensures.shown)) ∙ ap flags_said (front ∙ ap elements_row (sym long)) in
+    let front : take n bs ≡ elements_block n = first_elements n bs (omega (arith, c.elements_ahead-ahead.ensures.shown)) (λ k h. c.elements_ahead-ahead.ensures.ahead k (omega arith)) in
+    let flags = flags_taken bs (a.coming (edge_of ins 0)) n c.flags.ensures (omega (arith, c.elements_ahead-ahead.ensures.shown)) ∙ ap flags_said (front ∙ ap elements_block (sym long)) in
     let ints = ap (take n) (c.skip.ensures.taken.coming (edge_of ins 1) apart) ∙ ints_taken xs (a.coming (edge_of ins 1)) n c.ints-block.ensures (omega arith) in
     let first = subst (λ ms. TakenAll a (edge_of ins 0) ms v) flags c.skip.ensures.taken in
     let second = subst (λ ms. TakenAll v (edge_of ins 1) ms w) ints c.skip-2.ensures.taken in

@@ -7,9 +7,9 @@ use Rattle.flow_base.specs.Nodes.{behaviour_of, node_state}
 use Rattle.flow_base.specs.Visits.{edge_of, Went}
 use Rattle.flow_base.specs.declared.node.Phase.TheVariants.{Working}
 use Rattle.flow_base.proofs.Kernels.{went_none, went_looked}
-use Rattle.flow_base.proofs.Batches.{take_flags, length_flags}
+use Rattle.flow_base.proofs.Batches.{take_flags, length_flags, skipped}
 use Rattle.flow_segment.specs.DistMachine.{at_start, dist_machine, dist_view}
-use Rattle.flow_segment.proofs.DistBlocks.{held_at, same_row, segment_row, skipped, copies_rounds, segment_rounds, copies_went}
+use Rattle.flow_segment.proofs.DistBlocks.{held_at, same_block, segment_block, copies_rounds, segment_rounds, copies_went}
 use Rattle.flow_segment.proofs.dist.Dist.round.Goals as goal
 
 -- it made no step
@@ -46,7 +46,7 @@ returns-then-ends_at-clause-went g c =
     let within : n < length xs = c.ends_at.ensures.shown c.if-ends_at.true in
     let next : n + 1 ≡ suc n = omega arith in
     let flags = flags_said (replicate n false) ++ carry (flag true) ∷ [] in
-    let block : take (n + 1) (flags_said xs) ≡ flags = take_flags (n + 1) xs ∙ ap (λ k. flags_said (take k xs)) next ∙ segment_row n xs within c.elements_ahead-count.ensures.ahead (c.ends_at.ensures.ends c.if-ends_at.true) in
+    let block : take (n + 1) (flags_said xs) ≡ flags = take_flags (n + 1) xs ∙ ap (λ k. flags_said (take k xs)) next ∙ segment_block n xs within c.elements_ahead-count.ensures.ahead (c.ends_at.ensures.ends c.if-ends_at.true) in
     let taken = skipped (n + 1) (flags_said xs) flags v (edge_of ins 1) w c.flags-shown.ensures (omega (arith, length_flags xs)) block c.skip.ensures.taken in
     λ at.
     let went = copies_went ins outs m.kind at x flags n reads writes a v w z c.space.ensures.looked (segment_rounds ins outs m.kind at x n) (omega arith) taken c.put_copies.ensures.put in
@@ -71,7 +71,7 @@ returns-clause-went g c =
     let writes : 0 < length outs = omega (arith, c.requires.wired.each_output) in
     let made = c.elements_ahead-count.ensures in
     let flags = flags_said (replicate n false) in
-    let block : take n (flags_said xs) ≡ flags = take_flags n xs ∙ ap flags_said (same_row false true n xs made.shown made.ahead) in
+    let block : take n (flags_said xs) ≡ flags = take_flags n xs ∙ ap flags_said (same_block false true n xs made.shown made.ahead) in
     let taken = skipped n (flags_said xs) flags v (edge_of ins 1) w c.flags-shown.ensures (omega (arith, length_flags xs, made.shown)) block c.skip-2.ensures.taken in
     λ at.
     let went = copies_went ins outs m.kind at x flags n reads writes a v w z c.space.ensures.looked (copies_rounds ins outs m.kind at x n) (omega (arith, c.if-count-eq0.false)) taken c.put_copies-2.ensures.put in
