@@ -1,4 +1,4 @@
--- Batch over blocks of workers that read port 0 and write port 0, or nothing.
+-- Blocks of workers that read port 0 and write port 0, or nothing.
 use Rattle.std.proofs.Common.{◌≡◌, ℕ, ◌+◌, ◌<◌, ◌≤◌, Bool, true, false, cond, eqb, List, [], ◌∷◌, ◌++◌, length, take, refl, sym, ◌∙◌, ap, subst, arith, length-append}
 use mathlib.Core.List.{IsPrefix}
 use Rattle.kahn.specs.declared.want.Want.TheVariants.{Read, Write}

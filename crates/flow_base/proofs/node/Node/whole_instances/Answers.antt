@@ -29,7 +29,7 @@ blocks-whole-requires g c =
     let went = went_on_alone b ins outs c.in_ok-first.first c.in_ok-first.ensures.went w (c.look_for_messages.ensures.looked outs) in
     record { wired = wired b ins outs (node.state c.finish.new.self) w (placed_on node.laws placed (made_went went node.laws placed ends)) }
 
--- and where it has gone over the whole
+-- and where it has gone over slices
 pub kernel-more-requires : goal.kernel-more-requires
 kernel-more-requires g c =
     let state = g.W.Worker.state in
@@ -51,7 +51,7 @@ kernel-more-requires g c =
     let went = went_then b ins outs c.in_ok-first.first first next in
     record { wired = wired b ins outs (node_state (state whole.new.self) n.phase n.at) x (placed_on node.laws placed (made_went went node.laws placed ends)) }
 
--- the steps to where an instance may begin, those over the whole, and those of the kernel
+-- the steps to where an instance may begin, those over slices, and those of the kernel
 pub returns-in-Working-clause-went : goal.returns-in-Working-clause-went
 returns-in-Working-clause-went g c =
     let state = g.W.Worker.state in
