@@ -56,7 +56,7 @@ pub struct Node<W> {
     worker: W,
     phase: Phase,
     at: usize,
-    // Whether its last visit made as many steps as it might. It says only how fast the next one is.
+    // Whether its last visit made most of the steps that it might. It says only how fast the next one is.
     is_busy: bool,
 }
 
@@ -325,6 +325,10 @@ impl<W: Worker> Node<W> {
             (E.view ends.old) (⟦<Node<W> as Transducer>⟧.state self.new) (E.view ends.new)) }
     {
         let whole = self.whole(inputs, outputs, ends, chunk)?;
+        // Where these were most of the visit, it ends here: the steps that are left would open an instance.
+        if whole > chunk / 2 {
+            return Ok(whole);
+        }
         if !matches!(self.phase, Phase::Working) {
             return Ok(whole);
         }
@@ -476,7 +480,7 @@ impl<W: Worker> Transducer for Node<W> {
             return self.close(inputs, outputs, ends, chunk);
         }
         let made = self.work(inputs, outputs, ends, chunk)?;
-        self.is_busy = made == chunk;
+        self.is_busy = made > chunk / 2;
         if made == chunk || matches!(self.phase, Phase::Working) {
             return Ok(made > 0);
         }
