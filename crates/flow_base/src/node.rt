@@ -273,6 +273,7 @@ impl<W: Worker> Node<W> {
         ends: &mut E,
         chunk: usize,
     ) -> Result<usize, AllocError>
+        requires works { self.old.phase ≡ Working }
         requires placed { IsPlaced ⟦<Node<W> as Transducer>⟧.behaviour inputs.now outputs.now
             (⟦<Node<W> as Transducer>⟧.state self.old) (E.view ends.old) }
         ensures same { E.same ends.old ends.new }
@@ -286,9 +287,12 @@ impl<W: Worker> Node<W> {
             ⟦<Node<W> as Transducer>⟧.behaviour (⟦<Node<W> as Transducer>⟧.state self.old)
             (E.view ends.old) (⟦<Node<W> as Transducer>⟧.state self.new) (E.view ends.new)) }
     {
-        // In short visits, and where hardly an instance fits into one, single steps are faster.
-        if chunk < LEAST_FOR_BLOCKS || chunk / 2 <= outputs.len() {
+        if chunk < LEAST_FOR_BLOCKS {
             return Ok(0);
+        }
+        // Where hardly an instance fits, the worker goes on from within one, if it can.
+        if chunk / 2 <= outputs.len() {
+            return Ok(self.worker.blocks(inputs, outputs, ends, chunk));
         }
         if chunk < LEAST_FOR_KERNEL {
             // Where the last visit found too few messages, this one hardly finds many.

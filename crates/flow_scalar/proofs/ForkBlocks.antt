@@ -1,5 +1,5 @@
 -- Copies of blocks.
-use Rattle.std.proofs.Common.{◌≡◌, ◌≢◌, ℕ, ℤ, zero, suc, ◌+◌, ◌-◌, ◌*◌, ◌<◌, ◌≤◌, Bool, true, false, ◌||◌, cond, eqb, List, [], ◌∷◌, ◌++◌, length, take, Ok, Err, refl, sym, ◌∙◌, ap, subst, arith, append-nil, ne_eqb, inl, inr}
+use Rattle.std.proofs.Common.{◌≡◌, ◌≢◌, ℕ, ℤ, pos, slice_index_or, zero, suc, ◌+◌, ◌-◌, ◌*◌, ◌<◌, ◌≤◌, Bool, true, false, ◌||◌, cond, eqb, List, [], ◌∷◌, ◌++◌, length, take, Ok, Err, refl, sym, ◌∙◌, ap, subst, arith, append-nil, ne_eqb, inl, inr}
 use Rattle.std.proofs.lemmas.Bool.{cases_eq}
 use Rattle.std.proofs.Math.Seq.{take-length}
 use Rattle.std.proofs.lemmas.List.{length-take-le, take-append-le}
@@ -7,16 +7,16 @@ use mathlib.Core.List.{IsPrefix}
 use Rattle.kahn.specs.declared.want.Want.TheVariants.{Write}
 use Rattle.snesl_data.specs.declared.fault.FaultKind.TheVariants.{Shape}
 use Rattle.flow_messages.specs.Cells.{Cell, unit, flag, int, is_of}
-use Rattle.flow_messages.specs.Ends.{View, TakenAll, PutAll}
+use Rattle.flow_messages.specs.Ends.{View, LookedForRoom, TakenAll, PutAll}
 use Rattle.flow_messages.specs.Blocks.{units_said, flags_said, ints_said}
 use Rattle.flow_messages.specs.declared.message.Kind.{Kind}
 use Rattle.flow_messages.specs.Signals.{Signal, carry, ended}
 use Rattle.flow_base.specs.Machines.{Move, gives, on_kind, ask_of, told_of, after_of}
 use Rattle.flow_base.specs.Nodes.{NodeState, behaviour_of, node_state, want_for}
-use Rattle.flow_base.specs.Visits.{edge_of, Went}
+use Rattle.flow_base.specs.Visits.{edge_of, Went, Wrote}
 use Rattle.flow_base.specs.declared.node.Phase.TheVariants.{Working}
 use Rattle.flow_base.proofs.Carried.{same_ends_refl, same_ends_then, prefix_same, prefix_then}
-use Rattle.flow_base.proofs.Kernels.{leads_on, went_none}
+use Rattle.flow_base.proofs.Kernels.{leads_on, went_none, went_write, went_looked}
 use Rattle.flow_base.proofs.Batches.{Batch, Shifted, block_then, batch_none, batch_read, batch_write, batch_then, batch_as, shifted_none, shifted_skip, shifted_put, batch_went, ended_block}
 use Rattle.flow_scalar.specs.ForkCopies.{is_among, PutOnEach, CopiedOn}
 use Rattle.flow_scalar.specs.ForkMachine.{ForkPorts, Step, fork_ports, step_of, idle, holding, fork_move, fork_machine}
@@ -60,7 +60,7 @@ one_more : (edges : List ℕ) → Rises edges → (n : ℕ) → n < length edges
 one_more edges rises n there block e = joined (is_among edges n e) (eqb e (edge_of edges n)) block (next_among edges rises n there e)
 
 -- so many outputs are to get the item
-abbrev owing : Cell → ℕ → Step
+abbrev pub owing : Cell → ℕ → Step
 owing x zero = idle
 owing x (suc left) = holding x left
 
@@ -210,3 +210,36 @@ copied_none kind from outputs a = λ inputs there is p of_kind counts at.
     let s = on inputs outputs p at idle in
     let none : 0 ≡ (length outputs + 1) * 0 = omega arith in
     subst (Went inputs outputs b s a s a) none (went_none b inputs outputs s a)
+
+-- what is shown begins with its first item
+pub first_flag : (bs : List Bool) (c : List Signal) → IsPrefix (flags_said bs) c → 0 < length bs → IsPrefix (carry (flag (slice_index_or bs 0 false)) ∷ []) c
+first_flag [] c seen some = absurd (omega (arith, some))
+first_flag (b ∷ bs) c (more, is) some = (flags_said bs ++ more, is)
+
+pub first_int : (ns : List ℤ) (c : List Signal) → IsPrefix (ints_said ns) c → 0 < length ns → IsPrefix (carry (int (slice_index_or ns 0 (pos 0))) ∷ []) c
+first_int [] c seen some = absurd (omega (arith, some))
+first_int (n ∷ ns) c (more, is) some = (ints_said ns ++ more, is)
+
+-- a fork writes the item to its next output
+pub one_copy_more : (inputs outputs : List ℕ) (p : ForkPorts) (x : Cell) (left q at : ℕ) {s : NodeState (ForkPorts × Step)} {a v w : View} {n : ℕ} → q < length outputs → q ≡ p.others - left →
+    Went inputs outputs (behaviour_of fork_machine) s a (node_state (p, holding x left) Working at) v n → Wrote v (edge_of outputs q) (carry x) w → Went inputs outputs (behaviour_of fork_machine) s a (node_state (p, owing x left) Working at) w (n + 1)
+one_copy_more inputs outputs p x left q at {s} {a} {v} {w} {n} there is went wrote =
+    let move = gives_next p x left in
+    let state : Move Step → NodeState (ForkPorts × Step) = λ m. node_state (p, after_of (holding x left) m) Working at in
+    went_write (behaviour_of fork_machine) inputs outputs went q (carry x) (node_state (p, owing x left) Working at) w there (ap (λ m. want_for (ask_of m)) move ∙ ap Write (sym is)) (sym (ap (λ m. carry (told_of m)) move)) wrote (sym (ap state move))
+
+-- it looks for room at its next output, and gives the item there
+pub gave : (inputs outputs : List ℕ) (kind : Kind) (n next : ℕ) (x : Cell) (at : ℕ) {s : NodeState (ForkPorts × Step)} {a v u w : View} {k : ℕ} → n ≡ length outputs → next < n →
+    Went inputs outputs (behaviour_of fork_machine) s a (node_state (fork_ports kind n, holding x (n - (next + 1))) Working at) v k → LookedForRoom v (edge_of outputs next) u → Wrote u (edge_of outputs next) (carry x) w →
+    Went inputs outputs (behaviour_of fork_machine) s a (node_state (fork_ports kind n, owing x (n - (next + 1))) Working at) w (k + 1)
+gave inputs outputs kind n next x at counts below went looked wrote =
+    let there : next < length outputs = omega (arith, counts, below) in
+    let is : next ≡ (n - 1) - (n - (next + 1)) = omega (arith, below) in
+    one_copy_more inputs outputs (fork_ports kind n) x (n - (next + 1)) next at there is (went_looked (behaviour_of fork_machine) inputs outputs went next _ there looked) wrote
+
+-- the last output got the item, or the next one is to get it
+pub owing_none : (x : Cell) (n next : ℕ) → next + 1 ≡ n → owing x (n - (next + 1)) ≡ idle
+owing_none x n next last = ap (owing x) (let is : n - (next + 1) ≡ 0 = omega (arith, last) in is)
+
+pub owing_more : (x : Cell) (n next : ℕ) → next + 1 < n → owing x (n - (next + 1)) ≡ holding x (n - ((next + 1) + 1))
+owing_more x n next more = ap (owing x) (let is : n - (next + 1) ≡ suc (n - ((next + 1) + 1)) = omega (arith, more) in is)

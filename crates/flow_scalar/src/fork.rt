@@ -1,14 +1,15 @@
 // Copies of each item.
 
-ghost use Rattle.std.specs.Prelude.{suc, ◌≡◌, ◌≢◌, ◌+◌, ◌<◌, ◌≤◌, ℕ, true, false, Ok, List, length, IfSome};
+ghost use Rattle.std.specs.Prelude.{suc, ◌≡◌, ◌≢◌, ◌+◌, ◌<◌, ◌≤◌, ℕ, true, false, Ok, List, [], ◌∷◌, length, IfSome};
+ghost use mathlib.Core.List.{IsPrefix};
 ghost use Rattle.std.specs.List.{All};
 ghost use Rattle.flow_messages.specs.Cells.{cell_of, is_of};
 ghost use Rattle.flow_messages.specs.Ends.{View, SameEnds};
-ghost use Rattle.flow_messages.specs.Signals.{signal_of};
+ghost use Rattle.flow_messages.specs.Signals.{carry, signal_of};
 ghost use Rattle.flow_messages.specs.Blocks.{units_said, flags_said, ints_said};
 ghost use Rattle.flow_base.specs.Machines.{Leads, on_kind};
 ghost use Rattle.flow_base.specs.Nodes.{NodeState, behaviour_of, node_state};
-ghost use Rattle.flow_base.specs.Visits.{edge_of, Went};
+ghost use Rattle.flow_base.specs.Visits.{edge_of, IsWired, Went};
 ghost use Rattle.flow_base.specs.declared.node.Phase.TheVariants.{Working};
 ghost use Rattle.flow_scalar.specs.ForkCopies.{PutOnEach, CopiedOn};
 ghost use Rattle.flow_scalar.specs.ForkMachine.{ForkPorts, Step, fork_ports, fork_machine, idle, holding};
@@ -71,6 +72,105 @@ impl Fork {
             }
             Msg::End => None,
         }
+    }
+
+    // Gives the item that it holds to the outputs that come next, as long as there is room, in at most `most` steps.
+    // How many. A vector is left to single steps: its copies take memory.
+    #[inline(always)]
+    fn give_on<E: Ends>(&mut self, outputs: &[usize], ends: &mut E, most: usize) -> usize
+        requires outputs { self.old.outputs ≡ length outputs.now }
+        requires writes { All (λ e. (E.view ends.old).writes e ≡ true) outputs.now }
+        ensures same { E.same ends.old ends.new }
+        ensures ends { SameEnds (E.view ends.old) (E.view ends.new) }
+        ensures within { result ≤ most }
+        ensures ports { self.new.outputs ≡ self.old.outputs }
+        ensures went { (inputs : List ℕ) → (at : ℕ) →
+            Went inputs outputs.now (behaviour_of fork_machine)
+            (node_state (⟦<Fork as Worker>⟧.state self.old) Working at) (E.view ends.old)
+            (node_state (⟦<Fork as Worker>⟧.state self.new) Working at) (E.view ends.new)
+            result }
+    {
+        let item = match &self.held {
+            None | Some(Item::Vec(_)) => return 0,
+            Some(item) => copy_of(item),
+        };
+        for made in 0..most {
+            let edge = outputs[self.next];
+            if ends.space(edge) == 0 {
+                return made;
+            }
+            put_in_space(ends, edge, Msg::Item(copy_of(&item)));
+            if self.next + 1 == self.outputs {
+                self.held = None;
+                return made + 1;
+            }
+            self.next += 1;
+        }
+        most
+    }
+
+    // Takes the item that is shown, where it holds none, if `most` is not 0. How many steps.
+    #[inline(always)]
+    fn take_on<E: Ends>(
+        &mut self,
+        inputs: &[usize],
+        outputs: &[usize],
+        ends: &mut E,
+        most: usize,
+    ) -> usize
+        requires wired { IsWired inputs.now outputs.now 1 (length outputs.now)
+            (E.view ends.old) }
+        ensures same { E.same ends.old ends.new }
+        ensures ends { SameEnds (E.view ends.old) (E.view ends.new) }
+        ensures within { result ≤ most }
+        ensures ports { self.new.outputs ≡ self.old.outputs }
+        ensures went { (at : ℕ) → Went inputs.now outputs.now (behaviour_of fork_machine)
+            (node_state (⟦<Fork as Worker>⟧.state self.old) Working at) (E.view ends.old)
+            (node_state (⟦<Fork as Worker>⟧.state self.new) Working at) (E.view ends.new)
+            result }
+    {
+        if most == 0 || self.held.is_some() {
+            return 0;
+        }
+        let Some(item) = item_shown(ends, inputs[0], self.kind) else {
+            return 0;
+        };
+        take_front(ends, inputs[0]);
+        self.held = Some(item);
+        self.next = 0;
+        1
+    }
+
+    // One step after another, at most `most`, for visits into which hardly an instance fits. How many.
+    #[inline(never)]
+    fn step_on<E: Ends>(
+        &mut self,
+        inputs: &[usize],
+        outputs: &[usize],
+        ends: &mut E,
+        most: usize,
+    ) -> usize
+        requires outputs { self.old.outputs ≡ length outputs.now }
+        requires wired { IsWired inputs.now outputs.now 1 (length outputs.now)
+            (E.view ends.old) }
+        ensures same { E.same ends.old ends.new }
+        ensures ends { SameEnds (E.view ends.old) (E.view ends.new) }
+        ensures within { result ≤ most }
+        ensures went { (at : ℕ) → Went inputs.now outputs.now (behaviour_of fork_machine)
+            (node_state (⟦<Fork as Worker>⟧.state self.old) Working at) (E.view ends.old)
+            (node_state (⟦<Fork as Worker>⟧.state self.new) Working at) (E.view ends.new)
+            result }
+    {
+        let mut made = 0;
+        for _ in 0..most {
+            made += self.take_on(inputs, outputs, ends, most - made);
+            let given = self.give_on(outputs, ends, most - made);
+            if given == 0 {
+                return made;
+            }
+            made += given;
+        }
+        made
     }
 }
 
@@ -343,6 +443,41 @@ fn shows<E: Ends>(ends: &E, edge: usize, kind: Kind) -> bool
     }
 }
 
+// The item of this kind that comes first on the edge, where one is shown.
+#[inline(always)]
+fn item_shown<E: Ends>(ends: &E, edge: usize, kind: Kind) -> Option<Item>
+    requires { (E.view ends.now).reads edge ≡ true }
+    ensures first { IfSome result (λ x.
+        IsPrefix (carry (cell_of x) ∷ []) ((E.view ends.now).coming edge)) }
+    ensures leads { IfSome result (λ x. (others : ℕ) →
+        Leads (on_kind kind (λ y. Ok (holding y others))) (carry (cell_of x))
+        (holding (cell_of x) others)) }
+{
+    match kind {
+        Kind::Unit => {
+            if ends.units(edge) == 0 {
+                return None;
+            }
+            Some(Item::Unit)
+        }
+        Kind::Bool => {
+            let flags = ends.flags(edge);
+            if flags.is_empty() {
+                return None;
+            }
+            Some(Item::Bool(flags[0]))
+        }
+        Kind::Int => {
+            let ints = ends.ints(edge);
+            if ints.is_empty() {
+                return None;
+            }
+            Some(Item::Int(ints[0]))
+        }
+        Kind::Vec => None,
+    }
+}
+
 impl Worker for Fork {
     ghost use Rattle.flow_scalar.specs.ForkMachine.{ForkPorts, fork_ports, Step, step_of, fork_machine};
     ghost use Rattle.flow_scalar.specs.laws.Fork.{fork_laws};
@@ -419,15 +554,20 @@ impl Worker for Fork {
         ends: &mut E,
         most: usize,
     ) -> usize {
+        // Hardly an instance fits.
+        if most / 2 <= outputs.len() {
+            return self.step_on(inputs, outputs, ends, most);
+        }
         let from = inputs[0];
-        // An instance is a step for each output and one more. Where nothing is shown, no output is looked at.
-        if most <= outputs.len() || self.held.is_some() || !shows(ends, from, self.kind) {
+        // Where nothing is shown, no output is looked at.
+        if self.held.is_some() || !shows(ends, from, self.kind) {
             return 0;
         }
         // The room of an edge is certain for one output alone.
         if !rise(outputs) {
             return 0;
         }
+        // An instance is a step for each output and one more.
         let steps = outputs.len() + 1;
         let whole = least_space(ends, outputs).min(most / steps);
         let mut flags = [false; BLOCK];

@@ -1,31 +1,14 @@
-use Rattle.std.proofs.Common.{◌≡◌, ◌≢◌, ℕ, zero, suc, ◌+◌, ◌-◌, ◌<◌, ◌≤◌, List, length, refl, sym, ◌∙◌, ap, subst, inl, inr, arith}
+use Rattle.std.proofs.Common.{◌≡◌, ◌≢◌, ℕ, suc, ◌+◌, ◌-◌, ◌<◌, ◌≤◌, length, sym, subst, inl, inr, arith}
 use Rattle.std.proofs.lemmas.Bool.{cases_eq}
-use Rattle.kahn.specs.declared.want.Want.TheVariants.{Write}
-use Rattle.flow_messages.specs.Cells.{Cell, cell_of}
-use Rattle.flow_messages.specs.Ends.{View}
+use Rattle.flow_messages.specs.Cells.{cell_of}
 use Rattle.flow_messages.specs.Signals.{carry}
-use Rattle.flow_base.specs.Machines.{Move, gives, ask_of, told_of, after_of}
-use Rattle.flow_base.specs.Nodes.{NodeState, behaviour_of, node_state, want_for}
+use Rattle.flow_base.specs.Nodes.{behaviour_of, node_state}
 use Rattle.flow_base.specs.Visits.{edge_of, Went, Wrote}
 use Rattle.flow_base.specs.declared.node.Phase.TheVariants.{Working}
 use Rattle.flow_base.proofs.Carried.{same_ends_then}
-use Rattle.flow_base.proofs.Kernels.{went_write}
-use Rattle.flow_scalar.specs.ForkMachine.{ForkPorts, Step, holding, fork_move, fork_machine}
-use Rattle.flow_scalar.proofs.fork.put_on_each.Invariants.{due}
+use Rattle.flow_scalar.specs.ForkMachine.{fork_machine}
+use Rattle.flow_scalar.proofs.ForkBlocks.{owing, one_copy_more}
 use Rattle.flow_scalar.proofs.fork.put_on_each.Goals as goal
-
--- the next output gets the item
-gives_next : (p : ForkPorts) (x : Cell) (left : ℕ) → fork_move p (holding x left) ≡ gives (p.others - left) x (due x left)
-gives_next p x zero = refl
-gives_next p x (suc left) = refl
-
--- a fork writes the item to its next output
-one_more : (inputs outputs : List ℕ) (p : ForkPorts) (x : Cell) (left q at : ℕ) {s : NodeState (ForkPorts × Step)} {a v w : View} {n : ℕ} → q < length outputs → q ≡ p.others - left →
-    Went inputs outputs (behaviour_of fork_machine) s a (node_state (p, holding x left) Working at) v n → Wrote v (edge_of outputs q) (carry x) w → Went inputs outputs (behaviour_of fork_machine) s a (node_state (p, due x left) Working at) w (n + 1)
-one_more inputs outputs p x left q at {s} {a} {v} {w} {n} there is went wrote =
-    let move = gives_next p x left in
-    let state : Move Step → NodeState (ForkPorts × Step) = λ m. node_state (p, after_of (holding x left) m) Working at in
-    went_write (behaviour_of fork_machine) inputs outputs went q (carry x) (node_state (p, due x left) Working at) w there (ap (λ m. want_for (ask_of m)) move ∙ ap Write (sym is)) (sym (ap (λ m. carry (told_of m)) move)) wrote (sym (ap state move))
 
 pub loop-port-preserved : goal.loop-port-preserved
 loop-port-preserved g c =
@@ -54,7 +37,7 @@ loop-port-preserved g c =
           let left = length outs - (port + 1) in
           let now : length outs - port ≡ suc left = omega (arith, there) in
           let is : port ≡ p.others - left = omega (arith, there, count) in
-          let so_far = subst (λ k. Went ins outs b s a (node_state (p, due x k) Working at) v (n + port)) now (inv.went ins p count at s a n began) in
+          let so_far = subst (λ k. Went ins outs b s a (node_state (p, owing x k) Working at) v (n + port)) now (inv.went ins p count at s a n began) in
           let more : (n + port) + 1 ≡ n + (port + 1) = omega arith in
-          subst (Went ins outs b s a (node_state (p, due x left) Working at) w) more (one_more ins outs p x left port at there is so_far put);
+          subst (Went ins outs b s a (node_state (p, owing x left) Working at) w) more (one_copy_more ins outs p x left port at there is so_far put);
     }

@@ -17,8 +17,8 @@ instances_none : (steps made count : ℕ) → count ≡ 0 → steps * made + ste
 instances_none steps made count none = grind (arith, none)
 
 -- it made no step
-pub returns-then-most-outputs-clause-went : goal.returns-then-most-outputs-clause-went
-returns-then-most-outputs-clause-went g c = λ at. went_none (behaviour_of fork_machine) c.args.inputs.now c.args.outputs.now (node_state (fork_view c.args.self.now) Working at) (g.E.Ends.view c.args.ends.now)
+pub returns-then-is_some-clause-went : goal.returns-then-is_some-clause-went
+returns-then-is_some-clause-went g c = λ at. went_none (behaviour_of fork_machine) c.args.inputs.now c.args.outputs.now (node_state (fork_view c.args.self.now) Working at) (g.E.Ends.view c.args.ends.now)
 
 pub returns-then-not-rise-clause-went : goal.returns-then-not-rise-clause-went
 returns-then-not-rise-clause-went g c = λ at. went_none (behaviour_of fork_machine) c.args.inputs.now c.args.outputs.now (node_state (fork_view c.args.self.now) Working at) (g.E.Ends.view c.args.ends.now)

@@ -10,7 +10,7 @@ use Rattle.flow_base.proofs.Carried.{same_ends_then, taken_room}
 use Rattle.flow_base.proofs.Kernels.{went_none, went_read, leads_on}
 use Rattle.flow_scalar.specs.ForkMachine.{ForkPorts, Step, fork_ports, step_of, idle, holding, fork_machine}
 use Rattle.flow_scalar.proofs.Leading.{nothing}
-use Rattle.flow_scalar.proofs.fork.ForkWorker.kernel.Invariants.{fork_view}
+use Rattle.flow_scalar.proofs.ForkBlocks.{fork_view}
 use Rattle.flow_scalar.proofs.fork.ForkWorker.kernel.Goals as goal
 
 -- the steps of one instance more, a read and so many writes

@@ -3,13 +3,9 @@ use Rattle.flow_messages.specs.Ends.{SameEnds}
 use Rattle.flow_base.specs.Nodes.{behaviour_of, node_state}
 use Rattle.flow_base.specs.Visits.{edge_of, Went}
 use Rattle.flow_base.specs.declared.node.Phase.TheVariants.{Working}
-use Rattle.flow_scalar.specs.ForkMachine.{ForkPorts, Step, fork_ports, step_of, fork_machine}
-use Rattle.flow_scalar.specs.declared.fork.Fork.{Fork}
+use Rattle.flow_scalar.specs.ForkMachine.{fork_machine}
+use Rattle.flow_scalar.proofs.ForkBlocks.{fork_view}
 use Rattle.flow_scalar.proofs.fork.ForkWorker.kernel.Given as goal
-
--- what the machine sees of a fork
-abbrev pub fork_view : Fork → ForkPorts × Step
-fork_view n = (fork_ports n.kind n.outputs, step_of n.outputs n.next n.held)
 
 -- the instances so far, one in each round
 abbrev pub invariant-loop-made : goal.invariant-loop-made
