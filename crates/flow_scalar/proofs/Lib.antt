@@ -4,6 +4,7 @@ pub mod ForkBlocks
 pub mod IotaBlocks
 pub mod Leading
 pub mod ReduceBlocks
+pub mod ScanAddBlocks
 pub mod Sending
 pub mod SingleBlocks
 pub mod SinkBlocks

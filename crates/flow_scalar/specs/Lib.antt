@@ -14,6 +14,7 @@ pub mod ReduceBlocks
 pub mod Rows
 pub mod ScalarCells
 pub mod Scalars
+pub mod ScanAddBlocks
 pub mod ScanAddMachine
 pub mod SinkMachine
 pub mod SinkShown

@@ -1,16 +1,21 @@
 // Running sums of segments.
 
-ghost use Rattle.std.specs.Prelude.{◌≡◌, ◌+ℤ◌, true, Ok, [], ◌∷◌, IfSome};
+ghost use Rattle.std.specs.Prelude.{◌≡◌, ◌≢◌, ◌+ℤ◌, ◌≤◌, ℕ, true, Ok, [], ◌∷◌, length, take, IfSome};
 ghost use mathlib.Core.List.{IsPrefix};
 ghost use Rattle.snesl_operators.specs.Operators.{ranged};
 ghost use Rattle.flow_messages.specs.Cells.{flag, int};
+ghost use Rattle.flow_messages.specs.Ends.{SameEnds};
 ghost use Rattle.flow_messages.specs.Signals.{carry};
 ghost use Rattle.flow_base.specs.Flags.{F};
 ghost use Rattle.flow_base.specs.Machines.{given_of};
-ghost use Rattle.flow_scalar.specs.ScanAddMachine.{scan_add_move};
+ghost use Rattle.flow_base.specs.Nodes.{behaviour_of, node_state};
+ghost use Rattle.flow_base.specs.Visits.{edge_of, IsWired, Went};
+ghost use Rattle.flow_base.specs.declared.node.Phase.TheVariants.{Working};
+ghost use Rattle.flow_scalar.specs.ScanAddMachine.{scan_add_move, scan_add_machine, scan_add_view};
+ghost use Rattle.flow_scalar.specs.ScanAddBlocks.{SumsAlong};
 ghost use Rattle.flow_scalar.specs.declared.scan_add.Stage.TheVariants.{Element};
 
-use flow_base::{Ask, Stop, Worker, put_in_space, take_front};
+use flow_base::{Ask, BLOCK, Stop, Worker, put_in_space, take_front};
 use flow_messages::{Ends, Item, Kind, Msg};
 use snesl_data::{Dialect, FaultKind};
 use snesl_operators::sum;
@@ -128,6 +133,86 @@ impl ScanAdd {
             Err(_) => None,
         }
     }
+
+    // Goes along the flags from the stage that holds this: writes the sum before each element that one stands for, and
+    // begins anew after one that ends a segment. It stops where no element is shown, or a sum leaves the range. How many
+    // flags, how many elements, and where they lead.
+    #[inline(always)]
+    fn sums_along(
+        &self,
+        held: (i128, i128),
+        flags: &[bool],
+        elements: &[i128],
+        sums: &mut [i128; BLOCK],
+    ) -> (usize, usize, Stage)
+        requires flag { given_of (scan_add_move self.now.dialect self.now.stage) F ≡
+            Ok (Element held.0 held.1) }
+        requires block { length flags.now ≤ 64 }
+        ensures flags { result.0 ≤ length flags.now }
+        ensures fewer { result.1 ≤ result.0 }
+        ensures elements { result.1 ≤ length elements.now }
+        ensures along { SumsAlong self.now.dialect self.now.stage (take result.0 flags.now)
+            (take result.1 elements.now) (take result.1 sums.new) result.2 }
+    {
+        let (mut before, mut last) = held;
+        let mut stage = self.stage;
+        let mut read = 0;
+        for place in 0..flags.len() {
+            if flags[place] {
+                (before, last) = (0, 0);
+                stage = Stage::Start;
+                continue;
+            }
+            if read == elements.len() {
+                return (place, read, stage);
+            }
+            let Ok(next) = sum(self.dialect, before, last) else {
+                return (place, read, stage);
+            };
+            sums[read] = next;
+            (before, last) = (next, elements[read]);
+            stage = Stage::Flag { before, last };
+            read += 1;
+        }
+        (flags.len(), read, stage)
+    }
+
+    // One block of flags, the elements that they stand for and the sums before these. How many steps it made.
+    #[inline(always)]
+    fn block<E: Ends>(
+        &mut self,
+        inputs: &[usize],
+        outputs: &[usize],
+        ends: &mut E,
+        most: usize,
+        sums: &mut [i128; BLOCK],
+    ) -> usize
+        requires wired { IsWired inputs.now outputs.now 2 1 (E.view ends.old) }
+        requires apart { edge_of inputs.now 0 ≢ edge_of inputs.now 1 }
+        ensures same { E.same ends.old ends.new }
+        ensures ends { SameEnds (E.view ends.old) (E.view ends.new) }
+        ensures within { result ≤ most }
+        ensures went { (at : ℕ) → Went inputs.now outputs.now (behaviour_of scan_add_machine)
+            (node_state (scan_add_view self.old) Working at) (E.view ends.old)
+            (node_state (scan_add_view self.new) Working at) (E.view ends.new) result }
+    {
+        let Some(held) = self.held() else {
+            return 0;
+        };
+        let (flags, elements, to) = (inputs[0], inputs[1], outputs[0]);
+        let room = ends.space(to).min(most / 3).min(BLOCK);
+        let shown = ends.flags(flags);
+        let ahead = &shown[..shown.len().min(room)];
+        let (passed, read, stage) = self.sums_along(held, ahead, ends.ints(elements), sums);
+        if passed == 0 {
+            return 0;
+        }
+        ends.skip(flags, passed);
+        ends.skip(elements, read);
+        ends.put_ints(to, &sums[..read]);
+        self.stage = stage;
+        passed + 2 * read
+    }
 }
 
 impl Worker for ScanAdd {
@@ -191,6 +276,30 @@ impl Worker for ScanAdd {
 
     fn is_between(&self) -> bool {
         matches!(self.stage, Stage::Start | Stage::Flag { .. })
+    }
+
+    // Each round is a block of flags with their elements and sums.
+    #[inline(always)]
+    fn blocks<E: Ends>(
+        &mut self,
+        inputs: &[usize],
+        outputs: &[usize],
+        ends: &mut E,
+        most: usize,
+    ) -> usize {
+        // Nothing is shown, or both blocks come from one edge.
+        if inputs[0] == inputs[1] || ends.flags(inputs[0]).is_empty() {
+            return 0;
+        }
+        let mut sums = [0i128; BLOCK];
+        let mut made = 0;
+        'rounds: loop {
+            let steps = self.block(inputs, outputs, ends, most - made, &mut sums);
+            if steps == 0 {
+                return made;
+            }
+            made += steps;
+        }
     }
 
     // A flag of an element is three steps, and one that ends a segment is one.

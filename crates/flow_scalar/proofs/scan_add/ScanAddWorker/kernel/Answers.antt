@@ -1,10 +1,9 @@
-use Rattle.std.proofs.Common.{◌≡◌, ◌≢◌, ℕ, ◌+◌, ◌<◌, ◌≤◌, ℤ, ◌+ℤ◌, true, Ok, [], ◌∷◌, length, to_z, of_z, refl, sym, ◌∙◌, ap, subst, arith, rules}
+use Rattle.std.proofs.Common.{◌≡◌, ◌≢◌, ◌+◌, ◌<◌, ◌≤◌, ◌+ℤ◌, true, Ok, [], ◌∷◌, length, to_z, of_z, refl, sym, ◌∙◌, ap, subst, arith, rules}
 use Rattle.std.proofs.lemmas.List.Elements.{All-get_or}
 use mathlib.Core.List.{IsPrefix}
 use mir.Syntax.{w128}
 use Rattle.snesl_data.specs.declared.dialect.Dialect.{Dialect}
 use Rattle.snesl_operators.specs.Operators.{ranged}
-use Rattle.kahn.specs.declared.want.Want.TheVariants.{Read}
 use Rattle.flow_messages.specs.Cells.{flag, int}
 use Rattle.flow_messages.specs.Ends.{SameEnds}
 use Rattle.flow_messages.specs.Signals.{carry}
@@ -18,22 +17,9 @@ use Rattle.flow_base.proofs.Kernels.{went_none, went_looked, went_read, went_wri
 use Rattle.flow_scalar.specs.ScanAddMachine.{after_sum, scan_add_move, scan_add_machine, scan_add_view}
 use Rattle.flow_scalar.specs.declared.scan_add.Stage.{Stage}
 use Rattle.flow_scalar.specs.declared.scan_add.Stage.TheVariants.{Start, Flag, Element, Write}
+use Rattle.flow_scalar.proofs.ScanAddBlocks.{flag_next, ends_there}
 use Rattle.flow_scalar.proofs.scan_add.ScanAddWorker.kernel.Goals.{then-segment_ends, else-segment_ends+in-Some-held_after}
 use Rattle.flow_scalar.proofs.scan_add.ScanAddWorker.kernel.Goals as goal
-
--- where F leads to an element, a flag comes next
-flag_next : (d : Dialect) (s : Stage) (before last : ℤ) (at : ℕ) → given_of (scan_add_move d s) F ≡ Ok (Element before last) → (behaviour_of scan_add_machine).process.want (node_state (d, s) Working at) ≡ Read 0
-flag_next d Start before last at e = refl
-flag_next d (Flag b l) before last at e = refl
-flag_next d (Element b l) before last at e = absurd (cc)
-flag_next d (Write b l) before last at e = absurd (cc)
-
--- and T ends the segment
-ends_there : (d : Dialect) (s : Stage) (before last : ℤ) → given_of (scan_add_move d s) F ≡ Ok (Element before last) → given_of (scan_add_move d s) T ≡ Ok Start
-ends_there d Start before last e = refl
-ends_there d (Flag b l) before last e = refl
-ends_there d (Element b l) before last e = absurd (cc)
-ends_there d (Write b l) before last e = absurd (cc)
 
 -- it made no step
 pub returns-in_default-clause-went : goal.returns-in_default-clause-went
