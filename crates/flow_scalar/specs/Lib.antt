@@ -5,6 +5,7 @@ pub mod ForkCopies
 pub mod ForkMachine
 pub mod ForkNode
 pub mod IotaMachine
+pub mod LengthBlocks
 pub mod LengthMachine
 pub mod OperandLaws
 pub mod Operands

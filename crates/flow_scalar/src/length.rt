@@ -1,11 +1,18 @@
 // How many elements each segment has.
 
-ghost use Rattle.std.specs.Prelude.{◌≡◌, IfSome};
+ghost use Rattle.std.specs.Prelude.{◌≡◌, ◌+◌, ◌≤◌, ℕ, true, List, length, take, IfSome};
+ghost use Rattle.std.specs.List.{All};
+ghost use Rattle.snesl_data.specs.Integers.{greatest_integer};
+ghost use Rattle.flow_messages.specs.Ends.{SameEnds};
 ghost use Rattle.flow_messages.specs.Signals.{signal_of};
 ghost use Rattle.flow_base.specs.Machines.{Leads};
-ghost use Rattle.flow_scalar.specs.LengthMachine.{one_more, length_ended, length_counts};
+ghost use Rattle.flow_base.specs.Nodes.{behaviour_of, node_state};
+ghost use Rattle.flow_base.specs.Visits.{IsWired, Went};
+ghost use Rattle.flow_base.specs.declared.node.Phase.TheVariants.{Working};
+ghost use Rattle.flow_scalar.specs.LengthMachine.{one_more, length_ended, length_counts, length_machine, length_view};
+ghost use Rattle.flow_scalar.specs.LengthBlocks.{LengthsAlong};
 
-use flow_base::{Ask, Stop, Worker, put_in_space, take_front};
+use flow_base::{Ask, BLOCK, Stop, Worker, put_in_space, take_front};
 use flow_messages::{Ends, Item, Kind, Msg};
 use snesl_data::{Dialect, FaultKind};
 use std::alloc::AllocError;
@@ -74,6 +81,50 @@ impl Count {
     }
 }
 
+// Whether a count stays in the range with so many elements more.
+#[inline(always)]
+fn stays_in_range(dialect: Dialect, count: u128, more: usize) -> bool
+    ensures { result ≡ true → count + more ≤ greatest_integer dialect }
+{
+    match count.checked_add(more as u128) {
+        Some(all) => all <= dialect.greatest() as u128,
+        None => false,
+    }
+}
+
+// Goes along the flags after so many elements, and writes the length of each segment that ends there, at most so many of
+// them. How many flags, how many lengths, and how many elements came of the segment that has not ended.
+#[inline(always)]
+fn lengths_along(
+    count: u128,
+    flags: &[bool],
+    most: usize,
+    lengths: &mut [i128; BLOCK],
+) -> (usize, usize, u128)
+    requires range { count + length flags.now ≤ 170141183460469231731687303715884105727 }
+    requires block { most ≤ 64 }
+    ensures flags { result.0 ≤ length flags.now }
+    ensures most { result.1 ≤ most }
+    ensures along { LengthsAlong count (take result.0 flags.now)
+        (take result.1 lengths.new) result.2 }
+{
+    let mut elements = count;
+    let mut ended = 0;
+    for place in 0..flags.len() {
+        if !flags[place] {
+            elements += 1;
+            continue;
+        }
+        if ended == most {
+            return (place, ended, elements);
+        }
+        lengths[ended] = elements as i128;
+        ended += 1;
+        elements = 0;
+    }
+    (flags.len(), ended, elements)
+}
+
 impl Length {
     /// A worker in this dialect, before its first instance.
     pub fn new(dialect: Dialect) -> Length
@@ -83,6 +134,69 @@ impl Length {
             dialect,
             count: Count::Counting(0),
         }
+    }
+
+    // Writes the number that is due, where one is and can be written. How many steps it made.
+    #[inline(always)]
+    fn write_due<E: Ends>(&mut self, outputs: &[usize], ends: &mut E, most: usize) -> usize
+        requires outputs { length outputs.now ≡ 1 }
+        requires writes { All (λ e. (E.view ends.old).writes e ≡ true) outputs.now }
+        ensures same { E.same ends.old ends.new }
+        ensures ends { SameEnds (E.view ends.old) (E.view ends.new) }
+        ensures within { result ≤ most }
+        ensures went { (inputs : List ℕ) (at : ℕ) → Went inputs outputs.now
+            (behaviour_of length_machine) (node_state (length_view self.old) Working at)
+            (E.view ends.old) (node_state (length_view self.new) Working at) (E.view ends.new)
+            result }
+    {
+        let Count::Due(number) = self.count else {
+            return 0;
+        };
+        if most == 0 || ends.space(outputs[0]) == 0 {
+            return 0;
+        }
+        ends.put_ints(outputs[0], &[number]);
+        self.count = Count::Counting(0);
+        1
+    }
+
+    // One block of flags, and the lengths of the segments that end in it. How many steps it made.
+    #[inline(always)]
+    fn block<E: Ends>(
+        &mut self,
+        inputs: &[usize],
+        outputs: &[usize],
+        ends: &mut E,
+        most: usize,
+        lengths: &mut [i128; BLOCK],
+    ) -> usize
+        requires wired { IsWired inputs.now outputs.now 1 1 (E.view ends.old) }
+        ensures same { E.same ends.old ends.new }
+        ensures ends { SameEnds (E.view ends.old) (E.view ends.new) }
+        ensures within { result ≤ most }
+        ensures went { (at : ℕ) → Went inputs.now outputs.now (behaviour_of length_machine)
+            (node_state (length_view self.old) Working at) (E.view ends.old)
+            (node_state (length_view self.new) Working at) (E.view ends.new) result }
+    {
+        let Count::Counting(count) = self.count else {
+            return 0;
+        };
+        let (from, to) = (inputs[0], outputs[0]);
+        let room = ends.space(to).min(most / 2).min(BLOCK);
+        let shown = ends.flags(from);
+        let ahead = &shown[..shown.len().min(most - room)];
+        // A count over the range is a fault at the end of its segment, which a single step names.
+        if !stays_in_range(self.dialect, count, ahead.len()) {
+            return 0;
+        }
+        let (passed, written, elements) = lengths_along(count, ahead, room, lengths);
+        if passed == 0 {
+            return 0;
+        }
+        ends.skip(from, passed);
+        ends.put_ints(to, &lengths[..written]);
+        self.count = Count::Counting(elements);
+        passed + written
     }
 }
 
@@ -148,6 +262,30 @@ impl Worker for Length {
         };
         self.count = Count::Counting(0);
         Ok(Item::Int(number))
+    }
+
+    // Each round is a block of flags with the lengths of the segments that end in it.
+    #[inline(always)]
+    fn blocks<E: Ends>(
+        &mut self,
+        inputs: &[usize],
+        outputs: &[usize],
+        ends: &mut E,
+        most: usize,
+    ) -> usize {
+        // Nothing is shown.
+        if ends.flags(inputs[0]).is_empty() {
+            return 0;
+        }
+        let mut lengths = [0i128; BLOCK];
+        let mut made = self.write_due(outputs, ends, most);
+        'rounds: loop {
+            let steps = self.block(inputs, outputs, ends, most - made, &mut lengths);
+            if steps == 0 {
+                return made;
+            }
+            made += steps;
+        }
     }
 
     // Each round is one step, so it goes on from any state, and within a segment too.

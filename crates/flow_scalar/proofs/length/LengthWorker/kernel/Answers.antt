@@ -1,31 +1,21 @@
-use Rattle.std.proofs.Common.{rules, ◌≡◌, ℕ, zero, suc, ◌+◌, ◌<◌, ◌≤◌, length, refl, sym, ◌∙◌, ap, subst, arith}
+use Rattle.std.proofs.Common.{rules, ◌≡◌, ℕ, ◌+◌, ◌<◌, ◌≤◌, length, refl, sym, ◌∙◌, ap, subst, arith}
 use Rattle.std.specs.Int.{w128}
 use mir.Val.{to_z, of_z}
-use Rattle.kahn.specs.declared.want.Want.TheVariants.{Read}
 use Rattle.snesl_data.specs.declared.dialect.Dialect.{Dialect}
-use Rattle.flow_messages.specs.Cells.{Cell, int}
+use Rattle.flow_messages.specs.Cells.{int}
 use Rattle.flow_messages.specs.Ends.{SameEnds}
 use Rattle.flow_messages.specs.Signals.{signal_of, carry}
-use Rattle.flow_base.specs.Machines.{taken, given_of}
 use Rattle.flow_base.specs.Nodes.{NodeState, behaviour_of, node_state}
 use Rattle.flow_base.specs.Visits.{edge_of, Went, Wrote}
 use Rattle.flow_base.specs.declared.node.Phase.TheVariants.{Working}
 use Rattle.flow_base.proofs.Carried.{same_ends_then, taken_room}
 use Rattle.flow_base.proofs.Kernels.{went_none, went_looked, went_read, went_write, leads_on}
-use Rattle.flow_scalar.specs.LengthMachine.{length_counts, length_move, length_machine, length_view}
+use Rattle.flow_scalar.specs.LengthMachine.{length_counts, length_machine, length_view}
 use Rattle.flow_scalar.specs.declared.length.Count.{Count}
 use Rattle.flow_scalar.specs.declared.length.Count.TheVariants.{Counting}
+use Rattle.flow_scalar.proofs.LengthBlocks.{counts_want, counts_read}
 use Rattle.flow_scalar.proofs.length.LengthWorker.kernel.Goals.{in-Counting+in-Some+in-Some-after_message, in-Due+else-room-eq0}
 use Rattle.flow_scalar.proofs.length.LengthWorker.kernel.Goals as goal
-
--- a flag is wanted at the beginning of a segment and within it
-counts_want : (p : Dialect) (n at : ℕ) → (behaviour_of length_machine).process.want (node_state (p, Counting n) Working at) ≡ Read 0
-counts_want p zero at = refl
-counts_want p (suc n) at = refl
-
-counts_read : (p : Dialect) (n : ℕ) (y : Cell) → given_of (length_move p (Counting n)) y ≡ taken (length_counts p n) y
-counts_read p zero y = refl
-counts_read p (suc n) y = refl
 
 pub loop-made-init : goal.loop-made-init
 loop-made-init g c =
