@@ -1,2 +1,3 @@
 mod DistBlocks
 mod Leading
+mod PackBlocks

@@ -1,5 +1,5 @@
 -- The items that are to be kept: the machine.
-use Rattle.std.specs.Prelude.{◌≡◌, ℕ, zero, true, false, Bool, Ok}
+use Rattle.std.specs.Prelude.{◌≡◌, ℕ, zero, suc, true, false, Bool, Ok, List, [], ◌∷◌}
 use Rattle.snesl_data.specs.declared.dialect.Dialect.{Dialect}
 use Rattle.flow_messages.specs.Cells.{Cell, cell_of, is_of}
 use Rattle.flow_messages.specs.declared.message.Kind.{Kind}
@@ -65,3 +65,15 @@ pack_machine = record {
 -- what the machine sees of a worker
 abbrev pub pack_view : Pack → Kind × Step
 pack_view n = (n.kind, step_of n.pair)
+
+-- the items whose truth values are true
+abbrev pub kept : {A : Type 0} → List Bool → List A → List A
+kept (true ∷ bs) (x ∷ xs) = x ∷ kept bs xs
+kept (false ∷ bs) (x ∷ xs) = kept bs xs
+kept _ _ = []
+
+-- how many truth values are true
+abbrev pub trues : List Bool → ℕ
+trues [] = 0
+trues (true ∷ bs) = suc (trues bs)
+trues (false ∷ bs) = trues bs

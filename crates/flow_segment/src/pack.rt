@@ -1,9 +1,15 @@
 // The items that are to be kept.
 
-ghost use Rattle.std.specs.Prelude.{◌≡◌};
+ghost use Rattle.std.specs.Prelude.{◌≡◌, ◌≢◌, ◌≤◌, ℕ, length, take};
+ghost use Rattle.flow_messages.specs.Ends.{SameEnds};
+ghost use Rattle.flow_base.specs.Nodes.{behaviour_of, node_state};
+ghost use Rattle.flow_base.specs.Visits.{edge_of, IsWired, Went};
+ghost use Rattle.flow_base.specs.declared.node.Phase.TheVariants.{Working};
+ghost use Rattle.flow_segment.specs.PackMachine.{kept, trues, pack_machine, pack_view};
+ghost use Rattle.flow_segment.specs.declared.pack.Pair.TheVariants.{Start as StartState};
 
 use crate::fronts::{flag_in_front, scalar_in_front};
-use flow_base::{Ask, Stop, Worker, put_in_space, take_front};
+use flow_base::{Ask, BLOCK, Stop, Worker, put_in_space, take_front};
 use flow_messages::{Ends, Item, Kind, Msg};
 use snesl_data::FaultKind;
 use std::alloc::AllocError;
@@ -30,6 +36,36 @@ pub struct Pack {
     pair: Pair,
 }
 
+// Puts the items that are kept side by side, at the front of the block. How many they are.
+#[inline(always)]
+fn keep<T: Copy>(truths: &[bool], items: &[T], block: &mut [T; BLOCK]) -> usize
+    requires items { length items.now ≡ length truths.now }
+    requires block { length truths.now ≤ 64 }
+    ensures within { result ≤ length truths.now }
+    ensures kept { take result block.new ≡ kept truths.now items.now }
+{
+    let mut count = 0;
+    for at in 0..truths.len() {
+        // Each item is put, since a jump for each truth value costs more. The next takes the place of one that is dropped.
+        block[count] = items[at];
+        count += usize::from(truths[at]);
+    }
+    count
+}
+
+// How many of the truth values are true.
+#[inline(always)]
+fn trues_in(truths: &[bool]) -> usize
+    ensures trues { result ≡ trues truths.now }
+    ensures within { result ≤ length truths.now }
+{
+    let mut found = 0;
+    for at in 0..truths.len() {
+        found += usize::from(truths[at]);
+    }
+    found
+}
+
 impl Pack {
     ghost use Rattle.flow_segment.specs.PackMachine.{at_start};
 
@@ -40,6 +76,71 @@ impl Pack {
         Pack {
             kind,
             pair: Pair::Start,
+        }
+    }
+
+    // The pairs that are shown, a block at most. One that is kept is three steps, and one that is not is two. How many
+    // steps it made.
+    #[inline(always)]
+    fn round<E: Ends>(
+        &self,
+        inputs: &[usize],
+        outputs: &[usize],
+        ends: &mut E,
+        most: usize,
+        block: &mut [i128; BLOCK],
+    ) -> usize
+        requires start { self.now.pair ≡ StartState }
+        requires apart { edge_of inputs.now 0 ≢ edge_of inputs.now 1 }
+        requires wired { IsWired inputs.now outputs.now 2 1 (E.view ends.old) }
+        ensures same { E.same ends.old ends.new }
+        ensures ends { SameEnds (E.view ends.old) (E.view ends.new) }
+        ensures within { result ≤ most }
+        ensures went { (at : ℕ) → Went inputs.now outputs.now (behaviour_of pack_machine)
+            (node_state (pack_view self.now) Working at) (E.view ends.old)
+            (node_state (pack_view self.now) Working at) (E.view ends.new) result }
+    {
+        let (truths, items, to) = (inputs[0], inputs[1], outputs[0]);
+        let room = ends.space(to).min(BLOCK).min(most / 3);
+        let shown = ends.flags(truths);
+        match self.kind {
+            Kind::Int => {
+                let ints = ends.ints(items);
+                let whole = room.min(shown.len()).min(ints.len());
+                if whole == 0 {
+                    return 0;
+                }
+                let count = keep(&shown[..whole], &ints[..whole], block);
+                ends.skip(truths, whole);
+                ends.skip(items, whole);
+                ends.put_ints(to, &block[..count]);
+                2 * whole + count
+            }
+            Kind::Bool => {
+                let flags = ends.flags(items);
+                let whole = room.min(shown.len()).min(flags.len());
+                if whole == 0 {
+                    return 0;
+                }
+                let mut block = [false; BLOCK];
+                let count = keep(&shown[..whole], &flags[..whole], &mut block);
+                ends.skip(truths, whole);
+                ends.skip(items, whole);
+                ends.put_flags(to, &block[..count]);
+                2 * whole + count
+            }
+            Kind::Unit => {
+                let whole = room.min(shown.len()).min(ends.units(items));
+                if whole == 0 {
+                    return 0;
+                }
+                let count = trues_in(&shown[..whole]);
+                ends.skip(truths, whole);
+                ends.skip(items, whole);
+                ends.put_units(to, count);
+                2 * whole + count
+            }
+            Kind::Vec => 0,
         }
     }
 }
@@ -115,6 +216,32 @@ impl Worker for Pack {
 
     fn is_between(&self) -> bool {
         matches!(self.pair, Pair::Start)
+    }
+
+    #[inline(always)]
+    fn blocks<E: Ends>(
+        &mut self,
+        inputs: &[usize],
+        outputs: &[usize],
+        ends: &mut E,
+        most: usize,
+    ) -> usize {
+        let Pair::Start = self.pair else {
+            return 0;
+        };
+        // Two blocks of one edge are not seen at once.
+        if inputs[0] == inputs[1] || ends.flags(inputs[0]).is_empty() {
+            return 0;
+        }
+        let mut block = [0i128; BLOCK];
+        let mut made = 0;
+        'rounds: loop {
+            let steps = self.round(inputs, outputs, ends, most - made, &mut block);
+            if steps == 0 {
+                return made;
+            }
+            made += steps;
+        }
     }
 
     // A pair that is kept is three steps, and one that is not is two.
