@@ -4,3 +4,4 @@ pub mod Skips
 pub mod Main
 pub mod Edges
 pub mod Sending
+pub mod Blocks

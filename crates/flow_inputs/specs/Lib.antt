@@ -5,3 +5,4 @@ pub mod Ways
 pub mod Items
 pub mod Laws
 pub mod TextSources
+pub mod Sends

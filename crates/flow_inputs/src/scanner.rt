@@ -1,8 +1,9 @@
 // The items of one edge, scanned from a text.
 
-ghost use Rattle.std.specs.Prelude.{◌≡◌, ◌<◌, ◌≤◌, ◌++◌, [], length, IfSome, IfNone, option_to_list};
+ghost use Rattle.std.specs.Prelude.{◌≡◌, ◌<◌, ◌≤◌, ◌++◌, [], length, map, take, IfSome, IfNone, option_to_list};
 ghost use Rattle.snesl_values.specs.InputTokens.{next, next_at};
 ghost use Rattle.snesl_values.specs.Marks.{found_from};
+ghost use Rattle.flow_inputs.specs.declared.turns.Piece.TheVariants.{Flag, Int};
 ghost use Rattle.flow_inputs.specs.Turns.{depth_of};
 ghost use Rattle.flow_inputs.specs.Left.{left};
 
@@ -10,10 +11,21 @@ use crate::brackets::past;
 use crate::turns::{Leaf, Piece, State, Step, is_done, turn};
 use snesl_values::{Found, Mark, mark_at, sign_mark};
 
+// How many items are scanned at most before they are written.
+pub(crate) const BLOCK: usize = 16;
+
 // What was found, if anything was, and where the scan stands then.
 #[derive(Clone, Copy, Debug, PartialEq, Eq)]
 pub(crate) struct Scanned {
     pub(crate) piece: Option<Piece>,
+    pub(crate) at: usize,
+    pub(crate) state: State,
+}
+
+// How many items were scanned, and where the scan stands behind them.
+#[derive(Clone, Copy, Debug, PartialEq, Eq)]
+pub(crate) struct Ahead {
+    pub(crate) count: usize,
     pub(crate) at: usize,
     pub(crate) state: State,
 }
@@ -82,5 +94,101 @@ pub(crate) fn scan(
                 };
             }
         }
+    }
+}
+
+// Scans the integers that are written next: so many, or as many as come before the end or another
+// item.
+#[inline(never)]
+pub(crate) fn ints_ahead(
+    text: &[u8],
+    way: &[Step],
+    leaf: Leaf,
+    mut at: usize,
+    mut state: State,
+    ints: &mut [i128; BLOCK],
+    most: usize,
+) -> Ahead
+    requires within { at ≤ length text.now }
+    requires shallow { depth_of state.mode ≤ at }
+    requires block { most ≤ 16 }
+    ensures first { left text.now way.now leaf at state ≡ map Int (take result.count ints.new)
+        ++ left text.now way.now leaf result.at result.state }
+    ensures most { result.count ≤ most }
+    ensures long { length ints.new ≡ 16 }
+    ensures within { result.at ≤ length text.now }
+    ensures shallow { depth_of result.state.mode ≤ result.at }
+{
+    for count in 0..most {
+        let found = scan(text, way, leaf, at, state);
+        match found.piece {
+            Some(Piece::Int(item)) => {
+                ints[count] = item;
+                at = found.at;
+                state = found.state;
+            }
+            // Nothing is left, and what was passed over need not be passed again.
+            None => {
+                return Ahead {
+                    count,
+                    at: found.at,
+                    state: found.state,
+                };
+            }
+            Some(_) => return Ahead { count, at, state },
+        }
+    }
+    Ahead {
+        count: most,
+        at,
+        state,
+    }
+}
+
+// Scans the truth values that are written next: so many, or as many as come before the end or another
+// item.
+#[inline(never)]
+pub(crate) fn flags_ahead(
+    text: &[u8],
+    way: &[Step],
+    leaf: Leaf,
+    mut at: usize,
+    mut state: State,
+    flags: &mut [bool; BLOCK],
+    most: usize,
+) -> Ahead
+    requires within { at ≤ length text.now }
+    requires shallow { depth_of state.mode ≤ at }
+    requires block { most ≤ 16 }
+    ensures first { left text.now way.now leaf at state ≡ map Flag (take result.count flags.new)
+        ++ left text.now way.now leaf result.at result.state }
+    ensures most { result.count ≤ most }
+    ensures long { length flags.new ≡ 16 }
+    ensures within { result.at ≤ length text.now }
+    ensures shallow { depth_of result.state.mode ≤ result.at }
+{
+    for count in 0..most {
+        let found = scan(text, way, leaf, at, state);
+        match found.piece {
+            Some(Piece::Flag(item)) => {
+                flags[count] = item;
+                at = found.at;
+                state = found.state;
+            }
+            // Nothing is left, and what was passed over need not be passed again.
+            None => {
+                return Ahead {
+                    count,
+                    at: found.at,
+                    state: found.state,
+                };
+            }
+            Some(_) => return Ahead { count, at, state },
+        }
+    }
+    Ahead {
+        count: most,
+        at,
+        state,
     }
 }

@@ -1,11 +1,15 @@
 // Sources whose items are scanned from a text.
 
-ghost use Rattle.std.specs.Prelude.{◌≡◌, ◌<◌, ◌≤◌, ◌^◌, length, IfOk, OnOk, OnErr, IsOk, false};
+ghost use Rattle.std.specs.Prelude.{◌≡◌, ◌<◌, ◌≤◌, ◌^◌, ℕ, List, length, take, IfOk, OnOk, OnErr, IsOk, true, false};
+ghost use Rattle.std.specs.List.{All};
 ghost use Rattle.std.specs.Arc.{arc_value};
 ghost use Rattle.snesl_data.specs.Types.{ty_of};
 ghost use Rattle.flow_messages.specs.Cells.{cell_of, is_of};
+ghost use Rattle.flow_messages.specs.Blocks.{flags_said, ints_said};
+ghost use Rattle.flow_messages.specs.Ends.{SameEnds};
 ghost use Rattle.flow_messages.specs.Signals.{signal_of};
 ghost use Rattle.flow_messages.specs.declared.message.Kind.TheVariants.{Vec as VecKind};
+ghost use Rattle.flow_base.specs.Visits.{IsPlaced, Went, Visited, BrokeOff};
 ghost use Rattle.flow_values.specs.Flats.{width};
 ghost use Rattle.flow_scalar.specs.SourceBehaviour.{source_opened, source_behaviour};
 ghost use Rattle.flow_inputs.specs.Left.{left, cell};
@@ -13,12 +17,13 @@ ghost use Rattle.snesl_values.specs.Places.{value_at};
 ghost use Rattle.flow_inputs.specs.Turns.{depth_of};
 ghost use Rattle.flow_inputs.specs.Ways.{way_to, leaf_at};
 ghost use Rattle.flow_inputs.specs.Items.{items_at, opening_state, IsRest};
+ghost use Rattle.flow_inputs.specs.Sends.{Sends};
 
-use crate::scanner::scan;
+use crate::scanner::{BLOCK, flags_ahead, ints_ahead, scan};
 use crate::turns::{Leaf, Mode, Piece, State, Step};
 use crate::ways::add_way;
-use flow_base::{Port, Side, Transducer};
-use flow_messages::{Item, Msg};
+use flow_base::{Port, Side, Transducer, put_in_space};
+use flow_messages::{Ends, Item, Msg};
 use kahn::Want;
 use snesl_data::Ty;
 use snesl_values::datum_at;
@@ -90,6 +95,158 @@ impl TextSource {
             },
             ended: false,
         })
+    }
+
+    // Scans the integers that come next, at most so many, and goes behind them. How many.
+    #[inline(always)]
+    fn scan_ints(&mut self, ints: &mut [i128; BLOCK], most: usize) -> usize
+        requires sending { self.old.ended ≡ false }
+        requires block { most ≤ 16 }
+        ensures sending { self.new.ended ≡ false }
+        ensures most { result ≤ most }
+        ensures long { length ints.new ≡ 16 }
+        ensures sends { Sends (text_source_state self.old) (ints_said (take result ints.new))
+            (text_source_state self.new) }
+    {
+        let (at, state) = (self.at, self.state);
+        let ahead = ints_ahead(&self.text, &self.way, self.leaf, at, state, ints, most);
+        self.at = ahead.at;
+        self.state = ahead.state;
+        ahead.count
+    }
+
+    // Writes integers while they come next and room is certain, at most so many. How many.
+    #[inline(always)]
+    fn write_ints<E: Ends>(&mut self, outputs: &[usize], ends: &mut E, most: usize) -> usize
+        requires sending { self.old.ended ≡ false }
+        requires one { length outputs.now ≡ 1 }
+        requires writes { All (λ e. (E.view ends.old).writes e ≡ true) outputs.now }
+        ensures same { E.same ends.old ends.new }
+        ensures ends { SameEnds (E.view ends.old) (E.view ends.new) }
+        ensures within { result ≤ most }
+        ensures went { (inputs : List ℕ) → Went inputs outputs.now source_behaviour
+            (text_source_state self.old) (E.view ends.old)
+            (text_source_state self.new) (E.view ends.new) result }
+    {
+        let edge = outputs[0];
+        let mut ints = [0i128; BLOCK];
+        let mut made = 0;
+        while made < most {
+            let room = ends.space(edge).min(most - made).min(BLOCK);
+            let count = self.scan_ints(&mut ints, room);
+            if count == 0 {
+                break;
+            }
+            ends.put_ints(edge, &ints[..count]);
+            made += count;
+        }
+        made
+    }
+
+    // Scans the truth values that come next, at most so many, and goes behind them. How many.
+    #[inline(always)]
+    fn scan_flags(&mut self, flags: &mut [bool; BLOCK], most: usize) -> usize
+        requires sending { self.old.ended ≡ false }
+        requires block { most ≤ 16 }
+        ensures sending { self.new.ended ≡ false }
+        ensures most { result ≤ most }
+        ensures long { length flags.new ≡ 16 }
+        ensures sends { Sends (text_source_state self.old) (flags_said (take result flags.new))
+            (text_source_state self.new) }
+    {
+        let (at, state) = (self.at, self.state);
+        let ahead = flags_ahead(&self.text, &self.way, self.leaf, at, state, flags, most);
+        self.at = ahead.at;
+        self.state = ahead.state;
+        ahead.count
+    }
+
+    // Writes truth values while they come next and room is certain, at most so many. How many.
+    #[inline(always)]
+    fn write_flags<E: Ends>(&mut self, outputs: &[usize], ends: &mut E, most: usize) -> usize
+        requires sending { self.old.ended ≡ false }
+        requires one { length outputs.now ≡ 1 }
+        requires writes { All (λ e. (E.view ends.old).writes e ≡ true) outputs.now }
+        ensures same { E.same ends.old ends.new }
+        ensures ends { SameEnds (E.view ends.old) (E.view ends.new) }
+        ensures within { result ≤ most }
+        ensures went { (inputs : List ℕ) → Went inputs outputs.now source_behaviour
+            (text_source_state self.old) (E.view ends.old)
+            (text_source_state self.new) (E.view ends.new) result }
+    {
+        let edge = outputs[0];
+        let mut flags = [false; BLOCK];
+        let mut made = 0;
+        while made < most {
+            let room = ends.space(edge).min(most - made).min(BLOCK);
+            let count = self.scan_flags(&mut flags, room);
+            if count == 0 {
+                break;
+            }
+            ends.put_flags(edge, &flags[..count]);
+            made += count;
+        }
+        made
+    }
+
+    // Writes items in blocks while room is certain, at most so many. How many: none where vectors
+    // come, or the end.
+    #[inline(always)]
+    fn write_blocks<E: Ends>(&mut self, outputs: &[usize], ends: &mut E, most: usize) -> usize
+        requires one { length outputs.now ≡ 1 }
+        requires writes { All (λ e. (E.view ends.old).writes e ≡ true) outputs.now }
+        ensures same { E.same ends.old ends.new }
+        ensures ends { SameEnds (E.view ends.old) (E.view ends.new) }
+        ensures within { result ≤ most }
+        ensures went { (inputs : List ℕ) → Went inputs outputs.now source_behaviour
+            (text_source_state self.old) (E.view ends.old)
+            (text_source_state self.new) (E.view ends.new) result }
+    {
+        if self.ended {
+            return 0;
+        }
+        match self.leaf {
+            Leaf::Ints => self.write_ints(outputs, ends, most),
+            Leaf::Flags | Leaf::Bools => self.write_flags(outputs, ends, most),
+            Leaf::Vectors => 0,
+        }
+    }
+
+    // Writes one message after another while room is certain, at most `chunk`. Whether it wrote any.
+    #[inline(always)]
+    fn write_singly<E: Ends>(
+        &mut self,
+        inputs: &[usize],
+        outputs: &[usize],
+        ends: &mut E,
+        chunk: usize,
+    ) -> Result<bool, AllocError>
+        requires some { 0 < chunk }
+        requires placed { IsPlaced source_behaviour inputs.now outputs.now
+            (text_source_state self.old) (E.view ends.old) }
+        ensures same { E.same ends.old ends.new }
+        ensures ends { SameEnds (E.view ends.old) (E.view ends.new) }
+        ensures visited { IfOk result (λ any. Visited inputs.now outputs.now source_behaviour
+            (text_source_state self.old) (E.view ends.old)
+            (text_source_state self.new) (E.view ends.new) any) }
+        ensures broke { OnErr result (BrokeOff inputs.now outputs.now source_behaviour
+            (text_source_state self.old) (E.view ends.old)
+            (text_source_state self.new) (E.view ends.new)) }
+    {
+        let edge = outputs[0];
+        let mut moved = false;
+        for _ in 0..chunk {
+            if self.ended {
+                break;
+            }
+            if !ends.room(edge) {
+                break;
+            }
+            let message = self.emit()?;
+            put_in_space(ends, edge, message);
+            moved = true;
+        }
+        Ok(moved)
     }
 }
 
@@ -166,5 +323,20 @@ impl Transducer for TextSource {
                 Ok(Msg::End)
             }
         }
+    }
+
+    // Items that take no memory are written in blocks. The end, and vectors, are written singly.
+    #[inline(never)]
+    fn run<E: Ends>(
+        &mut self,
+        inputs: &[usize],
+        outputs: &[usize],
+        ends: &mut E,
+        chunk: usize,
+    ) -> Result<bool, AllocError> {
+        if self.write_blocks(outputs, ends, chunk) > 0 {
+            return Ok(true);
+        }
+        self.write_singly(inputs, outputs, ends, chunk)
     }
 }
