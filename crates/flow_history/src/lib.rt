@@ -41,4 +41,13 @@ impl<T> History<T> {
         let _ = item;
         History { of: PhantomData }
     }
+
+    /// The history with another behind it.
+    #[inline(always)]
+    pub fn followed_by(&self, later: &History<T>) -> History<T>
+        ensures { result.items ≡ self.now.items ++ later.now.items }
+    {
+        let _ = later;
+        History { of: PhantomData }
+    }
 }
