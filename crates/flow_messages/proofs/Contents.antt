@@ -2,7 +2,7 @@
 use Rattle.std.proofs.Common.{◌≡◌, ℕ, ℤ, zero, suc, ◌+◌, ◌-◌, ◌<◌, ◌≤◌, Bool, List, [], ◌∷◌, ◌++◌, length, drop, take, map, get_or, min, refl, sym, ap, ◌∙◌, arith, add-one, suc-add, zero-add, append_assoc, append-nil, length-append, length-drop}
 use Rattle.std.proofs.lemmas.List.{length-map, length-replicate, replicate-append-replicate, drop-replicate, drop-append-le, drop-map, map-append, replicate_more}
 use Rattle.std.proofs.lemmas.Grind.{take_at_read}
-use Rattle.std.proofs.Math.Seq.{drop-nil}
+use Rattle.std.proofs.Math.Seq.{drop-nil, drop-append_seam}
 use Rattle.std.proofs.lemmas.Bool.Decides.{nat_tests}
 use Rattle.std.specs.Ordering.{nat_cmp, ord_min}
 use Rattle.std.specs.Prelude.{Option, Some, None, IfNone}
@@ -224,3 +224,15 @@ block_more {X} f xs k d q q' q'' low is next =
     let longer : take (k + 1) xs ≡ take k xs ++ x ∷ [] = (take_at_read xs k d low).1 in
     next ∙ ap (λ (l : List Msg). l ++ f x ∷ []) is ∙ append_assoc q (map f (take k xs)) (f x ∷ [])
     ∙ ap (λ (l : List Msg). q ++ l) (sym (map-append f (take k xs) (x ∷ [])) ∙ sym (ap (map f) longer))
+
+-- both lists
+
+-- what comes first in the second goes behind the first
+pub moved_on : {X : Type 0} (xs first ys : List X) (n : ℕ) → IsPrefix first ys → length first ≡ n → (xs ++ first) ++ drop n ys ≡ xs ++ ys
+moved_on xs first ys n (rest, all) long =
+    ap (λ k. (xs ++ first) ++ drop k ys) (sym long) ∙ ap (λ l. (xs ++ first) ++ drop (length first) l) (sym all)
+    ∙ ap (λ l. (xs ++ first) ++ l) (drop-append_seam first rest) ∙ append_assoc xs first rest ∙ ap (λ l. xs ++ l) all
+
+-- both together are as long as they were
+pub both_long : {X : Type 0} (xs ys xs' ys' : List X) → xs ++ ys ≡ xs' ++ ys' → length xs + length ys ≡ length xs' + length ys'
+both_long xs ys xs' ys' is = sym (length-append xs ys) ∙ ap length is ∙ length-append xs' ys'

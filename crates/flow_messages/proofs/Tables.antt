@@ -54,7 +54,7 @@ abbrev room_on : Line → ℕ
 room_on l = l.store.capacity - length (content_of l.store)
 
 -- a block of one message
-taken_one : (a b : View) (e : ℕ) (m : Signal) → TakenAll a e (m ∷ []) b → Taken a e m b
+pub taken_one : (a b : View) (e : ℕ) (m : Signal) → TakenAll a e (m ∷ []) b → Taken a e m b
 taken_one a b e m all = record { ends = all.ends; received = all.received; others = all.others; sent = all.sent; room = all.room; room_here = all.room_here; coming = all.coming; coming_here = all.coming_here }
 
 -- the ends of a table, with one line changed

@@ -8,6 +8,7 @@
 
 mod counted;
 mod ends;
+mod histories;
 mod line;
 mod message;
 mod run;
@@ -19,7 +20,9 @@ mod whole;
 
 pub use counted::CountedEnds;
 pub use ends::{Ends, Refused, Why};
+pub use histories::{with_flags, with_ints, with_units};
 pub use message::{Item, Kind, Msg};
+pub use store::Store;
 pub use table::{MAX_CAPACITY, Table};
 pub use theorems::{
     counts_are_exact, nothing_after_stop, put_adds_one, take_gives_oldest,

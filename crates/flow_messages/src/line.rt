@@ -2,7 +2,6 @@
 ghost use Rattle.std.specs.Prelude.{◌≡◌, ◌+◌, ◌-◌, ◌<◌, ◌≤◌, ◌↔◌, true, false, cond, [], ◌∷◌, ◌++◌, length, take, drop, IsTrue, IsOk, OnOk, IfOk, IfErr, IsErrAnd, IfSome, IfNone};
 ghost use Rattle.std.specs.Io.Iter.{u64_saturate};
 ghost use mathlib.Core.List.{IsPrefix};
-ghost use Rattle.flow_messages.specs.Limits.{greatest_capacity};
 ghost use Rattle.flow_messages.specs.Signals.{signals, ended, orderly};
 ghost use Rattle.flow_messages.specs.Contents.{unit_messages, flag_messages, int_messages};
 ghost use Rattle.flow_messages.specs.Stores.{content_of};
@@ -10,7 +9,8 @@ ghost use Rattle.flow_messages.specs.Lines.{gone};
 ghost use Rattle.flow_messages.specs.declared.ends.Why.TheVariants.{Full, Closed};
 
 use crate::ends::{Refused, Why};
-use crate::message::{Item, Msg};
+use crate::histories::{with_flags, with_ints, with_units};
+use crate::message::Msg;
 use crate::store::Store;
 use flow_history::History;
 use std::alloc::{AllocError, Global};
@@ -31,10 +31,9 @@ pub struct Line {
 }
 
 impl Line {
-    /// An empty edge, with its room reserved.
+    /// An empty edge, with its room reserved. Its only error is that memory was refused.
     #[tactic(auto, using(crate::proofs::Signals::signal_steps))]
     pub fn new(alloc: Global, capacity: usize) -> Result<Line, AllocError>
-        requires limit { capacity ≤ greatest_capacity }
         ensures fresh { IfOk result (λ l. (l.sent.items ≡ []) × (content_of l.store ≡ []) ×
             (l.store.capacity ≡ capacity)) }
     {
@@ -204,42 +203,4 @@ impl Line {
         // What was put was taken or is held, so a put has nothing to count.
         self.taken.saturating_add(self.store.len() as u64)
     }
-}
-
-// A history has no bytes, so its loops are none at run time.
-
-// The history with so many units more.
-#[inline(always)]
-fn with_units(sent: History<Msg>, count: usize) -> History<Msg>
-    ensures { result.items ≡ sent.items ++ unit_messages count }
-{
-    let mut all = sent;
-    for _ in 0..count {
-        all = all.with(&Msg::Item(Item::Unit));
-    }
-    all
-}
-
-// The history with these truth values more.
-#[inline(always)]
-fn with_flags(sent: History<Msg>, flags: &[bool]) -> History<Msg>
-    ensures { result.items ≡ sent.items ++ flag_messages flags.now }
-{
-    let mut all = sent;
-    for flag in flags {
-        all = all.with(&Msg::Item(Item::Bool(*flag)));
-    }
-    all
-}
-
-// The history with these integers more.
-#[inline(always)]
-fn with_ints(sent: History<Msg>, ints: &[i128]) -> History<Msg>
-    ensures { result.items ≡ sent.items ++ int_messages ints.now }
-{
-    let mut all = sent;
-    for int in ints {
-        all = all.with(&Msg::Item(Item::Int(*int)));
-    }
-    all
 }

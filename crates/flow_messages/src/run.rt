@@ -1,7 +1,6 @@
 // Items of one kind, side by side.
 ghost use Rattle.std.specs.Prelude.{◌≡◌, ◌+◌, ◌<◌, ◌≤◌, ◌==◌, [], ◌∷◌, ◌++◌, length, drop, IfOk, IfSome, IfNone};
 ghost use Rattle.std.specs.Vec.{vec_capacity};
-ghost use Rattle.flow_messages.specs.Limits.{greatest_capacity};
 
 use std::alloc::{AllocError, Global};
 
@@ -20,12 +19,12 @@ pub struct Run<T> {
 impl<T: Copy + Drop> Run<T> {
     ghost use Rattle.flow_messages.specs.Runs.{run_items};
 
-    /// An empty run, with its room reserved.
+    /// An empty run, with its room reserved. It is refused where there is no memory for twice as many items.
     pub fn new(alloc: Global, most: usize) -> Result<Run<T>, AllocError>
-        requires limit { most ≤ greatest_capacity }
         ensures empty { IfOk result (λ r. (run_items r ≡ []) × (r.most ≡ most)) }
     {
-        let items = Vec::with_capacity(alloc, most + most)?;
+        let places = most.checked_mul(2).ok_or(AllocError)?;
+        let items = Vec::with_capacity(alloc, places)?;
         Ok(Run {
             items,
             taken: 0,

@@ -2,7 +2,6 @@
 ghost use Rattle.std.specs.Prelude.{◌≡◌, ◌+◌, ◌<◌, ◌≤◌, [], ◌∷◌, ◌++◌, length, drop, IfOk, IfSome, IfNone};
 ghost use Rattle.std.specs.VecDeque.{deque_len, deque_capacity};
 ghost use mathlib.Core.List.{IsPrefix};
-ghost use Rattle.flow_messages.specs.Limits.{greatest_capacity};
 ghost use Rattle.flow_messages.specs.Runs.{run_items};
 ghost use Rattle.flow_messages.specs.Contents.{content, unit_messages, flag_messages, int_messages};
 
@@ -33,9 +32,8 @@ pub struct Store {
 impl Store {
     ghost use Rattle.flow_messages.specs.Stores.{content_of};
 
-    /// An empty store, with its room reserved.
+    /// An empty store, with its room reserved. Its only error is that memory was refused.
     pub fn new(alloc: Global, capacity: usize) -> Result<Store, AllocError>
-        requires limit { capacity ≤ greatest_capacity }
         ensures empty { IfOk result (λ s. (content_of s ≡ []) × (s.capacity ≡ capacity)) }
     {
         let flags = Run::new(alloc, capacity)?;
@@ -219,6 +217,67 @@ impl Store {
         }
         queue_ints(&mut self.queue, ints);
         self.held += ints.len();
+    }
+
+    /// Moves all messages of another store behind its own, in order.
+    pub fn append(&mut self, other: &mut Store)
+        requires room { length (content_of self.old) + length (content_of other.old) ≤
+            self.old.capacity }
+        ensures moved { content_of self.new ≡ content_of self.old ++ content_of other.old }
+        ensures emptied { content_of other.new ≡ [] }
+        ensures capacity { self.new.capacity ≡ self.old.capacity }
+        ensures other_capacity { other.new.capacity ≡ other.old.capacity }
+    {
+        self.append_units(other);
+        self.append_flags(other);
+        self.append_ints(other);
+        while let Some(message) = other.pop() {
+            self.push(message);
+        }
+    }
+
+    // Moves the units that come first in another store.
+    fn append_units(&mut self, other: &mut Store)
+        requires room { length (content_of self.old) + length (content_of other.old) ≤
+            self.old.capacity }
+        ensures moved { content_of self.new ++ content_of other.new ≡
+            content_of self.old ++ content_of other.old }
+        ensures capacity { self.new.capacity ≡ self.old.capacity }
+        ensures other_capacity { other.new.capacity ≡ other.old.capacity }
+    {
+        let count = other.units();
+        self.put_units(count);
+        other.skip(count);
+    }
+
+    // Moves the truth values that come first in another store.
+    fn append_flags(&mut self, other: &mut Store)
+        requires room { length (content_of self.old) + length (content_of other.old) ≤
+            self.old.capacity }
+        ensures moved { content_of self.new ++ content_of other.new ≡
+            content_of self.old ++ content_of other.old }
+        ensures capacity { self.new.capacity ≡ self.old.capacity }
+        ensures other_capacity { other.new.capacity ≡ other.old.capacity }
+    {
+        let flags = other.flags();
+        let count = flags.len();
+        self.put_flags(flags);
+        other.skip(count);
+    }
+
+    // Moves the integers that come first in another store.
+    fn append_ints(&mut self, other: &mut Store)
+        requires room { length (content_of self.old) + length (content_of other.old) ≤
+            self.old.capacity }
+        ensures moved { content_of self.new ++ content_of other.new ≡
+            content_of self.old ++ content_of other.old }
+        ensures capacity { self.new.capacity ≡ self.old.capacity }
+        ensures other_capacity { other.new.capacity ≡ other.old.capacity }
+    {
+        let ints = other.ints();
+        let count = ints.len();
+        self.put_ints(ints);
+        other.skip(count);
     }
 }
 
