@@ -2,13 +2,15 @@
 use Rattle.std.proofs.Common.{◌≡◌, ℕ, ◌+◌, ◌<◌, ◌≤◌, List, [], ◌++◌, length, refl, ap, sym, ◌∙◌, get_or, set, arith}
 use Rattle.std.specs.Prelude.{Option, Some}
 use Rattle.flow_messages.specs.Signals.{Signal, signals}
-use Rattle.flow_messages.specs.TableLaws.{signals-length}
+use Rattle.flow_messages.specs.Stores.{content_of}
+use Rattle.flow_messages.specs.TableLaws.{signals-append, signals-length}
 use Rattle.flow_messages.proofs.Signals.{signals-nil}
 use Rattle.flow_boxes.specs.declared.outbox.Outbox.{Outbox}
 use Rattle.flow_boxes.specs.declared.inbox.Inbox.{Inbox}
+use Rattle.flow_boxes.specs.Received.{received_of}
 use Rattle.flow_boxes.specs.Contents.{Contents, contents_of}
 use Rattle.flow_boxes.specs.Rounds.{IsLinked, IsCarried, CarriesAt, CarriesFrom, CarriesTo}
-use Rattle.flow_boxes.proofs.Carried.{signals-append, is-carried, stays-linked}
+use Rattle.flow_boxes.proofs.Carried.{is-carried, stays-linked}
 use Rattle.flow_boxes.proofs.Changed.{everywhere, writer_boxes, writer_others, had_sent, has_sent, had_leaving, has_leaving, has_room, reader_boxes, reader_others, all_received, had_coming, has_coming}
 
 pub carries-trans : (a b c : Contents) (e : ℕ) → CarriesAt e a b → CarriesAt e b c → CarriesAt e a c
@@ -62,7 +64,7 @@ module _ (cw cr : ℕ) (os : List (Option Outbox)) (is : List (Option Inbox)) (o
     coming = λ k. refl;
   }
 
-  pub reader-carries : m.received.items ≡ i.received.items → CarriesTo e r r'
+  pub reader-carries : received_of m ≡ received_of i → CarriesTo e r r'
   reader-carries received = record {
     carries = record {
       boxes = reader_boxes cr os' is' e old' i m h' at' was';
@@ -74,17 +76,17 @@ module _ (cw cr : ℕ) (os : List (Option Outbox)) (is : List (Option Inbox)) (o
   }
 
   module _ (linked : IsLinked w r e) where
-    pub carry-bound : length i.queue.items + length o.queue.items ≤ cw
+    pub carry-bound : length (content_of i.store) + length (content_of o.store) ≤ cw
     carry-bound = omega (
       arith,
       linked.bound,
       ap length (had_coming cr os' is' e old' i i h' at' was'),
-      signals-length i.queue.items,
+      signals-length (content_of i.store),
       ap length (had_leaving cw os is e old o o h at was),
-      signals-length o.queue.items,
+      signals-length (content_of o.store),
     )
 
-    module _ (sent : n.sent.items ≡ o.sent.items) (received : m.received.items ≡ i.received.items) (moved : m.queue.items ≡ i.queue.items ++ o.queue.items) (emptied : n.queue.items ≡ []) (room : n.room + length m.queue.items ≡ cw) where
+    module _ (sent : n.sent.items ≡ o.sent.items) (received : received_of m ≡ received_of i) (moved : content_of m.store ≡ content_of i.store ++ content_of o.store) (emptied : content_of n.store ≡ []) (room : n.room + length (content_of m.store) ≡ cw) where
       sent_here : w'.ends.sent e ≡ w.ends.sent e
       sent_here = (writer-carries sent).carries.traffic.sent e
 
@@ -93,15 +95,15 @@ module _ (cw cr : ℕ) (os : List (Option Outbox)) (is : List (Option Inbox)) (o
 
       coming_here : r'.ends.coming e ≡ r.ends.coming e ++ w.leaving e
       coming_here =
-          has_coming cr os' is' e old' i m h' at' was' ∙ ap signals moved ∙ signals-append i.queue.items o.queue.items
-          ∙ ap (λ (x : List Signal). x ++ signals o.queue.items) (sym (had_coming cr os' is' e old' i m h' at' was'))
+          has_coming cr os' is' e old' i m h' at' was' ∙ ap signals moved ∙ signals-append (content_of i.store) (content_of o.store)
+          ∙ ap (λ (x : List Signal). x ++ signals (content_of o.store)) (sym (had_coming cr os' is' e old' i m h' at' was'))
           ∙ ap (λ (x : List Signal). r.ends.coming e ++ x) (sym (had_leaving cw os is e old o n h at was))
 
       emptied_here : w'.leaving e ≡ []
       emptied_here = has_leaving cw os is e old o n h at was ∙ ap signals emptied ∙ signals-nil
 
       room_here : w'.ends.room e + length (r'.ends.coming e) ≡ cw
-      room_here = omega (arith, room, has_room cw os is e old o n h at was, ap length (has_coming cr os' is' e old' i m h' at' was'), signals-length m.queue.items)
+      room_here = omega (arith, room, has_room cw os is e old o n h at was, ap length (has_coming cr os' is' e old' i m h' at' was'), signals-length (content_of m.store))
 
       pub boxes-carried : IsCarried w' r' e
       boxes-carried = is-carried w r w' r' e linked sent_here received_here coming_here emptied_here room_here

@@ -1,16 +1,10 @@
 -- The two boxes of an edge, after a carrying.
-use Rattle.std.proofs.Common.{◌≡◌, ℕ, ◌+◌, true, List, [], ◌∷◌, ◌++◌, length, drop, refl, ap, sym, ◌∙◌, arith, append_assoc, append-nil}
+use Rattle.std.proofs.Common.{◌≡◌, ℕ, ◌+◌, true, List, [], ◌++◌, length, drop, ap, sym, ◌∙◌, arith, append_assoc, append-nil}
 use Rattle.std.proofs.Math.Seq.{drop-append_seam}
-use Rattle.flow_messages.specs.declared.message.Msg.{Msg}
-use Rattle.flow_messages.specs.Signals.{Signal, signals, signal_of}
+use Rattle.flow_messages.specs.Signals.{Signal}
 use Rattle.flow_messages.specs.Ends.{held}
 use Rattle.flow_boxes.specs.Contents.{Contents}
 use Rattle.flow_boxes.specs.Rounds.{IsLinked, IsCarried}
-
-pub signals-append : (ms ns : List Msg) → signals (ms ++ ns) ≡ signals ms ++ signals ns
-unfolding signals
-signals-append [] ns = refl
-signals-append (m ∷ ms) ns = ap (λ (l : List Signal). signal_of m ∷ l) (signals-append ms ns)
 
 module _ (w r w' r' : Contents) (e : ℕ) (linked : IsLinked w r e)
     (sent : w'.ends.sent e ≡ w.ends.sent e) (received : r'.ends.received e ≡ r.ends.received e) (coming : r'.ends.coming e ≡ r.ends.coming e ++ w.leaving e)

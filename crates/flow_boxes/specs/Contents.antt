@@ -3,9 +3,11 @@ use Rattle.std.specs.Prelude.{ℕ, Bool, true, false, List, [], length, Option, 
 use Rattle.flow_messages.specs.Signals.{Signal, signals}
 use Rattle.flow_messages.specs.Ends.{View}
 use Rattle.flow_messages.specs.Tables.{at_line}
+use Rattle.flow_messages.specs.Stores.{content_of}
 use Rattle.flow_boxes.specs.declared.outbox.Outbox.{Outbox}
 use Rattle.flow_boxes.specs.declared.inbox.Inbox.{Inbox}
 use Rattle.flow_boxes.specs.declared.boxes.Boxes.{Boxes}
+use Rattle.flow_boxes.specs.Received.{received_of}
 
 pub record Contents : Type 0 where
   pub ends : View
@@ -19,7 +21,7 @@ sent_in (Some o) = signals o.sent.items
 
 abbrev pub leaving_in : Option Outbox → List Signal
 leaving_in None = []
-leaving_in (Some o) = signals o.queue.items
+leaving_in (Some o) = signals (content_of o.store)
 
 abbrev pub room_in : Option Outbox → ℕ
 room_in None = 0
@@ -31,11 +33,11 @@ writes_in (Some o) = true
 
 abbrev pub received_in : Option Inbox → List Signal
 received_in None = []
-received_in (Some i) = signals i.received.items
+received_in (Some i) = signals (received_of i)
 
 abbrev pub coming_in : Option Inbox → List Signal
 coming_in None = []
-coming_in (Some i) = signals i.queue.items
+coming_in (Some i) = signals (content_of i.store)
 
 abbrev pub reads_in : Option Inbox → Bool
 reads_in None = false

@@ -1,3 +1,5 @@
+pub mod Received
+pub mod Putting
 pub mod Reserved
 pub mod Contents
 pub mod Rounds

@@ -81,7 +81,7 @@ impl Ends for Boxes {
     #[inline(always)]
     fn ready(&mut self, edge: usize) -> bool {
         match &self.inboxes[edge] {
-            Some(inbox) => !inbox.queue.is_empty(),
+            Some(inbox) => inbox.store.len() > 0,
             None => unreachable!(),
         }
     }
@@ -97,7 +97,7 @@ impl Ends for Boxes {
     #[inline(always)]
     fn front(&self, edge: usize) -> Option<&Msg> {
         match &self.inboxes[edge] {
-            Some(inbox) => inbox.front(),
+            Some(inbox) => inbox.store.front(),
             None => unreachable!(),
         }
     }
@@ -114,6 +114,62 @@ impl Ends for Boxes {
     fn take(&mut self, edge: usize) -> Option<Msg> {
         match &mut self.inboxes[edge] {
             Some(inbox) => inbox.take(),
+            None => unreachable!(),
+        }
+    }
+
+    #[inline(always)]
+    fn units(&self, edge: usize) -> usize {
+        match &self.inboxes[edge] {
+            Some(inbox) => inbox.store.units(),
+            None => unreachable!(),
+        }
+    }
+
+    #[inline(always)]
+    fn flags(&self, edge: usize) -> &[bool] {
+        match &self.inboxes[edge] {
+            Some(inbox) => inbox.store.flags(),
+            None => unreachable!(),
+        }
+    }
+
+    #[inline(always)]
+    fn ints(&self, edge: usize) -> &[i128] {
+        match &self.inboxes[edge] {
+            Some(inbox) => inbox.store.ints(),
+            None => unreachable!(),
+        }
+    }
+
+    #[inline(always)]
+    fn skip(&mut self, edge: usize, count: usize) {
+        match &mut self.inboxes[edge] {
+            Some(inbox) => inbox.skip(count),
+            None => unreachable!(),
+        }
+    }
+
+    #[inline(always)]
+    fn put_units(&mut self, edge: usize, count: usize) {
+        match &mut self.outboxes[edge] {
+            Some(outbox) => outbox.put_units(count),
+            None => unreachable!(),
+        }
+    }
+
+    #[inline(always)]
+    fn put_flags(&mut self, edge: usize, flags: &[bool]) {
+        match &mut self.outboxes[edge] {
+            Some(outbox) => outbox.put_flags(flags),
+            None => unreachable!(),
+        }
+    }
+
+    #[inline(always)]
+    fn put_ints(&mut self, edge: usize, ints: &[i128]) {
+        match &mut self.outboxes[edge] {
+            Some(outbox) => outbox.put_ints(ints),
             None => unreachable!(),
         }
     }

@@ -1,59 +1,66 @@
 // The reader's box of an edge.
-ghost use Rattle.std.specs.Prelude.{◌≡◌, ◌<◌, ◌≤◌, ◌↔◌, [], ◌∷◌, ◌++◌, length, slice_index_or, IfOk, IsSome, IfSome, IfNone};
-ghost use Rattle.std.specs.VecDeque.{deque_capacity};
+ghost use Rattle.std.specs.Prelude.{◌≡◌, ◌≤◌, [], ◌∷◌, ◌++◌, length, take, drop, IfOk, IfSome, IfNone};
 ghost use Rattle.std.specs.Io.Iter.{u64_saturate};
+ghost use Rattle.flow_messages.specs.Stores.{content_of};
+ghost use Rattle.flow_messages.specs.Lines.{gone};
 
 use flow_history::History;
-use flow_messages::Msg;
+use flow_messages::{Msg, Store};
 use std::alloc::{AllocError, Global};
-use std::collections::VecDeque;
 
 /// The messages that have arrived and were not taken, the oldest first.
 #[derive(Drop)]
 pub struct Inbox {
-    pub queue: VecDeque<Msg>,
+    pub store: Store,
     /// How many messages were taken. The count stays at `u64::MAX`.
     pub taken: u64,
-    pub received: History<Msg>,
-    ghost counts: { taken ≡ u64_saturate (length received.items) },
+    /// All that has arrived. What was taken is of it what the store does not hold.
+    pub arrived: History<Msg>,
+    ghost fifo: { gone arrived.items (content_of store) ++ content_of store ≡ arrived.items },
+    ghost counts: { taken ≡ u64_saturate (length (gone arrived.items (content_of store))) },
 }
 
 impl Inbox {
+    ghost use Rattle.flow_boxes.specs.Received.{received_of};
+
     /// An empty box, with room for the capacity.
     pub fn new(alloc: Global, capacity: usize) -> Result<Inbox, AllocError>
-        ensures fresh { IfOk result (λ i. (i.received.items ≡ []) × (i.queue.items ≡ [])) }
-        ensures reserved { IfOk result (λ i. capacity ≤ deque_capacity i.queue) }
+        ensures fresh { IfOk result (λ i. (received_of i ≡ []) × (content_of i.store ≡ [])) }
+        ensures reserved { IfOk result (λ i. i.store.capacity ≡ capacity) }
     {
-        let queue = VecDeque::with_capacity(alloc, capacity)?;
+        let store = Store::new(alloc, capacity)?;
         Ok(Inbox {
-            queue,
+            store,
             taken: 0,
-            received: History::new(),
+            arrived: History::new(),
         })
-    }
-
-    /// The oldest message that it holds.
-    #[inline(always)]
-    pub fn front(&self) -> Option<&Msg>
-        ensures some { IfSome result (λ m. m.now ≡ slice_index_or self.now.queue.items 0 m.now) }
-        ensures variant { IsSome result ↔ (0 < length self.now.queue.items) }
-    {
-        self.queue.front()
     }
 
     /// Takes the oldest message.
     #[inline(always)]
     pub fn take(&mut self) -> Option<Msg>
-        ensures reserved { deque_capacity self.new.queue ≡ deque_capacity self.old.queue }
-        ensures some { IfSome result (λ m. (self.new.received.items ≡
-            self.old.received.items ++ m ∷ []) ×
-            (self.old.queue.items ≡ m ∷ self.new.queue.items)) }
-        ensures none { IfNone result ((self.new.received.items ≡ self.old.received.items) ×
-            (self.new.queue.items ≡ []) × (self.old.queue.items ≡ [])) }
+        ensures reserved { self.new.store.capacity ≡ self.old.store.capacity }
+        ensures some { IfSome result (λ m. (received_of self.new ≡
+            received_of self.old ++ m ∷ []) ×
+            (content_of self.old.store ≡ m ∷ content_of self.new.store)) }
+        ensures none { IfNone result ((received_of self.new ≡ received_of self.old) ×
+            (content_of self.new.store ≡ []) × (content_of self.old.store ≡ [])) }
     {
-        let message = self.queue.pop_front()?;
+        let message = self.store.pop()?;
         self.taken = self.taken.saturating_add(1);
-        self.received = self.received.with(&message);
         Some(message)
+    }
+
+    /// Takes so many of the oldest messages, and drops them.
+    #[inline(always)]
+    pub fn skip(&mut self, count: usize)
+        requires { count ≤ length (content_of self.old.store) }
+        ensures reserved { self.new.store.capacity ≡ self.old.store.capacity }
+        ensures received { received_of self.new ≡
+            received_of self.old ++ take count (content_of self.old.store) }
+        ensures rest { content_of self.new.store ≡ drop count (content_of self.old.store) }
+    {
+        self.store.skip(count);
+        self.taken = self.taken.saturating_add(count as u64);
     }
 }

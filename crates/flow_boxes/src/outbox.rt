@@ -1,48 +1,55 @@
 // The writer's box of an edge.
 ghost use Rattle.std.specs.Prelude.{◌≡◌, ◌+◌, ◌<◌, ◌≤◌, ◌↔◌, true, false, [], ◌∷◌, ◌++◌, length, IsOk, OnOk, IfOk, IfErr, IsErrAnd};
-ghost use Rattle.std.specs.VecDeque.{deque_capacity};
 ghost use Rattle.std.specs.Io.Iter.{u64_saturate};
 ghost use Rattle.flow_messages.specs.Signals.{signals, ended, orderly};
+ghost use Rattle.flow_messages.specs.Stores.{content_of};
+ghost use Rattle.flow_messages.specs.Contents.{unit_messages, flag_messages, int_messages};
 ghost use Rattle.flow_messages.specs.declared.ends.Why.TheVariants.{Full, Closed};
 
 use crate::inbox::Inbox;
 use flow_history::History;
-use flow_messages::{Msg, Refused, Why};
+use flow_messages::{Msg, Refused, Store, Why, with_flags, with_ints, with_units};
 use std::alloc::{AllocError, Global};
-use std::collections::VecDeque;
-use std::mem;
+use std::mem::{replace, swap};
 
 /// The messages that the writer put since the last carrying, the oldest first, and how many more it
 /// may put before the next one.
 #[derive(Drop)]
 pub struct Outbox {
-    pub queue: VecDeque<Msg>,
+    pub store: Store,
     pub room: usize,
     closed: bool,
     /// How many messages were put. The count stays at `u64::MAX`.
     pub put: u64,
     pub sent: History<Msg>,
+    /// What the store holds.
+    pub waiting: History<Msg>,
+    ghost waits: { waiting.items ≡ content_of store },
     ghost closes: { closed ≡ ended (signals sent.items) },
     ghost counts: { put ≡ u64_saturate (length sent.items) },
     ghost orderly: { orderly (signals sent.items) ≡ true },
-    ghost reserved: { length queue.items + room ≤ deque_capacity queue },
+    ghost reserved: { length (content_of store) + room ≤ store.capacity },
 }
 
 impl Outbox {
+    ghost use Rattle.flow_boxes.specs.Received.{received_of};
+    ghost use Rattle.flow_boxes.specs.Putting.{PutsBlock};
+
     /// An empty box, with room for the capacity.
     #[tactic(auto, using(flow_messages::proofs::Signals::signal_steps))]
     pub fn new(alloc: Global, capacity: usize) -> Result<Outbox, AllocError>
-        ensures fresh { IfOk result (λ o. (o.sent.items ≡ []) × (o.queue.items ≡ []) ×
+        ensures fresh { IfOk result (λ o. (o.sent.items ≡ []) × (content_of o.store ≡ []) ×
             (o.room ≡ capacity)) }
-        ensures reserved { IfOk result (λ o. capacity ≤ deque_capacity o.queue) }
+        ensures reserved { IfOk result (λ o. o.store.capacity ≡ capacity) }
     {
-        let queue = VecDeque::with_capacity(alloc, capacity)?;
+        let store = Store::new(alloc, capacity)?;
         Ok(Outbox {
-            queue,
+            store,
             room: capacity,
             closed: false,
             put: 0,
             sent: History::new(),
+            waiting: History::new(),
         })
     }
 
@@ -50,13 +57,14 @@ impl Outbox {
     #[inline(always)]
     #[tactic(auto, using(flow_messages::proofs::Signals::signal_steps))]
     pub fn put(&mut self, message: Msg) -> Result<(), Refused>
-        ensures reserved { deque_capacity self.new.queue ≡ deque_capacity self.old.queue }
+        ensures reserved { self.new.store.capacity ≡ self.old.store.capacity }
         ensures ok { OnOk result ((self.new.sent.items ≡ self.old.sent.items ++ message ∷ []) ×
-            (self.new.queue.items ≡ self.old.queue.items ++ message ∷ []) ×
+            (content_of self.new.store ≡ content_of self.old.store ++ message ∷ []) ×
             (self.new.room + 1 ≡ self.old.room)) }
         ensures refused { IfErr result (λ e. (e.message ≡ message) ×
             (self.new.sent.items ≡ self.old.sent.items) ×
-            (self.new.queue.items ≡ self.old.queue.items) × (self.new.room ≡ self.old.room)) }
+            (content_of self.new.store ≡ content_of self.old.store) ×
+            (self.new.room ≡ self.old.room)) }
         ensures closed { IsErrAnd result (λ e. e.why ≡ Closed) ↔
             (ended (signals self.old.sent.items) ≡ true) }
         ensures full { IsErrAnd result (λ e. e.why ≡ Full) → self.new.room ≡ 0 }
@@ -77,49 +85,98 @@ impl Outbox {
         }
         let closes = message.is_end();
         let sent = self.sent.with(&message);
-        self.queue.push_back_reserved(message);
+        let waiting = self.waiting.with(&message);
+        self.store.push(message);
         self.room -= 1;
         self.closed = closes;
         self.put = self.put.saturating_add(1);
         self.sent = sent;
+        self.waiting = waiting;
         Ok(())
+    }
+
+    // Whether `End` was put.
+    #[inline(always)]
+    fn is_closed(&self) -> bool
+        ensures { result ≡ ended (signals self.now.sent.items) }
+    {
+        self.closed
+    }
+
+    /// Puts so many units behind all others, unless `End` was put before.
+    #[inline(always)]
+    pub fn put_units(&mut self, count: usize)
+        requires { count ≤ self.old.room }
+        ensures reserved { self.new.store.capacity ≡ self.old.store.capacity }
+        ensures put { PutsBlock (unit_messages count) self.old self.new }
+    {
+        if self.is_closed() {
+            return;
+        }
+        self.sent = with_units(replace(&mut self.sent, History::new()), count);
+        self.waiting = with_units(replace(&mut self.waiting, History::new()), count);
+        self.store.put_units(count);
+        self.room -= count;
+        self.put = self.put.saturating_add(count as u64);
+    }
+
+    /// Puts these truth values behind all others, unless `End` was put before.
+    #[inline(always)]
+    pub fn put_flags(&mut self, flags: &[bool])
+        requires { length flags.now ≤ self.old.room }
+        ensures reserved { self.new.store.capacity ≡ self.old.store.capacity }
+        ensures put { PutsBlock (flag_messages flags.now) self.old self.new }
+    {
+        if self.is_closed() {
+            return;
+        }
+        self.sent = with_flags(replace(&mut self.sent, History::new()), flags);
+        self.waiting = with_flags(replace(&mut self.waiting, History::new()), flags);
+        self.store.put_flags(flags);
+        self.room -= flags.len();
+        self.put = self.put.saturating_add(flags.len() as u64);
+    }
+
+    /// Puts these integers behind all others, unless `End` was put before.
+    #[inline(always)]
+    pub fn put_ints(&mut self, ints: &[i128])
+        requires { length ints.now ≤ self.old.room }
+        ensures reserved { self.new.store.capacity ≡ self.old.store.capacity }
+        ensures put { PutsBlock (int_messages ints.now) self.old self.new }
+    {
+        if self.is_closed() {
+            return;
+        }
+        self.sent = with_ints(replace(&mut self.sent, History::new()), ints);
+        self.waiting = with_ints(replace(&mut self.waiting, History::new()), ints);
+        self.store.put_ints(ints);
+        self.room -= ints.len();
+        self.put = self.put.saturating_add(ints.len() as u64);
     }
 
     /// Moves all messages to the reader's box, in order. What that box does not hold is then room.
     pub fn carry_into(&mut self, inbox: &mut Inbox, capacity: usize)
-        requires outbox { capacity ≤ deque_capacity self.old.queue }
-        requires inbox { capacity ≤ deque_capacity inbox.old.queue }
-        requires bound { length inbox.old.queue.items + length self.old.queue.items ≤ capacity }
-        ensures outbox_reserved { capacity ≤ deque_capacity self.new.queue }
-        ensures inbox_reserved { capacity ≤ deque_capacity inbox.new.queue }
+        requires outbox { self.old.store.capacity ≡ capacity }
+        requires inbox { inbox.old.store.capacity ≡ capacity }
+        requires bound { length (content_of inbox.old.store) +
+            length (content_of self.old.store) ≤ capacity }
+        ensures outbox_reserved { self.new.store.capacity ≡ capacity }
+        ensures inbox_reserved { inbox.new.store.capacity ≡ capacity }
         ensures sent { self.new.sent.items ≡ self.old.sent.items }
-        ensures received { inbox.new.received.items ≡ inbox.old.received.items }
-        ensures moved { inbox.new.queue.items ≡ inbox.old.queue.items ++ self.old.queue.items }
-        ensures emptied { self.new.queue.items ≡ [] }
-        ensures room { self.new.room + length inbox.new.queue.items ≡ capacity }
+        ensures received { received_of inbox.new ≡ received_of inbox.old }
+        ensures moved { content_of inbox.new.store ≡
+            content_of inbox.old.store ++ content_of self.old.store }
+        ensures emptied { content_of self.new.store ≡ [] }
+        ensures room { self.new.room + length (content_of inbox.new.store) ≡ capacity }
     {
-        // Where the reader has taken all, the queues change places, and no message is moved by itself.
-        if inbox.queue.is_empty() {
-            mem::swap(&mut self.queue, &mut inbox.queue);
+        // Where the reader has taken all, the stores change places, and no message is moved by itself.
+        if inbox.store.len() == 0 {
+            swap(&mut self.store, &mut inbox.store);
         } else {
-            self.append_to(inbox);
+            inbox.store.append(&mut self.store);
         }
-        self.room = capacity - inbox.queue.len();
-    }
-
-    // Moves all messages behind those of the reader's box.
-    fn append_to(&mut self, inbox: &mut Inbox)
-        requires { length inbox.old.queue.items + length self.old.queue.items ≤
-            deque_capacity inbox.old.queue }
-        ensures outbox_reserved { deque_capacity self.new.queue ≡ deque_capacity self.old.queue }
-        ensures inbox_reserved { deque_capacity inbox.new.queue ≡ deque_capacity inbox.old.queue }
-        ensures sent { self.new.sent.items ≡ self.old.sent.items }
-        ensures received { inbox.new.received.items ≡ inbox.old.received.items }
-        ensures moved { inbox.new.queue.items ≡ inbox.old.queue.items ++ self.old.queue.items }
-        ensures emptied { self.new.queue.items ≡ [] }
-    {
-        while let Some(message) = self.queue.pop_front() {
-            inbox.queue.push_back_reserved(message);
-        }
+        self.room = capacity - inbox.store.len();
+        inbox.arrived = inbox.arrived.followed_by(&self.waiting);
+        self.waiting = History::new();
     }
 }

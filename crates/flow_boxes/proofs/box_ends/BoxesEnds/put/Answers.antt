@@ -1,4 +1,4 @@
-use Rattle.std.proofs.Common.{◌∙◌}
+use Rattle.std.proofs.Common.{[], ◌∷◌, ◌∙◌}
 use Rattle.flow_messages.proofs.Tables.{on_ok, if_err}
 use Rattle.flow_boxes.proofs.Changed.{writer-below, writer-put, writer-kept, put-keeps, refused-keeps, has_room}
 use Rattle.flow_boxes.proofs.Results.{by_result}
@@ -9,7 +9,7 @@ returns-clause-same c =
     let s = c.args.self.now in
     let h = writer-below s.outboxes.items c.args.edge c.requires in
     by_result c.put.result
-    (λ p. put-keeps s.capacity s.outboxes.items s.inboxes.items c.args.edge _ c.in-Some.outbox c.put.new.self h c.index_mut.ensures.value c.in-Some.is c.args.message p.0 p.1 p.2)
+    (λ p. put-keeps s.capacity s.outboxes.items s.inboxes.items c.args.edge _ c.in-Some.outbox c.put.new.self h c.index_mut.ensures.value c.in-Some.is (c.args.message ∷ []) p.0 p.1 p.2)
     (λ x p. refused-keeps s.capacity s.outboxes.items s.inboxes.items c.args.edge _ c.in-Some.outbox c.put.new.self h c.index_mut.ensures.value c.in-Some.is p.1 p.2 p.3)
     c.put.ensures.ok c.put.ensures.refused
 

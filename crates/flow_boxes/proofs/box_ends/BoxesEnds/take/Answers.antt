@@ -1,5 +1,6 @@
-use Rattle.std.proofs.Common.{length, ap, sym, ◌∙◌, arith}
+use Rattle.std.proofs.Common.{[], ◌∷◌, length, ap, sym, ◌∙◌, arith}
 use Rattle.flow_messages.specs.TableLaws.{signals-length}
+use Rattle.flow_messages.specs.Stores.{content_of}
 use Rattle.flow_messages.specs.Signals.{signals}
 use Rattle.flow_messages.proofs.Signals.{signals-nil}
 use Rattle.flow_messages.proofs.Tables.{if_some, if_none, some_unless_empty}
@@ -12,7 +13,7 @@ returns-clause-same c =
     let s = c.args.self.now in
     let h = reader-below s.inboxes.items c.args.edge c.requires in
     by_option c.take.result
-    (λ m p. take-keeps s.capacity s.outboxes.items s.inboxes.items c.args.edge _ c.in-Some.inbox c.take.new.self h c.index_mut.ensures.value c.in-Some.is m p.0 p.1)
+    (λ m p. take-keeps s.capacity s.outboxes.items s.inboxes.items c.args.edge _ c.in-Some.inbox c.take.new.self h c.index_mut.ensures.value c.in-Some.is (m ∷ []) p.0 p.1)
     (λ p. none-keeps s.capacity s.outboxes.items s.inboxes.items c.args.edge _ c.in-Some.inbox c.take.new.self h c.index_mut.ensures.value c.in-Some.is p.0 (p.1 ∙ sym p.2))
     c.take.ensures.some c.take.ensures.none
 
@@ -36,6 +37,6 @@ returns-clause-succeeds c some =
     let s = c.args.self.now in
     let h = reader-below s.inboxes.items c.args.edge c.requires in
     let i = c.in-Some.inbox in
-    some_unless_empty c.take.result i.queue.items
-    (omega (arith, some, ap length (had_coming s.capacity s.outboxes.items s.inboxes.items c.args.edge _ i i h c.index_mut.ensures.value c.in-Some.is), signals-length i.queue.items))
+    some_unless_empty c.take.result (content_of i.store)
+    (omega (arith, some, ap length (had_coming s.capacity s.outboxes.items s.inboxes.items c.args.edge _ i i h c.index_mut.ensures.value c.in-Some.is), signals-length (content_of i.store)))
     (if_none c.take.result (λ p. p.2) c.take.ensures.none)

@@ -1,4 +1,4 @@
-use Rattle.std.proofs.Common.{◌≤◌, false, [], ◌∷◌, List, length, ap, subst, sym, ◌∙◌, arith, refl, length-append}
+use Rattle.std.proofs.Common.{◌≡◌, false, [], ◌∷◌, List, length, ap, subst, sym, ◌∙◌, arith, refl, length-append}
 use Rattle.std.specs.Prelude.{Option, None}
 use Rattle.flow_messages.specs.Tables.{at_line}
 use Rattle.flow_messages.proofs.Tables.{all-snoc}
@@ -22,6 +22,6 @@ loop-preserved c =
       inbox_count = omega (arith, i.inbox_count, ap length i', length-append is (None ∷ []));
       writes = λ k. ap (λ (x : List (Option Outbox)). at_line writes_in x k false) o' ∙ one-empty writes_in os false i.writes refl k;
       reads = λ k. ap (λ (x : List (Option Inbox)). at_line reads_in x k false) i' ∙ one-empty reads_in is false i.reads refl k;
-      outboxes = subst (λ (x : List (Option Outbox)). OutboxesReserved n x) (sym o') (all-snoc (λ (o : Option Outbox). n ≤ outbox_places n o) os None i.outboxes (omega arith));
-      inboxes = subst (λ (x : List (Option Inbox)). InboxesReserved n x) (sym i') (all-snoc (λ (b : Option Inbox). n ≤ inbox_places n b) is None i.inboxes (omega arith));
+      outboxes = subst (λ (x : List (Option Outbox)). OutboxesReserved n x) (sym o') (all-snoc (λ (o : Option Outbox). outbox_places n o ≡ n) os None i.outboxes refl);
+      inboxes = subst (λ (x : List (Option Inbox)). InboxesReserved n x) (sym i') (all-snoc (λ (b : Option Inbox). inbox_places n b ≡ n) is None i.inboxes refl);
     }

@@ -1,0 +1,10 @@
+-- What was taken from a reader's box: what has arrived and is not held.
+use Rattle.std.specs.Prelude.{List}
+use Rattle.flow_messages.specs.declared.message.Msg.{Msg}
+use Rattle.flow_messages.specs.Stores.{content_of}
+use Rattle.flow_messages.specs.Lines.{gone}
+use Rattle.flow_boxes.specs.declared.inbox.Inbox.{Inbox}
+
+-- the messages that were taken, the oldest first
+abbrev pub received_of : Inbox → List Msg
+received_of i = gone i.arrived.items (content_of i.store)
