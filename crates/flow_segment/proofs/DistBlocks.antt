@@ -16,6 +16,7 @@ use Rattle.flow_base.proofs.Kernels.{went_none, went_looked, leads_on}
 use Rattle.flow_base.proofs.Batches.{Batch, block_then, batch_none, batch_read, batch_write, batch_then, batch_as, shifted_none, shifted_skip, shifted_put, went_batch, shown}
 use Rattle.flow_segment.specs.DistMachine.{Step, at_start, at_flag, at_copy, step_of, dist_machine}
 use Rattle.flow_segment.proofs.Leading.{item_leads}
+use Rattle.flow_segment.proofs.Blocks.{no_block}
 
 -- how far a worker is that holds nothing, and one that holds this item
 pub empty_at : (held : Option Item) (copies : Bool) → held ≡ None → step_of held copies ≡ at_start
@@ -70,14 +71,6 @@ pub first_unit : (n : ℕ) (c : List Signal) → (n ≡ 0 → ⊥) → IsPrefix 
 first_unit zero c some seen = absurd (some refl)
 first_unit (suc n) c some seen = shown (units_said (suc n)) c 1 seen (omega arith)
 
--- no message on any edge
-abbrev no_messages : List Signal
-no_messages = []
-
-block_none : (b : Bool) → no_messages ≡ cond b no_messages no_messages
-block_none true = refl
-block_none false = refl
-
 module _ (ins outs : List ℕ) (kind : Kind) (at : ℕ) where
   abbrev on : Step → NodeState (Kind × Step)
   on s = node_state (kind, s) Working at
@@ -90,7 +83,7 @@ module _ (ins outs : List ℕ) (kind : Kind) (at : ℕ) where
   pub copies_rounds : (x : Cell) (n : ℕ) → Copies (at_flag x) (at_flag x) (flags_said (replicate n false)) (replicate n (carry x)) (2 * n)
   copies_rounds x zero =
       let b = behaviour_of dist_machine in
-      batch_as ins outs b (batch_none ins outs b (on (at_flag x))) (λ e. cond (eqb e (edge_of ins 1)) [] []) (λ e. cond (eqb e (edge_of outs 0)) [] []) (λ e. block_none (eqb e (edge_of ins 1))) (λ e. block_none (eqb e (edge_of outs 0)))
+      batch_as ins outs b (batch_none ins outs b (on (at_flag x))) (λ e. cond (eqb e (edge_of ins 1)) [] []) (λ e. cond (eqb e (edge_of outs 0)) [] []) (λ e. no_block (eqb e (edge_of ins 1))) (λ e. no_block (eqb e (edge_of outs 0)))
   copies_rounds x (suc n) =
       let b = behaviour_of dist_machine in
       let reads = λ (e : ℕ). cond (eqb e (edge_of ins 1)) (flags_said (replicate (suc n) false)) [] in

@@ -1,3 +1,5 @@
+mod Blocks
 mod DistBlocks
+mod FlagBlocks
 mod Leading
 mod PackBlocks

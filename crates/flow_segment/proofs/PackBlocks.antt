@@ -15,6 +15,7 @@ use Rattle.flow_base.proofs.Kernels.{went_none, went_looked, leads_on}
 use Rattle.flow_base.proofs.Batches.{Batch, block_then, blocks_then, batch_none, batch_read, batch_write, batch_then, batch_as, shifted_none, shifted_skip, shifted_put, went_batch, shown, take_flags, length_flags}
 use Rattle.flow_segment.specs.PackMachine.{Step, at_start, at_item, at_copy, kept, trues, pack_machine}
 use Rattle.flow_segment.proofs.Leading.{item_leads}
+use Rattle.flow_segment.proofs.Blocks.{no_block, no_blocks}
 
 -- one truth value and one item more
 kept_more : {A : Type 0} (bs : List Bool) (xs : List A) (n : ℕ) (d : A) → n < length bs → n < length xs → kept (take (suc n) bs) (take (suc n) xs) ≡ kept (take n bs) (take n xs) ++ cond (get_or bs n false) (get_or xs n d ∷ []) []
@@ -69,17 +70,6 @@ pub units_one_by_one : (zs : List (Unit {0})) → map (λ _. carry unit) zs ≡ 
 units_one_by_one [] = refl
 units_one_by_one (z ∷ zs) = ap (λ l. carry unit ∷ l) (units_one_by_one zs)
 
--- two blocks of nothing, and one
-no_blocks : (b c : Bool) (none : List Signal) → none ≡ [] → none ≡ cond b none [] ++ cond c none []
-no_blocks true true none is = is ∙ sym (ap (λ l. l ++ l) is)
-no_blocks true false none is = sym (append-nil none)
-no_blocks false true none is = refl
-no_blocks false false none is = is
-
-no_block : (b : Bool) (none : List Signal) → none ≡ [] → none ≡ cond b none []
-no_block true none is = refl
-no_block false none is = is
-
 module _ (ins outs : List ℕ) (kind : Kind) (at : ℕ) where
   abbrev on : Step → NodeState (Kind × Step)
   on s = node_state (kind, s) Working at
@@ -114,7 +104,7 @@ module _ (ins outs : List ℕ) (kind : Kind) (at : ℕ) where
         let leads = item_leads kind (λ i. Ok at_start) at_start y (fits x) refl in
         let one = batch_read ins outs b (batch_none ins outs b (on at_start)) 0 (carry (flag false)) (on (at_item false)) refl refl in
         let two = batch_read ins outs b one 1 (carry y) (on at_start) refl (leads_on pack_machine kind (at_item false) at_start at (on_kind kind (λ i. Ok at_start)) (carry y) (λ i. refl) leads) in
-        batch_as ins outs b two _ _ (λ e. refl) (λ e. no_block (eqb e (edge_of outs 0)) [] refl)
+        batch_as ins outs b two _ _ (λ e. refl) (λ e. no_block (eqb e (edge_of outs 0)))
 
     -- and then more pairs
     pair_then : (b : Bool) (x : A) (bs : List Bool) (xs ys zs : List A) (k n : ℕ) → Pairs (b ∷ []) (x ∷ []) ys k → Pairs bs xs zs n → Pairs (b ∷ bs) (x ∷ xs) (ys ++ zs) (k + n)
@@ -128,7 +118,7 @@ module _ (ins outs : List ℕ) (kind : Kind) (at : ℕ) where
     pairs : (bs : List Bool) (xs : List A) → length xs ≡ length bs → Pairs bs xs (kept bs xs) (2 * length bs + length (kept bs xs))
     pairs [] [] long =
         let p = behaviour_of pack_machine in
-        batch_as ins outs p (batch_none ins outs p (on at_start)) _ _ (λ e. no_blocks (eqb e (edge_of ins 0)) (eqb e (edge_of ins 1)) [] refl) (λ e. no_block (eqb e (edge_of outs 0)) [] refl)
+        batch_as ins outs p (batch_none ins outs p (on at_start)) _ _ (λ e. no_blocks (eqb e (edge_of ins 0)) (eqb e (edge_of ins 1))) (λ e. no_block (eqb e (edge_of outs 0)))
     pairs [] (x ∷ xs) long = absurd (omega arith)
     pairs (b ∷ bs) [] long = absurd (omega arith)
     pairs (true ∷ bs) (x ∷ xs) long =

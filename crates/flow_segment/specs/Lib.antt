@@ -1,4 +1,5 @@
 pub mod FlagTables
+pub mod FlagBlocks
 pub mod FlagOfBoolMachine
 pub mod TheCheckMachine
 pub mod SameFlagsMachine

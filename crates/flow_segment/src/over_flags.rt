@@ -1,11 +1,18 @@
 // Workers over flags alone.
 
-ghost use Rattle.std.specs.Prelude.{◌≡◌, true, [], ◌∷◌, IfSome};
+ghost use Rattle.std.specs.Prelude.{◌≡◌, ◌≢◌, ◌≤◌, ◌<◌, ◌+◌, ℕ, true, false, [], ◌∷◌, get_or, length, take, IfSome};
 ghost use mathlib.Core.List.{IsPrefix};
-ghost use Rattle.flow_messages.specs.Signals.{Signal};
+ghost use Rattle.flow_messages.specs.Cells.{flag};
+ghost use Rattle.flow_messages.specs.Ends.{SameEnds};
+ghost use Rattle.flow_messages.specs.Signals.{Signal, carry};
 ghost use Rattle.flow_base.specs.Machines.{Leads, on_flag};
+ghost use Rattle.flow_base.specs.Nodes.{behaviour_of, node_state};
+ghost use Rattle.flow_base.specs.Visits.{edge_of, IsWired, Went};
+ghost use Rattle.flow_base.specs.declared.node.Phase.TheVariants.{Working};
+ghost use Rattle.flow_segment.specs.FlagTables.{over_flags, stage_view};
+ghost use Rattle.flow_segment.specs.FlagBlocks.{RunsOver};
 
-use flow_base::{Ask, Stop, Worker, put_in_space, take_front};
+use flow_base::{Ask, BLOCK, Stop, Worker, put_in_space, take_front};
 use flow_messages::{Ends, Item, Kind, Msg};
 use snesl_data::FaultKind;
 use std::alloc::AllocError;
@@ -62,6 +69,145 @@ impl<S: Stage> OverFlags<S> {
     {
         OverFlags { stage: S::start() }
     }
+
+    // Goes on over the flags that are shown, and writes a block at most. How many steps it made.
+    #[inline(always)]
+    fn round<E: Ends>(
+        &mut self,
+        inputs: &[usize],
+        outputs: &[usize],
+        ends: &mut E,
+        most: usize,
+    ) -> usize
+        requires some { 0 < S.table.inputs }
+        requires few { S.table.inputs ≤ 2 }
+        requires apart { S.table.inputs ≡ 2 → edge_of inputs.now 0 ≢ edge_of inputs.now 1 }
+        requires wired { IsWired inputs.now outputs.now S.table.inputs S.table.outputs
+            (E.view ends.old) }
+        ensures same { E.same ends.old ends.new }
+        ensures ends { SameEnds (E.view ends.old) (E.view ends.new) }
+        ensures within { result ≤ most }
+        ensures went { (at : ℕ) → Went inputs.now outputs.now (behaviour_of (over_flags S.table))
+            (node_state (stage_view self.old) Working at) (E.view ends.old)
+            (node_state (stage_view self.new) Working at) (E.view ends.new) result }
+    {
+        let first = inputs[0];
+        // Where there is one input alone, it is shown twice, and nothing is read of it as the second.
+        let second = inputs[S::inputs() - 1];
+        let mut block = [false; BLOCK];
+        let [to, ..] = outputs else {
+            let (firsts, seconds) = (ends.flags(first), ends.flags(second));
+            let ran = run_over(self.stage, firsts, seconds, &mut block, 0, most);
+            let steps = ran.first + ran.second;
+            if steps > 0 {
+                ends.skip(first, ran.first);
+                ends.skip(second, ran.second);
+                self.stage = ran.stage;
+            }
+            return steps;
+        };
+        let room = ends.space(*to).min(BLOCK);
+        let (firsts, seconds) = (ends.flags(first), ends.flags(second));
+        let ran = run_over(self.stage, firsts, seconds, &mut block, room, most);
+        let steps = ran.first + ran.second + ran.written;
+        if steps > 0 {
+            ends.skip(first, ran.first);
+            ends.skip(second, ran.second);
+            ends.put_flags(*to, &block[..ran.written]);
+            self.stage = ran.stage;
+        }
+        steps
+    }
+}
+
+// How far a table went over blocks of flags, and how many it read of each of two inputs and wrote.
+#[derive(Clone, Copy)]
+struct Ran<S> {
+    stage: S,
+    first: usize,
+    second: usize,
+    written: usize,
+}
+
+// The stage to which the flag at this place leads, where one is shown there and leads to one.
+#[inline(always)]
+fn stage_after<S: Copy>(
+    at_f: Result<S, FaultKind>,
+    at_t: Result<S, FaultKind>,
+    flags: &[bool],
+    place: usize,
+) -> Option<S>
+    ensures shown { IfSome result (λ _. place < length flags.now) }
+    ensures leads { IfSome result (λ next.
+        Leads (on_flag at_f at_t) (carry (flag (get_or flags.now place false))) next) }
+{
+    if place >= flags.len() {
+        return None;
+    }
+    if flags[place] { at_t.ok() } else { at_f.ok() }
+}
+
+// Goes on from this stage over flags of its first input and of its second, as long as flags are there that lead on and there
+// is room for those that it writes, and at most `most` steps. It puts what it writes into the block.
+#[inline(always)]
+fn run_over<S: Stage>(
+    stage: S,
+    firsts: &[bool],
+    seconds: &[bool],
+    block: &mut [bool; BLOCK],
+    room: usize,
+    most: usize,
+) -> Ran<S>
+    requires block { room ≤ 64 }
+    ensures first { result.first ≤ length firsts.now }
+    ensures second { result.second ≤ length seconds.now }
+    ensures written { result.written ≤ room }
+    ensures within { result.first + result.second + result.written ≤ most }
+    ensures only { S.table.inputs ≡ 1 → result.second ≡ 0 }
+    ensures ran { RunsOver S.table stage (take result.first firsts.now)
+        (take result.second seconds.now) (take result.written block.new) result.stage }
+{
+    let mut ran = Ran {
+        stage,
+        first: 0,
+        second: 0,
+        written: 0,
+    };
+    for _ in 0..most {
+        match ran.stage.step() {
+            Step::Begin(at_f, at_t) => {
+                let Some(next) = stage_after(at_f, at_t, firsts, ran.first) else {
+                    return ran;
+                };
+                ran.stage = next;
+                ran.first += 1;
+            }
+            Step::Take(0, at_f, at_t) => {
+                let Some(next) = stage_after(at_f, at_t, firsts, ran.first) else {
+                    return ran;
+                };
+                ran.stage = next;
+                ran.first += 1;
+            }
+            Step::Take(1, at_f, at_t) => {
+                let Some(next) = stage_after(at_f, at_t, seconds, ran.second) else {
+                    return ran;
+                };
+                ran.stage = next;
+                ran.second += 1;
+            }
+            Step::Give(0, flag, next) => {
+                if ran.written == room {
+                    return ran;
+                }
+                block[ran.written] = flag;
+                ran.stage = next;
+                ran.written += 1;
+            }
+            _ => return ran,
+        }
+    }
+    ran
 }
 
 // The stage to which the flag at the front of the edge leads, where one is seen there and leads to one.
@@ -139,6 +285,32 @@ impl<S: Stage> Worker for OverFlags<S> {
                 Ok(Item::Bool(flag))
             }
             _ => Ok(Item::Unit),
+        }
+    }
+
+    // Flags of one or two inputs are seen at once, and those of one output are written.
+    #[inline(always)]
+    fn blocks<E: Ends>(
+        &mut self,
+        inputs: &[usize],
+        outputs: &[usize],
+        ends: &mut E,
+        most: usize,
+    ) -> usize {
+        if S::inputs() == 0 || S::inputs() > 2 || S::outputs() > 1 {
+            return 0;
+        }
+        // Two blocks of one edge are not seen at once.
+        if S::inputs() == 2 && inputs[0] == inputs[1] {
+            return 0;
+        }
+        let mut made = 0;
+        'rounds: loop {
+            let steps = self.round(inputs, outputs, ends, most - made);
+            if steps == 0 {
+                return made;
+            }
+            made += steps;
         }
     }
 

@@ -4,26 +4,16 @@ use Rattle.kahn.specs.declared.want.Want.TheVariants.{Read}
 use Rattle.flow_messages.specs.Cells.{Cell, flag}
 use Rattle.flow_messages.specs.Ends.{View, SameEnds, Taken}
 use Rattle.flow_messages.specs.Signals.{Signal, carry}
-use Rattle.flow_base.specs.Machines.{Taking, on_flag, taken, begins, takes, gives, ask_of, given_of, told_of, after_of, Leads, MachineLaws, SoundAt}
+use Rattle.flow_base.specs.Machines.{Taking, on_flag, taken, begins, takes, gives, ask_of, given_of, told_of, after_of, Leads}
 use Rattle.flow_base.specs.Nodes.{NodeState, behaviour_of, node_state, want_for}
 use Rattle.flow_base.specs.Visits.{edge_of, Went, Wrote}
 use Rattle.flow_base.specs.declared.node.Phase.TheVariants.{Working}
 use Rattle.flow_base.proofs.Carried.{same_ends_refl, same_ends_then}
 use Rattle.flow_base.proofs.Kernels.{went_none, went_looked, went_read, went_write, leads_on}
 use Rattle.flow_segment.specs.FlagTables.{FlagTable, over_flags, stage_view}
+use Rattle.flow_segment.proofs.FlagBlocks.{first_there, input_there, output_there}
 use Rattle.flow_segment.proofs.over_flags.OverFlagsWorker.kernel.Goals.{in-Begin+in-Some, in-Take+in-Some-stage_at, in-Give+else-space-eq0}
 use Rattle.flow_segment.proofs.over_flags.OverFlagsWorker.kernel.Goals as goal
-
--- the ports are there of which a table reads, and to which it writes
-module _ {S : Type 0} (t : FlagTable S) (laws : MachineLaws (over_flags t)) (s : S) where
-  first_there : (k : Taking S) → begins k ≡ t.move s → 0 < t.inputs
-  first_there k is = (subst (SoundAt (over_flags t) tt s) (sym is) (laws.sound tt s)).1.0
-
-  input_there : (p : ℕ) (k : Taking S) → takes p k ≡ t.move s → p < t.inputs
-  input_there p k is = (subst (SoundAt (over_flags t) tt s) (sym is) (laws.sound tt s)).0
-
-  output_there : (q : ℕ) (x : Cell) (next : S) → gives q x next ≡ t.move s → q < t.outputs
-  output_there q x next is = (subst (SoundAt (over_flags t) tt s) (sym is) (laws.sound tt s)).0
 
 -- a table goes on by one step
 module _ {S : Type 0} (t : FlagTable S) (inputs outputs : List ℕ) (at : ℕ) {o : NodeState (Unit {0} × S)} {a : View} {s : S} {v : View} {n : ℕ} (went : Went inputs outputs (behaviour_of (over_flags t)) o a (node_state (tt, s) Working at) v n) where
