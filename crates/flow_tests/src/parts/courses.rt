@@ -86,9 +86,9 @@ const EACH_WAY: Course = Course {
     ],
 };
 
-// Ends between threads show no slice. A block that was put comes one message after another.
-const BLOCKS: Course = Course {
-    name: "blocks",
+// Rings show no slice. A block that was put comes one message after another.
+const BLOCKS_OVER_RINGS: Course = Course {
+    name: "blocks over rings",
     shares: Shares::One,
     capacity: 2,
     steps: &[
@@ -109,9 +109,48 @@ const BLOCKS: Course = Course {
     ],
 };
 
+// A box shows as slices what has come to it, also where some was left before. Units behind a truth value come by themselves.
+const BLOCKS_OVER_BOXES: Course = Course {
+    name: "blocks over boxes",
+    shares: Shares::One,
+    capacity: 2,
+    steps: &[
+        Step::At(0, 0, Act::Blocks(Block::PutsInts(&[5, 6]))),
+        Step::Meet,
+        Step::At(0, 0, Act::Blocks(Block::ShowsInts(&[5, 6]))),
+        Step::At(0, 0, Act::Blocks(Block::SkipsOne)),
+        Step::Meet,
+        Step::At(0, 0, Act::Blocks(Block::PutsInts(&[7]))),
+        Step::At(0, 0, Act::Blocks(Block::ShowsInts(&[6]))),
+        Step::Meet,
+        Step::At(0, 0, Act::Blocks(Block::ShowsInts(&[6, 7]))),
+        Step::At(0, 0, Act::Blocks(Block::SkipsOne)),
+        Step::At(0, 0, Act::Takes(Some(7))),
+        Step::Meet,
+        Step::At(0, 0, Act::Blocks(Block::PutsFlags(&[true]))),
+        Step::At(0, 0, Act::Blocks(Block::PutsUnits(1))),
+        Step::Meet,
+        Step::At(0, 0, Act::Blocks(Block::ShowsFlags(&[true]))),
+        Step::At(0, 0, Act::Blocks(Block::SkipsOne)),
+        Step::At(0, 0, Act::Blocks(Block::ShowsUnits(0))),
+        Step::At(0, 0, Act::Blocks(Block::SkipsOne)),
+        Step::Meet,
+        Step::At(0, 0, Act::Blocks(Block::PutsUnits(2))),
+        Step::Meet,
+        Step::At(0, 0, Act::Blocks(Block::ShowsUnits(2))),
+        Step::At(0, 0, Act::Counts(7, 5)),
+        Step::At(0, 0, Act::Blocks(Block::SkipsOne)),
+        Step::At(0, 0, Act::Blocks(Block::SkipsOne)),
+        Step::Meet,
+        Step::At(0, 0, Act::Puts(None)),
+        Step::At(0, 0, Act::Blocks(Block::PutsFlags(&[true]))),
+        Step::At(0, 0, Act::Counts(8, 7)),
+    ],
+};
+
 const OVER_BOXES: [Course; 4] = [
     EACH_WAY,
-    BLOCKS,
+    BLOCKS_OVER_BOXES,
     Course {
         name: "messages pass between rounds only",
         shares: Shares::Two,
@@ -158,7 +197,7 @@ const OVER_BOXES: [Course; 4] = [
 
 const OVER_RINGS: [Course; 4] = [
     EACH_WAY,
-    BLOCKS,
+    BLOCKS_OVER_RINGS,
     Course {
         name: "messages cross in order",
         shares: Shares::Two,
