@@ -96,7 +96,7 @@ impl Beside {
     ) -> Result<(), AllocError> {
         self.programs = self.programs.saturating_add(1);
         for capacity in [256, 4, 2, 1] {
-            for chunk in [16, 1] {
+            for chunk in [16, 256, 1] {
                 let done = ran_alone(rt, alloc, program, input, capacity, chunk)?;
                 self.endings.count(&done);
                 if !expected.allows(&done) {

@@ -108,8 +108,8 @@ impl Drives {
         Ok(())
     }
 
-    // Tries the drives of several threads: chunks of 1 and of 16, each of the lists of shares, and over rings threads that end
-    // after one turn without a step and after 64; in rounds no message comes that a later turn could find. A network of at
+    // Tries the drives of several threads: chunks of 1, 16 and 256, each of the lists of shares, and over rings threads that
+    // end after one turn without a step and after 64; in rounds no message comes that a later turn could find. A network of at
     // most five nodes is run with each list of five entries 0 or 1 besides.
     fn try_ways(
         &mut self,
@@ -138,7 +138,7 @@ impl Drives {
         drive: Drive,
         idles: &[usize],
     ) -> Result<(), AllocError> {
-        for chunk in [1, 16] {
+        for chunk in [1, 16, 256] {
             for &idle in idles {
                 for &shares in &SHARES {
                     let way = Way {
