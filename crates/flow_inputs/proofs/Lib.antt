@@ -5,3 +5,4 @@ pub mod Main
 pub mod Edges
 pub mod Sending
 pub mod Blocks
+pub mod Elements

@@ -1,6 +1,6 @@
 // The items of one edge, scanned from a text.
 
-ghost use Rattle.std.specs.Prelude.{◌≡◌, ◌<◌, ◌≤◌, ◌++◌, [], length, map, take, IfSome, IfNone, option_to_list};
+ghost use Rattle.std.specs.Prelude.{◌≡◌, ◌<◌, ◌≤◌, ◌∷◌, ◌++◌, [], length, map, take, IfSome, IfNone, option_to_list};
 ghost use Rattle.snesl_values.specs.InputTokens.{next, next_at};
 ghost use Rattle.snesl_values.specs.Marks.{found_from};
 ghost use Rattle.flow_inputs.specs.declared.turns.Piece.TheVariants.{Flag, Int};
@@ -8,7 +8,7 @@ ghost use Rattle.flow_inputs.specs.Turns.{depth_of};
 ghost use Rattle.flow_inputs.specs.Left.{left};
 
 use crate::brackets::past;
-use crate::turns::{Leaf, Piece, State, Step, is_done, turn};
+use crate::turns::{Leaf, Mode, Piece, State, Step, is_done, made, step_at, turn};
 use snesl_values::{Found, Mark, mark_at, sign_mark};
 
 // How many items are scanned at most before they are written.
@@ -97,6 +97,47 @@ pub(crate) fn scan(
     }
 }
 
+// The integer that is written next behind an element of a sequence, where it is the next element,
+// and the offset behind it. The scan stands behind an element again. It says what `scan` would, and
+// is faster.
+#[inline(always)]
+fn next_element(
+    text: &[u8],
+    way: &[Step],
+    leaf: Leaf,
+    at: usize,
+    state: State,
+) -> Option<(i128, usize)>
+    requires { at ≤ length text.now }
+    ensures first { IfSome result (λ found. left text.now way.now leaf at state ≡
+        Int found.0 ∷ left text.now way.now leaf found.1 state) }
+    ensures moves { IfSome result (λ found. at < found.1) }
+    ensures within { IfSome result (λ found. found.1 ≤ length text.now) }
+{
+    let (Leaf::Ints, Mode::Behind) = (leaf, state.mode) else {
+        return None;
+    };
+    let Some(Step::Elements) = made(way, state.level) else {
+        return None;
+    };
+    let None = step_at(way, state.level) else {
+        return None;
+    };
+    if at == text.len() {
+        return None;
+    }
+    let Mark::Comma = sign_mark(text[at]) else {
+        return None;
+    };
+    match mark_at(text, at + 1) {
+        Some(found) => match found.mark {
+            Mark::Number(number) => Some((number, found.end)),
+            _ => None,
+        },
+        None => None,
+    }
+}
+
 // Scans the integers that are written next: so many, or as many as come before the end or another
 // item.
 #[inline(never)]
@@ -120,6 +161,11 @@ pub(crate) fn ints_ahead(
     ensures shallow { depth_of result.state.mode ≤ result.at }
 {
     for count in 0..most {
+        if let Some((item, end)) = next_element(text, way, leaf, at, state) {
+            ints[count] = item;
+            at = end;
+            continue;
+        }
         let found = scan(text, way, leaf, at, state);
         match found.piece {
             Some(Piece::Int(item)) => {

@@ -269,7 +269,7 @@ fn within(level: usize, depth: usize, mark: Mark) -> Turn
 
 // The step at this level of the way, if there is one.
 #[inline(always)]
-fn step_at(way: &[Step], level: usize) -> Option<Step>
+pub(crate) fn step_at(way: &[Step], level: usize) -> Option<Step>
     ensures step { result ≡ slice_get way.now level }
     ensures within { IfSome result (λ _. level < usize.MAX) }
 {
@@ -281,7 +281,7 @@ fn step_at(way: &[Step], level: usize) -> Option<Step>
 
 // The innermost step that was made, if one was.
 #[inline(always)]
-fn made(way: &[Step], level: usize) -> Option<Step>
+pub(crate) fn made(way: &[Step], level: usize) -> Option<Step>
     ensures { result ≡ made way.now level }
 {
     if level == 0 {
