@@ -1,5 +1,5 @@
--- The next element of a sequence of integers.
-use Rattle.std.proofs.Common.{◌≡◌, ℕ, ℤ, ◌+◌, ◌≤◌, List, ◌∷◌, length, Some, None, ◌∙◌, ap, subst, sym, arith}
+-- The next element of a sequence.
+use Rattle.std.proofs.Common.{◌≡◌, ℕ, ℤ, ◌+◌, ◌≤◌, ◌<◌, false, List, ◌∷◌, length, Some, None, ◌∙◌, ap, subst, sym, arith}
 use Rattle.std.specs.List.{slice_get}
 use Rattle.snesl_values.specs.InputTokens.{next, next_at}
 use Rattle.snesl_values.specs.declared.marks.Found.{Found}
@@ -9,9 +9,9 @@ use Rattle.flow_inputs.specs.declared.turns.Step.{Step}
 use Rattle.flow_inputs.specs.declared.turns.Step.TheVariants.{Elements}
 use Rattle.flow_inputs.specs.declared.turns.Leaf.{Leaf}
 use Rattle.flow_inputs.specs.declared.turns.Leaf.TheVariants.{Ints}
-use Rattle.flow_inputs.specs.declared.turns.Mode.TheVariants.{Value, Behind}
+use Rattle.flow_inputs.specs.declared.turns.Mode.TheVariants.{Value, Behind, Counting}
 use Rattle.flow_inputs.specs.declared.turns.State.{State}
-use Rattle.flow_inputs.specs.declared.turns.Piece.TheVariants.{Int}
+use Rattle.flow_inputs.specs.declared.turns.Piece.TheVariants.{Flag, Int}
 use Rattle.flow_inputs.specs.Turns.{state, behind, at_value, at_leaf, made}
 use Rattle.flow_inputs.specs.Left.{left}
 use Rattle.flow_inputs.proofs.Lefts.{behind_turn, left_found}
@@ -34,3 +34,8 @@ element_left text way leaf at s n f ints mode within elements last comma number 
     subst (λ l. left text way l at s ≡ Int n ∷ left text way l f.end s) (sym ints)
     (subst (λ m. left text way Ints at (state s.level m) ≡ Int n ∷ left text way Ints f.end (state s.level m)) (sym mode)
     (two_tokens text way at s.level n f within elements last comma number is))
+
+-- a comma, where an element ends whose flag is written
+pub flag_left : (text : List ℕ) (way : List Step) (leaf : Leaf) (at level : ℕ) → at < length text → Some (record { mark = Comma; end = at + 1 }) ≡ found_from (next_at text at) (next text at)
+    → left text way leaf at (state level (Counting 0)) ≡ Flag false ∷ left text way leaf (at + 1) (state level (Counting 0))
+flag_left text way leaf at level within comma = left_found text way leaf at (state level (Counting 0)) (record { mark = Comma; end = at + 1 }) (omega (arith, within)) comma

@@ -1,10 +1,12 @@
 // The items of one edge, scanned from a text.
 
-ghost use Rattle.std.specs.Prelude.{◌≡◌, ◌<◌, ◌≤◌, ◌∷◌, ◌++◌, [], length, map, take, IfSome, IfNone, option_to_list};
+ghost use Rattle.std.specs.Prelude.{◌≡◌, ℕ, ◌+◌, ◌<◌, ◌≤◌, false, IsTrue, List, ◌∷◌, ◌++◌, [], length, map, take, IfSome, IfNone, option_to_list};
 ghost use Rattle.snesl_values.specs.InputTokens.{next, next_at};
 ghost use Rattle.snesl_values.specs.Marks.{found_from};
 ghost use Rattle.flow_inputs.specs.declared.turns.Piece.TheVariants.{Flag, Int};
-ghost use Rattle.flow_inputs.specs.Turns.{depth_of};
+ghost use Rattle.flow_inputs.specs.declared.turns.Step.{Step};
+ghost use Rattle.flow_inputs.specs.declared.turns.Leaf.{Leaf};
+ghost use Rattle.flow_inputs.specs.Turns.{state, depth_of};
 ghost use Rattle.flow_inputs.specs.Left.{left};
 
 use crate::brackets::past;
@@ -161,8 +163,8 @@ pub(crate) fn ints_ahead(
     ensures shallow { depth_of result.state.mode ≤ result.at }
 {
     for count in 0..most {
-        if let Some((item, end)) = next_element(text, way, leaf, at, state) {
-            ints[count] = item;
+        if let Some((number, end)) = next_element(text, way, leaf, at, state) {
+            ints[count] = number;
             at = end;
             continue;
         }
@@ -191,6 +193,27 @@ pub(crate) fn ints_ahead(
     }
 }
 
+// Whether an element ends here, by a comma, of a sequence whose flags are written.
+#[inline(always)]
+fn is_element_end(text: &[u8], at: usize, mode: Mode) -> bool
+    requires { at ≤ length text.now }
+    ensures first { IsTrue result → (way : List Step) (leaf : Leaf) (level : ℕ) →
+        left text.now way leaf at (state level mode) ≡
+        Flag false ∷ left text.now way leaf (at + 1) (state level mode) }
+    ensures within { IsTrue result → at < length text.now }
+{
+    let Mode::Counting(0) = mode else {
+        return false;
+    };
+    if at == text.len() {
+        return false;
+    }
+    let Mark::Comma = sign_mark(text[at]) else {
+        return false;
+    };
+    true
+}
+
 // Scans the truth values that are written next: so many, or as many as come before the end or another
 // item.
 #[inline(never)]
@@ -214,6 +237,12 @@ pub(crate) fn flags_ahead(
     ensures shallow { depth_of result.state.mode ≤ result.at }
 {
     for count in 0..most {
+        (at, state.mode) = past(text, state.mode, at);
+        if is_element_end(text, at, state.mode) {
+            flags[count] = false;
+            at += 1;
+            continue;
+        }
         let found = scan(text, way, leaf, at, state);
         match found.piece {
             Some(Piece::Flag(item)) => {
