@@ -22,6 +22,9 @@ const LEAST_FOR_BLOCKS: usize = 8;
 
 const LEAST_FOR_KERNEL: usize = 64;
 
+// After a visit of so many steps the next one goes over slices, if it can.
+const LEAST_WHEN_BUSY: usize = 5;
+
 /// How far a node is.
 #[derive(Clone, Copy, Debug, PartialEq, Eq)]
 pub enum Phase {
@@ -56,7 +59,7 @@ pub struct Node<W> {
     worker: W,
     phase: Phase,
     at: usize,
-    // Whether its last visit made most of the steps that it might. It says only how fast the next one is.
+    // Whether its last visit made more than a step or two. It says only how fast the next one is.
     is_busy: bool,
 }
 
@@ -235,7 +238,7 @@ impl<W: Worker> Node<W> {
     }
 
     // The rest of an instance that has begun, and then whole instances over slices, at most `chunk` steps. How many it made.
-    #[inline(never)]
+    #[inline(always)]
     fn whole_blocks<E: Ends>(
         &mut self,
         inputs: &[usize],
@@ -264,9 +267,10 @@ impl<W: Worker> Node<W> {
         Ok(first)
     }
 
-    // The same in long visits, over slices alone in shorter ones, and nothing in short ones. How many steps it made.
-    #[inline(always)]
-    fn whole<E: Ends>(
+    // The same in long visits, over slices alone in shorter ones, and nothing in short ones. How many steps it made. It stands
+    // alone, so that the loop of single steps keeps its values in registers.
+    #[inline(never)]
+    fn many<E: Ends>(
         &mut self,
         inputs: &[usize],
         outputs: &[usize],
@@ -290,18 +294,43 @@ impl<W: Worker> Node<W> {
         if chunk < LEAST_FOR_BLOCKS {
             return Ok(0);
         }
+        if chunk >= LEAST_FOR_KERNEL {
+            return self.whole_instances(inputs, outputs, ends, chunk);
+        }
         // Where hardly an instance fits, the worker goes on from within one, if it can.
         if chunk / 2 <= outputs.len() {
             return Ok(self.worker.blocks(inputs, outputs, ends, chunk));
         }
-        if chunk < LEAST_FOR_KERNEL {
-            // Where the last visit found too few messages, this one hardly finds many.
-            if !self.is_busy {
-                return Ok(0);
-            }
-            return self.whole_blocks(inputs, outputs, ends, chunk);
+        self.whole_blocks(inputs, outputs, ends, chunk)
+    }
+
+    // The same where the visit before found many messages. Else this one hardly does. How many steps it made.
+    #[inline(always)]
+    fn whole<E: Ends>(
+        &mut self,
+        inputs: &[usize],
+        outputs: &[usize],
+        ends: &mut E,
+        chunk: usize,
+    ) -> Result<usize, AllocError>
+        requires works { self.old.phase ≡ Working }
+        requires placed { IsPlaced ⟦<Node<W> as Transducer>⟧.behaviour inputs.now outputs.now
+            (⟦<Node<W> as Transducer>⟧.state self.old) (E.view ends.old) }
+        ensures same { E.same ends.old ends.new }
+        ensures ends { SameEnds (E.view ends.old) (E.view ends.new) }
+        ensures within { IfOk result (λ made. made ≤ chunk) }
+        ensures went { IfOk result (λ made. WentOn inputs.now outputs.now
+            ⟦<Node<W> as Transducer>⟧.behaviour (⟦<Node<W> as Transducer>⟧.state self.old)
+            (E.view ends.old) (⟦<Node<W> as Transducer>⟧.state self.new) (E.view ends.new)
+            (nat_lt 0 made)) }
+        ensures broke { OnErr result (BrokeOff inputs.now outputs.now
+            ⟦<Node<W> as Transducer>⟧.behaviour (⟦<Node<W> as Transducer>⟧.state self.old)
+            (E.view ends.old) (⟦<Node<W> as Transducer>⟧.state self.new) (E.view ends.new)) }
+    {
+        if !self.is_busy {
+            return Ok(0);
         }
-        self.whole_instances(inputs, outputs, ends, chunk)
+        self.many(inputs, outputs, ends, chunk)
     }
 
     // Steps while it works, at most `chunk`: whole instances first, and then one step after another. How many it made.
@@ -329,8 +358,8 @@ impl<W: Worker> Node<W> {
             (E.view ends.old) (⟦<Node<W> as Transducer>⟧.state self.new) (E.view ends.new)) }
     {
         let whole = self.whole(inputs, outputs, ends, chunk)?;
-        // Where these were most of the visit, it ends here: the steps that are left would open an instance.
-        if whole > chunk / 2 {
+        // The steps that are left would open an instance, or find nothing.
+        if whole > 0 {
             return Ok(whole);
         }
         if !matches!(self.phase, Phase::Working) {
@@ -484,7 +513,7 @@ impl<W: Worker> Transducer for Node<W> {
             return self.close(inputs, outputs, ends, chunk);
         }
         let made = self.work(inputs, outputs, ends, chunk)?;
-        self.is_busy = made > chunk / 2;
+        self.is_busy = made >= LEAST_WHEN_BUSY;
         if made == chunk || matches!(self.phase, Phase::Working) {
             return Ok(made > 0);
         }

@@ -118,6 +118,10 @@ impl Line {
         ensures none { IfNone result ((content_of self.new.store ≡ []) ×
             (content_of self.old.store ≡ [])) }
     {
+        // Most takes that find nothing end here, before each kind is looked at.
+        if self.store.len() == 0 {
+            return None;
+        }
         let message = self.store.pop()?;
         self.taken = self.taken.saturating_add(1);
         Some(message)

@@ -161,6 +161,22 @@ impl Store {
         ensures content { content_of self.new ≡ drop count (content_of self.old) }
         ensures capacity { self.new.capacity ≡ self.old.capacity }
     {
+        // Mostly all are of one kind.
+        if count <= self.units {
+            self.units -= count;
+            self.held -= count;
+            return;
+        }
+        if self.units == 0 && count <= self.flags.len() {
+            self.flags.skip(count);
+            self.held -= count;
+            return;
+        }
+        if self.units == 0 && self.flags.is_empty() && count <= self.ints.len() {
+            self.ints.skip(count);
+            self.held -= count;
+            return;
+        }
         let units = min(count, self.units);
         let flags = min(count - units, self.flags.len());
         let ints = min(count - units - flags, self.ints.len());
