@@ -1,0 +1,5 @@
+pub mod Quoting
+pub mod Words
+pub mod Lines
+pub mod Texts
+pub mod Networks

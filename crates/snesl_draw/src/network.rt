@@ -1,0 +1,95 @@
+// A network, for a drawing.
+
+ghost use Rattle.std.specs.Prelude.{◌≡◌, ◌<◌, IfOk, length, map};
+ghost use Rattle.flow_graph.specs.Edges.{edge_at};
+ghost use Rattle.flow_graph.specs.Graphs.{edges_of, states_of};
+ghost use Rattle.snesl_draw.specs.Networks.{drawn_edge};
+
+use crate::drawing::{Drawing, DrawnEdge, DrawnNode};
+use crate::steps::steps_of_program;
+use crate::words::operation_word;
+use flow_base::Transducer;
+use flow_graph::{Graph, graph_is_a_network};
+use flow_nodes::StreamNode;
+use flow_plans::Step;
+use snesl_data::Refusal;
+use snesl_types::Typed;
+use std::alloc::{AllocError, Global};
+
+/// The drawing of a network of a typed program, as `flatten` and `Plan::with` make it: its nodes in order, and its edges
+/// with the kinds of their items. How many messages go over them is not known.
+///
+/// # Errors
+///
+/// - `TooBig`: the program has more steps than a graph has nodes, so that the network is not its.
+/// - `NoMemory`: memory was refused.
+pub fn drawing_of(
+    alloc: Global,
+    typed: &Typed<'_>,
+    graph: &Graph<StreamNode>,
+) -> Result<Drawing, Refusal>
+    ensures nodes { IfOk result (λ drawing. length drawing.nodes.items
+        ≡ length (states_of graph.now)) }
+    ensures edges { IfOk result (λ drawing. drawing.edges.items
+        ≡ map (drawn_edge (states_of graph.now)) (edges_of graph.now)) }
+{
+    let steps = steps_of_program(alloc, typed)?;
+    let nodes = drawn_nodes(alloc, &steps, graph)?;
+    let edges = drawn_edges(alloc, graph)?;
+    Ok(Drawing { nodes, edges })
+}
+
+// The nodes: that of each step, and behind it those that join what it writes to its readers, which are none of a step.
+fn drawn_nodes(
+    alloc: Global,
+    steps: &[Step],
+    graph: &Graph<StreamNode>,
+) -> Result<Vec<DrawnNode>, AllocError>
+    ensures { IfOk result (λ nodes. length nodes.items ≡ length (states_of graph.now)) }
+{
+    let mut nodes = Vec::new(alloc);
+    let mut later = steps.iter();
+    let mut at = 0;
+    for number in 0..graph.nodes() {
+        let word = match graph.node(number) {
+            StreamNode::Fork(_) => "Fork",
+            StreamNode::Sink(_) => "Sink",
+            _ => match later.next() {
+                Some(step) => {
+                    at = step.at;
+                    operation_word(&step.operation)
+                }
+                None => "",
+            },
+        };
+        nodes.push(DrawnNode { number, word, at })?;
+    }
+    Ok(nodes)
+}
+
+// The edges, by their numbers.
+fn drawn_edges(alloc: Global, graph: &Graph<StreamNode>) -> Result<Vec<DrawnEdge>, AllocError>
+    ensures { IfOk result (λ edges. edges.items
+        ≡ map (drawn_edge (states_of graph.now)) (edges_of graph.now)) }
+{
+    let mut edges = Vec::new(alloc);
+    for number in 0..graph.edges() {
+        edges.push(drawn_edge(graph, number))?;
+    }
+    Ok(edges)
+}
+
+// The edge of this number, of which no traffic is known.
+fn drawn_edge(graph: &Graph<StreamNode>, number: usize) -> DrawnEdge
+    requires { number < length (edges_of graph.now) }
+    ensures { result ≡ drawn_edge (states_of graph.now) (edge_at (edges_of graph.now) number) }
+{
+    graph_is_a_network(graph);
+    let edge = graph.edge(number);
+    let kind = graph.node(edge.writer).kind_out(edge.writer_port);
+    DrawnEdge {
+        edge,
+        kind,
+        messages: None,
+    }
+}
