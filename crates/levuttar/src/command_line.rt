@@ -1,10 +1,11 @@
 // The command line, by clap.
 
+use crate::drawing::draw_command;
 use clap::{Arg, ArgMatches, Command};
 use std::alloc::{AllocError, Global};
 
-// The options of `run`: those of the settings. Each has a name, the word before its value, what that is, and a line of help.
-const OPTIONS: [(&str, &str, &str, &str); 6] = [
+// The options that say settings. Each has a name, the word before its value, what that is, and a line of help.
+pub(crate) const OPTIONS: [(&str, &str, &str, &str); 6] = [
     (
         "capacity",
         "--capacity",
@@ -43,7 +44,7 @@ const OPTIONS: [(&str, &str, &str, &str); 6] = [
     ),
 ];
 
-// The command of the program, with its one subcommand.
+// The command of the program, with its subcommands.
 pub(crate) fn command<'a>(alloc: Global) -> Result<Command<'a>, AllocError> {
     let mut run = Command::new(alloc, "run")
         .about("Runs a job: prints its value, or says what went wrong and where")
@@ -64,7 +65,8 @@ pub(crate) fn command<'a>(alloc: Global) -> Result<Command<'a>, AllocError> {
         .about("Runs programs of Streaming NESL, and says in words what goes wrong")
         .subcommand_required(true)
         .arg_required_else_help(true)
-        .subcommand(run.arg(file)?)
+        .subcommand(run.arg(file)?)?
+        .subcommand(draw_command(alloc)?)
 }
 
 // The words that were given to the options of `run`, as `settings` reads them.

@@ -2,10 +2,12 @@
 #![tactic(auto)]
 
 mod command_line;
+mod drawing;
 mod running;
 mod saying;
 
 use command_line::command;
+use drawing::draw_file;
 use running::run_file;
 use saying::{say_plainly, say_words};
 use snesl_data::{Counted, Refusal};
@@ -48,9 +50,10 @@ fn obeyed<H: AllocGlobal + Files + Threads, R: Read + Drop, W: Write, E: Write>(
         Err(AllocError) => return say_plainly(Refusal::NoMemory, err),
     };
     match command.try_get_matches_from(words) {
-        Ok(matches) => match matches.subcommand_matches("run") {
-            Some(words) => run_file(rt, words, stdin, out, err),
-            None => say_plainly(Refusal::BadConfig, err),
+        Ok(matches) => match matches.subcommand() {
+            Some(("run", words)) => run_file(rt, words, stdin, out, err),
+            Some(("draw", words)) => draw_file(rt, words, stdin, out, err),
+            _ => say_plainly(Refusal::BadConfig, err),
         },
         Err(error) => say_words(rt.alloc(), &error, out, err),
     }
