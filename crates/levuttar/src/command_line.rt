@@ -1,6 +1,7 @@
 // The command line, by clap.
 
 use crate::drawing::draw_command;
+use crate::watching::watch_word;
 use clap::{Arg, ArgMatches, Command};
 use std::alloc::{AllocError, Global};
 
@@ -65,7 +66,7 @@ pub(crate) fn command<'a>(alloc: Global) -> Result<Command<'a>, AllocError> {
         .about("Runs programs of Streaming NESL, and says in words what goes wrong")
         .subcommand_required(true)
         .arg_required_else_help(true)
-        .subcommand(run.arg(file)?)?
+        .subcommand(run.arg(watch_word(alloc))?.arg(file)?)?
         .subcommand(draw_command(alloc)?)
 }
 

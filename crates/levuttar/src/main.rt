@@ -5,6 +5,7 @@ mod command_line;
 mod drawing;
 mod running;
 mod saying;
+mod watching;
 
 use command_line::command;
 use drawing::draw_file;
@@ -15,7 +16,7 @@ use std::alloc::AllocError;
 use std::env;
 use std::io::{self, Read, Write};
 use std::process::ExitCode;
-use std::rt::{Env, Files};
+use std::rt::{Clock, Env, Files};
 use std::thread::Threads;
 
 fn main(rt: HostRuntime) -> ExitCode {
@@ -38,13 +39,12 @@ fn words_of<R: Env + AllocGlobal>(rt: &R) -> io::Result<Vec<String>> {
 }
 
 // Does what the words say, and gives the exit status.
-fn obeyed<H: AllocGlobal + Files + Threads, R: Read + Drop, W: Write, E: Write>(
-    rt: &H,
-    words: &[String],
-    stdin: R,
-    out: &mut Counted<W>,
-    err: &mut Counted<E>,
-) -> u8 {
+fn obeyed<
+    H: AllocGlobal + Files + Threads + Clock + Eprint + Clone + Drop + Send + Sync + 'static,
+    R: Read + Drop,
+    W: Write,
+    E: Write,
+>(rt: &H, words: &[String], stdin: R, out: &mut Counted<W>, err: &mut Counted<E>) -> u8 {
     let command = match command(rt.alloc()) {
         Ok(command) => command,
         Err(AllocError) => return say_plainly(Refusal::NoMemory, err),

@@ -2,6 +2,7 @@
 
 use crate::command_line::setting_words;
 use crate::saying::{say, say_plainly, unopened_message};
+use crate::watching::{is_watched, run_watched};
 use clap::ArgMatches;
 use snesl_data::{Counted, Refusal};
 use snesl_look::{fault_message, refusal_message, stalled_message};
@@ -9,18 +10,17 @@ use snesl_run::{Config, NoGate, Outcome, Report, RunError, run, settings, split_
 use std::alloc::Global;
 use std::fs;
 use std::io::{Read, Write};
-use std::rt::Files;
+use std::rt::{Clock, Files};
 use std::sync::Arc;
 use std::thread::Threads;
 
 // Runs the job of the file that the words name, or of standard input, under the settings that they say. Gives the exit status.
-pub(crate) fn run_file<H: AllocGlobal + Files + Threads, R: Read + Drop, W: Write, E: Write>(
-    rt: &H,
-    matches: &ArgMatches<'_>,
-    stdin: R,
-    out: &mut Counted<W>,
-    err: &mut Counted<E>,
-) -> u8 {
+pub(crate) fn run_file<
+    H: AllocGlobal + Files + Threads + Clock + Eprint + Clone + Drop + Send + Sync + 'static,
+    R: Read + Drop,
+    W: Write,
+    E: Write,
+>(rt: &H, matches: &ArgMatches<'_>, stdin: R, out: &mut Counted<W>, err: &mut Counted<E>) -> u8 {
     let config = match config_said(rt.alloc(), matches) {
         Ok(config) => config,
         Err(refusal) => {
@@ -29,9 +29,17 @@ pub(crate) fn run_file<H: AllocGlobal + Files + Threads, R: Read + Drop, W: Writ
         }
     };
     match matches.get_str("file") {
-        None => run_job(rt, rt.alloc(), &config, stdin, out, err),
+        None => run_job(
+            rt,
+            rt.alloc(),
+            &config,
+            is_watched(matches),
+            stdin,
+            out,
+            err,
+        ),
         Some(path) => match fs::open(rt, path) {
-            Ok(file) => run_job(rt, rt.alloc(), &config, file, out, err),
+            Ok(file) => run_job(rt, rt.alloc(), &config, is_watched(matches), file, out, err),
             Err(_) => say(
                 unopened_message(rt.alloc(), path),
                 Refusal::Read.status(),
@@ -48,10 +56,16 @@ fn config_said(alloc: Global, matches: &ArgMatches<'_>) -> Result<Config, Refusa
 }
 
 // Runs the job that a reader gives. Its value goes to `out`, and what went wrong to `err`.
-fn run_job<R: Read + Drop, W: Write, E: Write>(
-    rt: &impl Threads,
+fn run_job<
+    H: Threads + Clock + Eprint + Clone + Drop + Send + Sync + 'static,
+    R: Read + Drop,
+    W: Write,
+    E: Write,
+>(
+    rt: &H,
     alloc: Global,
     config: &Config,
+    is_watched: bool,
     reader: R,
     out: &mut Counted<W>,
     err: &mut Counted<E>,
@@ -61,7 +75,12 @@ fn run_job<R: Read + Drop, W: Write, E: Write>(
         Ok(parts) => parts,
         Err(error) => return say_plainly(Refusal::from(error), err),
     };
-    match run_alone(rt, alloc, &program, &input, config, out) {
+    let run = if is_watched {
+        run_watched(rt, alloc, &program, &input, config, out)
+    } else {
+        run_alone(rt, alloc, &program, &input, config, out)
+    };
+    match run {
         Ok(report) => match report.outcome() {
             Outcome::Value => 0,
             Outcome::Fault(fault) => say(fault_message(alloc, fault, &program), 2, err),
