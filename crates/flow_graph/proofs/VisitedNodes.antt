@@ -16,15 +16,6 @@ use Rattle.kahn.proofs.Turns.{swept_falls}
 use Rattle.flow_graph.specs.Visits.{IsVisited}
 use Rattle.flow_graph.specs.Over.{is_over}
 
--- whether something moved, after one visit more
-pub or_moved : (any one now : Bool) → one ≡ true → now ≡ true → (any || one) ≡ now
-or_moved true one now h is = sym is
-or_moved false one now h is = h ∙ sym is
-
-pub or_calm : (any one now : Bool) → one ≡ false → now ≡ any → (any || one) ≡ now
-or_calm true one now h is = sym is
-or_calm false one now h is = h ∙ sym is
-
 -- a want that is over is none of the others
 over_no_read : (w : Want) (p : ℕ) → is_over w ≡ true → w ≡ Read p → ⊥
 over_no_read w p over is = let x : is_over (Read p) ≡ true = ap is_over (sym is) ∙ over in cc

@@ -6,46 +6,29 @@ ghost use Rattle.flow_graph.specs.Shapes.{KeepsShape};
 ghost use Rattle.flow_graph.specs.Visits.{HasAllEnds, Visits};
 
 use crate::graph::Graph;
-use crate::over::is_over;
 use flow_base::Transducer;
 use flow_messages::WholeEnds;
 use std::alloc::AllocError;
 
-/// What came of a pass.
-#[derive(Clone, Copy, Debug)]
-pub struct Pass {
-    /// Whether a node made a step.
-    pub moved: bool,
-    /// Whether some node made none and makes none again.
-    pub over: bool,
-}
-
-/// Visits these nodes in their order.
+/// Visits these nodes in their order, and gives whether one made a step.
 pub fn pass_over<T: Transducer, E: WholeEnds>(
     graph: &mut Graph<T>,
     ends: &mut E,
     nodes: &[usize],
     chunk: usize,
-) -> Result<Pass, AllocError>
+) -> Result<bool, AllocError>
     requires inside { All (λ k. k < length (states_of graph.old)) nodes.now }
     requires some { 0 < chunk }
     requires ends { HasAllEnds (length (edges_of graph.old)) (E.view ends.old) }
     ensures shape { KeepsShape E.same E.view graph.old ends.old graph.new ends.new }
-    ensures visits { IfOk result (λ pass. Visits T.behaviour (E.capacity ends.old) nodes.now
+    ensures visits { IfOk result (λ moved. Visits T.behaviour (E.capacity ends.old) nodes.now
         (edges_of graph.old) (states_of graph.old) (E.view ends.old) (states_of graph.new)
-        (E.view ends.new) pass.moved) }
-    ensures some { IfOk result (λ pass. pass.moved ≡ true → 0 < length nodes.now) }
+        (E.view ends.new) moved) }
+    ensures some { IfOk result (λ moved. moved ≡ true → 0 < length nodes.now) }
 {
-    let mut pass = Pass {
-        moved: false,
-        over: false,
-    };
+    let mut moved = false;
     for &node in nodes {
-        if graph.visit(ends, node, chunk)? {
-            pass.moved = true;
-        } else if is_over(graph, node) {
-            pass.over = true;
-        }
+        moved |= graph.visit(ends, node, chunk)?;
     }
-    Ok(pass)
+    Ok(moved)
 }

@@ -15,6 +15,10 @@ use flow_base::Transducer;
 use flow_messages::WholeEnds;
 use std::alloc::{AllocError, Global};
 
+// After how many passes nodes that are over are dropped. They cost little until then; to look for
+// them after each visit that made no step costs more.
+const PASSES_BETWEEN_DROPS: usize = 64;
+
 /// Visits all nodes in ascending order, with at most `chunk` steps each, until a whole pass moves nothing.
 ///
 /// It goes on from where a run of the graph's network led. An error where memory was refused.
@@ -33,13 +37,16 @@ pub fn run_serial<T: Transducer, E: WholeEnds>(
 {
     // Nodes that are over need no more visits.
     let mut running = numbers_below(alloc, graph.nodes())?;
+    let mut left = PASSES_BETWEEN_DROPS;
     'passes: loop {
-        let pass = pass_over(graph, ends, &running, chunk)?;
-        if !pass.moved {
+        let moved = pass_over(graph, ends, &running, chunk)?;
+        if !moved {
             return Ok(());
         }
-        if pass.over {
+        left -= 1;
+        if left == 0 {
             drop_over(graph, &mut running);
+            left = PASSES_BETWEEN_DROPS;
         }
     }
 }

@@ -5,13 +5,11 @@ use Rattle.flow_graph.specs.Graphs.{states_of, edges_of}
 use Rattle.flow_graph.proofs.Nets.{graph_wired}
 use Rattle.flow_graph.proofs.Shapes.{shape_refl, shape_then}
 use Rattle.flow_graph.specs.Visits.{Visits}
-use Rattle.flow_graph.proofs.VisitedNodes.{or_moved, or_calm}
 use Rattle.flow_graph.proofs.VisitedGraphs.{visits_none, visits_push}
 use Rattle.flow_graph.proofs.pass.pass_over.Goals as goal
-use Rattle.flow_graph.proofs.pass.pass_over.Goals.{then-branch, else-branch+then-is_over, else-branch+else-is_over}
 
-pub returns-in_err-visit-clause-shape : goal.returns-in_err-visit-clause-shape
-returns-in_err-visit-clause-shape g c =
+pub returns-in_err-moved-clause-shape : goal.returns-in_err-moved-clause-shape
+returns-in_err-moved-clause-shape g c =
     shape_then g.E.Ends.same g.E.Ends.view g.met.E.Ends.same_trans c.args.graph.now c.args.ends.now c.loop-node.graph c.loop-node.ends c.visit.new.self c.visit.new.ends c.loop-node.invariant.shape c.visit.ensures.shape
 
 pub loop-node-init : goal.loop-node-init
@@ -42,21 +40,13 @@ loop-node-preserved g c =
     let capacity = g.E.WholeEnds.capacity c.args.ends.now in
     let capacity' = g.E.WholeEnds.capacity c.loop-node.ends in
     let even : capacity' ≡ capacity = g.met.E.WholeEnds.same_capacity c.args.ends.now c.loop-node.ends inv.shape.same in
-    let one : Bool = c.in_ok-visit.field-0 in
-    let pushed : Visits b capacity (take i nodes ++ get_or nodes i 0 ∷ []) edges states view states'' view'' (c.loop-node.pass.moved || one) =
-    visits_push b capacity states edges view (graph_wired graph) states' edges' view' inv.shape.network capacity' even (take i nodes) (get_or nodes i 0) states'' view'' c.loop-node.pass.moved one inv.visits c.in_ok-visit.ensures.visits in
+    let one : Bool = c.in_ok-moved.field-0 in
+    let pushed : Visits b capacity (take i nodes ++ get_or nodes i 0 ∷ []) edges states view states'' view'' (c.loop-node.moved || one) =
+    visits_push b capacity states edges view (graph_wired graph) states' edges' view' inv.shape.network capacity' even (take i nodes) (get_or nodes i 0) states'' view'' c.loop-node.moved one inv.visits c.in_ok-moved.ensures.visits in
     let longer : take (i + 1) nodes ≡ take i nodes ++ get_or nodes i 0 ∷ [] = ap (λ n. take n nodes) (add-one i) ∙ take-suc nodes i 0 c.loop-node-test.true in
-    let visits : (now : Bool) → (c.loop-node.pass.moved || one) ≡ now → Visits b capacity (take (i + 1) nodes) edges states view states'' view'' now =
-    λ now is. subst (λ any. Visits b capacity (take (i + 1) nodes) edges states view states'' view'' any) is (subst (λ l. Visits b capacity l edges states view states'' view'' (c.loop-node.pass.moved || one)) (sym longer) pushed) in
-    let now : Bool = c.if-branch.pass.moved in
-    let is : (c.loop-node.pass.moved || one) ≡ now = elim c.if-branch.branch [
-      | then-branch w ↦ or_moved c.loop-node.pass.moved one now w.if-branch.true (ap (λ p. p.moved) w.pass-is)
-      | else-branch+then-is_over w ↦ or_calm c.loop-node.pass.moved one now w.if-branch.false (ap (λ p. p.moved) w.pass-is)
-      | else-branch+else-is_over w ↦ or_calm c.loop-node.pass.moved one now w.if-branch.false (ap (λ p. p.moved) w.pass-is)
-    ] in
     record {
       shape = shape_then g.E.Ends.same g.E.Ends.view g.met.E.Ends.same_trans c.args.graph.now c.args.ends.now c.loop-node.graph c.loop-node.ends c.visit.new.self c.visit.new.ends c.loop-node.invariant.shape c.visit.ensures.shape;
-      visits = visits now is;
+      visits = subst (λ l. Visits b capacity l edges states view states'' view'' (c.loop-node.moved || one)) (sym longer) pushed;
       some = λ h. omega arith;
     }
 
@@ -65,4 +55,4 @@ returns-clause-visits g c =
     let nodes = c.args.nodes.now in
     let graph = c.args.graph.now in
     let all : take c.loop-node.node-index nodes ≡ nodes = take_all c.loop-node.node-index nodes c.loop-node-test.false in
-    subst (λ l. Visits g.T.Transducer.behaviour (g.E.WholeEnds.capacity c.args.ends.now) l (edges_of graph) (states_of graph) (g.E.Ends.view c.args.ends.now) (states_of c.loop-node.graph) (g.E.Ends.view c.loop-node.ends) c.loop-node.pass.moved) all c.loop-node.invariant.visits
+    subst (λ l. Visits g.T.Transducer.behaviour (g.E.WholeEnds.capacity c.args.ends.now) l (edges_of graph) (states_of graph) (g.E.Ends.view c.args.ends.now) (states_of c.loop-node.graph) (g.E.Ends.view c.loop-node.ends) c.loop-node.moved) all c.loop-node.invariant.visits

@@ -7,13 +7,14 @@ use Rattle.flow_graph.proofs.Nets.{graph_wired}
 use Rattle.flow_graph.proofs.Passes.{OthersAreOver, left_of}
 use Rattle.flow_graph.proofs.serial.run_serial.Given as goal
 
--- a run leads to where the graph is, and the nodes that are not running are over
+-- a run leads to where the graph is, the nodes that are not running are over, and a drop is to come
 abbrev pub invariant-passes : goal.invariant-passes
 invariant-passes g l = record {
   shape : KeepsShape g.E.Ends.same g.E.Ends.view l.fn.graph l.fn.ends l.graph l.ends;
   reached : RunLeadsTo g.T.Transducer.behaviour (g.E.WholeEnds.capacity l.fn.ends) (states_of l.fn.graph) (edges_of l.fn.graph) (states_of l.graph) (g.E.Ends.view l.ends);
   below : All (λ k. k < length (states_of l.graph)) l.running.items;
   others : OthersAreOver g.T.Transducer.behaviour (g.E.WholeEnds.capacity l.fn.ends) (states_of l.fn.graph) (edges_of l.fn.graph) (states_of l.graph) l.running.items;
+  more : 0 < l.left;
 }
 
 -- how many messages are still to come
