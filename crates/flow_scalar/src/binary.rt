@@ -272,6 +272,9 @@ impl Binary {
         let mut made = 0;
         'rounds: loop {
             let room = ends.space(to).min((most - made) / 3);
+            if room == 0 {
+                return made;
+            }
             let count = self.ints_of(ends.ints(lefts), ends.ints(rights), room, &mut values);
             if count == 0 {
                 return made;
@@ -309,6 +312,9 @@ impl Binary {
         let mut made = 0;
         'rounds: loop {
             let room = ends.space(to).min((most - made) / 3);
+            if room == 0 {
+                return made;
+            }
             let count = self.flags_of(ends.ints(lefts), ends.ints(rights), room, &mut values);
             if count == 0 {
                 return made;

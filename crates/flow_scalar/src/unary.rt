@@ -125,6 +125,9 @@ impl Unary {
         let mut made = 0;
         'rounds: loop {
             let room = ends.space(to).min((most - made) / 2);
+            if room == 0 {
+                return made;
+            }
             let count = self.ints_of(ends.ints(from), room, &mut values);
             if count == 0 {
                 return made;
@@ -159,6 +162,9 @@ impl Unary {
         let mut made = 0;
         'rounds: loop {
             let room = ends.space(to).min((most - made) / 2);
+            if room == 0 {
+                return made;
+            }
             let count = self.flags_of(ends.flags(from), room, &mut values);
             if count == 0 {
                 return made;

@@ -25,6 +25,11 @@ rounds-init g c =
     }
 
 -- it only looked for room
+pub returns-then-room-eq0-clause-went : goal.returns-then-room-eq0-clause-went
+returns-then-room-eq0-clause-went g c =
+    let there : 0 < length c.args.outputs.now = omega (arith, c.requires.wired.each_output) in
+    λ at. went_looked (behaviour_of binary_machine) c.args.inputs.now c.args.outputs.now (c.rounds.invariant.went at) 0 (g.E.Ends.view c.space.new.self) there c.space.ensures.looked
+
 pub returns-then-count-eq0-clause-went : goal.returns-then-count-eq0-clause-went
 returns-then-count-eq0-clause-went g c =
     let there : 0 < length c.args.outputs.now = omega (arith, c.requires.wired.each_output) in
