@@ -1,0 +1,60 @@
+-- The least capacity at which a program ends.
+use Rattle.std.specs.Prelude.{◌≡◌, ◌≢◌, ℕ, ◌+◌, ◌<◌, ◌≤◌, List}
+use Rattle.snesl_data.specs.declared.fault.Fault.{Fault}
+use Rattle.snesl_data.specs.declared.refusal.Refusal.{Refusal}
+use Rattle.kahn.specs.declared.outcome.Outcome.TheVariants.{Value as Ended}
+use Rattle.flow_messages.specs.Limits.{greatest_capacity}
+use Rattle.flow_drive.specs.declared.config.Config.{Config}
+use Rattle.flow_drive.specs.declared.config.Drive.TheVariants.{Serial}
+use Rattle.flow_drive.specs.Configs.{IsInSteps}
+use Rattle.snesl_flatten.specs.Networks.{NodeState}
+use Rattle.snesl_network.specs.Driven.{CameToRest, HaveEnded, IsNamed, WasRefused}
+use Rattle.snesl_network.specs.NodesAtRest.{Rest, rest_of}
+use Rattle.snesl_run.specs.declared.report.Report.{Report}
+use Rattle.snesl_run.specs.Runs.{rest_in, outcome_of, EndsInFault, IsReported}
+use Rattle.snesl_size.specs.declared.size.Size.{Size}
+use Rattle.snesl_size.specs.declared.size.Size.TheVariants.{Ends, Faults, NeverEnds}
+use Rattle.snesl_size.specs.Staying.{HasEndedAs}
+
+module _ (program input : List ℕ) where
+  -- A drive in one thread has left the program's network so, at this capacity.
+  pub record IsLeft (capacity : ℕ) (rest : Rest NodeState) : Type 0 where
+    pub config : Config
+    pub serial : config.drive ≡ Serial
+    pub capacity_is : config.capacity ≡ capacity
+    pub came : CameToRest program input config rest
+
+  -- no report is of a value, of a drive in steps at a capacity below this one
+  abbrev pub EndsAtNoneBelow : ℕ → Type 0
+  EndsAtNoneBelow capacity =
+      (config : Config) (report : Report) → IsInSteps config.drive → config.capacity < capacity → IsReported program input config report
+      → outcome_of report ≢ Ended
+
+  -- The network has ended so at this capacity, and the program ends at no lesser one.
+  pub record IsLeast (capacity : ℕ) (rest : Rest NodeState) : Type 0 where
+    pub left : IsLeft capacity rest
+    pub ended : HaveEnded rest
+    pub none_below : EndsAtNoneBelow capacity
+    -- from there on a report of a drive in steps is of a value, and its network has ended as this one
+    pub from_there_on : (config : Config) (report : Report) → IsInSteps config.drive → capacity ≤ config.capacity
+        → IsReported program input config report → (outcome_of report ≡ Ended) × HasEndedAs rest (rest_in report)
+
+  -- The program ends in a fault, and this is the fault that is named at some capacity by a drive in one thread.
+  pub record FaultsSo (fault : Fault) : Type 0 where
+    pub capacity : ℕ
+    pub rest : Rest NodeState
+    pub left : IsLeft capacity rest
+    pub named : IsNamed rest fault
+    pub faults : EndsInFault program input
+    -- no report is of a value, of whatever drive at whatever capacity
+    pub never : (config : Config) (report : Report) → IsReported program input config report → outcome_of report ≢ Ended
+
+  -- the program ends from this capacity on, and at no lesser one; or it ends in a fault; or at no capacity that there is
+  abbrev pub IsSizeOf : Size → Type 0
+  IsSizeOf (Ends least rested) = IsLeast least (rest_of rested)
+  IsSizeOf (Faults fault) = FaultsSo fault
+  IsSizeOf NeverEnds = EndsAtNoneBelow (greatest_capacity + 1)
+
+  -- a drive of it in one thread with this chunk is refused so, at whatever capacity
+  abbrev pub IsRefusedAtAll : (chunk : ℕ) → Refusal → Type 0
+  IsRefusedAtAll chunk refusal = (config : Config) → config.drive ≡ Serial → config.chunk ≡ chunk → WasRefused program input config refusal

@@ -1,0 +1,43 @@
+-- What is printed of a network that has ended at its least capacity.
+use Rattle.std.specs.Prelude.{◌≡◌, ℕ, ◌<◌, ◌≤◌, List, ◌++◌, codes, decimal, length}
+use Rattle.std.specs.Io.Iter.{u64_saturate}
+use Rattle.kahn.specs.Basics.{total}
+use Rattle.snesl_flatten.specs.Networks.{NodeState}
+use Rattle.snesl_network.specs.NodesAtRest.{Rest}
+
+-- how many messages went over an edge, as they are counted: a count stays at the greatest u64
+abbrev pub count_over : Rest NodeState → ℕ → ℕ
+count_over rest e = u64_saturate (length (rest.traffic.sent e))
+
+-- how many went over all edges, counted so
+abbrev pub messages_of : Rest NodeState → ℕ
+messages_of rest = u64_saturate (total (count_over rest) (length rest.edges))
+
+-- Of the first `edges` edges e is the first over which most messages went.
+pub record IsBusiestOf (rest : Rest NodeState) (edges e : ℕ) : Type 0 where
+  pub within : e < edges
+  pub most : (f : ℕ) → f < edges → count_over rest f ≤ count_over rest e
+  pub first : (f : ℕ) → f < e → count_over rest f < count_over rest e
+
+-- of all edges e is the first over which most messages went
+abbrev pub IsBusiest : Rest NodeState → ℕ → Type 0
+IsBusiest rest e = IsBusiestOf rest (length rest.edges) e
+
+-- a name and a number
+abbrev pub numbered : List ℕ → ℕ → List ℕ
+numbered name number = name ++ decimal number ++ codes "\n"
+
+-- the least capacity, how many nodes and edges there are, and how many messages went over all edges
+abbrev pub sizes_part : ℕ → Rest NodeState → List ℕ
+sizes_part least rest =
+    numbered (codes "least capacity: ") least ++ numbered (codes "nodes: ") (length rest.states) ++ numbered (codes "edges: ") (length rest.edges)
+    ++ numbered (codes "messages: ") (messages_of rest)
+
+-- the edge over which most of them went, and how many
+abbrev pub busiest_part : ℕ → ℕ → List ℕ
+busiest_part edge count = numbered (codes "busiest edge: ") edge ++ numbered (codes "messages on it: ") count
+
+-- what is printed of a network
+pub data IsSizeTable (least : ℕ) (rest : Rest NodeState) : List ℕ → Type 0 where
+  with_edges : (e : ℕ) → IsBusiest rest e → IsSizeTable least rest (sizes_part least rest ++ busiest_part e (count_over rest e))
+  without_edges : length rest.edges ≡ 0 → IsSizeTable least rest (sizes_part least rest)

@@ -1,0 +1,81 @@
+// The table of a program's size.
+
+ghost use Rattle.std.specs.Prelude.{◌≡◌, ◌++◌, IfOk, MatchOption, OnOk, length};
+ghost use Rattle.snesl_network.specs.NodesAtRest.{rest_of};
+ghost use Rattle.snesl_size.specs.Tables.{IsBusiest, IsSizeTable, count_over, messages_of, numbered, sizes_part};
+
+use flow_drive::Rested;
+use flow_nodes::StreamNode;
+use itoa::Buffer;
+use std::alloc::{AllocError, Global};
+
+/// The table of a network that has ended at its least capacity: this capacity, how many nodes and edges there are, how many
+/// messages went over all edges, the first of the edges over which most of them went, and how many these are. Each is a line, a
+/// name and a number. The error is that memory was refused.
+pub fn size_table(
+    alloc: Global,
+    least: usize,
+    rested: &Rested<StreamNode>,
+) -> Result<Vec<u8>, AllocError>
+    ensures { IfOk result (λ table. IsSizeTable least (rest_of rested.now) table.items) }
+{
+    let mut table = Vec::new(alloc);
+    append_sizes(&mut table, least, rested)?;
+    if let Some(edge) = busiest(rested) {
+        append_line(&mut table, b"busiest edge: ", edge as u64)?;
+        append_line(&mut table, b"messages on it: ", rested.counts(edge).0)?;
+    }
+    Ok(table)
+}
+
+// The lines of all but the busiest edge.
+fn append_sizes(
+    table: &mut Vec<u8>,
+    least: usize,
+    rested: &Rested<StreamNode>,
+) -> Result<(), AllocError>
+    ensures { OnOk result (table.new.items
+        ≡ table.old.items ++ sizes_part least (rest_of rested.now)) }
+{
+    append_line(table, b"least capacity: ", least as u64)?;
+    append_line(table, b"nodes: ", rested.nodes() as u64)?;
+    append_line(table, b"edges: ", rested.edges() as u64)?;
+    append_line(table, b"messages: ", messages(rested))
+}
+
+// How many messages went over all edges. The sum stays at `u64::MAX`.
+fn messages(rested: &Rested<StreamNode>) -> u64
+    ensures { result ≡ messages_of (rest_of rested.now) }
+{
+    let mut sum: u64 = 0;
+    for edge in 0..rested.edges() {
+        sum = sum.saturating_add(rested.counts(edge).0);
+    }
+    sum
+}
+
+// The first edge over which most messages went.
+fn busiest(rested: &Rested<StreamNode>) -> Option<usize>
+    ensures { MatchOption result (length (rest_of rested.now).edges ≡ 0)
+        (IsBusiest (rest_of rested.now)) }
+{
+    let mut busiest = None;
+    let mut most = 0;
+    for edge in 0..rested.edges() {
+        let count = rested.counts(edge).0;
+        if busiest.is_none() || count > most {
+            busiest = Some(edge);
+            most = count;
+        }
+    }
+    busiest
+}
+
+fn append_line(table: &mut Vec<u8>, name: &[u8], number: u64) -> Result<(), AllocError>
+    ensures { OnOk result (table.new.items ≡ table.old.items ++ numbered name.now number) }
+{
+    let mut buffer = Buffer::new();
+    table.extend_from_slice(name)?;
+    table.extend_from_slice(buffer.format(number).as_bytes())?;
+    table.extend_from_slice(b"\n")
+}
