@@ -1,6 +1,7 @@
 // The command line, by clap.
 
 use crate::drawing::draw_command;
+use crate::sizing::size_command;
 use crate::watching::watch_word;
 use clap::{Arg, ArgMatches, Command};
 use std::alloc::{AllocError, Global};
@@ -67,6 +68,7 @@ pub(crate) fn command<'a>(alloc: Global) -> Result<Command<'a>, AllocError> {
         .subcommand_required(true)
         .arg_required_else_help(true)
         .subcommand(run.arg(watch_word(alloc))?.arg(file)?)?
+        .subcommand(size_command(alloc)?)?
         .subcommand(draw_command(alloc)?)
 }
 

@@ -5,12 +5,14 @@ mod command_line;
 mod drawing;
 mod running;
 mod saying;
+mod sizing;
 mod watching;
 
 use command_line::command;
 use drawing::draw_file;
 use running::run_file;
 use saying::{say_plainly, say_words};
+use sizing::size_file;
 use snesl_data::{Counted, Refusal};
 use std::alloc::AllocError;
 use std::env;
@@ -52,6 +54,7 @@ fn obeyed<
     match command.try_get_matches_from(words) {
         Ok(matches) => match matches.subcommand() {
             Some(("run", words)) => run_file(rt, words, stdin, out, err),
+            Some(("size", words)) => size_file(rt, words, stdin, out, err),
             Some(("draw", words)) => draw_file(rt, words, stdin, out, err),
             _ => say_plainly(Refusal::BadConfig, err),
         },

@@ -2,6 +2,7 @@
 
 use crate::command_line::setting_words;
 use crate::saying::{say, say_plainly, unopened_message};
+use crate::sizing::enough;
 use crate::watching::{is_watched, run_watched};
 use clap::ArgMatches;
 use snesl_data::{Counted, Refusal};
@@ -84,7 +85,10 @@ fn run_job<
         Ok(report) => match report.outcome() {
             Outcome::Value => 0,
             Outcome::Fault(fault) => say(fault_message(alloc, fault, &program), 2, err),
-            Outcome::Stalled { .. } => say(stalled_message(alloc), 3, err),
+            Outcome::Stalled { .. } => {
+                let enough = enough(rt, alloc, &program, &input, config.chunk);
+                say(stalled_message(alloc, enough), 3, err)
+            }
         },
         Err(error) => {
             let refusal = error.refusal();

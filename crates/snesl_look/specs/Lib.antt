@@ -1,4 +1,5 @@
 pub mod Places
 pub mod Words
+pub mod Stalls
 pub mod Functions
 pub mod Messages

@@ -4,7 +4,10 @@ use Rattle.snesl_data.specs.declared.fault.Fault.{Fault}
 use Rattle.snesl_data.specs.declared.refusal.Refusal.{Refusal}
 use Rattle.snesl_data.specs.declared.refusal.Refusal.TheVariants.{Lex, Syntax, Name, Mismatch, Streamed, BadInput}
 use Rattle.snesl_look.specs.Functions.{IsNamedAt, NoneNamedAt}
+use Rattle.snesl_look.specs.declared.stalls.Enough.{Enough}
+use Rattle.snesl_look.specs.declared.stalls.Enough.TheVariants.{Messages}
 use Rattle.snesl_look.specs.Places.{caret_line, column_of, line_of, line_text, shown_byte}
+use Rattle.snesl_look.specs.Stalls.{stalled_hint, stalled_sentence}
 use Rattle.snesl_look.specs.Words.{fault_hint, fault_sentence, refusal_hint, refusal_sentence}
 
 -- as many blanks as a number has digits
@@ -90,7 +93,12 @@ pub data IsFaultMessage (fault : Fault) (program : List ℕ) : List ℕ → Type
   in_function : (name : List ℕ) → IsNamedAt program fault.at name → IsFaultMessage fault program (fault_message fault program (Some name))
   in_no_function : NoneNamedAt program fault.at → IsFaultMessage fault program (fault_message fault program None)
 
--- what is said of a network that has stalled
-abbrev pub stalled_message : List ℕ
-stalled_message = message (codes "the program has stalled: its edges hold too few messages")
-    (Some (codes "let them hold more, as by `--capacity 4096`, at most 65536"))
+-- how many messages are enough for a network that has stalled
+abbrev pub enough_part : ℕ → List ℕ
+enough_part count =
+    gutter 0 ++ codes " = note: " ++ decimal count ++ codes " messages are enough, as by `--capacity " ++ decimal count ++ codes "`\n"
+
+-- what is said of such a network
+abbrev pub stalled_message : Enough → List ℕ
+stalled_message (Messages count) = message stalled_sentence None ++ enough_part count
+stalled_message enough = message stalled_sentence (Some (stalled_hint enough))

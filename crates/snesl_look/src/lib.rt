@@ -5,12 +5,11 @@
 pub mod functions;
 pub mod messages;
 pub mod places;
+pub mod stalls;
 pub mod words;
 
 pub use functions::function_at;
 pub use messages::{fault_message, refusal_message, stalled_message};
 pub use places::{Position, caret_line, line_at, position_of, shown_line};
-pub use words::{
-    STALLED_HINT, STALLED_SENTENCE, fault_hint, fault_sentence, refusal_hint, refusal_sentence,
-    sentences_differ,
-};
+pub use stalls::{Enough, STALLED_SENTENCE, stalled_hint};
+pub use words::{fault_hint, fault_sentence, refusal_hint, refusal_sentence, sentences_differ};

@@ -1,13 +1,12 @@
 // Messages: what went wrong, where, and what may help.
 
 ghost use Rattle.std.specs.Prelude.{◌≡◌, ◌++◌, ◌≤◌, IfOk, OnOk, decimal, option_map};
-ghost use Rattle.snesl_look.specs.Messages.{IsFaultMessage, caret_part, function_part, gutter, heading_part, hint_part, line_part, message, place_part, placed_message, refusal_message, remark, sentence_part, shown_from, shown_part, stalled_message};
+ghost use Rattle.snesl_look.specs.Messages.{IsFaultMessage, caret_part, enough_part, function_part, gutter, heading_part, hint_part, line_part, message, place_part, placed_message, refusal_message, remark, sentence_part, shown_from, shown_part, stalled_message};
 
 use crate::functions::function_at;
 use crate::places::{Position, caret_line, line_at, position_of, shown_line};
-use crate::words::{
-    STALLED_HINT, STALLED_SENTENCE, fault_hint, fault_sentence, refusal_hint, refusal_sentence,
-};
+use crate::stalls::{Enough, STALLED_SENTENCE, stalled_hint};
+use crate::words::{fault_hint, fault_sentence, refusal_hint, refusal_sentence};
 use itoa::Buffer;
 use snesl_data::{Fault, Refusal};
 use std::alloc::{AllocError, Global};
@@ -75,11 +74,31 @@ pub fn fault_message(alloc: Global, fault: Fault, program: &[u8]) -> Result<Vec<
     )
 }
 
-/// What is said of a network that has stalled. The error is that memory was refused.
-pub fn stalled_message(alloc: Global) -> Result<Vec<u8>, AllocError>
-    ensures { IfOk result (λ message. message.items ≡ stalled_message) }
+/// What is said of a network that has stalled: a sentence; how many messages are enough, where that is known; and else a hint.
+/// The error is that memory was refused.
+pub fn stalled_message(alloc: Global, enough: Enough) -> Result<Vec<u8>, AllocError>
+    ensures { IfOk result (λ message. message.items ≡ stalled_message enough) }
 {
-    unplaced(alloc, STALLED_SENTENCE, Some(STALLED_HINT))
+    match enough {
+        Enough::Messages(count) => {
+            let mut message = unplaced(alloc, STALLED_SENTENCE, None)?;
+            append_enough(&mut message, count)?;
+            Ok(message)
+        }
+        _ => unplaced(alloc, STALLED_SENTENCE, Some(stalled_hint(enough))),
+    }
+}
+
+// How many messages are enough.
+fn append_enough(message: &mut Vec<u8>, count: usize) -> Result<(), AllocError>
+    ensures { OnOk result (message.new.items ≡ message.old.items ++ enough_part count) }
+{
+    append_gutter(message, 0)?;
+    message.extend_from_slice(b" = note: ")?;
+    append_number(message, count)?;
+    message.extend_from_slice(b" messages are enough, as by `--capacity ")?;
+    append_number(message, count)?;
+    message.extend_from_slice(b"`\n")
 }
 
 // A message with no place.
@@ -336,7 +355,7 @@ mod tests {
 
     #[test]
     fn a_message_may_have_no_place(rt: HostRuntime) -> Result<(), Fail> {
-        let stalled = stalled_message(rt.alloc())?;
+        let stalled = stalled_message(rt.alloc(), Enough::Unknown)?;
         let want = b"error: the program has stalled: its edges hold too few messages
   = hint: let them hold more, as by `--capacity 4096`, at most 65536
 ";
@@ -346,6 +365,16 @@ mod tests {
             unread.as_slice(),
             b"error: the job could not be read\n".as_slice()
         );
+        Ok(())
+    }
+
+    #[test]
+    fn a_stall_tells_how_many_messages_are_enough(rt: HostRuntime) -> Result<(), Fail> {
+        let message = stalled_message(rt.alloc(), Enough::Messages(301))?;
+        let want = b"error: the program has stalled: its edges hold too few messages
+  = note: 301 messages are enough, as by `--capacity 301`
+";
+        assert_eq!(rt; message.as_slice(), want.as_slice());
         Ok(())
     }
 

@@ -5,12 +5,6 @@ ghost use Rattle.snesl_look.specs.Words.{HaveSentencesOfTheirOwn, fault_hint, fa
 
 use snesl_data::{FaultKind, Refusal};
 
-/// What went wrong where a network has stalled.
-pub const STALLED_SENTENCE: &str = "the program has stalled: its edges hold too few messages";
-
-/// What helps there.
-pub const STALLED_HINT: &str = "let them hold more, as by `--capacity 4096`, at most 65536";
-
 /// What went wrong where a job was refused, in a sentence.
 pub fn refusal_sentence(refusal: Refusal) -> &'static str
     ensures { result.now ≡ refusal_sentence refusal }

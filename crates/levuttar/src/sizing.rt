@@ -1,0 +1,133 @@
+// How much the edges of a program must hold: `levuttar size`, and what `levuttar run` tells of a stall.
+
+use crate::saying::{say, say_plainly, unopened_message};
+use clap::{Arg, ArgMatches, Command};
+use snesl_console::send;
+use snesl_data::{Counted, Refusal};
+use snesl_look::{Enough, fault_message, refusal_message, stalled_message};
+use snesl_run::{settings, split_job};
+use snesl_size::{Size, least_capacity, size_table};
+use std::alloc::{AllocError, Global};
+use std::fs;
+use std::io::{Read, Write};
+use std::rt::Files;
+use std::thread::Threads;
+
+// The subcommand `size`.
+pub(crate) fn size_command<'a>(alloc: Global) -> Result<Command<'a>, AllocError> {
+    Command::new(alloc, "size")
+        .about("Tells the least capacity at which a job ends, and how great its network is")
+        .after_help(
+            "A job is a program, a line `---`, and its input text. It is driven in one thread.",
+        )
+        .arg(
+            Arg::new(alloc, "chunk")
+                .long("chunk")
+                .value_name("STEPS")
+                .help(
+                    "How many steps a node makes before the next has its turn, 1 to 1024 [without it: 16]",
+                ),
+        )?
+        .arg(
+            Arg::new(alloc, "file")
+                .value_name("FILE")
+                .help("The job; without it, standard input is read"),
+        )
+}
+
+// Tells the size of the job of the file that the words name, or of standard input. Gives the exit status.
+pub(crate) fn size_file<H: AllocGlobal + Files + Threads, R: Read + Drop, W: Write, E: Write>(
+    rt: &H,
+    matches: &ArgMatches<'_>,
+    stdin: R,
+    out: &mut Counted<W>,
+    err: &mut Counted<E>,
+) -> u8 {
+    let chunk = match chunk_said(rt.alloc(), matches) {
+        Ok(chunk) => chunk,
+        Err(refusal) => {
+            let message = refusal_message(rt.alloc(), refusal, b"", b"");
+            return say(message, refusal.status(), err);
+        }
+    };
+    match matches.get_str("file") {
+        None => size_job(rt, rt.alloc(), chunk, stdin, out, err),
+        Some(path) => match fs::open(rt, path) {
+            Ok(file) => size_job(rt, rt.alloc(), chunk, file, out, err),
+            Err(_) => say(
+                unopened_message(rt.alloc(), path),
+                Refusal::Read.status(),
+                err,
+            ),
+        },
+    }
+}
+
+// The chunk that the words say.
+fn chunk_said(alloc: Global, matches: &ArgMatches<'_>) -> Result<usize, Refusal> {
+    let mut words = vec![in alloc; "levuttar"]?;
+    if let Some(chunk) = matches.get_str("chunk") {
+        words.push("--chunk")?;
+        words.push(chunk)?;
+    }
+    let config = settings(alloc, &words)?;
+    Ok(config.chunk)
+}
+
+// Tells the size of the job that a reader gives: the table goes to `out`, and what went wrong to `err`.
+fn size_job<R: Read + Drop, W: Write, E: Write>(
+    rt: &impl Threads,
+    alloc: Global,
+    chunk: usize,
+    reader: R,
+    out: &mut Counted<W>,
+    err: &mut Counted<E>,
+) -> u8 {
+    let mut job = Counted::new(reader);
+    let (program, input) = match split_job(alloc, &mut job) {
+        Ok(parts) => parts,
+        Err(error) => return say_plainly(Refusal::from(error), err),
+    };
+    match least_capacity(rt, alloc, &program, &input, chunk) {
+        Ok(Size::Ends { least, rested }) => print_table(
+            size_table(alloc, least, &rested),
+            out,
+            err,
+        ),
+        Ok(Size::Faults(fault)) => say(fault_message(alloc, fault, &program), 2, err),
+        Ok(Size::NeverEnds) => say(stalled_message(alloc, Enough::Nothing), 3, err),
+        Err(refusal) => {
+            let message = refusal_message(alloc, refusal, &program, &input);
+            say(message, refusal.status(), err)
+        }
+    }
+}
+
+// Prints a table, unless memory was refused to it.
+fn print_table<W: Write, E: Write>(
+    table: Result<Vec<u8>, AllocError>,
+    out: &mut Counted<W>,
+    err: &mut Counted<E>,
+) -> u8 {
+    match table {
+        Ok(table) if send(out, &table) => 0,
+        Ok(_) => say_plainly(Refusal::Output, err),
+        Err(AllocError) => say_plainly(Refusal::NoMemory, err),
+    }
+}
+
+// What is known of how many messages are enough for a program that has stalled.
+pub(crate) fn enough(
+    rt: &impl Threads,
+    alloc: Global,
+    program: &[u8],
+    input: &[u8],
+    chunk: usize,
+) -> Enough {
+    match least_capacity(rt, alloc, program, input, chunk) {
+        Ok(Size::Ends { least, .. }) => Enough::Messages(least),
+        Ok(Size::Faults(_)) => Enough::Fault,
+        Ok(Size::NeverEnds) => Enough::Nothing,
+        Err(_) => Enough::Unknown,
+    }
+}
