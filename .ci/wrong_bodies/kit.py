@@ -7,6 +7,7 @@ import hashlib
 import importlib.machinery
 import importlib.util
 import os
+import pathlib
 import re
 import shutil
 import sys
@@ -29,7 +30,19 @@ rt = load()
 def stamp_of(crate):
     """A sum of all that a check of the crate reads: the kit, the crate's text and that of the libraries below it."""
     with open(f"{rt.KIT}/KIT-ID", "rb") as it:
-        return hashlib.sha256(repr((it.read(), crate.stamp())).encode()).hexdigest()
+        return hashlib.sha256(repr((it.read(), text_sum(crate, {}))).encode()).hexdigest()
+
+
+def text_sum(crate, known):
+    """A sum of the text of the crate and of those below it, each of which is read once: `known` has the sums of those that were.
+
+    rt's own sum reads a crate once for each path that leads to it, which takes minutes for the topmost crates.
+    """
+    if crate.name not in known:
+        files = [(it.removeprefix(crate.folder), pathlib.Path(it).read_bytes()) for it in rt.rtlib.files_of(crate.folder)]
+        text = (crate.said, crate.has_c, files, [text_sum(it, known) for it in crate.deps])
+        known[crate.name] = hashlib.sha256(repr(text).encode()).hexdigest()
+    return known[crate.name]
 
 
 def made_at(crate):
