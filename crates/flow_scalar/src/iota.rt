@@ -269,7 +269,7 @@ impl Worker for Iota {
         }
         let mut block = [0i128; BLOCK];
         let mut made = 0;
-        loop {
+        while most - made >= 2 {
             if next < end {
                 let count = put_numbers(next, end, outputs, ends, most - made, &mut block);
                 if count == 0 {
@@ -278,9 +278,6 @@ impl Worker for Iota {
                 next += count as i128;
                 made += 2 * count;
             } else {
-                if most - made < 2 {
-                    break;
-                }
                 let Some(count) = next_segment(next, end, inputs, outputs, ends) else {
                     break;
                 };

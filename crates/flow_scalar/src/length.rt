@@ -185,6 +185,10 @@ impl Length {
         let room = ends.space(to).min(most / 2).min(BLOCK);
         let shown = ends.flags(from);
         let ahead = &shown[..shown.len().min(most - room)];
+        // Where no flag can be taken, nothing is counted.
+        if ahead.is_empty() {
+            return 0;
+        }
         // A count over the range is a fault at the end of its segment, which a single step names.
         if !stays_in_range(self.dialect, count, ahead.len()) {
             return 0;

@@ -440,13 +440,14 @@ impl Worker for Reduce {
         ends: &mut E,
         most: usize,
     ) -> usize {
-        // Nothing is shown, or both blocks come from one edge.
-        if inputs[0] == inputs[1] || ends.flags(inputs[0]).is_empty() {
+        // Two blocks of one edge are not seen at once.
+        if inputs[0] == inputs[1] {
             return 0;
         }
         let mut stage = self.stage;
         let mut made = 0;
-        loop {
+        // Where no flag is shown, or no two steps are left, nothing else is looked at.
+        while most - made >= 2 && !ends.flags(inputs[0]).is_empty() {
             let (count, reached) = self.take_elements(stage, inputs, ends, most - made);
             stage = reached;
             made += 2 * count;

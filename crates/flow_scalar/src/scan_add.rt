@@ -203,6 +203,10 @@ impl ScanAdd {
         let room = ends.space(to).min(most / 3).min(BLOCK);
         let shown = ends.flags(flags);
         let ahead = &shown[..shown.len().min(room)];
+        // Where no flag can be taken, no element is looked at.
+        if ahead.is_empty() {
+            return 0;
+        }
         let (passed, read, stage) = self.sums_along(held, ahead, ends.ints(elements), sums);
         if passed == 0 {
             return 0;

@@ -25,8 +25,8 @@ returns-in_default g c = record {
 pub returns-then-outputs-clause-went : goal.returns-then-outputs-clause-went
 returns-then-outputs-clause-went g c = λ at. went_none (behaviour_of iota_machine) c.args.inputs.now c.args.outputs.now (node_state (iota_view c.args.self.now) Working at) (g.E.Ends.view c.args.ends.now)
 
-pub loop-next-init : goal.loop-next-init
-loop-next-init g c =
+pub loop-made-init : goal.loop-made-init
+loop-made-init g c =
     let b = behaviour_of iota_machine in
     let ins = c.args.inputs.now in
     let outs = c.args.outputs.now in
@@ -40,45 +40,45 @@ loop-next-init g c =
       went = λ at. let s = node_state (iota_view c.args.self.now) Working at in subst (λ k. Went ins outs b s a k a 0) (ap (on at) (c.in-Flag.is ∙ sym (flag_of_both first end))) (went_none b ins outs s a);
     }
 
-pub loop-next-preserved-then-next-end-2 : goal.loop-next-preserved-then-next-end-2
-loop-next-preserved-then-next-end-2 g c =
+pub loop-made-preserved-then-next-end-2 : goal.loop-made-preserved-then-next-end-2
+loop-made-preserved-then-next-end-2 g c =
     let b = behaviour_of iota_machine in
     let ins = c.args.inputs.now in
     let outs = c.args.outputs.now in
     let view = g.E.Ends.view in
     let a = view c.args.ends.now in
-    let inv = c.loop-next.invariant in
+    let inv = c.loop-made.invariant in
     let put = c.put_numbers-count in
-    let next = to_z w128 c.loop-next.next-bits in
-    let end = to_z w128 c.loop-next.end-bits in
+    let next = to_z w128 c.loop-made.next-bits in
+    let end = to_z w128 c.loop-made.end-bits in
     let some : 0 < put.result = omega arith in
     let below = put.ensures.below some in
     let small : to_z w128 put.result ≡ pos put.result = search rules in
     let back : to_z w128 (of_z w128 (next +ℤ to_z w128 put.result)) ≡ next +ℤ to_z w128 put.result = search rules in
     let after : to_z w128 (of_z w128 (next +ℤ to_z w128 put.result)) ≡ next +ℤ pos put.result = back ∙ ap (λ k. next +ℤ k) small in
     record {
-      same = g.met.E.Ends.same_trans c.args.ends.now c.loop-next.ends put.new.ends inv.same put.ensures.same;
-      ends = same_ends_then a (view c.loop-next.ends) (view put.new.ends) inv.ends put.ensures.ends;
+      same = g.met.E.Ends.same_trans c.args.ends.now c.loop-made.ends put.new.ends inv.same put.ensures.same;
+      ends = same_ends_then a (view c.loop-made.ends) (view put.new.ends) inv.ends put.ensures.ends;
       within = omega (arith, inv.within, put.ensures.within);
-      went = λ at. let s = node_state (iota_view c.args.self.now) Working at in subst (λ k. Went ins outs b s a (on at (Flag k end)) (view put.new.ends) (c.loop-next.made + 2 * put.result)) (sym after) (went_further b ins outs (inv.went at) (put.ensures.went ins at));
+      went = λ at. let s = node_state (iota_view c.args.self.now) Working at in subst (λ k. Went ins outs b s a (on at (Flag k end)) (view put.new.ends) (c.loop-made.made + 2 * put.result)) (sym after) (went_further b ins outs (inv.went at) (put.ensures.went ins at));
     }
 
-pub loop-next-preserved : goal.loop-next-preserved
-loop-next-preserved g c =
+pub loop-made-preserved : goal.loop-made-preserved
+loop-made-preserved g c =
     let b = behaviour_of iota_machine in
     let ins = c.args.inputs.now in
     let outs = c.args.outputs.now in
     let view = g.E.Ends.view in
     let a = view c.args.ends.now in
-    let inv = c.loop-next.invariant in
+    let inv = c.loop-made.invariant in
     let z = c.next_segment.new.ends in
     let count = c.in-Some.count in
     let back : to_z w128 (of_z w128 count) ≡ count = search rules in
     record {
-      same = g.met.E.Ends.same_trans c.args.ends.now c.loop-next.ends z inv.same c.in-Some.ensures.same;
-      ends = same_ends_then a (view c.loop-next.ends) (view z) inv.ends c.in-Some.ensures.ends;
-      within = omega (arith, inv.within, c.if-most-made-lt2.false);
-      went = λ at. let s = node_state (iota_view c.args.self.now) Working at in subst (λ k. Went ins outs b s a (on at (Flag (pos 0) k)) (view z) (c.loop-next.made + 2)) (sym back) (went_further b ins outs (inv.went at) (c.in-Some.ensures.went at));
+      same = g.met.E.Ends.same_trans c.args.ends.now c.loop-made.ends z inv.same c.in-Some.ensures.same;
+      ends = same_ends_then a (view c.loop-made.ends) (view z) inv.ends c.in-Some.ensures.ends;
+      within = omega (arith, inv.within, c.loop-made-test.true);
+      went = λ at. let s = node_state (iota_view c.args.self.now) Working at in subst (λ k. Went ins outs b s a (on at (Flag (pos 0) k)) (view z) (c.loop-made.made + 2)) (sym back) (went_further b ins outs (inv.went at) (c.in-Some.ensures.went at));
     }
 
 pub returns-then-count-eq0-clause-went : goal.returns-then-count-eq0-clause-went
@@ -89,20 +89,20 @@ returns-then-count-eq0-clause-went g c = λ at.
     let view = g.E.Ends.view in
     let a = view c.args.ends.now in
     let put = c.put_numbers-count in
-    let next = to_z w128 c.loop-next.next-bits in
-    let end = to_z w128 c.loop-next.end-bits in
+    let next = to_z w128 c.loop-made.next-bits in
+    let end = to_z w128 c.loop-made.end-bits in
     let s = node_state (iota_view c.args.self.now) Working at in
     let none : put.result ≡ 0 = c.if-count-eq0.true in
     let same : next +ℤ pos put.result ≡ next = omega (arith, ints, none) in
-    let all : c.loop-next.made + 2 * put.result ≡ c.loop-next.made = omega (arith, none) in
-    let further = went_further b ins outs (c.loop-next.invariant.went at) (put.ensures.went ins at) in
-    subst (λ k. Went ins outs b s a (on at (Flag k end)) (view put.new.ends) c.loop-next.made) same (subst (Went ins outs b s a (on at (Flag (next +ℤ pos put.result) end)) (view put.new.ends)) all further)
+    let all : c.loop-made.made + 2 * put.result ≡ c.loop-made.made = omega (arith, none) in
+    let further = went_further b ins outs (c.loop-made.invariant.went at) (put.ensures.went ins at) in
+    subst (λ k. Went ins outs b s a (on at (Flag k end)) (view put.new.ends) c.loop-made.made) same (subst (Went ins outs b s a (on at (Flag (next +ℤ pos put.result) end)) (view put.new.ends)) all further)
 
 pub returns-in_default-next_segment-clause-went : goal.returns-in_default-next_segment-clause-went
 returns-in_default-next_segment-clause-went g c = λ at.
     let b = behaviour_of iota_machine in
     let ins = c.args.inputs.now in
     let outs = c.args.outputs.now in
-    let further = went_further b ins outs (c.loop-next.invariant.went at) (c.in_default-next_segment.ensures.went at) in
-    let all : c.loop-next.made + 0 ≡ c.loop-next.made = omega arith in
-    subst (Went ins outs b (node_state (iota_view c.args.self.now) Working at) (g.E.Ends.view c.args.ends.now) (on at (Flag (to_z w128 c.loop-next.next-bits) (to_z w128 c.loop-next.end-bits))) (g.E.Ends.view c.next_segment.new.ends)) all further
+    let further = went_further b ins outs (c.loop-made.invariant.went at) (c.in_default-next_segment.ensures.went at) in
+    let all : c.loop-made.made + 0 ≡ c.loop-made.made = omega arith in
+    subst (Went ins outs b (node_state (iota_view c.args.self.now) Working at) (g.E.Ends.view c.args.ends.now) (on at (Flag (to_z w128 c.loop-made.next-bits) (to_z w128 c.loop-made.end-bits))) (g.E.Ends.view c.next_segment.new.ends)) all further

@@ -21,6 +21,14 @@ pub returns-in_default-clause-went : goal.returns-in_default-clause-went
 returns-in_default-clause-went g c = λ at. went_none (behaviour_of length_machine) c.args.inputs.now c.args.outputs.now (node_state (length_view c.args.self.now) Working at) (g.E.Ends.view c.args.ends.now)
 
 -- it only looked for room
+pub returns-then-is_empty-clause-went : goal.returns-then-is_empty-clause-went
+returns-then-is_empty-clause-went g c = λ at.
+    let b = behaviour_of length_machine in
+    let ins = c.args.inputs.now in
+    let outs = c.args.outputs.now in
+    let there : 0 < length outs = omega (arith, c.requires.wired.each_output) in
+    went_looked b ins outs (went_none b ins outs (node_state (length_view c.args.self.now) Working at) (g.E.Ends.view c.args.ends.now)) 0 (g.E.Ends.view c.space.new.self) there c.space.ensures.looked
+
 pub returns-then-not-stays_in_range-clause-went : goal.returns-then-not-stays_in_range-clause-went
 returns-then-not-stays_in_range-clause-went g c = λ at.
     let b = behaviour_of length_machine in

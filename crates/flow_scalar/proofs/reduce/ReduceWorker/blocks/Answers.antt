@@ -1,15 +1,16 @@
-use Rattle.std.proofs.Common.{◌+◌, ◌≤◌, ◌*◌, sym, subst, arith}
+use Rattle.std.proofs.Common.{◌≡◌, ℕ, List, ◌+◌, ◌≤◌, ◌*◌, sym, ◌∙◌, ap, subst, arith}
 use Rattle.snesl_data.specs.declared.dialect.Dialect.{Dialect}
 use Rattle.snesl_operators.specs.declared.operator.Reduction.{Reduction}
-use Rattle.flow_messages.specs.Ends.{SameEnds}
+use Rattle.flow_messages.specs.Ends.{View, SameEnds}
 use Rattle.flow_base.specs.Nodes.{behaviour_of, node_state}
 use Rattle.flow_base.specs.Visits.{Went}
 use Rattle.flow_base.specs.declared.node.Phase.TheVariants.{Working}
 use Rattle.flow_base.proofs.Carried.{same_ends_refl, same_ends_then}
 use Rattle.flow_base.proofs.Kernels.{went_none, went_further}
+use Rattle.flow_scalar.specs.declared.reduce.Stage.{Stage}
 use Rattle.flow_scalar.specs.ReduceMachine.{reduce_machine, reduce_view}
 use Rattle.flow_scalar.proofs.ReduceBlocks.{stage_on, went_stays}
-use Rattle.flow_scalar.proofs.reduce.ReduceWorker.blocks.Goals.{else-most-made-ge2-via-then-most-made-ge2+else-end_segment, else-most-made-ge2-via-else-most-made-ge2}
+use Rattle.flow_scalar.proofs.reduce.ReduceWorker.blocks.Goals.{then-loop-made-test+else-not-is_empty, else-loop-made-test, then-loop-made-test+then-not-is_empty+else-most-made-ge2+then-count-eq0, else-most-made-ge2-via-then-most-made-ge2+else-end_segment, else-most-made-ge2-via-else-most-made-ge2}
 use Rattle.flow_scalar.proofs.reduce.ReduceWorker.blocks.Goals as goal
 
 pub returns-then-inputs-clause-went : goal.returns-then-inputs-clause-went
@@ -72,18 +73,29 @@ loop-made-preserved g c =
       }
     ]
 
+-- the rounds so far, at the names that they have after the loop
+carried : {ins outs : List ℕ} {p : Dialect × Reduction} {at m n : ℕ} {first s t : Stage} {a v w : View} → w ≡ v → t ≡ s → n ≡ m → Went ins outs (behaviour_of reduce_machine) (stage_on p at first) a (stage_on p at s) v m → Went ins outs (behaviour_of reduce_machine) (stage_on p at first) a (stage_on p at t) w n
+carried {ins} {outs} {p} {at} {m} {n} {first} {s} {t} {a} {v} {w} ends stage made went =
+    let b = behaviour_of reduce_machine in
+    let q = stage_on p at first in
+    let at_ends = subst (λ k. Went ins outs b q a (stage_on p at s) k m) (sym ends) went in
+    let at_stage = subst (λ k. Went ins outs b q a (stage_on p at k) w m) (sym stage) at_ends in
+    subst (Went ins outs b q a (stage_on p at t) w) (sym made) at_stage
+
 pub returns-clause-went : goal.returns-clause-went
 returns-clause-went g c = λ at.
     let b = behaviour_of reduce_machine in
     let ins = c.args.inputs.now in
     let outs = c.args.outputs.now in
     let view = g.E.Ends.view in
-    let a = view c.args.ends.now in
-    let take = c.take_elements-count in
-    let made = c.loop-made.made + 2 * take.result.0 in
-    let p : Dialect × Reduction = (c.args.self.now.dialect, c.args.self.now.reduction) in
-    let went = went_further b ins outs (c.loop-made.invariant.went at) (take.ensures.went outs at) in
-    elim c.else-most-made-ge2.branch [
-      | else-most-made-ge2-via-then-most-made-ge2+else-end_segment w ↦ subst (λ q. Went ins outs b (stage_on p at c.args.self.now.stage) a (stage_on p at take.result.1) (view q) made) (sym w.ends-is) (went_stays b ins outs went (w.end_segment.ensures.stays w.if-end_segment.false at))
-      | else-most-made-ge2-via-else-most-made-ge2 w ↦ subst (λ q. Went ins outs b (stage_on p at c.args.self.now.stage) a (stage_on p at take.result.1) (view q) made) (sym w.ends-is) went
+    let inv = c.loop-made.invariant in
+    elim c.loop-made-test.branch [
+      | then-loop-made-test+else-not-is_empty w ↦ carried (ap view w.ends-is) w.stage-is w.made-is (inv.went at)
+      | else-loop-made-test w ↦ carried (ap view w.ends-is) w.stage-is w.made-is (inv.went at)
+      | then-loop-made-test+then-not-is_empty+else-most-made-ge2+then-count-eq0 w ↦
+          let went = went_further b ins outs (inv.went at) (w.take_elements-count.ensures.went outs at) in
+          elim w.else-most-made-ge2.branch [
+            | else-most-made-ge2-via-then-most-made-ge2+else-end_segment k ↦ carried (ap view (w.ends-is ∙ k.ends-is)) w.stage-is w.made-is (went_stays b ins outs went (k.end_segment.ensures.stays k.if-end_segment.false at))
+            | else-most-made-ge2-via-else-most-made-ge2 k ↦ carried (ap view (w.ends-is ∙ k.ends-is)) w.stage-is w.made-is went
+          ]
     ]

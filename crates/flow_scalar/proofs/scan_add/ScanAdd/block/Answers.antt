@@ -15,6 +15,14 @@ pub returns-in_default-clause-went : goal.returns-in_default-clause-went
 returns-in_default-clause-went g c = λ at. went_none (behaviour_of scan_add_machine) c.args.inputs.now c.args.outputs.now (node_state (scan_add_view c.args.self.now) Working at) (g.E.Ends.view c.args.ends.now)
 
 -- it only looked for room
+pub returns-then-is_empty-clause-went : goal.returns-then-is_empty-clause-went
+returns-then-is_empty-clause-went g c = λ at.
+    let b = behaviour_of scan_add_machine in
+    let ins = c.args.inputs.now in
+    let outs = c.args.outputs.now in
+    let there : 0 < length outs = omega (arith, c.requires.wired.each_output) in
+    went_looked b ins outs (went_none b ins outs (node_state (scan_add_view c.args.self.now) Working at) (g.E.Ends.view c.args.ends.now)) 0 (g.E.Ends.view c.space.new.self) there c.space.ensures.looked
+
 pub returns-then-passed-eq0-clause-went : goal.returns-then-passed-eq0-clause-went
 returns-then-passed-eq0-clause-went g c = λ at.
     let b = behaviour_of scan_add_machine in
