@@ -1,5 +1,5 @@
 -- Copies of blocks.
-use Rattle.std.proofs.Common.{◌≡◌, ◌≢◌, ℕ, ℤ, pos, slice_index_or, zero, suc, ◌+◌, ◌-◌, ◌*◌, ◌<◌, ◌≤◌, Bool, true, false, ◌||◌, cond, eqb, List, [], ◌∷◌, ◌++◌, length, take, Ok, Err, refl, sym, ◌∙◌, ap, subst, arith, append-nil, ne_eqb, inl, inr}
+use Rattle.std.proofs.Common.{◌≡◌, ◌≢◌, ℕ, ℤ, pos, slice_index_or, zero, suc, ◌+◌, ◌-◌, ◌*◌, ◌<◌, ◌≤◌, Bool, true, false, ◌||◌, cond, eqb, List, [], ◌∷◌, ◌++◌, length, take, Ok, Err, refl, sym, ◌∙◌, ap, subst, arith, append-nil, eq-eqb, ne_eqb, inl, inr}
 use Rattle.std.proofs.lemmas.Bool.{cases_eq}
 use Rattle.std.proofs.Math.Seq.{take-length}
 use Rattle.std.proofs.lemmas.List.{length-take-le, take-append-le}
@@ -219,6 +219,24 @@ first_flag (b ∷ bs) c (more, is) some = (flags_said bs ++ more, is)
 pub first_int : (ns : List ℤ) (c : List Signal) → IsPrefix (ints_said ns) c → 0 < length ns → IsPrefix (carry (int (slice_index_or ns 0 (pos 0))) ∷ []) c
 first_int [] c seen some = absurd (omega (arith, some))
 first_int (n ∷ ns) c (more, is) some = (ints_said ns ++ more, is)
+
+-- a block of one item is that item
+pub one_put : (v w : View) (f : ℕ) (x : Cell) → PutAll v f (carry x ∷ []) w → Wrote v f (carry x) w
+one_put v w f x put =
+    let grown : Bool → List Signal → List Signal = λ b sent. cond b (cond (ended sent) sent (sent ++ carry x ∷ [])) sent in
+    record {
+      ends = put.ends;
+      sent = λ e. elim (cases_eq e f) [
+        | inl at ↦ ap w.sent at ∙ put.sent ∙ ap (λ k. grown true (v.sent k)) (sym at) ∙ ap (λ b. grown b (v.sent e)) (sym (eq-eqb e f at))
+        | inr ne ↦ put.others e ne ∙ ap (λ b. grown b (v.sent e)) (sym (ne_eqb e f ne))
+      ];
+      received = put.received;
+      coming = λ e. elim (cases_eq e f) [
+        | inl at ↦ subst (λ k. IsPrefix (v.coming k) (w.coming k)) (sym at) put.coming_here
+        | inr ne ↦ prefix_same (v.coming e) (w.coming e) (put.coming e ne)
+      ];
+      room = put.room;
+    }
 
 -- a fork writes the item to its next output
 pub one_copy_more : (inputs outputs : List ℕ) (p : ForkPorts) (x : Cell) (left q at : ℕ) {s : NodeState (ForkPorts × Step)} {a v w : View} {n : ℕ} → q < length outputs → q ≡ p.others - left →

@@ -9,7 +9,7 @@ ghost use Rattle.flow_messages.specs.Signals.{carry, signal_of};
 ghost use Rattle.flow_messages.specs.Blocks.{units_said, flags_said, ints_said};
 ghost use Rattle.flow_base.specs.Machines.{Leads, on_kind};
 ghost use Rattle.flow_base.specs.Nodes.{NodeState, behaviour_of, node_state};
-ghost use Rattle.flow_base.specs.Visits.{edge_of, IsWired, Went};
+ghost use Rattle.flow_base.specs.Visits.{edge_of, IsWired, Went, Wrote};
 ghost use Rattle.flow_base.specs.declared.node.Phase.TheVariants.{Working};
 ghost use Rattle.flow_scalar.specs.ForkCopies.{PutOnEach, CopiedOn};
 ghost use Rattle.flow_scalar.specs.ForkMachine.{ForkPorts, Step, fork_ports, fork_machine, idle, holding};
@@ -99,7 +99,7 @@ impl Fork {
             if ends.space(edge) == 0 {
                 return made;
             }
-            put_in_space(ends, edge, Msg::Item(copy_of(&item)));
+            put_copy(ends, edge, &item);
             if self.next + 1 == self.outputs {
                 self.held = None;
                 return made + 1;
@@ -217,6 +217,23 @@ fn copy_of(item: &Item) -> Item
         Item::Unit => Item::Unit,
         Item::Bool(truth) => Item::Bool(*truth),
         Item::Int(number) => Item::Int(*number),
+        Item::Vec(_) => unreachable!(),
+    }
+}
+
+// Puts a copy of the item, where there is room: a block of one, which needs no message.
+#[inline(always)]
+fn put_copy<E: Ends>(ends: &mut E, edge: usize, item: &Item)
+    requires scalar { is_of Kind.Vec (cell_of item.now) ≡ false }
+    requires writes { (E.view ends.old).writes edge ≡ true }
+    requires certain { 0 < (E.view ends.old).room edge }
+    ensures same { E.same ends.old ends.new }
+    ensures wrote { Wrote (E.view ends.old) edge (carry (cell_of item.now)) (E.view ends.new) }
+{
+    match item {
+        Item::Unit => ends.put_units(edge, 1),
+        Item::Bool(truth) => ends.put_flags(edge, &[*truth]),
+        Item::Int(number) => ends.put_ints(edge, &[*number]),
         Item::Vec(_) => unreachable!(),
     }
 }

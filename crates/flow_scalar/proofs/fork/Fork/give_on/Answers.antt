@@ -29,9 +29,6 @@ loop-made-init g c = record {
   went = λ ins at. went_none (behaviour_of fork_machine) ins c.args.outputs.now (node_state (fork_view c.args.self.now) Working at) (g.E.Ends.view c.args.ends.now);
 }
 
-pub copy_of-requires : goal.copy_of-requires
-copy_of-requires g c = record { scalar = c.loop-made.invariant.scalar }
-
 -- there is no room at the next output
 pub returns-then-space-eq0-clause-went : goal.returns-then-space-eq0-clause-went
 returns-then-space-eq0-clause-went g c =
@@ -47,8 +44,8 @@ returns-then-self-clause-went g c =
     let inv = c.loop-made.invariant in
     let p = fork_ports n.kind n.outputs in
     let x = cell_of inv.held.0 in
-    let w = view c.put_in_space.new.ends in
-    let wrote : Wrote (view c.space.new.self) (edge_of outs n.next) (carry x) w = subst (λ y. Wrote (view c.space.new.self) (edge_of outs n.next) (carry y) w) (c.copy_of.ensures ∙ sym inv.held.2) c.put_in_space.ensures.wrote in
+    let w = view c.put_copy.new.ends in
+    let wrote : Wrote (view c.space.new.self) (edge_of outs n.next) (carry x) w = subst (λ y. Wrote (view c.space.new.self) (edge_of outs n.next) (carry y) w) (sym inv.held.2) c.put_copy.ensures.wrote in
     λ ins at.
     let on : Step → NodeState (ForkPorts × Step) = λ s. node_state (p, s) Working at in
     let s = node_state (fork_view c.args.self.now) Working at in
@@ -67,12 +64,12 @@ loop-made-preserved g c =
     let p = fork_ports n.kind n.outputs in
     let x = cell_of inv.held.0 in
     let u = view c.space.new.self in
-    let w = view c.put_in_space.new.ends in
-    let wrote : Wrote u (edge_of outs n.next) (carry x) w = subst (λ y. Wrote u (edge_of outs n.next) (carry y) w) (c.copy_of.ensures ∙ sym inv.held.2) c.put_in_space.ensures.wrote in
+    let w = view c.put_copy.new.ends in
+    let wrote : Wrote u (edge_of outs n.next) (carry x) w = subst (λ y. Wrote u (edge_of outs n.next) (carry y) w) (sym inv.held.2) c.put_copy.ensures.wrote in
     let more : n.next + 1 < n.outputs = omega (arith, inv.next, c.if-self.false) in
     let E = g.met.E.Ends in
     record {
-      same = E.same_trans c.args.ends.now c.space.new.self c.put_in_space.new.ends (E.same_trans c.args.ends.now c.loop-made.ends c.space.new.self inv.same c.space.ensures.same) c.put_in_space.ensures.same;
+      same = E.same_trans c.args.ends.now c.space.new.self c.put_copy.new.ends (E.same_trans c.args.ends.now c.loop-made.ends c.space.new.self inv.same c.space.ensures.same) c.put_copy.ensures.same;
       ends = same_ends_then (view c.args.ends.now) u w (same_ends_then (view c.args.ends.now) (view c.loop-made.ends) u inv.ends c.space.ensures.looked.ends) wrote.ends;
       kind = inv.kind;
       outputs = inv.outputs;
