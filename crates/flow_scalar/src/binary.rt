@@ -272,6 +272,7 @@ impl Binary {
         let mut made = 0;
         'rounds: loop {
             let room = ends.space(to).min((most - made) / 3);
+            // Where nothing can be written, no operand is looked at.
             if room == 0 {
                 return made;
             }
@@ -312,6 +313,7 @@ impl Binary {
         let mut made = 0;
         'rounds: loop {
             let room = ends.space(to).min((most - made) / 3);
+            // Where nothing can be written, no operand is looked at.
             if room == 0 {
                 return made;
             }

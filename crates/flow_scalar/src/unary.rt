@@ -125,6 +125,7 @@ impl Unary {
         let mut made = 0;
         'rounds: loop {
             let room = ends.space(to).min((most - made) / 2);
+            // Where nothing can be written, no operand is looked at.
             if room == 0 {
                 return made;
             }
@@ -162,6 +163,7 @@ impl Unary {
         let mut made = 0;
         'rounds: loop {
             let room = ends.space(to).min((most - made) / 2);
+            // Where nothing can be written, no operand is looked at.
             if room == 0 {
                 return made;
             }
