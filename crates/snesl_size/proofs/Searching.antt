@@ -1,11 +1,10 @@
 -- How far a search for the least capacity has come.
-use Rattle.std.proofs.Common.{◌≡◌, ◌∙◌, ◌+◌, ◌<◌, ◌≤◌, All, Err, IfErr, IfOk, List, Ok, Result, [], ◌∷◌, ap, arith, length, refl, subst, sym, ℕ}
+use Rattle.std.proofs.Common.{◌≡◌, ◌+◌, ◌<◌, ◌≤◌, All, Err, IfErr, IfOk, List, Ok, Result, [], ◌∷◌, ap, arith, length, refl, subst, sym, ℕ}
 use Rattle.std.proofs.lemmas.List.Elements.{All-cons, All-nil}
 use Rattle.std.specs.Result.{IsErrAnd}
 use Rattle.snesl_data.specs.declared.fault.Fault.{Fault}
 use Rattle.snesl_data.specs.declared.refusal.Refusal.{Refusal}
 use Rattle.snesl_data.specs.declared.refusal.Refusal.TheVariants.{BadConfig, NoMemory, NoThread}
-use Rattle.kahn.specs.declared.outcome.Outcome.{Outcome}
 use Rattle.kahn.specs.declared.outcome.Outcome.TheVariants.{Value as Ended, Fault as Failed, Stalled}
 use Rattle.flow_messages.specs.Limits.{greatest_capacity}
 use Rattle.flow_drive.specs.declared.config.Config.{Config}

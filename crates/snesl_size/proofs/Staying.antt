@@ -1,5 +1,5 @@
 -- Runs at greater capacities.
-use Rattle.std.proofs.Common.{◌≡◌, ◌∙◌, ◌≤◌, List, Some, [], ◌∷◌, ap, arith, length, refl, subst, sym, ℕ}
+use Rattle.std.proofs.Common.{◌≡◌, ◌∙◌, ◌≤◌, List, Some, [], ◌∷◌, ap, arith, length, subst, sym, ℕ}
 use Rattle.kahn.specs.declared.outcome.Outcome.{Outcome}
 use Rattle.kahn.specs.declared.outcome.Outcome.TheVariants.{Value as Ended}
 use Rattle.kahn.specs.Processes.{Process, Event, Reads, Writes}
@@ -14,7 +14,7 @@ use Rattle.flow_graph.specs.Alike.{RunsRestAlike}
 use Rattle.flow_graph.specs.declared.edge.Edge.{Edge}
 use Rattle.flow_graph.specs.Laws.{IsNetwork}
 use Rattle.flow_graph.specs.MaximalRuns.{EndsMaximalRun}
-use Rattle.flow_graph.specs.Networks.{configuration_of, network_of, state_at}
+use Rattle.flow_graph.specs.Networks.{configuration_of, network_of}
 use Rattle.flow_drive.specs.declared.config.Config.{Config}
 use Rattle.flow_nodes.specs.StreamNodes.{node_behaviour}
 use Rattle.snesl_flatten.specs.Networks.{NodeState}
