@@ -2,12 +2,14 @@
 
 use crate::command_line::{OPTIONS, setting_words};
 use crate::saying::{say, say_plainly, unopened_message};
+use crate::sizing::chunk_said;
+use crate::stalling::stall_message;
 use clap::{Arg, ArgAction, ArgMatches, Command};
 use snesl_console::send;
 use snesl_data::{Counted, Refusal};
 use snesl_draw::{Drawing, drawing_of, network_dot, network_text};
 use snesl_flatten::flatten;
-use snesl_look::{fault_message, refusal_message, stalled_message};
+use snesl_look::{fault_message, refusal_message};
 use snesl_run::{NoGate, Outcome, Report, run, settings, split_job};
 use snesl_syntax::parse;
 use snesl_types::check;
@@ -99,7 +101,13 @@ fn draw_job<R: Read + Drop, W: Write, E: Write>(
             match outcome {
                 Outcome::Value => 0,
                 Outcome::Fault(fault) => say(fault_message(alloc, fault, &program), 2, err),
-                Outcome::Stalled { .. } => say(stalled_message(alloc), 3, err),
+                Outcome::Stalled { edge } => match chunk_said(alloc, matches) {
+                    Ok(chunk) => {
+                        let message = stall_message(rt, alloc, &program, &input, chunk, edge);
+                        say(message, 3, err)
+                    }
+                    Err(refusal) => say_plainly(refusal, err),
+                },
             }
         }
         Err(refusal) => {
@@ -139,7 +147,11 @@ fn drawn(
 }
 
 // The drawing of the network of a program with its input text, of which no step is made.
-fn drawing_of_job(alloc: Global, program: &[u8], input: &[u8]) -> Result<Drawing, Refusal> {
+pub(crate) fn drawing_of_job(
+    alloc: Global,
+    program: &[u8],
+    input: &[u8],
+) -> Result<Drawing, Refusal> {
     let parsed = parse(alloc, program)?;
     let typed = check(alloc, &parsed)?;
     let inputs = read_inputs(typed.dialect(), alloc, typed.decls(), input)?;

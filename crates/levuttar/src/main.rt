@@ -6,6 +6,7 @@ mod drawing;
 mod running;
 mod saying;
 mod sizing;
+mod stalling;
 mod watching;
 
 use command_line::command;

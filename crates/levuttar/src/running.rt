@@ -2,11 +2,11 @@
 
 use crate::command_line::setting_words;
 use crate::saying::{say, say_plainly, unopened_message};
-use crate::sizing::enough;
+use crate::stalling::stall_message;
 use crate::watching::{is_watched, run_watched};
 use clap::ArgMatches;
 use snesl_data::{Counted, Refusal};
-use snesl_look::{fault_message, refusal_message, stalled_message};
+use snesl_look::{fault_message, refusal_message};
 use snesl_run::{Config, NoGate, Outcome, Report, RunError, run, settings, split_job};
 use std::alloc::Global;
 use std::fs;
@@ -85,9 +85,9 @@ fn run_job<
         Ok(report) => match report.outcome() {
             Outcome::Value => 0,
             Outcome::Fault(fault) => say(fault_message(alloc, fault, &program), 2, err),
-            Outcome::Stalled { .. } => {
-                let enough = enough(rt, alloc, &program, &input, config.chunk);
-                say(stalled_message(alloc, enough), 3, err)
+            Outcome::Stalled { edge } => {
+                let message = stall_message(rt, alloc, &program, &input, config.chunk, edge);
+                say(message, 3, err)
             }
         },
         Err(error) => {

@@ -64,7 +64,7 @@ pub(crate) fn size_file<H: AllocGlobal + Files + Threads, R: Read + Drop, W: Wri
 }
 
 // The chunk that the words say.
-fn chunk_said(alloc: Global, matches: &ArgMatches<'_>) -> Result<usize, Refusal> {
+pub(crate) fn chunk_said(alloc: Global, matches: &ArgMatches<'_>) -> Result<usize, Refusal> {
     let mut words = vec![in alloc; "levuttar"]?;
     if let Some(chunk) = matches.get_str("chunk") {
         words.push("--chunk")?;
@@ -95,7 +95,11 @@ fn size_job<R: Read + Drop, W: Write, E: Write>(
             err,
         ),
         Ok(Size::Faults(fault)) => say(fault_message(alloc, fault, &program), 2, err),
-        Ok(Size::NeverEnds) => say(stalled_message(alloc, Enough::Nothing), 3, err),
+        Ok(Size::NeverEnds) => say(
+            stalled_message(alloc, &program, None, Enough::Nothing),
+            3,
+            err,
+        ),
         Err(refusal) => {
             let message = refusal_message(alloc, refusal, &program, &input);
             say(message, refusal.status(), err)

@@ -93,12 +93,23 @@ pub data IsFaultMessage (fault : Fault) (program : List ℕ) : List ℕ → Type
   in_function : (name : List ℕ) → IsNamedAt program fault.at name → IsFaultMessage fault program (fault_message fault program (Some name))
   in_no_function : NoneNamedAt program fault.at → IsFaultMessage fault program (fault_message fault program None)
 
--- how many messages are enough for a network that has stalled
-abbrev pub enough_part : ℕ → List ℕ
-enough_part count =
-    gutter 0 ++ codes " = note: " ++ decimal count ++ codes " messages are enough, as by `--capacity " ++ decimal count ++ codes "`\n"
+-- the form before it writes the stream at which a network has stalled
+abbrev pub full_part : ℕ → List ℕ
+full_part number = remark number (codes " = note: ") (codes "a stream that this form writes is full") (codes "\n")
 
--- what is said of such a network
-abbrev pub stalled_message : Enough → List ℕ
-stalled_message (Messages count) = message stalled_sentence None ++ enough_part count
-stalled_message enough = message stalled_sentence (Some (stalled_hint enough))
+-- how many messages are enough for a network that has stalled
+abbrev pub messages_part : (number count : ℕ) → List ℕ
+messages_part number count =
+    gutter number ++ codes " = note: " ++ decimal count ++ codes " messages are enough, as by `--capacity " ++ decimal count ++ codes "`\n"
+
+-- and where that is not known a hint
+abbrev pub enough_part : ℕ → Enough → List ℕ
+enough_part number (Messages count) = messages_part number count
+enough_part number enough = hint_part number (Some (stalled_hint enough))
+
+-- what is said of such a network, with the place of the form whose stream is full, if that is known
+abbrev pub stalled_message : List ℕ → Option ℕ → Enough → List ℕ
+stalled_message program (Some at) enough =
+    let line = line_of program at in
+    placed_message stalled_sentence program at [] None None ++ full_part line ++ enough_part line enough
+stalled_message program None enough = message stalled_sentence None ++ enough_part 0 enough

@@ -1,7 +1,7 @@
 // Messages: what went wrong, where, and what may help.
 
 ghost use Rattle.std.specs.Prelude.{◌≡◌, ◌++◌, ◌≤◌, IfOk, OnOk, decimal, option_map};
-ghost use Rattle.snesl_look.specs.Messages.{IsFaultMessage, caret_part, enough_part, function_part, gutter, heading_part, hint_part, line_part, message, place_part, placed_message, refusal_message, remark, sentence_part, shown_from, shown_part, stalled_message};
+ghost use Rattle.snesl_look.specs.Messages.{IsFaultMessage, caret_part, enough_part, function_part, gutter, heading_part, hint_part, line_part, message, messages_part, place_part, placed_message, refusal_message, remark, sentence_part, shown_from, shown_part, stalled_message};
 
 use crate::functions::function_at;
 use crate::places::{Position, caret_line, line_at, position_of, shown_line};
@@ -23,6 +23,9 @@ const BLANKS: &[u8] = b"                    ";
 const IN_FUNCTION: &[u8] = b" = note: this is in the function `";
 
 const LED_HERE: &[u8] = b"`; which call of it led here is not known\n";
+
+// What is said of the form at which a network has stalled.
+const FULL: &[u8] = b"a stream that this form writes is full";
 
 /// What is said of a refusal: a sentence; its place, in the program or in the input text, where it has one; and a hint. The
 /// error is that memory was refused.
@@ -74,26 +77,48 @@ pub fn fault_message(alloc: Global, fault: Fault, program: &[u8]) -> Result<Vec<
     )
 }
 
-/// What is said of a network that has stalled: a sentence; how many messages are enough, where that is known; and else a hint.
-/// The error is that memory was refused.
-pub fn stalled_message(alloc: Global, enough: Enough) -> Result<Vec<u8>, AllocError>
-    ensures { IfOk result (λ message. message.items ≡ stalled_message enough) }
+/// What is said of a network that has stalled: a sentence; the place of the form of the program whose stream is full, where
+/// its offset is given; how many messages are enough, where that is known; and else a hint. The error is that memory was
+/// refused.
+pub fn stalled_message(
+    alloc: Global,
+    program: &[u8],
+    full: Option<usize>,
+    enough: Enough,
+) -> Result<Vec<u8>, AllocError>
+    ensures { IfOk result (λ message. message.items ≡ stalled_message program.now full enough) }
 {
-    match enough {
-        Enough::Messages(count) => {
-            let mut message = unplaced(alloc, STALLED_SENTENCE, None)?;
-            append_enough(&mut message, count)?;
+    match full {
+        Some(at) => {
+            let line = position_of(program, at).line;
+            let mut message = placed(alloc, STALLED_SENTENCE, program, at, "", None, None)?;
+            append_remark(&mut message, line, b" = note: ", FULL, b"\n")?;
+            append_enough(&mut message, line, enough)?;
             Ok(message)
         }
-        _ => unplaced(alloc, STALLED_SENTENCE, Some(stalled_hint(enough))),
+        None => {
+            let mut message = unplaced(alloc, STALLED_SENTENCE, None)?;
+            append_enough(&mut message, 0, enough)?;
+            Ok(message)
+        }
+    }
+}
+
+// What is known of how many messages are enough, or a hint.
+fn append_enough(message: &mut Vec<u8>, number: usize, enough: Enough) -> Result<(), AllocError>
+    ensures { OnOk result (message.new.items ≡ message.old.items ++ enough_part number enough) }
+{
+    match enough {
+        Enough::Messages(count) => append_messages(message, number, count),
+        _ => append_hint(message, number, Some(stalled_hint(enough))),
     }
 }
 
 // How many messages are enough.
-fn append_enough(message: &mut Vec<u8>, count: usize) -> Result<(), AllocError>
-    ensures { OnOk result (message.new.items ≡ message.old.items ++ enough_part count) }
+fn append_messages(message: &mut Vec<u8>, number: usize, count: usize) -> Result<(), AllocError>
+    ensures { OnOk result (message.new.items ≡ message.old.items ++ messages_part number count) }
 {
-    append_gutter(message, 0)?;
+    append_gutter(message, number)?;
     message.extend_from_slice(b" = note: ")?;
     append_number(message, count)?;
     message.extend_from_slice(b" messages are enough, as by `--capacity ")?;
@@ -355,7 +380,7 @@ mod tests {
 
     #[test]
     fn a_message_may_have_no_place(rt: HostRuntime) -> Result<(), Fail> {
-        let stalled = stalled_message(rt.alloc(), Enough::Unknown)?;
+        let stalled = stalled_message(rt.alloc(), b"", None, Enough::Unknown)?;
         let want = b"error: the program has stalled: its edges hold too few messages
   = hint: let them hold more, as by `--capacity 4096`, at most 65536
 ";
@@ -370,9 +395,25 @@ mod tests {
 
     #[test]
     fn a_stall_tells_how_many_messages_are_enough(rt: HostRuntime) -> Result<(), Fail> {
-        let message = stalled_message(rt.alloc(), Enough::Messages(301))?;
+        let message = stalled_message(rt.alloc(), b"", None, Enough::Messages(301))?;
         let want = b"error: the program has stalled: its edges hold too few messages
   = note: 301 messages are enough, as by `--capacity 301`
+";
+        assert_eq!(rt; message.as_slice(), want.as_slice());
+        Ok(())
+    }
+
+    #[test]
+    fn a_stall_shows_the_form_whose_stream_is_full(rt: HostRuntime) -> Result<(), Fail> {
+        let program = b"let s =\n iota(300) in\nlength(s ++ s)";
+        let message = stalled_message(rt.alloc(), program, Some(9), Enough::Messages(300))?;
+        let want = b"error: the program has stalled: its edges hold too few messages
+ --> line 2, column 2
+  |
+2 |  iota(300) in
+  |  ^
+  = note: a stream that this form writes is full
+  = note: 300 messages are enough, as by `--capacity 300`
 ";
         assert_eq!(rt; message.as_slice(), want.as_slice());
         Ok(())
