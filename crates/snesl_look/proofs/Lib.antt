@@ -1,3 +1,4 @@
 pub mod Offsets
 pub mod Declarations
 pub mod Told
+pub mod Nearest

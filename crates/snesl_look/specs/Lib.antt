@@ -2,4 +2,5 @@ pub mod Places
 pub mod Words
 pub mod Stalls
 pub mod Functions
+pub mod Names
 pub mod Messages

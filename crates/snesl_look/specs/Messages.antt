@@ -1,9 +1,10 @@
 -- What is printed for a refusal and for a fault.
-use Rattle.std.specs.Prelude.{ℕ, ◌-◌, ◌++◌, List, [], Option, Some, None, codes, decimal, drop, if◌then◌else◌, length, map, nat_le, take}
+use Rattle.std.specs.Prelude.{◌≡◌, ℕ, ◌-◌, ◌++◌, List, [], Option, Some, None, codes, decimal, drop, if◌then◌else◌, length, map, nat_le, take}
 use Rattle.snesl_data.specs.declared.fault.Fault.{Fault}
 use Rattle.snesl_data.specs.declared.refusal.Refusal.{Refusal}
 use Rattle.snesl_data.specs.declared.refusal.Refusal.TheVariants.{Lex, Syntax, Name, Mismatch, Streamed, BadInput}
 use Rattle.snesl_look.specs.Functions.{IsNamedAt, NoneNamedAt}
+use Rattle.snesl_look.specs.Names.{IsMeant, NoneMeant}
 use Rattle.snesl_look.specs.declared.stalls.Enough.{Enough}
 use Rattle.snesl_look.specs.declared.stalls.Enough.TheVariants.{Messages}
 use Rattle.snesl_look.specs.Places.{caret_line, column_of, line_of, line_text, shown_byte}
@@ -73,7 +74,7 @@ placed_message sentence text offset of_text name hint =
     sentence_part sentence ++ heading_part line column of_text ++ place_part (line_text text offset) line column
     ++ function_part line name ++ hint_part line hint
 
--- what is said of a refusal
+-- what is said of a refusal, where no other name is meant
 abbrev pub refusal_message : Refusal → (program input : List ℕ) → List ℕ
 refusal_message (BadInput at) program input =
     placed_message (refusal_sentence (BadInput at)) input at (codes " of the input text") None (refusal_hint (BadInput at))
@@ -83,6 +84,25 @@ refusal_message (Name at) program input = placed_message (refusal_sentence (Name
 refusal_message (Mismatch at) program input = placed_message (refusal_sentence (Mismatch at)) program at [] None (refusal_hint (Mismatch at))
 refusal_message (Streamed at) program input = placed_message (refusal_sentence (Streamed at)) program at [] None (refusal_hint (Streamed at))
 refusal_message refusal program input = message (refusal_sentence refusal) (refusal_hint refusal)
+
+-- the name that is meant
+abbrev pub near_part : (number : ℕ) → (name : List ℕ) → List ℕ
+near_part number name = remark number (codes " = hint: did you mean `") name (codes "`?\n")
+
+-- what is said of a name that is not bound, where another is meant
+abbrev pub near_message : (at : ℕ) → (program name : List ℕ) → List ℕ
+near_message at program name =
+    placed_message (refusal_sentence (Name at)) program at [] None None ++ near_part (line_of program at) name
+
+-- what is said of a name that is not bound: its hint is the name that is meant, if one is
+pub data IsNameMessage (at : ℕ) (program : List ℕ) : List ℕ → Type 0 where
+  meant : (name : List ℕ) → IsMeant program at name → IsNameMessage at program (near_message at program name)
+  none_meant : NoneMeant program at → IsNameMessage at program (refusal_message (Name at) program [])
+
+-- what is said of a refusal
+abbrev pub IsRefusalMessage : Refusal → (program input message : List ℕ) → Type 0
+IsRefusalMessage (Name at) program input message = IsNameMessage at program message
+IsRefusalMessage refusal program input message = message ≡ refusal_message refusal program input
 
 -- what is said of a fault: it names the function in whose declaration its place lies, if it lies in one
 abbrev pub fault_message : Fault → List ℕ → Option (List ℕ) → List ℕ

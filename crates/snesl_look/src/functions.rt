@@ -77,7 +77,7 @@ fn is_function(declaration: &[u8]) -> bool
 }
 
 // The word at the front.
-fn front_word(text: &[u8]) -> &[u8]
+pub(crate) fn front_word(text: &[u8]) -> &[u8]
     ensures { result.now ≡ front_word text.now }
 {
     &text[..word_len(text)]

@@ -4,12 +4,14 @@
 
 pub mod functions;
 pub mod messages;
+pub mod names;
 pub mod places;
 pub mod stalls;
 pub mod words;
 
 pub use functions::function_at;
 pub use messages::{fault_message, refusal_message, stalled_message};
+pub use names::near_name;
 pub use places::{Position, caret_line, line_at, position_of, shown_line};
 pub use stalls::{Enough, STALLED_SENTENCE, stalled_hint};
 pub use words::{fault_hint, fault_sentence, refusal_hint, refusal_sentence, sentences_differ};

@@ -1,9 +1,10 @@
 // Messages: what went wrong, where, and what may help.
 
 ghost use Rattle.std.specs.Prelude.{◌≡◌, ◌++◌, ◌≤◌, IfOk, OnOk, decimal, option_map};
-ghost use Rattle.snesl_look.specs.Messages.{IsFaultMessage, caret_part, enough_part, function_part, gutter, heading_part, hint_part, line_part, message, messages_part, place_part, placed_message, refusal_message, remark, sentence_part, shown_from, shown_part, stalled_message};
+ghost use Rattle.snesl_look.specs.Messages.{IsFaultMessage, IsNameMessage, IsRefusalMessage, caret_part, enough_part, function_part, gutter, heading_part, hint_part, line_part, message, messages_part, near_part, place_part, placed_message, remark, sentence_part, shown_from, shown_part, stalled_message};
 
 use crate::functions::function_at;
+use crate::names::near_name;
 use crate::places::{Position, caret_line, line_at, position_of, shown_line};
 use crate::stalls::{Enough, STALLED_SENTENCE, stalled_hint};
 use crate::words::{fault_hint, fault_sentence, refusal_hint, refusal_sentence};
@@ -27,16 +28,16 @@ const LED_HERE: &[u8] = b"`; which call of it led here is not known\n";
 // What is said of the form at which a network has stalled.
 const FULL: &[u8] = b"a stream that this form writes is full";
 
-/// What is said of a refusal: a sentence; its place, in the program or in the input text, where it has one; and a hint. The
-/// error is that memory was refused.
+/// What is said of a refusal: a sentence; its place, in the program or in the input text, where it has one; and a hint, which
+/// for a name that is not bound is the name that is meant, if one is. The error is that memory was refused.
 pub fn refusal_message(
     alloc: Global,
     refusal: Refusal,
     program: &[u8],
     input: &[u8],
 ) -> Result<Vec<u8>, AllocError>
-    ensures { IfOk result (λ message. message.items
-        ≡ refusal_message refusal program.now input.now) }
+    ensures { IfOk result (λ message.
+        IsRefusalMessage refusal program.now input.now message.items) }
 {
     let sentence = refusal_sentence(refusal);
     let hint = refusal_hint(refusal);
@@ -50,13 +51,37 @@ pub fn refusal_message(
             None,
             hint,
         ),
+        Refusal::Name(at) => name_message(alloc, at, program),
         Refusal::Lex(at)
         | Refusal::Syntax(at)
-        | Refusal::Name(at)
         | Refusal::Mismatch(at)
         | Refusal::Streamed(at) => placed(alloc, sentence, program, at, "", None, hint),
         _ => unplaced(alloc, sentence, hint),
     }
+}
+
+// What is said of a name that is not bound.
+fn name_message(alloc: Global, at: usize, program: &[u8]) -> Result<Vec<u8>, AllocError>
+    ensures { IfOk result (λ message. IsNameMessage at program.now message.items) }
+{
+    let refusal = Refusal::Name(at);
+    let sentence = refusal_sentence(refusal);
+    match near_name(alloc, program, at)? {
+        Some(name) => {
+            let mut message = placed(alloc, sentence, program, at, "", None, None)?;
+            append_near(&mut message, position_of(program, at).line, &name)?;
+            Ok(message)
+        }
+        None => placed(alloc, sentence, program, at, "", None, refusal_hint(refusal)),
+    }
+}
+
+// The name that is meant.
+fn append_near(message: &mut Vec<u8>, number: usize, name: &[u8]) -> Result<(), AllocError>
+    ensures { OnOk result (message.new.items
+        ≡ message.old.items ++ near_part number name.now) }
+{
+    append_remark(message, number, b" = hint: did you mean `", name, b"`?\n")
 }
 
 /// What is said of a fault: a sentence; its place in the program, and the function in which that lies, if it lies in one; and a
@@ -339,6 +364,35 @@ mod tests {
 2 | x + true
   |   ^
   = hint: operators take single values; for each element of a sequence `s` write `{x + 1 : x in s}`
+";
+        assert_eq!(rt; message.as_slice(), want.as_slice());
+        Ok(())
+    }
+
+    #[test]
+    fn a_name_that_is_meant_is_shown(rt: HostRuntime) -> Result<(), Fail> {
+        let program = b"let total = 1 in totl + 1";
+        let message = refusal_message(rt.alloc(), Refusal::Name(17), program, b"")?;
+        let want = b"error: this name is not bound here, or it is bound twice
+ --> line 1, column 18
+  |
+1 | let total = 1 in totl + 1
+  |                  ^
+  = hint: did you mean `total`?
+";
+        assert_eq!(rt; message.as_slice(), want.as_slice());
+        Ok(())
+    }
+
+    #[test]
+    fn a_name_with_none_near_has_a_hint(rt: HostRuntime) -> Result<(), Fail> {
+        let message = refusal_message(rt.alloc(), Refusal::Name(0), b"total + 1", b"")?;
+        let want = b"error: this name is not bound here, or it is bound twice
+ --> line 1, column 1
+  |
+1 | total + 1
+  | ^
+  = hint: a function sees its parameters and the functions before it, and no inputs
 ";
         assert_eq!(rt; message.as_slice(), want.as_slice());
         Ok(())
