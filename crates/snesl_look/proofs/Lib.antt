@@ -2,3 +2,4 @@ pub mod Offsets
 pub mod Declarations
 pub mod Told
 pub mod Nearest
+pub mod Edits

@@ -1,5 +1,5 @@
 -- Names that are near to one that is not bound.
-use Rattle.std.specs.Prelude.{◌≡◌, ◌≢◌, ◌<◌, ◌≤◌, ◌⊎◌, ℕ, ◌-◌, ◌/◌, ◌++◌, ◌==◌, ◌&&◌, ◌||◌, Bool, IsTrue, List, Option, codes, drop, length, max, min, nat_eq, not, slice_index}
+use Rattle.std.specs.Prelude.{◌≡◌, ◌≢◌, ◌<◌, ◌≤◌, ◌⊎◌, ℕ, ◌+◌, ◌-◌, ◌/◌, ◌++◌, ◌==◌, ◌&&◌, ◌||◌, Bool, IsTrue, List, [], ◌∷◌, codes, drop, if◌then◌else◌, length, max, min, nat_eq, not, slice_index}
 use Rattle.std.specs.Char.{is_ascii_alphabetic}
 use Rattle.snesl_data.specs.Characters.{is_word}
 use Rattle.snesl_look.specs.Functions.{front_word}
@@ -36,6 +36,14 @@ IsOther text at place = BeginsName text place × (place ≢ at) × ¬ IsKeyword 
 -- how many bytes must be put in, taken out or replaced to make one name of another
 abbrev pub distance : List ℕ → List ℕ → ℕ
 distance from to = levenshtein_row nat_eq from to (length to)
+
+-- The cases: a name is made of none by its bytes; and of another by that byte more, by a last byte that is the same or replaced, or by
+-- one fewer, whichever takes the least.
+abbrev pub DistanceIsByCases : Type 0
+DistanceIsByCases =
+    ((to : List ℕ) → distance [] to ≡ length to) × ((from : List ℕ) → distance from [] ≡ length from)
+    × ((from to : List ℕ) (x y : ℕ) → distance (from ++ x ∷ []) (to ++ y ∷ [])
+    ≡ min (distance (from ++ x ∷ []) to + 1) (min (distance from to + (if x == y then 0 else 1)) (distance from (to ++ y ∷ []) + 1)))
 
 -- names are near up to this distance: a third of the length, but at least 1 and at most 2
 abbrev pub most_edits : List ℕ → ℕ

@@ -52,10 +52,8 @@ pub fn refusal_message(
             hint,
         ),
         Refusal::Name(at) => name_message(alloc, at, program),
-        Refusal::Lex(at)
-        | Refusal::Syntax(at)
-        | Refusal::Mismatch(at)
-        | Refusal::Streamed(at) => placed(alloc, sentence, program, at, "", None, hint),
+        Refusal::Lex(at) | Refusal::Syntax(at) | Refusal::Mismatch(at) | Refusal::Streamed(at) =>
+            placed(alloc, sentence, program, at, "", None, hint),
         _ => unplaced(alloc, sentence, hint),
     }
 }
@@ -72,7 +70,15 @@ fn name_message(alloc: Global, at: usize, program: &[u8]) -> Result<Vec<u8>, All
             append_near(&mut message, position_of(program, at).line, &name)?;
             Ok(message)
         }
-        None => placed(alloc, sentence, program, at, "", None, refusal_hint(refusal)),
+        None => placed(
+            alloc,
+            sentence,
+            program,
+            at,
+            "",
+            None,
+            refusal_hint(refusal),
+        ),
     }
 }
 

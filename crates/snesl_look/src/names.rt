@@ -2,7 +2,7 @@
 
 ghost use Rattle.std.specs.Prelude.{◌≡◌, ◌<◌, ◌≤◌, IfOk, IsTrue, MatchOption, length, ◌↔◌};
 ghost use Rattle.snesl_data.specs.Characters.{is_word};
-ghost use Rattle.snesl_look.specs.Names.{IsKeyword, IsMeant, IsNearestAt, IsOther, NoneMeant, NoneNear, begins_name, built_ins, distance_at, most_edits, name_at, searched};
+ghost use Rattle.snesl_look.specs.Names.{DistanceIsByCases, IsKeyword, IsMeant, IsNearestAt, IsOther, NoneMeant, NoneNear, begins_name, built_ins, distance_at, most_edits, name_at, searched};
 
 use crate::functions::front_word;
 use std::alloc::{AllocError, Global};
@@ -22,11 +22,7 @@ const BUILT_INS: &[u8] =
 /// The name that may be meant by a name of a program that is not bound: the first of the nearest among the other names of the
 /// program and the built-in functions, if one is near. `None` where the name has more than 64 bytes, where no other is near,
 /// and where it stands elsewhere in the program too. The error is that memory was refused.
-pub fn near_name(
-    alloc: Global,
-    program: &[u8],
-    at: usize,
-) -> Result<Option<Vec<u8>>, AllocError>
+pub fn near_name(alloc: Global, program: &[u8], at: usize) -> Result<Option<Vec<u8>>, AllocError>
     ensures { IfOk result (λ found. MatchOption found (NoneMeant program.now at)
         (λ name. IsMeant program.now at name.items)) }
 {
@@ -58,12 +54,7 @@ fn searched(alloc: Global, program: &[u8]) -> Result<Vec<u8>, AllocError>
 }
 
 // Where the first of the nearest names begins.
-fn nearest(
-    alloc: Global,
-    text: &[u8],
-    at: usize,
-    word: &[u8],
-) -> Result<Option<usize>, AllocError>
+fn nearest(alloc: Global, text: &[u8], at: usize, word: &[u8]) -> Result<Option<usize>, AllocError>
     ensures { IfOk result (λ found. MatchOption found (NoneNear text.now at word.now)
         (IsNearestAt text.now at word.now)) }
 {
@@ -103,6 +94,11 @@ fn edits_at(
     let edits = generic_levenshtein(alloc, name, word)?;
     Ok(Some(edits))
 }
+
+/// A law and no code to run: the distance of two names by those of shorter ones.
+pub fn distance_by_cases()
+    ensures { DistanceIsByCases }
+{}
 
 // Up to which distance names are near.
 fn most_edits(word: &[u8]) -> usize
@@ -176,11 +172,18 @@ mod tests {
     #[test]
     fn none_may_be_meant(rt: HostRuntime) -> Result<(), Fail> {
         // A keyword is never meant.
-        assert_eq!(rt; near(&rt, b"let a = 1 in lett", 13)?.as_slice(), b"".as_slice());
+        assert_eq!(rt;
+            near(&rt, b"let a = 1 in lett", 13)?.as_slice(),
+            b"".as_slice()
+        );
         // Three bytes are too many.
-        assert_eq!(rt; near(&rt, b"let abcdef = 1 in abcxyz", 18)?.as_slice(), b"".as_slice());
+        assert_eq!(rt;
+            near(&rt, b"let abcdef = 1 in abcxyz", 18)?.as_slice(),
+            b"".as_slice()
+        );
         // The name is bound, but not here.
-        let program = b"input totals : int; input total : int; function f(x : int) : int = total; 1";
+        let program =
+            b"input totals : int; input total : int; function f(x : int) : int = total; 1";
         assert_eq!(rt; near(&rt, program, 67)?.as_slice(), b"".as_slice());
         // 65 bytes are too many.
         let program = [b'a'; 65];

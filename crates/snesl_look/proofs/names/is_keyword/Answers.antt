@@ -16,6 +16,6 @@ loop-place-preserved c =
           both_ways (begins_name keywords place) begins.1 (sym c.begins_name.ensures ∙ w.if-begins_name.false)
     ] in
     λ k before begins. ⊎_elim
-        (λ (e : k ≡ place). λ same. here (subst (BeginsName keywords) e begins) (subst (λ at. name_at keywords at ≡ word) e same))
-        (λ (lower : k < place). c.loop-place.invariant k lower begins)
-        (eq-or-lt_of_le {n = k} {m = place} (omega (arith, before)))
+    (λ (e : k ≡ place). λ same. here (subst (BeginsName keywords) e begins) (subst (λ at. name_at keywords at ≡ word) e same))
+    (λ (lower : k < place). c.loop-place.invariant k lower begins)
+    (eq-or-lt_of_le {n = k} {m = place} (omega (arith, before)))
