@@ -3,3 +3,4 @@ pub mod Declarations
 pub mod Told
 pub mod Nearest
 pub mod Edits
+pub mod Least

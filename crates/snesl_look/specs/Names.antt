@@ -45,6 +45,18 @@ DistanceIsByCases =
     × ((from to : List ℕ) (x y : ℕ) → distance (from ++ x ∷ []) (to ++ y ∷ [])
     ≡ min (distance (from ++ x ∷ []) to + 1) (min (distance from to + (if x == y then 0 else 1)) (distance from (to ++ y ∷ []) + 1)))
 
+-- A name is made of another by so many edits: each byte is kept, put in, taken out or replaced.
+pub data Edits : List ℕ → List ℕ → ℕ → Type 0 where
+  nothing : Edits [] [] 0
+  keeps : (from to : List ℕ) (n x : ℕ) → Edits from to n → Edits (from ++ x ∷ []) (to ++ x ∷ []) n
+  puts_in : (from to : List ℕ) (n y : ℕ) → Edits from to n → Edits from (to ++ y ∷ []) (n + 1)
+  takes_out : (from to : List ℕ) (n x : ℕ) → Edits from to n → Edits (from ++ x ∷ []) to (n + 1)
+  replaces : (from to : List ℕ) (n x y : ℕ) → Edits from to n → Edits (from ++ x ∷ []) (to ++ y ∷ []) (n + 1)
+
+-- so many edits as the distance make one name of the other, and no fewer
+abbrev pub DistanceIsLeast : Type 0
+DistanceIsLeast = (from to : List ℕ) → Edits from to (distance from to) × ((n : ℕ) → Edits from to n → distance from to ≤ n)
+
 -- names are near up to this distance: a third of the length, but at least 1 and at most 2
 abbrev pub most_edits : List ℕ → ℕ
 most_edits word = max 1 (min 2 (length word / 3))

@@ -11,7 +11,7 @@ pub mod words;
 
 pub use functions::function_at;
 pub use messages::{fault_message, refusal_message, stalled_message};
-pub use names::{distance_by_cases, near_name};
+pub use names::{distance_is_least, near_name};
 pub use places::{Position, caret_line, line_at, position_of, shown_line};
 pub use stalls::{Enough, STALLED_SENTENCE, stalled_hint};
 pub use words::{fault_hint, fault_sentence, refusal_hint, refusal_sentence, sentences_differ};

@@ -2,7 +2,7 @@
 
 ghost use Rattle.std.specs.Prelude.{◌≡◌, ◌<◌, ◌≤◌, IfOk, IsTrue, MatchOption, length, ◌↔◌};
 ghost use Rattle.snesl_data.specs.Characters.{is_word};
-ghost use Rattle.snesl_look.specs.Names.{DistanceIsByCases, IsKeyword, IsMeant, IsNearestAt, IsOther, NoneMeant, NoneNear, begins_name, built_ins, distance_at, most_edits, name_at, searched};
+ghost use Rattle.snesl_look.specs.Names.{DistanceIsByCases, DistanceIsLeast, IsKeyword, IsMeant, IsNearestAt, IsOther, NoneMeant, NoneNear, begins_name, built_ins, distance_at, most_edits, name_at, searched};
 
 use crate::functions::front_word;
 use std::alloc::{AllocError, Global};
@@ -95,9 +95,11 @@ fn edits_at(
     Ok(Some(edits))
 }
 
-/// A law and no code to run: the distance of two names by those of shorter ones.
-pub fn distance_by_cases()
-    ensures { DistanceIsByCases }
+/// A law and no code to run: the distance of two names is the least number of bytes that are put in, taken out or replaced to
+/// make one of the other. It follows from the distances of shorter names.
+pub fn distance_is_least()
+    ensures least { DistanceIsLeast }
+    ensures cases { DistanceIsByCases }
 {}
 
 // Up to which distance names are near.
