@@ -8,7 +8,8 @@ use crate::functions::front_word;
 use std::alloc::{AllocError, Global};
 use strsim::generic_levenshtein;
 
-// Names up to this length are compared with others, so that the work is at most so many steps for each byte of a program.
+// Names up to this length are compared with others, so that the tables of edits have at most so many cells for each byte of a
+// program in all.
 const MOST_COMPARED: usize = 64;
 
 /// The reserved words, but for the built-in functions.
