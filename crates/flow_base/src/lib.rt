@@ -16,4 +16,4 @@ pub use certain::{put_in_space, take_front};
 pub use node::{Node, Phase};
 pub use printing::Printing;
 pub use transducer::{Port, Side, Transducer, keeps_laws};
-pub use worker::{Ask, BLOCK, Stop, Worker, computes_row};
+pub use worker::{Ask, BLOCK, SHORT_BLOCK, Stop, Worker, computes_row};

@@ -11,6 +11,10 @@ use std::alloc::AllocError;
 /// it, and a put changes them.
 pub const BLOCK: usize = 64;
 
+/// As many as a visit of fewer than `BLOCK` steps computes at once. A fresh block is filled before it is used, which costs a
+/// short visit more than its items do.
+pub const SHORT_BLOCK: usize = 8;
+
 /// What a worker wants next.
 #[derive(Clone, Copy, Debug, PartialEq, Eq)]
 pub enum Ask {

@@ -15,7 +15,7 @@ ghost use Rattle.flow_scalar.specs.declared.binary.Progress.TheVariants.{Start, 
 
 use crate::operand::operand_of;
 use crate::scalars::{item_of, kind_of};
-use flow_base::{Ask, BLOCK, Stop, Worker, put_in_space, take_front};
+use flow_base::{Ask, BLOCK, SHORT_BLOCK, Stop, Worker, put_in_space, take_front};
 use flow_messages::{Ends, Item, Kind, Msg};
 use snesl_data::Dialect;
 use snesl_operators::{BinaryOperator, Scalar, ScalarType};
@@ -51,10 +51,10 @@ fn ints_by(
     dialect: Dialect,
     lefts: &[i128],
     rights: &[i128],
-    values: &mut [i128; BLOCK],
+    values: &mut [i128],
 ) -> usize
     requires rights { length lefts.now ≤ length rights.now }
-    requires block { length lefts.now ≤ 64 }
+    requires block { length lefts.now ≤ length values.old }
     ensures within { result ≤ length lefts.now }
     ensures values { IntsAt dialect operator lefts.now rights.now values.new result }
 {
@@ -167,21 +167,15 @@ impl Binary {
 
     // The integers at the first of these pairs, as many as there is room for and as do not fault.
     #[inline(always)]
-    fn ints_of(
-        &self,
-        lefts: &[i128],
-        rights: &[i128],
-        room: usize,
-        values: &mut [i128; BLOCK],
-    ) -> usize
+    fn ints_of(&self, lefts: &[i128], rights: &[i128], room: usize, values: &mut [i128]) -> usize
         ensures room { result ≤ room }
         ensures lefts { result ≤ length lefts.now }
         ensures rights { result ≤ length rights.now }
-        ensures block { result ≤ 64 }
+        ensures block { result ≤ length values.new }
         ensures values { IntsAt self.now.dialect self.now.operator lefts.now rights.now values.new
             result }
     {
-        let whole = lefts.len().min(rights.len()).min(room).min(BLOCK);
+        let whole = lefts.len().min(rights.len()).min(room).min(values.len());
         let lefts = &lefts[..whole];
         let rights = &rights[..whole];
         let dialect = self.dialect;
@@ -246,14 +240,15 @@ impl Binary {
         }
     }
 
-    // Whole rounds over blocks of integers, to a block of integers.
-    #[inline(always)]
+    // Whole rounds over integers, to integers, through a block that is lent.
+    #[inline(never)]
     fn int_blocks<E: Ends>(
         &self,
         inputs: &[usize],
         outputs: &[usize],
         ends: &mut E,
         most: usize,
+        values: &mut [i128],
     ) -> usize
         requires start { self.now.progress ≡ Start }
         requires apart { edge_of inputs.now 0 ≢ edge_of inputs.now 1 }
@@ -268,7 +263,6 @@ impl Binary {
         let lefts = inputs[0];
         let rights = inputs[1];
         let to = outputs[0];
-        let mut values = [0i128; BLOCK];
         let mut made = 0;
         'rounds: loop {
             let room = ends.space(to).min((most - made) / 3);
@@ -276,7 +270,7 @@ impl Binary {
             if room == 0 {
                 return made;
             }
-            let count = self.ints_of(ends.ints(lefts), ends.ints(rights), room, &mut values);
+            let count = self.ints_of(ends.ints(lefts), ends.ints(rights), room, values);
             if count == 0 {
                 return made;
             }
@@ -418,7 +412,10 @@ impl Worker for Binary {
             return 0;
         }
         match self.operator.result() {
-            ScalarType::Int => self.int_blocks(inputs, outputs, ends, most),
+            ScalarType::Int if most < BLOCK => {
+                self.int_blocks(inputs, outputs, ends, most, &mut [0; SHORT_BLOCK])
+            }
+            ScalarType::Int => self.int_blocks(inputs, outputs, ends, most, &mut [0; BLOCK]),
             ScalarType::Bool => self.flag_blocks(inputs, outputs, ends, most),
         }
     }

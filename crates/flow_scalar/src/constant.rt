@@ -1,13 +1,13 @@
 // A constant, once for each item.
 
-ghost use Rattle.std.specs.Prelude.{◌≡◌, ◌≤◌, true, false};
+ghost use Rattle.std.specs.Prelude.{◌≡◌, ◌≤◌, true, false, length, replicate};
 ghost use Rattle.flow_messages.specs.Cells.{unit};
 ghost use Rattle.flow_messages.specs.Ends.{SameEnds};
 ghost use Rattle.flow_messages.specs.Signals.{carry, signal_of};
 ghost use Rattle.flow_scalar.specs.ConstCopies.{WrittenFor};
 
 use crate::scalars::{item_of, kind_of};
-use flow_base::{Ask, BLOCK, Stop, Worker, put_in_space, take_front};
+use flow_base::{Ask, BLOCK, SHORT_BLOCK, Stop, Worker, put_in_space, take_front};
 use flow_messages::{Ends, Item, Kind, Msg};
 use snesl_data::FaultKind;
 use snesl_operators::Scalar;
@@ -32,9 +32,18 @@ fn is_unit(message: &Msg) -> bool
     matches!(message, Msg::Item(Item::Unit))
 }
 
-// Writes the integer once for each unit that is shown, where there is room. How many steps: two for each unit.
+// Writes the integer once for each unit that is shown, where there is room, from copies of it that are lent. How many steps: two
+// for each unit.
 #[inline(always)]
-fn ints_for_units<E: Ends>(ends: &mut E, from: usize, to: usize, number: i128, most: usize) -> usize
+fn ints_for_units<E: Ends>(
+    ends: &mut E,
+    from: usize,
+    to: usize,
+    number: i128,
+    copies: &[i128],
+    most: usize,
+) -> usize
+    requires copies { copies.now ≡ replicate (length copies.now) number }
     requires reads { (E.view ends.old).reads from ≡ true }
     requires writes { (E.view ends.old).writes to ≡ true }
     ensures same { E.same ends.old ends.new }
@@ -43,16 +52,19 @@ fn ints_for_units<E: Ends>(ends: &mut E, from: usize, to: usize, number: i128, m
     ensures written { WrittenFor (Scalar.Int number) from to (E.view ends.old)
         (E.view ends.new) result }
 {
-    let block = [number; BLOCK];
     let mut made = 0;
-    loop {
+    'rounds: loop {
         let room = ends.space(to);
-        let count = ends.units(from).min(room).min((most - made) / 2).min(BLOCK);
+        let count = ends
+            .units(from)
+            .min(room)
+            .min((most - made) / 2)
+            .min(copies.len());
         if count == 0 {
             return made;
         }
         ends.skip(from, count);
-        ends.put_ints(to, &block[..count]);
+        ends.put_ints(to, &copies[..count]);
         made += 2 * count;
     }
 }
@@ -164,7 +176,10 @@ impl Worker for Const {
         }
         let to = outputs[0];
         match self.scalar {
-            Scalar::Int(number) => ints_for_units(ends, from, to, number, most),
+            Scalar::Int(number) if most < BLOCK => {
+                ints_for_units(ends, from, to, number, &[number; SHORT_BLOCK], most)
+            }
+            Scalar::Int(number) => ints_for_units(ends, from, to, number, &[number; BLOCK], most),
             Scalar::Bool(truth) => flags_for_units(ends, from, to, truth, most),
         }
     }

@@ -1,6 +1,6 @@
 // Copies of each item.
 
-ghost use Rattle.std.specs.Prelude.{suc, ◌≡◌, ◌≢◌, ◌+◌, ◌<◌, ◌≤◌, ℕ, true, false, Ok, List, [], ◌∷◌, length, IfSome};
+ghost use Rattle.std.specs.Prelude.{◌*◌, suc, ◌≡◌, ◌≢◌, ◌+◌, ◌<◌, ◌≤◌, ℕ, true, false, Ok, List, [], ◌∷◌, length, IfSome};
 ghost use mathlib.Core.List.{IsPrefix};
 ghost use Rattle.std.specs.List.{All};
 ghost use Rattle.flow_messages.specs.Cells.{cell_of, is_of};
@@ -14,7 +14,7 @@ ghost use Rattle.flow_base.specs.declared.node.Phase.TheVariants.{Working};
 ghost use Rattle.flow_scalar.specs.ForkCopies.{PutOnEach, CopiedOn};
 ghost use Rattle.flow_scalar.specs.ForkMachine.{ForkPorts, Step, fork_ports, fork_machine, idle, holding};
 
-use flow_base::{Ask, BLOCK, Stop, Worker, put_in_space, take_front};
+use flow_base::{Ask, BLOCK, SHORT_BLOCK, Stop, Worker, put_in_space, take_front};
 use flow_messages::{Ends, Item, Kind, Msg};
 use snesl_data::FaultKind;
 use std::alloc::{AllocError, Global};
@@ -169,6 +169,46 @@ impl Fork {
                 return made;
             }
             made += given;
+        }
+        made
+    }
+
+    // Copies items that are shown to each output, through blocks that are lent, at most so many. How many.
+    #[inline(never)]
+    fn instances<E: Ends>(
+        &self,
+        inputs: &[usize],
+        outputs: &[usize],
+        ends: &mut E,
+        whole: usize,
+        flags: &mut [bool],
+        ints: &mut [i128],
+    ) -> usize
+        requires idle { self.now.held ≡ None }
+        requires outputs { suc (fork_ports self.now.kind self.now.outputs).others ≡
+            length outputs.now }
+        requires wired { IsWired inputs.now outputs.now 1 (length outputs.now)
+            (E.view ends.old) }
+        requires rise { (p q : ℕ) → p < q → q < length outputs.now →
+            edge_of outputs.now p < edge_of outputs.now q }
+        requires room { (q : ℕ) → q < length outputs.now →
+            whole ≤ (E.view ends.old).room (edge_of outputs.now q) }
+        ensures same { E.same ends.old ends.new }
+        ensures ends { SameEnds (E.view ends.old) (E.view ends.new) }
+        ensures within { result ≤ whole }
+        ensures went { (at : ℕ) → Went inputs.now outputs.now (behaviour_of fork_machine)
+            (node_state (⟦<Fork as Worker>⟧.state self.now) Working at) (E.view ends.old)
+            (node_state (⟦<Fork as Worker>⟧.state self.now) Working at) (E.view ends.new)
+            ((length outputs.now + 1) * result) }
+    {
+        let mut made = 0;
+        while made < whole {
+            let left = whole - made;
+            let count = block_to_each(ends, self.kind, inputs[0], outputs, left, flags, ints);
+            if count == 0 {
+                return made;
+            }
+            made += count;
         }
         made
     }
@@ -587,17 +627,13 @@ impl Worker for Fork {
         // An instance is a step for each output and one more.
         let steps = outputs.len() + 1;
         let whole = least_space(ends, outputs).min(most / steps);
-        let mut flags = [false; BLOCK];
-        let mut ints = [0; BLOCK];
-        let mut made = 0;
-        while made < whole {
-            let left = whole - made;
-            let count = block_to_each(ends, self.kind, from, outputs, left, &mut flags, &mut ints);
-            if count == 0 {
-                return steps * made;
+        let made = match self.kind {
+            Kind::Int if most < BLOCK => {
+                self.instances(inputs, outputs, ends, whole, &mut [], &mut [0; SHORT_BLOCK])
             }
-            made += count;
-        }
+            Kind::Int => self.instances(inputs, outputs, ends, whole, &mut [], &mut [0; BLOCK]),
+            _ => self.instances(inputs, outputs, ends, whole, &mut [false; BLOCK], &mut []),
+        };
         steps * made
     }
 

@@ -12,7 +12,7 @@ ghost use Rattle.flow_base.specs.declared.node.Phase.TheVariants.{Working};
 ghost use Rattle.flow_scalar.specs.IotaMachine.{number_after, iota_machine, iota_view};
 ghost use Rattle.flow_scalar.specs.declared.iota.Iota.TheVariants.{Flag};
 
-use flow_base::{Ask, BLOCK, Stop, Worker, put_in_space, take_front};
+use flow_base::{Ask, BLOCK, SHORT_BLOCK, Stop, Worker, put_in_space, take_front};
 use flow_messages::{Ends, Item, Kind, Msg};
 use snesl_data::FaultKind;
 use std::alloc::AllocError;
@@ -75,11 +75,10 @@ fn numbers_left(next: i128, end: i128) -> usize
 
 // Fills so many places with the numbers from `next` on.
 #[inline(always)]
-fn fill(block: &mut [i128; BLOCK], next: i128, end: i128, count: usize)
-    requires within { count ≤ 64 }
+fn fill(block: &mut [i128], next: i128, end: i128, count: usize)
+    requires within { count ≤ length block.old }
     requires below { (next +ℤ pos count) ≤ℤ end }
-    ensures filled { (k : ℕ) → k < count → get_or block.new k (pos 0) ≡ next +ℤ pos k }
-    ensures length { length block.new ≡ 64 }
+    ensures { (k : ℕ) → k < count → get_or block.new k (pos 0) ≡ next +ℤ pos k }
 {
     for place in 0..count {
         block[place] = next + place as i128;
@@ -94,7 +93,7 @@ fn put_numbers<E: Ends>(
     outputs: &[usize],
     ends: &mut E,
     most: usize,
-    block: &mut [i128; BLOCK],
+    block: &mut [i128],
 ) -> usize
     requires two { length outputs.now ≡ 2 }
     requires apart { edge_of outputs.now 0 ≢ edge_of outputs.now 1 }
@@ -110,7 +109,7 @@ fn put_numbers<E: Ends>(
         (E.view ends.new) (2 * result) }
 {
     let (flags, numbers) = (outputs[0], outputs[1]);
-    let left = numbers_left(next, end).min(most / 2);
+    let left = numbers_left(next, end).min(most / 2).min(block.len());
     let count = left.min(ends.space(flags)).min(ends.space(numbers));
     if count == 0 {
         return 0;
@@ -168,6 +167,50 @@ impl Iota {
         ensures { result ≡ number_after number end }
     {
         if number < end { number + 1 } else { end }
+    }
+
+    // Rounds through a block that is lent. Each is a block of flags and numbers, or the flag that ends a segment and the next
+    // integer. How many steps.
+    #[inline(never)]
+    fn rounds<E: Ends>(
+        &mut self,
+        inputs: &[usize],
+        outputs: &[usize],
+        ends: &mut E,
+        most: usize,
+        block: &mut [i128],
+    ) -> usize
+        requires apart { edge_of outputs.now 0 ≢ edge_of outputs.now 1 }
+        requires wired { IsWired inputs.now outputs.now 1 2 (E.view ends.old) }
+        ensures same { E.same ends.old ends.new }
+        ensures ends { SameEnds (E.view ends.old) (E.view ends.new) }
+        ensures within { result ≤ most }
+        ensures went { (at : ℕ) → Went inputs.now outputs.now (behaviour_of iota_machine)
+            (node_state (iota_view self.old) Working at) (E.view ends.old)
+            (node_state (iota_view self.new) Working at) (E.view ends.new) result }
+    {
+        let Iota::Flag { mut next, mut end } = *self else {
+            return 0;
+        };
+        let mut made = 0;
+        while most - made >= 2 {
+            if next < end {
+                let count = put_numbers(next, end, outputs, ends, most - made, block);
+                if count == 0 {
+                    break;
+                }
+                next += count as i128;
+                made += 2 * count;
+            } else {
+                let Some(count) = next_segment(next, end, inputs, outputs, ends) else {
+                    break;
+                };
+                (next, end) = (0, count);
+                made += 2;
+            }
+        }
+        *self = Iota::Flag { next, end };
+        made
     }
 }
 
@@ -251,7 +294,6 @@ impl Worker for Iota {
         matches!(self, Iota::Flag { .. })
     }
 
-    // Each round is a block of flags and numbers, or the flag that ends a segment and the next integer.
     #[inline(always)]
     fn blocks<E: Ends>(
         &mut self,
@@ -260,33 +302,17 @@ impl Worker for Iota {
         ends: &mut E,
         most: usize,
     ) -> usize {
-        let Iota::Flag { mut next, mut end } = *self else {
+        let Iota::Flag { next, end } = *self else {
             return 0;
         };
         // Nothing is shown at the end of a segment, or both blocks go to one edge.
         if outputs[0] == outputs[1] || next >= end && ends.ints(inputs[0]).is_empty() {
             return 0;
         }
-        let mut block = [0i128; BLOCK];
-        let mut made = 0;
-        while most - made >= 2 {
-            if next < end {
-                let count = put_numbers(next, end, outputs, ends, most - made, &mut block);
-                if count == 0 {
-                    break;
-                }
-                next += count as i128;
-                made += 2 * count;
-            } else {
-                let Some(count) = next_segment(next, end, inputs, outputs, ends) else {
-                    break;
-                };
-                (next, end) = (0, count);
-                made += 2;
-            }
+        if most < BLOCK {
+            return self.rounds(inputs, outputs, ends, most, &mut [0; SHORT_BLOCK]);
         }
-        *self = Iota::Flag { next, end };
-        made
+        self.rounds(inputs, outputs, ends, most, &mut [0; BLOCK])
     }
 
     // Each round is two steps: a flag and a number, or the flag that ends a segment and the next integer.

@@ -12,7 +12,7 @@ ghost use Rattle.flow_base.specs.declared.node.Phase.TheVariants.{Working};
 ghost use Rattle.flow_scalar.specs.LengthMachine.{one_more, length_ended, length_counts, length_machine, length_view};
 ghost use Rattle.flow_scalar.specs.LengthBlocks.{LengthsAlong};
 
-use flow_base::{Ask, BLOCK, Stop, Worker, put_in_space, take_front};
+use flow_base::{Ask, BLOCK, SHORT_BLOCK, Stop, Worker, put_in_space, take_front};
 use flow_messages::{Ends, Item, Kind, Msg};
 use snesl_data::{Dialect, FaultKind};
 use std::alloc::AllocError;
@@ -99,10 +99,10 @@ fn lengths_along(
     count: u128,
     flags: &[bool],
     most: usize,
-    lengths: &mut [i128; BLOCK],
+    lengths: &mut [i128],
 ) -> (usize, usize, u128)
     requires range { count + length flags.now ≤ 170141183460469231731687303715884105727 }
-    requires block { most ≤ 64 }
+    requires block { most ≤ length lengths.old }
     ensures flags { result.0 ≤ length flags.now }
     ensures most { result.1 ≤ most }
     ensures along { LengthsAlong count (take result.0 flags.now)
@@ -168,7 +168,7 @@ impl Length {
         outputs: &[usize],
         ends: &mut E,
         most: usize,
-        lengths: &mut [i128; BLOCK],
+        lengths: &mut [i128],
     ) -> usize
         requires wired { IsWired inputs.now outputs.now 1 1 (E.view ends.old) }
         ensures same { E.same ends.old ends.new }
@@ -182,7 +182,7 @@ impl Length {
             return 0;
         };
         let (from, to) = (inputs[0], outputs[0]);
-        let room = ends.space(to).min(most / 2).min(BLOCK);
+        let room = ends.space(to).min(most / 2).min(lengths.len());
         let shown = ends.flags(from);
         let ahead = &shown[..shown.len().min(most - room)];
         // Where no flag can be taken, nothing is counted.
@@ -201,6 +201,34 @@ impl Length {
         ends.put_ints(to, &lengths[..written]);
         self.count = Count::Counting(elements);
         passed + written
+    }
+
+    // Rounds through a block that is lent. Each is a block of flags with the lengths of the segments that end in it. How many steps.
+    #[inline(never)]
+    fn rounds<E: Ends>(
+        &mut self,
+        inputs: &[usize],
+        outputs: &[usize],
+        ends: &mut E,
+        most: usize,
+        lengths: &mut [i128],
+    ) -> usize
+        requires wired { IsWired inputs.now outputs.now 1 1 (E.view ends.old) }
+        ensures same { E.same ends.old ends.new }
+        ensures ends { SameEnds (E.view ends.old) (E.view ends.new) }
+        ensures within { result ≤ most }
+        ensures went { (at : ℕ) → Went inputs.now outputs.now (behaviour_of length_machine)
+            (node_state (length_view self.old) Working at) (E.view ends.old)
+            (node_state (length_view self.new) Working at) (E.view ends.new) result }
+    {
+        let mut made = self.write_due(outputs, ends, most);
+        'rounds: loop {
+            let steps = self.block(inputs, outputs, ends, most - made, lengths);
+            if steps == 0 {
+                return made;
+            }
+            made += steps;
+        }
     }
 }
 
@@ -268,7 +296,6 @@ impl Worker for Length {
         Ok(Item::Int(number))
     }
 
-    // Each round is a block of flags with the lengths of the segments that end in it.
     #[inline(always)]
     fn blocks<E: Ends>(
         &mut self,
@@ -281,15 +308,10 @@ impl Worker for Length {
         if ends.flags(inputs[0]).is_empty() {
             return 0;
         }
-        let mut lengths = [0i128; BLOCK];
-        let mut made = self.write_due(outputs, ends, most);
-        'rounds: loop {
-            let steps = self.block(inputs, outputs, ends, most - made, &mut lengths);
-            if steps == 0 {
-                return made;
-            }
-            made += steps;
+        if most < BLOCK {
+            return self.rounds(inputs, outputs, ends, most, &mut [0; SHORT_BLOCK]);
         }
+        self.rounds(inputs, outputs, ends, most, &mut [0; BLOCK])
     }
 
     // Each round is one step, so it goes on from any state, and within a segment too.

@@ -15,7 +15,7 @@ ghost use Rattle.flow_scalar.specs.ScanAddMachine.{scan_add_move, scan_add_machi
 ghost use Rattle.flow_scalar.specs.ScanAddBlocks.{SumsAlong};
 ghost use Rattle.flow_scalar.specs.declared.scan_add.Stage.TheVariants.{Element};
 
-use flow_base::{Ask, BLOCK, Stop, Worker, put_in_space, take_front};
+use flow_base::{Ask, BLOCK, SHORT_BLOCK, Stop, Worker, put_in_space, take_front};
 use flow_messages::{Ends, Item, Kind, Msg};
 use snesl_data::{Dialect, FaultKind};
 use snesl_operators::sum;
@@ -143,11 +143,11 @@ impl ScanAdd {
         held: (i128, i128),
         flags: &[bool],
         elements: &[i128],
-        sums: &mut [i128; BLOCK],
+        sums: &mut [i128],
     ) -> (usize, usize, Stage)
         requires flag { given_of (scan_add_move self.now.dialect self.now.stage) F ≡
             Ok (Element held.0 held.1) }
-        requires block { length flags.now ≤ 64 }
+        requires block { length flags.now ≤ length sums.old }
         ensures flags { result.0 ≤ length flags.now }
         ensures fewer { result.1 ≤ result.0 }
         ensures elements { result.1 ≤ length elements.now }
@@ -185,7 +185,7 @@ impl ScanAdd {
         outputs: &[usize],
         ends: &mut E,
         most: usize,
-        sums: &mut [i128; BLOCK],
+        sums: &mut [i128],
     ) -> usize
         requires wired { IsWired inputs.now outputs.now 2 1 (E.view ends.old) }
         requires apart { edge_of inputs.now 0 ≢ edge_of inputs.now 1 }
@@ -200,7 +200,7 @@ impl ScanAdd {
             return 0;
         };
         let (flags, elements, to) = (inputs[0], inputs[1], outputs[0]);
-        let room = ends.space(to).min(most / 3).min(BLOCK);
+        let room = ends.space(to).min(most / 3).min(sums.len());
         let shown = ends.flags(flags);
         let ahead = &shown[..shown.len().min(room)];
         // Where no flag can be taken, no element is looked at.
@@ -216,6 +216,35 @@ impl ScanAdd {
         ends.put_ints(to, &sums[..read]);
         self.stage = stage;
         passed + 2 * read
+    }
+
+    // Rounds through a block that is lent. Each is a block of flags with their elements and sums. How many steps.
+    #[inline(never)]
+    fn rounds<E: Ends>(
+        &mut self,
+        inputs: &[usize],
+        outputs: &[usize],
+        ends: &mut E,
+        most: usize,
+        sums: &mut [i128],
+    ) -> usize
+        requires apart { edge_of inputs.now 0 ≢ edge_of inputs.now 1 }
+        requires wired { IsWired inputs.now outputs.now 2 1 (E.view ends.old) }
+        ensures same { E.same ends.old ends.new }
+        ensures ends { SameEnds (E.view ends.old) (E.view ends.new) }
+        ensures within { result ≤ most }
+        ensures went { (at : ℕ) → Went inputs.now outputs.now (behaviour_of scan_add_machine)
+            (node_state (scan_add_view self.old) Working at) (E.view ends.old)
+            (node_state (scan_add_view self.new) Working at) (E.view ends.new) result }
+    {
+        let mut made = 0;
+        'rounds: loop {
+            let steps = self.block(inputs, outputs, ends, most - made, sums);
+            if steps == 0 {
+                return made;
+            }
+            made += steps;
+        }
     }
 }
 
@@ -282,7 +311,6 @@ impl Worker for ScanAdd {
         matches!(self.stage, Stage::Start | Stage::Flag { .. })
     }
 
-    // Each round is a block of flags with their elements and sums.
     #[inline(always)]
     fn blocks<E: Ends>(
         &mut self,
@@ -295,15 +323,10 @@ impl Worker for ScanAdd {
         if inputs[0] == inputs[1] || ends.flags(inputs[0]).is_empty() {
             return 0;
         }
-        let mut sums = [0i128; BLOCK];
-        let mut made = 0;
-        'rounds: loop {
-            let steps = self.block(inputs, outputs, ends, most - made, &mut sums);
-            if steps == 0 {
-                return made;
-            }
-            made += steps;
+        if most < BLOCK {
+            return self.rounds(inputs, outputs, ends, most, &mut [0; SHORT_BLOCK]);
         }
+        self.rounds(inputs, outputs, ends, most, &mut [0; BLOCK])
     }
 
     // A flag of an element is three steps, and one that ends a segment is one.

@@ -13,7 +13,7 @@ ghost use Rattle.flow_scalar.specs.UnaryMachine.{unary_next, unary_machine, unar
 
 use crate::operand::operand_of;
 use crate::scalars::{item_of, kind_of};
-use flow_base::{Ask, BLOCK, Stop, Worker, put_in_space, take_front};
+use flow_base::{Ask, BLOCK, SHORT_BLOCK, Stop, Worker, put_in_space, take_front};
 use flow_messages::{Ends, Item, Kind, Msg};
 use snesl_data::Dialect;
 use snesl_operators::{Scalar, ScalarType, UnaryOperator};
@@ -65,13 +65,13 @@ impl Unary {
 
     // The integers at the first of these operands, as many as there is room for and as do not fault.
     #[inline(always)]
-    fn ints_of(&self, operands: &[i128], room: usize, values: &mut [i128; BLOCK]) -> usize
+    fn ints_of(&self, operands: &[i128], room: usize, values: &mut [i128]) -> usize
         ensures room { result ≤ room }
         ensures operands { result ≤ length operands.now }
-        ensures block { result ≤ 64 }
+        ensures block { result ≤ length values.new }
         ensures values { IntsAt self.now.dialect self.now.operator operands.now values.new result }
     {
-        let whole = operands.len().min(room).min(BLOCK);
+        let whole = operands.len().min(room).min(values.len());
         for at in 0..whole {
             let operand = Scalar::Int(operands[at]);
             let Ok(Scalar::Int(value)) = self.operator.apply(self.dialect, operand) else {
@@ -101,14 +101,15 @@ impl Unary {
         whole
     }
 
-    // Whole rounds over a block of integers, to another.
-    #[inline(always)]
+    // Whole rounds over integers, through a block that is lent.
+    #[inline(never)]
     fn int_blocks<E: Ends>(
         &self,
         inputs: &[usize],
         outputs: &[usize],
         ends: &mut E,
         most: usize,
+        values: &mut [i128],
     ) -> usize
         requires start { self.now.value ≡ None }
         requires wired { IsWired inputs.now outputs.now 1 1 (E.view ends.old) }
@@ -121,7 +122,6 @@ impl Unary {
     {
         let from = inputs[0];
         let to = outputs[0];
-        let mut values = [0i128; BLOCK];
         let mut made = 0;
         'rounds: loop {
             let room = ends.space(to).min((most - made) / 2);
@@ -129,7 +129,7 @@ impl Unary {
             if room == 0 {
                 return made;
             }
-            let count = self.ints_of(ends.ints(from), room, &mut values);
+            let count = self.ints_of(ends.ints(from), room, values);
             if count == 0 {
                 return made;
             }
@@ -258,7 +258,10 @@ impl Worker for Unary {
                 if ends.ints(inputs[0]).is_empty() {
                     return 0;
                 }
-                self.int_blocks(inputs, outputs, ends, most)
+                if most < BLOCK {
+                    return self.int_blocks(inputs, outputs, ends, most, &mut [0; SHORT_BLOCK]);
+                }
+                self.int_blocks(inputs, outputs, ends, most, &mut [0; BLOCK])
             }
             ScalarType::Bool => {
                 if ends.flags(inputs[0]).is_empty() {

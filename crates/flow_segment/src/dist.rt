@@ -11,7 +11,7 @@ ghost use Rattle.flow_base.specs.declared.node.Phase.TheVariants.{Working};
 ghost use Rattle.flow_segment.specs.DistMachine.{dist_machine, dist_view};
 
 use crate::fronts::{flag_in_front, scalar_copy, scalar_in_front};
-use flow_base::{Ask, BLOCK, Stop, Worker, put_in_space, take_front};
+use flow_base::{Ask, BLOCK, SHORT_BLOCK, Stop, Worker, put_in_space, take_front};
 use flow_messages::{Ends, Item, Kind, Msg};
 use snesl_data::FaultKind;
 use std::alloc::{AllocError, Global};
@@ -78,15 +78,10 @@ fn ends_at(flags: &[bool], place: usize) -> bool
 
 // Puts so many copies of an item that is no vector.
 #[inline(always)]
-fn put_copies<E: Ends>(
-    item: &Item,
-    to: usize,
-    count: usize,
-    ends: &mut E,
-    block: &mut [i128; BLOCK],
-)
+fn put_copies<E: Ends>(item: &Item, to: usize, count: usize, ends: &mut E, block: &mut [i128])
     requires scalar { is_of VecKind (cell_of item.now) ≡ false }
     requires block { count ≤ 64 }
+    requires lent { count ≤ length block.old }
     requires writes { (E.view ends.old).writes to ≡ true }
     requires certain { count ≤ (E.view ends.old).room to }
     ensures same { E.same ends.old ends.new }
@@ -191,7 +186,7 @@ impl Dist {
         outputs: &[usize],
         ends: &mut E,
         most: usize,
-        block: &mut [i128; BLOCK],
+        block: &mut [i128],
     ) -> usize
         requires idle { self.old.copies ≡ false }
         requires some { 0 < most }
@@ -211,7 +206,7 @@ impl Dist {
         if Kind::Vec.fits(item) {
             return 0;
         }
-        let room = ends.space(to).min(BLOCK).min(most / 2);
+        let room = ends.space(to).min(BLOCK).min(block.len()).min(most / 2);
         let shown = ends.flags(flags);
         let count = elements_ahead(shown, room);
         // The flag that ends the segment is taken with those of its elements.
@@ -227,6 +222,38 @@ impl Dist {
         ends.skip(flags, count);
         put_copies(item, to, count, ends, block);
         2 * count
+    }
+
+    // Rounds through a block that is lent. Each is an item, or copies of it and the flag that ends its segment. How many steps.
+    #[inline(never)]
+    fn rounds<E: Ends>(
+        &mut self,
+        inputs: &[usize],
+        outputs: &[usize],
+        ends: &mut E,
+        most: usize,
+        block: &mut [i128],
+    ) -> usize
+        requires idle { self.old.copies ≡ false }
+        requires wired { IsWired inputs.now outputs.now 2 1 (E.view ends.old) }
+        ensures same { E.same ends.old ends.new }
+        ensures ends { SameEnds (E.view ends.old) (E.view ends.new) }
+        ensures within { result ≤ most }
+        ensures went { (at : ℕ) → Went inputs.now outputs.now (behaviour_of dist_machine)
+            (node_state (dist_view self.old) Working at) (E.view ends.old)
+            (node_state (dist_view self.new) Working at) (E.view ends.new) result }
+    {
+        let mut made = 0;
+        'rounds: loop {
+            if made == most {
+                return made;
+            }
+            let steps = self.round(inputs, outputs, ends, most - made, block);
+            if steps == 0 {
+                return made;
+            }
+            made += steps;
+        }
     }
 }
 
@@ -305,7 +332,6 @@ impl Worker for Dist {
         !self.copies
     }
 
-    // Each round is an item, or copies of it and the flag that ends its segment.
     #[inline(always)]
     fn blocks<E: Ends>(
         &mut self,
@@ -320,18 +346,10 @@ impl Worker for Dist {
         if let Kind::Vec = self.kind {
             return 0;
         }
-        let mut block = [0i128; BLOCK];
-        let mut made = 0;
-        'rounds: loop {
-            if made == most {
-                return made;
-            }
-            let steps = self.round(inputs, outputs, ends, most - made, &mut block);
-            if steps == 0 {
-                return made;
-            }
-            made += steps;
+        if most < BLOCK {
+            return self.rounds(inputs, outputs, ends, most, &mut [0; SHORT_BLOCK]);
         }
+        self.rounds(inputs, outputs, ends, most, &mut [0; BLOCK])
     }
 
     // A flag of an element is two steps, and an item or a flag that ends a segment is one.

@@ -9,7 +9,7 @@ ghost use Rattle.flow_segment.specs.PackMachine.{kept, trues, pack_machine, pack
 ghost use Rattle.flow_segment.specs.declared.pack.Pair.TheVariants.{Start as StartState};
 
 use crate::fronts::{flag_in_front, scalar_in_front};
-use flow_base::{Ask, BLOCK, Stop, Worker, put_in_space, take_front};
+use flow_base::{Ask, BLOCK, SHORT_BLOCK, Stop, Worker, put_in_space, take_front};
 use flow_messages::{Ends, Item, Kind, Msg};
 use snesl_data::FaultKind;
 use std::alloc::AllocError;
@@ -38,9 +38,9 @@ pub struct Pack {
 
 // Puts the items that are kept side by side, at the front of the block. How many they are.
 #[inline(always)]
-fn keep<T: Copy>(truths: &[bool], items: &[T], block: &mut [T; BLOCK]) -> usize
+fn keep<T: Copy>(truths: &[bool], items: &[T], block: &mut [T]) -> usize
     requires items { length items.now ≡ length truths.now }
-    requires block { length truths.now ≤ 64 }
+    requires block { length truths.now ≤ length block.old }
     ensures within { result ≤ length truths.now }
     ensures kept { take result block.new ≡ kept truths.now items.now }
 {
@@ -88,7 +88,7 @@ impl Pack {
         outputs: &[usize],
         ends: &mut E,
         most: usize,
-        block: &mut [i128; BLOCK],
+        block: &mut [i128],
     ) -> usize
         requires start { self.now.pair ≡ StartState }
         requires apart { edge_of inputs.now 0 ≢ edge_of inputs.now 1 }
@@ -101,7 +101,7 @@ impl Pack {
             (node_state (pack_view self.now) Working at) (E.view ends.new) result }
     {
         let (truths, items, to) = (inputs[0], inputs[1], outputs[0]);
-        let room = ends.space(to).min(BLOCK).min(most / 3);
+        let room = ends.space(to).min(BLOCK).min(block.len()).min(most / 3);
         let shown = ends.flags(truths);
         match self.kind {
             Kind::Int => {
@@ -141,6 +141,36 @@ impl Pack {
                 2 * whole + count
             }
             Kind::Vec => 0,
+        }
+    }
+
+    // Rounds through a block that is lent. Each is the pairs that are shown, as far as the block. How many steps.
+    #[inline(never)]
+    fn rounds<E: Ends>(
+        &self,
+        inputs: &[usize],
+        outputs: &[usize],
+        ends: &mut E,
+        most: usize,
+        block: &mut [i128],
+    ) -> usize
+        requires start { self.now.pair ≡ StartState }
+        requires apart { edge_of inputs.now 0 ≢ edge_of inputs.now 1 }
+        requires wired { IsWired inputs.now outputs.now 2 1 (E.view ends.old) }
+        ensures same { E.same ends.old ends.new }
+        ensures ends { SameEnds (E.view ends.old) (E.view ends.new) }
+        ensures within { result ≤ most }
+        ensures went { (at : ℕ) → Went inputs.now outputs.now (behaviour_of pack_machine)
+            (node_state (pack_view self.now) Working at) (E.view ends.old)
+            (node_state (pack_view self.now) Working at) (E.view ends.new) result }
+    {
+        let mut made = 0;
+        'rounds: loop {
+            let steps = self.round(inputs, outputs, ends, most - made, block);
+            if steps == 0 {
+                return made;
+            }
+            made += steps;
         }
     }
 }
@@ -233,15 +263,10 @@ impl Worker for Pack {
         if inputs[0] == inputs[1] || ends.flags(inputs[0]).is_empty() {
             return 0;
         }
-        let mut block = [0i128; BLOCK];
-        let mut made = 0;
-        'rounds: loop {
-            let steps = self.round(inputs, outputs, ends, most - made, &mut block);
-            if steps == 0 {
-                return made;
-            }
-            made += steps;
+        if most < BLOCK {
+            return self.rounds(inputs, outputs, ends, most, &mut [0; SHORT_BLOCK]);
         }
+        self.rounds(inputs, outputs, ends, most, &mut [0; BLOCK])
     }
 
     // A pair that is kept is three steps, and one that is not is two.

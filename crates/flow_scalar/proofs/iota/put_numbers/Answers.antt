@@ -50,9 +50,9 @@ returns-clause-went g c = λ ins at.
     let u = view c.put_flags.new.self in
     let w = view c.put_ints.new.self in
     let back : to_z w128 (of_z w128 c.args.next) ≡ c.args.next = search rules in
-    let filled : (k : ℕ) → k < n → get_or c.fill.new.block k (pos 0) ≡ c.args.next +ℤ pos k = λ k h. c.fill.ensures.filled k h ∙ ap (λ q. q +ℤ pos k) back in
+    let filled : (k : ℕ) → k < n → get_or c.fill.new.block k (pos 0) ≡ c.args.next +ℤ pos k = λ k h. c.fill.ensures k h ∙ ap (λ q. q +ℤ pos k) back in
     let within : n ≤ 64 = omega (arith, c.numbers_left.ensures.block) in
-    let block : take n c.fill.new.block ≡ numbers_block c.args.next n = filled_block c.args.next n c.fill.new.block (omega (arith, c.fill.ensures.length)) filled in
+    let block : take n c.fill.new.block ≡ numbers_block c.args.next n = filled_block c.args.next n c.fill.new.block (omega arith) filled in
     let flagged = subst (λ bs. PutAll (view c.space-2.new.self) (edge_of outs 0) (flags_said bs) u) (elements_are n 64 within) c.put_flags.ensures.put in
     let numbered = subst (λ ns. PutAll u (edge_of outs 1) (ints_said ns) w) block c.put_ints.ensures.put in
     numbers_went ins outs c.requires.apart (omega (arith, c.requires.two)) at c.args.end n c.args.next fits some a (view c.space-2.new.self) u w looked flagged numbered

@@ -19,7 +19,6 @@ loop-place-preserved-then-not-flags-place c =
     record {
       most = inv.most;
       range = omega (arith, inv.range);
-      long = inv.long;
       along = subst (λ k. LengthsAlong n (take (loop.place + 1) bs) lengths k) one (subst (λ l. LengthsAlong n l lengths (suc loop.elements)) (sym flags) more);
     }
 
@@ -39,6 +38,5 @@ loop-place-preserved c =
     record {
       most = omega (arith, inv.most, c.if-ended-most.false);
       range = omega arith;
-      long = search rules;
       along = subst (λ l. LengthsAlong n l (take (ended + 1) (set loop.lengths ended (to_z w128 elements))) 0) (sym flags) (subst (λ l. LengthsAlong n (take loop.place bs ++ true ∷ []) l 0) (sym lengths) more);
     }

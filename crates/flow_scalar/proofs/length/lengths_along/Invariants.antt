@@ -7,6 +7,5 @@ abbrev pub invariant-loop-place : goal.invariant-loop-place
 invariant-loop-place l = record {
   most : l.ended ≤ l.most;
   range : l.elements ≤ l.fn.count + l.place;
-  long : length l.lengths ≡ 64;
   along : LengthsAlong l.fn.count (take l.place l.flags) (take l.ended l.lengths) l.elements;
 }

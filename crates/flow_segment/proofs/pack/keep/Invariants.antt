@@ -1,4 +1,4 @@
-use Rattle.std.proofs.Common.{◌≡◌, ◌≤◌, length, take}
+use Rattle.std.proofs.Common.{◌≡◌, ◌≤◌, take}
 use Rattle.flow_segment.specs.PackMachine.{kept}
 use Rattle.flow_segment.proofs.pack.keep.Given as goal
 
@@ -6,6 +6,5 @@ use Rattle.flow_segment.proofs.pack.keep.Given as goal
 abbrev pub invariant-loop-at : goal.invariant-loop-at
 invariant-loop-at g l = record {
   within : l.count ≤ l.at;
-  long : length l.block ≡ 64;
   kept : take l.count l.block ≡ kept (take l.at l.truths) (take l.at l.items);
 }

@@ -20,7 +20,6 @@ rounds-init g c =
       same = g.met.E.Ends.same_refl c.args.ends.now;
       ends = same_ends_refl a;
       within = omega arith;
-      long = omega arith;
       went = λ at. went_none (behaviour_of binary_machine) c.args.inputs.now c.args.outputs.now (node_state (binary_view c.args.self.now) Working at) a;
     }
 
@@ -58,7 +57,6 @@ rounds-preserved g c =
       same = E.same_trans c.args.ends.now c.skip-in-rounds.new.self c.put_ints.new.self (E.same_trans c.args.ends.now c.skip.new.self c.skip-in-rounds.new.self (E.same_trans c.args.ends.now c.space.new.self c.skip.new.self (E.same_trans c.args.ends.now c.rounds.ends c.space.new.self inv.same c.space.ensures.same) c.skip.ensures.same) c.skip-in-rounds.ensures.same) c.put_ints.ensures.same;
       ends = same_ends_then a w2 w (same_ends_then a w1 w2 (same_ends_then a u w1 (same_ends_then a v u inv.ends c.space.ensures.looked.ends) c.skip.ensures.taken.ends) c.skip-in-rounds.ensures.taken.ends) c.put_ints.ensures.put.ends;
       within = omega (arith, made.room, c.min-room.ensures);
-      long = omega arith;
       went = λ at.
           let on : Progress → NodeState ((Dialect × BinaryOperator) × Progress) = λ q. node_state ((n.dialect, n.operator), q) Working at in
           let at_start : on Start ≡ on n.progress = ap on (sym c.requires.start) in

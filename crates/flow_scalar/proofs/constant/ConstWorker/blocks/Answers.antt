@@ -28,6 +28,21 @@ returns-in-Int-clause-went g c =
     let at_start : on (Int (to_z w128 (of_z w128 number))) false ≡ on n.scalar n.due = ap (λ k. on (Int k) false) back ∙ ap (λ k. on k false) (sym c.in-Int.is) ∙ ap (on n.scalar) (sym c.if-self.false) in
     subst (λ s. Went ins outs (behaviour_of const_machine) s (view c.args.ends.now) s (view c.ints_for_units.new.ends) c.ints_for_units.result) at_start (c.ints_for_units.ensures.written ins outs reads refl writes refl at)
 
+pub returns-in-Int-2-clause-went : goal.returns-in-Int-2-clause-went
+returns-in-Int-2-clause-went g c =
+    let ins = c.args.inputs.now in
+    let outs = c.args.outputs.now in
+    let view = g.E.Ends.view in
+    let n = c.args.self.now in
+    let number = c.in-Int-2.number in
+    let back : to_z w128 (of_z w128 number) ≡ number = search rules in
+    let reads : 0 < length ins = omega (arith, c.requires.wired.each_input) in
+    let writes : 0 < length outs = omega (arith, c.requires.wired.each_output) in
+    λ at.
+    let on : Scalar → Bool → NodeState (Scalar × Bool) = λ k due. node_state (k, due) Working at in
+    let at_start : on (Int (to_z w128 (of_z w128 number))) false ≡ on n.scalar n.due = ap (λ k. on (Int k) false) back ∙ ap (λ k. on k false) (sym c.in-Int-2.is) ∙ ap (on n.scalar) (sym c.if-self.false) in
+    subst (λ s. Went ins outs (behaviour_of const_machine) s (view c.args.ends.now) s (view c.ints_for_units-in-Int-2.new.ends) c.ints_for_units-in-Int-2.result) at_start (c.ints_for_units-in-Int-2.ensures.written ins outs reads refl writes refl at)
+
 pub returns-in-Bool-clause-went : goal.returns-in-Bool-clause-went
 returns-in-Bool-clause-went g c =
     let ins = c.args.inputs.now in

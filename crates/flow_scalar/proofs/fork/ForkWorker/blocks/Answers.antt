@@ -1,20 +1,12 @@
-use Rattle.std.proofs.Common.{◌≡◌, ℕ, ◌+◌, ◌<◌, ◌*◌, length, refl, sym, ◌∙◌, ap, subst, arith}
-use Rattle.flow_base.specs.Nodes.{NodeState, behaviour_of, node_state}
+use Rattle.std.proofs.Common.{◌≡◌, ℕ, ◌+◌, ◌*◌, length, sym, subst, arith}
+use Rattle.flow_base.specs.Nodes.{behaviour_of, node_state}
 use Rattle.flow_base.specs.Visits.{Went}
 use Rattle.flow_base.specs.declared.node.Phase.TheVariants.{Working}
-use Rattle.flow_base.proofs.Carried.{same_ends_then}
 use Rattle.flow_base.proofs.Kernels.{went_none, went_further}
-use Rattle.flow_scalar.specs.ForkMachine.{ForkPorts, Step, fork_ports, step_of, idle, fork_machine}
-use Rattle.flow_scalar.proofs.Leading.{nothing}
+use Rattle.flow_scalar.specs.ForkMachine.{fork_machine}
 use Rattle.flow_scalar.proofs.ForkBlocks.{fork_view}
 use Rattle.flow_scalar.proofs.fork.ForkWorker.blocks.Goals as goal
-
--- the steps of so many instances, and of more
-instances_more : (steps made count : ℕ) → steps * made + steps * count ≡ steps * (made + count)
-instances_more steps made count = grind arith
-
-instances_none : (steps made count : ℕ) → count ≡ 0 → steps * made + steps * count ≡ steps * made
-instances_none steps made count none = grind (arith, none)
+use Rattle.flow_scalar.proofs.fork.ForkWorker.blocks.Goals.{in-Int, in-Int-2, in_default}
 
 -- it made no step
 pub returns-then-is_some-clause-went : goal.returns-then-is_some-clause-went
@@ -23,67 +15,22 @@ returns-then-is_some-clause-went g c = λ at. went_none (behaviour_of fork_machi
 pub returns-then-not-rise-clause-went : goal.returns-then-not-rise-clause-went
 returns-then-not-rise-clause-went g c = λ at. went_none (behaviour_of fork_machine) c.args.inputs.now c.args.outputs.now (node_state (fork_view c.args.self.now) Working at) (g.E.Ends.view c.args.ends.now)
 
-pub loop-made-init : goal.loop-made-init
-loop-made-init g c =
-    let ins = c.args.inputs.now in
-    let outs = c.args.outputs.now in
-    let view = g.E.Ends.view in
-    let least = c.least_space.ensures in
-    let none : 0 ≡ (length outs + 1) * 0 = omega arith in
-    record {
-      same = least.same;
-      ends = least.ends;
-      within = omega arith;
-      room = λ q lt. omega (arith, least.room q lt, c.min-whole.ensures);
-      went = λ at. let s = node_state (fork_view c.args.self.now) Working at in subst (Went ins outs (behaviour_of fork_machine) s (view c.args.ends.now) s (view c.least_space.new.ends)) none (least.went ins s);
-    }
+none_first : (n : ℕ) → 0 + n ≡ n
+none_first n = omega arith
 
--- nothing is left to copy
-pub returns-then-count-eq0-clause-went : goal.returns-then-count-eq0-clause-went
-returns-then-count-eq0-clause-went g c =
+-- whole instances, after the look for room
+pub returns-clause-went : goal.returns-clause-went
+returns-clause-went g c = λ at.
     let b = behaviour_of fork_machine in
     let ins = c.args.inputs.now in
     let outs = c.args.outputs.now in
     let view = g.E.Ends.view in
-    let n = c.args.self.now in
-    let p : ForkPorts = fork_ports n.kind n.outputs in
-    let v = view c.loop-made.ends in
-    let w = view c.block_to_each-count.new.ends in
-    let count = c.block_to_each-count.result in
-    let reads : 0 < length ins = omega (arith, c.requires.wired.each_input) in
-    let none = nothing n.held (sym c.is_some.ensures ∙ c.if-is_some.false) in
-    λ at.
-    let on : Step → NodeState (ForkPorts × Step) = λ s. node_state (p, s) Working at in
-    let s = node_state (fork_view n) Working at in
-    let at_start : on idle ≡ s = ap (λ o. on (step_of n.outputs n.next o)) (sym none) in
-    let copied = subst (λ k. Went ins outs b k v k w ((length outs + 1) * count)) at_start (c.block_to_each-count.ensures.copied ins reads refl p refl (sym c.requires.wired.each_output) at) in
-    subst (Went ins outs b s (view c.args.ends.now) s w) (instances_none (length outs + 1) c.loop-made.made count c.if-count-eq0.true) (went_further b ins outs (c.loop-made.invariant.went at) copied)
-
-pub loop-made-preserved : goal.loop-made-preserved
-loop-made-preserved g c =
-    let b = behaviour_of fork_machine in
-    let ins = c.args.inputs.now in
-    let outs = c.args.outputs.now in
-    let view = g.E.Ends.view in
-    let n = c.args.self.now in
-    let p : ForkPorts = fork_ports n.kind n.outputs in
     let a = view c.args.ends.now in
-    let v = view c.loop-made.ends in
-    let w = view c.block_to_each-count.new.ends in
-    let count = c.block_to_each-count.result in
-    let block = c.block_to_each-count.ensures in
-    let inv = c.loop-made.invariant in
-    let reads : 0 < length ins = omega (arith, c.requires.wired.each_input) in
-    let none = nothing n.held (sym c.is_some.ensures ∙ c.if-is_some.false) in
-    record {
-      same = g.met.E.Ends.same_trans c.args.ends.now c.loop-made.ends c.block_to_each-count.new.ends inv.same block.same;
-      ends = same_ends_then a v w inv.ends block.ends;
-      within = omega (arith, inv.within, block.within, c.loop-made-test.true);
-      room = λ q lt. omega (arith, inv.room q lt, block.room q lt);
-      went = λ at.
-          let on : Step → NodeState (ForkPorts × Step) = λ s. node_state (p, s) Working at in
-          let s = node_state (fork_view n) Working at in
-          let at_start : on idle ≡ s = ap (λ o. on (step_of n.outputs n.next o)) (sym none) in
-          let copied = subst (λ k. Went ins outs b k v k w ((length outs + 1) * count)) at_start (block.copied ins reads refl p refl (sym c.requires.wired.each_output) at) in
-          subst (Went ins outs b s a s w) (instances_more (length outs + 1) c.loop-made.made count) (went_further b ins outs (inv.went at) copied);
-    }
+    let s = node_state (fork_view c.args.self.now) Working at in
+    let steps = length outs + 1 in
+    let looked = c.least_space.ensures.went ins s in
+    elim c.match-self.branch [
+      | in-Int w ↦ subst (λ e. Went ins outs b s a s (view e) (steps * c.match-self.made)) (sym w.ends-is) (subst (λ m. Went ins outs b s a s (view w.instances-made.new.ends) (steps * m)) (sym w.made-is) (subst (Went ins outs b s a s (view w.instances-made.new.ends)) (none_first (steps * w.instances-made.result)) (went_further b ins outs looked (w.instances-made.ensures.went at))))
+      | in-Int-2 w ↦ subst (λ e. Went ins outs b s a s (view e) (steps * c.match-self.made)) (sym w.ends-is) (subst (λ m. Went ins outs b s a s (view w.instances-made-in-Int-2.new.ends) (steps * m)) (sym w.made-is) (subst (Went ins outs b s a s (view w.instances-made-in-Int-2.new.ends)) (none_first (steps * w.instances-made-in-Int-2.result)) (went_further b ins outs looked (w.instances-made-in-Int-2.ensures.went at))))
+      | in_default w ↦ subst (λ e. Went ins outs b s a s (view e) (steps * c.match-self.made)) (sym w.ends-is) (subst (λ m. Went ins outs b s a s (view w.instances-made-in_default.new.ends) (steps * m)) (sym w.made-is) (subst (Went ins outs b s a s (view w.instances-made-in_default.new.ends)) (none_first (steps * w.instances-made-in_default.result)) (went_further b ins outs looked (w.instances-made-in_default.ensures.went at))))
+    ]

@@ -19,7 +19,6 @@ loop-place-preserved-then-flags-place c =
     record {
       fewer = omega (arith, inv.fewer);
       shown = inv.shown;
-      long = search rules;
       held = refl;
       along = subst (λ l. SumsAlong d c.args.self.now.stage l xs sums Start) (sym flags) (end_more d c.args.self.now.stage loop.stage (take loop.place bs) xs sums inv.along (awaits d loop.stage (to_z w128 loop.before-bits) (to_z w128 loop.last-bits) inv.held));
     }
@@ -51,7 +50,6 @@ loop-place-preserved c =
     record {
       fewer = omega (arith, inv.fewer);
       shown = omega (arith, inv.shown, c.if-read-elements.false);
-      long = search rules;
       held = refl;
       along = subst (λ n. SumsAlong d s (take (place + 1) bs) (take (read + 1) xs) (take (read + 1) (set loop.sums read sum)) (Flag sum n)) (sym last_is) in_flags;
     }

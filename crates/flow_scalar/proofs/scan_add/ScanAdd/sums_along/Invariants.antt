@@ -11,7 +11,6 @@ abbrev pub invariant-loop-place : goal.invariant-loop-place
 invariant-loop-place l = record {
   fewer : l.read ≤ l.place;
   shown : l.read ≤ length l.elements;
-  long : length l.sums ≡ 64;
   held : given_of (scan_add_move l.self.dialect l.stage) F ≡ Ok (Element l.before l.last);
   along : SumsAlong l.self.dialect l.self.stage (take l.place l.flags) (take l.read l.elements) (take l.read l.sums) l.stage;
 }

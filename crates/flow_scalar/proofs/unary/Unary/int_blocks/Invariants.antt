@@ -12,7 +12,6 @@ invariant-rounds g l = let view = g.E.Ends.view in record {
   same : g.E.Ends.same l.fn.ends l.ends;
   ends : SameEnds (view l.fn.ends) (view l.ends);
   within : l.made ≤ l.most;
-  long : length l.values ≡ 64;
   went : (at : ℕ) → Went l.fn.inputs l.fn.outputs (behaviour_of unary_machine) (node_state (unary_view l.fn.self) Working at) (view l.fn.ends) (node_state (unary_view l.fn.self) Working at) (view l.ends) l.made;
 }
 

@@ -4,7 +4,7 @@ use Rattle.flow_base.specs.Nodes.{behaviour_of, node_state}
 use Rattle.flow_base.specs.Visits.{Went}
 use Rattle.flow_base.specs.declared.node.Phase.TheVariants.{Working}
 use Rattle.flow_scalar.specs.LengthMachine.{length_machine, length_view}
-use Rattle.flow_scalar.proofs.length.LengthWorker.blocks.Given as goal
+use Rattle.flow_scalar.proofs.length.Length.rounds.Given as goal
 
 -- the steps so far
 abbrev pub invariant-rounds : goal.invariant-rounds

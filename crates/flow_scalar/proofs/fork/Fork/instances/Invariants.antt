@@ -5,7 +5,7 @@ use Rattle.flow_base.specs.Visits.{edge_of, Went}
 use Rattle.flow_base.specs.declared.node.Phase.TheVariants.{Working}
 use Rattle.flow_scalar.specs.ForkMachine.{fork_machine}
 use Rattle.flow_scalar.proofs.ForkBlocks.{fork_view}
-use Rattle.flow_scalar.proofs.fork.ForkWorker.blocks.Given as goal
+use Rattle.flow_scalar.proofs.fork.Fork.instances.Given as goal
 
 -- the instances so far
 abbrev pub invariant-loop-made : goal.invariant-loop-made
@@ -13,8 +13,8 @@ invariant-loop-made g l = let view = g.E.Ends.view in record {
   same : g.E.Ends.same l.fn.ends l.ends;
   ends : SameEnds (view l.fn.ends) (view l.ends);
   within : l.made ≤ l.whole;
-  room : (q : ℕ) → q < length l.fn.outputs → l.whole ≤ (view l.ends).room (edge_of l.fn.outputs q) + l.made;
-  went : (at : ℕ) → Went l.fn.inputs l.fn.outputs (behaviour_of fork_machine) (node_state (fork_view l.fn.self) Working at) (view l.fn.ends) (node_state (fork_view l.fn.self) Working at) (view l.ends) (l.steps * l.made);
+  room : (q : ℕ) → q < length l.outputs → l.whole ≤ (view l.ends).room (edge_of l.outputs q) + l.made;
+  went : (at : ℕ) → Went l.inputs l.outputs (behaviour_of fork_machine) (node_state (fork_view l.self) Working at) (view l.fn.ends) (node_state (fork_view l.self) Working at) (view l.ends) ((length l.outputs + 1) * l.made);
 }
 
 abbrev pub decreases-loop-made : goal.decreases-loop-made

@@ -5,7 +5,7 @@ use Rattle.flow_base.specs.Visits.{Went}
 use Rattle.flow_base.specs.declared.node.Phase.TheVariants.{Working}
 use Rattle.flow_scalar.specs.declared.iota.Iota.TheVariants.{Flag}
 use Rattle.flow_scalar.specs.IotaMachine.{iota_machine, iota_view}
-use Rattle.flow_scalar.proofs.iota.IotaWorker.blocks.Given as goal
+use Rattle.flow_scalar.proofs.iota.Iota.rounds.Given as goal
 
 -- the steps so far
 abbrev pub invariant-loop-made : goal.invariant-loop-made

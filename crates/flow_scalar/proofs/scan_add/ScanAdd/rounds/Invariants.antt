@@ -4,7 +4,7 @@ use Rattle.flow_base.specs.Nodes.{behaviour_of, node_state}
 use Rattle.flow_base.specs.Visits.{Went}
 use Rattle.flow_base.specs.declared.node.Phase.TheVariants.{Working}
 use Rattle.flow_scalar.specs.ScanAddMachine.{scan_add_machine, scan_add_view}
-use Rattle.flow_scalar.proofs.scan_add.ScanAddWorker.blocks.Given as goal
+use Rattle.flow_scalar.proofs.scan_add.ScanAdd.rounds.Given as goal
 
 -- the steps so far
 abbrev pub invariant-rounds : goal.invariant-rounds
