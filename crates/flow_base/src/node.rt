@@ -267,9 +267,8 @@ impl<W: Worker> Node<W> {
         Ok(first)
     }
 
-    // The same in long visits, over slices alone in shorter ones, and nothing in short ones. How many steps it made. It stands
-    // alone, so that the loop of single steps keeps its values in registers.
-    #[inline(never)]
+    // The same in long visits, over slices alone in shorter ones, and nothing in short ones. How many steps it made.
+    #[inline(always)]
     fn many<E: Ends>(
         &mut self,
         inputs: &[usize],
@@ -304,36 +303,7 @@ impl<W: Worker> Node<W> {
         self.whole_blocks(inputs, outputs, ends, chunk)
     }
 
-    // The same where the visit before found many messages. Else this one hardly does. How many steps it made.
-    #[inline(always)]
-    fn whole<E: Ends>(
-        &mut self,
-        inputs: &[usize],
-        outputs: &[usize],
-        ends: &mut E,
-        chunk: usize,
-    ) -> Result<usize, AllocError>
-        requires works { self.old.phase ≡ Working }
-        requires placed { IsPlaced ⟦<Node<W> as Transducer>⟧.behaviour inputs.now outputs.now
-            (⟦<Node<W> as Transducer>⟧.state self.old) (E.view ends.old) }
-        ensures same { E.same ends.old ends.new }
-        ensures ends { SameEnds (E.view ends.old) (E.view ends.new) }
-        ensures within { IfOk result (λ made. made ≤ chunk) }
-        ensures went { IfOk result (λ made. WentOn inputs.now outputs.now
-            ⟦<Node<W> as Transducer>⟧.behaviour (⟦<Node<W> as Transducer>⟧.state self.old)
-            (E.view ends.old) (⟦<Node<W> as Transducer>⟧.state self.new) (E.view ends.new)
-            (nat_lt 0 made)) }
-        ensures broke { OnErr result (BrokeOff inputs.now outputs.now
-            ⟦<Node<W> as Transducer>⟧.behaviour (⟦<Node<W> as Transducer>⟧.state self.old)
-            (E.view ends.old) (⟦<Node<W> as Transducer>⟧.state self.new) (E.view ends.new)) }
-    {
-        if !self.is_busy {
-            return Ok(0);
-        }
-        self.many(inputs, outputs, ends, chunk)
-    }
-
-    // Steps while it works, at most `chunk`: whole instances first, and then one step after another. How many it made.
+    // Single steps while it works, at most `chunk`. How many it made.
     #[inline(always)]
     fn work<E: Ends>(
         &mut self,
@@ -357,15 +327,7 @@ impl<W: Worker> Node<W> {
             ⟦<Node<W> as Transducer>⟧.behaviour (⟦<Node<W> as Transducer>⟧.state self.old)
             (E.view ends.old) (⟦<Node<W> as Transducer>⟧.state self.new) (E.view ends.new)) }
     {
-        let whole = self.whole(inputs, outputs, ends, chunk)?;
-        // The steps that are left would open an instance, or find nothing.
-        if whole > 0 {
-            return Ok(whole);
-        }
-        if !matches!(self.phase, Phase::Working) {
-            return Ok(whole);
-        }
-        for made in whole..chunk {
+        for made in 0..chunk {
             match self.want_on() {
                 Want::Read(port) => {
                     prove!(port < inputs.len());
@@ -421,6 +383,73 @@ impl<W: Worker> Node<W> {
             moved = true;
         }
         Ok(moved)
+    }
+
+    // A visit by single steps: in a loop while it works, and then in any phase.
+    #[inline(never)]
+    fn visit_by_steps<E: Ends>(
+        &mut self,
+        inputs: &[usize],
+        outputs: &[usize],
+        ends: &mut E,
+        chunk: usize,
+    ) -> Result<bool, AllocError>
+        requires some { 0 < chunk }
+        requires placed { IsPlaced ⟦<Node<W> as Transducer>⟧.behaviour inputs.now outputs.now
+            (⟦<Node<W> as Transducer>⟧.state self.old) (E.view ends.old) }
+        ensures same { E.same ends.old ends.new }
+        ensures ends { SameEnds (E.view ends.old) (E.view ends.new) }
+        ensures visited { IfOk result (λ any. Visited inputs.now outputs.now
+            ⟦<Node<W> as Transducer>⟧.behaviour (⟦<Node<W> as Transducer>⟧.state self.old)
+            (E.view ends.old) (⟦<Node<W> as Transducer>⟧.state self.new) (E.view ends.new) any) }
+        ensures broke { OnErr result (BrokeOff inputs.now outputs.now
+            ⟦<Node<W> as Transducer>⟧.behaviour (⟦<Node<W> as Transducer>⟧.state self.old)
+            (E.view ends.old) (⟦<Node<W> as Transducer>⟧.state self.new) (E.view ends.new)) }
+    {
+        if !matches!(self.phase, Phase::Working) {
+            return self.close(inputs, outputs, ends, chunk);
+        }
+        let made = self.work(inputs, outputs, ends, chunk)?;
+        self.is_busy = made >= LEAST_WHEN_BUSY;
+        if made == chunk || matches!(self.phase, Phase::Working) {
+            return Ok(made > 0);
+        }
+        // It has made the step that ended its work.
+        self.close(inputs, outputs, ends, chunk - made)?;
+        Ok(true)
+    }
+
+    // A visit over slices, if a step can be made so, and else by single steps.
+    #[inline(never)]
+    fn visit_over_slices<E: Ends>(
+        &mut self,
+        inputs: &[usize],
+        outputs: &[usize],
+        ends: &mut E,
+        chunk: usize,
+    ) -> Result<bool, AllocError>
+        requires some { 0 < chunk }
+        requires placed { IsPlaced ⟦<Node<W> as Transducer>⟧.behaviour inputs.now outputs.now
+            (⟦<Node<W> as Transducer>⟧.state self.old) (E.view ends.old) }
+        ensures same { E.same ends.old ends.new }
+        ensures ends { SameEnds (E.view ends.old) (E.view ends.new) }
+        ensures visited { IfOk result (λ any. Visited inputs.now outputs.now
+            ⟦<Node<W> as Transducer>⟧.behaviour (⟦<Node<W> as Transducer>⟧.state self.old)
+            (E.view ends.old) (⟦<Node<W> as Transducer>⟧.state self.new) (E.view ends.new) any) }
+        ensures broke { OnErr result (BrokeOff inputs.now outputs.now
+            ⟦<Node<W> as Transducer>⟧.behaviour (⟦<Node<W> as Transducer>⟧.state self.old)
+            (E.view ends.old) (⟦<Node<W> as Transducer>⟧.state self.new) (E.view ends.new)) }
+    {
+        if !matches!(self.phase, Phase::Working) {
+            return self.close(inputs, outputs, ends, chunk);
+        }
+        let whole = self.many(inputs, outputs, ends, chunk)?;
+        if whole == 0 {
+            return self.visit_by_steps(inputs, outputs, ends, chunk);
+        }
+        // The steps that are left would open an instance, or find nothing.
+        self.is_busy = whole >= LEAST_WHEN_BUSY;
+        Ok(true)
     }
 }
 
@@ -500,8 +529,8 @@ impl<W: Worker> Transducer for Node<W> {
         Ok(Msg::Item(item))
     }
 
-    // First in a loop while it works, and then step by step.
-    #[inline(never)]
+    // Over slices where the visit before found many messages; else this one hardly does.
+    #[inline(always)]
     fn run<E: Ends>(
         &mut self,
         inputs: &[usize],
@@ -509,16 +538,9 @@ impl<W: Worker> Transducer for Node<W> {
         ends: &mut E,
         chunk: usize,
     ) -> Result<bool, AllocError> {
-        if !matches!(self.phase, Phase::Working) {
-            return self.close(inputs, outputs, ends, chunk);
+        if self.is_busy {
+            return self.visit_over_slices(inputs, outputs, ends, chunk);
         }
-        let made = self.work(inputs, outputs, ends, chunk)?;
-        self.is_busy = made >= LEAST_WHEN_BUSY;
-        if made == chunk || matches!(self.phase, Phase::Working) {
-            return Ok(made > 0);
-        }
-        // It has made the step that ended its work.
-        self.close(inputs, outputs, ends, chunk - made)?;
-        Ok(true)
+        self.visit_by_steps(inputs, outputs, ends, chunk)
     }
 }

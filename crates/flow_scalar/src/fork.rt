@@ -1,6 +1,6 @@
 // Copies of each item.
 
-ghost use Rattle.std.specs.Prelude.{◌*◌, suc, ◌≡◌, ◌≢◌, ◌+◌, ◌<◌, ◌≤◌, ℕ, true, false, Ok, List, [], ◌∷◌, length, IfSome};
+ghost use Rattle.std.specs.Prelude.{◌*◌, ◌^◌, suc, ◌≡◌, ◌≢◌, ◌+◌, ◌<◌, ◌≤◌, ℕ, true, false, Ok, List, [], ◌∷◌, length, IfSome};
 ghost use mathlib.Core.List.{IsPrefix};
 ghost use Rattle.std.specs.List.{All};
 ghost use Rattle.flow_messages.specs.Cells.{cell_of, is_of};
@@ -226,6 +226,18 @@ fn rise(edges: &[usize]) -> bool
         }
     }
     true
+}
+
+// How many instances make at most so many steps. Most forks have two outputs, and a division by a number that is known takes less.
+#[inline(always)]
+fn instances_within(most: usize, outputs: usize) -> usize
+    requires { outputs < 2 ^ 63 }
+    ensures { (outputs + 1) * result ≤ most }
+{
+    if outputs == 2 {
+        return most / 3;
+    }
+    most / (outputs + 1)
 }
 
 // How many messages each of the outputs has room for. To look for room is no step.
@@ -626,7 +638,7 @@ impl Worker for Fork {
         }
         // An instance is a step for each output and one more.
         let steps = outputs.len() + 1;
-        let whole = least_space(ends, outputs).min(most / steps);
+        let whole = least_space(ends, outputs).min(instances_within(most, outputs.len()));
         let made = match self.kind {
             Kind::Int if most < BLOCK => {
                 self.instances(inputs, outputs, ends, whole, &mut [], &mut [0; SHORT_BLOCK])

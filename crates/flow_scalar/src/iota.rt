@@ -201,6 +201,10 @@ impl Iota {
                 }
                 next += count as i128;
                 made += 2 * count;
+                // The room or the steps are used up.
+                if count < block.len() && next < end {
+                    break;
+                }
             } else {
                 let Some(count) = next_segment(next, end, inputs, outputs, ends) else {
                     break;

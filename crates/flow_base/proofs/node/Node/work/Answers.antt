@@ -8,10 +8,9 @@ use Rattle.flow_base.specs.Nodes.{node_state, want_in, told_in, after_in, memory
 use Rattle.flow_base.specs.Members.{node_of}
 use Rattle.flow_base.specs.Visits.{edge_of, IsStuck, Visited}
 use Rattle.flow_base.proofs.Carried.{same_ends_then}
-use Rattle.flow_base.proofs.Visits.{Made, input_there, output_there, reads_at, made_read, made_put, made_looked, made_room, visited, moved, broke_off, broke_reading, starves_err, no_room, on_err}
+use Rattle.flow_base.proofs.Visits.{Made, input_there, output_there, reads_at, made_none, made_read, made_put, made_looked, made_room, visited, broke_off, broke_reading, starves_err, no_room, on_err}
 use Rattle.flow_base.specs.declared.node.Phase.TheVariants.{Working}
-use Rattle.flow_base.proofs.Kernels.{made_went}
-use Rattle.flow_base.proofs.node.Node.work.Goals.{in-Working, in_default, in-Read+else-prove+in-Some+in_ok-read_on-in-Read+else-not-branch, in-Write+else-prove-2+else-not-room+in_ok-item-in-Write+in-Err+in-Item+in-Vec-1, in-Write+else-prove-2+else-not-room+in_ok-item-in-Write+in-Err+in-Item+in-Unit-1, in-Write+else-prove-2+else-not-room+in_ok-item-in-Write+in-Err+in-End-1, in-Write+else-prove-2+else-not-room+in_ok-item-in-Write+in-Ok-1}
+use Rattle.flow_base.proofs.node.Node.work.Goals.{in-Read+else-prove+in-Some+in_ok-read_on-in-Read+else-not-branch, in-Write+else-prove-2+else-not-room+in_ok-item-in-Write+in-Err+in-Item+in-Vec-1, in-Write+else-prove-2+else-not-room+in_ok-item-in-Write+in-Err+in-Item+in-Unit-1, in-Write+else-prove-2+else-not-room+in_ok-item-in-Write+in-Err+in-End-1, in-Write+else-prove-2+else-not-room+in_ok-item-in-Write+in-Ok-1}
 use Rattle.flow_base.proofs.node.Node.work.Goals as goal
 
 stepped : (n : ℕ) → true ≡ nat_lt 0 (n + 1)
@@ -52,8 +51,8 @@ take-requires g c =
     let made = c.loop-made.invariant.made in
     reads_at laws placed made c.in-Read.port c.if-prove.false
 
-pub returns-in_default-take-clause-visited : goal.returns-in_default-take-clause-visited
-returns-in_default-take-clause-visited g c =
+pub returns-in_default-clause-visited : goal.returns-in_default-clause-visited
+returns-in_default-clause-visited g c =
     let m = g.W.Worker.machine in
     let node = node_of g.W.Worker.state m g.met.W.Worker.laws in
     let b = node.behaviour in
@@ -67,8 +66,8 @@ returns-in_default-take-clause-visited g c =
     let works = c.loop-made.invariant.works in
     let wants : b.process.want t ≡ Read c.in-Read.port = ap (λ p. want_in m p t) works ∙ sym c.want_on.ensures ∙ c.in-Read.is in
     let u = view c.take.new.self in
-    let looked = made_looked laws placed made c.in-Read.port u wants c.in_default-take.ensures.none.0 in
-    visited laws placed looked (λ h. subst (IsStuck ins outs u) (sym wants) c.in_default-take.ensures.none.1)
+    let looked = made_looked laws placed made c.in-Read.port u wants c.in_default.ensures.none.0 in
+    visited laws placed looked (λ h. subst (IsStuck ins outs u) (sym wants) c.in_default.ensures.none.1)
 
 pub returns-then-not-room-clause-visited : goal.returns-then-not-room-clause-visited
 returns-then-not-room-clause-visited g c =
@@ -118,7 +117,7 @@ returns-in_err-read_on-in-Read-clause-broke g c =
     let made = c.loop-made.invariant.made in
     let works = c.loop-made.invariant.works in
     let starves : b.takes_memory t ≡ true = ap (λ p. memory_in m p t) works ∙ starves_err (m.takes_memory t.worker.1) c.read_on.result c.in_err-read_on-in-Read.field-0.0 c.in_err-read_on-in-Read.was c.read_on.ensures.sure in
-    on_err c.from_residual-in_err-read_on-in-Read.result (broke_reading laws placed made c.in-Read.port (signal_of c.in-Some.message) (node.state c.read_on.new.self) (view c.take.new.self) (ap (λ p. want_in m p t) works ∙ sym c.want_on.ensures ∙ c.in-Read.is) c.in-Some.ensures.some c.in_err-read_on-in-Read.ensures.err starves)
+    on_err c.from_residual.result (broke_reading laws placed made c.in-Read.port (signal_of c.in-Some.message) (node.state c.read_on.new.self) (view c.take.new.self) (ap (λ p. want_in m p t) works ∙ sym c.want_on.ensures ∙ c.in-Read.is) c.in-Some.ensures.some c.in_err-read_on-in-Read.ensures.err starves)
 
 pub returns-in_err-item-in-Write-clause-broke : goal.returns-in_err-item-in-Write-clause-broke
 returns-in_err-item-in-Write-clause-broke g c =
@@ -204,30 +203,20 @@ loop-made-preserved g c =
           })
     ]
 
--- the instances that were made whole
 pub loop-made-init : goal.loop-made-init
 loop-made-init g c =
     let node = node_of g.W.Worker.state g.W.Worker.machine g.met.W.Worker.laws in
     record {
-      same = c.whole.ensures.same;
-      works = elim c.match-matches.branch [ in-Working w ↦ w.in-Working.is | in_default w ↦ absurd (cc (w.matches-is, c.if-not-matches.false)) ];
-      made = made_went c.in_ok-whole.ensures.went node.laws c.requires.placed c.whole.ensures.ends;
+      same = g.met.E.Ends.same_refl c.args.ends.now;
+      works = c.requires.works;
+      made = made_none node.laws c.requires.placed;
     }
 
-pub returns-then-not-matches-clause-visited : goal.returns-then-not-matches-clause-visited
-returns-then-not-matches-clause-visited g c =
-    let node = node_of g.W.Worker.state g.W.Worker.machine g.met.W.Worker.laws in
-    let placed = c.requires.placed in
-    let made = made_went c.in_ok-whole.ensures.went node.laws placed c.whole.ensures.ends in
-    let stopped : c.whole.new.self.phase ≡ Working → ⊥ = λ on. elim c.match-matches.branch [ in-Working w ↦ absurd (cc (w.matches-is, c.if-not-matches.true)) | in_default w ↦ w.in_default.not-Working on ] in
-    let some : nat_lt 0 c.in_ok-whole.whole ≡ true = moved node.laws placed made (λ same. stopped (sym (ap (λ n. n.phase) same) ∙ c.requires.works)) in
-    visited node.laws placed made (λ h. absurd (let no : true ≡ false = sym some ∙ h in cc))
+pub returns-in_default-clause-same : goal.returns-in_default-clause-same
+returns-in_default-clause-same g c = g.met.E.Ends.same_trans c.args.ends.now c.loop-made.ends c.take.new.self c.loop-made.invariant.same c.take.ensures.same
 
-pub returns-in_default-take-clause-same : goal.returns-in_default-take-clause-same
-returns-in_default-take-clause-same g c = g.met.E.Ends.same_trans c.args.ends.now c.loop-made.ends c.take.new.self c.loop-made.invariant.same c.take.ensures.same
-
-pub returns-in_default-take-clause-ends : goal.returns-in_default-take-clause-ends
-returns-in_default-take-clause-ends g c = let view = g.E.Ends.view in same_ends_then (view c.args.ends.now) (view c.loop-made.ends) (view c.take.new.self) c.loop-made.invariant.made.ends c.in_default-take.ensures.none.0.ends
+pub returns-in_default-clause-ends : goal.returns-in_default-clause-ends
+returns-in_default-clause-ends g c = let view = g.E.Ends.view in same_ends_then (view c.args.ends.now) (view c.loop-made.ends) (view c.take.new.self) c.loop-made.invariant.made.ends c.in_default.ensures.none.0.ends
 
 pub returns-in_err-read_on-in-Read-clause-same : goal.returns-in_err-read_on-in-Read-clause-same
 returns-in_err-read_on-in-Read-clause-same g c = g.met.E.Ends.same_trans c.args.ends.now c.loop-made.ends c.take.new.self c.loop-made.invariant.same c.take.ensures.same

@@ -37,8 +37,8 @@ loop-made-init g c =
       went = λ at. let s = node_state (iota_view c.args.self.now) Working at in subst (λ k. Went ins outs b s a k a 0) (ap (on at) (c.in-Flag.is ∙ sym (flag_of_both first end))) (went_none b ins outs s a);
     }
 
-pub loop-made-preserved-then-next-end : goal.loop-made-preserved-then-next-end
-loop-made-preserved-then-next-end g c =
+pub loop-made-preserved-else-count-block : goal.loop-made-preserved-else-count-block
+loop-made-preserved-else-count-block g c =
     let b = behaviour_of iota_machine in
     let ins = c.args.inputs.now in
     let outs = c.args.outputs.now in
@@ -59,6 +59,25 @@ loop-made-preserved-then-next-end g c =
       within = omega (arith, inv.within, put.ensures.within);
       went = λ at. let s = node_state (iota_view c.args.self.now) Working at in subst (λ k. Went ins outs b s a (on at (Flag k end)) (view put.new.ends) (c.loop-made.made + 2 * put.result)) (sym after) (went_further b ins outs (inv.went at) (put.ensures.went ins at));
     }
+
+pub returns-then-next-end-2-clause-went : goal.returns-then-next-end-2-clause-went
+returns-then-next-end-2-clause-went g c = λ at.
+    let b = behaviour_of iota_machine in
+    let ins = c.args.inputs.now in
+    let outs = c.args.outputs.now in
+    let view = g.E.Ends.view in
+    let a = view c.args.ends.now in
+    let inv = c.loop-made.invariant in
+    let put = c.put_numbers-count in
+    let next = to_z w128 c.loop-made.next-bits in
+    let end = to_z w128 c.loop-made.end-bits in
+    let some : 0 < put.result = omega arith in
+    let below = put.ensures.below some in
+    let small : to_z w128 put.result ≡ pos put.result = search rules in
+    let back : to_z w128 (of_z w128 (next +ℤ to_z w128 put.result)) ≡ next +ℤ to_z w128 put.result = search rules in
+    let after : to_z w128 (of_z w128 (next +ℤ to_z w128 put.result)) ≡ next +ℤ pos put.result = back ∙ ap (λ k. next +ℤ k) small in
+    let s = node_state (iota_view c.args.self.now) Working at in
+    subst (λ k. Went ins outs b s a (on at (Flag k end)) (view put.new.ends) (c.loop-made.made + 2 * put.result)) (sym after) (went_further b ins outs (inv.went at) (put.ensures.went ins at))
 
 pub loop-made-preserved : goal.loop-made-preserved
 loop-made-preserved g c =

@@ -5,8 +5,8 @@ use Rattle.flow_base.specs.Members.{node_of}
 use Rattle.flow_base.specs.Visits.{Visited}
 use Rattle.flow_base.proofs.Carried.{same_ends_then}
 use Rattle.flow_base.proofs.Visits.{made_first, placed_on, visited_on, broke_on, moved, on_err}
-use Rattle.flow_base.proofs.node.NodeTransducer.run.Goals.{in-Working, in_default, in-Working-matches, in_default-matches}
-use Rattle.flow_base.proofs.node.NodeTransducer.run.Goals as goal
+use Rattle.flow_base.proofs.node.Node.visit_by_steps.Goals.{in-Working, in_default, in-Working-matches, in_default-matches}
+use Rattle.flow_base.proofs.node.Node.visit_by_steps.Goals as goal
 
 pub close-requires-2-clause-placed : goal.close-requires-2-clause-placed
 close-requires-2-clause-placed g c =
