@@ -1,3 +1,5 @@
 pub mod Lists
+pub mod Flats
+pub mod PutsAll
 pub mod RingLines
 pub mod Meetings

@@ -1,10 +1,11 @@
 -- What a contract sees of the two ends of an edge.
-use Rattle.std.specs.Prelude.{ℕ, List}
-use Rattle.rtrb.specs.Ring as ring
+use Rattle.std.specs.Prelude.{ℕ, Bool, true, false, List, Option, Some, None}
+use Rattle.flow_messages.specs.declared.message.Kind.{Kind}
 use Rattle.flow_messages.specs.declared.message.Msg.{Msg}
 use Rattle.flow_rings.specs.declared.ring.EdgeWriter.{EdgeWriter}
 use Rattle.flow_rings.specs.declared.ring.EdgeReader.{EdgeReader}
 use Rattle.flow_rings.specs.declared.ring.FinishedMark.{FinishedMark}
+use Rattle.flow_rings.specs.Ring as ring
 
 -- every message put so far, the oldest first
 abbrev pub sent : EdgeWriter → List Msg
@@ -25,6 +26,24 @@ certain_held r = ring.known_items r.ring
 -- how many messages the edge of this writer holds at most
 abbrev pub edge_capacity : EdgeWriter → ℕ
 edge_capacity w = ring.producer_capacity w.ring
+
+-- the kind of the items that this writer may put, or none where each may be put
+abbrev pub kind_of : EdgeWriter → Option Kind
+kind_of w = ring.writer_kind w.ring
+
+-- the kind of the items that this reader takes, or none where they may be of any
+abbrev pub reader_kind : EdgeReader → Option Kind
+reader_kind r = ring.reader_kind r.ring
+
+-- whether it is no kind
+abbrev pub is_any : Option Kind → Bool
+is_any None = true
+is_any (Some k) = false
+
+-- whether the writer, where it is there, may put items of every kind
+abbrev pub puts_all : Option EdgeWriter → Bool
+puts_all None = true
+puts_all (Some w) = is_any (kind_of w)
 
 -- the two are the ends of one edge
 abbrev pub IsEdge : EdgeWriter → EdgeReader → Type 0

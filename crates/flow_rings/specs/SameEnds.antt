@@ -8,11 +8,11 @@ use Rattle.flow_rings.specs.Rings.{SameWriters, SameReaders, SameRings, writer_a
 
 pub same_writers_refl : (w : Option EdgeWriter) → SameWriters w w
 same_writers_refl None = tt
-same_writers_refl (Some w) = ((refl, refl, refl, refl), refl)
+same_writers_refl (Some w) = (refl, refl)
 
 pub same_readers_refl : (r : Option EdgeReader) → SameReaders r r
 same_readers_refl None = tt
-same_readers_refl (Some r) = ((refl, refl, refl, refl), refl)
+same_readers_refl (Some r) = (refl, refl)
 
 pub same_writers_trans : (a b c : Option EdgeWriter) → SameWriters a b → SameWriters b c → SameWriters a c
 same_writers_trans None None None p q = tt
@@ -20,7 +20,7 @@ same_writers_trans None None (Some c) p q = absurd q
 same_writers_trans None (Some b) c p q = absurd p
 same_writers_trans (Some a) None c p q = absurd p
 same_writers_trans (Some a) (Some b) None p q = absurd q
-same_writers_trans (Some a) (Some b) (Some c) p q = ((q.0.0 ∙ p.0.0, q.0.1 ∙ p.0.1, q.0.2 ∙ p.0.2, q.0.3 ∙ p.0.3), q.1 ∙ p.1)
+same_writers_trans (Some a) (Some b) (Some c) p q = (q.0 ∙ p.0, q.1 ∙ p.1)
 
 pub same_readers_trans : (a b c : Option EdgeReader) → SameReaders a b → SameReaders b c → SameReaders a c
 same_readers_trans None None None p q = tt
@@ -28,7 +28,7 @@ same_readers_trans None None (Some c) p q = absurd q
 same_readers_trans None (Some b) c p q = absurd p
 same_readers_trans (Some a) None c p q = absurd p
 same_readers_trans (Some a) (Some b) None p q = absurd q
-same_readers_trans (Some a) (Some b) (Some c) p q = ((q.0.0 ∙ p.0.0, q.0.1 ∙ p.0.1, q.0.2 ∙ p.0.2, q.0.3 ∙ p.0.3), q.1 ∙ p.1)
+same_readers_trans (Some a) (Some b) (Some c) p q = (q.0 ∙ p.0, q.1 ∙ p.1)
 
 pub same_rings_refl : (a : Rings) → SameRings a a
 same_rings_refl a = record { writer_count = refl; reader_count = refl; writers = λ k. same_writers_refl (writer_at a k); readers = λ k. same_readers_refl (reader_at a k) }

@@ -22,14 +22,21 @@
 //! of the crate `rtrb`.
 #![tactic(auto)]
 
+mod flat;
 mod making;
 mod reader;
+mod receiving;
 mod ring;
 mod rings;
+mod rings_ends;
+mod sending;
 mod theorems;
 mod writer;
 
-pub use making::{edge, meet};
-pub use ring::{Closing, EdgeReader, EdgeWriter, FinishedMark, Held};
+pub use flat::{Block, Flat};
+pub use making::{edge, meet, scalar_edge};
+pub use ring::{
+    Closing, ClosingFlags, ClosingInts, ClosingUnits, EdgeReader, EdgeWriter, FinishedMark, Held,
+};
 pub use rings::Rings;
 pub use theorems::{all_was_received, rings_stay_joined, same_ends_are_an_edge};

@@ -1,15 +1,19 @@
 // The end that takes messages.
-ghost use Rattle.std.specs.Prelude.{◌≡◌, ◌<◌, ◌↔◌, false, [], ◌∷◌, ◌++◌, length, IsTrue, IsSome, IfSome, IfNone};
+ghost use Rattle.std.specs.Prelude.{◌≡◌, ◌<◌, ◌≤◌, ◌↔◌, true, false, [], ◌∷◌, ◌++◌, length, IsTrue, IsSome, IfSome, IfNone};
+ghost use Rattle.std.specs.List.{All};
+ghost use Rattle.arrayvec.specs.ArrayVec.{array_vec_len};
 ghost use mathlib.Core.List.{IsPrefix};
-ghost use Rattle.flow_messages.specs.Signals.{signals, ended};
-ghost use Rattle.flow_rings.specs.Edge.{received, certain_held, SameReader, all_sent, IsMarkOf};
+ghost use Rattle.flow_messages.specs.Signals.{signals, signal_of, ended, orderly};
+ghost use Rattle.flow_rings.specs.Flats.{message_of, messages_of, appended, FitsEdge};
+ghost use Rattle.flow_rings.specs.Edge.{received, certain_held, reader_kind, SameReader, all_sent, IsMarkOf};
 
+use crate::flat::Block;
 use crate::ring::{EdgeReader, FinishedMark};
 use flow_messages::Msg;
 
 impl EdgeReader {
     /// Takes the oldest message that was not taken, or none where none is certain to be there.
-    /// Nothing is taken behind an `End`.
+    /// Nothing is taken behind an `End`, and from an edge of scalars only items of its kind.
     #[inline(always)]
     pub fn take(&mut self) -> Option<Msg>
         ensures same { SameReader self.old self.new }
@@ -18,6 +22,7 @@ impl EdgeReader {
         ensures none { IfNone result ((received self.new ≡ received self.old) ×
             (certain_held self.old ≡ []) × (certain_held self.new ≡ [])) }
         ensures open { IfSome result (λ _. ended (signals (received self.old)) ≡ false) }
+        ensures fits { IfSome result (λ m. FitsEdge (reader_kind self.old) (signal_of m)) }
         ensures succeeds { 0 < length (certain_held self.old) → IsSome result }
     {
         let message = self.ring.pop().ok()?;
@@ -36,15 +41,39 @@ impl EdgeReader {
         !self.ring.is_empty()
     }
 
-    /// The oldest message that was not taken, where the edge was seen to hold one. It stays.
+    /// Takes the oldest messages that were not taken, at most `most`, as far as the block has room, and
+    /// appends them to it in order. The answer is how many: not none where one is certain to be there.
+    /// The edge is one of scalars.
+    #[inline(always)]
+    pub fn take_block(&mut self, block: &mut Block, most: usize) -> usize
+        requires scalar { IsSome (reader_kind self.old) }
+        ensures same { SameReader self.old self.new }
+        ensures before { block.new.items ≡ block.old.items ++ appended block.old block.new }
+        ensures taken { received self.new ≡
+            received self.old ++ messages_of (appended block.old block.new) }
+        ensures certain { IsPrefix (certain_held self.old)
+            (messages_of (appended block.old block.new) ++ certain_held self.new) }
+        ensures fit { All (λ x. FitsEdge (reader_kind self.old) (signal_of (message_of x)))
+            (appended block.old block.new) }
+        ensures last { orderly (signals (messages_of (appended block.old block.new))) ≡ true }
+        ensures open { 0 < result → ended (signals (received self.old)) ≡ false }
+        ensures count { result ≡ length (appended block.old block.new) }
+        ensures most { result ≤ most }
+        ensures succeeds { 0 < length (certain_held self.old) → 0 < most →
+            array_vec_len block.old < 64 → 0 < result }
+    {
+        let count = self.ring.pop_block(block, most);
+        self.taken = self.taken.saturating_add(count as u64);
+        count
+    }
+
+    /// The oldest message that was not taken, where the edge was seen to hold one and can show it. It
+    /// stays. An edge of scalars shows none.
     #[inline(always)]
     pub fn front(&self) -> Option<&Msg>
         ensures { IfSome result (λ m. IsPrefix (m.now ∷ []) (certain_held self.now)) }
     {
-        if self.ring.cached_slots() == 0 {
-            return None;
-        }
-        Some(self.ring.peek_known())
+        self.ring.front()
     }
 
     /// How many messages are left to take, where the writer of this edge has left its mark. What was

@@ -1,21 +1,38 @@
 // The end that puts messages.
-ghost use Rattle.std.specs.Prelude.{◌≡◌, ◌+◌, ◌<◌, ◌≤◌, ◌↔◌, true, false, [], ◌∷◌, ◌++◌, IsTrue, IsOk, OnOk, IfErr, IsErrAnd, IfSome};
-ghost use Rattle.flow_messages.specs.Signals.{signals, ended};
+ghost use Rattle.std.specs.Prelude.{◌≡◌, ◌+◌, ◌<◌, ◌≤◌, ◌↔◌, true, false, [], ◌∷◌, ◌++◌, length, IsTrue, IsOk, OnOk, IfErr, IsErrAnd, IsSome, IfSome};
+ghost use Rattle.std.specs.List.{All};
+ghost use Rattle.flow_messages.specs.Signals.{signals, signal_of, ended, orderly};
 ghost use Rattle.flow_messages.specs.declared.ends.Why.TheVariants.{Full, Closed};
-ghost use Rattle.flow_rings.specs.Edge.{sent, certain_room, SameWriter, Finishes};
+ghost use Rattle.flow_rings.specs.Edge.{sent, certain_room, kind_of, SameWriter, Finishes};
+ghost use Rattle.flow_rings.specs.Flats.{message_of, messages_of, FitsEdge};
 
+use crate::flat::{Block, Flat};
 use crate::ring::{EdgeWriter, FinishedMark};
 use flow_messages::{Msg, Refused, Why};
 use rtrb::PushError;
+
+// Whether the last of these is the end of the stream.
+#[inline(always)]
+fn ends(block: &[Flat]) -> bool
+    requires { orderly (signals (messages_of block.now)) ≡ true }
+    ensures { result ≡ ended (signals (messages_of block.now)) }
+{
+    match block.last() {
+        Some(flat) => flat.is_end(),
+        None => false,
+    }
+}
 
 impl EdgeWriter {
     /// Puts a message behind all others.
     ///
     /// It is refused as `Closed` exactly where `End` was put on the edge before, and as `Full` only
-    /// where no room is certain. Then nothing was put, and the message comes back.
+    /// where no room is certain. Then nothing was put, and the message comes back. On an edge of
+    /// scalars an item has to be of its kind.
     #[inline(always)]
     #[tactic(auto, using(crate::proofs::Lists::list_steps))]
     pub fn put(&mut self, message: Msg) -> Result<(), Refused>
+        requires fits { FitsEdge (kind_of self.old) (signal_of message) }
         ensures same { SameWriter self.old self.new }
         ensures ok { OnOk result ((sent self.new ≡ sent self.old ++ message ∷ []) ×
             (certain_room self.old ≤ certain_room self.new + 1)) }
@@ -55,7 +72,7 @@ impl EdgeWriter {
             (certain_room self.old ≤ certain_room self.new) }
         ensures value { IsTrue result ↔ (0 < certain_room self.new) }
     {
-        !self.ring.is_full()
+        self.ring.has_slots(1)
     }
 
     /// How many messages more the edge is certain to have room for. Only the reader makes more.
@@ -67,6 +84,55 @@ impl EdgeWriter {
         ensures value { result ≡ certain_room self.new }
     {
         self.ring.slots()
+    }
+
+    /// Whether the edge is certain to have room for so many messages more. Only the reader makes more.
+    #[inline(always)]
+    pub fn room_for(&mut self, count: usize) -> bool
+        ensures same { SameWriter self.old self.new }
+        ensures looked { (sent self.new ≡ sent self.old) ×
+            (certain_room self.old ≤ certain_room self.new) }
+        ensures value { IsTrue result ↔ (count ≤ certain_room self.new) }
+    {
+        self.ring.has_slots(count)
+    }
+
+    /// Puts the messages of a block behind all others, in order, and empties it.
+    ///
+    /// Where there is not room for all of them, or `End` was put on the edge before, the answer is false,
+    /// and nothing was put. The edge is one of scalars, and an `End` may only be the last of the block.
+    #[inline(always)]
+    #[tactic(auto, using(crate::proofs::Lists::list_steps))]
+    pub fn put_block(&mut self, block: &mut Block) -> bool
+        requires scalar { IsSome (kind_of self.old) }
+        requires fit { All (λ x. FitsEdge (kind_of self.old) (signal_of (message_of x)))
+            block.old.items }
+        requires last { orderly (signals (messages_of block.old.items)) ≡ true }
+        ensures same { SameWriter self.old self.new }
+        ensures put { IsTrue result →
+            (sent self.new ≡ sent self.old ++ messages_of block.old.items) ×
+            (block.new.items ≡ []) }
+        ensures room { IsTrue result →
+            certain_room self.old ≤ certain_room self.new + length block.old.items }
+        ensures open { IsTrue result → ended (signals (sent self.old)) ≡ false }
+        ensures refused { result ≡ false → (sent self.new ≡ sent self.old) ×
+            (block.new ≡ block.old) × (certain_room self.old ≤ certain_room self.new) }
+        ensures full { result ≡ false → ended (signals (sent self.old)) ≡ false →
+            certain_room self.new < length block.old.items }
+        ensures succeeds { ended (signals (sent self.old)) ≡ false →
+            length block.old.items ≤ certain_room self.old → IsTrue result }
+    {
+        if self.closed {
+            return false;
+        }
+        let count = block.len();
+        let closes = ends(block.as_slice());
+        if !self.ring.push_block(block) {
+            return false;
+        }
+        self.closed = closes;
+        self.put = self.put.saturating_add(count as u64);
+        true
     }
 
     /// Gives up the writer for a mark of all that it has put, or for none where the reader was dropped

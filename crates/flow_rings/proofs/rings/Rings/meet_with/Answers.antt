@@ -1,6 +1,8 @@
 use Rattle.std.proofs.Common.{refl}
+use Rattle.std.specs.Prelude.{Some}
 use Rattle.flow_rings.proofs.RingLines.{writer-looked, reader-looked}
 use Rattle.flow_rings.proofs.Meetings.{kept-room, kept-messages, joins-writer, joins-reader, met_here}
+use Rattle.flow_rings.proofs.PutsAll.{all_kept, any_here, any_after, same_writers, same_readers, joined_in_place}
 use Rattle.flow_rings.proofs.rings.Rings.meet_with.Goals as goal
 
 pub returns-clause-writer_kept : goal.returns-clause-writer_kept
@@ -21,3 +23,29 @@ returns-clause-met c =
     let rs = c.args.other.now.readers.items in
     let m = c.meet.ensures in
     met_here ws rs _ _ c.args.edge c.meet.new.writer c.meet.new.reader c.meet.result (joins-writer ws c.args.edge _ c.requires) (joins-reader _ rs c.args.edge c.requires) refl refl m.fifo m.count m.room m.whole
+
+pub invariant_of-self : goal.invariant_of-self
+invariant_of-self c =
+    let ws = c.args.self.now.writers.items in
+    let e = c.args.edge in
+    let any = any_here ws e _ _ c.in-Some-Some.writer (joins-writer ws e _ c.requires) c.index_mut.ensures.value c.in-Some-Some.is-0 c.args.self.now.any in
+    record { any = all_kept ws e (Some c.meet.new.writer) (any_after c.in-Some-Some.writer c.meet.new.writer c.meet.ensures.writer.0 any) c.args.self.now.any }
+
+pub returns-clause-writer : goal.returns-clause-writer
+returns-clause-writer c =
+    let ws = c.args.self.now.writers.items in
+    let e = c.args.edge in
+    same_writers _ _ e _ _ c.in-Some-Some.writer c.meet.new.writer c.index_mut.ensures.value c.in-Some-Some.is-0 (joins-writer ws e _ c.requires) c.meet.ensures.writer.0 refl refl
+
+pub returns-clause-reader : goal.returns-clause-reader
+returns-clause-reader c =
+    let rs = c.args.other.now.readers.items in
+    let e = c.args.edge in
+    same_readers _ _ e _ _ c.in-Some-Some.reader c.meet.new.reader c.index_mut-2.ensures.value c.in-Some-Some.is-1 (joins-reader _ rs e c.requires) c.meet.ensures.reader.0 refl refl
+
+pub returns-clause-joined : goal.returns-clause-joined
+returns-clause-joined c =
+    let ws = c.args.self.now.writers.items in
+    let rs = c.args.other.now.readers.items in
+    let e = c.args.edge in
+    joined_in_place ws rs e c.meet.new.writer c.meet.new.reader (joins-writer ws e _ c.requires) (joins-reader _ rs e c.requires) c.meet.ensures.pair

@@ -1,0 +1,83 @@
+-- The writers of a share, which may put items of every kind.
+use Rattle.std.proofs.Common.{◌≡◌, ℕ, zero, suc, ◌<◌, true, List, [], ◌∷◌, length, refl, ap, sym, ◌∙◌, get_or, set, arith}
+use Rattle.std.specs.Prelude.{Option, Some, None}
+use Rattle.std.proofs.Common.{subst}
+use Rattle.std.proofs.lemmas.List.{get_or-set_same, length-set}
+use Rattle.flow_messages.specs.declared.message.Kind.{Kind}
+use Rattle.flow_rings.specs.declared.ring.EdgeWriter.{EdgeWriter}
+use Rattle.flow_rings.specs.declared.ring.EdgeReader.{EdgeReader}
+use Rattle.flow_rings.specs.declared.rings.Rings.{Rings}
+use Rattle.flow_rings.specs.Edge.{kind_of, is_any, puts_all, IsEdge, SameWriter, SameReader}
+use Rattle.flow_rings.specs.Rings.{SameRings, SameWriters, SameReaders, Joins, writer_at, reader_at}
+use Rattle.flow_rings.specs.SameEnds.{same_writers_refl, same_readers_refl}
+
+pub no_kind : (k : Option Kind) → is_any k ≡ true → k ≡ None
+no_kind None is = refl
+no_kind (Some k) is = cc
+
+-- another writer of no kind in a place keeps it so
+pub all_kept : (ws : List (Option EdgeWriter)) (e : ℕ) (v : Option EdgeWriter) → puts_all v ≡ true → ((k : ℕ) → puts_all (get_or ws k None) ≡ true) → (k : ℕ) → puts_all (get_or (set ws e v) k None) ≡ true
+all_kept [] e v new all k = all k
+all_kept (w ∷ ws) zero v new all zero = new
+all_kept (w ∷ ws) zero v new all (suc k) = all (suc k)
+all_kept (w ∷ ws) (suc e) v new all zero = all zero
+all_kept (w ∷ ws) (suc e) v new all (suc k) = all_kept ws e v new (λ n. all (suc n)) k
+
+at_place : (ws : List (Option EdgeWriter)) (e : ℕ) (d old : Option EdgeWriter) → e < length ws → old ≡ get_or ws e d → ((k : ℕ) → puts_all (get_or ws k None) ≡ true) → puts_all old ≡ true
+at_place [] e d old h is all = absurd (omega (arith, h))
+at_place (w ∷ ws) zero d old h is all = ap puts_all is ∙ all zero
+at_place (w ∷ ws) (suc e) d old h is all = let up : suc e < suc (length ws) = h in at_place ws e d old (omega arith) is (λ n. all (suc n))
+
+-- the writer that stands in a place is of no kind
+pub any_here : (ws : List (Option EdgeWriter)) (e : ℕ) (d old : Option EdgeWriter) (w : EdgeWriter) → e < length ws → old ≡ get_or ws e d → old ≡ Some w → ((k : ℕ) → puts_all (get_or ws k None) ≡ true) → kind_of w ≡ None
+any_here ws e d old w h is was all = no_kind (kind_of w) (sym (ap puts_all was) ∙ at_place ws e d old h is all)
+
+-- the writer that took a writer's place is of its kind
+pub any_after : (w v : EdgeWriter) → SameWriter w v → kind_of w ≡ None → puts_all (Some v) ≡ true
+any_after w v same any = ap is_any (ap (λ p. p.0) same.0 ∙ any)
+
+writers_after : (ws : List (Option EdgeWriter)) (e : ℕ) (d old : Option EdgeWriter) (w v : EdgeWriter) → old ≡ get_or ws e d → old ≡ Some w → e < length ws → SameWriter w v → (k : ℕ) → SameWriters (get_or ws k None) (get_or (set ws e (Some v)) k None)
+writers_after [] e d old w v is was h same k = absurd (omega (arith, h))
+writers_after (x ∷ ws) zero d old w v is was h same zero = subst (λ o. SameWriters o (Some v)) (sym was ∙ is) same
+writers_after (x ∷ ws) zero d old w v is was h same (suc k) = same_writers_refl (get_or ws k None)
+writers_after (x ∷ ws) (suc e) d old w v is was h same zero = same_writers_refl x
+writers_after (x ∷ ws) (suc e) d old w v is was h same (suc k) = let up : suc e < suc (length ws) = h in writers_after ws e d old w v is was (omega arith) same k
+
+readers_after : (rs : List (Option EdgeReader)) (e : ℕ) (d old : Option EdgeReader) (r v : EdgeReader) → old ≡ get_or rs e d → old ≡ Some r → e < length rs → SameReader r v → (k : ℕ) → SameReaders (get_or rs k None) (get_or (set rs e (Some v)) k None)
+readers_after [] e d old r v is was h same k = absurd (omega (arith, h))
+readers_after (x ∷ rs) zero d old r v is was h same zero = subst (λ o. SameReaders o (Some v)) (sym was ∙ is) same
+readers_after (x ∷ rs) zero d old r v is was h same (suc k) = same_readers_refl (get_or rs k None)
+readers_after (x ∷ rs) (suc e) d old r v is was h same zero = same_readers_refl x
+readers_after (x ∷ rs) (suc e) d old r v is was h same (suc k) = let up : suc e < suc (length rs) = h in readers_after rs e d old r v is was (omega arith) same k
+
+module _ (a b : Rings) (e : ℕ) where
+  pub same_writers : (d old : Option EdgeWriter) (w v : EdgeWriter) → old ≡ get_or a.writers.items e d → old ≡ Some w → e < length a.writers.items → SameWriter w v → b.writers.items ≡ set a.writers.items e (Some v) → b.readers.items ≡ a.readers.items → SameRings a b
+  same_writers d old w v is was h same ws rs = record {
+    writer_count = ap length ws ∙ length-set a.writers.items e (Some v);
+    reader_count = ap length rs;
+    writers = λ k. subst (λ (l : List (Option EdgeWriter)). SameWriters (writer_at a k) (get_or l k None)) (sym ws) (writers_after a.writers.items e d old w v is was h same k);
+    readers = λ k. subst (λ (l : List (Option EdgeReader)). SameReaders (reader_at a k) (get_or l k None)) (sym rs) (same_readers_refl (reader_at a k));
+  }
+
+  pub same_readers : (d old : Option EdgeReader) (r v : EdgeReader) → old ≡ get_or a.readers.items e d → old ≡ Some r → e < length a.readers.items → SameReader r v → b.readers.items ≡ set a.readers.items e (Some v) → b.writers.items ≡ a.writers.items → SameRings a b
+  same_readers d old r v is was h same rs ws = record {
+    writer_count = ap length ws;
+    reader_count = ap length rs ∙ length-set a.readers.items e (Some v);
+    writers = λ k. subst (λ (l : List (Option EdgeWriter)). SameWriters (writer_at a k) (get_or l k None)) (sym ws) (same_writers_refl (writer_at a k));
+    readers = λ k. subst (λ (l : List (Option EdgeReader)). SameReaders (reader_at a k) (get_or l k None)) (sym rs) (readers_after a.readers.items e d old r v is was h same k);
+  }
+
+  pub same_both : (d old : Option EdgeWriter) (w v : EdgeWriter) → old ≡ get_or a.writers.items e d → old ≡ Some w → e < length a.writers.items → SameWriter w v → b.writers.items ≡ set a.writers.items e (Some v)
+      → (c was : Option EdgeReader) (r s : EdgeReader) → was ≡ get_or a.readers.items e c → was ≡ Some r → e < length a.readers.items → SameReader r s → b.readers.items ≡ set a.readers.items e (Some s) → SameRings a b
+  same_both d old w v is was h same ws c had r s here seen low alike rs = record {
+    writer_count = ap length ws ∙ length-set a.writers.items e (Some v);
+    reader_count = ap length rs ∙ length-set a.readers.items e (Some s);
+    writers = λ k. subst (λ (l : List (Option EdgeWriter)). SameWriters (writer_at a k) (get_or l k None)) (sym ws) (writers_after a.writers.items e d old w v is was h same k);
+    readers = λ k. subst (λ (l : List (Option EdgeReader)). SameReaders (reader_at a k) (get_or l k None)) (sym rs) (readers_after a.readers.items e c had r s here seen low alike k);
+  }
+
+-- two ends that were put in place join
+pub joined_in_place : (ws : List (Option EdgeWriter)) (rs : List (Option EdgeReader)) (e : ℕ) (w : EdgeWriter) (r : EdgeReader) → e < length ws → e < length rs → IsEdge w r → Joins (get_or (set ws e (Some w)) e None) (get_or (set rs e (Some r)) e None)
+joined_in_place ws rs e w r hw hr edge =
+    subst (λ o. Joins o (get_or (set rs e (Some r)) e None)) (sym (get_or-set_same ws e (Some w) None hw))
+    (subst (λ o. Joins (Some w) o) (sym (get_or-set_same rs e (Some r) None hr)) edge)

@@ -1,0 +1,24 @@
+use Rattle.std.proofs.Common.{rules, length, ap, sym, ◌∙◌, arith, length-append}
+use Rattle.flow_messages.specs.declared.message.Msg.{Msg}
+use Rattle.flow_messages.specs.Signals.{signals, ended, orderly}
+use Rattle.flow_messages.proofs.Signals.{ended-more, orderly-more}
+use Rattle.std.proofs.Common.{List}
+use Rattle.flow_rings.specs.declared.flat.Flat.{Flat}
+use Rattle.flow_rings.specs.Flats.{messages_of}
+use Rattle.flow_rings.specs.Edge.{sent}
+use Rattle.flow_rings.proofs.Flats.{many}
+use Rattle.flow_rings.proofs.ring.EdgeWriter.put_block.Goals as goal
+
+pub invariant_of-self-2-clause-closes : goal.invariant_of-self-2-clause-closes
+invariant_of-self-2-clause-closes c =
+    let before = sent c.args.self.now in
+    let block = messages_of c.args.block.now.items in
+    let done = c.if-not-push_block.ensures.done (search rules) in
+    c.ends-closes.ensures ∙ ap (λ (xs : List Flat). ended (signals (messages_of xs))) c.as_slice.ensures.value ∙ sym (ended-more before block (sym c.args.self.now.closes ∙ c.if-self.false)) ∙ ap (λ (ms : List Msg). ended (signals ms)) (sym done.0)
+
+pub invariant_of-self-2-clause-orderly : goal.invariant_of-self-2-clause-orderly
+invariant_of-self-2-clause-orderly c =
+    let before = sent c.args.self.now in
+    let block = messages_of c.args.block.now.items in
+    let done = c.if-not-push_block.ensures.done (search rules) in
+    ap (λ (ms : List Msg). orderly (signals ms)) done.0 ∙ orderly-more before block (sym c.args.self.now.closes ∙ c.if-self.false) ∙ c.requires.last

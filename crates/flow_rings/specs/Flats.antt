@@ -1,0 +1,49 @@
+-- Scalar messages, and which messages an edge of one kind takes.
+use Rattle.std.specs.Prelude.{◌≡◌, ℕ, Bool, true, false, List, map, length, drop, Option, Some, None, ⊤}
+use Rattle.arrayvec.specs.ArrayVec.{ArrayVec, array_vec_len}
+use Rattle.flow_messages.specs.declared.message.Kind.{Kind}
+use Rattle.flow_messages.specs.declared.message.Msg.{Msg}
+use Rattle.flow_messages.specs.declared.message.Msg.TheVariants.{Item as ItemMsg, End as EndMsg}
+use Rattle.flow_messages.specs.declared.message.Item.TheVariants.{Unit as UnitItem, Bool as BoolItem, Int as IntItem}
+use Rattle.flow_messages.specs.Cells.{Cell, unit, flag, int, datum, is_of}
+use Rattle.flow_messages.specs.Signals.{Signal, carry, stop, signal_of, signals, ended}
+use Rattle.flow_rings.specs.declared.flat.Flat.{Flat}
+use Rattle.flow_rings.specs.declared.flat.Flat.TheVariants.{Unit as UnitFlat, Bool as BoolFlat, Int as IntFlat, End as EndFlat}
+
+-- the message that it stands for
+abbrev pub message_of : Flat → Msg
+message_of UnitFlat = ItemMsg UnitItem
+message_of (BoolFlat b) = ItemMsg (BoolItem b)
+message_of (IntFlat n) = ItemMsg (IntItem n)
+message_of EndFlat = EndMsg
+
+-- the messages that these stand for, in order
+abbrev pub messages_of : List Flat → List Msg
+messages_of xs = map message_of xs
+
+-- whether it is no vector
+abbrev pub is_scalar : Signal → Bool
+is_scalar (carry (datum v)) = false
+is_scalar (carry unit) = true
+is_scalar (carry (flag b)) = true
+is_scalar (carry (int n)) = true
+is_scalar stop = true
+
+-- whether it is an item of the kind, or the end of the stream
+abbrev pub fits : Kind → Signal → Bool
+fits k (carry c) = is_of k c
+fits k stop = true
+
+-- an edge of this kind takes it, and an edge of no kind takes everything
+abbrev pub FitsEdge : Option Kind → Signal → Type 0
+FitsEdge None s = ⊤
+FitsEdge (Some k) s = fits k s ≡ true
+
+-- on an edge of the kind x may follow these: none of them is an end, and x fits
+abbrev pub MayFollow : Kind → List Flat → Flat → Type 0
+MayFollow k before x =
+    (ended (signals (messages_of before)) ≡ false) × (fits k (signal_of (message_of x)) ≡ true)
+
+-- what was appended to a block
+abbrev pub appended : ArrayVec Flat → ArrayVec Flat → List Flat
+appended before after = drop (array_vec_len before) after.items

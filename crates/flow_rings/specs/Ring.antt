@@ -1,0 +1,122 @@
+-- The ring behind an end of an edge: of messages, or of scalars of one kind.
+use Rattle.std.specs.Prelude.{◌≡◌, ℕ, List, Option, Some, None}
+use Rattle.std.specs.declared.alloc.Global.{Global}
+use Rattle.rtrb.specs.Ring as ring
+use Rattle.rtrb.specs.Shared.{Names}
+use Rattle.rtrb.specs.declared.end.End.{End}
+use denote.RawPtr.{Ptr}
+use Rattle.flow_messages.specs.declared.message.Kind.{Kind}
+use Rattle.flow_messages.specs.declared.message.Kind.TheVariants.{Unit as UnitKind, Bool as BoolKind, Int as IntKind}
+use Rattle.flow_messages.specs.declared.message.Msg.{Msg}
+use Rattle.flow_rings.specs.Flats.{messages_of}
+use Rattle.flow_rings.specs.declared.ring.WriterRing.{WriterRing}
+use Rattle.flow_rings.specs.declared.ring.WriterRing.TheVariants.{Messages as MessagesTo, Units as UnitsTo, Flags as FlagsTo, Ints as IntsTo}
+use Rattle.flow_rings.specs.declared.ring.ReaderRing.{ReaderRing}
+use Rattle.flow_rings.specs.declared.ring.ReaderRing.TheVariants.{Messages as MessagesFrom, Units as UnitsFrom, Flags as FlagsFrom, Ints as IntsFrom}
+use Rattle.flow_rings.specs.declared.ring.MarkRing.{MarkRing}
+use Rattle.flow_rings.specs.declared.ring.MarkRing.TheVariants.{Messages as MessagesLeft, Units as UnitsLeft, Flags as FlagsLeft, Ints as IntsLeft}
+
+-- where a ring lies
+abbrev pub Place : Type 0
+Place = (Ptr × Ptr) × (Names × Global)
+
+-- where the ring of this end lies
+abbrev pub place : {T P : Type 0} → End T Global P → Place
+place e = ((e.words, e.slots), (e.names, e.heap))
+
+-- which ring it is: the kind of its items, where they are of one kind, and where it lies
+abbrev pub Which : Type 0
+Which = Option Kind × Place
+
+abbrev pub writer_which : WriterRing → Which
+writer_which (MessagesTo p) = (None, place p.end)
+writer_which (UnitsTo p) = (Some UnitKind, place p.end)
+writer_which (FlagsTo p) = (Some BoolKind, place p.end)
+writer_which (IntsTo p) = (Some IntKind, place p.end)
+
+abbrev pub reader_which : ReaderRing → Which
+reader_which (MessagesFrom c) = (None, place c.end)
+reader_which (UnitsFrom c) = (Some UnitKind, place c.end)
+reader_which (FlagsFrom c) = (Some BoolKind, place c.end)
+reader_which (IntsFrom c) = (Some IntKind, place c.end)
+
+abbrev pub mark_which : MarkRing → Which
+mark_which (MessagesLeft f) = (None, place f.end)
+mark_which (UnitsLeft f) = (Some UnitKind, place f.end)
+mark_which (FlagsLeft f) = (Some BoolKind, place f.end)
+mark_which (IntsLeft f) = (Some IntKind, place f.end)
+
+-- the kind of the items, where they are of one kind
+abbrev pub writer_kind : WriterRing → Option Kind
+writer_kind w = (writer_which w).0
+
+abbrev pub reader_kind : ReaderRing → Option Kind
+reader_kind r = (reader_which r).0
+
+-- every message put so far, the oldest first
+abbrev pub sent : WriterRing → List Msg
+sent (MessagesTo p) = ring.sent p
+sent (UnitsTo p) = messages_of (ring.sent p)
+sent (FlagsTo p) = messages_of (ring.sent p)
+sent (IntsTo p) = messages_of (ring.sent p)
+
+-- how many places are known to be free
+abbrev pub known_free : WriterRing → ℕ
+known_free (MessagesTo p) = ring.known_free p
+known_free (UnitsTo p) = ring.known_free p
+known_free (FlagsTo p) = ring.known_free p
+known_free (IntsTo p) = ring.known_free p
+
+-- how many messages it has places for
+abbrev pub producer_capacity : WriterRing → ℕ
+producer_capacity (MessagesTo p) = ring.producer_capacity p
+producer_capacity (UnitsTo p) = ring.producer_capacity p
+producer_capacity (FlagsTo p) = ring.producer_capacity p
+producer_capacity (IntsTo p) = ring.producer_capacity p
+
+-- every message taken so far, the oldest first
+abbrev pub received : ReaderRing → List Msg
+received (MessagesFrom c) = ring.received c
+received (UnitsFrom c) = messages_of (ring.received c)
+received (FlagsFrom c) = messages_of (ring.received c)
+received (IntsFrom c) = messages_of (ring.received c)
+
+-- the messages that were seen to be there, the oldest first
+abbrev pub known_items : ReaderRing → List Msg
+known_items (MessagesFrom c) = ring.known_items c
+known_items (UnitsFrom c) = messages_of (ring.known_items c)
+known_items (FlagsFrom c) = messages_of (ring.known_items c)
+known_items (IntsFrom c) = messages_of (ring.known_items c)
+
+-- how many messages it has places for
+abbrev pub consumer_capacity : ReaderRing → ℕ
+consumer_capacity (MessagesFrom c) = ring.consumer_capacity c
+consumer_capacity (UnitsFrom c) = ring.consumer_capacity c
+consumer_capacity (FlagsFrom c) = ring.consumer_capacity c
+consumer_capacity (IntsFrom c) = ring.consumer_capacity c
+
+-- every message that was ever put
+abbrev pub all_sent : MarkRing → List Msg
+all_sent (MessagesLeft f) = ring.all_sent f
+all_sent (UnitsLeft f) = messages_of (ring.all_sent f)
+all_sent (FlagsLeft f) = messages_of (ring.all_sent f)
+all_sent (IntsLeft f) = messages_of (ring.all_sent f)
+
+-- the two ends of one ring
+abbrev pub IsPair : WriterRing → ReaderRing → Type 0
+IsPair w r = reader_which r ≡ writer_which w
+
+-- the same end of the same ring
+abbrev pub SameProducer : WriterRing → WriterRing → Type 0
+SameProducer a b = (writer_which b ≡ writer_which a) × (producer_capacity b ≡ producer_capacity a)
+
+abbrev pub SameConsumer : ReaderRing → ReaderRing → Type 0
+SameConsumer a b = (reader_which b ≡ reader_which a) × (consumer_capacity b ≡ consumer_capacity a)
+
+-- what is left of this end, with all that it had put
+abbrev pub Finishes : WriterRing → MarkRing → Type 0
+Finishes w f = (mark_which f ≡ writer_which w) × (all_sent f ≡ sent w)
+
+-- it is left of the writer of this reader's ring
+abbrev pub IsFinishedOf : MarkRing → ReaderRing → Type 0
+IsFinishedOf f r = reader_which r ≡ mark_which f

@@ -1,0 +1,188 @@
+// The ring of a writer, whatever it carries.
+ghost use Rattle.std.specs.Prelude.{◌≡◌, ◌+◌, ◌<◌, ◌≤◌, ◌↔◌, true, false, [], ◌∷◌, ◌++◌, length, IsTrue, IsOk, OnOk, IfErr, IsSome, IfSome};
+ghost use Rattle.rtrb.specs.Ring as port;
+ghost use Rattle.rtrb.specs.Fifo.{EachAllowed};
+ghost use Rattle.rtrb.specs.declared.errors.PushError.TheVariants.{Full};
+ghost use Rattle.flow_messages.specs.Signals.{signals, signal_of, ended, orderly};
+ghost use Rattle.flow_rings.specs.Flats.{message_of, messages_of, is_scalar, FitsEdge};
+ghost use Rattle.flow_rings.specs.Ring.{sent, received, known_free, known_items, producer_capacity, writer_kind, SameProducer, SameConsumer, IsPair, Finishes};
+ghost use Rattle.flow_rings.specs.declared.flat.Flat.{Flat as Scalar};
+ghost use mathlib.Core.List.{IsPrefix};
+ghost use Rattle.std.specs.List.{All};
+
+use crate::flat::{Block, Flat};
+use crate::ring::{MarkRing, ReaderRing, WriterRing};
+use flow_messages::Msg;
+use rtrb::{Producer, Protocol, PushError};
+use std::alloc::Global;
+
+// Puts a scalar message, or hands it back if the ring is full.
+#[inline(always)]
+fn push_flat<P: Protocol<Flat>>(
+    ring: &mut Producer<Flat, Global, P>,
+    message: Msg,
+) -> Result<(), PushError<Msg>>
+    requires scalar { is_scalar (signal_of message) ≡ true }
+    requires allowed { (x : Scalar) → message_of x ≡ message → P.allows (port.sent ring.old) x }
+    ensures ring { port.SameProducer ring.old ring.new }
+    ensures ok { OnOk result ((messages_of (port.sent ring.new) ≡
+        messages_of (port.sent ring.old) ++ message ∷ []) ×
+        (port.known_free ring.old ≤ port.known_free ring.new + 1)) }
+    ensures full { IfErr result (λ e. (e ≡ Full message) ×
+        (port.sent ring.new ≡ port.sent ring.old) × (port.known_free ring.new ≡ 0)) }
+    ensures succeeds { 0 < port.known_free ring.old → IsOk result }
+{
+    let Some(flat) = Flat::of(&message) else {
+        unreachable!()
+    };
+    match ring.push(flat) {
+        Ok(()) => Ok(()),
+        Err(_) => Err(PushError::Full(message)),
+    }
+}
+
+// Puts a whole block, or nothing if the ring has less room.
+#[inline(always)]
+fn push_all<P: Protocol<Flat>>(ring: &mut Producer<Flat, Global, P>, block: &mut Block) -> bool
+    requires { EachAllowed P.allows (port.sent ring.old) block.old.items }
+    ensures ring { port.SameProducer ring.old ring.new }
+    ensures done { IsTrue result →
+        (port.sent ring.new ≡ port.sent ring.old ++ block.old.items) ×
+        (block.new.items ≡ []) ×
+        (port.known_free ring.old ≤ port.known_free ring.new + length block.old.items) }
+    ensures full { result ≡ false → (port.sent ring.new ≡ port.sent ring.old) ×
+        (block.new ≡ block.old) × (port.known_free ring.old ≤ port.known_free ring.new) ×
+        (port.known_free ring.new < length block.old.items) }
+    ensures succeeds { length block.old.items ≤ port.known_free ring.old → IsTrue result }
+{
+    if ring.push_entire_slice(block.as_slice()).is_err() {
+        return false;
+    }
+    block.clear();
+    true
+}
+
+// Whether so many places are free. It looks only where it does not know.
+#[inline(always)]
+fn are_free<T, P: Protocol<T>>(ring: &mut Producer<T, Global, P>, count: usize) -> bool
+    ensures looked { port.ProducerLooked ring.old ring.new }
+    ensures value { IsTrue result ↔ (count ≤ port.known_free ring.new) }
+{
+    count <= ring.cached_slots() || count <= ring.slots()
+}
+
+impl WriterRing {
+    // Puts a message, or hands it back if the ring is full.
+    #[inline(always)]
+    pub(crate) fn push(&mut self, message: Msg) -> Result<(), PushError<Msg>>
+        requires open { ended (signals (sent self.old)) ≡ false }
+        requires fits { FitsEdge (writer_kind self.old) (signal_of message) }
+        ensures ring { SameProducer self.old self.new }
+        ensures ok { OnOk result ((sent self.new ≡ sent self.old ++ message ∷ []) ×
+            (known_free self.old ≤ known_free self.new + 1)) }
+        ensures full { IfErr result (λ e. (e ≡ Full message) ×
+            (sent self.new ≡ sent self.old) × (known_free self.new ≡ 0)) }
+        ensures succeeds { 0 < known_free self.old → IsOk result }
+    {
+        match self {
+            WriterRing::Messages(ring) => ring.push(message),
+            WriterRing::Units(ring) => push_flat(ring, message),
+            WriterRing::Flags(ring) => push_flat(ring, message),
+            WriterRing::Ints(ring) => push_flat(ring, message),
+        }
+    }
+
+    // Puts a whole block, or nothing if the ring has less room.
+    #[inline(always)]
+    pub(crate) fn push_block(&mut self, block: &mut Block) -> bool
+        requires scalar { IsSome (writer_kind self.old) }
+        requires fit { All (λ x. FitsEdge (writer_kind self.old) (signal_of (message_of x)))
+            block.old.items }
+        requires last { orderly (signals (messages_of block.old.items)) ≡ true }
+        requires open { ended (signals (sent self.old)) ≡ false }
+        ensures ring { SameProducer self.old self.new }
+        ensures done { IsTrue result →
+            (sent self.new ≡ sent self.old ++ messages_of block.old.items) ×
+            (block.new.items ≡ []) ×
+            (known_free self.old ≤ known_free self.new + length block.old.items) }
+        ensures full { result ≡ false → (sent self.new ≡ sent self.old) ×
+            (block.new ≡ block.old) × (known_free self.old ≤ known_free self.new) ×
+            (known_free self.new < length block.old.items) }
+        ensures succeeds { length block.old.items ≤ known_free self.old → IsTrue result }
+    {
+        match self {
+            WriterRing::Messages(_) => unreachable!(),
+            WriterRing::Units(ring) => push_all(ring, block),
+            WriterRing::Flags(ring) => push_all(ring, block),
+            WriterRing::Ints(ring) => push_all(ring, block),
+        }
+    }
+
+    // Whether so many places are free.
+    #[inline(always)]
+    pub(crate) fn has_slots(&mut self, count: usize) -> bool
+        ensures ring { SameProducer self.old self.new }
+        ensures looked { (sent self.new ≡ sent self.old) ×
+            (known_free self.old ≤ known_free self.new) }
+        ensures value { IsTrue result ↔ (count ≤ known_free self.new) }
+    {
+        match self {
+            WriterRing::Messages(ring) => are_free(ring, count),
+            WriterRing::Units(ring) => are_free(ring, count),
+            WriterRing::Flags(ring) => are_free(ring, count),
+            WriterRing::Ints(ring) => are_free(ring, count),
+        }
+    }
+
+    // How many places are free.
+    #[inline(always)]
+    pub(crate) fn slots(&mut self) -> usize
+        ensures ring { SameProducer self.old self.new }
+        ensures looked { (sent self.new ≡ sent self.old) ×
+            (known_free self.old ≤ known_free self.new) }
+        ensures value { result ≡ known_free self.new }
+    {
+        match self {
+            WriterRing::Messages(ring) => ring.slots(),
+            WriterRing::Units(ring) => ring.slots(),
+            WriterRing::Flags(ring) => ring.slots(),
+            WriterRing::Ints(ring) => ring.slots(),
+        }
+    }
+
+    // How many places are free, beside the reader: all that hold nothing.
+    pub(crate) fn slots_beside(&mut self, reader: &mut ReaderRing) -> usize
+        requires { IsPair self.old reader.old }
+        ensures ring { SameProducer self.old self.new }
+        ensures looked { (sent self.new ≡ sent self.old) ×
+            (known_free self.old ≤ known_free self.new) }
+        ensures reader { SameConsumer reader.old reader.new ×
+            (received reader.new ≡ received reader.old) ×
+            IsPrefix (known_items reader.old) (known_items reader.new) }
+        ensures value { result ≡ known_free self.new }
+        ensures all_free { result + length (sent self.new) ≡
+            producer_capacity self.new + length (received reader.new) }
+    {
+        match (self, reader) {
+            (WriterRing::Messages(writer), ReaderRing::Messages(reader)) => {
+                writer.slots_beside(reader)
+            }
+            (WriterRing::Units(writer), ReaderRing::Units(reader)) => writer.slots_beside(reader),
+            (WriterRing::Flags(writer), ReaderRing::Flags(reader)) => writer.slots_beside(reader),
+            (WriterRing::Ints(writer), ReaderRing::Ints(reader)) => writer.slots_beside(reader),
+            _ => unreachable!(),
+        }
+    }
+
+    // Gives up the end for what it leaves, or for none where the reader was dropped before.
+    pub(crate) fn finish(self) -> Option<MarkRing>
+        ensures { IfSome result (λ f. Finishes self f) }
+    {
+        match self {
+            WriterRing::Messages(ring) => Some(MarkRing::Messages(ring.finish()?)),
+            WriterRing::Units(ring) => Some(MarkRing::Units(ring.finish()?)),
+            WriterRing::Flags(ring) => Some(MarkRing::Flags(ring.finish()?)),
+            WriterRing::Ints(ring) => Some(MarkRing::Ints(ring.finish()?)),
+        }
+    }
+}
