@@ -1,9 +1,9 @@
 // Messages that one thread puts on an edge and another takes from it.
-ghost use Rattle.std.specs.Prelude.{◌≡◌, ◌<◌, ◌≤◌, List, true, false, [], ◌∷◌, ◌++◌, IfOk};
+ghost use Rattle.std.specs.Prelude.{◌≡◌, ◌<◌, ◌≤◌, List, None, true, false, [], ◌∷◌, ◌++◌, IfOk};
 ghost use Rattle.flow_messages.specs.Limits.{greatest_capacity};
 ghost use Rattle.flow_messages.specs.Signals.{signals, ended, orderly};
 ghost use Rattle.flow_messages.specs.declared.message.Msg.{Msg as Message};
-ghost use Rattle.flow_rings.specs.Edge.{sent, received, SameWriter, SameReader};
+ghost use Rattle.flow_rings.specs.Edge.{sent, received, kind_of, SameWriter, SameReader};
 
 use flow_messages::Msg;
 use flow_rings::{
@@ -23,7 +23,8 @@ pub struct Across {
 
 // Puts the message, as soon as there is room.
 fn put_waiting(rt: &impl Wait, writer: &mut EdgeWriter, message: Msg)
-    requires { ended (signals (sent writer.old)) ≡ false }
+    requires unended { ended (signals (sent writer.old)) ≡ false }
+    requires any { kind_of writer.old ≡ None }
     ensures same { SameWriter writer.old writer.new }
     ensures sent { sent writer.new ≡ sent writer.old ++ message ∷ [] }
 {
@@ -40,6 +41,7 @@ fn put_waiting(rt: &impl Wait, writer: &mut EdgeWriter, message: Msg)
 
 /// Puts all the messages in order, and waits for room where there is none.
 pub fn put_all(rt: &impl Wait, writer: EdgeWriter, messages: Vec<Msg>) -> EdgeWriter
+    requires any { kind_of writer ≡ None }
     requires fresh { sent writer ≡ [] }
     requires orderly { orderly (signals messages.items) ≡ true }
     ensures same { SameWriter writer result }
@@ -113,7 +115,8 @@ pub fn send_across<R: Threads + Wait + Sync>(
     let (mut writer, (mut reader, taken)) = thread::join(
         rt,
         move || -> EdgeWriter
-            requires { (sent writer ≡ []) × (orderly (signals messages.items) ≡ true) }
+            requires { (kind_of writer ≡ None) × (sent writer ≡ []) ×
+                (orderly (signals messages.items) ≡ true) }
             ensures same { SameWriter writer result }
             ensures sent { sent result ≡ messages.items }
         { put_all(rt, writer, messages) },

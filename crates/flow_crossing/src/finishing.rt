@@ -1,8 +1,8 @@
 // A writer that finishes, in a thread of its own.
-ghost use Rattle.std.specs.Prelude.{◌≡◌, ◌<◌, ◌≤◌, true, [], IfOk, IfSome};
+ghost use Rattle.std.specs.Prelude.{◌≡◌, ◌<◌, ◌≤◌, None, true, [], IfOk, IfSome};
 ghost use Rattle.flow_messages.specs.Limits.{greatest_capacity};
 ghost use Rattle.flow_messages.specs.Signals.{signals, ended, orderly};
-ghost use Rattle.flow_rings.specs.Edge.{sent, received, all_sent, IsEdge, IsMarkOf, SameReader};
+ghost use Rattle.flow_rings.specs.Edge.{sent, received, all_sent, kind_of, IsEdge, IsMarkOf, SameReader};
 ghost use Rattle.flow_rings.specs.declared.ring.EdgeReader.{EdgeReader as Reader};
 
 use crate::across::{put_all, take_all};
@@ -17,6 +17,7 @@ use std::thread::Threads;
 
 // Puts all the messages in order, and gives up the writer for its mark.
 fn put_and_finish(rt: &impl Wait, writer: EdgeWriter, messages: Vec<Msg>) -> Option<FinishedMark>
+    requires any { kind_of writer ≡ None }
     requires fresh { sent writer ≡ [] }
     requires orderly { orderly (signals messages.items) ≡ true }
     ensures mark { IfSome result (λ mark. (r : Reader) → IsEdge writer r → IsMarkOf mark r) }
@@ -47,7 +48,8 @@ pub fn send_and_finish<R: Threads + Wait + Sync>(
     let (mark, (mut reader, taken)) = thread::join(
         rt,
         move || -> Option<FinishedMark>
-            requires { (sent writer ≡ []) × (orderly (signals messages.items) ≡ true) }
+            requires { (kind_of writer ≡ None) × (sent writer ≡ []) ×
+                (orderly (signals messages.items) ≡ true) }
             ensures mark { IfSome result (λ mark. (r : Reader) → IsEdge writer r →
                 IsMarkOf mark r) }
             ensures sent { IfSome result (λ mark. all_sent mark ≡ messages.items) }

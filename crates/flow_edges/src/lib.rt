@@ -6,6 +6,8 @@
 //!
 //! - [`edge`] makes an edge over a ring. Its two ends, an [`EdgeWriter`] and an [`EdgeReader`], may
 //!   lie in threads of their own. Where they [`meet`], it is known what was put and not yet taken.
+//! - [`scalar_edge`] makes an edge of scalars of one kind. Its messages ([`Flat`]) may also be put and
+//!   taken many at a time, as a [`Block`].
 //! - [`Ends`] is what a driver of transducers sees: some ends of some edges, each named by its
 //!   edge's number. A [`Table`] has both ends of every edge in one thread. [`Rings`] are the ring ends
 //!   that one thread owns. [`Boxes`] are ends between which messages pass only when they are carried
@@ -31,6 +33,7 @@ pub use flow_messages::{
     take_gives_what_was_certain,
 };
 pub use flow_rings::{
-    Closing, EdgeReader, EdgeWriter, FinishedMark, Held, Rings, all_was_received, edge, meet,
-    rings_stay_joined, same_ends_are_an_edge,
+    Block, Closing, ClosingFlags, ClosingInts, ClosingUnits, EdgeReader, EdgeWriter, FinishedMark,
+    Flat, Held, Rings, all_was_received, edge, meet, rings_stay_joined, same_ends_are_an_edge,
+    scalar_edge,
 };

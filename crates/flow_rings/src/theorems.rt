@@ -6,17 +6,19 @@ ghost use Rattle.flow_messages.specs.Ends.{SameEnds};
 ghost use Rattle.flow_rings.specs.declared.ring.EdgeWriter.{EdgeWriter};
 ghost use Rattle.flow_rings.specs.declared.ring.EdgeReader.{EdgeReader};
 ghost use Rattle.flow_rings.specs.declared.ring.FinishedMark.{FinishedMark};
-ghost use Rattle.flow_rings.specs.Edge.{sent, received, certain_held, edge_capacity, IsEdge, SameWriter, SameReader, all_sent, Finishes, IsMarkOf};
+ghost use Rattle.flow_rings.specs.Edge.{sent, received, certain_held, edge_capacity, kind_of, reader_kind, IsEdge, SameWriter, SameReader, all_sent, Finishes, IsMarkOf};
 ghost use Rattle.flow_rings.specs.declared.ring.Held.{Held};
 ghost use Rattle.flow_rings.specs.declared.rings.Rings.{Rings};
 ghost use Rattle.flow_rings.specs.Rings.{ends_of, writer_at, reader_at, capacity_at, SameRings, Joins, Met};
 
-/// The ends of an edge stay its ends, whatever either was called for since, in whichever thread. A mark
-/// that the writer has left is then one of the reader's edge.
+/// The ends of an edge stay its ends, whatever either was called for since, in whichever thread, and
+/// are of one kind. A mark that the writer has left is then one of the reader's edge.
 pub fn same_ends_are_an_edge()
     ensures edge { (w w' : EdgeWriter) (r r' : EdgeReader) → IsEdge w r → SameWriter w w' →
         SameReader r r' → IsEdge w' r' }
     ensures capacity { (w w' : EdgeWriter) → SameWriter w w' → edge_capacity w' ≡ edge_capacity w }
+    ensures kind { (w w' : EdgeWriter) → SameWriter w w' → kind_of w' ≡ kind_of w }
+    ensures kinds { (w : EdgeWriter) (r : EdgeReader) → IsEdge w r → reader_kind r ≡ kind_of w }
     ensures mark { (w : EdgeWriter) (r : EdgeReader) (f : FinishedMark) → IsEdge w r →
         Finishes w f → IsMarkOf f r }
 {}

@@ -122,15 +122,15 @@ impl EdgeWriter {
         ensures succeeds { ended (signals (sent self.old)) ≡ false →
             length block.old.items ≤ certain_room self.old → IsTrue result }
     {
-        if self.closed {
+        let (count, was_closed) = (block.len(), self.closed);
+        if was_closed {
             return false;
         }
-        let count = block.len();
-        let closes = ends(block.as_slice());
+        let has_end = ends(block.as_slice());
         if !self.ring.push_block(block) {
             return false;
         }
-        self.closed = closes;
+        self.closed = has_end;
         self.put = self.put.saturating_add(count as u64);
         true
     }

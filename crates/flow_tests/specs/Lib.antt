@@ -1,2 +1,3 @@
 pub mod NoEnds
 pub mod Joined
+pub mod Ints

@@ -1,10 +1,16 @@
 // Messages of tests, by numbers: a message carries the number, or is `End` where there is none. (What was taken is let go in
 // here, and not in each test.)
+ghost use Rattle.std.specs.Prelude.{◌≡◌, true};
+ghost use Rattle.flow_messages.specs.declared.message.Kind.TheVariants.{Int as IntKind};
+ghost use Rattle.flow_messages.specs.Signals.{signal_of};
+ghost use Rattle.flow_rings.specs.Flats.{fits};
 
 use flow_messages::{Item, Msg, Refused, Why};
 
 /// The message of this number, or `End`.
-pub fn message(number: Option<i128>) -> Msg {
+pub fn message(number: Option<i128>) -> Msg
+    ensures { fits IntKind (signal_of result) ≡ true }
+{
     match number {
         Some(value) => Msg::Item(Item::Int(value)),
         None => Msg::End,

@@ -1,12 +1,17 @@
 // Both ends of an edge in one thread, by steps.
-ghost use Rattle.std.specs.Prelude.{◌<◌, ◌≤◌};
-ghost use Rattle.flow_messages.specs.Limits.{greatest_capacity};
-ghost use Rattle.flow_rings.specs.Edge.{IsEdge};
+ghost use Rattle.std.specs.Prelude.{◌≡◌, true, Some};
+ghost use Rattle.std.specs.List.{All};
+ghost use Rattle.flow_messages.specs.declared.message.Kind.TheVariants.{Int as IntKind};
+ghost use Rattle.flow_messages.specs.Signals.{signals, signal_of, orderly};
+ghost use Rattle.flow_rings.specs.Edge.{IsEdge, kind_of};
+ghost use Rattle.flow_rings.specs.Flats.{message_of, messages_of, fits};
+ghost use Rattle.flow_tests.specs.Ints.{TakesInts};
 
 use crate::parts::messages::{is_message, is_refused, message};
-use flow_messages::Why;
-use flow_rings::{EdgeReader, EdgeWriter, Held, edge, meet, same_ends_are_an_edge};
-use std::alloc::{AllocError, Global};
+use flow_messages::{Kind, Why};
+use flow_rings::{
+    Block, EdgeReader, EdgeWriter, Flat, Held, edge, meet, same_ends_are_an_edge, scalar_edge,
+};
 use std::process::Abort;
 use std::test::Fail;
 
@@ -25,8 +30,10 @@ enum Step {
 
 // Makes a step. Whether what is to come of it comes.
 fn goes(writer: &mut EdgeWriter, reader: &mut EdgeReader, step: Step) -> bool
-    requires { IsEdge writer.old reader.old }
-    ensures { IsEdge writer.new reader.new }
+    requires edge { IsEdge writer.old reader.old }
+    requires ints { TakesInts (kind_of writer.old) }
+    ensures edge { IsEdge writer.new reader.new }
+    ensures kind { kind_of writer.new ≡ kind_of writer.old }
 {
     same_ends_are_an_edge();
     match step {
@@ -40,21 +47,85 @@ fn goes(writer: &mut EdgeWriter, reader: &mut EdgeReader, step: Step) -> bool
     }
 }
 
-// Asserts that these steps go one after another over a new edge of this capacity.
-fn assert_goes(
-    rt: &impl Abort,
-    alloc: Global,
-    capacity: usize,
-    steps: &[Step],
-) -> Result<(), AllocError>
-    requires some { 0 < capacity }
-    requires limit { capacity ≤ greatest_capacity }
+// Asserts that these steps go one after another over a new edge.
+fn assert_goes(rt: &impl Abort, ends: (EdgeWriter, EdgeReader), steps: &[Step])
+    requires edge { IsEdge ends.0 ends.1 }
+    requires ints { TakesInts (kind_of ends.0) }
 {
-    let (mut writer, mut reader) = edge(alloc, capacity)?;
+    let (mut writer, mut reader) = ends;
     for (number, &step) in steps.iter().enumerate() {
         assert!(rt; goes(&mut writer, &mut reader, step), "step {number}");
     }
-    Ok(())
+}
+
+// What is done at an edge of integers. A block has these numbers, and `End` behind them where it closes.
+#[derive(Clone, Copy)]
+enum BlockStep {
+    One(Step),
+    HasRoomFor(usize, bool),
+    Puts(&'static [i128], bool),
+    // Nothing of the block is put.
+    IsRefused(&'static [i128], bool),
+    // At most so many are taken, and these come.
+    Takes(usize, &'static [i128], bool),
+}
+
+// The block of these numbers, and of `End` where it closes, as far as it has room.
+fn block(numbers: &[i128], closes: bool) -> Block
+    ensures fit { All (λ x. fits IntKind (signal_of (message_of x)) ≡ true) result.items }
+    ensures last { orderly (signals (messages_of result.items)) ≡ true }
+{
+    let mut block = Block::new();
+    for &number in numbers {
+        if block.try_push(Flat::Int(number)).is_err() {
+            return block;
+        }
+    }
+    if closes && block.try_push(Flat::End).is_err() {
+        return block;
+    }
+    block
+}
+
+// Makes a step over an edge of integers. Whether what is to come of it comes.
+fn goes_in_blocks(writer: &mut EdgeWriter, reader: &mut EdgeReader, step: BlockStep) -> bool
+    requires edge { IsEdge writer.old reader.old }
+    requires kind { kind_of writer.old ≡ Some IntKind }
+    ensures edge { IsEdge writer.new reader.new }
+    ensures kind { kind_of writer.new ≡ Some IntKind }
+{
+    same_ends_are_an_edge();
+    match step {
+        BlockStep::One(step) => goes(writer, reader, step),
+        BlockStep::HasRoomFor(count, room) => writer.room_for(count) == room,
+        BlockStep::Puts(numbers, closes) => {
+            let mut block = block(numbers, closes);
+            writer.put_block(&mut block) && block.is_empty()
+        }
+        BlockStep::IsRefused(numbers, closes) => {
+            let (mut put, kept) = (block(numbers, closes), block(numbers, closes));
+            !writer.put_block(&mut put) && put.as_slice() == kept.as_slice()
+        }
+        BlockStep::Takes(most, numbers, closes) => {
+            let mut taken = Block::new();
+            let count = reader.take_block(&mut taken, most);
+            count == taken.len() && taken.as_slice() == block(numbers, closes).as_slice()
+        }
+    }
+}
+
+// Asserts that these steps go one after another over a new edge of integers.
+fn assert_goes_in_blocks(rt: &impl Abort, ends: (EdgeWriter, EdgeReader), steps: &[BlockStep])
+    requires edge { IsEdge ends.0 ends.1 }
+    requires kind { kind_of ends.0 ≡ Some IntKind }
+{
+    let (mut writer, mut reader) = ends;
+    for (number, &step) in steps.iter().enumerate() {
+        assert!(rt;
+            goes_in_blocks(&mut writer, &mut reader, step),
+            "step {number}"
+        );
+    }
 }
 
 // Two messages fill an edge of two.
@@ -85,8 +156,46 @@ const OF_ONE: [Step; 4] = [
     Step::Takes(Some(1)),
 ];
 
+// Blocks go over an edge of three, whole or not at all, and are taken in order.
+const IN_BLOCKS: [BlockStep; 16] = [
+    BlockStep::HasRoomFor(3, true),
+    BlockStep::HasRoomFor(4, false),
+    BlockStep::Puts(&[1, 2], false),
+    BlockStep::IsRefused(&[3], true),
+    BlockStep::Puts(&[3], false),
+    BlockStep::IsRefused(&[], true),
+    BlockStep::One(Step::Meets(Held { count: 3, room: 0 })),
+    BlockStep::Takes(0, &[], false),
+    BlockStep::Takes(2, &[1, 2], false),
+    BlockStep::HasRoomFor(2, true),
+    BlockStep::Puts(&[4], true),
+    BlockStep::IsRefused(&[5], false),
+    BlockStep::One(Step::IsRefused(Some(5), Why::Closed)),
+    BlockStep::One(Step::Meets(Held { count: 3, room: 0 })),
+    BlockStep::Takes(64, &[3, 4], true),
+    BlockStep::Takes(64, &[], false),
+];
+
+// `End` alone is refused by a full edge too.
+const END_ALONE: [BlockStep; 4] = [
+    BlockStep::Puts(&[1], false),
+    BlockStep::IsRefused(&[], true),
+    BlockStep::One(Step::Meets(Held { count: 1, room: 0 })),
+    BlockStep::Takes(64, &[1], false),
+];
+
 #[test]
 fn edges_of_two_and_of_one(rt: HostRuntime) -> Result<(), Fail> {
-    assert_goes(&rt, rt.alloc(), 2, &OF_TWO)?;
-    Ok(assert_goes(&rt, rt.alloc(), 1, &OF_ONE)?)
+    assert_goes(&rt, edge(rt.alloc(), 2)?, &OF_TWO);
+    assert_goes(&rt, edge(rt.alloc(), 1)?, &OF_ONE);
+    assert_goes(&rt, scalar_edge(rt.alloc(), Kind::Int, 2)?, &OF_TWO);
+    assert_goes(&rt, scalar_edge(rt.alloc(), Kind::Int, 1)?, &OF_ONE);
+    Ok(())
+}
+
+#[test]
+fn blocks_over_edges_of_integers(rt: HostRuntime) -> Result<(), Fail> {
+    assert_goes_in_blocks(&rt, scalar_edge(rt.alloc(), Kind::Int, 3)?, &IN_BLOCKS);
+    assert_goes_in_blocks(&rt, scalar_edge(rt.alloc(), Kind::Int, 1)?, &END_ALONE);
+    Ok(())
 }

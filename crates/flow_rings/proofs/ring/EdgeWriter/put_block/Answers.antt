@@ -14,11 +14,11 @@ invariant_of-self-2-clause-closes c =
     let before = sent c.args.self.now in
     let block = messages_of c.args.block.now.items in
     let done = c.if-not-push_block.ensures.done (search rules) in
-    c.ends-closes.ensures ∙ ap (λ (xs : List Flat). ended (signals (messages_of xs))) c.as_slice.ensures.value ∙ sym (ended-more before block (sym c.args.self.now.closes ∙ c.if-self.false)) ∙ ap (λ (ms : List Msg). ended (signals ms)) (sym done.0)
+    c.ends-has_end.ensures ∙ ap (λ (xs : List Flat). ended (signals (messages_of xs))) c.as_slice.ensures.value ∙ sym (ended-more before block (sym c.args.self.now.closes ∙ c.if-was_closed.false)) ∙ ap (λ (ms : List Msg). ended (signals ms)) (sym done.0)
 
 pub invariant_of-self-2-clause-orderly : goal.invariant_of-self-2-clause-orderly
 invariant_of-self-2-clause-orderly c =
     let before = sent c.args.self.now in
     let block = messages_of c.args.block.now.items in
     let done = c.if-not-push_block.ensures.done (search rules) in
-    ap (λ (ms : List Msg). orderly (signals ms)) done.0 ∙ orderly-more before block (sym c.args.self.now.closes ∙ c.if-self.false) ∙ c.requires.last
+    ap (λ (ms : List Msg). orderly (signals ms)) done.0 ∙ orderly-more before block (sym c.args.self.now.closes ∙ c.if-was_closed.false) ∙ c.requires.last
