@@ -77,13 +77,15 @@ fn block(numbers: &[i128], closes: bool) -> Block
 {
     let mut block = Block::new();
     for &number in numbers {
-        if block.try_push(Flat::Int(number)).is_err() {
+        if block.is_full() {
             return block;
         }
+        block.push(Flat::Int(number));
     }
-    if closes && block.try_push(Flat::End).is_err() {
+    if !closes || block.is_full() {
         return block;
     }
+    block.push(Flat::End);
     block
 }
 
