@@ -3,3 +3,4 @@ pub mod Flats
 pub mod PutsAll
 pub mod RingLines
 pub mod Meetings
+pub mod Sends

@@ -4,7 +4,10 @@ use Rattle.flow_opening.specs.Settings.{AreFed}
 use Rattle.flow_epochs.specs.Epochs.{AreOfOneGraph}
 use Rattle.flow_epochs.proofs.Lists.{fed_stay}
 use Rattle.flow_epochs.proofs.Pumps.{pumped_graph}
+use Rattle.flow_rings.proofs.Sends.{rings_send}
 use Rattle.flow_epochs.proofs.Whole.{is_epoch}
+use denote.Param.Send.{sendable}
+use Rattle.std.proofs.Crossing.{crosses}
 use Rattle.flow_epochs.proofs.epochs.epoch.Goals as goal
 
 pub run_all-requires-clause-fed : goal.run_all-requires-clause-fed
@@ -28,3 +31,7 @@ returns-clause-epoch g c =
     let laws = (g.met.T.Transducer g.world.𝓛 g.world.𝓜 g.world.𝓡 ((λ s x. x), (λ x. x), (λ x. x), λ x. x)).laws in
     is_epoch g.setting (λ a b same. same) laws shares mid pumped c.in_ok-back-2.back.items first went.count went.each c.in_ok-back-2.ensures graph
     (pumped_graph (λ a b same. same) g.setting mid pumped went.count went.each first.graph)
+
+-- a share with its rings may go to another thread
+pub run_all-requires-send-E : goal.run_all-requires-send-E
+run_all-requires-send-E g c κs within = search (rings_send, crosses, sendable) depth 60 fits 20000

@@ -1,4 +1,4 @@
-use Rattle.std.proofs.Common.{rules, length, ap, sym, ◌∙◌, arith, length-append}
+use Rattle.std.proofs.Common.{rules, ap, sym, ◌∙◌}
 use Rattle.flow_messages.specs.declared.message.Msg.{Msg}
 use Rattle.flow_messages.specs.Signals.{signals, ended, orderly}
 use Rattle.flow_messages.proofs.Signals.{ended-more, orderly-more}
@@ -6,7 +6,6 @@ use Rattle.std.proofs.Common.{List}
 use Rattle.flow_rings.specs.declared.flat.Flat.{Flat}
 use Rattle.flow_rings.specs.Flats.{messages_of}
 use Rattle.flow_rings.specs.Edge.{sent}
-use Rattle.flow_rings.proofs.Flats.{many}
 use Rattle.flow_rings.proofs.ring.EdgeWriter.put_block.Goals as goal
 
 pub invariant_of-self-2-clause-closes : goal.invariant_of-self-2-clause-closes

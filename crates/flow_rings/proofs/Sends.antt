@@ -1,0 +1,35 @@
+-- That the ring ends of a share may go to another thread. No search finds it by itself, since a ring is of one of four kinds.
+use denote.Param.Send.{IsSend, sendable}
+use Rattle.std.proofs.Crossing.{crosses}
+use Rattle.std.proofs.Crossing as crossing
+use Rattle.std.proofs.alloc.Global.TheSendSync as heap
+use Rattle.rtrb.proofs.end.End.TheSendSync as end
+use Rattle.snesl_data.proofs.datum.Datum.TheLaws.TheKnot as datum_knot
+use Rattle.flow_rings.proofs.flat.Flat.TheSendSync as flat
+use Rattle.snesl_data.specs.contracts.datum.Datum as datum
+use Rattle.flow_rings.specs.contracts.ring.WriterRing as writer_ring
+use Rattle.flow_rings.specs.contracts.ring.ReaderRing as reader_ring
+use Rattle.flow_rings.specs.contracts.ring.EdgeWriter as writer
+use Rattle.flow_rings.specs.contracts.ring.EdgeReader as reader
+use Rattle.flow_rings.specs.contracts.rings.Rings as rings
+
+datum_sends : IsSend datum.the_field.row
+datum_sends = search (crosses, datum_knot.crosses, sendable) depth 60 fits 20000
+
+ruleset parts = (datum_sends, end.the_send, heap.the_field_send, flat.the_field_send, crossing.frees, crosses, sendable)
+
+-- the kinds in their order, each by the one field that it has
+writer_ring_sends : IsSend writer_ring.the_field.row
+writer_ring_sends = search parts depth 60 fits 20000
+
+reader_ring_sends : IsSend reader_ring.the_field.row
+reader_ring_sends = search parts depth 60 fits 20000
+
+writer_sends : IsSend writer.the_field.row
+writer_sends = search (writer_ring_sends, crosses, sendable) depth 60 fits 20000
+
+reader_sends : IsSend reader.the_field.row
+reader_sends = search (reader_ring_sends, crosses, sendable) depth 60 fits 20000
+
+pub rings_send : IsSend rings.the_field.row
+rings_send = search (writer_sends, reader_sends, crosses, sendable) depth 60 fits 20000
