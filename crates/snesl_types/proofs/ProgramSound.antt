@@ -22,7 +22,7 @@ use Rattle.snesl_types.proofs.Sound.{tree_sound}
 use Rattle.snesl_types.proofs.ProgramAnswers.{capped_all, size_capped, with_capped, names_complete, function_complete, program_complete, violation_complete}
 
 module _ (dialect : Dialect) (text : List ℕ) where
-  abbrev OfNames : List Declaration → List Typed → Result (List Declaration) Refusal → Type 0
+  abbrev pub OfNames : List Declaration → List Typed → Result (List Declaration) Refusal → Type 0
   OfNames earlier written r = Outcome (NamesType text earlier written) (NamesViolate text earlier written) (Unit {0}) r
 
   -- one name, and what others behind it give
@@ -47,7 +47,7 @@ module _ (dialect : Dialect) (text : List ℕ) where
   one_violates others r (type_refused e w) = type_refused e w
   one_violates others r (later_names_violate e w v) = elim v [ ]
 
-  names_sound : (earlier : List Declaration) (written : List Typed) → OfNames earlier written (names_verdict text earlier written)
+  pub names_sound : (earlier : List Declaration) (written : List Typed) → OfNames earlier written (names_verdict text earlier written)
   names_sound earlier [] = given no_names
   names_sound earlier (first ∷ others) =
       name_outcome earlier first others (λ declaration. names_verdict text (earlier ++ (declaration ∷ [])) others) (one_violates others)
@@ -88,12 +88,12 @@ module _ (dialect : Dialect) (text : List ℕ) where
     function_sound : OfFunction (function_verdict dialect text functions place written result body)
     function_sound = of_new (function_named (spelling text place) functions) refl
 
-  abbrev OfDeclarations : Declared → List DeclarationTree → Result Declared Refusal → Type 0
+  abbrev pub OfDeclarations : Declared → List DeclarationTree → Result Declared Refusal → Type 0
   OfDeclarations earlier declarations r =
       Outcome (λ found. (all : Declared) × DeclarationsType dialect text earlier declarations all × (found ≡ capped_all all))
       (DeclarationsViolate dialect text earlier declarations) (DeclarationsInRange dialect declarations) r
 
-  declarations_sound : (earlier : Declared) (declarations : List DeclarationTree) → OfDeclarations earlier declarations (declarations_verdict dialect text (capped_all earlier) declarations)
+  pub declarations_sound : (earlier : Declared) (declarations : List DeclarationTree) → OfDeclarations earlier declarations (declarations_verdict dialect text (capped_all earlier) declarations)
   declarations_sound earlier [] = given (earlier, no_declarations, refl)
   declarations_sound earlier (declares_input first ∷ others) =
       of_input (λ t. declarations_sound (with_inputs earlier (earlier.inputs ++ (named text first t ∷ []))) others)

@@ -204,7 +204,7 @@ mutual
       (λ t c r v. body_violates bs c v) (λ h. h.2)
       (λ t u c b. of_comprehension dialect text functions context at body binders condition items t u bs c b))
 
-  all_sound : (dialect : Dialect) (text : List ℕ) (functions : Signatures) (context : Context) (earlier : List Ty) (trees : Trees)
+  pub all_sound : (dialect : Dialect) (text : List ℕ) (functions : Signatures) (context : Context) (earlier : List Ty) (trees : Trees)
       → OfTrees dialect text functions context earlier trees (verdicts dialect text functions context earlier trees)
   all_sound dialect text functions context earlier none = given ([], no_types, sym (append-nil earlier))
   all_sound dialect text functions context earlier (both first others) =
@@ -217,7 +217,7 @@ mutual
       of_others t a (violated v) = violated (later_violates a v)
       of_others t a (out_of_range n) = out_of_range (λ h. n h.1)
 
-  binders_sound : (dialect : Dialect) (text : List ℕ) (functions : Signatures) (context : Context) (earlier : List Declaration) (binders : Binders)
+  pub binders_sound : (dialect : Dialect) (text : List ℕ) (functions : Signatures) (context : Context) (earlier : List Declaration) (binders : Binders)
       → OfBinders dialect text functions context earlier binders (binders_verdict dialect text functions context earlier binders)
   binders_sound dialect text functions context earlier none_bound = given no_binders
   binders_sound dialect text functions context earlier (binder place source others) =

@@ -10,6 +10,8 @@ pub mod Names
 pub mod Views
 pub mod Typed
 pub mod Soundness
+pub mod Clashes
+pub mod Misfitting
 -- what the public clauses cite of the crates below
 pub use Rattle.snesl_data.specs.declared.refusal.Refusal
 pub use Rattle.snesl_values.specs.Inputs

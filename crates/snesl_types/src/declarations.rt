@@ -125,7 +125,7 @@ fn function_of(
 }
 
 // The parameters of a function with their types.
-fn parameters_of(
+pub(crate) fn parameters_of(
     alloc: Global,
     text: &[u8],
     written: &[Typing],
@@ -161,7 +161,7 @@ fn named(
 }
 
 // The type that a written one means.
-fn type_written(alloc: Global, written: &WrittenType) -> Result<Ty, Refusal>
+pub(crate) fn type_written(alloc: Global, written: &WrittenType) -> Result<Ty, Refusal>
     ensures { IsAnswer ty_of (written_type (type_tree written.now)) result }
 {
     match written {

@@ -198,7 +198,11 @@ fn condition_type(
 
 // The types of arguments or items, from left to right.
 #[cycle(typing)]
-fn types_of(alloc: Global, scope: &Scope<'_>, arguments: &[Expr]) -> Result<Vec<Ty>, Refusal>
+pub(crate) fn types_of(
+    alloc: Global,
+    scope: &Scope<'_>,
+    arguments: &[Expr],
+) -> Result<Vec<Ty>, Refusal>
     ensures { IsAnswer (λ types. map ty_of types.items)
         (all_typed_in scope.now [] (trees_of arguments.now)) result }
 {
@@ -212,7 +216,7 @@ fn types_of(alloc: Global, scope: &Scope<'_>, arguments: &[Expr]) -> Result<Vec<
 
 // The names of binders with the types of their elements, from left to right.
 #[cycle(typing)]
-fn binder_types(
+pub(crate) fn binder_types(
     alloc: Global,
     scope: &Scope<'_>,
     binders: &[Binder],

@@ -1,4 +1,4 @@
-use Rattle.std.proofs.Common.{ℕ, ◌+◌, [], map, drop, Vec, Global, sym, ap, ◌∙◌, arith}
+use Rattle.std.proofs.Common.{ℕ, ◌+◌, [], map, drop, Vec, Global, sym, ap, ◌∙◌}
 use Rattle.snesl_data.specs.declared.ty.Ty.{Ty as TyTree}
 use Rattle.snesl_values.specs.Inputs.{declared, declaration_of}
 use Rattle.snesl_tree.specs.View.{typed_of}
