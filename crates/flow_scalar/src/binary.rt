@@ -1,6 +1,6 @@
 // Operators on two scalars.
 
-ghost use Rattle.std.specs.Prelude.{◌≡◌, ◌≢◌, ℕ, ◌≤◌, length, Ok, IfSome};
+ghost use Rattle.std.specs.Prelude.{◌≡◌, ◌≢◌, ◌*ℤ◌, ℕ, ◌≤◌, length, Ok, IfSome};
 ghost use Rattle.flow_base.specs.Machines.{Leads};
 ghost use Rattle.flow_base.specs.Nodes.{behaviour_of, node_state};
 ghost use Rattle.flow_base.specs.Visits.{edge_of, IsWired, Went};
@@ -21,6 +21,18 @@ use snesl_data::Dialect;
 use snesl_operators::{BinaryOperator, Scalar, ScalarType};
 use std::alloc::AllocError;
 
+// The product, where it fits 64 bits. Most factors fit 32 bits, and then no test of the product is needed.
+#[inline(always)]
+fn product(m: i64, n: i64) -> Option<i64>
+    ensures { IfSome result (λ v. v ≡ m *ℤ n) }
+{
+    if let (Ok(left), Ok(right)) = (i32::try_from(m), i32::try_from(n)) {
+        let product = i64::from(left) * i64::from(right);
+        return Some(product);
+    }
+    m.checked_mul(n)
+}
+
 // The integer at two integers, where there is one. Most fit 64 bits, which are faster to compute with.
 #[inline(always)]
 fn int_at(operator: BinaryOperator, dialect: Dialect, left: i128, right: i128) -> Option<i128>
@@ -31,7 +43,7 @@ fn int_at(operator: BinaryOperator, dialect: Dialect, left: i128, right: i128) -
         let narrow = match operator {
             BinaryOperator::Add => m.checked_add(n),
             BinaryOperator::Subtract => m.checked_sub(n),
-            BinaryOperator::Multiply => m.checked_mul(n),
+            BinaryOperator::Multiply => product(m, n),
             _ => None,
         };
         if let Some(value) = narrow {
