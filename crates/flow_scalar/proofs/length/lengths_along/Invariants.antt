@@ -1,4 +1,4 @@
-use Rattle.std.proofs.Common.{◌≡◌, ◌≤◌, ◌+◌, length, take}
+use Rattle.std.proofs.Common.{◌≤◌, ◌+◌, take}
 use Rattle.flow_scalar.specs.LengthBlocks.{LengthsAlong}
 use Rattle.flow_scalar.proofs.length.lengths_along.Given as goal
 

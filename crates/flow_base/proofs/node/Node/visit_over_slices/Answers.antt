@@ -1,7 +1,6 @@
 use Rattle.std.proofs.Common.{◌≡◌, ℕ, ◌||◌, nat_lt, true, false, Bool, Result, Ok, Err, ap, subst, arith}
 use Rattle.std.specs.Result.{IfOk, OnErr}
 use Rattle.std.proofs.lemmas.Bool.Decides.{nat_tests}
-use Rattle.flow_base.specs.declared.node.Phase.TheVariants.{Working}
 use Rattle.flow_base.specs.Members.{node_of}
 use Rattle.flow_base.specs.Visits.{Visited}
 use Rattle.flow_base.proofs.Kernels.{made_went}

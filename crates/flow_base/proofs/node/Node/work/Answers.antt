@@ -1,4 +1,4 @@
-use Rattle.std.proofs.Common.{◌≡◌, ℕ, ◌+◌, ◌<◌, nat_lt, true, false, sym, ◌∙◌, ap, subst, arith}
+use Rattle.std.proofs.Common.{◌≡◌, ℕ, ◌+◌, ◌<◌, nat_lt, true, sym, ◌∙◌, ap, subst, arith}
 use Rattle.std.proofs.lemmas.Bool.Decides.{nat_tests}
 use Rattle.kahn.specs.declared.want.Want.TheVariants.{Read, Write}
 use Rattle.flow_messages.specs.Signals.{signal_of, carry}
@@ -9,7 +9,6 @@ use Rattle.flow_base.specs.Members.{node_of}
 use Rattle.flow_base.specs.Visits.{edge_of, IsStuck, Visited}
 use Rattle.flow_base.proofs.Carried.{same_ends_then}
 use Rattle.flow_base.proofs.Visits.{Made, input_there, output_there, reads_at, made_none, made_read, made_put, made_looked, made_room, visited, broke_off, broke_reading, starves_err, no_room, on_err}
-use Rattle.flow_base.specs.declared.node.Phase.TheVariants.{Working}
 use Rattle.flow_base.proofs.node.Node.work.Goals.{in-Read+else-prove+in-Some+in_ok-read_on-in-Read+else-not-branch, in-Write+else-prove-2+else-not-room+in_ok-item-in-Write+in-Err+in-Item+in-Vec-1, in-Write+else-prove-2+else-not-room+in_ok-item-in-Write+in-Err+in-Item+in-Unit-1, in-Write+else-prove-2+else-not-room+in_ok-item-in-Write+in-Err+in-End-1, in-Write+else-prove-2+else-not-room+in_ok-item-in-Write+in-Ok-1}
 use Rattle.flow_base.proofs.node.Node.work.Goals as goal
 

@@ -1,4 +1,4 @@
-use Rattle.std.proofs.Common.{◌≡◌, ℕ, ◌+◌, ◌<◌, ◌*◌, length, refl, sym, ◌∙◌, ap, subst, arith}
+use Rattle.std.proofs.Common.{◌≡◌, ℕ, ◌+◌, ◌<◌, ◌*◌, length, refl, sym, ap, subst, arith}
 use Rattle.flow_base.specs.Nodes.{NodeState, behaviour_of, node_state}
 use Rattle.flow_base.specs.Visits.{Went}
 use Rattle.flow_base.specs.declared.node.Phase.TheVariants.{Working}

@@ -1,9 +1,6 @@
-use Rattle.std.proofs.Common.{◌≡◌, ◌+◌, subst, arith}
 use Rattle.flow_base.specs.Nodes.{behaviour_of, node_state}
-use Rattle.flow_base.specs.Visits.{Went}
 use Rattle.flow_base.specs.declared.node.Phase.TheVariants.{Working}
-use Rattle.flow_base.proofs.Carried.{same_ends_then}
-use Rattle.flow_base.proofs.Kernels.{went_none, went_further}
+use Rattle.flow_base.proofs.Kernels.{went_none}
 use Rattle.flow_scalar.specs.LengthMachine.{length_machine, length_view}
 use Rattle.flow_scalar.proofs.length.LengthWorker.blocks.Goals as goal
 

@@ -1,4 +1,4 @@
-use Rattle.std.proofs.Common.{◌≡◌, ℕ, ◌-◌, ◌≤◌, length}
+use Rattle.std.proofs.Common.{ℕ, ◌-◌, ◌≤◌}
 use Rattle.flow_messages.specs.Ends.{SameEnds}
 use Rattle.flow_base.specs.Nodes.{behaviour_of, node_state}
 use Rattle.flow_base.specs.Visits.{Went}
