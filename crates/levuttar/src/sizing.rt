@@ -89,11 +89,13 @@ fn size_job<R: Read + Drop, W: Write, E: Write>(
         Err(error) => return say_plainly(Refusal::from(error), err),
     };
     match least_capacity(rt, alloc, &program, &input, chunk) {
-        Ok(Size::Ends { least, rested }) => print_table(
-            size_table(alloc, least, &rested),
-            out,
-            err,
-        ),
+        Ok(
+            Size::Ends {
+                least,
+                full,
+                rested,
+            },
+        ) => print_table(size_table(alloc, least, full, &rested), out, err),
         Ok(Size::Faults(fault)) => say(fault_message(alloc, fault, &program), 2, err),
         Ok(Size::NeverEnds) => say(
             stalled_message(alloc, &program, None, Enough::Nothing),

@@ -1,23 +1,33 @@
--- What a table holds once its last lines were added.
-use Rattle.std.proofs.Common.{◌≡◌, ◌∙◌, List, [], ◌++◌, ap, append_assoc, codes, length, subst, sym, ℕ}
+-- What a table holds once its lines were added.
+use Rattle.std.proofs.Common.{◌≡◌, ◌∙◌, List, [], ◌++◌, Option, ap, append_assoc, codes, length, refl, sym, ℕ}
+use Rattle.std.proofs.lemmas.List.{append-nil}
 use Rattle.snesl_flatten.specs.Networks.{NodeState}
 use Rattle.snesl_network.specs.NodesAtRest.{Rest}
-use Rattle.snesl_size.specs.Tables.{IsBusiest, IsSizeTable, busiest_part, count_over, numbered, sizes_part, with_edges, without_edges}
+use Rattle.snesl_size.specs.Tables.{AddedTo, BusiestLines, IsBusiest, IsSizeTable, busiest_part, count_over, full_part, numbered, sizes_part, with_edges, without_edges}
 
-module _ (least : ℕ) (rest : Rest NodeState) (empty sizes : List ℕ) (new : empty ≡ []) (made : sizes ≡ empty ++ sizes_part least rest) where
-  sizes_are : sizes ≡ sizes_part least rest
-  sizes_are = made ∙ ap (λ l. l ++ sizes_part least rest) new
-
+module _ (rest : Rest NodeState) (before : List ℕ) where
   -- the lines of the busiest edge
   pub with_busiest : (e count : ℕ) (line table : List ℕ) → IsBusiest rest e → count ≡ count_over rest e
-      → line ≡ sizes ++ numbered (codes "busiest edge: ") e → table ≡ line ++ numbered (codes "messages on it: ") count
-      → IsSizeTable least rest table
-  with_busiest e count line table is counted first second =
-      let all = second ∙ ap (λ l. l ++ numbered (codes "messages on it: ") count) first
-      ∙ append_assoc sizes (numbered (codes "busiest edge: ") e) (numbered (codes "messages on it: ") count)
-      ∙ ap (λ l. l ++ busiest_part e count) sizes_are ∙ ap (λ n. sizes_part least rest ++ busiest_part e n) counted in
-      subst (IsSizeTable least rest) (sym all) (with_edges e is)
+      → line ≡ before ++ numbered (codes "busiest edge: ") e → table ≡ line ++ numbered (codes "messages on it: ") count
+      → AddedTo (BusiestLines rest) before table
+  with_busiest e count line table is counted first second = (
+    busiest_part e (count_over rest e),
+    with_edges e is,
+    second ∙ ap (λ l. l ++ numbered (codes "messages on it: ") count) first
+        ∙ append_assoc before (numbered (codes "busiest edge: ") e) (numbered (codes "messages on it: ") count)
+        ∙ ap (λ n. before ++ busiest_part e n) counted,
+  )
 
   -- or none
-  pub without_busiest : length rest.edges ≡ 0 → IsSizeTable least rest sizes
-  without_busiest none = subst (IsSizeTable least rest) (sym sizes_are) (without_edges none)
+  pub without_busiest : length rest.edges ≡ 0 → AddedTo (BusiestLines rest) before before
+  without_busiest none = ([], without_edges none, sym (append-nil before))
+
+-- all lines together
+pub whole_table : (least : ℕ) (full : Option ℕ) (rest : Rest NodeState) (empty sizes most table : List ℕ) → empty ≡ []
+    → sizes ≡ empty ++ sizes_part least rest → AddedTo (BusiestLines rest) sizes most → table ≡ most ++ full_part full
+    → IsSizeTable least full rest table
+whole_table least full rest empty sizes most table new first (lines, are, second) third = record {
+  busiest = lines;
+  lines = are;
+  is = third ∙ ap (λ l. l ++ full_part full) (second ∙ ap (λ l. l ++ lines) (first ∙ ap (λ l. l ++ sizes_part least rest) new));
+}

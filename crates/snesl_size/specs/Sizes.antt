@@ -1,8 +1,8 @@
 -- The least capacity at which a program ends.
-use Rattle.std.specs.Prelude.{◌≡◌, ◌≢◌, ℕ, ◌+◌, ◌<◌, ◌≤◌, List}
+use Rattle.std.specs.Prelude.{◌≡◌, ◌≢◌, ℕ, ◌+◌, ◌<◌, ◌≤◌, List, Option, Some, None}
 use Rattle.snesl_data.specs.declared.fault.Fault.{Fault}
 use Rattle.snesl_data.specs.declared.refusal.Refusal.{Refusal}
-use Rattle.kahn.specs.declared.outcome.Outcome.TheVariants.{Value as Ended}
+use Rattle.kahn.specs.declared.outcome.Outcome.TheVariants.{Value as Ended, Stalled}
 use Rattle.flow_messages.specs.Limits.{greatest_capacity}
 use Rattle.flow_drive.specs.declared.config.Config.{Config}
 use Rattle.flow_drive.specs.declared.config.Drive.TheVariants.{Serial}
@@ -11,7 +11,7 @@ use Rattle.snesl_flatten.specs.Networks.{NodeState}
 use Rattle.snesl_network.specs.Driven.{CameToRest, HaveEnded, IsNamed, WasRefused}
 use Rattle.snesl_network.specs.NodesAtRest.{Rest, rest_of}
 use Rattle.snesl_run.specs.declared.report.Report.{Report}
-use Rattle.snesl_run.specs.Runs.{rest_in, outcome_of, EndsInFault, IsReported}
+use Rattle.snesl_run.specs.Runs.{rest_in, outcome_of, CameOut, EndsInFault, IsReported}
 use Rattle.snesl_size.specs.declared.size.Size.{Size}
 use Rattle.snesl_size.specs.declared.size.Size.TheVariants.{Ends, Faults, NeverEnds}
 use Rattle.snesl_size.specs.Staying.{HasEndedAs}
@@ -39,6 +39,19 @@ module _ (program input : List ℕ) where
     pub from_there_on : (config : Config) (report : Report) → IsInSteps config.drive → capacity ≤ config.capacity
         → IsReported program input config report → (outcome_of report ≡ Ended) × HasEndedAs rest (rest_in report)
 
+  -- A drive in one thread, at one message less than this capacity, has stalled where this edge was full and its writer waited.
+  pub record StalledBelow (capacity edge : ℕ) : Type 0 where
+    pub below : ℕ
+    pub one_less : below + 1 ≡ capacity
+    pub rest : Rest NodeState
+    pub left : IsLeft below rest
+    pub stalled : CameOut rest (Stalled edge)
+
+  -- the edge that was full at one message less, if there is a capacity so small
+  abbrev pub IsFullBelow : ℕ → Option ℕ → Type 0
+  IsFullBelow capacity (Some edge) = StalledBelow capacity edge
+  IsFullBelow capacity None = capacity ≡ 1
+
   -- The program ends in a fault, and this is the fault that is named at some capacity by a drive in one thread.
   pub record FaultsSo (fault : Fault) : Type 0 where
     pub capacity : ℕ
@@ -49,9 +62,10 @@ module _ (program input : List ℕ) where
     -- no report is of a value, of whatever drive at whatever capacity
     pub never : (config : Config) (report : Report) → IsReported program input config report → outcome_of report ≢ Ended
 
-  -- the program ends from this capacity on, and at no lesser one; or it ends in a fault; or at no capacity that there is
+  -- the program ends from this capacity on, and at no lesser one, where at one less this edge was full; or it ends in a fault; or at
+  -- no capacity that there is
   abbrev pub IsSizeOf : Size → Type 0
-  IsSizeOf (Ends least rested) = IsLeast least (rest_of rested)
+  IsSizeOf (Ends least full rested) = IsLeast least (rest_of rested) × IsFullBelow least full
   IsSizeOf (Faults fault) = FaultsSo fault
   IsSizeOf NeverEnds = EndsAtNoneBelow (greatest_capacity + 1)
 

@@ -1,5 +1,5 @@
 -- What is printed of a network that has ended at its least capacity.
-use Rattle.std.specs.Prelude.{◌≡◌, ℕ, ◌<◌, ◌≤◌, List, ◌++◌, codes, decimal, length}
+use Rattle.std.specs.Prelude.{◌≡◌, ℕ, ◌<◌, ◌≤◌, List, [], ◌++◌, Option, Some, None, codes, decimal, length}
 use Rattle.std.specs.Io.Iter.{u64_saturate}
 use Rattle.kahn.specs.Basics.{total}
 use Rattle.snesl_flatten.specs.Networks.{NodeState}
@@ -37,7 +37,22 @@ sizes_part least rest =
 abbrev pub busiest_part : ℕ → ℕ → List ℕ
 busiest_part edge count = numbered (codes "busiest edge: ") edge ++ numbered (codes "messages on it: ") count
 
--- what is printed of a network
-pub data IsSizeTable (least : ℕ) (rest : Rest NodeState) : List ℕ → Type 0 where
-  with_edges : (e : ℕ) → IsBusiest rest e → IsSizeTable least rest (sizes_part least rest ++ busiest_part e (count_over rest e))
-  without_edges : length rest.edges ≡ 0 → IsSizeTable least rest (sizes_part least rest)
+-- lines of which this holds were added
+abbrev pub AddedTo : (List ℕ → Type 0) → List ℕ → List ℕ → Type 0
+AddedTo P before after = (lines : List ℕ) × P lines × (after ≡ before ++ lines)
+
+-- the edge that was full at one message less, where there is one
+abbrev pub full_part : Option ℕ → List ℕ
+full_part (Some edge) = numbered (codes "full at one less: edge ") edge
+full_part None = []
+
+-- the lines of the busiest edge of a network, or none where it has no edge
+pub data BusiestLines (rest : Rest NodeState) : List ℕ → Type 0 where
+  with_edges : (e : ℕ) → IsBusiest rest e → BusiestLines rest (busiest_part e (count_over rest e))
+  without_edges : length rest.edges ≡ 0 → BusiestLines rest []
+
+-- What is printed of a network that has ended at its least capacity, where this edge was full at one message less.
+pub record IsSizeTable (least : ℕ) (full : Option ℕ) (rest : Rest NodeState) (table : List ℕ) : Type 0 where
+  pub busiest : List ℕ
+  pub lines : BusiestLines rest busiest
+  pub is : table ≡ sizes_part least rest ++ busiest ++ full_part full

@@ -21,7 +21,8 @@ use std::thread::Threads;
 /// The least capacity at which a program ends for its input text, where it ends at one, or why it ends at none.
 ///
 /// It is driven in one thread, each node with at most so many steps at a visit: at the capacities 1, 2, 4 and so on up to the
-/// greatest, 65,536, until it does not stall, and then between the last two by halving.
+/// greatest, 65,536, until it does not stall, and then between the last two by halving. So at one message less than the least it has
+/// stalled, and the edge that was full there is told too.
 ///
 /// # Errors
 ///
@@ -42,6 +43,7 @@ pub fn least_capacity<R: Threads>(
     let mut least = 1;
     let mut enough = MAX_CAPACITY + 1;
     let mut ended = None;
+    let mut full = None;
     while least < enough {
         let capacity = next_capacity(least, enough);
         let rested = left_at(rt, alloc, program, input, chunk, capacity)?;
@@ -51,11 +53,18 @@ pub fn least_capacity<R: Threads>(
                 ended = Some(rested);
             }
             Outcome::Fault(fault) => return Ok(Size::Faults(fault)),
-            Outcome::Stalled { .. } => least = capacity + 1,
+            Outcome::Stalled { edge } => {
+                least = capacity + 1;
+                full = Some(edge);
+            }
         }
     }
     match ended {
-        Some(rested) => Ok(Size::Ends { least, rested }),
+        Some(rested) => Ok(Size::Ends {
+            least,
+            full,
+            rested,
+        }),
         None => Ok(Size::NeverEnds),
     }
 }
@@ -161,18 +170,20 @@ mod tests {
 
     #[test]
     fn a_size_is_a_table(rt: HostRuntime) -> Result<(), Fail> {
-        let Ok(Size::Ends { least, rested }) = least_capacity(
-            &rt,
-            rt.alloc(),
-            WAITING.as_bytes(),
-            b"",
-            16,
-        ) else {
+        let Ok(
+            Size::Ends {
+                least,
+                full,
+                rested,
+            },
+        ) = least_capacity(&rt, rt.alloc(), WAITING.as_bytes(), b"", 16)
+        else {
             return Err("it does not end")?;
         };
-        let table = size_table(rt.alloc(), least, &rested)?;
+        let table = size_table(rt.alloc(), least, full, &rested)?;
         let want = b"least capacity: 300\nnodes: ";
         assert!(rt; table.starts_with(want));
+        assert!(rt; full.is_some());
         Ok(())
     }
 }

@@ -2,7 +2,7 @@
 
 ghost use Rattle.std.specs.Prelude.{◌≡◌, ◌++◌, IfOk, MatchOption, OnOk, length};
 ghost use Rattle.snesl_network.specs.NodesAtRest.{rest_of};
-ghost use Rattle.snesl_size.specs.Tables.{IsBusiest, IsSizeTable, count_over, messages_of, numbered, sizes_part};
+ghost use Rattle.snesl_size.specs.Tables.{AddedTo, BusiestLines, IsBusiest, IsSizeTable, count_over, full_part, messages_of, numbered, sizes_part};
 
 use flow_drive::Rested;
 use flow_nodes::StreamNode;
@@ -10,22 +10,45 @@ use itoa::Buffer;
 use std::alloc::{AllocError, Global};
 
 /// The table of a network that has ended at its least capacity: this capacity, how many nodes and edges there are, how many
-/// messages went over all edges, the first of the edges over which most of them went, and how many these are. Each is a line, a
-/// name and a number. The error is that memory was refused.
+/// messages went over all edges, the first of the edges over which most of them went, how many these are, and the edge that was full
+/// where each held one message less. Each is a line, a name and a number. The error is that memory was refused.
 pub fn size_table(
     alloc: Global,
     least: usize,
+    full: Option<usize>,
     rested: &Rested<StreamNode>,
 ) -> Result<Vec<u8>, AllocError>
-    ensures { IfOk result (λ table. IsSizeTable least (rest_of rested.now) table.items) }
+    ensures { IfOk result (λ table. IsSizeTable least full (rest_of rested.now) table.items) }
 {
     let mut table = Vec::new(alloc);
     append_sizes(&mut table, least, rested)?;
-    if let Some(edge) = busiest(rested) {
-        append_line(&mut table, b"busiest edge: ", edge as u64)?;
-        append_line(&mut table, b"messages on it: ", rested.counts(edge).0)?;
-    }
+    append_busiest(&mut table, rested)?;
+    append_full(&mut table, full)?;
     Ok(table)
+}
+
+// The lines of the busiest edge, if there is an edge.
+fn append_busiest(table: &mut Vec<u8>, rested: &Rested<StreamNode>) -> Result<(), AllocError>
+    ensures { OnOk result (AddedTo (BusiestLines (rest_of rested.now)) table.old.items
+        table.new.items) }
+{
+    match busiest(rested) {
+        Some(edge) => {
+            append_line(table, b"busiest edge: ", edge as u64)?;
+            append_line(table, b"messages on it: ", rested.counts(edge).0)
+        }
+        None => Ok(()),
+    }
+}
+
+// The line of the edge that was full, if there is one.
+fn append_full(table: &mut Vec<u8>, full: Option<usize>) -> Result<(), AllocError>
+    ensures { OnOk result (table.new.items ≡ table.old.items ++ full_part full) }
+{
+    match full {
+        Some(edge) => append_line(table, b"full at one less: edge ", edge as u64),
+        None => Ok(()),
+    }
 }
 
 // The lines of all but the busiest edge.

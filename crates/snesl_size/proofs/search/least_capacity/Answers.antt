@@ -14,6 +14,7 @@ loop-least-init g c = record {
   limit = omega arith;
   none = none_below_one c.args.program.now c.args.input.now;
   known = refl;
+  full = refl;
 }
 
 pub loop-least-preserved-in-Value : goal.loop-least-preserved-in-Value
@@ -23,6 +24,7 @@ loop-least-preserved-in-Value g c = record {
   limit = omega (arith, c.next_capacity-capacity.ensures.below, c.loop-least.invariant.limit);
   none = c.loop-least.invariant.none;
   known = (c.in_ok-rested.ensures.left, subst (CameOut (rest_of c.in_ok-rested.rested)) c.in-Value.is c.outcome.ensures);
+  full = c.loop-least.invariant.full;
 }
 
 -- the drop of a network that has stalled has three ways, and each goes on alike
@@ -34,6 +36,13 @@ loop-least-preserved g c = record {
   none = none_up_to c.args.program.now c.args.input.now c.next_capacity-capacity.result (rest_of c.in_ok-rested.rested) c.in_ok-rested.ensures.left
       c.ending_stays.ensures.networks c.in-Stalled.edge (subst (CameOut (rest_of c.in_ok-rested.rested)) c.in-Stalled.is c.outcome.ensures);
   known = c.loop-least.invariant.known;
+  full = record {
+    below = c.next_capacity-capacity.result;
+    one_less = refl;
+    rest = rest_of c.in_ok-rested.rested;
+    left = c.in_ok-rested.ensures.left;
+    stalled = subst (CameOut (rest_of c.in_ok-rested.rested)) c.in-Stalled.is c.outcome.ensures;
+  };
 }
 
 pub loop-least-preserved-in-Stalled : goal.loop-least-preserved-in-Stalled
@@ -44,6 +53,13 @@ loop-least-preserved-in-Stalled g c = record {
   none = none_up_to c.args.program.now c.args.input.now c.next_capacity-capacity.result (rest_of c.in_ok-rested.rested) c.in_ok-rested.ensures.left
       c.ending_stays.ensures.networks c.in-Stalled.edge (subst (CameOut (rest_of c.in_ok-rested.rested)) c.in-Stalled.is c.outcome.ensures);
   known = c.loop-least.invariant.known;
+  full = record {
+    below = c.next_capacity-capacity.result;
+    one_less = refl;
+    rest = rest_of c.in_ok-rested.rested;
+    left = c.in_ok-rested.ensures.left;
+    stalled = subst (CameOut (rest_of c.in_ok-rested.rested)) c.in-Stalled.is c.outcome.ensures;
+  };
 }
 
 pub loop-least-preserved-in-Stalled-2 : goal.loop-least-preserved-in-Stalled-2
@@ -54,6 +70,13 @@ loop-least-preserved-in-Stalled-2 g c = record {
   none = none_up_to c.args.program.now c.args.input.now c.next_capacity-capacity.result (rest_of c.in_ok-rested.rested) c.in_ok-rested.ensures.left
       c.ending_stays.ensures.networks c.in-Stalled.edge (subst (CameOut (rest_of c.in_ok-rested.rested)) c.in-Stalled.is c.outcome.ensures);
   known = c.loop-least.invariant.known;
+  full = record {
+    below = c.next_capacity-capacity.result;
+    one_less = refl;
+    rest = rest_of c.in_ok-rested.rested;
+    left = c.in_ok-rested.ensures.left;
+    stalled = subst (CameOut (rest_of c.in_ok-rested.rested)) c.in-Stalled.is c.outcome.ensures;
+  };
 }
 
 pub returns-in-Fault-clause-size : goal.returns-in-Fault-clause-size
@@ -68,9 +91,11 @@ returns-in-Some-clause-size g c =
     let rest = rest_of c.in-Some.rested in
     let known = subst (λ o. MatchOption o (c.loop-least.enough ≡ greatest_capacity + 1)
     (λ rested. IsLeft program input c.loop-least.enough (rest_of rested) × HaveEnded (rest_of rested))) c.in-Some.is c.loop-least.invariant.known in
-    let met : c.loop-least.enough ≡ c.loop-least.least = omega (arith, c.loop-least-test.false, c.loop-least.invariant.order) in
-    is_least program input c.loop-least.least rest (subst (λ n. IsLeft program input n rest) met known.0) c.ending_stays.ensures.networks known.1
-    c.loop-least.invariant.none
+    let met : c.loop-least.enough ≡ c.loop-least.least = omega (arith, c.loop-least-test.false, c.loop-least.invariant.order) in (
+      is_least program input c.loop-least.least rest (subst (λ n. IsLeft program input n rest) met known.0) c.ending_stays.ensures.networks known.1
+          c.loop-least.invariant.none,
+      c.loop-least.invariant.full,
+    )
 
 pub returns-in-None-clause-size : goal.returns-in-None-clause-size
 returns-in-None-clause-size g c =

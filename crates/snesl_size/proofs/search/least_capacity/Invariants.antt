@@ -2,7 +2,7 @@ use Rattle.std.proofs.Common.{◌≡◌, ◌+◌, ◌-◌, ◌≤◌, MatchOptio
 use Rattle.flow_messages.specs.Limits.{greatest_capacity}
 use Rattle.snesl_network.specs.Driven.{HaveEnded}
 use Rattle.snesl_network.specs.NodesAtRest.{rest_of}
-use Rattle.snesl_size.specs.Sizes.{EndsAtNoneBelow, IsLeft}
+use Rattle.snesl_size.specs.Sizes.{EndsAtNoneBelow, IsFullBelow, IsLeft}
 use Rattle.snesl_size.proofs.search.least_capacity.Given as goal
 
 -- the program ends at no capacity below `least`, and at `enough`, where that is one
@@ -14,6 +14,7 @@ invariant-loop-least g l = record {
   none : EndsAtNoneBelow l.fn.program l.fn.input l.least;
   known : MatchOption l.ended (l.enough ≡ greatest_capacity + 1)
       (λ rested. IsLeft l.fn.program l.fn.input l.enough (rest_of rested) × HaveEnded (rest_of rested));
+  full : IsFullBelow l.fn.program l.fn.input l.least l.full;
 }
 
 abbrev pub decreases-loop-least : goal.decreases-loop-least
