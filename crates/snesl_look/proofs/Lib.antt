@@ -4,3 +4,4 @@ pub mod Told
 pub mod Nearest
 pub mod Edits
 pub mod Least
+pub mod Appended

@@ -4,3 +4,4 @@ pub mod Stalls
 pub mod Functions
 pub mod Names
 pub mod Messages
+pub mod Clashes

@@ -57,6 +57,10 @@ function_part number None = []
 function_part number (Some name) =
     remark number (codes " = note: this is in the function `") name (codes "`; which call of it led here is not known\n")
 
+-- ` = note: `, and the note
+abbrev pub note_part : ℕ → List ℕ → List ℕ
+note_part number note = remark number (codes " = note: ") note (codes "\n")
+
 -- ` = hint: `, and the hint
 abbrev pub hint_part : ℕ → Option (List ℕ) → List ℕ
 hint_part number None = []

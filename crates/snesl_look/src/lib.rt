@@ -2,6 +2,7 @@
 //! under it, and what is said of it.
 #![tactic(auto)]
 
+pub mod clashes;
 pub mod functions;
 pub mod messages;
 pub mod names;
@@ -9,6 +10,7 @@ pub mod places;
 pub mod stalls;
 pub mod words;
 
+pub use clashes::clash_message;
 pub use functions::function_at;
 pub use messages::{fault_message, refusal_message, stalled_message};
 pub use names::{distance_is_least, near_name};

@@ -1,7 +1,8 @@
 // Messages: what went wrong, where, and what may help.
 
-ghost use Rattle.std.specs.Prelude.{◌≡◌, ◌++◌, ◌≤◌, IfOk, OnOk, decimal, option_map};
-ghost use Rattle.snesl_look.specs.Messages.{IsFaultMessage, IsNameMessage, IsRefusalMessage, caret_part, enough_part, function_part, gutter, heading_part, hint_part, line_part, message, messages_part, near_part, place_part, placed_message, remark, sentence_part, shown_from, shown_part, stalled_message};
+ghost use Rattle.std.specs.Prelude.{◌≡◌, ◌++◌, ◌≤◌, [], None, IfOk, OnOk, decimal, option_map};
+ghost use Rattle.snesl_look.specs.Messages.{IsFaultMessage, IsNameMessage, IsRefusalMessage, caret_part, enough_part, function_part, gutter, heading_part, hint_part, line_part, message, messages_part, near_part, note_part, place_part, placed_message, remark, sentence_part, shown_from, shown_part, stalled_message};
+ghost use Rattle.snesl_look.specs.Places.{line_of};
 
 use crate::functions::function_at;
 use crate::names::near_name;
@@ -189,6 +190,27 @@ fn placed(
     append_place(&mut message, alloc, line_at(text, offset), position)?;
     append_function(&mut message, position.line, name)?;
     append_hint(&mut message, position.line, hint)?;
+    Ok(message)
+}
+
+// The same with a note before the hint.
+pub(crate) fn placed_with_note(
+    alloc: Global,
+    sentence: &str,
+    text: &[u8],
+    offset: usize,
+    note: &[u8],
+    hint: Option<&str>,
+) -> Result<Vec<u8>, AllocError>
+    ensures { IfOk result (λ made. made.items
+        ≡ placed_message sentence.now text.now offset [] None None
+        ++ note_part (line_of text.now offset) note.now
+        ++ hint_part (line_of text.now offset) (option_map (λ text. text.now) hint.entry)) }
+{
+    let line = position_of(text, offset).line;
+    let mut message = placed(alloc, sentence, text, offset, "", None, None)?;
+    append_remark(&mut message, line, b" = note: ", note, b"\n")?;
+    append_hint(&mut message, line, hint)?;
     Ok(message)
 }
 

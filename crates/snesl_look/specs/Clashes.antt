@@ -1,0 +1,58 @@
+-- What is printed for types that do not fit.
+use Rattle.std.specs.Prelude.{ℕ, ◌++◌, List, [], ◌∷◌, None, codes}
+use Rattle.snesl_data.specs.declared.refusal.Refusal.TheVariants.{Mismatch}
+use Rattle.snesl_data.specs.Types.{Ty, int, bool, pair, vec, seq}
+use Rattle.snesl_types.specs.Clashes.{Clash, operands, operand, arguments, parameters, branches, items, condition, source, body}
+use Rattle.snesl_look.specs.Messages.{placed_message, note_part, hint_part}
+use Rattle.snesl_look.specs.Places.{line_of}
+use Rattle.snesl_look.specs.Words.{refusal_hint, refusal_sentence}
+
+-- a type as programs write it
+abbrev pub type_text : Ty → List ℕ
+type_text int = codes "int"
+type_text bool = codes "bool"
+type_text (pair first second) = codes "(" ++ type_text first ++ codes "," ++ type_text second ++ codes ")"
+type_text (vec item) = codes "[" ++ type_text item ++ codes "]"
+type_text (seq item) = codes "{" ++ type_text item ++ codes "}"
+
+-- a type between quotes
+abbrev pub quoted : Ty → List ℕ
+quoted t = codes "`" ++ type_text t ++ codes "`"
+
+-- further types, each behind a comma
+abbrev pub others : List Ty → List ℕ
+others [] = []
+others (t ∷ ts) = codes ", " ++ quoted t ++ others ts
+
+-- types in order, with commas between them
+abbrev pub listed : List Ty → List ℕ
+listed [] = []
+listed (t ∷ ts) = quoted t ++ others ts
+
+-- what is of a type, by the word for it
+abbrev pub of_type : (word : List ℕ) → Ty → List ℕ
+of_type word t = codes "the " ++ word ++ codes " is of the type " ++ quoted t
+
+-- what is of these types, by the word for one of them
+abbrev pub of_types : (word : List ℕ) → List Ty → List ℕ
+of_types word [] = codes "there is no " ++ word
+of_types word (t ∷ []) = of_type word t
+of_types word (t ∷ u ∷ ts) = codes "the " ++ word ++ codes "s are of the types " ++ listed (t ∷ u ∷ ts)
+
+-- the types that stand there
+abbrev pub note_of : Clash → List ℕ
+note_of (operands t u) = of_types (codes "operand") (t ∷ u ∷ [])
+note_of (operand t) = of_type (codes "operand") t
+note_of (arguments ts) = of_types (codes "argument") ts
+note_of (parameters ts wanted) = of_types (codes "argument") ts ++ codes ", and " ++ of_types (codes "parameter") wanted
+note_of (branches t u v) = of_type (codes "condition") t ++ codes ", and the branches are of the types " ++ listed (u ∷ v ∷ [])
+note_of (items ts) = of_types (codes "item") ts
+note_of (condition t) = of_type (codes "condition") t
+note_of (source t) = codes "this goes over a value of the type " ++ quoted t ++ codes ", which is no sequence"
+note_of (body t wanted) = of_type (codes "body") t ++ codes ", and the result was declared as " ++ quoted wanted
+
+-- what is said of a mismatch: before its hint the types that stand there
+abbrev pub clash_message : (at : ℕ) → (program : List ℕ) → Clash → List ℕ
+clash_message at program clash =
+    placed_message (refusal_sentence (Mismatch at)) program at [] None None
+    ++ note_part (line_of program at) (note_of clash) ++ hint_part (line_of program at) (refusal_hint (Mismatch at))

@@ -1,0 +1,229 @@
+// Messages of types that do not fit.
+
+ghost use Rattle.std.specs.Prelude.{◌≡◌, ◌++◌, ◌∷◌, [], IfOk, OnOk, map};
+ghost use Rattle.snesl_data.specs.Types.{ty_of};
+ghost use Rattle.snesl_types.specs.Clashes.{clash_of, body, branches, parameters, source};
+ghost use Rattle.snesl_look.specs.Clashes.{clash_message, note_of, listed, of_type, of_types, others, quoted, type_text};
+
+use crate::messages::placed_with_note;
+use crate::words::{refusal_hint, refusal_sentence};
+use snesl_data::{Refusal, Ty};
+use snesl_types::Clash;
+use std::alloc::{AllocError, Global};
+
+/// What is said of types that do not fit: the sentence, place and hint of `Mismatch`, and before the hint the types that stand
+/// there. The offset counts bytes of the program from 0.
+///
+/// # Errors
+///
+/// `AllocError` where memory is refused.
+pub fn clash_message(
+    alloc: Global,
+    at: usize,
+    program: &[u8],
+    clash: &Clash,
+) -> Result<Vec<u8>, AllocError>
+    ensures { IfOk result (λ message. message.items
+        ≡ clash_message at program.now (clash_of clash.now)) }
+{
+    let mut note = Vec::new(alloc);
+    append_note(&mut note, clash)?;
+    let refusal = Refusal::Mismatch(at);
+    let sentence = refusal_sentence(refusal);
+    placed_with_note(alloc, sentence, program, at, &note, refusal_hint(refusal))
+}
+
+// The types that stand there.
+fn append_note(note: &mut Vec<u8>, clash: &Clash) -> Result<(), AllocError>
+    ensures { OnOk result (note.new.items ≡ note.old.items ++ note_of (clash_of clash.now)) }
+{
+    match clash {
+        Clash::Operands(left, right) => append_of_more(note, b"operand", left, right, &[]),
+        Clash::Operand(ty) => append_of_type(note, b"operand", ty),
+        Clash::Arguments(types) => append_of_types(note, b"argument", types),
+        Clash::Parameters { found, wanted } => append_parameters(note, found, wanted),
+        Clash::Branches {
+            condition,
+            positive,
+            negative,
+        } => append_branches(note, condition, positive, negative),
+        Clash::Items(types) => append_of_types(note, b"item", types),
+        Clash::Condition(ty) => append_of_type(note, b"condition", ty),
+        Clash::Source(ty) => append_source(note, ty),
+        Clash::Body { found, wanted } => append_body(note, found, wanted),
+    }
+}
+
+// Of a declared function's arguments and parameters.
+fn append_parameters(note: &mut Vec<u8>, found: &[Ty], wanted: &[Ty]) -> Result<(), AllocError>
+    ensures { OnOk result (note.new.items ≡ note.old.items
+        ++ note_of (parameters (map ty_of found.now) (map ty_of wanted.now))) }
+{
+    append_of_types(note, b"argument", found)?;
+    note.extend_from_slice(b", and ")?;
+    append_of_types(note, b"parameter", wanted)
+}
+
+// Of the three parts of an `if`.
+fn append_branches(
+    note: &mut Vec<u8>,
+    condition: &Ty,
+    positive: &Ty,
+    negative: &Ty,
+) -> Result<(), AllocError>
+    ensures { OnOk result (note.new.items ≡ note.old.items
+        ++ note_of (branches (ty_of condition.now) (ty_of positive.now) (ty_of negative.now))) }
+{
+    append_of_type(note, b"condition", condition)?;
+    note.extend_from_slice(b", and the branches are of the types ")?;
+    append_two(note, positive, negative)
+}
+
+// Of what a binder goes over.
+fn append_source(note: &mut Vec<u8>, ty: &Ty) -> Result<(), AllocError>
+    ensures { OnOk result (note.new.items ≡ note.old.items ++ note_of (source (ty_of ty.now))) }
+{
+    note.extend_from_slice(b"this goes over a value of the type ")?;
+    append_quoted(note, ty)?;
+    note.extend_from_slice(b", which is no sequence")
+}
+
+// Of a function's body and its declared result.
+fn append_body(note: &mut Vec<u8>, found: &Ty, wanted: &Ty) -> Result<(), AllocError>
+    ensures { OnOk result (note.new.items ≡ note.old.items
+        ++ note_of (body (ty_of found.now) (ty_of wanted.now))) }
+{
+    append_of_type(note, b"body", found)?;
+    note.extend_from_slice(b", and the result was declared as ")?;
+    append_quoted(note, wanted)
+}
+
+// What is of these types, by the word for one of them.
+fn append_of_types(note: &mut Vec<u8>, word: &[u8], types: &[Ty]) -> Result<(), AllocError>
+    ensures { OnOk result (note.new.items ≡ note.old.items
+        ++ of_types word.now (map ty_of types.now)) }
+{
+    match types {
+        [] => append_of_none(note, word),
+        [only] => append_of_type(note, word, only),
+        [first, second, rest @ ..] => append_of_more(note, word, first, second, rest),
+    }
+}
+
+// What there is none of.
+fn append_of_none(note: &mut Vec<u8>, word: &[u8]) -> Result<(), AllocError>
+    ensures { OnOk result (note.new.items ≡ note.old.items ++ of_types word.now []) }
+{
+    note.extend_from_slice(b"there is no ")?;
+    note.extend_from_slice(word)
+}
+
+// What is of several types.
+fn append_of_more(
+    note: &mut Vec<u8>,
+    word: &[u8],
+    first: &Ty,
+    second: &Ty,
+    rest: &[Ty],
+) -> Result<(), AllocError>
+    ensures { OnOk result (note.new.items ≡ note.old.items
+        ++ of_types word.now (ty_of first.now ∷ ty_of second.now ∷ map ty_of rest.now)) }
+{
+    note.extend_from_slice(b"the ")?;
+    note.extend_from_slice(word)?;
+    note.extend_from_slice(b"s are of the types ")?;
+    append_two(note, first, second)?;
+    append_others(note, rest)
+}
+
+// What is of a type, by the word for it.
+fn append_of_type(note: &mut Vec<u8>, word: &[u8], ty: &Ty) -> Result<(), AllocError>
+    ensures { OnOk result (note.new.items ≡ note.old.items ++ of_type word.now (ty_of ty.now)) }
+{
+    note.extend_from_slice(b"the ")?;
+    note.extend_from_slice(word)?;
+    note.extend_from_slice(b" is of the type ")?;
+    append_quoted(note, ty)
+}
+
+// Two types.
+fn append_two(note: &mut Vec<u8>, first: &Ty, second: &Ty) -> Result<(), AllocError>
+    ensures { OnOk result (note.new.items ≡ note.old.items
+        ++ listed (ty_of first.now ∷ ty_of second.now ∷ [])) }
+{
+    append_quoted(note, first)?;
+    note.extend_from_slice(b", ")?;
+    append_quoted(note, second)
+}
+
+// Further types, each behind a comma.
+fn append_others(note: &mut Vec<u8>, types: &[Ty]) -> Result<(), AllocError>
+    ensures { OnOk result (note.new.items ≡ note.old.items ++ others (map ty_of types.now)) }
+{
+    match types {
+        [] => Ok(()),
+        [first, rest @ ..] => {
+            note.extend_from_slice(b", ")?;
+            append_quoted(note, first)?;
+            append_others(note, rest)
+        }
+    }
+}
+
+// A type between quotes.
+fn append_quoted(note: &mut Vec<u8>, ty: &Ty) -> Result<(), AllocError>
+    ensures { OnOk result (note.new.items ≡ note.old.items ++ quoted (ty_of ty.now)) }
+{
+    note.extend_from_slice(b"`")?;
+    append_type(note, ty)?;
+    note.extend_from_slice(b"`")
+}
+
+// A type as programs write it.
+fn append_type(text: &mut Vec<u8>, ty: &Ty) -> Result<(), AllocError>
+    ensures { OnOk result (text.new.items ≡ text.old.items ++ type_text (ty_of ty.now)) }
+{
+    match ty {
+        Ty::Int => text.extend_from_slice(b"int"),
+        Ty::Bool => text.extend_from_slice(b"bool"),
+        Ty::Pair(first, second) => {
+            text.extend_from_slice(b"(")?;
+            append_type(text, first)?;
+            text.extend_from_slice(b",")?;
+            append_type(text, second)?;
+            text.extend_from_slice(b")")
+        }
+        Ty::Vec(item) => {
+            text.extend_from_slice(b"[")?;
+            append_type(text, item)?;
+            text.extend_from_slice(b"]")
+        }
+        Ty::Seq(item) => {
+            text.extend_from_slice(b"{")?;
+            append_type(text, item)?;
+            text.extend_from_slice(b"}")
+        }
+    }
+}
+
+#[cfg(test)]
+mod tests {
+    use super::*;
+    use std::test::Fail;
+
+    #[test]
+    fn a_mismatch_tells_the_types_of_its_operands(rt: HostRuntime) -> Result<(), Fail> {
+        let clash = Clash::Operands(Ty::Int, Ty::Bool);
+        let message = clash_message(rt.alloc(), 2, b"x + true", &clash)?;
+        let want = b"error: a value of another type, or another number of values, is needed here
+ --> line 1, column 3
+  |
+1 | x + true
+  |   ^
+  = note: the operands are of the types `int`, `bool`
+  = hint: operators take single values; for each element of a sequence `s` write `{x + 1 : x in s}`
+";
+        assert_eq!(rt; message.as_slice(), want.as_slice());
+        Ok(())
+    }
+}
