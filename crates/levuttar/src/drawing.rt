@@ -1,7 +1,7 @@
 // Drawing the network of a program.
 
 use crate::command_line::{OPTIONS, setting_words};
-use crate::saying::{say, say_plainly, unopened_message};
+use crate::saying::{job_message, say, say_plainly, unopened_message};
 use crate::sizing::chunk_said;
 use crate::stalling::stall_message;
 use clap::{Arg, ArgAction, ArgMatches, Command};
@@ -9,7 +9,7 @@ use snesl_console::send;
 use snesl_data::{Counted, Refusal};
 use snesl_draw::{Drawing, drawing_of, network_dot, network_text};
 use snesl_flatten::flatten;
-use snesl_look::{fault_message, refusal_message};
+use snesl_look::fault_message;
 use snesl_run::{NoGate, Outcome, Report, run, settings, split_job};
 use snesl_syntax::parse;
 use snesl_types::check;
@@ -111,7 +111,7 @@ fn draw_job<R: Read + Drop, W: Write, E: Write>(
             }
         }
         Err(refusal) => {
-            let message = refusal_message(alloc, refusal, &program, &input);
+            let message = job_message(alloc, refusal, &program, &input);
             say(message, refusal.status(), err)
         }
     }

@@ -1,7 +1,7 @@
 // Running a job.
 
 use crate::command_line::setting_words;
-use crate::saying::{say, say_plainly, unopened_message};
+use crate::saying::{job_message, say, say_plainly, unopened_message};
 use crate::stalling::stall_message;
 use crate::watching::{is_watched, run_watched};
 use clap::ArgMatches;
@@ -92,7 +92,7 @@ fn run_job<
         },
         Err(error) => {
             let refusal = error.refusal();
-            let message = refusal_message(alloc, refusal, &program, &input);
+            let message = job_message(alloc, refusal, &program, &input);
             say(message, refusal.status(), err)
         }
     }

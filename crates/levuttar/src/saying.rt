@@ -4,7 +4,9 @@ use clap::Error;
 use clap::error::ErrorKind;
 use snesl_console::send;
 use snesl_data::{Counted, Refusal};
-use snesl_look::refusal_sentence;
+use snesl_look::{clash_message, refusal_message, refusal_sentence};
+use snesl_syntax::parse;
+use snesl_types::clash_at;
 use std::alloc::{AllocError, Global};
 use std::io::Write;
 
@@ -28,6 +30,22 @@ pub(crate) fn say_plainly<E: Write>(refusal: Refusal, err: &mut Counted<E>) -> u
     let sentence = refusal_sentence(refusal);
     let _ = send(err, b"error: ") && send(err, sentence.as_bytes()) && send(err, b"\n");
     refusal.status()
+}
+
+// What is said of a refusal of a job: of types that do not fit, which they are, where that is found.
+pub(crate) fn job_message(
+    alloc: Global,
+    refusal: Refusal,
+    program: &[u8],
+    input: &[u8],
+) -> Result<Vec<u8>, AllocError> {
+    if let Refusal::Mismatch(at) = refusal
+        && let Ok(parsed) = parse(alloc, program)
+        && let Ok(Some(clash)) = clash_at(alloc, &parsed, at)
+    {
+        return clash_message(alloc, at, program, &clash);
+    }
+    refusal_message(alloc, refusal, program, input)
 }
 
 // What is said of a file that cannot be opened.

@@ -1,6 +1,6 @@
 // How much the edges of a program must hold: `levuttar size`, and what `levuttar run` tells of a stall.
 
-use crate::saying::{say, say_plainly, unopened_message};
+use crate::saying::{job_message, say, say_plainly, unopened_message};
 use clap::{Arg, ArgMatches, Command};
 use snesl_console::send;
 use snesl_data::{Counted, Refusal};
@@ -103,7 +103,7 @@ fn size_job<R: Read + Drop, W: Write, E: Write>(
             err,
         ),
         Err(refusal) => {
-            let message = refusal_message(alloc, refusal, &program, &input);
+            let message = job_message(alloc, refusal, &program, &input);
             say(message, refusal.status(), err)
         }
     }
