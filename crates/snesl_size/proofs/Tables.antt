@@ -1,5 +1,5 @@
 -- What a table holds once its lines were added.
-use Rattle.std.proofs.Common.{◌≡◌, ◌∙◌, List, [], ◌++◌, Option, ap, append_assoc, codes, length, refl, sym, ℕ}
+use Rattle.std.proofs.Common.{◌≡◌, ◌∙◌, List, [], ◌++◌, Option, ap, append_assoc, codes, length, sym, ℕ}
 use Rattle.std.proofs.lemmas.List.{append-nil}
 use Rattle.snesl_flatten.specs.Networks.{NodeState}
 use Rattle.snesl_network.specs.NodesAtRest.{Rest}
