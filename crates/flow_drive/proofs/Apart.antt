@@ -19,7 +19,7 @@ use Rattle.flow_graph.specs.Shapes.{IsSameNetwork}
 use Rattle.flow_graph.proofs.Reached.{same_length, same_network, built_openings}
 use Rattle.flow_rings.specs.declared.rings.Rings.{Rings}
 use Rattle.flow_rings.specs.Rings.{ends_of}
-use Rattle.flow_deal.specs.Deals.{share_of, AreDealt}
+use Rattle.flow_shares.specs.Deals.{share_of, AreDealt}
 use Rattle.flow_shares.specs.declared.share.Share.{Share}
 use Rattle.flow_round_laws.specs.Joints.{nodes_at, no_ends, AreStates}
 use Rattle.flow_round_laws.proofs.Parts.{any_of}

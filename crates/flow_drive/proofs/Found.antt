@@ -13,7 +13,7 @@ use Rattle.flow_graph.specs.Places.{placed_state}
 use Rattle.flow_rings.specs.declared.rings.Rings.{Rings}
 use Rattle.flow_rings.specs.Rings.{ends_of}
 use Rattle.flow_meetings.specs.RingMeetings.{RingsJoin, rings_join_ends}
-use Rattle.flow_deal.specs.Deals.{share_of}
+use Rattle.flow_shares.specs.Deals.{share_of}
 use Rattle.flow_shares.specs.declared.share.Share.{Share}
 use Rattle.flow_round_laws.specs.Joints.{nodes_at}
 use Rattle.flow_opening.specs.Deals.{nodes_in, ends_in}

@@ -16,7 +16,7 @@ use Rattle.flow_boxes.specs.declared.boxes.Boxes.{Boxes}
 use Rattle.flow_boxes.specs.Contents.{Contents, contents, view_of}
 use Rattle.flow_boxes.specs.Rounds.{IsLinked}
 use Rattle.flow_meetings.specs.BoxMeetings.{BoxesJoin}
-use Rattle.flow_deal.specs.Deals.{share_of}
+use Rattle.flow_shares.specs.Deals.{share_of}
 use Rattle.flow_round_laws.specs.Joints.{no_contents, boxes_at, views_of, writer_boxes, reader_boxes, joined_view, HaveMet}
 use Rattle.flow_round_laws.specs.JoinedTheorems.{AllMet}
 use Rattle.flow_opening.specs.Settings.{Setting, moved_by}

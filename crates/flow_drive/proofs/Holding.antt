@@ -14,7 +14,7 @@ use Rattle.flow_messages.proofs.Waiting.{waits-length}
 use Rattle.flow_graph.specs.declared.edge.Edge.{Edge}
 use Rattle.flow_graph.specs.Edges.{edge_at}
 use Rattle.flow_boxes.specs.Contents.{view_of}
-use Rattle.flow_deal.specs.Deals.{share_of}
+use Rattle.flow_shares.specs.Deals.{share_of}
 use Rattle.flow_round_laws.specs.Joints.{no_ends}
 use Rattle.flow_round_laws.specs.JoinedTheorems.{AllMet}
 use Rattle.flow_round_laws.proofs.Parts.{any_of}

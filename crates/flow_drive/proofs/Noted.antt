@@ -6,7 +6,7 @@ use Rattle.flow_base.specs.declared.transducer.Transducer.{Ghosts}
 use Rattle.flow_graph.specs.declared.edge.Edge.{Edge}
 use Rattle.flow_graph.specs.declared.placed.Placed.{Placed}
 use Rattle.flow_graph.specs.Layouts.{FitTogether}
-use Rattle.flow_deal.specs.Deals.{share_of, AreDealt}
+use Rattle.flow_shares.specs.Deals.{share_of, AreDealt}
 use Rattle.flow_shares.specs.declared.share.Share.{Share}
 use Rattle.flow_round_laws.specs.Joints.{nodes_at}
 use Rattle.flow_round_laws.proofs.Seats.{number_is}

@@ -10,7 +10,7 @@ use Rattle.flow_rings.specs.declared.rings.Rings.{Rings}
 use Rattle.flow_meetings.specs.declared.everywhere.Wire.{Wire}
 use Rattle.flow_meetings.specs.BoxMeetings.{BoxesJoin, box_places}
 use Rattle.flow_meetings.specs.RingMeetings.{RingsJoin, ring_places}
-use Rattle.flow_deal.specs.Deals.{AreJustDealt}
+use Rattle.flow_shares.specs.Deals.{AreJustDealt}
 use Rattle.flow_shares.specs.declared.share.Share.{Share}
 use Rattle.flow_opening.specs.Open.{AreWires, AreFreshEnds}
 use Rattle.flow_opening.specs.declared.dealt.Dealt.{Dealt}

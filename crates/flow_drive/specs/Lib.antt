@@ -35,13 +35,13 @@ pub use Rattle.flow_meetings.specs.declared.everywhere.Wire
 pub use Rattle.flow_meetings.specs.BoxMeetings
 pub use Rattle.flow_meetings.specs.Met
 pub use Rattle.flow_meetings.specs.RingMeetings
-pub use Rattle.flow_deal.specs.Deals
+pub use Rattle.flow_shares.specs.Deals
 pub use Rattle.flow_shares.specs.declared.share.Share
 pub use Rattle.flow_shares.specs.Lending
 pub use Rattle.flow_shares.specs.Looks
 pub use Rattle.flow_shares.specs.Pumps
 pub use Rattle.flow_shares.specs.Shares
-pub use Rattle.flow_workers.specs.declared.error.WorkError
+pub use Rattle.flow_shares.specs.declared.error.WorkError
 pub use Rattle.flow_round_laws.specs.Joints
 pub use Rattle.flow_round_laws.specs.JoinedTheorems
 pub use Rattle.flow_opening.specs.Deals as ShareDeals

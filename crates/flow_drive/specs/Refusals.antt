@@ -1,6 +1,6 @@
--- Which refusal of a drive a refusal of its workers is.
-use Rattle.flow_workers.specs.declared.error.WorkError.{WorkError}
-use Rattle.flow_workers.specs.declared.error.WorkError.TheVariants as work
+-- Which refusal of a drive a refusal of its threads is.
+use Rattle.flow_shares.specs.declared.error.WorkError.{WorkError}
+use Rattle.flow_shares.specs.declared.error.WorkError.TheVariants as work
 use Rattle.flow_drive.specs.declared.driver.DriveError.{DriveError}
 use Rattle.flow_drive.specs.declared.driver.DriveError.TheVariants as drive
 

@@ -10,16 +10,15 @@ use crate::driver::DriveError;
 use flow_base::Transducer;
 use flow_epochs::wires_of_shares;
 use flow_rings::Rings;
-use flow_shares::{Gate, Share};
-use flow_workers::{AlwaysStart, Start};
+use flow_shares::{AlwaysStart, Gate, Share, Start};
 use std::alloc::Global;
 use std::sync::Arc;
 use std::thread::Threads;
 
 /// One epoch of all shares of a graph, as `deal_rings` or an epoch before gave them: the ends of every edge meet, all shares are
-/// pumped side by side, each in a worker, and the ends meet again.
+/// pumped side by side, each in a thread, and the ends meet again.
 ///
-/// A share that starved comes back with the others. Refused as `NoThread` where a worker could not be started, and else as
+/// A share that starved comes back with the others. Refused as `NoThread` where a thread could not be started, and else as
 /// `NoMemory` where memory was refused for a list; the shares are then let go.
 pub fn epoch<
     R: Threads,
@@ -42,7 +41,7 @@ pub fn epoch<
     epoch_with(rt, alloc, shares, config, gate, &mut AlwaysStart)
 }
 
-/// The same, where `start` is asked before each worker is started, and may refuse it.
+/// The same, where `start` is asked before each thread is started, and may refuse it.
 pub fn epoch_with<
     R: Threads,
     T: Transducer + Send + Drop + 'static,

@@ -1,12 +1,12 @@
 // The edges of graphs at rest whose nodes were gathered.
 ghost use Rattle.std.specs.Prelude.{◌≡◌, ◌<◌, true, length, slice_index_or};
 ghost use Rattle.std.specs.Io.Iter.{u64_saturate};
-ghost use Rattle.flow_deal.specs.Deals.{share_of};
+ghost use Rattle.flow_shares.specs.Deals.{share_of};
 
 use flow_boxes::Boxes;
-use flow_deal::share_of;
 use flow_graph::Edge;
 use flow_messages::{CountedEnds, Table};
+use flow_shares::share_of;
 
 /// The edges of a graph at rest: what was sent and received on them, and what they hold.
 #[derive(Drop)]

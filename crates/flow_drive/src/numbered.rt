@@ -5,18 +5,17 @@ ghost use Rattle.flow_graph.specs.Edges.{edge_at};
 ghost use Rattle.flow_graph.specs.Graphs.{edges_of};
 ghost use Rattle.flow_graph.specs.Layouts.{edges_in};
 ghost use Rattle.flow_graph.specs.Networks.{state_at};
-ghost use Rattle.flow_deal.specs.Deals.{share_of};
+ghost use Rattle.flow_shares.specs.Deals.{share_of};
 ghost use Rattle.flow_drive.specs.Parts.{gathered_traffic, shares_states, shares_traffic};
 
 use crate::lines::Lines;
 use crate::parts::Gathered;
 use crate::ring_shares::RingShares;
 use flow_base::Transducer;
-use flow_deal::share_of;
 use flow_graph::Edge;
 use flow_messages::CountedEnds;
 use flow_rings::Rings;
-use flow_shares::Share;
+use flow_shares::{Share, share_of};
 
 impl<T: Transducer> Gathered<T> {
     /// How many messages were sent on the edge, and how many were received from it.

@@ -14,8 +14,8 @@ use Rattle.flow_rings.specs.declared.rings.Rings.{Rings}
 use Rattle.flow_rings.proofs.RingLines.{at_line-there}
 use Rattle.flow_meetings.specs.declared.everywhere.Wire.{Wire}
 use Rattle.flow_meetings.specs.RingMeetings.{RingsJoin, ring_places}
-use Rattle.flow_deal.specs.Deals.{share_of}
-use Rattle.flow_deal.proofs.Stays.{as_given}
+use Rattle.flow_shares.specs.Deals.{share_of}
+use Rattle.flow_shares.proofs.Stays.{as_given}
 use Rattle.flow_shares.specs.declared.share.Share.{Share}
 use Rattle.flow_round_laws.specs.Joints.{joined_view}
 use Rattle.flow_round_laws.proofs.Parts.{any_of}

@@ -10,7 +10,7 @@ use Rattle.flow_rings.specs.declared.rings.Rings.{Rings}
 use Rattle.flow_rings.specs.Rings.{ends_of}
 use Rattle.flow_meetings.specs.declared.everywhere.Wire.{Wire}
 use Rattle.flow_meetings.specs.RingMeetings.{rings_join_ends}
-use Rattle.flow_deal.specs.Deals.{share_of}
+use Rattle.flow_shares.specs.Deals.{share_of}
 use Rattle.flow_shares.specs.declared.share.Share.{Share}
 use Rattle.flow_round_laws.proofs.Parts.{any_of}
 use Rattle.flow_opening.specs.Open.{AreWires}

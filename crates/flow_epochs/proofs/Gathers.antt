@@ -9,7 +9,7 @@ use Rattle.flow_graph.specs.Edges.{edge_at}
 use Rattle.flow_rings.specs.declared.rings.Rings.{Rings}
 use Rattle.flow_rings.specs.Rings.{ends_of}
 use Rattle.flow_meetings.specs.RingMeetings.{RingsJoin}
-use Rattle.flow_deal.specs.Deals.{share_of, AreDealt}
+use Rattle.flow_shares.specs.Deals.{share_of, AreDealt}
 use Rattle.flow_shares.specs.declared.share.Share.{Share}
 use Rattle.flow_round_laws.specs.Joints.{no_ends, states_in_shares, AreStates}
 use Rattle.flow_round_laws.specs.RoundTheorems.{net_of}

@@ -11,7 +11,7 @@ use Rattle.flow_meetings.specs.Met.{met_kept}
 use Rattle.flow_shares.specs.declared.share.Share.{Share}
 use Rattle.flow_shares.specs.Lending.{Body, body_of}
 use Rattle.flow_round_laws.proofs.Parts.{any_of}
-use Rattle.flow_deal.specs.Deals.{AreDealt}
+use Rattle.flow_shares.specs.Deals.{AreDealt}
 use Rattle.flow_opening.specs.Deals.{ends_in}
 use Rattle.flow_opening.specs.Settings.{Setting, view_at, AreLookedAt}
 use Rattle.flow_epochs.specs.Epochs.{AreOfOneGraph, HaveMetAll, AreMet}

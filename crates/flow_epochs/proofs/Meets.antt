@@ -11,7 +11,7 @@ use Rattle.flow_rings.specs.Rings.{Kept, ends_of, SameRings}
 use Rattle.flow_meetings.specs.declared.everywhere.Wire.{Wire}
 use Rattle.flow_meetings.specs.Met.{Met}
 use Rattle.flow_meetings.specs.RingMeetings.{RingsJoin, ring_places}
-use Rattle.flow_deal.specs.Deals.{share_of, AreDealt}
+use Rattle.flow_shares.specs.Deals.{share_of, AreDealt}
 use Rattle.flow_shares.specs.declared.share.Share.{Share}
 use Rattle.flow_shares.specs.Lending.{body_of}
 use Rattle.flow_round_laws.proofs.Parts.{any_of}

@@ -17,7 +17,7 @@ use Rattle.flow_shares.specs.Shares.{inputs_of, outputs_of, Grows, HaveMoved}
 use Rattle.flow_shares.specs.Pumps.{IsPumped}
 use Rattle.flow_shares.proofs.Between.{moved_grows, lost_grows, find_node, begins_length, no_more}
 use Rattle.flow_shares.proofs.Busy.{quiet}
-use Rattle.flow_deal.specs.Deals.{AreDealt}
+use Rattle.flow_shares.specs.Deals.{AreDealt}
 use Rattle.flow_round_laws.specs.Joints.{nodes_at, joined_view}
 use Rattle.flow_round_laws.proofs.Parts.{any_of}
 use Rattle.flow_round_laws.proofs.Seats.{port_reads, port_writes, dealt_later}

@@ -10,7 +10,7 @@ use Rattle.flow_graph.specs.Layouts.{AreSamePlaces}
 use Rattle.flow_rings.specs.declared.rings.Rings.{Rings}
 use Rattle.flow_rings.specs.Rings.{SameRings, Kept}
 use Rattle.flow_meetings.specs.RingMeetings.{RingsJoin, ring_places}
-use Rattle.flow_deal.specs.Deals.{share_of, AreDealt}
+use Rattle.flow_shares.specs.Deals.{share_of, AreDealt}
 use Rattle.flow_shares.specs.declared.share.Share.{Share}
 use Rattle.flow_shares.specs.Lending.{body_of}
 use Rattle.flow_shares.specs.Shares.{Grows}

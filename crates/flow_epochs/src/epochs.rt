@@ -1,6 +1,6 @@
 // Epochs.
 ghost use Rattle.std.specs.Prelude.{◌≡◌, ◌+◌, ◌<◌, ◌≤◌, ◌⊎◌, IfOk};
-ghost use Rattle.flow_workers.specs.declared.error.WorkError.TheVariants.{NoThread};
+ghost use Rattle.flow_shares.specs.declared.error.WorkError.TheVariants.{NoThread};
 ghost use Rattle.flow_opening.specs.Open.{AreWires};
 ghost use Rattle.flow_opening.specs.Settings.{Setting, AreFed};
 ghost use Rattle.flow_epochs.specs.Epochs.{moved_in, AreLater, AreOfOneGraph, HaveMetAll, StandSound, StandAtRest, IsEpoch};
@@ -10,15 +10,14 @@ use flow_base::Transducer;
 use flow_meetings::Wire;
 use flow_opening::{are_fed, are_stuck};
 use flow_rings::Rings;
-use flow_shares::{Gate, Share};
-use flow_workers::{Start, WorkError, run_all};
+use flow_shares::{Gate, Share, Start, WorkError, run_all};
 use std::alloc::Global;
 use std::sync::Arc;
 use std::thread::Threads;
 
-/// One epoch: the ends of every edge meet, all shares are pumped side by side, each in a worker, and the ends meet again.
+/// One epoch: the ends of every edge meet, all shares are pumped side by side, each in a thread, and the ends meet again.
 ///
-/// A share that starved comes back with the others. Refused as `NoThread` where a worker could not be started or `start`
+/// A share that starved comes back with the others. Refused as `NoThread` where a thread could not be started or `start`
 /// said no, and as `NoMemory` where memory was refused for a list; the shares are then let go.
 pub fn epoch<
     R: Threads,
@@ -53,7 +52,7 @@ pub fn epoch<
 /// Runs shares in epochs, as long as a node can step where the ends of every edge have met. The shares, and how many epochs
 /// there were; the count stays at the greatest `u64`.
 ///
-/// Each epoch moves a message at least. Refused as `NoThread` where a worker could not be started or `start` said no, and
+/// Each epoch moves a message at least. Refused as `NoThread` where a thread could not be started or `start` said no, and
 /// as `NoMemory` where memory was refused, to a node too. The shares are then let go.
 pub fn run_epochs<
     R: Threads,

@@ -12,7 +12,7 @@ use Rattle.flow_graph.specs.Places.{placed_state, states_in}
 use Rattle.flow_graph.specs.Layouts.{FitTogether}
 use Rattle.flow_graph.proofs.Seats.{state_here, inputs_here, outputs_here, input_here, output_here}
 use Rattle.flow_meetings.specs.declared.everywhere.Wire.{Wire}
-use Rattle.flow_deal.specs.Deals.{share_of, node_at, AreJustDealt}
+use Rattle.flow_shares.specs.Deals.{share_of, node_at, AreJustDealt}
 use Rattle.flow_shares.specs.Shares.{row_of, StandOnce, HasItsEnds, HasHistory}
 use Rattle.flow_opening.specs.Open.{AreWires, HasFreshEnds}
 use Rattle.flow_opening.specs.Deals.{MakeAShare}

@@ -8,7 +8,7 @@ use Rattle.flow_graph.specs.declared.placed.Placed.{Placed}
 use Rattle.flow_graph.specs.Places.{placed_state, states_in}
 use Rattle.flow_graph.specs.Layouts.{FitTogether, AreSamePlaces}
 use Rattle.flow_graph.proofs.Layouts.{later_fit}
-use Rattle.flow_deal.specs.Deals.{share_of, node_at, AreDealt, AreJustDealt, AreSameAsDealt}
+use Rattle.flow_shares.specs.Deals.{share_of, node_at, AreDealt, AreJustDealt, AreSameAsDealt}
 use Rattle.flow_shares.specs.declared.share.Share.{Share}
 use Rattle.flow_round_laws.specs.Joints.{AreStates}
 use Rattle.flow_round_laws.proofs.Parts.{any_of}

@@ -8,7 +8,7 @@ use Rattle.flow_graph.specs.declared.placed.Placed.{Placed}
 use Rattle.flow_graph.specs.declared.graph.Graph.{Graph}
 use Rattle.flow_graph.specs.Graphs.{edges_of}
 use Rattle.flow_graph.specs.Layouts.{nodes_of, edges_in}
-use Rattle.flow_deal.specs.Deals.{AreJustDealt}
+use Rattle.flow_shares.specs.Deals.{AreJustDealt}
 use Rattle.flow_shares.specs.declared.share.Share.{Share}
 use Rattle.flow_shares.specs.Shares.{HasItsEnds, AreApart, IsOwn}
 use Rattle.flow_opening.specs.declared.dealt.Dealt.{Dealt}

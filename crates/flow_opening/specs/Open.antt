@@ -6,7 +6,7 @@ use Rattle.flow_graph.specs.declared.edge.Edge.{Edge}
 use Rattle.flow_graph.specs.Edges.{edge_at}
 use Rattle.flow_meetings.specs.declared.everywhere.Wire.{Wire}
 use Rattle.flow_meetings.specs.Met.{Met}
-use Rattle.flow_deal.specs.Deals.{share_of}
+use Rattle.flow_shares.specs.Deals.{share_of}
 
 -- The wire of each edge names the shares of its writer and its reader.
 pub record AreWires (share : List ℕ) (edges : List Edge) (wires : List Wire) : Type 0 where

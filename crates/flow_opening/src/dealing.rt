@@ -4,7 +4,7 @@ ghost use Rattle.std.specs.List.{All, AllZip};
 ghost use Rattle.flow_messages.specs.Limits.{greatest_capacity};
 ghost use Rattle.flow_graph.specs.Graphs.{states_of};
 ghost use Rattle.flow_graph.specs.Networks.{AreOpened};
-ghost use Rattle.flow_deal.specs.Deals.{lists_in};
+ghost use Rattle.flow_shares.specs.Deals.{lists_in};
 ghost use Rattle.flow_opening.specs.Deals.{MakeAShare, nodes_in, ends_in, AreNew, IsDealt};
 
 use crate::dealt::Dealt;
@@ -12,10 +12,9 @@ use crate::everywhere::open_all;
 use crate::opening::Opening;
 use crate::wires::wires_of;
 use flow_base::Transducer;
-use flow_deal::deal_nodes;
 use flow_graph::{Graph, Placed};
 use flow_messages::Ends;
-use flow_shares::Share;
+use flow_shares::{Share, deal_nodes};
 use std::alloc::{AllocError, Global};
 
 /// Deals a graph out to so many shares: node `k` goes to the share that `share` names for it, with the ends of the edges

@@ -1,6 +1,6 @@
 // Shares gathered into a graph again.
 ghost use Rattle.std.specs.Prelude.{◌≡◌, ◌<◌, length, IfOk};
-ghost use Rattle.flow_deal.specs.Deals.{lists_in, AreDealt};
+ghost use Rattle.flow_shares.specs.Deals.{lists_in, AreDealt};
 ghost use Rattle.flow_graph.specs.Places.{states_in};
 ghost use Rattle.flow_graph.specs.Graphs.{states_of, edges_of};
 ghost use Rattle.flow_graph.specs.Layouts.{edges_in};
@@ -10,10 +10,9 @@ ghost use Rattle.flow_opening.specs.Deals.{nodes_in, ends_in};
 ghost use Rattle.flow_opening.specs.Settings.{Setting};
 
 use flow_base::Transducer;
-use flow_deal::gather;
 use flow_graph::{Graph, Layout, Placed};
 use flow_messages::Ends;
-use flow_shares::Share;
+use flow_shares::{Share, gather};
 use std::alloc::{AllocError, Global};
 
 /// Gathers the nodes of shares, `count` in all, into a graph again, and gives the ends of each share, in order.

@@ -2,9 +2,9 @@
 ghost use Rattle.std.specs.Prelude.{◌<◌, length, IfOk};
 ghost use Rattle.flow_opening.specs.Open.{AreWires};
 
-use flow_deal::share_of;
 use flow_graph::Edge;
 use flow_meetings::Wire;
+use flow_shares::share_of;
 use std::alloc::{AllocError, Global};
 
 /// The wires of these edges, where `share` names the shares of their nodes.

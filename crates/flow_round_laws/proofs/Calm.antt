@@ -18,7 +18,7 @@ use Rattle.flow_graph.specs.Layouts.{FitTogether}
 use Rattle.flow_boxes.specs.Contents.{Contents}
 use Rattle.flow_boxes.specs.Rounds.{KeepsRound}
 use Rattle.flow_shares.specs.Shares.{inputs_of, outputs_of}
-use Rattle.flow_deal.specs.Deals.{share_of, AreDealt}
+use Rattle.flow_shares.specs.Deals.{share_of, AreDealt}
 use Rattle.flow_round_laws.specs.Joints.{boxes_at, views_of, writer_view, reader_view, writer_boxes, reader_boxes, HaveMet, AreStates}
 use Rattle.flow_round_laws.specs.RoundTheorems.{AllStuck, net_of, joint, CalmRoundsRest, CalmRoundLeadsToRest}
 use Rattle.flow_round_laws.specs.JoinedTheorems.{AllMet, AllAreStuck, joined, StuckSharesRest}

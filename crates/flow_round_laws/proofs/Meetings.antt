@@ -17,7 +17,7 @@ use Rattle.flow_graph.specs.Places.{placed_state, states_in}
 use Rattle.flow_graph.specs.Layouts.{FitTogether}
 use Rattle.flow_graph.proofs.Nets.{opens}
 use Rattle.flow_shares.specs.Shares.{inputs_of, outputs_of, HasHistory}
-use Rattle.flow_deal.specs.Deals.{share_of, AreDealt}
+use Rattle.flow_shares.specs.Deals.{share_of, AreDealt}
 use Rattle.flow_round_laws.specs.Joints.{reader_boxes, views_of, joint_view, AreStates}
 use Rattle.flow_round_laws.specs.RoundTheorems.{net_of, FreshSharesStart, MeetingIsSound}
 use Rattle.flow_round_laws.specs.JoinedTheorems.{AllBegin, AllAreOwn, joined, OwnSharesAreSound}

@@ -19,7 +19,7 @@ use Rattle.flow_graph.specs.Places.{states_in}
 use Rattle.flow_graph.specs.Layouts.{FitTogether}
 use Rattle.flow_graph.proofs.Nets.{lawful_net}
 use Rattle.flow_boxes.specs.Contents.{Contents}
-use Rattle.flow_deal.specs.Deals.{AreDealt}
+use Rattle.flow_shares.specs.Deals.{AreDealt}
 use Rattle.flow_round_laws.specs.Joints.{views_of, HaveMet, AreStates}
 use Rattle.flow_round_laws.specs.RoundTheorems.{NothingMoved, HaveGoneOn, net_of, joint, RoundIsARun}
 use Rattle.flow_round_laws.proofs.Parts.{no_length, part_of_total}

@@ -11,7 +11,7 @@ use Rattle.flow_graph.specs.Places.{states_in}
 use Rattle.flow_graph.specs.Layouts.{FitTogether, AreSamePlaces}
 use Rattle.flow_graph.proofs.Seats.{inputs_here, outputs_here, input_here, output_here}
 use Rattle.flow_shares.specs.Shares.{inputs_of, outputs_of}
-use Rattle.flow_deal.specs.Deals.{share_of, AreDealt}
+use Rattle.flow_shares.specs.Deals.{share_of, AreDealt}
 use Rattle.flow_round_laws.specs.Joints.{nodes_at}
 use Rattle.flow_round_laws.proofs.Parts.{any_of, StandsAt}
 

@@ -7,7 +7,7 @@ use Rattle.flow_graph.specs.declared.placed.Placed.{Placed}
 use Rattle.flow_graph.specs.Networks.{state_at}
 use Rattle.flow_graph.specs.Places.{placed_state}
 use Rattle.flow_graph.specs.Layouts.{FitTogether, AreSamePlaces}
-use Rattle.flow_deal.specs.Deals.{share_of, AreDealt}
+use Rattle.flow_shares.specs.Deals.{share_of, AreDealt}
 use Rattle.flow_round_laws.specs.Joints.{nodes_at, states_in_shares, AreStates}
 use Rattle.flow_round_laws.proofs.Parts.{any_of}
 use Rattle.flow_round_laws.proofs.Seats.{number_is, same_place}

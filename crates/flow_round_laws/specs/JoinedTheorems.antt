@@ -14,7 +14,7 @@ use Rattle.flow_graph.specs.Networks.{configuration_of}
 use Rattle.flow_graph.specs.Layouts.{FitTogether}
 use Rattle.flow_shares.specs.Shares.{IsOwn, AreStuck}
 use Rattle.flow_meetings.specs.Met.{Met}
-use Rattle.flow_deal.specs.Deals.{AreDealt}
+use Rattle.flow_shares.specs.Deals.{AreDealt}
 use Rattle.flow_round_laws.specs.Joints.{nodes_at, writer_view, reader_view, joined_view, AreStates}
 use Rattle.flow_round_laws.specs.RoundTheorems.{net_of}
 

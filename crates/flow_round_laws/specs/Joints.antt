@@ -9,7 +9,7 @@ use Rattle.flow_graph.specs.Places.{placed_state}
 use Rattle.flow_graph.specs.Networks.{state_at}
 use Rattle.flow_boxes.specs.Contents.{Contents}
 use Rattle.flow_boxes.specs.Rounds.{IsLinked, IsCarried}
-use Rattle.flow_deal.specs.Deals.{share_of, AreDealt}
+use Rattle.flow_shares.specs.Deals.{share_of, AreDealt}
 
 -- no ends
 abbrev pub no_ends : View

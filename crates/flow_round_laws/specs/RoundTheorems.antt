@@ -16,7 +16,7 @@ use Rattle.flow_graph.specs.Layouts.{FitTogether, AreSamePlaces}
 use Rattle.flow_boxes.specs.Contents.{Contents}
 use Rattle.flow_boxes.specs.Rounds.{KeepsRound}
 use Rattle.flow_shares.specs.Shares.{IsOwn, HaveMoved, AreStuck}
-use Rattle.flow_deal.specs.Deals.{AreDealt}
+use Rattle.flow_shares.specs.Deals.{AreDealt}
 use Rattle.flow_round_laws.specs.Joints.{nodes_at, boxes_at, writer_boxes, reader_boxes, joint_view, HaveMet, AreStates}
 
 -- nothing was sent or received in the first so many shares

@@ -18,8 +18,8 @@ use Rattle.flow_boxes.specs.Rounds.{IsLinked}
 use Rattle.flow_meetings.specs.declared.everywhere.Wire.{Wire}
 use Rattle.flow_meetings.specs.Met.{Met, kept_refl}
 use Rattle.flow_meetings.specs.BoxMeetings.{BoxesJoin, box_places}
-use Rattle.flow_deal.specs.Deals.{share_of, AreDealt}
-use Rattle.flow_deal.proofs.Stays.{as_given}
+use Rattle.flow_shares.specs.Deals.{share_of, AreDealt}
+use Rattle.flow_shares.proofs.Stays.{as_given}
 use Rattle.flow_shares.specs.declared.share.Share.{Share}
 use Rattle.flow_opening.specs.declared.dealt.Dealt.{Dealt}
 use Rattle.flow_opening.specs.Deals.{nodes_in, ends_in, IsDealt}

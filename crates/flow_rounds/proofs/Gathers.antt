@@ -7,7 +7,7 @@ use Rattle.flow_messages.specs.declared.ends.Ends.{Ghosts as EndsGhosts}
 use Rattle.flow_base.specs.declared.transducer.Transducer.{Ghosts}
 use Rattle.flow_boxes.specs.declared.boxes.Boxes.{Boxes}
 use Rattle.flow_boxes.specs.Contents.{Contents}
-use Rattle.flow_deal.specs.Deals.{AreDealt}
+use Rattle.flow_shares.specs.Deals.{AreDealt}
 use Rattle.flow_shares.specs.declared.share.Share.{Share}
 use Rattle.flow_opening.specs.Deals.{nodes_in, ends_in}
 use Rattle.flow_opening.specs.Settings.{Setting}

@@ -13,7 +13,7 @@ use Rattle.flow_boxes.specs.Rounds.{IsLinked, IsCarried}
 use Rattle.flow_meetings.specs.declared.everywhere.Wire.{Wire}
 use Rattle.flow_meetings.specs.Met.{Met}
 use Rattle.flow_meetings.specs.BoxMeetings.{BoxesJoin}
-use Rattle.flow_deal.specs.Deals.{share_of}
+use Rattle.flow_shares.specs.Deals.{share_of}
 use Rattle.flow_round_laws.specs.Joints.{no_contents, boxes_at, writer_boxes, reader_boxes, HaveMet}
 use Rattle.flow_round_laws.specs.RoundTheorems.{NothingMoved}
 use Rattle.flow_round_laws.proofs.Parts.{any_of, no_length}

@@ -14,7 +14,7 @@ use Rattle.flow_boxes.specs.Rounds.{IsLinked, KeepsRound}
 use Rattle.flow_boxes.specs.RoundLaws.{keeps_refl}
 use Rattle.flow_boxes.proofs.Linking.{writer-linked, reader-linked}
 use Rattle.flow_meetings.specs.Met.{Met, met_kept}
-use Rattle.flow_deal.specs.Deals.{share_of}
+use Rattle.flow_shares.specs.Deals.{share_of}
 use Rattle.flow_shares.specs.declared.share.Share.{Share}
 use Rattle.flow_shares.specs.Lending.{Body, body_of}
 use Rattle.flow_shares.proofs.Later.{same_places_refl}

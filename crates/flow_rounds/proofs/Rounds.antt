@@ -16,7 +16,7 @@ use Rattle.flow_base.specs.declared.transducer.Transducer.{Ghosts}
 use Rattle.flow_boxes.specs.declared.boxes.Boxes.{Boxes}
 use Rattle.flow_boxes.specs.Contents.{contents}
 use Rattle.flow_shares.specs.declared.share.Share.{Share}
-use Rattle.flow_deal.specs.Deals.{AreDealt}
+use Rattle.flow_shares.specs.Deals.{AreDealt}
 use Rattle.flow_round_laws.specs.Joints.{AreStates}
 use Rattle.flow_round_laws.specs.RoundTheorems.{NothingMoved, HaveGoneOn, AllStuck, net_of, joint}
 use Rattle.flow_round_laws.proofs.Seats.{dealt_later}

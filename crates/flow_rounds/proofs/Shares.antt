@@ -15,7 +15,7 @@ use Rattle.flow_boxes.proofs.Linking.{writer-linked, reader-linked}
 use Rattle.flow_shares.specs.declared.share.Share.{Share}
 use Rattle.flow_shares.specs.Shares.{HaveMoved, AreStuck}
 use Rattle.flow_shares.specs.Pumps.{IsPumped}
-use Rattle.flow_deal.specs.Deals.{share_of, AreDealt}
+use Rattle.flow_shares.specs.Deals.{share_of, AreDealt}
 use Rattle.flow_round_laws.specs.Joints.{no_contents, nodes_at, boxes_at, writer_boxes, reader_boxes, HaveMet}
 use Rattle.flow_round_laws.specs.RoundTheorems.{NothingMoved, HaveGoneOn, AllStuck}
 use Rattle.flow_round_laws.proofs.Parts.{any_of}

@@ -10,7 +10,7 @@ use Rattle.flow_graph.specs.Edges.{edge_at}
 use Rattle.flow_boxes.specs.Contents.{Contents, contents}
 use Rattle.flow_boxes.specs.Rounds.{IsLinked}
 use Rattle.flow_boxes.specs.declared.boxes.Boxes.{Boxes}
-use Rattle.flow_deal.specs.Deals.{share_of, AreDealt}
+use Rattle.flow_shares.specs.Deals.{share_of, AreDealt}
 use Rattle.flow_shares.specs.declared.share.Share.{Share}
 use Rattle.flow_round_laws.specs.Joints.{views_of, writer_boxes, reader_boxes, HaveMet, AreStates}
 use Rattle.flow_round_laws.specs.RoundTheorems.{NothingMoved, net_of, joint}

@@ -1,6 +1,6 @@
 // Rounds.
 ghost use Rattle.std.specs.Prelude.{◌≡◌, ◌+◌, ◌<◌, ◌≤◌, ◌⊎◌, length, IfOk};
-ghost use Rattle.flow_workers.specs.declared.error.WorkError.TheVariants.{NoThread};
+ghost use Rattle.flow_shares.specs.declared.error.WorkError.TheVariants.{NoThread};
 ghost use Rattle.flow_opening.specs.Open.{AreWires};
 ghost use Rattle.flow_opening.specs.Settings.{Setting, NoneCanStep};
 ghost use Rattle.flow_rounds.specs.Standing.{boxes_of, moved_in, StandBetweenRounds, RestBetweenRounds};
@@ -10,8 +10,7 @@ use flow_base::Transducer;
 use flow_boxes::Boxes;
 use flow_meetings::Wire;
 use flow_opening::{are_fed, are_stuck};
-use flow_shares::{Gate, Share};
-use flow_workers::{Start, WorkError, run_all};
+use flow_shares::{Gate, Share, Start, WorkError, run_all};
 use std::alloc::Global;
 use std::sync::Arc;
 use std::thread::Threads;
@@ -19,7 +18,7 @@ use std::thread::Threads;
 /// Runs shares in rounds, as long as a node can step. The shares, and how many rounds there were; the count stays at the
 /// greatest `u64`.
 ///
-/// Each round moves a message at least. Refused as `NoThread` where a worker could not be started or `start` said no, and
+/// Each round moves a message at least. Refused as `NoThread` where a thread could not be started or `start` said no, and
 /// as `NoMemory` where memory was refused, to a node too. The shares are then let go.
 pub fn run_rounds<
     R: Threads,

@@ -1,3 +1,7 @@
+pub mod Stays
+pub mod Places
+pub mod Dealing
+pub mod Gathered
 pub mod Ports
 pub mod Later
 pub mod Moves
@@ -11,3 +15,5 @@ pub mod Counts
 pub mod Rounds
 pub mod Lending
 pub mod Looked
+pub mod GivenBack
+pub mod Refused

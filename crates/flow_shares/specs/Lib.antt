@@ -1,3 +1,4 @@
+pub mod Deals
 pub mod Shares
 pub mod Pumps
 pub mod Lending

@@ -1,4 +1,4 @@
-// Tests of the parts of which the drives are made: tables, boxes and rings, by courses over their edges; dealing, shares, workers,
+// Tests of the parts of which the drives are made: tables, boxes and rings, by courses over their edges; dealing, shares, threads,
 // openings and epochs; and both ends of an edge, in one thread and in threads of their own.
 
 mod courses;

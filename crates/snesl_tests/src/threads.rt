@@ -1,4 +1,4 @@
-// Runs in threads of their own: workers side by side, and how many rounds and epochs there are. What several threads make of
+// Runs in threads of their own, side by side, and how many rounds and epochs there are. What several threads make of
 // programs stands in the tables of `tool_runs`.
 
 use crate::limping::SOUND;
@@ -142,7 +142,7 @@ fn assert_line(rt: &impl Abort, ran: &Ran, line: &[u8]) {
     );
 }
 
-// Asserts that each of two workers sees the other come.
+// Asserts that each of two threads sees the other come.
 fn assert_side_by_side<R: Abort + Threads>(
     rt: &R,
     alloc: Global,

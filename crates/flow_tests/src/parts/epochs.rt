@@ -1,4 +1,4 @@
-// Shares without nodes that are run in workers, and in epochs.
+// Shares without nodes that are run in threads, and in epochs.
 ghost use Rattle.std.specs.Prelude.{◌≡◌, false, length, IfOk};
 ghost use Rattle.std.specs.List.{All};
 ghost use Rattle.flow_rings.specs.Rings.{ends_of};
@@ -8,8 +8,7 @@ use crate::parts::shares::{numbers_of, two_bare};
 use flow_base::Transducer;
 use flow_epochs::run_epochs;
 use flow_rings::Rings;
-use flow_shares::{Gate, NoGate, Share};
-use flow_workers::{AlwaysStart, WorkError, run_all};
+use flow_shares::{AlwaysStart, Gate, NoGate, Share, WorkError, run_all};
 use std::alloc::Global;
 use std::sync::Arc;
 use std::test::Fail;
@@ -34,7 +33,7 @@ fn run_bare<
     run_epochs(rt, alloc, shares, &[], 1, 1, gate, &mut AlwaysStart)
 }
 
-// The numbers of two shares that are pumped once, in workers.
+// The numbers of two shares that are pumped once, in threads.
 fn run_once<
     R: Threads,
     T: Transducer + Send + Drop + 'static,

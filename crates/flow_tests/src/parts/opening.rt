@@ -8,11 +8,11 @@ ghost use Rattle.flow_opening.specs.Settings.{Setting, setting_of};
 
 use flow_base::Transducer;
 use flow_boxes::Boxes;
-use flow_deal::share_of;
 use flow_graph::{Graph, GraphBuilder};
 use flow_opening::{Dealt, Opening, are_calm, are_fed, deal, gather_graph};
 use flow_rings::Rings;
 use flow_scalar::Source;
+use flow_shares::share_of;
 use std::alloc::{AllocError, Global};
 use std::test::Fail;
 

@@ -6,8 +6,8 @@ ghost use Rattle.std.specs.List.{All};
 ghost use Rattle.flow_graph.specs.Graphs.{states_of, edges_of};
 
 use flow_base::Transducer;
-use flow_deal::{deal_nodes, gather};
 use flow_graph::{Graph, Placed};
+use flow_shares::{deal_nodes, gather};
 use std::alloc::{AllocError, Global};
 
 // How many nodes each of three shares has.

@@ -1,8 +1,8 @@
 use Rattle.std.proofs.Common.{◌<◌, ◌≤◌, refl, sym, subst, inl, rules}
 use Rattle.flow_graph.specs.Layouts.{edges_in}
-use Rattle.flow_workers.specs.declared.error.WorkError.TheVariants.{NoThread}
-use Rattle.flow_workers.proofs.Refused.{none_refused}
-use Rattle.flow_deal.specs.Deals.{AreDealt}
+use Rattle.flow_shares.specs.declared.error.WorkError.TheVariants.{NoThread}
+use Rattle.flow_shares.proofs.Refused.{none_refused}
+use Rattle.flow_shares.specs.Deals.{AreDealt}
 use Rattle.flow_opening.specs.Deals.{nodes_in}
 use Rattle.flow_opening.specs.Open.{AreWires}
 use Rattle.flow_opening.specs.Settings.{AreFed}

@@ -1,8 +1,8 @@
 use Rattle.std.proofs.Common.{◌<◌, ◌≤◌, length, ◌∙◌, sym, ap, subst, arith, inl, rules}
 use Rattle.std.proofs.lemmas.List.{length-map}
 use Rattle.flow_graph.specs.Graphs.{states_of}
-use Rattle.flow_workers.specs.declared.error.WorkError.TheVariants.{NoThread}
-use Rattle.flow_workers.proofs.Refused.{none_refused}
+use Rattle.flow_shares.specs.declared.error.WorkError.TheVariants.{NoThread}
+use Rattle.flow_shares.proofs.Refused.{none_refused}
 use Rattle.flow_opening.specs.Open.{AreWires}
 use Rattle.flow_round_laws.specs.Joints.{views_of}
 use Rattle.flow_opening.specs.Settings.{moved_by}

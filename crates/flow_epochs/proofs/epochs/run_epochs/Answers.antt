@@ -1,6 +1,6 @@
 use Rattle.std.proofs.Common.{◌≡◌, ◌++◌, length, take, drop, sym, ◌∙◌, ap, subst, arith, rules}
-use Rattle.flow_workers.specs.declared.error.WorkError.TheVariants.{NoThread}
-use Rattle.flow_workers.proofs.Refused.{none_refused}
+use Rattle.flow_shares.specs.declared.error.WorkError.TheVariants.{NoThread}
+use Rattle.flow_shares.proofs.Refused.{none_refused}
 use Rattle.flow_opening.specs.Settings.{AreFed, NoneCanStep, AreLookedAt}
 use Rattle.flow_opening.proofs.Lists.{written_back}
 use Rattle.flow_epochs.specs.Epochs.{moved_in, AreLater, AreOfOneGraph, HaveMetAll, StandSound, StandAtRest, AreMet}

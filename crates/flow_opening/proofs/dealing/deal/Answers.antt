@@ -3,7 +3,7 @@ use Rattle.std.proofs.lemmas.List.{get_or-map, length-map}
 use Rattle.flow_graph.specs.Places.{states_in}
 use Rattle.flow_graph.specs.Layouts.{edges_in}
 use Rattle.flow_graph.specs.Networks.{AreOpened}
-use Rattle.flow_deal.specs.Deals.{lists_in, AreJustDealt}
+use Rattle.flow_shares.specs.Deals.{lists_in, AreJustDealt}
 use Rattle.flow_opening.specs.Open.{AreWires, AreFreshEnds}
 use Rattle.flow_opening.specs.Deals.{MakeAShare, nodes_in}
 use Rattle.flow_opening.proofs.Lists.{all_zipped}

@@ -1,5 +1,5 @@
 use Rattle.std.proofs.Common.{rules, ◌≡◌, ◌∷◌, ap, arith}
-use Rattle.flow_deal.specs.Deals.{lists_in}
+use Rattle.flow_shares.specs.Deals.{lists_in}
 use Rattle.flow_opening.proofs.Shares.{one_more, new_more}
 use Rattle.flow_opening.proofs.Refused.{none_given}
 use Rattle.flow_opening.proofs.dealing.make_shares.Goals as goal

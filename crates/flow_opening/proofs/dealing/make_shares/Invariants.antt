@@ -1,6 +1,6 @@
 use Rattle.std.proofs.Common.{◌≡◌, ◌++◌}
 use Rattle.std.specs.List.{AllZip}
-use Rattle.flow_deal.specs.Deals.{lists_in}
+use Rattle.flow_shares.specs.Deals.{lists_in}
 use Rattle.flow_opening.specs.Deals.{MakeAShare, nodes_in, ends_in, AreNew}
 use Rattle.flow_opening.proofs.dealing.make_shares.Given as goal
 

@@ -3,7 +3,7 @@ use Rattle.flow_graph.specs.Places.{states_in}
 use Rattle.flow_graph.specs.Graphs.{states_of, edges_of}
 use Rattle.flow_graph.specs.Layouts.{FitTogether}
 use Rattle.flow_graph.specs.Shapes.{IsSameNetwork}
-use Rattle.flow_deal.specs.Deals.{lists_in}
+use Rattle.flow_shares.specs.Deals.{lists_in}
 use Rattle.flow_round_laws.specs.Joints.{AreStates}
 use Rattle.flow_opening.specs.Deals.{nodes_in}
 use Rattle.flow_opening.proofs.Gathers.{they_fit, openings, are}

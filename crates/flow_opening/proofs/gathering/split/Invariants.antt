@@ -1,6 +1,6 @@
 use Rattle.std.specs.Prelude.{◌≡◌, ◌+◌, ◌≤◌, ◌++◌, map, length}
 use Rattle.std.specs.Vec.{vec_capacity}
-use Rattle.flow_deal.specs.Deals.{lists_in}
+use Rattle.flow_shares.specs.Deals.{lists_in}
 use Rattle.flow_opening.proofs.gathering.split.Given as goal
 
 abbrev pub invariant-loop-share : goal.invariant-loop-share

@@ -2,7 +2,7 @@ use Rattle.std.proofs.Common.{length, ap, ◌∙◌, arith}
 use Rattle.std.proofs.lemmas.List.{get_or_default, length_push}
 use Rattle.flow_graph.specs.Edges.{edge_at}
 use Rattle.flow_meetings.specs.declared.everywhere.Wire.{Wire}
-use Rattle.flow_deal.specs.Deals.{share_of}
+use Rattle.flow_shares.specs.Deals.{share_of}
 use Rattle.flow_opening.proofs.More.{wire_more}
 use Rattle.flow_opening.proofs.wires.wires_of.Goals as goal
 

@@ -1,7 +1,7 @@
 use Rattle.std.proofs.Common.{◌≡◌, ◌<◌, ℕ, length, slice_index_or}
 use Rattle.flow_graph.specs.Edges.{edge_at}
 use Rattle.flow_meetings.specs.declared.everywhere.Wire.{Wire}
-use Rattle.flow_deal.specs.Deals.{share_of}
+use Rattle.flow_shares.specs.Deals.{share_of}
 use Rattle.flow_opening.proofs.wires.wires_of.Given as goal
 
 abbrev pub invariant-loop-edge : goal.invariant-loop-edge

@@ -1,6 +1,6 @@
 use Rattle.std.proofs.Common.{◌≡◌, ◌++◌, length, take, drop, refl, sym, ◌∙◌, ap, subst, arith}
-use Rattle.flow_workers.specs.declared.error.WorkError.TheVariants.{NoThread}
-use Rattle.flow_workers.proofs.Refused.{none_refused}
+use Rattle.flow_shares.specs.declared.error.WorkError.TheVariants.{NoThread}
+use Rattle.flow_shares.proofs.Refused.{none_refused}
 use Rattle.flow_opening.specs.Settings.{NoneCanStep, AreLookedAt}
 use Rattle.flow_opening.proofs.Lists.{written_back}
 use Rattle.flow_rounds.specs.Standing.{boxes_of, moved_in, StandBetweenRounds, RestBetweenRounds}

@@ -2,8 +2,8 @@ use Rattle.std.proofs.Common.{length, sym, ◌∙◌, ap, subst}
 use Rattle.std.proofs.lemmas.List.{length-map}
 use Rattle.flow_graph.specs.Layouts.{nodes_of}
 use Rattle.flow_graph.specs.Places.{placed_state}
-use Rattle.flow_deal.specs.Deals.{AreDealt}
-use Rattle.flow_deal.proofs.Stays.{as_given}
+use Rattle.flow_shares.specs.Deals.{AreDealt}
+use Rattle.flow_shares.proofs.Stays.{as_given}
 use Rattle.flow_opening.specs.Deals.{nodes_in}
 use Rattle.flow_tests.proofs.parts.opening.deal_and_gather.Goals as goal
 

@@ -1,4 +1,0 @@
-pub mod Stays
-pub mod Places
-pub mod Dealing
-pub mod Gathered

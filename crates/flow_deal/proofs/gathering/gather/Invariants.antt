@@ -1,6 +1,0 @@
-use Rattle.flow_deal.specs.Deals.{lists_in}
-use Rattle.flow_deal.proofs.Gathered.{IsGathering}
-use Rattle.flow_deal.proofs.gathering.gather.Given as goal
-
-abbrev pub invariant-loop-k : goal.invariant-loop-k
-invariant-loop-k g l = IsGathering l.share l.count (lists_in l.initial.dealt.items) l.k (lists_in l.dealt.items) l.nodes.items
