@@ -21,11 +21,11 @@ use Rattle.flow_rings.specs.declared.rings.Rings.{Rings}
 use Rattle.flow_rings.specs.Rings.{ends_of}
 use Rattle.flow_shares.specs.Deals.{share_of, AreDealt}
 use Rattle.flow_shares.specs.declared.share.Share.{Share}
-use Rattle.flow_round_laws.specs.Joints.{nodes_at, no_ends, AreStates}
-use Rattle.flow_round_laws.proofs.Parts.{any_of}
-use Rattle.flow_opening.specs.Deals.{nodes_in, ends_in}
-use Rattle.flow_opening.specs.Settings.{Setting, view_at, moved_by, AreFed}
-use Rattle.flow_opening.proofs.Lists.{mapped_twice}
+use Rattle.flow_meetings.specs.Joints.{nodes_at, no_ends, AreStates}
+use Rattle.flow_meetings.proofs.Parts.{any_of}
+use Rattle.flow_meetings.specs.Deals.{nodes_in, ends_in}
+use Rattle.flow_meetings.specs.Settings.{Setting, view_at, moved_by, AreFed}
+use Rattle.flow_meetings.proofs.Lists.{mapped_twice}
 use Rattle.flow_epochs.specs.Epochs.{AreOfOneGraph, HaveMetAll, StandSound, StandAtRest}
 use Rattle.flow_epochs.proofs.Gathers.{HaveRested, have_rested}
 use Rattle.flow_epochs.proofs.Lists.{ends_are}

@@ -13,7 +13,7 @@ use Rattle.flow_graph.specs.Networks.{network_of}
 use Rattle.flow_graph.proofs.Nets.{graph_wired}
 use Rattle.flow_rings.specs.Rings.{ends_of}
 use Rattle.flow_meetings.specs.RingMeetings.{RingsJoin}
-use Rattle.flow_opening.specs.Deals.{nodes_in, ends_in}
+use Rattle.flow_meetings.specs.Deals.{nodes_in, ends_in}
 use Rattle.flow_drive.specs.declared.parts.Parts.{Parts}
 use Rattle.flow_drive.specs.declared.parts.Parts.TheVariants.{Together, Apart}
 use Rattle.flow_drive.specs.declared.rested.Rested.{Rested}

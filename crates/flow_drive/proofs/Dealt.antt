@@ -3,8 +3,8 @@ use Rattle.std.proofs.Common.{ℕ}
 use Rattle.flow_messages.specs.declared.ends.Ends.{Ghosts as EndsGhosts}
 use Rattle.flow_base.specs.declared.transducer.Transducer.{Ghosts}
 use Rattle.flow_graph.specs.declared.graph.Graph.{Graph}
-use Rattle.flow_opening.specs.declared.dealt.Dealt.{Dealt}
-use Rattle.flow_opening.specs.Settings.{AreFed}
+use Rattle.flow_meetings.specs.declared.dealt.Dealt.{Dealt}
+use Rattle.flow_meetings.specs.Settings.{AreFed}
 use Rattle.flow_drive.specs.declared.config.Config.{Config}
 use Rattle.flow_drive.specs.Configs.{IsLawful}
 use Rattle.flow_drive.specs.Dealings.{IsDealtUnder, AreDealtOut}

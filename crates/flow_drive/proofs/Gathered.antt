@@ -17,9 +17,9 @@ use Rattle.flow_boxes.specs.Contents.{Contents, contents, view_of}
 use Rattle.flow_boxes.specs.Rounds.{IsLinked}
 use Rattle.flow_meetings.specs.BoxMeetings.{BoxesJoin}
 use Rattle.flow_shares.specs.Deals.{share_of}
-use Rattle.flow_round_laws.specs.Joints.{no_contents, boxes_at, views_of, writer_boxes, reader_boxes, joined_view, HaveMet}
-use Rattle.flow_round_laws.specs.JoinedTheorems.{AllMet}
-use Rattle.flow_opening.specs.Settings.{Setting, moved_by}
+use Rattle.flow_meetings.specs.Joints.{no_contents, boxes_at, views_of, writer_boxes, reader_boxes, joined_view, HaveMet}
+use Rattle.flow_meetings.specs.JoinedTheorems.{AllMet}
+use Rattle.flow_meetings.specs.Settings.{Setting, moved_by}
 use Rattle.flow_rounds.specs.Standing.{seen}
 use Rattle.flow_rounds.proofs.Gathers.{HaveComeToRest}
 use Rattle.flow_drive.specs.declared.lines.SharedLines.{SharedLines}

@@ -15,10 +15,10 @@ use Rattle.flow_graph.specs.declared.edge.Edge.{Edge}
 use Rattle.flow_graph.specs.Edges.{edge_at}
 use Rattle.flow_boxes.specs.Contents.{view_of}
 use Rattle.flow_shares.specs.Deals.{share_of}
-use Rattle.flow_round_laws.specs.Joints.{no_ends}
-use Rattle.flow_round_laws.specs.JoinedTheorems.{AllMet}
-use Rattle.flow_round_laws.proofs.Parts.{any_of}
-use Rattle.flow_round_laws.proofs.Views.{sent_at, received_at, none_sent}
+use Rattle.flow_meetings.specs.Joints.{no_ends}
+use Rattle.flow_meetings.specs.JoinedTheorems.{AllMet}
+use Rattle.flow_meetings.proofs.Parts.{any_of}
+use Rattle.flow_meetings.proofs.Views.{sent_at, received_at, none_sent}
 use Rattle.flow_drive.specs.declared.lines.Lines.{Lines}
 use Rattle.flow_drive.specs.declared.lines.Lines.TheVariants.{Whole, Shared}
 use Rattle.flow_drive.specs.Edges.{seen_by, traffic_by, AreJoined, traffic_in, capacity_in, AreThere}

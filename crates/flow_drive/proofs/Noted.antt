@@ -8,10 +8,10 @@ use Rattle.flow_graph.specs.declared.placed.Placed.{Placed}
 use Rattle.flow_graph.specs.Layouts.{FitTogether}
 use Rattle.flow_shares.specs.Deals.{share_of, AreDealt}
 use Rattle.flow_shares.specs.declared.share.Share.{Share}
-use Rattle.flow_round_laws.specs.Joints.{nodes_at}
-use Rattle.flow_round_laws.proofs.Seats.{number_is}
-use Rattle.flow_opening.specs.Deals.{nodes_in}
-use Rattle.flow_opening.specs.Settings.{Setting}
+use Rattle.flow_meetings.specs.Joints.{nodes_at}
+use Rattle.flow_meetings.proofs.Seats.{number_is}
+use Rattle.flow_meetings.specs.Deals.{nodes_in}
+use Rattle.flow_meetings.specs.Settings.{Setting}
 use Rattle.flow_epochs.proofs.Lists.{count_dealt, nodes_are}
 use Rattle.flow_drive.specs.Apart.{AreItsPlaces}
 

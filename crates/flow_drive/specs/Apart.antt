@@ -15,9 +15,9 @@ use Rattle.flow_rings.specs.Rings.{ends_of}
 use Rattle.flow_meetings.specs.RingMeetings.{RingsJoin}
 use Rattle.flow_shares.specs.Deals.{share_of, AreDealt}
 use Rattle.flow_shares.specs.declared.share.Share.{Share}
-use Rattle.flow_round_laws.specs.Joints.{nodes_at, AreStates}
-use Rattle.flow_opening.specs.Deals.{nodes_in, ends_in}
-use Rattle.flow_opening.specs.Settings.{Setting, AreFed}
+use Rattle.flow_meetings.specs.Joints.{nodes_at, AreStates}
+use Rattle.flow_meetings.specs.Deals.{nodes_in, ends_in}
+use Rattle.flow_meetings.specs.Settings.{Setting, AreFed}
 use Rattle.flow_drive.specs.Drives.{IsSoundAt, RestsAt}
 use Rattle.flow_drive.specs.Edges.{traffic_by, AreJoined}
 

@@ -7,15 +7,15 @@ use Rattle.flow_graph.specs.Graphs.{edges_of}
 use Rattle.flow_graph.specs.Layouts.{nodes_of}
 use Rattle.flow_boxes.specs.declared.boxes.Boxes.{Boxes}
 use Rattle.flow_rings.specs.declared.rings.Rings.{Rings}
-use Rattle.flow_meetings.specs.declared.everywhere.Wire.{Wire}
+use Rattle.flow_meetings.specs.declared.wires.Wire.{Wire}
 use Rattle.flow_meetings.specs.BoxMeetings.{BoxesJoin, box_places}
 use Rattle.flow_meetings.specs.RingMeetings.{RingsJoin, ring_places}
 use Rattle.flow_shares.specs.Deals.{AreJustDealt}
 use Rattle.flow_shares.specs.declared.share.Share.{Share}
-use Rattle.flow_opening.specs.Open.{AreWires, AreFreshEnds}
-use Rattle.flow_opening.specs.declared.dealt.Dealt.{Dealt}
-use Rattle.flow_opening.specs.Deals.{nodes_in, ends_in, AreNew, IsDealt}
-use Rattle.flow_opening.specs.Settings.{Setting, setting_of}
+use Rattle.flow_meetings.specs.Open.{AreWires, AreFreshEnds}
+use Rattle.flow_meetings.specs.declared.dealt.Dealt.{Dealt}
+use Rattle.flow_meetings.specs.Deals.{nodes_in, ends_in, AreNew, IsDealt}
+use Rattle.flow_meetings.specs.Settings.{Setting, setting_of}
 use Rattle.flow_epochs.specs.Epochs.{AreOfOneGraph}
 use Rattle.flow_drive.specs.Configs.{IsLawful}
 use Rattle.flow_drive.specs.declared.config.Config.{Config}

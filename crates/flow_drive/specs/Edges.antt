@@ -11,8 +11,8 @@ use Rattle.flow_boxes.specs.declared.boxes.Boxes.{Boxes}
 use Rattle.flow_boxes.specs.Contents.{view_of}
 use Rattle.flow_meetings.specs.BoxMeetings.{BoxesJoin}
 use Rattle.flow_shares.specs.Deals.{share_of}
-use Rattle.flow_round_laws.specs.Joints.{no_ends, joined_view}
-use Rattle.flow_round_laws.specs.JoinedTheorems.{AllMet}
+use Rattle.flow_meetings.specs.Joints.{no_ends, joined_view}
+use Rattle.flow_meetings.specs.JoinedTheorems.{AllMet}
 use Rattle.flow_drive.specs.declared.lines.Lines.{Lines}
 use Rattle.flow_drive.specs.declared.lines.Lines.TheVariants.{Whole, Shared}
 use Rattle.flow_drive.specs.declared.lines.SharedLines.{SharedLines}

@@ -1,7 +1,7 @@
 -- What drives of several threads keep of a graph that they dealt out.
 use Rattle.std.specs.Prelude.{◌≡◌, ◌<◌, length}
 use Rattle.flow_base.specs.declared.transducer.Transducer.{Ghosts}
-use Rattle.flow_opening.specs.Settings.{Setting, setting_of}
+use Rattle.flow_meetings.specs.Settings.{Setting, setting_of}
 use Rattle.flow_drive.specs.declared.given.Given.{Given}
 
 module _ {X : Type 0} {t : Ghosts X} where

@@ -31,7 +31,7 @@ pub use Rattle.flow_graph.specs.Shapes
 pub use Rattle.flow_rings.specs.declared.rings.Rings as RingEnds
 pub use Rattle.flow_rings.specs.Rings
 pub use Rattle.flow_boxes.specs.declared.boxes.Boxes
-pub use Rattle.flow_meetings.specs.declared.everywhere.Wire
+pub use Rattle.flow_meetings.specs.declared.wires.Wire
 pub use Rattle.flow_meetings.specs.BoxMeetings
 pub use Rattle.flow_meetings.specs.Met
 pub use Rattle.flow_meetings.specs.RingMeetings
@@ -42,9 +42,9 @@ pub use Rattle.flow_shares.specs.Looks
 pub use Rattle.flow_shares.specs.Pumps
 pub use Rattle.flow_shares.specs.Shares
 pub use Rattle.flow_shares.specs.declared.error.WorkError
-pub use Rattle.flow_round_laws.specs.Joints
-pub use Rattle.flow_round_laws.specs.JoinedTheorems
-pub use Rattle.flow_opening.specs.Deals as ShareDeals
-pub use Rattle.flow_opening.specs.Open
-pub use Rattle.flow_opening.specs.Settings
+pub use Rattle.flow_meetings.specs.Joints
+pub use Rattle.flow_meetings.specs.JoinedTheorems
+pub use Rattle.flow_meetings.specs.Deals as ShareDeals
+pub use Rattle.flow_meetings.specs.Open
+pub use Rattle.flow_meetings.specs.Settings
 pub use Rattle.flow_epochs.specs.Epochs as ShareEpochs

@@ -8,8 +8,8 @@ use Rattle.flow_meetings.specs.RingMeetings.{RingsJoin}
 use Rattle.flow_base.specs.declared.transducer.Transducer.{Ghosts}
 use Rattle.flow_graph.specs.declared.edge.Edge.{Edge}
 use Rattle.flow_shares.specs.declared.share.Share.{Share}
-use Rattle.flow_opening.specs.Deals.{nodes_in, ends_in}
-use Rattle.flow_opening.specs.Settings.{AreFed}
+use Rattle.flow_meetings.specs.Deals.{nodes_in, ends_in}
+use Rattle.flow_meetings.specs.Settings.{AreFed}
 use Rattle.flow_drive.specs.Apart.{HaveStates, traffic_apart}
 use Rattle.flow_drive.specs.Edges.{AreJoined, moved_on}
 use Rattle.flow_drive.specs.Parts.{states_at, edges_at, traffic_at, capacity_at, share_at, shares_at, AreApart}

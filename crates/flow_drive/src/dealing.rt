@@ -2,7 +2,7 @@
 ghost use Rattle.std.specs.Prelude.{◌≡◌, ◌↔◌, ◌⊎◌, Err, IfOk, IfErr};
 ghost use Rattle.flow_graph.specs.Graphs.{states_of};
 ghost use Rattle.flow_graph.specs.Networks.{AreOpened};
-ghost use Rattle.flow_opening.specs.Settings.{AreFed};
+ghost use Rattle.flow_meetings.specs.Settings.{AreFed};
 ghost use Rattle.flow_drive.specs.Configs.{IsLawful};
 ghost use Rattle.flow_drive.specs.Dealings.{IsDealtUnder, AreDealtOverBoxes, AreDealtOverRings, AreSharesOf};
 ghost use Rattle.flow_drive.specs.declared.driver.DriveError.TheVariants.{BadConfig, NoMemory};
@@ -12,7 +12,7 @@ use crate::driver::DriveError;
 use flow_base::Transducer;
 use flow_boxes::Boxes;
 use flow_graph::Graph;
-use flow_opening::{Dealt, Opening};
+use flow_meetings::{Dealt, Opening};
 use flow_rings::Rings;
 use flow_shares::Share;
 use std::alloc::Global;
@@ -70,6 +70,6 @@ fn dealt_out<T: Transducer + Drop, E: Opening + Drop>(
     if !config.lawful() {
         return Err(DriveError::BadConfig);
     }
-    let dealt = flow_opening::deal(alloc, graph, config.threads, &config.share, config.capacity)?;
+    let dealt = flow_meetings::deal(alloc, graph, config.threads, &config.share, config.capacity)?;
     Ok(dealt)
 }

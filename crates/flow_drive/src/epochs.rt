@@ -1,6 +1,6 @@
 // Epochs as configurations say.
 ghost use Rattle.std.specs.Prelude.{◌≡◌, ◌⊎◌, Err, IfOk, IfErr};
-ghost use Rattle.flow_opening.specs.Settings.{Setting, AreFed};
+ghost use Rattle.flow_meetings.specs.Settings.{Setting, AreFed};
 ghost use Rattle.flow_epochs.specs.Epochs.{AreOfOneGraph, IsEpoch};
 ghost use Rattle.flow_drive.specs.Configs.{IsLawful};
 ghost use Rattle.flow_drive.specs.declared.driver.DriveError.TheVariants.{NoMemory, NoThread};

@@ -2,14 +2,14 @@
 ghost use Rattle.std.specs.Prelude.{◌≡◌, IfOk};
 ghost use Rattle.flow_graph.specs.Graphs.{states_of};
 ghost use Rattle.flow_graph.specs.Networks.{AreOpened};
-ghost use Rattle.flow_opening.specs.Deals.{IsDealt};
+ghost use Rattle.flow_meetings.specs.Deals.{IsDealt};
 ghost use Rattle.flow_drive.specs.Configs.{IsLawful};
 ghost use Rattle.flow_drive.specs.Givens.{setting_in, IsOfSetting};
 
 use crate::config::Config;
 use flow_base::Transducer;
 use flow_graph::Graph;
-use flow_opening::{Dealt, Opening, deal};
+use flow_meetings::{Dealt, Opening, deal};
 use std::alloc::{AllocError, Global};
 use std::snapshot::Snapshot;
 

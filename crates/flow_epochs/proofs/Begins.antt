@@ -12,20 +12,20 @@ use Rattle.flow_graph.specs.Graphs.{edges_of}
 use Rattle.flow_graph.specs.Layouts.{nodes_of}
 use Rattle.flow_rings.specs.declared.rings.Rings.{Rings}
 use Rattle.flow_rings.proofs.RingLines.{at_line-there}
-use Rattle.flow_meetings.specs.declared.everywhere.Wire.{Wire}
+use Rattle.flow_meetings.specs.declared.wires.Wire.{Wire}
 use Rattle.flow_meetings.specs.RingMeetings.{RingsJoin, ring_places}
 use Rattle.flow_shares.specs.Deals.{share_of}
 use Rattle.flow_shares.proofs.Stays.{as_given}
 use Rattle.flow_shares.specs.declared.share.Share.{Share}
-use Rattle.flow_round_laws.specs.Joints.{joined_view}
-use Rattle.flow_round_laws.proofs.Parts.{any_of}
-use Rattle.flow_round_laws.proofs.Views.{sent_at, received_at}
-use Rattle.flow_opening.specs.declared.dealt.Dealt.{Dealt}
-use Rattle.flow_opening.specs.Open.{HasFreshEnds}
-use Rattle.flow_opening.specs.Deals.{nodes_in, ends_in, IsDealt}
-use Rattle.flow_opening.specs.Settings.{Setting, setting_of, view_at, AreFed}
-use Rattle.flow_opening.proofs.Lists.{total_none}
-use Rattle.flow_opening.proofs.More.{writes_there, reads_there}
+use Rattle.flow_meetings.specs.Joints.{joined_view}
+use Rattle.flow_meetings.proofs.Parts.{any_of}
+use Rattle.flow_meetings.proofs.Views.{sent_at, received_at}
+use Rattle.flow_meetings.specs.declared.dealt.Dealt.{Dealt}
+use Rattle.flow_meetings.specs.Open.{HasFreshEnds}
+use Rattle.flow_meetings.specs.Deals.{nodes_in, ends_in, IsDealt}
+use Rattle.flow_meetings.specs.Settings.{Setting, setting_of, view_at, AreFed}
+use Rattle.flow_meetings.proofs.Lists.{total_none}
+use Rattle.flow_meetings.proofs.More.{writes_there, reads_there}
 use Rattle.flow_epochs.specs.Epochs.{moved_in, AreOfOneGraph}
 use Rattle.flow_epochs.proofs.Lists.{count_ends, view_of_ends}
 use Rattle.flow_epochs.proofs.Meets.{writer_is_share, reader_is_share}

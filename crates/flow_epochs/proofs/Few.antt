@@ -8,8 +8,8 @@ use Rattle.flow_messages.specs.declared.ends.Ends.{Ghosts as EndsGhosts}
 use Rattle.flow_base.specs.declared.transducer.Transducer.{Ghosts}
 use Rattle.flow_rings.specs.declared.rings.Rings.{Rings}
 use Rattle.flow_shares.specs.declared.share.Share.{Share}
-use Rattle.flow_round_laws.specs.RoundTheorems.{net_of}
-use Rattle.flow_opening.specs.Settings.{Setting, AreFed}
+use Rattle.flow_meetings.specs.RoundTheorems.{net_of}
+use Rattle.flow_meetings.specs.Settings.{Setting, AreFed}
 use Rattle.flow_epochs.specs.Epochs.{moved_in, joint_of, IsEpoch}
 use Rattle.flow_epochs.specs.Few.{Follow, EpochsAreFew}
 

@@ -8,15 +8,15 @@ use Rattle.flow_base.specs.declared.transducer.Transducer.{Ghosts}
 use Rattle.flow_graph.specs.Edges.{edge_at}
 use Rattle.flow_rings.specs.declared.rings.Rings.{Rings}
 use Rattle.flow_rings.specs.Rings.{ends_of}
-use Rattle.flow_meetings.specs.declared.everywhere.Wire.{Wire}
+use Rattle.flow_meetings.specs.declared.wires.Wire.{Wire}
 use Rattle.flow_meetings.specs.RingMeetings.{rings_join_ends}
 use Rattle.flow_shares.specs.Deals.{share_of}
 use Rattle.flow_shares.specs.declared.share.Share.{Share}
-use Rattle.flow_round_laws.proofs.Parts.{any_of}
-use Rattle.flow_opening.specs.Open.{AreWires}
-use Rattle.flow_opening.specs.Deals.{ends_in}
-use Rattle.flow_opening.specs.Settings.{Setting, view_at}
-use Rattle.flow_opening.proofs.More.{wire_more}
+use Rattle.flow_meetings.proofs.Parts.{any_of}
+use Rattle.flow_meetings.specs.Open.{AreWires}
+use Rattle.flow_meetings.specs.Deals.{ends_in}
+use Rattle.flow_meetings.specs.Settings.{Setting, view_at}
+use Rattle.flow_meetings.proofs.More.{wire_more}
 use Rattle.flow_epochs.specs.Epochs.{AreOfOneGraph}
 use Rattle.flow_epochs.specs.Wires.{HasBoth, LacksAnEnd}
 use Rattle.flow_epochs.proofs.Lists.{count_ends, view_is, view_of_ends}

@@ -11,13 +11,13 @@ use Rattle.flow_rings.specs.Rings.{ends_of}
 use Rattle.flow_meetings.specs.RingMeetings.{RingsJoin}
 use Rattle.flow_shares.specs.Deals.{share_of, AreDealt}
 use Rattle.flow_shares.specs.declared.share.Share.{Share}
-use Rattle.flow_round_laws.specs.Joints.{no_ends, states_in_shares, AreStates}
-use Rattle.flow_round_laws.specs.RoundTheorems.{net_of}
-use Rattle.flow_round_laws.specs.JoinedTheorems.{AllMet, joined}
-use Rattle.flow_round_laws.proofs.States.{are_states, states_are_one}
-use Rattle.flow_opening.specs.Deals.{nodes_in, ends_in}
-use Rattle.flow_opening.specs.Settings.{Setting, view_at}
-use Rattle.flow_opening.proofs.Lists.{mapped_twice}
+use Rattle.flow_meetings.specs.Joints.{no_ends, states_in_shares, AreStates}
+use Rattle.flow_meetings.specs.RoundTheorems.{net_of}
+use Rattle.flow_meetings.specs.JoinedTheorems.{AllMet, joined}
+use Rattle.flow_meetings.proofs.States.{are_states, states_are_one}
+use Rattle.flow_meetings.specs.Deals.{nodes_in, ends_in}
+use Rattle.flow_meetings.specs.Settings.{Setting, view_at}
+use Rattle.flow_meetings.proofs.Lists.{mapped_twice}
 use Rattle.flow_epochs.specs.Epochs.{AreOfOneGraph, HaveMetAll, StandSound, StandAtRest}
 use Rattle.flow_epochs.proofs.Lists.{count_ends}
 use Rattle.flow_epochs.proofs.Meets.{writer_is_share, reader_is_share}

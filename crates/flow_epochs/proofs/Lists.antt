@@ -10,12 +10,12 @@ use Rattle.flow_base.specs.declared.transducer.Transducer.{Ghosts}
 use Rattle.flow_shares.specs.declared.share.Share.{Share}
 use Rattle.flow_shares.specs.Lending.{Body, body_of}
 use Rattle.flow_shares.specs.Shares.{AreStuck}
-use Rattle.flow_round_laws.specs.Joints.{no_ends, nodes_at}
-use Rattle.flow_round_laws.specs.JoinedTheorems.{AllAreStuck}
-use Rattle.flow_round_laws.proofs.Parts.{any_of}
-use Rattle.flow_opening.specs.Deals.{nodes_in, ends_in}
-use Rattle.flow_opening.specs.Settings.{view_at, AreFed, NoneCanStep}
-use Rattle.flow_opening.proofs.Lists.{mapped_twice}
+use Rattle.flow_meetings.specs.Joints.{no_ends, nodes_at}
+use Rattle.flow_meetings.specs.JoinedTheorems.{AllAreStuck}
+use Rattle.flow_meetings.proofs.Parts.{any_of}
+use Rattle.flow_meetings.specs.Deals.{nodes_in, ends_in}
+use Rattle.flow_meetings.specs.Settings.{view_at, AreFed, NoneCanStep}
+use Rattle.flow_meetings.proofs.Lists.{mapped_twice}
 
 -- parts that are no less, and not more in all, are the same
 pub parts_same : (f g : ℕ → ℕ) (n : ℕ) → ((e : ℕ) → e < n → f e ≤ g e) → total g n ≤ total f n → (e : ℕ) → e < n → g e ≤ f e

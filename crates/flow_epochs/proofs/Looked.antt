@@ -10,10 +10,10 @@ use Rattle.flow_meetings.specs.RingMeetings.{rings_keep_places}
 use Rattle.flow_meetings.specs.Met.{met_kept}
 use Rattle.flow_shares.specs.declared.share.Share.{Share}
 use Rattle.flow_shares.specs.Lending.{Body, body_of}
-use Rattle.flow_round_laws.proofs.Parts.{any_of}
+use Rattle.flow_meetings.proofs.Parts.{any_of}
 use Rattle.flow_shares.specs.Deals.{AreDealt}
-use Rattle.flow_opening.specs.Deals.{ends_in}
-use Rattle.flow_opening.specs.Settings.{Setting, view_at, AreLookedAt}
+use Rattle.flow_meetings.specs.Deals.{ends_in}
+use Rattle.flow_meetings.specs.Settings.{Setting, view_at, AreLookedAt}
 use Rattle.flow_epochs.specs.Epochs.{AreOfOneGraph, HaveMetAll, AreMet}
 use Rattle.flow_epochs.proofs.Lists.{view_is, ends_are, same_nodes}
 use Rattle.flow_epochs.proofs.Meets.{writer, reader, writer_is_share, reader_is_share}

@@ -8,18 +8,18 @@ use Rattle.flow_base.specs.declared.transducer.Transducer.{Ghosts}
 use Rattle.flow_graph.specs.Edges.{edge_at}
 use Rattle.flow_rings.specs.declared.rings.Rings.{Rings}
 use Rattle.flow_rings.specs.Rings.{Kept, ends_of, SameRings}
-use Rattle.flow_meetings.specs.declared.everywhere.Wire.{Wire}
+use Rattle.flow_meetings.specs.declared.wires.Wire.{Wire}
 use Rattle.flow_meetings.specs.Met.{Met}
 use Rattle.flow_meetings.specs.RingMeetings.{RingsJoin, ring_places}
 use Rattle.flow_shares.specs.Deals.{share_of, AreDealt}
 use Rattle.flow_shares.specs.declared.share.Share.{Share}
 use Rattle.flow_shares.specs.Lending.{body_of}
-use Rattle.flow_round_laws.proofs.Parts.{any_of}
-use Rattle.flow_round_laws.proofs.Seats.{reader_inside, writer_inside}
-use Rattle.flow_opening.specs.Open.{AreWires}
-use Rattle.flow_opening.specs.Deals.{ends_in}
-use Rattle.flow_opening.specs.Settings.{Setting, view_at}
-use Rattle.flow_opening.proofs.Lists.{all_zipped}
+use Rattle.flow_meetings.proofs.Parts.{any_of}
+use Rattle.flow_meetings.proofs.Seats.{reader_inside, writer_inside}
+use Rattle.flow_meetings.specs.Open.{AreWires}
+use Rattle.flow_meetings.specs.Deals.{ends_in}
+use Rattle.flow_meetings.specs.Settings.{Setting, view_at}
+use Rattle.flow_meetings.proofs.Lists.{all_zipped}
 use Rattle.flow_epochs.specs.Epochs.{writer_rings, AreOfOneGraph, HaveMetAll, AreMet}
 use Rattle.flow_epochs.proofs.Lists.{count_dealt, count_ends, view_of_ends, same_count, same_nodes}
 

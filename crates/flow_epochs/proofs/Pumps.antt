@@ -18,12 +18,12 @@ use Rattle.flow_shares.specs.Pumps.{IsPumped}
 use Rattle.flow_shares.proofs.Between.{moved_grows, lost_grows, find_node, begins_length, no_more}
 use Rattle.flow_shares.proofs.Busy.{quiet}
 use Rattle.flow_shares.specs.Deals.{AreDealt}
-use Rattle.flow_round_laws.specs.Joints.{nodes_at, joined_view}
-use Rattle.flow_round_laws.proofs.Parts.{any_of}
-use Rattle.flow_round_laws.proofs.Seats.{port_reads, port_writes, dealt_later}
-use Rattle.flow_round_laws.proofs.Views.{sent_at, received_at}
-use Rattle.flow_opening.specs.Deals.{nodes_in, ends_in}
-use Rattle.flow_opening.specs.Settings.{Setting, view_at, AreFed, AreCalm, NoneCanStep}
+use Rattle.flow_meetings.specs.Joints.{nodes_at, joined_view}
+use Rattle.flow_meetings.proofs.Parts.{any_of}
+use Rattle.flow_meetings.proofs.Seats.{port_reads, port_writes, dealt_later}
+use Rattle.flow_meetings.proofs.Views.{sent_at, received_at}
+use Rattle.flow_meetings.specs.Deals.{nodes_in, ends_in}
+use Rattle.flow_meetings.specs.Settings.{Setting, view_at, AreFed, AreCalm, NoneCanStep}
 use Rattle.flow_epochs.specs.Epochs.{moved_in, AreOfOneGraph}
 use Rattle.flow_epochs.proofs.Lists.{parts_same, count_dealt, nodes_are, view_is, ends_are}
 use Rattle.flow_epochs.proofs.Meets.{writer, reader, writer_is_share, reader_is_share}

@@ -26,16 +26,16 @@ use Rattle.flow_shares.specs.Pumps.{IsPumped}
 use Rattle.flow_shares.specs.Lending.{Body}
 use Rattle.flow_shares.proofs.Calm.{stuck_before}
 use Rattle.flow_shares.proofs.Later.{same_places_refl, same_places_then}
-use Rattle.flow_round_laws.specs.Joints.{nodes_at, states_in_shares, AreStates}
-use Rattle.flow_round_laws.specs.RoundTheorems.{net_of}
-use Rattle.flow_round_laws.specs.JoinedTheorems.{joined}
-use Rattle.flow_round_laws.proofs.Parts.{any_of}
-use Rattle.flow_round_laws.proofs.States.{are_states, states_stay}
-use Rattle.flow_round_laws.proofs.Carried.{same_joined}
-use Rattle.flow_round_laws.proofs.Meetings.{own_shares_are_sound}
-use Rattle.flow_round_laws.proofs.Calm.{stuck_shares_rest}
-use Rattle.flow_opening.specs.Deals.{nodes_in, ends_in}
-use Rattle.flow_opening.specs.Settings.{Setting, view_at, AreFed, AreCalm, NoneCanStep}
+use Rattle.flow_meetings.specs.Joints.{nodes_at, states_in_shares, AreStates}
+use Rattle.flow_meetings.specs.RoundTheorems.{net_of}
+use Rattle.flow_meetings.specs.JoinedTheorems.{joined}
+use Rattle.flow_meetings.proofs.Parts.{any_of}
+use Rattle.flow_meetings.proofs.States.{are_states, states_stay}
+use Rattle.flow_meetings.proofs.Carried.{same_joined}
+use Rattle.flow_meetings.proofs.Meetings.{own_shares_are_sound}
+use Rattle.flow_meetings.proofs.Calm.{stuck_shares_rest}
+use Rattle.flow_meetings.specs.Deals.{nodes_in, ends_in}
+use Rattle.flow_meetings.specs.Settings.{Setting, view_at, AreFed, AreCalm, NoneCanStep}
 use Rattle.flow_epochs.specs.Epochs.{moved_in, IsLater, AreLater, AreOfOneGraph, HaveMetAll, joint_of, StandSound, StandAtRest, StandAsBefore, AreMet, IsEpoch}
 use Rattle.flow_epochs.proofs.Lists.{count_dealt, nodes_are, view_is, ends_are, all_are_stuck, same_count, same_nodes, same_body}
 use Rattle.flow_epochs.proofs.Meets.{writer_is_share, reader_is_share}

@@ -14,11 +14,11 @@ use Rattle.flow_shares.specs.Deals.{share_of, AreDealt}
 use Rattle.flow_shares.specs.declared.share.Share.{Share}
 use Rattle.flow_shares.specs.Lending.{body_of}
 use Rattle.flow_shares.specs.Shares.{Grows}
-use Rattle.flow_round_laws.specs.Joints.{states_in_shares}
-use Rattle.flow_round_laws.specs.RoundTheorems.{net_of}
-use Rattle.flow_round_laws.specs.JoinedTheorems.{AllMet, joined}
-use Rattle.flow_opening.specs.Deals.{nodes_in, ends_in}
-use Rattle.flow_opening.specs.Settings.{Setting, view_at, moved_by, AreFed, AreCalm, NoneCanStep}
+use Rattle.flow_meetings.specs.Joints.{states_in_shares}
+use Rattle.flow_meetings.specs.RoundTheorems.{net_of}
+use Rattle.flow_meetings.specs.JoinedTheorems.{AllMet, joined}
+use Rattle.flow_meetings.specs.Deals.{nodes_in, ends_in}
+use Rattle.flow_meetings.specs.Settings.{Setting, view_at, moved_by, AreFed, AreCalm, NoneCanStep}
 
 module _ {X : Type 0} {t : Ghosts X} {u : EndsGhosts Rings} where
   -- how many messages were sent and received on all edges

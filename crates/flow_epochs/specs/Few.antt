@@ -6,8 +6,8 @@ use Rattle.flow_messages.specs.declared.ends.Ends.{Ghosts as EndsGhosts}
 use Rattle.flow_base.specs.declared.transducer.Transducer.{Ghosts}
 use Rattle.flow_rings.specs.declared.rings.Rings.{Rings}
 use Rattle.flow_shares.specs.declared.share.Share.{Share}
-use Rattle.flow_round_laws.specs.RoundTheorems.{net_of}
-use Rattle.flow_opening.specs.Settings.{Setting, AreFed, NoneCanStep}
+use Rattle.flow_meetings.specs.RoundTheorems.{net_of}
+use Rattle.flow_meetings.specs.Settings.{Setting, AreFed, NoneCanStep}
 use Rattle.flow_epochs.specs.Epochs.{IsEpoch}
 
 module _ {X : Type 0} (t : Ghosts X) (u : EndsGhosts Rings) (setting : Setting t) where

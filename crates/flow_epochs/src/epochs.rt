@@ -1,14 +1,13 @@
 // Epochs.
 ghost use Rattle.std.specs.Prelude.{◌≡◌, ◌+◌, ◌<◌, ◌≤◌, ◌⊎◌, IfOk};
 ghost use Rattle.flow_shares.specs.declared.error.WorkError.TheVariants.{NoThread};
-ghost use Rattle.flow_opening.specs.Open.{AreWires};
-ghost use Rattle.flow_opening.specs.Settings.{Setting, AreFed};
+ghost use Rattle.flow_meetings.specs.Open.{AreWires};
+ghost use Rattle.flow_meetings.specs.Settings.{Setting, AreFed};
 ghost use Rattle.flow_epochs.specs.Epochs.{moved_in, AreLater, AreOfOneGraph, HaveMetAll, StandSound, StandAtRest, IsEpoch};
 
 use crate::meet::meet;
 use flow_base::Transducer;
-use flow_meetings::Wire;
-use flow_opening::{are_fed, are_stuck};
+use flow_meetings::{Wire, are_fed, are_stuck};
 use flow_rings::Rings;
 use flow_shares::{Gate, Share, Start, WorkError, run_all};
 use std::alloc::Global;

@@ -1,7 +1,7 @@
 // The ends of every edge meet.
 ghost use Rattle.std.specs.Prelude.{IfOk};
-ghost use Rattle.flow_opening.specs.Open.{AreWires};
-ghost use Rattle.flow_opening.specs.Settings.{Setting};
+ghost use Rattle.flow_meetings.specs.Open.{AreWires};
+ghost use Rattle.flow_meetings.specs.Settings.{Setting};
 ghost use Rattle.flow_epochs.specs.Epochs.{AreOfOneGraph, AreMet};
 
 use crate::parts::{put_together, take_apart};

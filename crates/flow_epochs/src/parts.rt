@@ -3,7 +3,7 @@ ghost use Rattle.std.specs.Prelude.{◌≡◌, map, IfOk};
 ghost use Rattle.std.specs.List.{AllZip};
 ghost use Rattle.flow_rings.specs.Rings.{Kept, SameRings, ends_of};
 ghost use Rattle.flow_shares.specs.Lending.{body_of};
-ghost use Rattle.flow_opening.specs.Deals.{ends_in};
+ghost use Rattle.flow_meetings.specs.Deals.{ends_in};
 
 use flow_base::Transducer;
 use flow_rings::Rings;

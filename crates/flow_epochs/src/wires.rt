@@ -1,7 +1,7 @@
 // The wires of shares, as their ends tell them.
 ghost use Rattle.std.specs.Prelude.{IfOk, IfSome, IfNone};
-ghost use Rattle.flow_opening.specs.Open.{AreWires};
-ghost use Rattle.flow_opening.specs.Settings.{Setting};
+ghost use Rattle.flow_meetings.specs.Open.{AreWires};
+ghost use Rattle.flow_meetings.specs.Settings.{Setting};
 ghost use Rattle.flow_epochs.specs.Epochs.{AreOfOneGraph};
 ghost use Rattle.flow_epochs.specs.Wires.{HasWriter, HasReader, HasBoth, NoneWrites, NoneReads, LacksAnEnd};
 

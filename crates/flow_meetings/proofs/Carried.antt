@@ -1,56 +1,45 @@
--- A carrying loses no certainty.
-use Rattle.std.proofs.Common.{◌≡◌, ℕ, ◌≤◌, List, [], ◌++◌, length, ap, sym, ◌∙◌, arith, append-nil, append_assoc, length-append}
-use Rattle.std.proofs.lemmas.List.{append_cancel_left}
-use mathlib.Core.List.{IsPrefix}
-use Rattle.flow_messages.specs.Signals.{Signal}
+-- Where nothing is sent or received, the configuration stays.
+use Rattle.std.proofs.Common.{◌≡◌, ℕ, ◌<◌, ◌≤◌, List, length, ◌⊎◌, inl, inr, sym, ◌∙◌, ap, arith}
+use Rattle.std.proofs.lemmas.Bool.{cases_lt}
+use Rattle.std.proofs.lemmas.List.{get_or_past}
+use Rattle.flow_messages.specs.Ends.{View, SameTraffic}
+use Rattle.flow_base.specs.declared.transducer.Transducer.{Ghosts}
+use Rattle.flow_graph.specs.declared.edge.Edge.{Edge}
+use Rattle.flow_graph.specs.Networks.{state_at}
 use Rattle.flow_boxes.specs.Contents.{Contents}
-use Rattle.flow_boxes.specs.Rounds.{IsLinked, IsCarried, CarriesAt, CarriesFrom, CarriesTo}
-use Rattle.flow_boxes.proofs.Changed.{everywhere}
-use Rattle.flow_rings.specs.Rings.{Kept}
+use Rattle.flow_meetings.specs.Joints.{no_contents, boxes_at, views_of, writer_view, reader_view, joined_view}
+use Rattle.flow_meetings.specs.RoundTheorems.{NothingMoved, CarryingKeepsTheConfiguration}
+use Rattle.flow_meetings.specs.JoinedTheorems.{joined}
+use Rattle.flow_meetings.proofs.Views.{sent_at, received_at, none_sent, none_received}
 
--- the boxes w and r of edge e, before, and w' and r', after
-module _ (w r w' r' : Contents) (e : ℕ) (linked : IsLinked w r e) (carried : IsCarried w' r' e) where
-  module _ (sent : w'.ends.sent e ≡ w.ends.sent e) (received : r'.ends.received e ≡ r.ends.received e) where
-    came : r'.ends.coming e ≡ r.ends.coming e ++ w.leaving e
-    came = append_cancel_left (r.ends.received e) (r'.ends.coming e) (r.ends.coming e ++ w.leaving e) (
-        ap (λ (x : List Signal). x ++ r'.ends.coming e) (sym received) ∙ carried.arrived ∙ sent ∙ sym linked.in_order
-        ∙ append_assoc (r.ends.received e) (r.ends.coming e) (w.leaving e)
-        )
+-- it is enough that nothing was sent or received at the ends of each edge
+module _ (share : List ℕ) (edges : List Edge) (view_at after : ℕ → View)
+    (writers : (e : ℕ) → e < length edges → SameTraffic (writer_view share edges view_at e) (writer_view share edges after e)) (readers : (e : ℕ) → e < length edges → SameTraffic (reader_view share edges view_at e) (reader_view share edges after e)) where
+  same_sent : (e : ℕ) → ((e < length edges) ⊎ (length edges ≤ e)) → (joined_view share edges after).sent e ≡ (joined_view share edges view_at).sent e
+  same_sent e (inl l) = sent_at share edges after e l ∙ (writers e l).sent e ∙ sym (sent_at share edges view_at e l)
+  same_sent e (inr above) = none_sent share edges after e above ∙ sym (none_sent share edges view_at e above)
 
-    pub more_coming : IsPrefix (r.ends.coming e) (r'.ends.coming e)
-    more_coming = (w.leaving e, sym came)
+  same_received : (e : ℕ) → ((e < length edges) ⊎ (length edges ≤ e)) → (joined_view share edges after).received e ≡ (joined_view share edges view_at).received e
+  same_received e (inl l) = received_at share edges after e l ∙ (readers e l).received e ∙ sym (received_at share edges view_at e l)
+  same_received e (inr above) = none_received share edges after e above ∙ sym (none_received share edges view_at e above)
 
-    pub more_room : w'.capacity ≡ w.capacity → w.ends.room e ≤ w'.ends.room e
-    more_room capacity = omega (arith, capacity, carried.room, linked.bound, ap length came, length-append (r.ends.coming e) (w.leaving e))
-
-  pub writer-kept : CarriesFrom e w w' → CarriesTo e r r' → Kept w.ends w'.ends
-  writer-kept from to = record {
-    ends = from.carries.boxes.ends;
-    traffic = from.carries.traffic;
-    coming = λ k. ([], append-nil (w.ends.coming k) ∙ sym (from.coming k));
-    room = everywhere (λ k. w.ends.room k ≤ w'.ends.room k) e
-        (more_room (from.carries.traffic.sent e) (to.carries.traffic.received e) from.carries.boxes.capacity)
-        (λ k ne. omega (arith, from.carries.others.room k ne));
+  pub same_joined : {X : Type 0} (t : Ghosts X) (states : List t.State) → joined t share edges states after ≡ joined t share edges states view_at
+  same_joined t states = λ i. record {
+    state = state_at t.behaviour states;
+    sent = λ e. same_sent e (cases_lt e (length edges)) i;
+    received = λ e. same_received e (cases_lt e (length edges)) i;
   }
 
-  pub reader-kept : CarriesFrom e w w' → CarriesTo e r r' → Kept r.ends r'.ends
-  reader-kept from to = record {
-    ends = to.carries.boxes.ends;
-    traffic = to.carries.traffic;
-    coming = everywhere (λ k. IsPrefix (r.ends.coming k) (r'.ends.coming k)) e
-        (more_coming (from.carries.traffic.sent e) (to.carries.traffic.received e))
-        (λ k ne. ([], append-nil (r.ends.coming k) ∙ sym (to.carries.others.coming k ne)));
-    room = λ k. omega (arith, to.room k);
-  }
+-- where nothing moved in any share, it did not where there is no share
+same_traffic : (boxes carried : List Contents) → length carried ≡ length boxes → NothingMoved (length boxes) boxes carried → (s : ℕ) → SameTraffic (boxes_at boxes s).ends (boxes_at carried s).ends
+same_traffic boxes carried even nothing s = at (cases_lt s (length boxes))
+  where
+    at : ((s < length boxes) ⊎ (length boxes ≤ s)) → SameTraffic (boxes_at boxes s).ends (boxes_at carried s).ends
+    at (inl low) = nothing s low
+    at (inr above) =
+        let same : boxes_at carried s ≡ boxes_at boxes s = get_or_past carried s no_contents (omega (arith, even, above)) ∙ sym (get_or_past boxes s no_contents above) in
+        record { sent = λ e. ap (λ b. b.ends.sent e) same; received = λ e. ap (λ b. b.ends.received e) same }
 
-pub own-kept : (a a' : Contents) (e : ℕ) → IsLinked a a e → IsCarried a' a' e → CarriesAt e a a' → Kept a.ends a'.ends
-own-kept a a' e linked carried at = record {
-  ends = at.boxes.ends;
-  traffic = at.traffic;
-  coming = everywhere (λ k. IsPrefix (a.ends.coming k) (a'.ends.coming k)) e
-      (more_coming a a a' a' e linked carried (at.traffic.sent e) (at.traffic.received e))
-      (λ k ne. ([], append-nil (a.ends.coming k) ∙ sym (at.others.coming k ne)));
-  room = everywhere (λ k. a.ends.room k ≤ a'.ends.room k) e
-      (more_room a a a' a' e linked carried (at.traffic.sent e) (at.traffic.received e) at.boxes.capacity)
-      (λ k ne. omega (arith, at.others.room k ne));
-}
+pub carrying_keeps_the_configuration : {X : Type 0} (t : Ghosts X) → CarryingKeepsTheConfiguration t
+carrying_keeps_the_configuration t share edges states boxes carried even nothing =
+    same_joined share edges (views_of boxes) (views_of carried) (λ e l. same_traffic boxes carried even nothing _) (λ e l. same_traffic boxes carried even nothing _) t states

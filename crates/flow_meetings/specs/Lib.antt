@@ -1,3 +1,12 @@
 pub mod Met
 pub mod BoxMeetings
 pub mod RingMeetings
+pub mod Joints
+pub mod RoundTheorems
+pub mod JoinedTheorems
+pub mod Deals
+pub mod Open
+pub mod Opens
+pub mod BoxOpenings
+pub mod RingOpenings
+pub mod Settings

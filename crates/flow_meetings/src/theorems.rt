@@ -1,12 +1,16 @@
-// What follows where ends have met. The functions do nothing: their contracts are the theorems.
+// What follows where ends have met, and what holds of shares that go on side by side. The functions do nothing: their
+// contracts are the theorems.
 ghost use Rattle.std.specs.Prelude.{◌≡◌, ℕ, ◌+◌, ◌≤◌, ◌++◌, length};
 ghost use mathlib.Core.List.{IsPrefix};
 ghost use Rattle.flow_messages.specs.Ends.{View, held};
 ghost use Rattle.flow_boxes.specs.declared.boxes.Boxes.{Boxes as TheBoxes};
 ghost use Rattle.flow_boxes.specs.Contents.{contents, view_of};
 ghost use Rattle.flow_meetings.specs.Met.{Met};
+ghost use Rattle.flow_meetings.specs.RoundTheorems.{FreshSharesStart, MeetingIsSound, RoundIsARun, CalmRoundsRest, CalmRoundLeadsToRest, CarryingKeepsTheConfiguration};
+ghost use Rattle.flow_meetings.specs.JoinedTheorems.{OwnSharesAreSound, StuckSharesRest};
 
 use crate::meeting::Meeting;
+use flow_base::Transducer;
 use flow_boxes::Boxes;
 
 /// Where both ends of an edge have met, what was received is a beginning of what was sent, and all of
@@ -29,4 +33,47 @@ pub fn boxes_are_level()
     ensures room { (a b : TheBoxes) (e : ℕ) → ⟦<Boxes as Meeting>⟧.joins a b e →
         Met (view_of a) (view_of b) (⟦<Boxes as Meeting>⟧.places a e) e →
         (view_of a).room e + length ((view_of b).coming e) ≡ (contents a).capacity }
+{}
+
+/// Where the nodes are in their opening states and nothing was sent, the shares are where their network starts.
+pub fn fresh_shares_start<T: Transducer>()
+    ensures { FreshSharesStart ⟦<T as Transducer>⟧ }
+{}
+
+/// Whatever ends the shares have: where each node's history is that of its own ends, and on each edge what was received is
+/// a beginning of what was sent, the configuration is sound.
+pub fn own_shares_are_sound<T: Transducer>()
+    ensures { OwnSharesAreSound ⟦<T as Transducer>⟧ }
+{}
+
+/// Where all edges have met, and each node's history is that of its own ends, the configuration is sound.
+pub fn a_meeting_is_sound<T: Transducer>()
+    ensures { MeetingIsSound ⟦<T as Transducer>⟧ }
+{}
+
+/// Where all edges had met, and then each share went on by itself, what all did together is a run of the network.
+pub fn a_round_is_a_run<T: Transducer>()
+    ensures { RoundIsARun ⟦<T as Transducer>⟧ }
+{}
+
+/// Whatever ends the shares have: where the ends of every edge have met, and no node of any share can step by what its own
+/// ends are certain of, no node can step.
+pub fn stuck_shares_rest<T: Transducer>()
+    ensures { StuckSharesRest ⟦<T as Transducer>⟧ }
+{}
+
+/// Where all edges have met, and no node of any share can step by what its own boxes are certain of, no node can step.
+pub fn calm_rounds_rest<T: Transducer>()
+    ensures { CalmRoundsRest ⟦<T as Transducer>⟧ }
+{}
+
+/// Where all edges had met, and in a round no share sent or received anything and each ran until its nodes were stuck by
+/// its own boxes, no node can step.
+pub fn a_calm_round_leads_to_rest<T: Transducer>()
+    ensures { CalmRoundLeadsToRest ⟦<T as Transducer>⟧ }
+{}
+
+/// Carrying messages from box to box leaves each node and each edge where it stood.
+pub fn carrying_keeps_the_configuration<T: Transducer>()
+    ensures { CarryingKeepsTheConfiguration ⟦<T as Transducer>⟧ }
 {}

@@ -8,9 +8,9 @@ use Rattle.flow_boxes.specs.Contents.{contents, view_of}
 use Rattle.flow_boxes.specs.Rounds.{KeepsRound}
 use Rattle.flow_shares.specs.declared.share.Share.{Share}
 use Rattle.flow_shares.specs.Pumps.{IsPumped}
-use Rattle.flow_round_laws.specs.RoundTheorems.{HaveGoneOn}
-use Rattle.flow_opening.specs.Deals.{nodes_in}
-use Rattle.flow_opening.specs.Settings.{Setting, AreFed, NoneCanStep}
+use Rattle.flow_meetings.specs.RoundTheorems.{HaveGoneOn}
+use Rattle.flow_meetings.specs.Deals.{nodes_in}
+use Rattle.flow_meetings.specs.Settings.{Setting, AreFed, NoneCanStep}
 use Rattle.flow_rounds.specs.Standing.{boxes_of, moved_in, AreMet, StandBetweenRounds}
 use Rattle.flow_rounds.proofs.Shares.{gone_on, none_could_step}
 use Rattle.flow_rounds.proofs.Rounds.{stands, moves}

@@ -15,21 +15,21 @@ use Rattle.flow_graph.specs.Places.{placed_state, states_in}
 use Rattle.flow_boxes.specs.declared.boxes.Boxes.{Boxes}
 use Rattle.flow_boxes.specs.Contents.{Contents, contents, view_of}
 use Rattle.flow_boxes.specs.Rounds.{IsLinked}
-use Rattle.flow_meetings.specs.declared.everywhere.Wire.{Wire}
+use Rattle.flow_meetings.specs.declared.wires.Wire.{Wire}
 use Rattle.flow_meetings.specs.Met.{Met, kept_refl}
 use Rattle.flow_meetings.specs.BoxMeetings.{BoxesJoin, box_places}
 use Rattle.flow_shares.specs.Deals.{share_of, AreDealt}
 use Rattle.flow_shares.proofs.Stays.{as_given}
 use Rattle.flow_shares.specs.declared.share.Share.{Share}
-use Rattle.flow_opening.specs.declared.dealt.Dealt.{Dealt}
-use Rattle.flow_opening.specs.Deals.{nodes_in, ends_in, IsDealt}
-use Rattle.flow_round_laws.specs.Joints.{views_of, writer_boxes, reader_boxes, HaveMet, AreStates}
-use Rattle.flow_round_laws.proofs.Parts.{any_of}
-use Rattle.flow_round_laws.proofs.Seats.{reader_inside, writer_inside}
-use Rattle.flow_round_laws.proofs.Meetings.{fresh_shares_start}
-use Rattle.flow_round_laws.proofs.Views.{sent_at, received_at}
-use Rattle.flow_opening.specs.Settings.{setting_of, AreFed}
-use Rattle.flow_opening.proofs.Lists.{total_none}
+use Rattle.flow_meetings.specs.declared.dealt.Dealt.{Dealt}
+use Rattle.flow_meetings.specs.Deals.{nodes_in, ends_in, IsDealt}
+use Rattle.flow_meetings.specs.Joints.{views_of, writer_boxes, reader_boxes, HaveMet, AreStates}
+use Rattle.flow_meetings.proofs.Parts.{any_of}
+use Rattle.flow_meetings.proofs.Seats.{reader_inside, writer_inside}
+use Rattle.flow_meetings.proofs.Meetings.{fresh_shares_start}
+use Rattle.flow_meetings.proofs.Views.{sent_at, received_at}
+use Rattle.flow_meetings.specs.Settings.{setting_of, AreFed}
+use Rattle.flow_meetings.proofs.Lists.{total_none}
 use Rattle.flow_rounds.specs.Standing.{seen, AreLinked, boxes_of, moved_in, StandBetweenRounds}
 use Rattle.flow_rounds.proofs.Levels.{seen_at, have_met}
 use Rattle.flow_rounds.proofs.Meets.{seen_is}

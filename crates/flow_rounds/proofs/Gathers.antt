@@ -9,11 +9,11 @@ use Rattle.flow_boxes.specs.declared.boxes.Boxes.{Boxes}
 use Rattle.flow_boxes.specs.Contents.{Contents}
 use Rattle.flow_shares.specs.Deals.{AreDealt}
 use Rattle.flow_shares.specs.declared.share.Share.{Share}
-use Rattle.flow_opening.specs.Deals.{nodes_in, ends_in}
-use Rattle.flow_opening.specs.Settings.{Setting}
-use Rattle.flow_round_laws.specs.Joints.{HaveMet, AreStates}
-use Rattle.flow_round_laws.specs.RoundTheorems.{net_of, joint}
-use Rattle.flow_round_laws.proofs.States.{states_are_one}
+use Rattle.flow_meetings.specs.Deals.{nodes_in, ends_in}
+use Rattle.flow_meetings.specs.Settings.{Setting}
+use Rattle.flow_meetings.specs.Joints.{HaveMet, AreStates}
+use Rattle.flow_meetings.specs.RoundTheorems.{net_of, joint}
+use Rattle.flow_meetings.proofs.States.{states_are_one}
 use Rattle.flow_rounds.specs.Standing.{seen, boxes_of, RestBetweenRounds}
 use Rattle.flow_rounds.proofs.Meets.{seen_is}
 

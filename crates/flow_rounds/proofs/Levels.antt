@@ -10,14 +10,14 @@ use Rattle.flow_rings.specs.Rings.{Kept}
 use Rattle.flow_boxes.specs.declared.boxes.Boxes.{Boxes}
 use Rattle.flow_boxes.specs.Contents.{Contents, contents, view_of}
 use Rattle.flow_boxes.specs.Rounds.{IsLinked, IsCarried}
-use Rattle.flow_meetings.specs.declared.everywhere.Wire.{Wire}
+use Rattle.flow_meetings.specs.declared.wires.Wire.{Wire}
 use Rattle.flow_meetings.specs.Met.{Met}
 use Rattle.flow_meetings.specs.BoxMeetings.{BoxesJoin}
 use Rattle.flow_shares.specs.Deals.{share_of}
-use Rattle.flow_round_laws.specs.Joints.{no_contents, boxes_at, writer_boxes, reader_boxes, HaveMet}
-use Rattle.flow_round_laws.specs.RoundTheorems.{NothingMoved}
-use Rattle.flow_round_laws.proofs.Parts.{any_of, no_length}
-use Rattle.flow_opening.specs.Open.{AreWires}
+use Rattle.flow_meetings.specs.Joints.{no_contents, boxes_at, writer_boxes, reader_boxes, HaveMet}
+use Rattle.flow_meetings.specs.RoundTheorems.{NothingMoved}
+use Rattle.flow_meetings.proofs.Parts.{any_of, no_length}
+use Rattle.flow_meetings.specs.Open.{AreWires}
 use Rattle.flow_rounds.specs.Standing.{seen, AreLinked}
 
 -- boxes that are linked and have met are carried

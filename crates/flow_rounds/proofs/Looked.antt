@@ -19,14 +19,14 @@ use Rattle.flow_shares.specs.declared.share.Share.{Share}
 use Rattle.flow_shares.specs.Lending.{Body, body_of}
 use Rattle.flow_shares.proofs.Later.{same_places_refl}
 use Rattle.flow_shares.proofs.Moves.{moved_none}
-use Rattle.flow_round_laws.specs.Joints.{nodes_at, boxes_at, writer_boxes, reader_boxes, HaveMet}
-use Rattle.flow_round_laws.specs.RoundTheorems.{HaveGoneOn, net_of}
-use Rattle.flow_round_laws.proofs.Calm.{all_met}
-use Rattle.flow_round_laws.proofs.Carried.{carrying_keeps_the_configuration}
-use Rattle.flow_round_laws.proofs.Parts.{any_of}
-use Rattle.flow_round_laws.proofs.Seats.{reader_inside, writer_inside}
-use Rattle.flow_opening.specs.Deals.{nodes_in}
-use Rattle.flow_opening.specs.Settings.{Setting, AreFed, AreLookedAt}
+use Rattle.flow_meetings.specs.Joints.{nodes_at, boxes_at, writer_boxes, reader_boxes, HaveMet}
+use Rattle.flow_meetings.specs.RoundTheorems.{HaveGoneOn, net_of}
+use Rattle.flow_meetings.proofs.Calm.{all_met}
+use Rattle.flow_meetings.proofs.Carried.{carrying_keeps_the_configuration}
+use Rattle.flow_meetings.proofs.Parts.{any_of}
+use Rattle.flow_meetings.proofs.Seats.{reader_inside, writer_inside}
+use Rattle.flow_meetings.specs.Deals.{nodes_in}
+use Rattle.flow_meetings.specs.Settings.{Setting, AreFed, AreLookedAt}
 use Rattle.flow_rounds.specs.Standing.{boxes_of, moved_in, AreMet, StandBetweenRounds}
 use Rattle.flow_rounds.proofs.Levels.{are_carried}
 use Rattle.flow_rounds.proofs.Rounds.{stands}

@@ -7,16 +7,16 @@ use Rattle.flow_base.specs.declared.transducer.Transducer.{Ghosts}
 use Rattle.flow_rings.specs.Rings.{Kept}
 use Rattle.flow_boxes.specs.declared.boxes.Boxes.{Boxes}
 use Rattle.flow_boxes.specs.Contents.{contents, view_of}
-use Rattle.flow_meetings.specs.declared.everywhere.Wire.{Wire}
+use Rattle.flow_meetings.specs.declared.wires.Wire.{Wire}
 use Rattle.flow_meetings.specs.Met.{Met}
 use Rattle.flow_meetings.specs.BoxMeetings.{BoxesJoin}
 use Rattle.flow_shares.specs.declared.share.Share.{Share}
-use Rattle.flow_round_laws.specs.Joints.{HaveMet}
-use Rattle.flow_round_laws.specs.RoundTheorems.{NothingMoved}
-use Rattle.flow_opening.specs.Open.{AreWires}
-use Rattle.flow_opening.specs.Deals.{nodes_in}
-use Rattle.flow_opening.specs.Settings.{Setting, numbers_of, AreFed}
-use Rattle.flow_opening.proofs.Lists.{mapped_twice, all_zipped}
+use Rattle.flow_meetings.specs.Joints.{HaveMet}
+use Rattle.flow_meetings.specs.RoundTheorems.{NothingMoved}
+use Rattle.flow_meetings.specs.Open.{AreWires}
+use Rattle.flow_meetings.specs.Deals.{nodes_in}
+use Rattle.flow_meetings.specs.Settings.{Setting, numbers_of, AreFed}
+use Rattle.flow_meetings.proofs.Lists.{mapped_twice, all_zipped}
 use Rattle.flow_rounds.specs.Standing.{seen, AreLinked, boxes_of, AreMet}
 use Rattle.flow_rounds.proofs.Levels.{have_met, nothing_moved}
 

@@ -17,15 +17,15 @@ use Rattle.flow_boxes.specs.declared.boxes.Boxes.{Boxes}
 use Rattle.flow_boxes.specs.Contents.{contents}
 use Rattle.flow_shares.specs.declared.share.Share.{Share}
 use Rattle.flow_shares.specs.Deals.{AreDealt}
-use Rattle.flow_round_laws.specs.Joints.{AreStates}
-use Rattle.flow_round_laws.specs.RoundTheorems.{NothingMoved, HaveGoneOn, AllStuck, net_of, joint}
-use Rattle.flow_round_laws.proofs.Seats.{dealt_later}
-use Rattle.flow_round_laws.proofs.States.{states_of_shares, are_states}
-use Rattle.flow_round_laws.proofs.Rounds.{a_round_is_a_run}
-use Rattle.flow_round_laws.proofs.Carried.{carrying_keeps_the_configuration}
-use Rattle.flow_round_laws.proofs.Calm.{calm_rounds_rest}
-use Rattle.flow_opening.specs.Deals.{nodes_in}
-use Rattle.flow_opening.specs.Settings.{Setting}
+use Rattle.flow_meetings.specs.Joints.{AreStates}
+use Rattle.flow_meetings.specs.RoundTheorems.{NothingMoved, HaveGoneOn, AllStuck, net_of, joint}
+use Rattle.flow_meetings.proofs.Seats.{dealt_later}
+use Rattle.flow_meetings.proofs.States.{states_of_shares, are_states}
+use Rattle.flow_meetings.proofs.Rounds.{a_round_is_a_run}
+use Rattle.flow_meetings.proofs.Carried.{carrying_keeps_the_configuration}
+use Rattle.flow_meetings.proofs.Calm.{calm_rounds_rest}
+use Rattle.flow_meetings.specs.Deals.{nodes_in}
+use Rattle.flow_meetings.specs.Settings.{Setting}
 use Rattle.flow_rounds.specs.Standing.{boxes_of, moved_in, joint_of, AreMet, StandBetweenRounds, RestBetweenRounds}
 
 module _ {X : Type 0} {t : Ghosts X} (laws : BehaviourLaws t.behaviour) (setting : Setting t) where

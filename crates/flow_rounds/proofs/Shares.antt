@@ -16,12 +16,12 @@ use Rattle.flow_shares.specs.declared.share.Share.{Share}
 use Rattle.flow_shares.specs.Shares.{HaveMoved, AreStuck}
 use Rattle.flow_shares.specs.Pumps.{IsPumped}
 use Rattle.flow_shares.specs.Deals.{share_of, AreDealt}
-use Rattle.flow_round_laws.specs.Joints.{no_contents, nodes_at, boxes_at, writer_boxes, reader_boxes, HaveMet}
-use Rattle.flow_round_laws.specs.RoundTheorems.{NothingMoved, HaveGoneOn, AllStuck}
-use Rattle.flow_round_laws.proofs.Parts.{any_of}
-use Rattle.flow_round_laws.proofs.Seats.{reader_inside, writer_inside}
-use Rattle.flow_opening.specs.Deals.{nodes_in}
-use Rattle.flow_opening.specs.Settings.{AreFed, NoneCanStep}
+use Rattle.flow_meetings.specs.Joints.{no_contents, nodes_at, boxes_at, writer_boxes, reader_boxes, HaveMet}
+use Rattle.flow_meetings.specs.RoundTheorems.{NothingMoved, HaveGoneOn, AllStuck}
+use Rattle.flow_meetings.proofs.Parts.{any_of}
+use Rattle.flow_meetings.proofs.Seats.{reader_inside, writer_inside}
+use Rattle.flow_meetings.specs.Deals.{nodes_in}
+use Rattle.flow_meetings.specs.Settings.{AreFed, NoneCanStep}
 use Rattle.flow_rounds.specs.Standing.{AreLinked, boxes_of}
 
 module _ {X : Type 0} {t : Ghosts X} {u : EndsGhosts Boxes} where

@@ -12,10 +12,10 @@ use Rattle.flow_boxes.specs.Rounds.{IsLinked}
 use Rattle.flow_boxes.specs.declared.boxes.Boxes.{Boxes}
 use Rattle.flow_shares.specs.Deals.{share_of, AreDealt}
 use Rattle.flow_shares.specs.declared.share.Share.{Share}
-use Rattle.flow_round_laws.specs.Joints.{views_of, writer_boxes, reader_boxes, HaveMet, AreStates}
-use Rattle.flow_round_laws.specs.RoundTheorems.{NothingMoved, net_of, joint}
-use Rattle.flow_opening.specs.Deals.{nodes_in}
-use Rattle.flow_opening.specs.Settings.{Setting, moved_by, numbers_of, AreFed}
+use Rattle.flow_meetings.specs.Joints.{views_of, writer_boxes, reader_boxes, HaveMet, AreStates}
+use Rattle.flow_meetings.specs.RoundTheorems.{NothingMoved, net_of, joint}
+use Rattle.flow_meetings.specs.Deals.{nodes_in}
+use Rattle.flow_meetings.specs.Settings.{Setting, moved_by, numbers_of, AreFed}
 
 -- The two boxes of each edge are among these, and hold at most so many messages.
 pub record AreLinked (share : List ℕ) (edges : List Edge) (boxes : List Contents) (most : ℕ) : Type 0 where

@@ -1,7 +1,7 @@
 // Between two rounds.
 ghost use Rattle.std.specs.Prelude.{◌≡◌, IfOk};
-ghost use Rattle.flow_opening.specs.Open.{AreWires};
-ghost use Rattle.flow_opening.specs.Settings.{Setting, AreFed};
+ghost use Rattle.flow_meetings.specs.Open.{AreWires};
+ghost use Rattle.flow_meetings.specs.Settings.{Setting, AreFed};
 ghost use Rattle.flow_rounds.specs.Standing.{AreLinked, boxes_of, AreMet};
 
 use crate::parts::{put_together, take_apart};

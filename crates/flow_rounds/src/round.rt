@@ -1,15 +1,14 @@
 // Rounds.
 ghost use Rattle.std.specs.Prelude.{◌≡◌, ◌+◌, ◌<◌, ◌≤◌, ◌⊎◌, length, IfOk};
 ghost use Rattle.flow_shares.specs.declared.error.WorkError.TheVariants.{NoThread};
-ghost use Rattle.flow_opening.specs.Open.{AreWires};
-ghost use Rattle.flow_opening.specs.Settings.{Setting, NoneCanStep};
+ghost use Rattle.flow_meetings.specs.Open.{AreWires};
+ghost use Rattle.flow_meetings.specs.Settings.{Setting, NoneCanStep};
 ghost use Rattle.flow_rounds.specs.Standing.{boxes_of, moved_in, StandBetweenRounds, RestBetweenRounds};
 
 use crate::meet::meet;
 use flow_base::Transducer;
 use flow_boxes::Boxes;
-use flow_meetings::Wire;
-use flow_opening::{are_fed, are_stuck};
+use flow_meetings::{Wire, are_fed, are_stuck};
 use flow_shares::{Gate, Share, Start, WorkError, run_all};
 use std::alloc::Global;
 use std::sync::Arc;

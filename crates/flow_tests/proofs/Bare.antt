@@ -7,9 +7,9 @@ use Rattle.flow_base.specs.declared.transducer.Transducer.{Ghosts}
 use Rattle.flow_graph.specs.Layouts.{FitTogether}
 use Rattle.flow_rings.specs.declared.rings.Rings.{Rings}
 use Rattle.flow_shares.specs.declared.share.Share.{Share}
-use Rattle.flow_round_laws.proofs.Parts.{any_of}
-use Rattle.flow_opening.specs.Open.{AreWires}
-use Rattle.flow_opening.specs.Settings.{Setting}
+use Rattle.flow_meetings.proofs.Parts.{any_of}
+use Rattle.flow_meetings.specs.Open.{AreWires}
+use Rattle.flow_meetings.specs.Settings.{Setting}
 use Rattle.flow_epochs.specs.Epochs.{AreOfOneGraph}
 use Rattle.flow_epochs.proofs.Lists.{count_dealt, nodes_are, view_is}
 use Rattle.flow_tests.specs.NoEnds.{HasNoEnds}

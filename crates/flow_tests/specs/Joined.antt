@@ -1,6 +1,6 @@
 -- Sets of ends that are joined as wires say.
 use Rattle.std.specs.Prelude.{ℕ, ◌<◌, List, length, slice_index_or}
-use Rattle.flow_meetings.specs.declared.everywhere.Wire.{Wire}
+use Rattle.flow_meetings.specs.declared.wires.Wire.{Wire}
 
 -- The two ends of each edge are those of one edge, in the shares that its wire names.
 pub record AreJoined {X : Type 0} (joins : X → X → ℕ → Type 0) (wires : List Wire) (ends : List X) : Type 0 where

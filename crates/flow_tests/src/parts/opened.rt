@@ -1,8 +1,7 @@
 // Ends of two shares, and of one, that are opened and given to tests.
 ghost use Rattle.std.specs.Prelude.{◌≡◌, [], ◌∷◌, IfOk};
 
-use flow_meetings::Wire;
-use flow_opening::{Opening, open_all};
+use flow_meetings::{Opening, Wire, open_all};
 use std::alloc::{AllocError, Global};
 
 /// Edge 0 goes from the first share to the second, and edge 1 back.

@@ -4,12 +4,12 @@ ghost use Rattle.std.specs.List.{All};
 ghost use Rattle.flow_messages.specs.Limits.{greatest_capacity};
 ghost use Rattle.flow_graph.specs.Graphs.{states_of};
 ghost use Rattle.flow_graph.specs.Networks.{AreOpened};
-ghost use Rattle.flow_opening.specs.Settings.{Setting, setting_of};
+ghost use Rattle.flow_meetings.specs.Settings.{Setting, setting_of};
 
 use flow_base::Transducer;
 use flow_boxes::Boxes;
 use flow_graph::{Graph, GraphBuilder};
-use flow_opening::{Dealt, Opening, are_calm, are_fed, deal, gather_graph};
+use flow_meetings::{Dealt, Opening, are_calm, are_fed, deal, gather_graph};
 use flow_rings::Rings;
 use flow_scalar::Source;
 use flow_shares::share_of;

@@ -3,8 +3,8 @@ ghost use Rattle.std.specs.Prelude.{◌≡◌, false, IfOk};
 ghost use Rattle.std.specs.List.{All};
 
 use crate::sketches::graph_of;
+use flow_meetings::{Dealt, deal};
 use flow_nodes::StreamNode;
-use flow_opening::{Dealt, deal};
 use flow_rings::Rings;
 use flow_shares::Share;
 use std::alloc::Global;

@@ -6,8 +6,8 @@ ghost use Rattle.flow_tests.specs.NoEnds.{HasNoEnds};
 
 use flow_base::Transducer;
 use flow_graph::Placed;
+use flow_meetings::Opening;
 use flow_messages::Table;
-use flow_opening::Opening;
 use flow_rings::Rings;
 use flow_scalar::Source;
 use flow_shares::{Gate, NoGate, Share, pump};

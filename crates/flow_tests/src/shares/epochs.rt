@@ -3,14 +3,14 @@
 ghost use Rattle.std.specs.Prelude.{◌≡◌};
 ghost use Rattle.flow_graph.specs.Graphs.{states_of};
 ghost use Rattle.flow_graph.specs.Networks.{AreOpened};
-ghost use Rattle.flow_opening.specs.Settings.{Setting};
+ghost use Rattle.flow_meetings.specs.Settings.{Setting};
 ghost use Rattle.flow_drive.specs.Dealings.{setting_under};
 
 use crate::sketches::{SUM_OF_FIVE, graph_of};
 use flow_base::Transducer;
 use flow_drive::{Config, Drive, NoGate, deal_rings, epoch};
 use flow_graph::Graph;
-use flow_opening::are_fed;
+use flow_meetings::are_fed;
 use std::alloc::Global;
 use std::process::Abort;
 use std::sync::Arc;

@@ -1,5 +1,5 @@
 use Rattle.std.proofs.Common.{subst}
-use Rattle.flow_opening.specs.Deals.{IsDealt}
+use Rattle.flow_meetings.specs.Deals.{IsDealt}
 use Rattle.flow_drive.specs.Configs.{IsLawful}
 use Rattle.flow_drive.specs.declared.driver.DriveError.TheVariants.{NoMemory}
 use Rattle.flow_drive.proofs.Refused.{refused_else, made_lawful}

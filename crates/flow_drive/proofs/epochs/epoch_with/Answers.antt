@@ -1,5 +1,5 @@
 use Rattle.std.proofs.Common.{sym, subst}
-use Rattle.flow_opening.specs.Open.{AreWires}
+use Rattle.flow_meetings.specs.Open.{AreWires}
 use Rattle.flow_drive.proofs.epochs.epoch_with.Goals as goal
 
 pub epoch-requires : goal.epoch-requires

@@ -3,7 +3,7 @@ use Rattle.std.proofs.lemmas.List.{length-map}
 use Rattle.flow_graph.specs.Graphs.{states_of}
 use Rattle.flow_graph.specs.Layouts.{nodes_of}
 use Rattle.flow_graph.specs.Places.{placed_state}
-use Rattle.flow_opening.specs.Deals.{IsDealt}
+use Rattle.flow_meetings.specs.Deals.{IsDealt}
 use Rattle.flow_drive.proofs.Refused.{nothing_made}
 use Rattle.flow_drive.proofs.given.deal_out.Goals as goal
 

@@ -3,9 +3,9 @@ use Rattle.flow_graph.specs.Layouts.{edges_in}
 use Rattle.flow_shares.specs.declared.error.WorkError.TheVariants.{NoThread}
 use Rattle.flow_shares.proofs.Refused.{none_refused}
 use Rattle.flow_shares.specs.Deals.{AreDealt}
-use Rattle.flow_opening.specs.Deals.{nodes_in}
-use Rattle.flow_opening.specs.Open.{AreWires}
-use Rattle.flow_opening.specs.Settings.{AreFed}
+use Rattle.flow_meetings.specs.Deals.{nodes_in}
+use Rattle.flow_meetings.specs.Open.{AreWires}
+use Rattle.flow_meetings.specs.Settings.{AreFed}
 use Rattle.flow_epochs.specs.Epochs.{moved_in}
 use Rattle.flow_drive.specs.Apart.{AreThePlaces}
 use Rattle.flow_drive.proofs.Apart.{part_of, rest_apart, network_apart, moved_apart}

@@ -1,5 +1,5 @@
 use Rattle.flow_shares.specs.Deals.{AreDealt}
-use Rattle.flow_opening.specs.Deals.{nodes_in}
+use Rattle.flow_meetings.specs.Deals.{nodes_in}
 use Rattle.flow_drive.proofs.Noted.{AreNoted}
 use Rattle.flow_drive.proofs.places.places_of.Given as goal
 

@@ -3,9 +3,9 @@ use Rattle.std.proofs.lemmas.List.{length-map}
 use Rattle.flow_graph.specs.Graphs.{states_of}
 use Rattle.flow_shares.specs.declared.error.WorkError.TheVariants.{NoThread}
 use Rattle.flow_shares.proofs.Refused.{none_refused}
-use Rattle.flow_opening.specs.Open.{AreWires}
-use Rattle.flow_round_laws.specs.Joints.{views_of}
-use Rattle.flow_opening.specs.Settings.{moved_by}
+use Rattle.flow_meetings.specs.Open.{AreWires}
+use Rattle.flow_meetings.specs.Joints.{views_of}
+use Rattle.flow_meetings.specs.Settings.{moved_by}
 use Rattle.flow_rounds.proofs.Meets.{seen_is}
 use Rattle.flow_rounds.proofs.Gathers.{come_to_rest}
 use Rattle.flow_drive.proofs.Refused.{nothing_made}

@@ -1,6 +1,6 @@
 use Rattle.std.proofs.Common.{rules}
-use Rattle.flow_opening.specs.Open.{AreWires}
-use Rattle.flow_opening.specs.Settings.{AreFed}
+use Rattle.flow_meetings.specs.Open.{AreWires}
+use Rattle.flow_meetings.specs.Settings.{AreFed}
 use Rattle.flow_epochs.specs.Epochs.{AreOfOneGraph}
 use Rattle.flow_epochs.proofs.Lists.{fed_stay}
 use Rattle.flow_epochs.proofs.Pumps.{pumped_graph}

@@ -1,8 +1,8 @@
 use Rattle.std.proofs.Common.{◌≡◌, ◌++◌, length, take, drop, sym, ◌∙◌, ap, subst, arith, rules}
 use Rattle.flow_shares.specs.declared.error.WorkError.TheVariants.{NoThread}
 use Rattle.flow_shares.proofs.Refused.{none_refused}
-use Rattle.flow_opening.specs.Settings.{AreFed, NoneCanStep, AreLookedAt}
-use Rattle.flow_opening.proofs.Lists.{written_back}
+use Rattle.flow_meetings.specs.Settings.{AreFed, NoneCanStep, AreLookedAt}
+use Rattle.flow_meetings.proofs.Lists.{written_back}
 use Rattle.flow_epochs.specs.Epochs.{moved_in, AreLater, AreOfOneGraph, HaveMetAll, StandSound, StandAtRest, AreMet}
 use Rattle.flow_epochs.proofs.Lists.{fed_stay}
 use Rattle.flow_epochs.proofs.Looked.{looked_met}

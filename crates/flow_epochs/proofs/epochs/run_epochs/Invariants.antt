@@ -1,5 +1,5 @@
 use Rattle.std.specs.Prelude.{◌+◌, ◌-◌, ◌<◌, ◌≤◌}
-use Rattle.flow_opening.specs.Settings.{AreFed}
+use Rattle.flow_meetings.specs.Settings.{AreFed}
 use Rattle.flow_epochs.specs.Epochs.{moved_in, AreLater, AreOfOneGraph, HaveMetAll}
 use Rattle.flow_epochs.proofs.Whole.{most_moved}
 use Rattle.flow_epochs.proofs.epochs.run_epochs.Given as goal

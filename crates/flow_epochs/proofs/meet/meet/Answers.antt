@@ -2,7 +2,7 @@ use Rattle.std.proofs.Common.{◌≡◌, length, map, refl, sym, ◌∙◌, ap, 
 use Rattle.std.specs.List.{AllZip}
 use Rattle.flow_rings.specs.Rings.{Kept, SameRings, ends_of}
 use Rattle.flow_shares.specs.Lending.{body_of}
-use Rattle.flow_opening.proofs.Lists.{mapped_twice, written_back}
+use Rattle.flow_meetings.proofs.Lists.{mapped_twice, written_back}
 use Rattle.flow_epochs.proofs.Lists.{two_of_ok}
 use Rattle.flow_epochs.proofs.Meets.{are_met, zip_parts}
 use Rattle.flow_epochs.proofs.meet.meet.Goals as goal

@@ -3,7 +3,7 @@ use Rattle.std.specs.List.{AllZip}
 use Rattle.std.specs.Vec.{vec_capacity}
 use Rattle.flow_rings.specs.Rings.{Kept, SameRings, ends_of}
 use Rattle.flow_shares.specs.Lending.{body_of}
-use Rattle.flow_opening.specs.Deals.{ends_in}
+use Rattle.flow_meetings.specs.Deals.{ends_in}
 use Rattle.flow_epochs.proofs.parts.put_together.Given as goal
 
 abbrev pub invariant-loop-lender : goal.invariant-loop-lender

@@ -1,6 +1,6 @@
 use Rattle.std.proofs.Common.{◌∷◌, sym, ap, ◌∙◌, arith}
 use Rattle.std.proofs.lemmas.Grind.{common_steps}
-use Rattle.flow_opening.specs.Deals.{ends_in}
+use Rattle.flow_meetings.specs.Deals.{ends_in}
 use Rattle.flow_epochs.proofs.Pushed.{nothing_made, goes_over, goes_over_as}
 use Rattle.flow_epochs.proofs.parts.take_apart.Goals as goal
 

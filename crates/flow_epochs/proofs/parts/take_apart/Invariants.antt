@@ -1,6 +1,6 @@
 use Rattle.std.specs.Prelude.{◌≡◌, ◌+◌, ◌≤◌, ◌++◌, map, length}
 use Rattle.std.specs.Vec.{vec_capacity}
-use Rattle.flow_opening.specs.Deals.{ends_in}
+use Rattle.flow_meetings.specs.Deals.{ends_in}
 use Rattle.flow_epochs.proofs.parts.take_apart.Given as goal
 
 abbrev pub invariant-loop-share : goal.invariant-loop-share

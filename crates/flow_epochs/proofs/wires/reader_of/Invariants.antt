@@ -1,5 +1,5 @@
 use Rattle.std.specs.Prelude.{◌≡◌, ℕ, ◌<◌, false}
-use Rattle.flow_opening.specs.Settings.{view_at}
+use Rattle.flow_meetings.specs.Settings.{view_at}
 use Rattle.flow_epochs.proofs.wires.reader_of.Given as goal
 
 -- the end is in none of the shares so far

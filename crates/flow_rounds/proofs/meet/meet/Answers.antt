@@ -2,7 +2,7 @@ use Rattle.std.proofs.Common.{◌≡◌, length, map, sym, ◌∙◌, ap, subst,
 use Rattle.std.specs.List.{AllZip}
 use Rattle.flow_rings.specs.Rings.{Kept}
 use Rattle.flow_boxes.specs.Contents.{view_of}
-use Rattle.flow_opening.proofs.Lists.{mapped_twice, written_back}
+use Rattle.flow_meetings.proofs.Lists.{mapped_twice, written_back}
 use Rattle.flow_rounds.proofs.Lists.{four_of_ok}
 use Rattle.flow_rounds.proofs.Levels.{all_join}
 use Rattle.flow_rounds.proofs.Meets.{their_links, are_met, zip_kept}

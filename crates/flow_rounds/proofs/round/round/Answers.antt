@@ -1,6 +1,6 @@
 use Rattle.std.proofs.Common.{refl, subst, rules}
-use Rattle.flow_opening.specs.Open.{AreWires}
-use Rattle.flow_opening.specs.Settings.{AreFed}
+use Rattle.flow_meetings.specs.Open.{AreWires}
+use Rattle.flow_meetings.specs.Settings.{AreFed}
 use Rattle.flow_rounds.specs.Standing.{StandBetweenRounds}
 use Rattle.flow_rounds.proofs.Shares.{still_linked}
 use Rattle.flow_rounds.proofs.After.{stands_after, moves_after}

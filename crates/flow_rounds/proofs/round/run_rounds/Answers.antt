@@ -1,8 +1,8 @@
 use Rattle.std.proofs.Common.{◌≡◌, ◌++◌, length, take, drop, refl, sym, ◌∙◌, ap, subst, arith}
 use Rattle.flow_shares.specs.declared.error.WorkError.TheVariants.{NoThread}
 use Rattle.flow_shares.proofs.Refused.{none_refused}
-use Rattle.flow_opening.specs.Settings.{NoneCanStep, AreLookedAt}
-use Rattle.flow_opening.proofs.Lists.{written_back}
+use Rattle.flow_meetings.specs.Settings.{NoneCanStep, AreLookedAt}
+use Rattle.flow_meetings.proofs.Lists.{written_back}
 use Rattle.flow_rounds.specs.Standing.{boxes_of, moved_in, StandBetweenRounds, RestBetweenRounds}
 use Rattle.flow_rounds.proofs.Rounds.{rests, left_falls}
 use Rattle.flow_rounds.proofs.Shares.{all_stuck}

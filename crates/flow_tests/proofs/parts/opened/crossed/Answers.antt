@@ -1,7 +1,7 @@
 use Rattle.std.proofs.Common.{◌≡◌, get_or, sym, subst, ◌∙◌, arith}
 use Rattle.std.proofs.lemmas.List.{get_or_default}
-use Rattle.flow_meetings.specs.declared.everywhere.Wire.{Wire}
-use Rattle.flow_opening.specs.Open.{AreFreshEnds}
+use Rattle.flow_meetings.specs.declared.wires.Wire.{Wire}
+use Rattle.flow_meetings.specs.Open.{AreFreshEnds}
 use Rattle.flow_tests.proofs.parts.opened.crossed.Goals as goal
 
 pub returns-clause-there : goal.returns-clause-there

@@ -1,6 +1,6 @@
 use Rattle.std.proofs.Common.{get_or, sym, subst, arith}
-use Rattle.flow_meetings.specs.declared.everywhere.Wire.{Wire}
-use Rattle.flow_opening.specs.Open.{AreFreshEnds}
+use Rattle.flow_meetings.specs.declared.wires.Wire.{Wire}
+use Rattle.flow_meetings.specs.Open.{AreFreshEnds}
 use Rattle.flow_tests.proofs.parts.opened.lone.Goals as goal
 
 pub returns : goal.returns

@@ -1,0 +1,13 @@
+use Rattle.std.proofs.Common.{◌≡◌, ◌<◌, ℕ, length, get_or}
+use Rattle.flow_rings.specs.Rings.{Kept}
+use Rattle.flow_meetings.specs.Met.{Met}
+use Rattle.flow_meetings.proofs.meeting_everywhere.meet_all.Given as goal
+
+abbrev pub invariant-loop-edge : goal.invariant-loop-edge
+invariant-loop-edge g l = record {
+  kept : (k : ℕ) (d : _) → k < length l.initial.ends → Kept (g.E.Ends.view (get_or l.initial.ends k d)) (g.E.Ends.view (get_or l.ends k d));
+  same : (k : ℕ) (d : _) → k < length l.initial.ends → g.E.Meeting.stays (get_or l.initial.ends k d) (get_or l.ends k d);
+  places : (k e : ℕ) (d : _) → k < length l.initial.ends → g.E.Meeting.places (get_or l.ends k d) e ≡ g.E.Meeting.places (get_or l.initial.ends k d) e;
+  joined : (e : ℕ) (w : _) (d : _) → e < length l.wires → let wire = get_or l.wires e w in g.E.Meeting.joins (get_or l.ends wire.writer d) (get_or l.ends wire.reader d) e;
+  met : (e : ℕ) (w : _) (d : _) → e < l.edge → let wire = get_or l.wires e w in let a = get_or l.ends wire.writer d in Met (g.E.Ends.view a) (g.E.Ends.view (get_or l.ends wire.reader d)) (g.E.Meeting.places a e) e;
+}

@@ -1,0 +1,63 @@
+// Shares gathered into a graph again.
+ghost use Rattle.std.specs.Prelude.{◌≡◌, ◌<◌, length, IfOk};
+ghost use Rattle.flow_shares.specs.Deals.{lists_in, AreDealt};
+ghost use Rattle.flow_graph.specs.Places.{states_in};
+ghost use Rattle.flow_graph.specs.Graphs.{states_of, edges_of};
+ghost use Rattle.flow_graph.specs.Layouts.{edges_in};
+ghost use Rattle.flow_graph.specs.Shapes.{IsSameNetwork};
+ghost use Rattle.flow_meetings.specs.Joints.{AreStates};
+ghost use Rattle.flow_meetings.specs.Deals.{nodes_in, ends_in};
+ghost use Rattle.flow_meetings.specs.Settings.{Setting};
+
+use flow_base::Transducer;
+use flow_graph::{Graph, Layout, Placed};
+use flow_messages::Ends;
+use flow_shares::{Share, gather};
+use std::alloc::{AllocError, Global};
+
+/// Gathers the nodes of shares, `count` in all, into a graph again, and gives the ends of each share, in order.
+///
+/// Each node of the graph has the state in which its share left it. The only error is that memory was refused; then the
+/// nodes and the ends are let go.
+pub fn gather_graph<T: Transducer + Drop, E: Ends + Drop>(
+    alloc: Global,
+    shares: Vec<Share<T, E>>,
+    layout: Layout,
+    count: usize,
+    share: &[u8],
+) -> Result<(Graph<T>, Vec<E>), AllocError>
+    ghost setting: { Setting ⟦<T as Transducer>⟧ }
+    requires some { 0 < length share.now }
+    requires count { count ≡ length setting.nodes }
+    requires share { share.now ≡ setting.share }
+    requires edges { edges_in layout ≡ setting.edges }
+    requires deals { AreDealt setting.share setting.nodes (nodes_in shares.items) }
+    ensures ends { IfOk result (λ made. made.1.items ≡ ends_in shares.items) }
+    ensures network { IfOk result (λ made. IsSameNetwork T.behaviour
+        (states_in setting.nodes) setting.edges (states_of made.0) (edges_of made.0)) }
+    ensures states { IfOk result (λ made. (deals : AreDealt setting.share setting.nodes
+        (nodes_in shares.items)) → AreStates setting.share setting.nodes
+        (nodes_in shares.items) deals (states_of made.0)) }
+{
+    let (lists, ends) = split(alloc, shares)?;
+    let nodes = gather(alloc, lists, count, share)?;
+    Ok((layout.put_together(nodes), ends))
+}
+
+// The nodes of each share, and its ends, in order.
+fn split<T: Transducer + Drop, E: Ends + Drop>(
+    alloc: Global,
+    shares: Vec<Share<T, E>>,
+) -> Result<(Vec<Vec<Placed<T>>>, Vec<E>), AllocError>
+    ensures nodes { IfOk result (λ made. lists_in made.0.items ≡ nodes_in shares.items) }
+    ensures ends { IfOk result (λ made. made.1.items ≡ ends_in shares.items) }
+{
+    let mut lists = Vec::with_capacity(alloc, shares.len())?;
+    let mut ends = Vec::with_capacity(alloc, shares.len())?;
+    for share in shares {
+        let (nodes, own) = share.into_parts();
+        lists.push_reserved(nodes);
+        ends.push_reserved(own);
+    }
+    Ok((lists, ends))
+}

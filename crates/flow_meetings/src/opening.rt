@@ -1,0 +1,79 @@
+// Sets of ends that can be opened.
+use crate::meeting::Meeting;
+use std::alloc::{AllocError, Global};
+
+/// Some ends of some edges. Both ends of an edge can be opened in one of such sets, or each in one of two.
+pub trait Opening: Meeting {
+    ghost use Rattle.std.specs.Prelude.{◌≡◌, ◌≢◌, ℕ, ◌<◌, ◌≤◌, true, false, IfOk, OnOk};
+    ghost use Rattle.flow_messages.specs.Limits.{greatest_capacity};
+    ghost use Rattle.flow_meetings.specs.Opens.{OpensAt};
+
+    /// Ends of this edge can be here, if it is to hold so many messages at most.
+    ghost has_place: { Self → ℕ → ℕ → Type 0 };
+
+    /// Before and after ends of this edge were opened here.
+    ghost opens: { ℕ → Self → Self → Type 0 };
+
+    /// No end is there, and there is a place for those of each edge with a number below `edges` that is to hold
+    /// `capacity` messages at most. Its only error is that memory was refused.
+    fn none(alloc: Global, edges: usize, capacity: usize) -> Result<Self, AllocError>
+        ensures place { IfOk result (λ ends. (e : ℕ) → e < edges → has_place ends e capacity) }
+        ensures none { IfOk result (λ ends. (e : ℕ) → ((Self.view ends).writes e ≡ false) ×
+            ((Self.view ends).reads e ≡ false)) };
+
+    /// Opens an edge, the writer's end here and the reader's there. It holds at most `capacity` messages.
+    ///
+    /// Its only error is that memory was refused, and then the writer's end may be there without the reader's.
+    fn open_with(
+        &mut self,
+        other: &mut Self,
+        alloc: Global,
+        edge: usize,
+        capacity: usize,
+    ) -> Result<(), AllocError>
+        requires some { 0 < capacity }
+        requires limit { capacity ≤ greatest_capacity }
+        requires writer_place { has_place self.old edge capacity }
+        requires reader_place { has_place other.old edge capacity }
+        requires no_writer { (Self.view self.old).writes edge ≡ false }
+        requires no_reader { (Self.view other.old).reads edge ≡ false }
+        ensures writer { OnOk result (opens edge self.old self.new ×
+            OpensAt edge capacity true false (Self.view self.old) (Self.view self.new)) }
+        ensures reader { OnOk result (opens edge other.old other.new ×
+            OpensAt edge capacity false true (Self.view other.old) (Self.view other.new)) }
+        ensures joined { OnOk result (Self.joins self.new other.new edge) }
+        ensures places { OnOk result (Self.places self.new edge ≡ capacity) };
+
+    /// Opens an edge, both ends here. It holds at most `capacity` messages.
+    ///
+    /// Its only error is that memory was refused, and then the writer's end may be there without the reader's.
+    fn open_own(&mut self, alloc: Global, edge: usize, capacity: usize) -> Result<(), AllocError>
+        requires some { 0 < capacity }
+        requires limit { capacity ≤ greatest_capacity }
+        requires place { has_place self.old edge capacity }
+        requires no_writer { (Self.view self.old).writes edge ≡ false }
+        requires no_reader { (Self.view self.old).reads edge ≡ false }
+        ensures both { OnOk result (opens edge self.old self.new ×
+            OpensAt edge capacity true true (Self.view self.old) (Self.view self.new)) }
+        ensures joined { OnOk result (Self.joins self.new self.new edge) }
+        ensures places { OnOk result (Self.places self.new edge ≡ capacity) };
+
+    /// Where no edge was opened, all is as after an opening.
+    ghost opens_refl: { (e : ℕ) (a : Self) → opens e a a };
+
+    /// An opening takes no place of another.
+    ghost opens_place: { (e : ℕ) (a b : Self) → opens e a b →
+        (k capacity : ℕ) → has_place a k capacity → has_place b k capacity };
+
+    /// An opening changes no number of places at another edge.
+    ghost opens_places: { (e : ℕ) (a b : Self) → opens e a b →
+        (k : ℕ) → k ≢ e → Self.places b k ≡ Self.places a k };
+
+    /// What joins stays so over an opening at another edge, in the writer's share.
+    ghost open_join_writer: { (a a' b : Self) (e k : ℕ) → Self.joins a b k →
+        k ≢ e → opens e a a' → Self.joins a' b k };
+
+    /// What joins stays so over an opening at another edge, in the reader's share.
+    ghost open_join_reader: { (a b b' : Self) (e k : ℕ) → Self.joins a b k →
+        k ≢ e → opens e b b' → Self.joins a b' k };
+}

@@ -1,0 +1,46 @@
+// Ends of edges are put among rings.
+use crate::opening::Opening;
+use flow_rings::Rings;
+use std::alloc::{AllocError, Global};
+
+impl Opening for Rings {
+    ghost use Rattle.flow_meetings.specs.RingOpenings.{RingsHavePlace, RingsOpen, rings_opens_refl, rings_opens_place, rings_opens_places, rings_open_join_writer, rings_open_join_reader};
+
+    ghost has_place = { RingsHavePlace };
+
+    ghost opens = { RingsOpen };
+
+    fn none(alloc: Global, edges: usize, _: usize) -> Result<Rings, AllocError> {
+        Rings::none(alloc, edges)
+    }
+
+    fn open_with(
+        &mut self,
+        other: &mut Rings,
+        alloc: Global,
+        edge: usize,
+        capacity: usize,
+    ) -> Result<(), AllocError> {
+        let (writer, reader) = flow_rings::edge(alloc, capacity)?;
+        self.put_writer(edge, writer);
+        other.put_reader(edge, reader);
+        Ok(())
+    }
+
+    fn open_own(&mut self, alloc: Global, edge: usize, capacity: usize) -> Result<(), AllocError> {
+        let (writer, reader) = flow_rings::edge(alloc, capacity)?;
+        self.put_writer(edge, writer);
+        self.put_reader(edge, reader);
+        Ok(())
+    }
+
+    ghost opens_refl = { rings_opens_refl };
+
+    ghost opens_place = { rings_opens_place };
+
+    ghost opens_places = { rings_opens_places };
+
+    ghost open_join_writer = { rings_open_join_writer };
+
+    ghost open_join_reader = { rings_open_join_reader };
+}

@@ -1,6 +1,0 @@
-pub mod Opens
-pub mod BoxOpenings
-pub mod RingOpenings
-pub mod Open
-pub mod Deals
-pub mod Settings

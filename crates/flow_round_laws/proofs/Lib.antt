@@ -1,9 +1,0 @@
-pub mod Parts
-pub mod Seats
-pub mod States
-pub mod Views
-pub mod Meetings
-pub mod Histories
-pub mod Rounds
-pub mod Carried
-pub mod Calm

@@ -1,3 +1,0 @@
-pub mod Joints
-pub mod RoundTheorems
-pub mod JoinedTheorems
