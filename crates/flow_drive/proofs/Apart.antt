@@ -26,9 +26,9 @@ use Rattle.flow_meetings.proofs.Parts.{any_of}
 use Rattle.flow_meetings.specs.Deals.{nodes_in, ends_in}
 use Rattle.flow_meetings.specs.Settings.{Setting, view_at, moved_by, AreFed}
 use Rattle.flow_meetings.proofs.Lists.{mapped_twice}
-use Rattle.flow_epochs.specs.Epochs.{AreOfOneGraph, HaveMetAll, StandSound, StandAtRest}
-use Rattle.flow_epochs.proofs.Gathers.{HaveRested, have_rested}
-use Rattle.flow_epochs.proofs.Lists.{ends_are}
+use Rattle.flow_rounds.specs.Epochs.{AreOfOneGraph, HaveMetAll, StandSound, StandAtRest}
+use Rattle.flow_rounds.proofs.EpochGathers.{HaveRested, have_rested}
+use Rattle.flow_rounds.proofs.ShareLists.{ends_are}
 use Rattle.flow_drive.specs.Apart.{AreItsPlaces, AreThePlaces, HavePlaces, state_in_place, states_in_places, states_apart, traffic_apart, RestApart}
 use Rattle.flow_drive.specs.Edges.{seen_by, moved_on}
 use Rattle.flow_drive.proofs.Gathered.{of_lines}

@@ -17,7 +17,7 @@ use Rattle.flow_shares.specs.Deals.{share_of}
 use Rattle.flow_shares.specs.declared.share.Share.{Share}
 use Rattle.flow_meetings.specs.Joints.{nodes_at}
 use Rattle.flow_meetings.specs.Deals.{nodes_in, ends_in}
-use Rattle.flow_epochs.proofs.Lists.{count_dealt, count_ends}
+use Rattle.flow_rounds.proofs.ShareLists.{count_dealt, count_ends}
 use Rattle.flow_drive.specs.Apart.{states_apart, traffic_apart, RestApart}
 use Rattle.flow_drive.proofs.Apart.{state_found, ends_found}
 use Rattle.flow_drive.proofs.Holding.{ends_there, sent_counted, received_counted}

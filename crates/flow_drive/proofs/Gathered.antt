@@ -21,7 +21,7 @@ use Rattle.flow_meetings.specs.Joints.{no_contents, boxes_at, views_of, writer_b
 use Rattle.flow_meetings.specs.JoinedTheorems.{AllMet}
 use Rattle.flow_meetings.specs.Settings.{Setting, moved_by}
 use Rattle.flow_rounds.specs.Standing.{seen}
-use Rattle.flow_rounds.proofs.Gathers.{HaveComeToRest}
+use Rattle.flow_rounds.proofs.RoundGathers.{HaveComeToRest}
 use Rattle.flow_drive.specs.declared.lines.SharedLines.{SharedLines}
 use Rattle.flow_drive.specs.declared.lines.Lines.{Lines}
 use Rattle.flow_drive.specs.declared.lines.Lines.TheVariants.{Whole, Shared}

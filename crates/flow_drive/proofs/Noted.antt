@@ -12,7 +12,7 @@ use Rattle.flow_meetings.specs.Joints.{nodes_at}
 use Rattle.flow_meetings.proofs.Seats.{number_is}
 use Rattle.flow_meetings.specs.Deals.{nodes_in}
 use Rattle.flow_meetings.specs.Settings.{Setting}
-use Rattle.flow_epochs.proofs.Lists.{count_dealt, nodes_are}
+use Rattle.flow_rounds.proofs.ShareLists.{count_dealt, nodes_are}
 use Rattle.flow_drive.specs.Apart.{AreItsPlaces}
 
 -- the nodes of a share that was found

@@ -16,7 +16,7 @@ use Rattle.flow_meetings.specs.Open.{AreWires, AreFreshEnds}
 use Rattle.flow_meetings.specs.declared.dealt.Dealt.{Dealt}
 use Rattle.flow_meetings.specs.Deals.{nodes_in, ends_in, AreNew, IsDealt}
 use Rattle.flow_meetings.specs.Settings.{Setting, setting_of}
-use Rattle.flow_epochs.specs.Epochs.{AreOfOneGraph}
+use Rattle.flow_rounds.specs.Epochs.{AreOfOneGraph}
 use Rattle.flow_drive.specs.Configs.{IsLawful}
 use Rattle.flow_drive.specs.declared.config.Config.{Config}
 

@@ -47,4 +47,4 @@ pub use Rattle.flow_meetings.specs.JoinedTheorems
 pub use Rattle.flow_meetings.specs.Deals as ShareDeals
 pub use Rattle.flow_meetings.specs.Open
 pub use Rattle.flow_meetings.specs.Settings
-pub use Rattle.flow_epochs.specs.Epochs as ShareEpochs
+pub use Rattle.flow_rounds.specs.Epochs as ShareEpochs

@@ -1,15 +1,15 @@
 // Epochs as configurations say.
 ghost use Rattle.std.specs.Prelude.{◌≡◌, ◌⊎◌, Err, IfOk, IfErr};
 ghost use Rattle.flow_meetings.specs.Settings.{Setting, AreFed};
-ghost use Rattle.flow_epochs.specs.Epochs.{AreOfOneGraph, IsEpoch};
+ghost use Rattle.flow_rounds.specs.Epochs.{AreOfOneGraph, IsEpoch};
 ghost use Rattle.flow_drive.specs.Configs.{IsLawful};
 ghost use Rattle.flow_drive.specs.declared.driver.DriveError.TheVariants.{NoMemory, NoThread};
 
 use crate::config::Config;
 use crate::driver::DriveError;
 use flow_base::Transducer;
-use flow_epochs::wires_of_shares;
 use flow_rings::Rings;
+use flow_rounds::wires_of_shares;
 use flow_shares::{AlwaysStart, Gate, Share, Start};
 use std::alloc::Global;
 use std::sync::Arc;
@@ -64,7 +64,7 @@ pub fn epoch_with<
     ensures start { S.refused start.new → S.refused start.old ⊎ (result ≡ Err NoThread) }
 {
     let wires = wires_of_shares(alloc, &shares)?;
-    let back = flow_epochs::epoch(
+    let back = flow_rounds::epoch(
         rt,
         alloc,
         shares,

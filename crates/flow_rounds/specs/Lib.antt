@@ -1,1 +1,4 @@
 pub mod Standing
+pub mod Epochs
+pub mod Few
+pub mod Wires

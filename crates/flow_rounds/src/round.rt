@@ -5,7 +5,7 @@ ghost use Rattle.flow_meetings.specs.Open.{AreWires};
 ghost use Rattle.flow_meetings.specs.Settings.{Setting, NoneCanStep};
 ghost use Rattle.flow_rounds.specs.Standing.{boxes_of, moved_in, StandBetweenRounds, RestBetweenRounds};
 
-use crate::meet::meet;
+use crate::round_meeting::meet;
 use flow_base::Transducer;
 use flow_boxes::Boxes;
 use flow_meetings::{Wire, are_fed, are_stuck};

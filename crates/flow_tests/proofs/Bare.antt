@@ -10,8 +10,8 @@ use Rattle.flow_shares.specs.declared.share.Share.{Share}
 use Rattle.flow_meetings.proofs.Parts.{any_of}
 use Rattle.flow_meetings.specs.Open.{AreWires}
 use Rattle.flow_meetings.specs.Settings.{Setting}
-use Rattle.flow_epochs.specs.Epochs.{AreOfOneGraph}
-use Rattle.flow_epochs.proofs.Lists.{count_dealt, nodes_are, view_is}
+use Rattle.flow_rounds.specs.Epochs.{AreOfOneGraph}
+use Rattle.flow_rounds.proofs.ShareLists.{count_dealt, nodes_are, view_is}
 use Rattle.flow_tests.specs.NoEnds.{HasNoEnds}
 
 pub none_fit : {X : Type 0} (t : Ghosts X) → FitTogether {t = t} [] []

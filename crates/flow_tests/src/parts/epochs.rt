@@ -6,8 +6,8 @@ ghost use Rattle.flow_tests.specs.NoEnds.{HasNoEnds};
 
 use crate::parts::shares::{numbers_of, two_bare};
 use flow_base::Transducer;
-use flow_epochs::run_epochs;
 use flow_rings::Rings;
+use flow_rounds::run_epochs;
 use flow_shares::{AlwaysStart, Gate, NoGate, Share, WorkError, run_all};
 use std::alloc::Global;
 use std::sync::Arc;

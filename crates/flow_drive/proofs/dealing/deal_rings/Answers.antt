@@ -1,5 +1,5 @@
 use Rattle.flow_meetings.specs.RingMeetings.{RingsJoin, ring_places}
-use Rattle.flow_epochs.proofs.Begins.{dealt_graph}
+use Rattle.flow_rounds.proofs.EpochBegins.{dealt_graph}
 use Rattle.flow_drive.specs.Configs.{IsLawful}
 use Rattle.flow_drive.proofs.Refused.{passed_on, passed_made}
 use Rattle.flow_drive.proofs.Dealt.{are_dealt_out, are_fed}

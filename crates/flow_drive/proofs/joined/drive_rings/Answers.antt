@@ -1,6 +1,6 @@
 use Rattle.std.proofs.Common.{◌≡◌, subst}
 use Rattle.std.specs.Prelude.{IfOk}
-use Rattle.flow_epochs.proofs.Begins.{dealt_graph, dealt_fed, dealt_none}
+use Rattle.flow_rounds.proofs.EpochBegins.{dealt_graph, dealt_fed, dealt_none}
 use Rattle.flow_drive.specs.Resteds.{rested_share, rested_shares}
 use Rattle.flow_drive.proofs.joined.drive_rings.Goals as goal
 

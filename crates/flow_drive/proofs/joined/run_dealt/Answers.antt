@@ -6,7 +6,7 @@ use Rattle.flow_shares.specs.Deals.{AreDealt}
 use Rattle.flow_meetings.specs.Deals.{nodes_in}
 use Rattle.flow_meetings.specs.Open.{AreWires}
 use Rattle.flow_meetings.specs.Settings.{AreFed}
-use Rattle.flow_epochs.specs.Epochs.{moved_in}
+use Rattle.flow_rounds.specs.Epochs.{moved_in}
 use Rattle.flow_drive.specs.Apart.{AreThePlaces}
 use Rattle.flow_drive.proofs.Apart.{part_of, rest_apart, network_apart, moved_apart}
 use Rattle.flow_drive.proofs.Refused.{nothing_made}

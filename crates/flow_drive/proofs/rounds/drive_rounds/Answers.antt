@@ -2,7 +2,7 @@ use Rattle.std.proofs.Common.{◌≡◌, refl, sym, subst}
 use Rattle.std.specs.Prelude.{IfOk}
 use Rattle.flow_graph.specs.Graphs.{states_of, edges_of}
 use Rattle.flow_graph.specs.Networks.{AreOpened}
-use Rattle.flow_rounds.proofs.Begins.{dealt_stand, dealt_none}
+use Rattle.flow_rounds.proofs.RoundBegins.{dealt_stand, dealt_none}
 use Rattle.flow_drive.specs.Drives.{EndsMaximalRun}
 use Rattle.flow_drive.specs.Resteds.{rested_states, rested_share, rested_shares, traffic_of}
 use Rattle.flow_drive.proofs.rounds.drive_rounds.Goals as goal

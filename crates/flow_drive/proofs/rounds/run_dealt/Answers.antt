@@ -6,8 +6,8 @@ use Rattle.flow_shares.proofs.Refused.{none_refused}
 use Rattle.flow_meetings.specs.Open.{AreWires}
 use Rattle.flow_meetings.specs.Joints.{views_of}
 use Rattle.flow_meetings.specs.Settings.{moved_by}
-use Rattle.flow_rounds.proofs.Meets.{seen_is}
-use Rattle.flow_rounds.proofs.Gathers.{come_to_rest}
+use Rattle.flow_rounds.proofs.RoundMeets.{seen_is}
+use Rattle.flow_rounds.proofs.RoundGathers.{come_to_rest}
 use Rattle.flow_drive.proofs.Refused.{nothing_made}
 use Rattle.flow_drive.proofs.Gathered.{are_there, run, boxes_moved, sound, rests}
 use Rattle.flow_drive.proofs.rounds.run_dealt.Goals as goal

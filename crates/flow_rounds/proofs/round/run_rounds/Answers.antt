@@ -6,7 +6,7 @@ use Rattle.flow_meetings.proofs.Lists.{written_back}
 use Rattle.flow_rounds.specs.Standing.{boxes_of, moved_in, StandBetweenRounds, RestBetweenRounds}
 use Rattle.flow_rounds.proofs.Rounds.{rests, left_falls}
 use Rattle.flow_rounds.proofs.Shares.{all_stuck}
-use Rattle.flow_rounds.proofs.Looked.{stands_looked, moved_looked}
+use Rattle.flow_rounds.proofs.RoundLooked.{stands_looked, moved_looked}
 use Rattle.flow_rounds.proofs.round.run_rounds.Goals as goal
 
 pub round-requires : goal.round-requires

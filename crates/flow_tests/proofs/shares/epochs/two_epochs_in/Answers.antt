@@ -1,6 +1,6 @@
 use Rattle.std.proofs.Common.{◌≡◌, sym, subst, rules}
 use Rattle.flow_meetings.specs.Settings.{AreFed}
-use Rattle.flow_epochs.specs.Epochs.{AreOfOneGraph}
+use Rattle.flow_rounds.specs.Epochs.{AreOfOneGraph}
 use Rattle.flow_drive.specs.Dealings.{setting_under}
 use Rattle.flow_tests.proofs.shares.epochs.two_epochs_in.Goals as goal
 

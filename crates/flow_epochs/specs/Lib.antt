@@ -1,3 +1,0 @@
-pub mod Epochs
-pub mod Few
-pub mod Wires

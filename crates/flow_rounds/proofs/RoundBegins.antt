@@ -1,0 +1,156 @@
+-- Shares to which a graph was just dealt out stand between two rounds: before the first.
+use Rattle.std.proofs.Common.{◌≡◌, ℕ, ◌<◌, true, List, [], length, get_or, refl, sym, ◌∙◌, ap, subst, arith}
+use Rattle.std.proofs.lemmas.List.{get_or-map, length-map}
+use Rattle.flow_messages.specs.Ends.{View}
+use Rattle.flow_messages.specs.declared.ends.Ends.{Ghosts as EndsGhosts}
+use Rattle.flow_base.specs.declared.transducer.Transducer.{Ghosts}
+use Rattle.flow_graph.specs.declared.edge.Edge.{Edge}
+use Rattle.flow_graph.specs.declared.graph.Graph.{Graph}
+use Rattle.flow_graph.specs.declared.placed.Placed.{Placed}
+use Rattle.flow_graph.specs.Edges.{edge_at}
+use Rattle.flow_graph.specs.Graphs.{states_of, edges_of}
+use Rattle.flow_graph.specs.Layouts.{nodes_of, FitTogether}
+use Rattle.flow_graph.specs.Networks.{AreOpened}
+use Rattle.flow_graph.specs.Places.{placed_state, states_in}
+use Rattle.flow_boxes.specs.declared.boxes.Boxes.{Boxes}
+use Rattle.flow_boxes.specs.Contents.{Contents, contents, view_of}
+use Rattle.flow_boxes.specs.Rounds.{IsLinked}
+use Rattle.flow_meetings.specs.declared.wires.Wire.{Wire}
+use Rattle.flow_meetings.specs.Met.{Met, kept_refl}
+use Rattle.flow_meetings.specs.BoxMeetings.{BoxesJoin, box_places}
+use Rattle.flow_shares.specs.Deals.{share_of, AreDealt}
+use Rattle.flow_shares.proofs.Stays.{as_given}
+use Rattle.flow_shares.specs.declared.share.Share.{Share}
+use Rattle.flow_meetings.specs.declared.dealt.Dealt.{Dealt}
+use Rattle.flow_meetings.specs.Deals.{nodes_in, ends_in, IsDealt}
+use Rattle.flow_meetings.specs.Joints.{views_of, writer_boxes, reader_boxes, HaveMet, AreStates}
+use Rattle.flow_meetings.proofs.Parts.{any_of}
+use Rattle.flow_meetings.proofs.Seats.{reader_inside, writer_inside}
+use Rattle.flow_meetings.proofs.Meetings.{fresh_shares_start}
+use Rattle.flow_meetings.proofs.Views.{sent_at, received_at}
+use Rattle.flow_meetings.specs.Settings.{setting_of, AreFed}
+use Rattle.flow_meetings.proofs.Lists.{total_none}
+use Rattle.flow_rounds.specs.Standing.{seen, AreLinked, boxes_of, moved_in, StandBetweenRounds}
+use Rattle.flow_rounds.proofs.Levels.{seen_at, have_met}
+use Rattle.flow_rounds.proofs.RoundMeets.{seen_is}
+
+module _ {X : Type 0} {t : Ghosts X} {u : EndsGhosts Boxes} (sees : u.view ≡ view_of) (graph : Graph X t) (threads : ℕ) (share : List ℕ) (capacity : ℕ) (dealt : Dealt X Boxes t u)
+    (is : IsDealt BoxesJoin box_places graph threads share capacity dealt) where
+  abbrev nodes : List (Placed X t)
+  nodes = nodes_of graph
+
+  abbrev edges : List Edge
+  edges = edges_of graph
+
+  abbrev shares : List (Share X Boxes t u)
+  shares = dealt.shares.items
+
+  abbrev boxes : List Boxes
+  boxes = ends_in shares
+
+  abbrev wires : List Wire
+  wires = dealt.wires.items
+
+  abbrev writer : ℕ → ℕ
+  writer e = share_of share (edge_at edges e).writer
+
+  abbrev reader : ℕ → ℕ
+  reader e = share_of share (edge_at edges e).reader
+
+  none : Wire
+  none = record { writer = 0; reader = 0 }
+
+  fit : FitTogether nodes edges
+  fit = record { built = graph.built; seated = graph.seated }
+
+  as_many : length boxes ≡ length (nodes_in shares)
+  as_many = length-map shares (λ (s : Share X Boxes t u). s.ends) ∙ sym (length-map shares (λ (s : Share X Boxes t u). s.nodes.items))
+
+  writes : (e : ℕ) → e < length edges → writer e < length boxes
+  writes e l = omega (arith, (is.nodes.inside (edge_at edges e).writer (writer_inside edges nodes fit e l)).0, as_many)
+
+  reads : (e : ℕ) → e < length edges → reader e < length boxes
+  reads e l = omega (arith, (is.nodes.inside (edge_at edges e).reader (reader_inside edges nodes fit e l)).0, as_many)
+
+  wire : (e : ℕ) → e < length edges → e < length wires
+  wire e l = omega (arith, l, is.wires.count)
+
+  -- some boxes
+  some : (e : ℕ) → e < length edges → Boxes
+  some e l = any_of boxes (writer e) (writes e l)
+
+  -- what the wire names, the edge names too
+  of_edge : (e : ℕ) (l : e < length edges) (Q : Boxes → Boxes → Type 0) → Q (get_or boxes (get_or wires e none).writer (some e l)) (get_or boxes (get_or wires e none).reader (some e l)) → Q (get_or boxes (writer e) (some e l)) (get_or boxes (reader e) (some e l))
+  of_edge e l Q q =
+      subst (λ s. Q (get_or boxes s (some e l)) (get_or boxes (reader e) (some e l))) (is.wires.writers e none l)
+      (subst (λ s. Q (get_or boxes (get_or wires e none).writer (some e l)) (get_or boxes s (some e l))) (is.wires.readers e none l) q)
+
+  -- and what holds of these boxes holds of those that are seen at the edge
+  of_seen : (e : ℕ) (l : e < length edges) (Q : Contents → Contents → Type 0) → Q (contents (get_or boxes (writer e) (some e l))) (contents (get_or boxes (reader e) (some e l))) → Q (writer_boxes share edges (seen boxes) e) (reader_boxes share edges (seen boxes) e)
+  of_seen e l Q q =
+      subst (λ a. Q a (reader_boxes share edges (seen boxes) e)) (sym (seen_at boxes (writer e) (some e l) (writes e l)))
+      (subst (λ b. Q (contents (get_or boxes (writer e) (some e l))) b) (sym (seen_at boxes (reader e) (some e l) (reads e l))) q)
+
+  linked : AreLinked share edges (seen boxes) capacity
+  linked = record {
+    writers = λ e l. omega (arith, writes e l, length-map boxes contents);
+    readers = λ e l. omega (arith, reads e l, length-map boxes contents);
+    linked = λ e l. of_seen e l (λ a b. IsLinked a b e) (of_edge e l (λ a b. IsLinked (contents a) (contents b) e) (is.ends.joined e none (some e l) (wire e l)));
+    capacity = λ e l. of_seen e l (λ a b. a.capacity ≡ capacity) (of_edge e l (λ a b. (contents a).capacity ≡ capacity) (is.ends.places e none (some e l) (wire e l)));
+  }
+
+  met_at : (e : ℕ) (w : Wire) (d : Boxes) → e < length wires → Met (view_of (get_or boxes (get_or wires e w).writer d)) (view_of (get_or boxes (get_or wires e w).reader d)) (contents (get_or boxes (get_or wires e w).writer d)).capacity e
+  met_at e w d l =
+      subst (λ (v : Boxes → View). Met (v (get_or boxes (get_or wires e w).writer d)) (v (get_or boxes (get_or wires e w).reader d)) (contents (get_or boxes (get_or wires e w).writer d)).capacity e) sees
+      (subst (λ n. Met (u.view (get_or boxes (get_or wires e w).writer d)) (u.view (get_or boxes (get_or wires e w).reader d)) n e) (sym (is.ends.places e w d l)) (is.ends.met e w d l))
+
+  boxes_have_met : HaveMet share edges (boxes_of shares) capacity
+  boxes_have_met =
+      subst (λ b. HaveMet share edges b capacity) (seen_is shares boxes refl)
+      (have_met share edges wires is.wires boxes capacity linked boxes refl (λ k d l. kept_refl _) (λ k e d l. refl) is.ends.joined met_at)
+
+  deals : AreDealt share nodes (nodes_in shares)
+  deals = as_given share nodes (nodes_in shares) is.nodes
+
+  are_states : AreStates share nodes (nodes_in shares) deals (states_in nodes)
+  unfolding deals
+  are_states = record {
+    count = length-map nodes placed_state;
+    each = λ k d l. get_or-map placed_state nodes k d t.behaviour.sample l ∙ ap placed_state (is.nodes.here k d l);
+  }
+
+  -- nothing was sent or received on any edge
+  empty : (e : ℕ) → e < length edges → ((writer_boxes share edges (boxes_of shares) e).ends.sent e ≡ []) × ((reader_boxes share edges (boxes_of shares) e).ends.received e ≡ [])
+  empty e l =
+      let link : IsLinked (writer_boxes share edges (boxes_of shares) e) (reader_boxes share edges (boxes_of shares) e) e = boxes_have_met.linked e l in
+      subst (λ b. ((writer_boxes share edges b e).ends.sent e ≡ []) × ((reader_boxes share edges b e).ends.received e ≡ [])) (seen_is shares boxes refl)
+      (of_seen e l (λ a b. (a.ends.sent e ≡ []) × (b.ends.received e ≡ [])) (at_both (linked.linked e l)))
+    where
+      fresh_writer : (view_of (get_or boxes (writer e) (some e l))).writes e ≡ true → (view_of (get_or boxes (writer e) (some e l))).sent e ≡ []
+      fresh_writer = subst (λ (v : Boxes → View). (v (get_or boxes (writer e) (some e l))).writes e ≡ true → (v (get_or boxes (writer e) (some e l))).sent e ≡ []) sees ((is.ends.fresh (writer e) (some e l) (writes e l)).sent e)
+
+      fresh_reader : (view_of (get_or boxes (reader e) (some e l))).reads e ≡ true → (view_of (get_or boxes (reader e) (some e l))).received e ≡ []
+      fresh_reader = subst (λ (v : Boxes → View). (v (get_or boxes (reader e) (some e l))).reads e ≡ true → (v (get_or boxes (reader e) (some e l))).received e ≡ []) sees ((is.ends.fresh (reader e) (some e l) (reads e l)).received e)
+
+      at_both : IsLinked (writer_boxes share edges (seen boxes) e) (reader_boxes share edges (seen boxes) e) e → ((contents (get_or boxes (writer e) (some e l))).ends.sent e ≡ []) × ((contents (get_or boxes (reader e) (some e l))).ends.received e ≡ [])
+      at_both link = (
+        fresh_writer (ap (λ (a : Contents). a.ends.writes e) (sym (seen_at boxes (writer e) (some e l) (writes e l))) ∙ link.writes),
+        fresh_reader (ap (λ (a : Contents). a.ends.reads e) (sym (seen_at boxes (reader e) (some e l) (reads e l))) ∙ link.reads),
+      )
+
+  -- in all edges together
+  pub dealt_none : moved_in (setting_of graph share capacity) (boxes_of shares) ≡ 0
+  dealt_none = total_none _ (length edges) (λ e l. omega (arith, ap length (sent_at share edges (views_of (boxes_of shares)) e l ∙ (empty e l).0), ap length (received_at share edges (views_of (boxes_of shares)) e l ∙ (empty e l).1)))
+
+  fed : AreFed shares
+  fed s d l = (is.new.each s d l).starved
+
+  pub dealt_stand : AreOpened t.behaviour (states_of graph) → StandBetweenRounds (setting_of graph share capacity) shares
+  dealt_stand opened = record {
+    deals = deals;
+    fed = fed;
+    met = boxes_have_met;
+    states = states_in nodes;
+    are_states = are_states;
+    reaches = ([], sym (fresh_shares_start t share edges nodes (boxes_of shares) opened empty));
+  }
