@@ -161,7 +161,7 @@ fn assert_side_by_side<R: Abort + Threads>(
 }
 
 #[test]
-fn workers_run_side_by_side(rt: HostRuntime) -> Result<(), Fail> {
+fn threads_run_side_by_side(rt: HostRuntime) -> Result<(), Fail> {
     for drive in THREADED {
         let config = in_threads(rt.alloc(), drive, 256, 2, &[0, 1])?;
         assert_side_by_side(&rt, rt.alloc(), &config)?;
