@@ -8,11 +8,11 @@ use Rattle.snesl_operators.specs.Operators.{type_of, unary_operand, binary_opera
 use Rattle.flow_messages.specs.declared.message.Kind.{Kind}
 use Rattle.flow_messages.specs.declared.message.Kind.TheVariants.{Unit as UnitKind, Bool as BoolKind, Int as IntKind, Vec as VecKind}
 use Rattle.flow_base.specs.Nodes.{opened}
-use Rattle.flow_scalar.specs.Scalars.{kind_of_type}
+use Rattle.flow_folds.specs.Scalars.{kind_of_type}
 use Rattle.flow_scalar.specs.ForkMachine.{ForkPorts, fork_ports, fork_machine}
 use Rattle.flow_scalar.specs.IotaMachine.{iota_kind_out}
-use Rattle.flow_scalar.specs.ScanAddMachine.{scan_add_kind_in}
-use Rattle.flow_scalar.specs.ReduceMachine.{reduced_kind, reduce_kind_in}
+use Rattle.flow_folds.specs.ScanAddMachine.{scan_add_kind_in}
+use Rattle.flow_folds.specs.ReduceMachine.{reduced_kind, reduce_kind_in}
 use Rattle.flow_segment.specs.DistMachine.{dist_kind_in}
 use Rattle.flow_segment.specs.PackMachine.{pack_kind_in}
 use Rattle.flow_segment.specs.InterleaveMachine.{interleave_kind_in}

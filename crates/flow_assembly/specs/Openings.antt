@@ -11,9 +11,9 @@ use Rattle.flow_scalar.specs.ForkMachine.{fork_ports, fork_machine}
 use Rattle.flow_scalar.specs.SinkMachine.{sink_machine}
 use Rattle.flow_scalar.specs.IotaMachine.{iota_machine}
 use Rattle.flow_scalar.specs.UnitsOfMachine.{units_of_machine}
-use Rattle.flow_scalar.specs.ScanAddMachine.{scan_add_machine}
-use Rattle.flow_scalar.specs.ReduceMachine.{reduce_machine}
-use Rattle.flow_scalar.specs.LengthMachine.{length_machine}
+use Rattle.flow_folds.specs.ScanAddMachine.{scan_add_machine}
+use Rattle.flow_folds.specs.ReduceMachine.{reduce_machine}
+use Rattle.flow_folds.specs.LengthMachine.{length_machine}
 use Rattle.flow_segment.specs.FlagOfBoolMachine.{flag_of_bool_table}
 use Rattle.flow_segment.specs.TheCheckMachine.{the_check_table}
 use Rattle.flow_segment.specs.SameFlagsMachine.{same_flags_table}

@@ -12,9 +12,9 @@ use Rattle.flow_scalar.specs.laws.Fork.{fork_laws}
 use Rattle.flow_scalar.specs.laws.Sink.{sink_laws}
 use Rattle.flow_scalar.specs.laws.Iota.{iota_laws}
 use Rattle.flow_scalar.specs.laws.UnitsOf.{units_of_laws}
-use Rattle.flow_scalar.specs.laws.ScanAdd.{scan_add_laws}
-use Rattle.flow_scalar.specs.laws.Reduce.{reduce_laws}
-use Rattle.flow_scalar.specs.laws.Length.{length_laws}
+use Rattle.flow_folds.specs.laws.ScanAdd.{scan_add_laws}
+use Rattle.flow_folds.specs.laws.Reduce.{reduce_laws}
+use Rattle.flow_folds.specs.laws.Length.{length_laws}
 use Rattle.flow_segment.specs.laws.FlagOfBool.{flag_of_bool_laws}
 use Rattle.flow_segment.specs.laws.TheCheck.{the_check_laws}
 use Rattle.flow_segment.specs.laws.SameFlags.{same_flags_laws}

@@ -11,9 +11,9 @@ use Rattle.flow_scalar.specs.ForkNode.{fork_node}
 use Rattle.flow_scalar.specs.laws.Sink.{sink_node}
 use Rattle.flow_scalar.specs.laws.Iota.{iota_node}
 use Rattle.flow_scalar.specs.laws.UnitsOf.{units_of_node}
-use Rattle.flow_scalar.specs.laws.ScanAdd.{scan_add_node}
-use Rattle.flow_scalar.specs.laws.Reduce.{reduce_node}
-use Rattle.flow_scalar.specs.laws.Length.{length_node}
+use Rattle.flow_folds.specs.laws.ScanAdd.{scan_add_node}
+use Rattle.flow_folds.specs.laws.Reduce.{reduce_node}
+use Rattle.flow_folds.specs.laws.Length.{length_node}
 use Rattle.flow_segment.specs.laws.FlagOfBool.{flag_of_bool_node}
 use Rattle.flow_segment.specs.laws.TheCheck.{the_check_node}
 use Rattle.flow_segment.specs.laws.SameFlags.{same_flags_node}

@@ -5,8 +5,8 @@ use Rattle.snesl_data.specs.Types.{seq}
 use Rattle.snesl_operators.specs.Operators.{type_of, unary_operand, binary_operand, binary_result}
 use Rattle.flow_messages.specs.declared.message.Kind.{Kind}
 use Rattle.flow_messages.specs.declared.message.Kind.TheVariants.{Unit as UnitKind, Bool as BoolKind, Int as IntKind, Vec as VecKind}
-use Rattle.flow_scalar.specs.Scalars.{kind_of_type}
-use Rattle.flow_scalar.specs.ReduceMachine.{reduced_kind}
+use Rattle.flow_folds.specs.Scalars.{kind_of_type}
+use Rattle.flow_folds.specs.ReduceMachine.{reduced_kind}
 use Rattle.flow_values.specs.Shapes.{kinds_of}
 use Rattle.flow_rows.specs.Lists.{each}
 use Rattle.flow_plans.specs.Plans.{Operation, Step, source, const, unary, binary, iota, units_of, scan_add, reduce, length_of, dist, pack, pack_groups, flag_of_bool, same_flags, concat_flags, part_flags, the_check, append_flags, interleave, interleave_groups, print, tab, seq_of, index, fork, sink}

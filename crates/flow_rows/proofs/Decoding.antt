@@ -8,8 +8,8 @@ use Rattle.flow_messages.specs.Cells.{Cell, unit, flag, int, datum, is_of}
 use Rattle.flow_messages.specs.declared.message.Kind.{Kind}
 use Rattle.flow_base.specs.Flags.{F, T, elements, flags}
 use Rattle.flow_base.specs.Ranges.{AllOf}
-use Rattle.flow_scalar.specs.Scalars.{cell_of_scalar, scalar_in}
-use Rattle.flow_scalar.specs.ScalarCells.{scalar_in-cell, scalar_in-some}
+use Rattle.flow_folds.specs.Scalars.{cell_of_scalar, scalar_in}
+use Rattle.flow_folds.specs.ScalarCells.{scalar_in-cell, scalar_in-some}
 use Rattle.flow_values.specs.laws.Kinds.{both_true}
 use Rattle.flow_rows.specs.Lists.{bind, each}
 use Rattle.flow_rows.specs.Decoded.{one_more, numbers, truth_in, integer_in, value_in, truths, integers, scalars, units, items}

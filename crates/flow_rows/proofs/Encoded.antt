@@ -16,7 +16,7 @@ use Rattle.flow_messages.specs.Cells.{Cell, unit, flag, datum}
 use Rattle.flow_messages.specs.declared.message.Kind.{Kind}
 use Rattle.flow_base.specs.Flags.{F, T, elements, flags, joined, lengths}
 use Rattle.flow_base.specs.Ranges.{AllOf}
-use Rattle.flow_scalar.specs.Scalars.{cell_of_scalar}
+use Rattle.flow_folds.specs.Scalars.{cell_of_scalar}
 use Rattle.flow_scalar.specs.Rows.{numbers_below, units_for}
 use Rattle.flow_segment.specs.Rows.{one_if}
 use Rattle.flow_values.specs.Shapes.{is_a}

@@ -21,9 +21,10 @@ use Rattle.flow_base.specs.Ports.{each_port}
 use Rattle.flow_base.specs.Flags.{flags, joined, lengths}
 use Rattle.flow_base.specs.Ranges.{AllOf}
 use Rattle.flow_base.specs.Columns.{Columns, columns, columns_same, column_is}
-use Rattle.flow_scalar.specs.Scalars.{cell_of_scalar, scalar_in}
-use Rattle.flow_scalar.specs.ScalarCells.{scalar_in-cell}
-use Rattle.flow_scalar.specs.Rows.{SourceRow, const_reads, const_writes, ConstRow, UnaryCase, unary_reads, unary_writes, UnaryRow, BinaryCase, binary_reads, binary_writes, BinaryRow, ForkRow, SinkRow, iota_reads, iota_writes, IotaRow, units_of_reads, units_of_writes, UnitsOfRow, Scanned, scan_add_reads, scan_add_writes, ScanAddRow, Reduced, reduce_reads, reduce_writes, ReduceRow, LengthRow}
+use Rattle.flow_folds.specs.Scalars.{cell_of_scalar, scalar_in}
+use Rattle.flow_folds.specs.ScalarCells.{scalar_in-cell}
+use Rattle.flow_scalar.specs.Rows.{SourceRow, const_reads, const_writes, ConstRow, UnaryCase, unary_reads, unary_writes, UnaryRow, BinaryCase, binary_reads, binary_writes, BinaryRow, ForkRow, SinkRow, iota_reads, iota_writes, IotaRow, units_of_reads, units_of_writes, UnitsOfRow}
+use Rattle.flow_folds.specs.Rows.{Scanned, scan_add_reads, scan_add_writes, ScanAddRow, Reduced, reduce_reads, reduce_writes, ReduceRow, LengthRow}
 use Rattle.flow_rows.specs.Lists.{each, paired, cut}
 use Rattle.flow_rows.specs.Decoded.{numbers, integer_in, integers, scalars, truths, units, items}
 use Rattle.flow_rows.specs.Made.{scalar_cells, integer_cells, source_made, const_made, unary_made, binary_made, fork_made, sink_made, natural, iota_made, units_of_made, scan_add_made, reduce_made, length_made}

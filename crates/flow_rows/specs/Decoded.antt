@@ -7,7 +7,7 @@ use Rattle.snesl_operators.specs.declared.scalar.Scalar.{Scalar}
 use Rattle.flow_messages.specs.Cells.{Cell, unit, flag, int as int_cell, datum, is_of}
 use Rattle.flow_messages.specs.declared.message.Kind.{Kind}
 use Rattle.flow_base.specs.Columns.{Columns}
-use Rattle.flow_scalar.specs.Scalars.{scalar_in}
+use Rattle.flow_folds.specs.Scalars.{scalar_in}
 use Rattle.flow_values.specs.Shapes.{is_a}
 use Rattle.flow_values.specs.Flats.{width}
 use Rattle.flow_rows.specs.Lists.{bind, only_if, each, paired, cut}

@@ -15,7 +15,7 @@ use Rattle.flow_messages.specs.Cells.{Cell, int, datum}
 use Rattle.flow_messages.specs.declared.message.Kind.{Kind}
 use Rattle.flow_base.specs.Flags.{flags, joined, lengths}
 use Rattle.flow_base.specs.Columns.{Columns, columns}
-use Rattle.flow_scalar.specs.Scalars.{cell_of_scalar}
+use Rattle.flow_folds.specs.Scalars.{cell_of_scalar}
 use Rattle.flow_scalar.specs.Rows.{numbers_below, units_for}
 use Rattle.flow_segment.specs.Rows.{one_if}
 use Rattle.flow_values.specs.Flats.{width, flat}

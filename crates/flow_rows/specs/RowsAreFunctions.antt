@@ -10,7 +10,8 @@ use Rattle.flow_messages.specs.Cells.{Cell}
 use Rattle.flow_messages.specs.declared.message.Kind.{Kind}
 use Rattle.flow_base.specs.Lists.{Lists}
 use Rattle.flow_base.specs.Columns.{Columns, columns}
-use Rattle.flow_scalar.specs.Rows.{SourceRow, ConstRow, UnaryRow, BinaryRow, ForkRow, SinkRow, IotaRow, UnitsOfRow, ScanAddRow, ReduceRow, LengthRow}
+use Rattle.flow_scalar.specs.Rows.{SourceRow, ConstRow, UnaryRow, BinaryRow, ForkRow, SinkRow, IotaRow, UnitsOfRow}
+use Rattle.flow_folds.specs.Rows.{ScanAddRow, ReduceRow, LengthRow}
 use Rattle.flow_segment.specs.Rows.{DistRow, PackRow, PackGroupsRow, FlagOfBoolRow, SameFlagsRow, ConcatFlagsRow, PartFlagsRow, TheCheckRow, AppendFlagsRow, InterleaveRow, InterleaveGroupsRow}
 use Rattle.flow_values.specs.Rows.{PrintRow, TabRow, SeqRow, IndexRow}
 use Rattle.flow_values.specs.Flats.{width}

@@ -20,7 +20,7 @@ use Rattle.flow_base.specs.declared.node.Phase.TheVariants.{Working}
 use Rattle.flow_base.proofs.Kernels.{leads_on, went_looked}
 use Rattle.flow_base.proofs.Batches.{Batch, block_then, blocks_then, batch_none, batch_read, batch_write, batch_then, batch_as, shifted_none, shifted_skip, shifted_put, went_batch, shown, take_ints, length_ints}
 use Rattle.flow_scalar.specs.Operands.{operand_in, on_operand}
-use Rattle.flow_scalar.specs.Scalars.{cell_of_scalar}
+use Rattle.flow_folds.specs.Scalars.{cell_of_scalar}
 use Rattle.flow_scalar.specs.declared.binary.Progress.{Progress}
 use Rattle.flow_scalar.specs.declared.binary.Progress.TheVariants.{Start, Left, Value}
 use Rattle.flow_scalar.specs.BinaryMachine.{binary_next, binary_machine}

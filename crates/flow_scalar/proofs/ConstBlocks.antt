@@ -9,10 +9,10 @@ use Rattle.flow_messages.specs.Blocks.{units_said, flags_said, ints_said}
 use Rattle.flow_base.specs.Nodes.{NodeState, behaviour_of, node_state}
 use Rattle.flow_base.specs.declared.node.Phase.TheVariants.{Working}
 use Rattle.flow_base.proofs.Kernels.{went_none, went_looked}
-use Rattle.flow_scalar.specs.Scalars.{cell_of_scalar}
+use Rattle.flow_folds.specs.Scalars.{cell_of_scalar}
 use Rattle.flow_scalar.specs.ConstMachine.{const_machine}
 use Rattle.flow_scalar.specs.ConstCopies.{WrittenFor}
-use Rattle.flow_scalar.proofs.SingleBlocks.{Singles, singles_none, singles_one, singles_more, singles_went}
+use Rattle.flow_folds.proofs.SingleBlocks.{Singles, singles_none, singles_one, singles_more, singles_went}
 
 -- so many of an item
 abbrev pub copies : Cell → ℕ → List Signal

@@ -21,7 +21,7 @@ use Rattle.flow_base.proofs.Batches.{Batch, Shifted, block_then, batch_none, bat
 use Rattle.flow_scalar.specs.ForkCopies.{is_among, PutOnEach, CopiedOn}
 use Rattle.flow_scalar.specs.ForkMachine.{ForkPorts, Step, fork_ports, step_of, idle, holding, fork_move, fork_machine}
 use Rattle.flow_scalar.specs.declared.fork.Fork.{Fork}
-use Rattle.flow_scalar.proofs.SingleBlocks.{block_none}
+use Rattle.flow_folds.proofs.SingleBlocks.{block_none}
 
 -- what the machine sees of a fork
 abbrev pub fork_view : Fork → ForkPorts × Step

@@ -18,16 +18,12 @@ use Rattle.flow_base.proofs.Batches.{Batch, batch_none, batch_read, batch_write,
 use Rattle.flow_scalar.specs.declared.iota.Iota.{Iota}
 use Rattle.flow_scalar.specs.declared.iota.Iota.TheVariants.{Between, Flag, Number}
 use Rattle.flow_scalar.specs.IotaMachine.{first_flag, iota_machine}
+use Rattle.flow_folds.proofs.SegmentBlocks.{elements_block}
 
 -- so many numbers from this one on
 abbrev pub numbers_block : ℤ → ℕ → List ℤ
 numbers_block next zero = []
 numbers_block next (suc n) = next ∷ numbers_block (next +ℤ pos 1) n
-
--- the flags of so many elements
-abbrev pub elements_block : ℕ → List Bool
-elements_block zero = []
-elements_block (suc n) = false ∷ elements_block n
 
 pub elements_are : (n m : ℕ) → n ≤ m → take n (replicate m false) ≡ elements_block n
 elements_are zero m within = refl
@@ -48,13 +44,6 @@ filled_block next (suc n) (x ∷ xs) within filled =
 starts : (n : ℤ) → pos 0 ≤ℤ n → first_flag n ≡ Ok (Flag (pos 0) n)
 starts (pos n) h = refl
 starts (negsuc n) h = absurd (omega (arith, ints))
-
--- what was certain to come still is where many messages are put
-pub coming_still : (v w : View) (f e : ℕ) (ms : List Signal) → PutAll v f ms w → IsPrefix (v.coming e) (w.coming e)
-coming_still v w f e ms put = elim (cases_eq e f) [
-  | inl at ↦ subst (λ k. IsPrefix (v.coming k) (w.coming k)) (sym at) put.coming_here
-  | inr ne ↦ prefix_same (v.coming e) (w.coming e) (put.coming e ne)
-]
 
 -- the first integer that is shown is the next that comes
 pub first_shown : (xs : List ℤ) (c : List Signal) → 0 < length xs → IsPrefix (ints_said xs) c → take 1 c ≡ carry (int (get_or xs 0 (pos 0))) ∷ []

@@ -22,9 +22,6 @@ operand_taken BoolType next (int n) k e = absurd (cc)
 operand_taken BoolType next (datum v) k e = absurd (cc)
 
 -- the steps of one instance more
-pub two_more : (n : ℕ) → (2 * n + 1) + 1 ≡ 2 * (n + 1)
-two_more n = omega arith
-
 pub three_more : (n : ℕ) → ((3 * n + 1) + 1) + 1 ≡ 3 * (n + 1)
 three_more n = omega arith
 

@@ -3,11 +3,7 @@ pub mod ConstBlocks
 pub mod ForkBlocks
 pub mod IotaBlocks
 pub mod Leading
-pub mod LengthBlocks
-pub mod ReduceBlocks
-pub mod ScanAddBlocks
 pub mod Sending
-pub mod SingleBlocks
 pub mod SinkBlocks
 pub mod UnaryBlocks
 pub mod UnitsOfBlocks

@@ -13,7 +13,7 @@ use Rattle.flow_base.specs.declared.node.Phase.TheVariants.{Working}
 use Rattle.flow_base.proofs.Kernels.{leads_on, went_none}
 use Rattle.flow_scalar.specs.SinkMachine.{sink_machine}
 use Rattle.flow_scalar.specs.SinkShown.{EachFits, Shown}
-use Rattle.flow_scalar.proofs.SingleBlocks.{Swallows, swallows_none, swallows_one, swallows_more, swallows_went}
+use Rattle.flow_folds.proofs.SingleBlocks.{Swallows, swallows_none, swallows_one, swallows_more, swallows_went}
 use Rattle.flow_base.proofs.Batches.{skipped}
 
 -- items of one kind fit

@@ -18,7 +18,7 @@ use Rattle.flow_base.specs.declared.node.Phase.TheVariants.{Working}
 use Rattle.flow_base.proofs.Kernels.{leads_on, went_looked}
 use Rattle.flow_base.proofs.Batches.{Batch, block_then, batch_none, batch_read, batch_write, batch_then, batch_as, shifted_none, shifted_skip, shifted_put, went_batch, shown}
 use Rattle.flow_scalar.specs.Operands.{operand_in, on_operand}
-use Rattle.flow_scalar.specs.Scalars.{cell_of_scalar}
+use Rattle.flow_folds.specs.Scalars.{cell_of_scalar}
 use Rattle.flow_scalar.specs.UnaryMachine.{unary_next, unary_machine}
 use Rattle.flow_scalar.proofs.Leading.{operand_taken}
 use Rattle.flow_scalar.proofs.ValueBlocks.{values_said, one_more, ended_values, no_block}

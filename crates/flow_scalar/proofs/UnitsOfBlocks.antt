@@ -8,7 +8,7 @@ use Rattle.flow_messages.specs.Blocks.{units_said, flags_said}
 use Rattle.flow_base.specs.Nodes.{NodeState, behaviour_of, node_state}
 use Rattle.flow_base.specs.declared.node.Phase.TheVariants.{Working}
 use Rattle.flow_scalar.specs.UnitsOfMachine.{units_of_machine}
-use Rattle.flow_scalar.proofs.SingleBlocks.{Singles, singles_none, singles_read, singles_one, singles_more}
+use Rattle.flow_folds.proofs.SingleBlocks.{Singles, singles_none, singles_read, singles_one, singles_more}
 
 -- how many of the flags stand for an element
 abbrev pub elements : List Bool → ℕ

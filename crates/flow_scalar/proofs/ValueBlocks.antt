@@ -4,7 +4,7 @@ use Rattle.std.proofs.lemmas.List.{take_more, map-append}
 use Rattle.snesl_operators.specs.declared.scalar.Scalar.{Scalar}
 use Rattle.flow_messages.specs.Signals.{Signal, carry, ended}
 use Rattle.flow_messages.specs.Blocks.{ints_said}
-use Rattle.flow_scalar.specs.Scalars.{cell_of_scalar}
+use Rattle.flow_folds.specs.Scalars.{cell_of_scalar}
 
 -- what these values say
 abbrev pub values_said : {A : Type 0} → (A → Scalar) → List A → List Signal

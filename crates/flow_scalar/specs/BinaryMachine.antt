@@ -12,8 +12,8 @@ use Rattle.snesl_operators.specs.declared.operator.BinaryOperator.TheVariants.{A
 use Rattle.flow_base.specs.Machines.{Move, begins, takes, gives, Machine, one_write}
 use Rattle.flow_scalar.specs.Rows.{BinaryRow}
 use Rattle.flow_scalar.specs.Operands.{on_operand}
-use Rattle.flow_scalar.specs.OwnDialect.{InOwn}
-use Rattle.flow_scalar.specs.Scalars.{kind_of_type, cell_of_scalar}
+use Rattle.flow_folds.specs.OwnDialect.{InOwn}
+use Rattle.flow_folds.specs.Scalars.{kind_of_type, cell_of_scalar}
 use Rattle.flow_scalar.specs.declared.binary.Progress.{Progress}
 use Rattle.flow_scalar.specs.declared.binary.Progress.TheVariants.{Start, Left, Value}
 use Rattle.flow_scalar.specs.declared.binary.Binary.{Binary}

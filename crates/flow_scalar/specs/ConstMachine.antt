@@ -6,7 +6,7 @@ use Rattle.snesl_operators.specs.declared.scalar.Scalar.TheVariants.{Bool as Boo
 use Rattle.flow_messages.specs.declared.message.Kind.TheVariants.{Unit as UnitKind}
 use Rattle.flow_base.specs.Machines.{Move, begins, gives, on_kind, Machine, one_write}
 use Rattle.flow_scalar.specs.Rows.{ConstRow}
-use Rattle.flow_scalar.specs.Scalars.{kind_of_type, cell_of_scalar, ScalarInRange}
+use Rattle.flow_folds.specs.Scalars.{kind_of_type, cell_of_scalar, ScalarInRange}
 use Rattle.flow_scalar.specs.declared.constant.Const.{Const}
 
 -- whether the constant is due: a Unit begins an instance, and makes it so

@@ -5,18 +5,9 @@ pub mod ForkCopies
 pub mod ForkMachine
 pub mod ForkNode
 pub mod IotaMachine
-pub mod LengthBlocks
-pub mod LengthMachine
 pub mod OperandLaws
 pub mod Operands
-pub mod OwnDialect
-pub mod ReduceMachine
-pub mod ReduceBlocks
 pub mod Rows
-pub mod ScalarCells
-pub mod Scalars
-pub mod ScanAddBlocks
-pub mod ScanAddMachine
 pub mod SinkMachine
 pub mod SinkShown
 pub mod SourceBehaviour
@@ -38,3 +29,13 @@ pub use Rattle.flow_base.specs.Machines
 pub use Rattle.flow_base.specs.Nodes
 pub use Rattle.flow_base.specs.Ranges
 pub use Rattle.flow_base.specs.Transducers
+-- and those of the workers that fold
+pub use Rattle.flow_folds.specs.LengthBlocks
+pub use Rattle.flow_folds.specs.LengthMachine
+pub use Rattle.flow_folds.specs.OwnDialect
+pub use Rattle.flow_folds.specs.ReduceMachine
+pub use Rattle.flow_folds.specs.ReduceBlocks
+pub use Rattle.flow_folds.specs.ScalarCells
+pub use Rattle.flow_folds.specs.Scalars
+pub use Rattle.flow_folds.specs.ScanAddBlocks
+pub use Rattle.flow_folds.specs.ScanAddMachine

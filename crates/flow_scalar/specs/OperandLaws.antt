@@ -11,7 +11,7 @@ use Rattle.snesl_operators.specs.declared.scalar.ScalarType.{ScalarType}
 use Rattle.snesl_operators.specs.declared.scalar.ScalarType.TheVariants.{Int as IntType, Bool as BoolType}
 use Rattle.flow_messages.specs.Cells.{Cell, int, flag}
 use Rattle.flow_base.specs.Machines.{taken, OnNext, OfNext, OfKind, OfRange}
-use Rattle.flow_scalar.specs.Scalars.{cell_of_scalar}
+use Rattle.flow_folds.specs.Scalars.{cell_of_scalar}
 use Rattle.flow_scalar.specs.Operands.{on_operand}
 
 -- an item that carries an operand leads where the operand does

@@ -9,7 +9,7 @@ use Rattle.snesl_operators.specs.declared.scalar.ScalarType.{ScalarType}
 use Rattle.snesl_operators.specs.declared.scalar.ScalarType.TheVariants.{Int as IntType, Bool as BoolType}
 use Rattle.flow_messages.specs.Cells.{Cell, int, flag}
 use Rattle.flow_base.specs.Machines.{Taking, on_kind}
-use Rattle.flow_scalar.specs.Scalars.{kind_of_type}
+use Rattle.flow_folds.specs.Scalars.{kind_of_type}
 
 -- the scalar of this type that the cell carries
 abbrev pub operand_in : ScalarType → Cell → Result Scalar FaultKind

@@ -12,8 +12,8 @@ use Rattle.snesl_operators.specs.declared.operator.UnaryOperator.TheVariants.{No
 use Rattle.flow_base.specs.Machines.{Move, begins, gives, Machine, one_write}
 use Rattle.flow_scalar.specs.Rows.{UnaryRow}
 use Rattle.flow_scalar.specs.Operands.{on_operand}
-use Rattle.flow_scalar.specs.OwnDialect.{InOwn}
-use Rattle.flow_scalar.specs.Scalars.{kind_of_type, cell_of_scalar}
+use Rattle.flow_folds.specs.OwnDialect.{InOwn}
+use Rattle.flow_folds.specs.Scalars.{kind_of_type, cell_of_scalar}
 use Rattle.flow_scalar.specs.declared.unary.Unary.{Unary}
 
 -- an operand leads to its value

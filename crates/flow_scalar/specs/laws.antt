@@ -2,10 +2,10 @@ pub mod Binary
 pub mod Const
 pub mod Fork
 pub mod Iota
-pub mod Length
-pub mod Reduce
-pub mod ScanAdd
 pub mod Sink
 pub mod Source
 pub mod Unary
 pub mod UnitsOf
+pub use Rattle.flow_folds.specs.laws.Length
+pub use Rattle.flow_folds.specs.laws.Reduce
+pub use Rattle.flow_folds.specs.laws.ScanAdd

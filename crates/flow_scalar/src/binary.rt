@@ -14,8 +14,8 @@ ghost use Rattle.flow_scalar.specs.BinaryMachine.{binary_next, binary_machine, b
 ghost use Rattle.flow_scalar.specs.declared.binary.Progress.TheVariants.{Start, Left as LeftState, Value as ValueState};
 
 use crate::operand::operand_of;
-use crate::scalars::{item_of, kind_of};
 use flow_base::{Ask, BLOCK, SHORT_BLOCK, Stop, Worker, put_in_space, take_front};
+use flow_folds::{item_of, kind_of};
 use flow_messages::{Ends, Item, Kind, Msg};
 use snesl_data::Dialect;
 use snesl_operators::{BinaryOperator, Scalar, ScalarType};

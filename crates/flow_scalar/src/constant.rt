@@ -6,8 +6,8 @@ ghost use Rattle.flow_messages.specs.Ends.{SameEnds};
 ghost use Rattle.flow_messages.specs.Signals.{carry, signal_of};
 ghost use Rattle.flow_scalar.specs.ConstCopies.{WrittenFor};
 
-use crate::scalars::{item_of, kind_of};
 use flow_base::{Ask, BLOCK, SHORT_BLOCK, Stop, Worker, put_in_space, take_front};
+use flow_folds::{item_of, kind_of};
 use flow_messages::{Ends, Item, Kind, Msg};
 use snesl_data::FaultKind;
 use snesl_operators::Scalar;

@@ -12,8 +12,8 @@ ghost use Rattle.flow_scalar.specs.Operands.{on_operand};
 ghost use Rattle.flow_scalar.specs.UnaryMachine.{unary_next, unary_machine, unary_view, IntsAt, FlagsAt};
 
 use crate::operand::operand_of;
-use crate::scalars::{item_of, kind_of};
 use flow_base::{Ask, BLOCK, SHORT_BLOCK, Stop, Worker, put_in_space, take_front};
+use flow_folds::{item_of, kind_of};
 use flow_messages::{Ends, Item, Kind, Msg};
 use snesl_data::Dialect;
 use snesl_operators::{Scalar, ScalarType, UnaryOperator};

@@ -12,7 +12,7 @@ use Rattle.snesl_evaluation.specs.Builtins.{scalar_value}
 use Rattle.snesl_types.specs.Contexts.{open_to, Context, bound as bound_to, found}
 use Rattle.flow_base.specs.Columns.{Columns}
 use Rattle.flow_messages.specs.Cells.{unit}
-use Rattle.flow_scalar.specs.Scalars.{cell_of_scalar}
+use Rattle.flow_folds.specs.Scalars.{cell_of_scalar}
 use Rattle.flow_values.specs.Shapes.{cell_for}
 use Rattle.flow_rows.specs.Lists.{bind, each}
 use Rattle.flow_rows.specs.Made.{laid}

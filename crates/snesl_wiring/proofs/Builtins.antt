@@ -15,7 +15,7 @@ use Rattle.snesl_tree.specs.declared.operator.Prefix.{Prefix}
 use Rattle.snesl_tree.specs.declared.operator.Prefix.TheVariants.{Negate, Not}
 use Rattle.snesl_types.specs.Forms.{operator_result, prefix_result, result_of}
 use Rattle.flow_messages.specs.declared.message.Kind.{Kind}
-use Rattle.flow_scalar.specs.Scalars.{kind_of_type as kind_of_scalar}
+use Rattle.flow_folds.specs.Scalars.{kind_of_type as kind_of_scalar}
 use Rattle.flow_values.specs.Shapes.{kinds_of}
 use Rattle.flow_plans.specs.Plans.{index, tab, seq_of}
 use Rattle.snesl_translation.specs.Wires.{Wires, IsSingle, numbers_of, kind_of_type, stream_of, item_type}

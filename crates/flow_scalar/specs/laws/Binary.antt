@@ -14,9 +14,9 @@ use Rattle.flow_base.specs.MachineRuns.{Then, reading, writing, run_is}
 use Rattle.flow_scalar.specs.Rows.{BinaryCase, BinaryRow, binary_reads, binary_writes}
 use Rattle.flow_scalar.specs.OperandLaws.{operand_leads, operand_led, operand_of_kind, operand_of_range, value_leads, value_led, value_of}
 use Rattle.flow_scalar.specs.Operands.{on_operand}
-use Rattle.flow_scalar.specs.OwnDialect.{own_read, own_write}
-use Rattle.flow_scalar.specs.Scalars.{cell_of_scalar}
-use Rattle.flow_scalar.specs.ScalarCells.{is_of-cell, cell_in_range}
+use Rattle.flow_folds.specs.OwnDialect.{own_read, own_write}
+use Rattle.flow_folds.specs.Scalars.{cell_of_scalar}
+use Rattle.flow_folds.specs.ScalarCells.{is_of-cell, cell_in_range}
 use Rattle.flow_scalar.specs.declared.binary.Progress.{Progress}
 use Rattle.flow_scalar.specs.declared.binary.Progress.TheVariants.{Start, Left, Value}
 use Rattle.flow_scalar.specs.BinaryMachine.{binary_next, binary_move, binary_of_kind, binary_in_range, binary_machine, binary_view}

@@ -8,8 +8,8 @@ use Rattle.flow_base.specs.Columns.{Columns, push_column, rows_from}
 use Rattle.flow_base.specs.Machines.{MachineLaws, SoundAt, Runs}
 use Rattle.flow_base.specs.MachineRuns.{Then, reading, writing, run_is}
 use Rattle.flow_scalar.specs.Rows.{const_reads, const_writes}
-use Rattle.flow_scalar.specs.Scalars.{cell_of_scalar}
-use Rattle.flow_scalar.specs.ScalarCells.{is_of-cell, cell_in_range}
+use Rattle.flow_folds.specs.Scalars.{cell_of_scalar}
+use Rattle.flow_folds.specs.ScalarCells.{is_of-cell, cell_in_range}
 use Rattle.flow_scalar.specs.ConstMachine.{const_move, const_machine, const_view}
 use Rattle.flow_base.specs.Members.{NodeOf, node_of}
 use Rattle.flow_base.specs.declared.node.Node.{Node}

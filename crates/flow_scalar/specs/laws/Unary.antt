@@ -14,9 +14,9 @@ use Rattle.flow_base.specs.MachineRuns.{Then, reading, writing, run_is}
 use Rattle.flow_scalar.specs.Rows.{UnaryCase, UnaryRow, unary_reads, unary_writes}
 use Rattle.flow_scalar.specs.OperandLaws.{operand_leads, operand_led, operand_of_kind, operand_of_range, value_leads, value_led, value_of}
 use Rattle.flow_scalar.specs.Operands.{on_operand}
-use Rattle.flow_scalar.specs.OwnDialect.{own_read, own_write}
-use Rattle.flow_scalar.specs.Scalars.{cell_of_scalar}
-use Rattle.flow_scalar.specs.ScalarCells.{is_of-cell, cell_in_range}
+use Rattle.flow_folds.specs.OwnDialect.{own_read, own_write}
+use Rattle.flow_folds.specs.Scalars.{cell_of_scalar}
+use Rattle.flow_folds.specs.ScalarCells.{is_of-cell, cell_in_range}
 use Rattle.flow_scalar.specs.UnaryMachine.{unary_next, unary_move, unary_in_range, unary_machine, unary_view}
 use Rattle.flow_base.specs.Members.{NodeOf, node_of}
 use Rattle.flow_base.specs.declared.node.Node.{Node}

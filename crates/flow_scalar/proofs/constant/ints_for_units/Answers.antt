@@ -6,7 +6,7 @@ use Rattle.flow_messages.specs.Blocks.{units_said, ints_said}
 use Rattle.flow_base.proofs.Carried.{same_ends_refl, same_ends_then}
 use Rattle.flow_base.proofs.Batches.{take_units, length_units, skipped}
 use Rattle.flow_scalar.specs.ConstCopies.{WrittenFor}
-use Rattle.flow_scalar.specs.Scalars.{cell_of_scalar}
+use Rattle.flow_folds.specs.Scalars.{cell_of_scalar}
 use Rattle.flow_scalar.proofs.ConstBlocks.{copies, block_ints, written_none, written_looked, written_more}
 use Rattle.flow_scalar.proofs.constant.ints_for_units.Goals as goal
 

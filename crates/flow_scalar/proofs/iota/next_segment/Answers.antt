@@ -13,7 +13,8 @@ use Rattle.flow_base.proofs.Carried.{prefix_then}
 use Rattle.flow_base.proofs.Kernels.{went_none, went_looked}
 use Rattle.flow_scalar.specs.declared.iota.Iota.TheVariants.{Flag}
 use Rattle.flow_scalar.specs.IotaMachine.{iota_machine}
-use Rattle.flow_scalar.proofs.IotaBlocks.{on, coming_still, first_shown, segment_went}
+use Rattle.flow_folds.proofs.SegmentBlocks.{coming_still}
+use Rattle.flow_scalar.proofs.IotaBlocks.{on, first_shown, segment_went}
 use Rattle.flow_scalar.proofs.iota.next_segment.Goals.{then-count-lt0-via-then-count-lt0, then-count-lt0-via-else-count-lt0+then-space-eq0}
 use Rattle.flow_scalar.proofs.iota.next_segment.Goals as goal
 

@@ -8,9 +8,9 @@ use Rattle.flow_base.specs.declared.node.Phase.TheVariants.{Working}
 use Rattle.flow_base.proofs.Carried.{same_ends_then, taken_room}
 use Rattle.flow_base.proofs.Kernels.{went_none, went_looked, went_read, went_write}
 use Rattle.snesl_operators.specs.declared.scalar.Scalar.{Scalar}
-use Rattle.flow_scalar.specs.Scalars.{cell_of_scalar}
+use Rattle.flow_folds.specs.Scalars.{cell_of_scalar}
 use Rattle.flow_scalar.specs.ConstMachine.{const_machine, const_view}
-use Rattle.flow_scalar.proofs.Leading.{two_more}
+use Rattle.flow_folds.proofs.SegmentBlocks.{two_more}
 use Rattle.flow_scalar.proofs.constant.ConstWorker.kernel.Goals as goal
 
 -- it made no step

@@ -14,7 +14,7 @@ use Rattle.flow_base.proofs.Kernels.{went_none, went_looked, went_read, went_wri
 use Rattle.flow_scalar.specs.declared.iota.Iota.{Iota}
 use Rattle.flow_scalar.specs.declared.iota.Iota.TheVariants.{Between, Flag, Number}
 use Rattle.flow_scalar.specs.IotaMachine.{first_flag, iota_machine, iota_view}
-use Rattle.flow_scalar.proofs.Leading.{two_more}
+use Rattle.flow_folds.proofs.SegmentBlocks.{two_more}
 use Rattle.flow_scalar.proofs.iota.IotaWorker.kernel.Goals.{then-next-end, else-next-end+in-Some}
 use Rattle.flow_scalar.proofs.iota.IotaWorker.kernel.Goals as goal
 

@@ -10,9 +10,10 @@ use Rattle.snesl_data.specs.declared.dialect.Dialect.{Dialect}
 use Rattle.snesl_operators.specs.declared.operator.UnaryOperator.{UnaryOperator}
 use Rattle.snesl_operators.specs.Operators.{unary_operand}
 use Rattle.flow_scalar.specs.Operands.{on_operand}
-use Rattle.flow_scalar.specs.Scalars.{cell_of_scalar}
+use Rattle.flow_folds.specs.Scalars.{cell_of_scalar}
 use Rattle.flow_scalar.specs.UnaryMachine.{unary_next, unary_machine, unary_view}
-use Rattle.flow_scalar.proofs.Leading.{two_more, nothing}
+use Rattle.flow_folds.proofs.SegmentBlocks.{two_more}
+use Rattle.flow_scalar.proofs.Leading.{nothing}
 use Rattle.flow_scalar.proofs.unary.UnaryWorker.kernel.Goals as goal
 
 -- it made no step

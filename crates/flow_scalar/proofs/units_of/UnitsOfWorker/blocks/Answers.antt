@@ -10,7 +10,7 @@ use Rattle.flow_base.proofs.Carried.{same_ends_refl, same_ends_then}
 use Rattle.flow_base.proofs.Kernels.{went_none, went_looked}
 use Rattle.flow_base.proofs.Batches.{ended_units, take_flags, length_flags, skipped}
 use Rattle.flow_scalar.specs.UnitsOfMachine.{units_of_machine, units_of_view}
-use Rattle.flow_scalar.proofs.SingleBlocks.{singles_went}
+use Rattle.flow_folds.proofs.SingleBlocks.{singles_went}
 use Rattle.flow_scalar.proofs.UnitsOfBlocks.{on, elements, counted, units_of_rounds}
 use Rattle.flow_scalar.proofs.units_of.UnitsOfWorker.blocks.Goals as goal
 

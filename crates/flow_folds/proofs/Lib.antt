@@ -1,0 +1,5 @@
+pub mod LengthBlocks
+pub mod ReduceBlocks
+pub mod ScanAddBlocks
+pub mod SegmentBlocks
+pub mod SingleBlocks

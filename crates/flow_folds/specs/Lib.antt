@@ -1,0 +1,11 @@
+pub mod LengthBlocks
+pub mod LengthMachine
+pub mod OwnDialect
+pub mod ReduceBlocks
+pub mod ReduceMachine
+pub mod Rows
+pub mod ScalarCells
+pub mod Scalars
+pub mod ScanAddBlocks
+pub mod ScanAddMachine
+pub mod laws

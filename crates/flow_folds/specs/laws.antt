@@ -1,0 +1,3 @@
+pub mod Length
+pub mod Reduce
+pub mod ScanAdd

@@ -1,0 +1,506 @@
+// Reductions of segments.
+
+ghost use Rattle.std.specs.Prelude.{◌≡◌, ◌≢◌, ◌+ℤ◌, ◌≤◌, ◌<◌, ◌*◌, ℕ, true, false, List, length, take, get_or, int_lt, if◌then◌else◌, Some, IfSome, Ok};
+ghost use Rattle.std.specs.List.{All};
+ghost use Rattle.std.specs.Option.{IsSomeAnd};
+ghost use Rattle.flow_messages.specs.Ends.{SameEnds};
+ghost use Rattle.flow_messages.specs.Signals.{signal_of};
+ghost use Rattle.flow_base.specs.Machines.{Leads, on_kind};
+ghost use Rattle.flow_base.specs.Nodes.{behaviour_of, node_state};
+ghost use Rattle.flow_base.specs.Visits.{edge_of, IsWired, Went};
+ghost use Rattle.flow_base.specs.declared.node.Phase.TheVariants.{Working};
+ghost use Rattle.flow_folds.specs.Scalars.{scalar_in};
+ghost use Rattle.flow_folds.specs.ReduceMachine.{at_element, reduced_kind, reduce_machine, reduce_view};
+ghost use Rattle.flow_folds.specs.ReduceBlocks.{reduced_ints, AwaitsFlag};
+ghost use Rattle.snesl_data.specs.declared.dialect.Dialect.{Dialect};
+ghost use Rattle.snesl_operators.specs.declared.operator.Reduction.TheVariants.{Sum as SumOf, Max as MaxOf};
+ghost use Rattle.snesl_operators.specs.declared.scalar.Scalar.TheVariants.{Int as IntScalar};
+ghost use Rattle.flow_folds.specs.declared.reduce.Stage.TheVariants.{Start as StartState, Flag as FlagState};
+
+use crate::scalars::{item_of, kind_of, scalar_of};
+use flow_base::{Ask, Stop, Worker, put_in_space, take_front};
+use flow_messages::{Ends, Item, Kind, Msg};
+use snesl_data::{Dialect, FaultKind};
+use snesl_operators::{Reduction, Scalar, sum};
+use std::alloc::AllocError;
+
+/// Writes for each segment what its elements reduce to. Each segment is an instance.
+///
+/// Reads port 0, the flags, of kind Bool, and port 1, the elements, of the kind of the reduction's type: for each flag
+/// that stands for an element it reads that element. After the flag that ends the segment it writes the value to port
+/// 0, of the same kind as the elements. An item of another kind is a fault of kind `Shape`. A sum that does not lie in
+/// the range of the worker's dialect is a fault of kind `Overflow`, at the element that takes it there. The greatest
+/// of a segment without elements is a fault of kind `EmptyMax`, at the segment's end.
+///
+/// Row: `ReduceRow` (specs/Rows.antt).
+#[derive(Clone, Copy, Debug, PartialEq, Eq)]
+pub struct Reduce {
+    dialect: Dialect,
+    reduction: Reduction,
+    stage: Stage,
+}
+
+// How far it is in a segment.
+#[derive(Clone, Copy, Debug, PartialEq, Eq)]
+enum Stage {
+    // A segment begins.
+    Start,
+    // A flag comes, and the elements so far reduce to this.
+    Flag(Option<Scalar>),
+    // An element comes, and those before it reduce to this.
+    Element(Option<Scalar>),
+    // The segment has ended, and this value is to be written.
+    Value(Scalar),
+}
+
+impl Stage {
+    ghost use Rattle.flow_messages.specs.Cells.{cell_of};
+    ghost use Rattle.flow_base.specs.Machines.{taken, given_of};
+    ghost use Rattle.flow_folds.specs.ReduceMachine.{at_flag, reduce_move, LeadsAtFlag};
+
+    // Where the item leads that comes as a flag, after elements that reduce to what is so far.
+    #[inline(always)]
+    fn at_flag(so_far: Option<Scalar>, item: &Item) -> Result<Stage, FaultKind>
+        ensures { result ≡ taken (at_flag so_far) (cell_of item.now) }
+    {
+        match item {
+            Item::Bool(false) => Ok(Stage::Element(so_far)),
+            Item::Bool(true) => Ok(Stage::Value(Reduction::value(so_far)?)),
+            _ => Err(FaultKind::Shape),
+        }
+    }
+
+    // Where the item leads.
+    #[inline(always)]
+    #[tactic(auto, using(crate::specs::laws::Reduce::element_is))]
+    fn next(self, dialect: Dialect, reduction: Reduction, item: &Item) -> Result<Stage, FaultKind>
+        ensures { result ≡ given_of (reduce_move dialect reduction self) (cell_of item.now) }
+    {
+        match self {
+            Stage::Start => Stage::at_flag(reduction.nothing(), item),
+            Stage::Flag(so_far) => Stage::at_flag(so_far, item),
+            Stage::Element(so_far) => {
+                let element = scalar_of(item).ok_or(FaultKind::Shape)?;
+                Ok(Stage::Flag(reduction.more(dialect, so_far, element)?))
+            }
+            Stage::Value(_) => Err(FaultKind::Shape),
+        }
+    }
+
+    // What the elements so far reduce to, where a flag comes.
+    #[inline(always)]
+    fn so_far(self, reduction: Reduction) -> Option<Option<Scalar>>
+        ensures { IfSome result (λ so_far. AwaitsFlag reduction self so_far) }
+    {
+        match self {
+            Stage::Start => Some(reduction.nothing()),
+            Stage::Flag(so_far) => Some(so_far),
+            _ => None,
+        }
+    }
+
+    // The integer that the elements so far reduce to, where a flag comes and there is one.
+    #[inline(always)]
+    fn int(self, reduction: Reduction) -> Option<i128>
+        ensures { IfSome result (λ n. AwaitsFlag reduction self (Some (IntScalar n))) }
+    {
+        match self.so_far(reduction) {
+            Some(Some(Scalar::Int(number))) => Some(number),
+            _ => None,
+        }
+    }
+
+    // Where the message leads where a flag comes, if it is there and leads on.
+    #[inline(always)]
+    fn after_flag(self, reduction: Reduction, message: Option<&Msg>) -> Option<Stage>
+        ensures { IfSome result (λ next. IsSomeAnd message.entry (λ m.
+            LeadsAtFlag reduction self (signal_of m.now) next)) }
+    {
+        let Some(Msg::Item(item)) = message else {
+            return None;
+        };
+        let next = match self {
+            Stage::Start => Stage::at_flag(reduction.nothing(), item),
+            Stage::Flag(so_far) => Stage::at_flag(so_far, item),
+            _ => return None,
+        };
+        match next {
+            Ok(next) => Some(next),
+            Err(_) => None,
+        }
+    }
+}
+
+// How many flags at the front stand for elements, up to so many.
+#[inline(always)]
+fn elements_ahead(flags: &[bool], most: usize) -> usize
+    ensures within { result ≤ most }
+    ensures shown { result ≤ length flags.now }
+    ensures ahead { (k : ℕ) → k < result → get_or flags.now k true ≡ false }
+{
+    let least = most.min(flags.len());
+    for place in 0..least {
+        if flags[place] {
+            return place;
+        }
+    }
+    least
+}
+
+// The sum, where it and the second integer fit 64 bits as the first does.
+#[inline(always)]
+fn small_sum(m: i64, n: i128) -> Option<i64>
+    ensures { IfSome result (λ k. k ≡ m +ℤ n) }
+{
+    match i64::try_from(n) {
+        Ok(small) => m.checked_add(small),
+        Err(_) => None,
+    }
+}
+
+// As `sum_of`, while all fit 64 bits.
+#[inline(always)]
+fn small_sum_of(total: i64, elements: &[i128]) -> (usize, i64)
+    ensures within { result.0 ≤ length elements.now }
+    ensures reduced { (dialect : Dialect) → reduced_ints dialect SumOf (Some (IntScalar total))
+        (take result.0 elements.now) ≡ Ok (Some (IntScalar result.1)) }
+{
+    let mut reached = total;
+    for place in 0..elements.len() {
+        let Some(more) = small_sum(reached, elements[place]) else {
+            return (place, reached);
+        };
+        reached = more;
+    }
+    (elements.len(), reached)
+}
+
+// Adds the elements to the sum, until one takes it out of the range. How many, and the sum of all of these.
+#[inline(always)]
+fn sum_of(dialect: Dialect, total: i128, elements: &[i128]) -> (usize, i128)
+    ensures within { result.0 ≤ length elements.now }
+    ensures reduced { reduced_ints dialect SumOf (Some (IntScalar total))
+        (take result.0 elements.now) ≡ Ok (Some (IntScalar result.1)) }
+{
+    if let Ok(small) = i64::try_from(total) {
+        let (count, reached) = small_sum_of(small, elements);
+        if count > 0 {
+            return (count, reached as i128);
+        }
+    }
+    let mut reached = total;
+    for place in 0..elements.len() {
+        match sum(dialect, reached, elements[place]) {
+            Ok(more) => reached = more,
+            Err(_) => return (place, reached),
+        }
+    }
+    (elements.len(), reached)
+}
+
+// The greater of two integers.
+#[inline(always)]
+fn greater(m: i128, n: i128) -> i128
+    ensures { result ≡ (if int_lt m n then n else m) }
+{
+    if m < n { n } else { m }
+}
+
+// The greatest of the elements and of what came before them.
+#[inline(always)]
+fn greatest_of(before: i128, elements: &[i128]) -> i128
+    ensures { (dialect : Dialect) → reduced_ints dialect MaxOf (Some (IntScalar before))
+        elements.now ≡ Ok (Some (IntScalar result)) }
+{
+    let mut greatest = before;
+    for place in 0..elements.len() {
+        greatest = greater(greatest, elements[place]);
+    }
+    greatest
+}
+
+// Whether the first flag ends a segment.
+#[inline(always)]
+fn begins_with_end(flags: &[bool]) -> bool
+    ensures { result ≡ true → get_or flags.now 0 false ≡ true }
+{
+    flags.len() > 0 && flags[0]
+}
+
+impl Reduce {
+    /// A worker over this reduction in this dialect, before its first instance.
+    pub fn new(dialect: Dialect, reduction: Reduction) -> Reduce
+        ensures { result ≡
+            record { dialect = dialect; reduction = reduction; stage = Stage.Start } }
+    {
+        Reduce {
+            dialect,
+            reduction,
+            stage: Stage::Start,
+        }
+    }
+
+    // What the elements so far and the one in the message reduce to, if it is there and leads on.
+    #[inline(always)]
+    #[tactic(auto, using(crate::specs::laws::Reduce::element_is))]
+    fn more_at(&self, so_far: Option<Scalar>, message: Option<&Msg>) -> Option<Option<Scalar>>
+        ensures { IfSome result (λ more. IsSomeAnd message.entry (λ m.
+            Leads (on_kind (reduced_kind self.now.reduction)
+            (λ x. at_element self.now.dialect self.now.reduction so_far (scalar_in x)))
+            (signal_of m.now) (FlagState more))) }
+    {
+        let Some(Msg::Item(item)) = message else {
+            return None;
+        };
+        match scalar_of(item) {
+            Some(element) => match self.reduction.more(self.dialect, so_far, element) {
+                Ok(more) => Some(more),
+                Err(_) => None,
+            },
+            None => None,
+        }
+    }
+}
+
+impl Reduce {
+    // Adds the elements to what is so far, until one faults. How many, and what all of these reduce to.
+    #[inline(always)]
+    fn more_of(&self, so_far: Option<Scalar>, elements: &[i128]) -> (usize, Option<Scalar>)
+        ensures within { result.0 ≤ length elements.now }
+        ensures reduced { reduced_ints self.now.dialect self.now.reduction so_far
+            (take result.0 elements.now) ≡ Ok result.1 }
+    {
+        match (self.reduction, so_far) {
+            (Reduction::Sum, Some(Scalar::Int(total))) => {
+                let (count, total) = sum_of(self.dialect, total, elements);
+                (count, Some(Scalar::Int(total)))
+            }
+            (Reduction::Max, Some(Scalar::Int(greatest))) => {
+                let greatest = greatest_of(greatest, elements);
+                (elements.len(), Some(Scalar::Int(greatest)))
+            }
+            (Reduction::Max, None) if elements.len() > 0 => {
+                let greatest = greatest_of(elements[0], elements);
+                (elements.len(), Some(Scalar::Int(greatest)))
+            }
+            // Truth values are left to single steps.
+            _ => (0, so_far),
+        }
+    }
+
+    // Reads the elements that are shown, each after its flag, until one faults. How many, and where they lead.
+    #[inline(always)]
+    fn take_elements<E: Ends>(
+        &self,
+        stage: Stage,
+        inputs: &[usize],
+        ends: &mut E,
+        most: usize,
+    ) -> (usize, Stage)
+        requires two { length inputs.now ≡ 2 }
+        requires apart { edge_of inputs.now 0 ≢ edge_of inputs.now 1 }
+        requires reads { All (λ e. (E.view ends.old).reads e ≡ true) inputs.now }
+        ensures same { E.same ends.old ends.new }
+        ensures ends { SameEnds (E.view ends.old) (E.view ends.new) }
+        ensures within { 2 * result.0 ≤ most }
+        ensures went { (outputs : List ℕ) (at : ℕ) → Went inputs.now outputs
+            (behaviour_of reduce_machine)
+            (node_state ((self.now.dialect, self.now.reduction), stage) Working at)
+            (E.view ends.old)
+            (node_state ((self.now.dialect, self.now.reduction), result.1) Working at)
+            (E.view ends.new) (2 * result.0) }
+    {
+        let (flags, elements) = (inputs[0], inputs[1]);
+        let Some(so_far) = stage.so_far(self.reduction) else {
+            return (0, stage);
+        };
+        let block = ends.ints(elements);
+        let ahead = elements_ahead(ends.flags(flags), block.len().min(most / 2));
+        let (count, more) = self.more_of(so_far, &block[..ahead]);
+        if count == 0 {
+            return (0, stage);
+        }
+        ends.skip(flags, count);
+        ends.skip(elements, count);
+        (count, Stage::Flag(more))
+    }
+
+    // Reads the flag that ends a segment and writes the segment's value, an integer, where both can be. Whether it did.
+    #[inline(always)]
+    fn end_segment<E: Ends>(
+        &self,
+        stage: Stage,
+        inputs: &[usize],
+        outputs: &[usize],
+        ends: &mut E,
+    ) -> bool
+        requires wired { IsWired inputs.now outputs.now 2 1 (E.view ends.old) }
+        ensures same { E.same ends.old ends.new }
+        ensures ends { SameEnds (E.view ends.old) (E.view ends.new) }
+        ensures ended { result ≡ true → (at : ℕ) → Went inputs.now outputs.now
+            (behaviour_of reduce_machine)
+            (node_state ((self.now.dialect, self.now.reduction), stage) Working at)
+            (E.view ends.old)
+            (node_state ((self.now.dialect, self.now.reduction), StartState) Working at)
+            (E.view ends.new) 2 }
+        ensures stays { result ≡ false → (at : ℕ) → Went inputs.now outputs.now
+            (behaviour_of reduce_machine)
+            (node_state ((self.now.dialect, self.now.reduction), stage) Working at)
+            (E.view ends.old)
+            (node_state ((self.now.dialect, self.now.reduction), stage) Working at)
+            (E.view ends.new) 0 }
+    {
+        let (flags, to) = (inputs[0], outputs[0]);
+        let Some(value) = stage.int(self.reduction) else {
+            return false;
+        };
+        if !begins_with_end(ends.flags(flags)) || ends.space(to) == 0 {
+            return false;
+        }
+        ends.put_ints(to, &[value]);
+        ends.skip(flags, 1);
+        true
+    }
+}
+
+impl Worker for Reduce {
+    ghost use Rattle.snesl_data.specs.declared.dialect.Dialect.{Dialect};
+    ghost use Rattle.snesl_operators.specs.declared.operator.Reduction.{Reduction};
+    ghost use Rattle.flow_folds.specs.ReduceMachine.{reduce_machine, reduce_view};
+    ghost use Rattle.flow_folds.specs.laws.Reduce.{reduce_laws};
+    ghost use Rattle.flow_folds.specs.declared.reduce.Stage.{Stage};
+
+    ghost Parameters = { Dialect × Reduction };
+
+    ghost State = { Stage };
+
+    ghost state = { reduce_view };
+
+    ghost machine = { reduce_machine };
+
+    ghost laws = { reduce_laws };
+
+    #[inline(always)]
+    fn ask(&self) -> Ask {
+        match self.stage {
+            Stage::Start => Ask::Begin,
+            Stage::Flag(_) => Ask::Take(0),
+            Stage::Element(_) => Ask::Take(1),
+            Stage::Value(_) => Ask::Give(0),
+        }
+    }
+
+    fn inputs(&self) -> usize {
+        2
+    }
+
+    fn outputs(&self) -> usize {
+        1
+    }
+
+    fn kind_in(&self, port: usize) -> Kind {
+        if port == 0 {
+            Kind::Bool
+        } else {
+            kind_of(self.reduction.scalar_type())
+        }
+    }
+
+    fn kind_out(&self, _port: usize) -> Kind {
+        kind_of(self.reduction.scalar_type())
+    }
+
+    #[inline(always)]
+    fn take(&mut self, item: Item) -> Result<(), Stop> {
+        self.stage = self.stage.next(self.dialect, self.reduction, &item)?;
+        Ok(())
+    }
+
+    #[inline(always)]
+    fn give(&mut self) -> Result<Item, AllocError> {
+        match self.stage {
+            Stage::Value(value) => {
+                self.stage = Stage::Start;
+                Ok(item_of(value))
+            }
+            _ => unreachable!(),
+        }
+    }
+
+    fn is_between(&self) -> bool {
+        matches!(self.stage, Stage::Start | Stage::Flag(_))
+    }
+
+    // Each round is a block of flags with their elements, and the end of their segment with its value.
+    #[inline(always)]
+    fn blocks<E: Ends>(
+        &mut self,
+        inputs: &[usize],
+        outputs: &[usize],
+        ends: &mut E,
+        most: usize,
+    ) -> usize {
+        // Two blocks of one edge are not seen at once.
+        if inputs[0] == inputs[1] {
+            return 0;
+        }
+        let mut stage = self.stage;
+        let mut made = 0;
+        // Where no flag is shown, or no two steps are left, nothing else is looked at.
+        while most - made >= 2 && !ends.flags(inputs[0]).is_empty() {
+            let (count, reached) = self.take_elements(stage, inputs, ends, most - made);
+            stage = reached;
+            made += 2 * count;
+            if most - made >= 2 && self.end_segment(stage, inputs, outputs, ends) {
+                stage = Stage::Start;
+                made += 2;
+            } else if count == 0 {
+                break;
+            }
+        }
+        self.stage = stage;
+        made
+    }
+
+    // Each round is two steps: a flag with its element, or the end of a segment with its value.
+    #[inline(always)]
+    fn kernel<E: Ends>(
+        &mut self,
+        inputs: &[usize],
+        outputs: &[usize],
+        ends: &mut E,
+        most: usize,
+    ) -> usize {
+        let (flags, elements, to) = (inputs[0], inputs[1], outputs[0]);
+        // Two messages of one edge are not seen at once.
+        if flags == elements {
+            return 0;
+        }
+        let whole = ends.space(to).min(most / 2);
+        // A copy, which need not be read back in each round.
+        let mut stage = self.stage;
+        for made in 0..whole {
+            let Some(reached) = stage.after_flag(self.reduction, ends.front(flags)) else {
+                return 2 * made;
+            };
+            stage = match reached {
+                Stage::Element(before) => {
+                    let Some(more) = self.more_at(before, ends.front(elements)) else {
+                        return 2 * made;
+                    };
+                    take_front(ends, flags);
+                    take_front(ends, elements);
+                    Stage::Flag(more)
+                }
+                Stage::Value(value) => {
+                    take_front(ends, flags);
+                    put_in_space(ends, to, Msg::Item(item_of(value)));
+                    Stage::Start
+                }
+                _ => return 2 * made,
+            };
+            self.stage = stage;
+        }
+        2 * whole
+    }
+}
