@@ -1,7 +1,6 @@
 -- What Iota makes of blocks: a flag and a number for each of many numbers.
-use Rattle.std.proofs.Common.{◌≡◌, ◌≢◌, ℕ, zero, suc, ◌+◌, ◌<◌, ◌≤◌, ◌*◌, ℤ, pos, negsuc, ◌+ℤ◌, ◌≤ℤ◌, Bool, true, false, cond, not, eqb, List, [], ◌∷◌, ◌++◌, length, take, get_or, refl, sym, ap, subst, arith, inl, inr}
+use Rattle.std.proofs.Common.{◌≡◌, ◌≢◌, ℕ, zero, suc, ◌+◌, ◌<◌, ◌≤◌, ◌*◌, ℤ, pos, negsuc, ◌+ℤ◌, ◌≤ℤ◌, Bool, true, false, cond, not, eqb, List, [], ◌∷◌, ◌++◌, length, take, get_or, refl, sym, ap, subst, arith}
 use Rattle.std.specs.Prelude.{Ok, int_lt, replicate}
-use Rattle.std.proofs.lemmas.Bool.{cases_eq}
 use Rattle.std.proofs.lemmas.Int.{ints}
 use mathlib.Core.List.{IsPrefix}
 use Rattle.flow_messages.specs.Cells.{flag, int}
@@ -12,7 +11,6 @@ use Rattle.flow_base.specs.Machines.{on_int}
 use Rattle.flow_base.specs.Nodes.{NodeState, behaviour_of, node_state}
 use Rattle.flow_base.specs.Visits.{edge_of, Went}
 use Rattle.flow_base.specs.declared.node.Phase.TheVariants.{Working}
-use Rattle.flow_base.proofs.Carried.{prefix_same}
 use Rattle.flow_base.proofs.Kernels.{leads_on}
 use Rattle.flow_base.proofs.Batches.{Batch, batch_none, batch_read, batch_write, batch_then, batch_as, blocks_then, shifted_none, shifted_skip, shifted_put, went_batch, shown, ended_flags, ended_ints, ended_one}
 use Rattle.flow_scalar.specs.declared.iota.Iota.{Iota}
