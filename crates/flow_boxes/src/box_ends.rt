@@ -135,7 +135,7 @@ impl Ends for Boxes {
     }
 
     #[inline(always)]
-    fn ints(&self, edge: usize) -> &[i128] {
+    fn ints(&self, edge: usize) -> &[i64] {
         match &self.inboxes[edge] {
             Some(inbox) => inbox.store.ints(),
             None => unreachable!(),
@@ -167,7 +167,7 @@ impl Ends for Boxes {
     }
 
     #[inline(always)]
-    fn put_ints(&mut self, edge: usize, ints: &[i128]) {
+    fn put_ints(&mut self, edge: usize, ints: &[i64]) {
         match &mut self.outboxes[edge] {
             Some(outbox) => outbox.put_ints(ints),
             None => unreachable!(),

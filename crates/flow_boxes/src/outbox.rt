@@ -139,7 +139,7 @@ impl Outbox {
 
     /// Puts these integers behind all others, unless `End` was put before.
     #[inline(always)]
-    pub fn put_ints(&mut self, ints: &[i128])
+    pub fn put_ints(&mut self, ints: &[i64])
         requires { length ints.now ≤ self.old.room }
         ensures reserved { self.new.store.capacity ≡ self.old.store.capacity }
         ensures put { PutsBlock (int_messages ints.now) self.old self.new }

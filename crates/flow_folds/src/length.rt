@@ -81,13 +81,14 @@ impl Count {
     }
 }
 
-// Whether a count stays in the range with so many elements more.
+// Whether a count stays in the range, and within 64 bits, with so many elements more.
 #[inline(always)]
 fn stays_in_range(dialect: Dialect, count: u128, more: usize) -> bool
-    ensures { result ≡ true → count + more ≤ greatest_integer dialect }
+    ensures range { result ≡ true → count + more ≤ greatest_integer dialect }
+    ensures narrow { result ≡ true → count + more ≤ 9223372036854775807 }
 {
     match count.checked_add(more as u128) {
-        Some(all) => all <= dialect.greatest() as u128,
+        Some(all) => all <= dialect.greatest() as u128 && all <= i64::MAX as u128,
         None => false,
     }
 }
@@ -99,9 +100,9 @@ fn lengths_along(
     count: u128,
     flags: &[bool],
     most: usize,
-    lengths: &mut [i128],
+    lengths: &mut [i64],
 ) -> (usize, usize, u128)
-    requires range { count + length flags.now ≤ 170141183460469231731687303715884105727 }
+    requires narrow { count + length flags.now ≤ 9223372036854775807 }
     requires block { most ≤ length lengths.old }
     ensures flags { result.0 ≤ length flags.now }
     ensures most { result.1 ≤ most }
@@ -118,7 +119,7 @@ fn lengths_along(
         if ended == most {
             return (place, ended, elements);
         }
-        lengths[ended] = elements as i128;
+        lengths[ended] = elements as i64;
         ended += 1;
         elements = 0;
     }
@@ -152,10 +153,13 @@ impl Length {
         let Count::Due(number) = self.count else {
             return 0;
         };
+        let Ok(narrow) = i64::try_from(number) else {
+            return 0;
+        };
         if most == 0 || ends.space(outputs[0]) == 0 {
             return 0;
         }
-        ends.put_ints(outputs[0], &[number]);
+        ends.put_ints(outputs[0], &[narrow]);
         self.count = Count::Counting(0);
         1
     }
@@ -168,7 +172,7 @@ impl Length {
         outputs: &[usize],
         ends: &mut E,
         most: usize,
-        lengths: &mut [i128],
+        lengths: &mut [i64],
     ) -> usize
         requires wired { IsWired inputs.now outputs.now 1 1 (E.view ends.old) }
         ensures same { E.same ends.old ends.new }
@@ -211,7 +215,7 @@ impl Length {
         outputs: &[usize],
         ends: &mut E,
         most: usize,
-        lengths: &mut [i128],
+        lengths: &mut [i64],
     ) -> usize
         requires wired { IsWired inputs.now outputs.now 1 1 (E.view ends.old) }
         ensures same { E.same ends.old ends.new }

@@ -17,7 +17,7 @@ ghost use Rattle.snesl_operators.specs.declared.operator.Reduction.TheVariants.{
 ghost use Rattle.snesl_operators.specs.declared.scalar.Scalar.TheVariants.{Int as IntScalar};
 ghost use Rattle.flow_folds.specs.declared.reduce.Stage.TheVariants.{Start as StartState, Flag as FlagState};
 
-use crate::scalars::{item_of, kind_of, scalar_of};
+use crate::scalars::{item_of, kind_of, scalar_of, wide};
 use flow_base::{Ask, Stop, Worker, put_in_space, take_front};
 use flow_messages::{Ends, Item, Kind, Msg};
 use snesl_data::{Dialect, FaultKind};
@@ -147,27 +147,16 @@ fn elements_ahead(flags: &[bool], most: usize) -> usize
     least
 }
 
-// The sum, where it and the second integer fit 64 bits as the first does.
-#[inline(always)]
-fn small_sum(m: i64, n: i128) -> Option<i64>
-    ensures { IfSome result (λ k. k ≡ m +ℤ n) }
-{
-    match i64::try_from(n) {
-        Ok(small) => m.checked_add(small),
-        Err(_) => None,
-    }
-}
-
 // As `sum_of`, while all fit 64 bits.
 #[inline(always)]
-fn small_sum_of(total: i64, elements: &[i128]) -> (usize, i64)
+fn small_sum_of(total: i64, elements: &[i64]) -> (usize, i64)
     ensures within { result.0 ≤ length elements.now }
     ensures reduced { (dialect : Dialect) → reduced_ints dialect SumOf (Some (IntScalar total))
         (take result.0 elements.now) ≡ Ok (Some (IntScalar result.1)) }
 {
     let mut reached = total;
     for place in 0..elements.len() {
-        let Some(more) = small_sum(reached, elements[place]) else {
+        let Some(more) = reached.checked_add(elements[place]) else {
             return (place, reached);
         };
         reached = more;
@@ -177,7 +166,7 @@ fn small_sum_of(total: i64, elements: &[i128]) -> (usize, i64)
 
 // Adds the elements to the sum, until one takes it out of the range. How many, and the sum of all of these.
 #[inline(always)]
-fn sum_of(dialect: Dialect, total: i128, elements: &[i128]) -> (usize, i128)
+fn sum_of(dialect: Dialect, total: i128, elements: &[i64]) -> (usize, i128)
     ensures within { result.0 ≤ length elements.now }
     ensures reduced { reduced_ints dialect SumOf (Some (IntScalar total))
         (take result.0 elements.now) ≡ Ok (Some (IntScalar result.1)) }
@@ -190,7 +179,7 @@ fn sum_of(dialect: Dialect, total: i128, elements: &[i128]) -> (usize, i128)
     }
     let mut reached = total;
     for place in 0..elements.len() {
-        match sum(dialect, reached, elements[place]) {
+        match sum(dialect, reached, elements[place] as i128) {
             Ok(more) => reached = more,
             Err(_) => return (place, reached),
         }
@@ -208,13 +197,13 @@ fn greater(m: i128, n: i128) -> i128
 
 // The greatest of the elements and of what came before them.
 #[inline(always)]
-fn greatest_of(before: i128, elements: &[i128]) -> i128
+fn greatest_of(before: i128, elements: &[i64]) -> i128
     ensures { (dialect : Dialect) → reduced_ints dialect MaxOf (Some (IntScalar before))
         elements.now ≡ Ok (Some (IntScalar result)) }
 {
     let mut greatest = before;
     for place in 0..elements.len() {
-        greatest = greater(greatest, elements[place]);
+        greatest = greater(greatest, elements[place] as i128);
     }
     greatest
 }
@@ -265,7 +254,7 @@ impl Reduce {
 impl Reduce {
     // Adds the elements to what is so far, until one faults. How many, and what all of these reduce to.
     #[inline(always)]
-    fn more_of(&self, so_far: Option<Scalar>, elements: &[i128]) -> (usize, Option<Scalar>)
+    fn more_of(&self, so_far: Option<Scalar>, elements: &[i64]) -> (usize, Option<Scalar>)
         ensures within { result.0 ≤ length elements.now }
         ensures reduced { reduced_ints self.now.dialect self.now.reduction so_far
             (take result.0 elements.now) ≡ Ok result.1 }
@@ -280,7 +269,7 @@ impl Reduce {
                 (elements.len(), Some(Scalar::Int(greatest)))
             }
             (Reduction::Max, None) if elements.len() > 0 => {
-                let greatest = greatest_of(elements[0], elements);
+                let greatest = greatest_of(wide(elements[0]), elements);
                 (elements.len(), Some(Scalar::Int(greatest)))
             }
             // Truth values are left to single steps.
@@ -325,7 +314,7 @@ impl Reduce {
         (count, Stage::Flag(more))
     }
 
-    // Reads the flag that ends a segment and writes the segment's value, an integer, where both can be. Whether it did.
+    // Reads the flag that ends a segment and writes the segment's value, an integer of 64 bits, where both can be. Whether it did.
     #[inline(always)]
     fn end_segment<E: Ends>(
         &self,
@@ -354,10 +343,13 @@ impl Reduce {
         let Some(value) = stage.int(self.reduction) else {
             return false;
         };
+        let Ok(narrow) = i64::try_from(value) else {
+            return false;
+        };
         if !begins_with_end(ends.flags(flags)) || ends.space(to) == 0 {
             return false;
         }
-        ends.put_ints(to, &[value]);
+        ends.put_ints(to, &[narrow]);
         ends.skip(flags, 1);
         true
     }

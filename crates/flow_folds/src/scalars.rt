@@ -29,6 +29,14 @@ pub fn scalar_of(item: &Item) -> Option<Scalar>
     }
 }
 
+// An integer of 64 bits as one of 128.
+#[inline(always)]
+pub(crate) fn wide(narrow: i64) -> i128
+    ensures { result ≡ narrow }
+{
+    narrow as i128
+}
+
 /// An item that carries the scalar.
 #[inline(always)]
 pub fn item_of(scalar: Scalar) -> Item

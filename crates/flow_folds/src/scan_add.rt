@@ -142,8 +142,8 @@ impl ScanAdd {
         &self,
         held: (i128, i128),
         flags: &[bool],
-        elements: &[i128],
-        sums: &mut [i128],
+        elements: &[i64],
+        sums: &mut [i64],
     ) -> (usize, usize, Stage)
         requires flag { given_of (scan_add_move self.now.dialect self.now.stage) F ≡
             Ok (Element held.0 held.1) }
@@ -169,8 +169,12 @@ impl ScanAdd {
             let Ok(next) = sum(self.dialect, before, last) else {
                 return (place, read, stage);
             };
-            sums[read] = next;
-            (before, last) = (next, elements[read]);
+            // A sum of more bits is left to single steps.
+            let Ok(narrow) = i64::try_from(next) else {
+                return (place, read, stage);
+            };
+            sums[read] = narrow;
+            (before, last) = (next, elements[read] as i128);
             stage = Stage::Flag { before, last };
             read += 1;
         }
@@ -185,7 +189,7 @@ impl ScanAdd {
         outputs: &[usize],
         ends: &mut E,
         most: usize,
-        sums: &mut [i128],
+        sums: &mut [i64],
     ) -> usize
         requires wired { IsWired inputs.now outputs.now 2 1 (E.view ends.old) }
         requires apart { edge_of inputs.now 0 ≢ edge_of inputs.now 1 }
@@ -226,7 +230,7 @@ impl ScanAdd {
         outputs: &[usize],
         ends: &mut E,
         most: usize,
-        sums: &mut [i128],
+        sums: &mut [i64],
     ) -> usize
         requires apart { edge_of inputs.now 0 ≢ edge_of inputs.now 1 }
         requires wired { IsWired inputs.now outputs.now 2 1 (E.view ends.old) }

@@ -99,7 +99,7 @@ pub(crate) fn scan(
     }
 }
 
-// The integer that is written next behind an element of a sequence, where it is the next element,
+// The integer of 64 bits that is written next behind an element of a sequence, where it is the next element,
 // and the offset behind it. The scan stands behind an element again. It says what `scan` would, and
 // is faster.
 #[inline(always)]
@@ -109,7 +109,7 @@ fn next_element(
     leaf: Leaf,
     at: usize,
     state: State,
-) -> Option<(i128, usize)>
+) -> Option<(i64, usize)>
     requires { at ≤ length text.now }
     ensures first { IfSome result (λ found. left text.now way.now leaf at state ≡
         Int found.0 ∷ left text.now way.now leaf found.1 state) }
@@ -133,15 +133,18 @@ fn next_element(
     };
     match mark_at(text, at + 1) {
         Some(found) => match found.mark {
-            Mark::Number(number) => Some((number, found.end)),
+            Mark::Number(number) => match i64::try_from(number) {
+                Ok(narrow) => Some((narrow, found.end)),
+                Err(_) => None,
+            },
             _ => None,
         },
         None => None,
     }
 }
 
-// Scans the integers that are written next: so many, or as many as come before the end or another
-// item.
+// Scans the integers of 64 bits that are written next: so many, or as many as come before the end or
+// another item.
 #[inline(never)]
 pub(crate) fn ints_ahead(
     text: &[u8],
@@ -149,7 +152,7 @@ pub(crate) fn ints_ahead(
     leaf: Leaf,
     mut at: usize,
     mut state: State,
-    ints: &mut [i128; BLOCK],
+    ints: &mut [i64; BLOCK],
     most: usize,
 ) -> Ahead
     requires within { at ≤ length text.now }
@@ -171,7 +174,10 @@ pub(crate) fn ints_ahead(
         let found = scan(text, way, leaf, at, state);
         match found.piece {
             Some(Piece::Int(item)) => {
-                ints[count] = item;
+                let Ok(narrow) = i64::try_from(item) else {
+                    return Ahead { count, at, state };
+                };
+                ints[count] = narrow;
                 at = found.at;
                 state = found.state;
             }

@@ -99,7 +99,7 @@ impl TextSource {
 
     // Scans the integers that come next, at most so many, and goes behind them. How many.
     #[inline(always)]
-    fn scan_ints(&mut self, ints: &mut [i128; BLOCK], most: usize) -> usize
+    fn scan_ints(&mut self, ints: &mut [i64; BLOCK], most: usize) -> usize
         requires sending { self.old.ended ≡ false }
         requires block { most ≤ 16 }
         ensures sending { self.new.ended ≡ false }
@@ -129,7 +129,7 @@ impl TextSource {
             (text_source_state self.new) (E.view ends.new) result }
     {
         let edge = outputs[0];
-        let mut ints = [0i128; BLOCK];
+        let mut ints = [0i64; BLOCK];
         let mut made = 0;
         while made < most {
             let room = ends.space(edge).min(most - made).min(BLOCK);

@@ -5,3 +5,4 @@ pub mod Waiting
 pub mod Blocks
 pub mod Lines
 pub mod Contents
+pub mod Widened

@@ -120,8 +120,8 @@ pub trait Ends {
         &[]
     }
 
-    /// The integers that the next takes are certain to give, where these ends show them, or the first of them.
-    fn ints(&self, edge: usize) -> &[i128]
+    /// The integers of 64 bits that the next takes are certain to give, where these ends show them, or the first of them.
+    fn ints(&self, edge: usize) -> &[i64]
         requires { (view self.now).reads edge ≡ true }
         ensures { IsPrefix (ints_said result.now) ((view self.now).coming edge) }
     {
@@ -166,15 +166,15 @@ pub trait Ends {
         }
     }
 
-    /// Puts these integers where room is certain. They are dropped where `End` was put on the edge before.
-    fn put_ints(&mut self, edge: usize, ints: &[i128])
+    /// Puts these integers of 64 bits where room is certain. They are dropped where `End` was put on the edge before.
+    fn put_ints(&mut self, edge: usize, ints: &[i64])
         requires writes { (view self.old).writes edge ≡ true }
         requires certain { length ints.now ≤ (view self.old).room edge }
         ensures same { same self.old self.new }
         ensures put { PutAll (view self.old) edge (ints_said ints.now) (view self.new) }
     {
         for int in ints {
-            let _ = self.put(edge, Msg::Item(Item::Int(*int)));
+            let _ = self.put(edge, Msg::Item(Item::Int(*int as i128)));
         }
     }
 

@@ -31,12 +31,12 @@ pub fn with_flags(history: History<Msg>, flags: &[bool]) -> History<Msg>
 
 /// The history with these integers more.
 #[inline(always)]
-pub fn with_ints(history: History<Msg>, ints: &[i128]) -> History<Msg>
+pub fn with_ints(history: History<Msg>, ints: &[i64]) -> History<Msg>
     ensures { result.items ≡ history.items ++ int_messages ints.now }
 {
     let mut all = history;
     for int in ints {
-        all = all.with(&Msg::Item(Item::Int(*int)));
+        all = all.with(&Msg::Item(Item::Int(*int as i128)));
     }
     all
 }

@@ -184,7 +184,7 @@ impl Line {
 
     /// Puts these integers behind all others, unless `End` was put on it.
     #[inline(always)]
-    pub fn put_ints(&mut self, ints: &[i128])
+    pub fn put_ints(&mut self, ints: &[i64])
         requires { length (content_of self.old.store) + length ints.now ≤
             self.old.store.capacity }
         ensures capacity { self.new.store.capacity ≡ self.old.store.capacity }

@@ -12,12 +12,13 @@ use std::cmp::min;
 use std::collections::VecDeque;
 
 /// The messages that an edge holds, the oldest first, with items of one kind side by side: units as a count, then truth values,
-/// then integers, then any messages. A message joins its kind where nothing stands after that, and else stands at the end.
+/// then integers of 64 bits, then any messages. A message joins its kind where nothing stands after that, and else stands at the
+/// end.
 #[derive(Drop)]
 pub struct Store {
     units: usize,
     flags: Run<bool>,
-    ints: Run<i128>,
+    ints: Run<i64>,
     queue: VecDeque<Msg>,
     held: usize,
     pub capacity: usize,
@@ -76,9 +77,9 @@ impl Store {
         self.flags.held()
     }
 
-    /// The integers that come first, where no unit or truth value does.
+    /// The integers of 64 bits that come first, where no unit or truth value does.
     #[inline(always)]
-    pub fn ints(&self) -> &[i128]
+    pub fn ints(&self) -> &[i64]
         ensures { IsPrefix (int_messages result.now) (content_of self.now) }
     {
         if self.units > 0 || !self.flags.is_empty() {
@@ -108,9 +109,11 @@ impl Store {
         if self.queue.is_empty() {
             match &message {
                 Msg::Item(Item::Int(number)) => {
-                    self.ints.put(*number);
-                    self.held += 1;
-                    return;
+                    if let Ok(narrow) = i64::try_from(*number) {
+                        self.ints.put(narrow);
+                        self.held += 1;
+                        return;
+                    }
                 }
                 Msg::Item(Item::Bool(truth)) if self.ints.is_empty() => {
                     self.flags.put(*truth);
@@ -147,7 +150,7 @@ impl Store {
         }
         if let Some(number) = self.ints.take() {
             self.held -= 1;
-            return Some(Msg::Item(Item::Int(number)));
+            return Some(Msg::Item(Item::Int(number as i128)));
         }
         let message = self.queue.pop_front()?;
         self.held -= 1;
@@ -221,7 +224,7 @@ impl Store {
 
     /// Puts these integers behind all others, in order.
     #[inline(always)]
-    pub fn put_ints(&mut self, ints: &[i128])
+    pub fn put_ints(&mut self, ints: &[i64])
         requires room { length (content_of self.old) + length ints.now ≤ self.old.capacity }
         ensures content { content_of self.new ≡ content_of self.old ++ int_messages ints.now }
         ensures capacity { self.new.capacity ≡ self.old.capacity }
@@ -331,12 +334,12 @@ fn queue_flags(queue: &mut VecDeque<Msg>, flags: &[bool])
 }
 
 /// Puts these integers behind the messages of a queue.
-fn queue_ints(queue: &mut VecDeque<Msg>, ints: &[i128])
+fn queue_ints(queue: &mut VecDeque<Msg>, ints: &[i64])
     requires room { deque_len queue.old + length ints.now ≤ deque_capacity queue.old }
     ensures items { queue.new.items ≡ queue.old.items ++ int_messages ints.now }
     ensures capacity { deque_capacity queue.new ≡ deque_capacity queue.old }
 {
     for number in ints {
-        queue.push_back_reserved(Msg::Item(Item::Int(*number)));
+        queue.push_back_reserved(Msg::Item(Item::Int(*number as i128)));
     }
 }

@@ -92,7 +92,7 @@ impl Ends for Table {
     }
 
     #[inline(always)]
-    fn ints(&self, edge: usize) -> &[i128] {
+    fn ints(&self, edge: usize) -> &[i64] {
         self.lines[edge].store.ints()
     }
 
@@ -112,7 +112,7 @@ impl Ends for Table {
     }
 
     #[inline(always)]
-    fn put_ints(&mut self, edge: usize, ints: &[i128]) {
+    fn put_ints(&mut self, edge: usize, ints: &[i64]) {
         self.lines[edge].put_ints(ints);
     }
 

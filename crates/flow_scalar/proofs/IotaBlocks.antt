@@ -11,7 +11,7 @@ use Rattle.flow_base.specs.Machines.{on_int}
 use Rattle.flow_base.specs.Nodes.{NodeState, behaviour_of, node_state}
 use Rattle.flow_base.specs.Visits.{edge_of, Went}
 use Rattle.flow_base.specs.declared.node.Phase.TheVariants.{Working}
-use Rattle.flow_base.proofs.Kernels.{leads_on}
+use Rattle.flow_base.proofs.Kernels.{leads_on, went_none}
 use Rattle.flow_base.proofs.Batches.{Batch, batch_none, batch_read, batch_write, batch_then, batch_as, blocks_then, shifted_none, shifted_skip, shifted_put, went_batch, shown, ended_flags, ended_ints, ended_one}
 use Rattle.flow_scalar.specs.declared.iota.Iota.{Iota}
 use Rattle.flow_scalar.specs.declared.iota.Iota.TheVariants.{Between, Flag, Number}
@@ -98,6 +98,13 @@ module _ (ins outs : List ℕ) where
       let all = went_batch ins outs b went (numbers_rounds apart at end n next below) (omega arith) w two in
       let count : 0 + 2 * n ≡ 2 * n = omega arith in
       subst (Went ins outs b (on at (Flag next end)) a (on at (Flag (next +ℤ pos n) end)) w) count all
+
+  -- no step writes no number
+  pub no_numbers_went : (at : ℕ) (next end : ℤ) (a : View) → Went ins outs (behaviour_of iota_machine) (on at (Flag next end)) a (on at (Flag (next +ℤ pos 0) end)) a 0
+  no_numbers_went at next end a =
+      let b = behaviour_of iota_machine in
+      let same : next ≡ next +ℤ pos 0 = omega (arith, ints) in
+      subst (λ k. Went ins outs b (on at (Flag next end)) a (on at (Flag k end)) a 0) same (went_none b ins outs (on at (Flag next end)) a)
 
   pub segment_went : 0 < length ins → 0 < length outs → (at : ℕ) (next end count : ℤ) → int_lt next end ≡ false → pos 0 ≤ℤ count → (a v u w : View) → Went ins outs (behaviour_of iota_machine) (on at (Flag next end)) a (on at (Flag next end)) v 0 →
       PutAll v (edge_of outs 0) (carry (flag true) ∷ []) u → TakenAll u (edge_of ins 0) (carry (int count) ∷ []) w → Went ins outs (behaviour_of iota_machine) (on at (Flag next end)) a (on at (Flag (pos 0) count)) w 2

@@ -13,7 +13,7 @@ ghost use Rattle.flow_scalar.specs.Operands.{on_operand};
 ghost use Rattle.flow_scalar.specs.BinaryMachine.{binary_next, binary_machine, binary_view, IntsAt, FlagsAt};
 ghost use Rattle.flow_scalar.specs.declared.binary.Progress.TheVariants.{Start, Left as LeftState, Value as ValueState};
 
-use crate::operand::operand_of;
+use crate::operand::{narrow_of, operand_of};
 use flow_base::{Ask, BLOCK, SHORT_BLOCK, Stop, Worker, put_in_space, take_front};
 use flow_folds::{item_of, kind_of};
 use flow_messages::{Ends, Item, Kind, Msg};
@@ -21,38 +21,32 @@ use snesl_data::Dialect;
 use snesl_operators::{BinaryOperator, Scalar, ScalarType};
 use std::alloc::AllocError;
 
-// The product, where it fits 64 bits. Most factors fit 32 bits, and then no test of the product is needed.
+// The product, where it fits 64 bits.
 #[inline(always)]
 fn product(m: i64, n: i64) -> Option<i64>
     ensures { IfSome result (λ v. v ≡ m *ℤ n) }
 {
-    if let (Ok(left), Ok(right)) = (i32::try_from(m), i32::try_from(n)) {
-        let product = i64::from(left) * i64::from(right);
-        return Some(product);
+    let wide = m as i128 * n as i128;
+    match i64::try_from(wide) {
+        Ok(narrow) => Some(narrow),
+        Err(_) => None,
     }
-    m.checked_mul(n)
 }
 
-// The integer at two integers, where there is one. Most fit 64 bits, which are faster to compute with.
+// The integer at two integers, where there is one of 64 bits.
 #[inline(always)]
-fn int_at(operator: BinaryOperator, dialect: Dialect, left: i128, right: i128) -> Option<i128>
+fn int_at(operator: BinaryOperator, dialect: Dialect, left: i64, right: i64) -> Option<i64>
     ensures { IfSome result
         (λ v. binary_value dialect operator (Int left) (Int right) ≡ Ok (Int v)) }
 {
-    if let (Ok(m), Ok(n)) = (i64::try_from(left), i64::try_from(right)) {
-        let narrow = match operator {
-            BinaryOperator::Add => m.checked_add(n),
-            BinaryOperator::Subtract => m.checked_sub(n),
-            BinaryOperator::Multiply => product(m, n),
-            _ => None,
-        };
-        if let Some(value) = narrow {
-            return Some(i128::from(value));
+    match operator {
+        BinaryOperator::Add => left.checked_add(right),
+        BinaryOperator::Subtract => left.checked_sub(right),
+        BinaryOperator::Multiply => product(left, right),
+        _ => {
+            let (left, right) = (Scalar::Int(left as i128), Scalar::Int(right as i128));
+            narrow_of(operator.apply(dialect, left, right))
         }
-    }
-    match operator.apply(dialect, Scalar::Int(left), Scalar::Int(right)) {
-        Ok(Scalar::Int(value)) => Some(value),
-        _ => None,
     }
 }
 
@@ -61,9 +55,9 @@ fn int_at(operator: BinaryOperator, dialect: Dialect, left: i128, right: i128) -
 fn ints_by(
     operator: BinaryOperator,
     dialect: Dialect,
-    lefts: &[i128],
-    rights: &[i128],
-    values: &mut [i128],
+    lefts: &[i64],
+    rights: &[i64],
+    values: &mut [i64],
 ) -> usize
     requires rights { length lefts.now ≤ length rights.now }
     requires block { length lefts.now ≤ length values.old }
@@ -84,8 +78,8 @@ fn ints_by(
 fn flags_by(
     operator: BinaryOperator,
     dialect: Dialect,
-    lefts: &[i128],
-    rights: &[i128],
+    lefts: &[i64],
+    rights: &[i64],
     values: &mut [bool; BLOCK],
 ) -> usize
     requires rights { length lefts.now ≤ length rights.now }
@@ -94,8 +88,8 @@ fn flags_by(
     ensures values { FlagsAt dialect operator lefts.now rights.now values.new result }
 {
     for at in 0..lefts.len() {
-        let left = Scalar::Int(lefts[at]);
-        let right = Scalar::Int(rights[at]);
+        let left = Scalar::Int(lefts[at] as i128);
+        let right = Scalar::Int(rights[at] as i128);
         let Ok(Scalar::Bool(value)) = operator.apply(dialect, left, right) else {
             return at;
         };
@@ -179,7 +173,7 @@ impl Binary {
 
     // The integers at the first of these pairs, as many as there is room for and as do not fault.
     #[inline(always)]
-    fn ints_of(&self, lefts: &[i128], rights: &[i128], room: usize, values: &mut [i128]) -> usize
+    fn ints_of(&self, lefts: &[i64], rights: &[i64], room: usize, values: &mut [i64]) -> usize
         ensures room { result ≤ room }
         ensures lefts { result ≤ length lefts.now }
         ensures rights { result ≤ length rights.now }
@@ -208,8 +202,8 @@ impl Binary {
     #[inline(always)]
     fn flags_of(
         &self,
-        lefts: &[i128],
-        rights: &[i128],
+        lefts: &[i64],
+        rights: &[i64],
         room: usize,
         values: &mut [bool; BLOCK],
     ) -> usize
@@ -260,7 +254,7 @@ impl Binary {
         outputs: &[usize],
         ends: &mut E,
         most: usize,
-        values: &mut [i128],
+        values: &mut [i64],
     ) -> usize
         requires start { self.now.progress ≡ Start }
         requires apart { edge_of inputs.now 0 ≢ edge_of inputs.now 1 }

@@ -39,8 +39,8 @@ fn ints_for_units<E: Ends>(
     ends: &mut E,
     from: usize,
     to: usize,
-    number: i128,
-    copies: &[i128],
+    number: i64,
+    copies: &[i64],
     most: usize,
 ) -> usize
     requires copies { copies.now ≡ replicate (length copies.now) number }
@@ -175,12 +175,16 @@ impl Worker for Const {
             return 0;
         }
         let to = outputs[0];
-        match self.scalar {
-            Scalar::Int(number) if most < BLOCK => {
-                ints_for_units(ends, from, to, number, &[number; SHORT_BLOCK], most)
+        let number = match self.scalar {
+            Scalar::Int(number) => number,
+            Scalar::Bool(truth) => return flags_for_units(ends, from, to, truth, most),
+        };
+        match i64::try_from(number) {
+            Ok(narrow) if most < BLOCK => {
+                ints_for_units(ends, from, to, narrow, &[narrow; SHORT_BLOCK], most)
             }
-            Scalar::Int(number) => ints_for_units(ends, from, to, number, &[number; BLOCK], most),
-            Scalar::Bool(truth) => flags_for_units(ends, from, to, truth, most),
+            Ok(narrow) => ints_for_units(ends, from, to, narrow, &[narrow; BLOCK], most),
+            Err(_) => 0,
         }
     }
 

@@ -182,7 +182,7 @@ impl Fork {
         ends: &mut E,
         whole: usize,
         flags: &mut [bool],
-        ints: &mut [i128],
+        ints: &mut [i64],
     ) -> usize
         requires idle { self.now.held ≡ None }
         requires outputs { suc (fork_ports self.now.kind self.now.outputs).others ≡
@@ -273,7 +273,7 @@ fn copy_of(item: &Item) -> Item
     }
 }
 
-// Puts a copy of the item, where there is room: a block of one, which needs no message.
+// Puts a copy of the item, where there is room: mostly a block of one, which needs no message.
 #[inline(always)]
 fn put_copy<E: Ends>(ends: &mut E, edge: usize, item: &Item)
     requires scalar { is_of Kind.Vec (cell_of item.now) ≡ false }
@@ -285,7 +285,10 @@ fn put_copy<E: Ends>(ends: &mut E, edge: usize, item: &Item)
     match item {
         Item::Unit => ends.put_units(edge, 1),
         Item::Bool(truth) => ends.put_flags(edge, &[*truth]),
-        Item::Int(number) => ends.put_ints(edge, &[*number]),
+        Item::Int(number) => match i64::try_from(*number) {
+            Ok(narrow) => ends.put_ints(edge, &[narrow]),
+            Err(_) => put_in_space(ends, edge, Msg::Item(Item::Int(*number))),
+        },
         Item::Vec(_) => unreachable!(),
     }
 }
@@ -352,7 +355,7 @@ fn put_flags_on_each<E: Ends>(ends: &mut E, outputs: &[usize], flags: &[bool])
 
 // Puts these integers on each output, where there is room.
 #[inline(always)]
-fn put_ints_on_each<E: Ends>(ends: &mut E, outputs: &[usize], ints: &[i128])
+fn put_ints_on_each<E: Ends>(ends: &mut E, outputs: &[usize], ints: &[i64])
     requires writes { All (λ e. (E.view ends.old).writes e ≡ true) outputs.now }
     requires rise { (p q : ℕ) → p < q → q < length outputs.now →
         edge_of outputs.now p < edge_of outputs.now q }
@@ -436,7 +439,7 @@ fn ints_to_each<E: Ends>(
     from: usize,
     outputs: &[usize],
     most: usize,
-    block: &mut [i128],
+    block: &mut [i64],
 ) -> usize
     requires reads { (E.view ends.old).reads from ≡ true }
     requires writes { All (λ e. (E.view ends.old).writes e ≡ true) outputs.now }
@@ -474,7 +477,7 @@ fn block_to_each<E: Ends>(
     outputs: &[usize],
     most: usize,
     flags: &mut [bool],
-    ints: &mut [i128],
+    ints: &mut [i64],
 ) -> usize
     requires reads { (E.view ends.old).reads from ≡ true }
     requires writes { All (λ e. (E.view ends.old).writes e ≡ true) outputs.now }
@@ -541,7 +544,7 @@ fn item_shown<E: Ends>(ends: &E, edge: usize, kind: Kind) -> Option<Item>
             if ints.is_empty() {
                 return None;
             }
-            Some(Item::Int(ints[0]))
+            Some(Item::Int(ints[0] as i128))
         }
         Kind::Vec => None,
     }

@@ -63,7 +63,7 @@ const ELEMENTS: [bool; BLOCK] = [false; BLOCK];
 
 // How many numbers of a block are left from `next` on below `end`. The end less a negative number may not fit.
 #[inline(always)]
-fn numbers_left(next: i128, end: i128) -> usize
+fn numbers_left(next: i64, end: i64) -> usize
     ensures block { result ≤ 64 }
     ensures below { 0 < result → (next +ℤ pos result) ≤ℤ end }
 {
@@ -75,13 +75,13 @@ fn numbers_left(next: i128, end: i128) -> usize
 
 // Fills so many places with the numbers from `next` on.
 #[inline(always)]
-fn fill(block: &mut [i128], next: i128, end: i128, count: usize)
+fn fill(block: &mut [i64], next: i64, end: i64, count: usize)
     requires within { count ≤ length block.old }
     requires below { (next +ℤ pos count) ≤ℤ end }
     ensures { (k : ℕ) → k < count → get_or block.new k (pos 0) ≡ next +ℤ pos k }
 {
     for place in 0..count {
-        block[place] = next + place as i128;
+        block[place] = next + place as i64;
     }
 }
 
@@ -93,7 +93,7 @@ fn put_numbers<E: Ends>(
     outputs: &[usize],
     ends: &mut E,
     most: usize,
-    block: &mut [i128],
+    block: &mut [i64],
 ) -> usize
     requires two { length outputs.now ≡ 2 }
     requires apart { edge_of outputs.now 0 ≢ edge_of outputs.now 1 }
@@ -109,12 +109,16 @@ fn put_numbers<E: Ends>(
         (E.view ends.new) (2 * result) }
 {
     let (flags, numbers) = (outputs[0], outputs[1]);
-    let left = numbers_left(next, end).min(most / 2).min(block.len());
+    // Numbers of more bits are left to single steps.
+    let (Ok(first), Ok(last)) = (i64::try_from(next), i64::try_from(end)) else {
+        return 0;
+    };
+    let left = numbers_left(first, last).min(most / 2).min(block.len());
     let count = left.min(ends.space(flags)).min(ends.space(numbers));
     if count == 0 {
         return 0;
     }
-    fill(block, next, end, count);
+    fill(block, first, last, count);
     ends.put_flags(flags, &ELEMENTS[..count]);
     ends.put_ints(numbers, &block[..count]);
     count
@@ -151,7 +155,7 @@ fn next_segment<E: Ends>(
     }
     ends.put_flags(flags, &[true]);
     ends.skip(from, 1);
-    Some(count)
+    Some(count as i128)
 }
 
 impl Iota {
@@ -178,7 +182,7 @@ impl Iota {
         outputs: &[usize],
         ends: &mut E,
         most: usize,
-        block: &mut [i128],
+        block: &mut [i64],
     ) -> usize
         requires apart { edge_of outputs.now 0 ≢ edge_of outputs.now 1 }
         requires wired { IsWired inputs.now outputs.now 1 2 (E.view ends.old) }

@@ -1,8 +1,9 @@
 // Operands that come as items.
 
-ghost use Rattle.std.specs.Prelude.{◌≡◌};
+ghost use Rattle.std.specs.Prelude.{◌≡◌, Ok, IfSome};
 ghost use Rattle.flow_messages.specs.Cells.{cell_of};
 ghost use Rattle.flow_scalar.specs.Operands.{operand_in};
+ghost use Rattle.snesl_operators.specs.declared.scalar.Scalar.TheVariants.{Int as IntScalar};
 
 use flow_messages::Item;
 use snesl_data::FaultKind;
@@ -17,5 +18,19 @@ pub fn operand_of(scalar_type: ScalarType, item: &Item) -> Result<Scalar, FaultK
         (ScalarType::Int, Item::Int(number)) => Ok(Scalar::Int(*number)),
         (ScalarType::Bool, Item::Bool(truth)) => Ok(Scalar::Bool(*truth)),
         _ => Err(FaultKind::Shape),
+    }
+}
+
+// The integer of 64 bits that an operator gave, where it gave one.
+#[inline(always)]
+pub(crate) fn narrow_of(value: Result<Scalar, FaultKind>) -> Option<i64>
+    ensures { IfSome result (λ n. value ≡ Ok (IntScalar n)) }
+{
+    let Ok(Scalar::Int(number)) = value else {
+        return None;
+    };
+    match i64::try_from(number) {
+        Ok(narrow) => Some(narrow),
+        Err(_) => None,
     }
 }

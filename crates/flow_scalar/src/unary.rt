@@ -1,17 +1,18 @@
 // Operators on one scalar.
 
-ghost use Rattle.std.specs.Prelude.{◌≡◌, ℕ, ◌≤◌, length, Some, None, IfSome};
+ghost use Rattle.std.specs.Prelude.{◌≡◌, ℕ, ◌≤◌, length, Ok, Some, None, IfSome};
 ghost use Rattle.flow_base.specs.Machines.{Leads};
 ghost use Rattle.flow_base.specs.Nodes.{behaviour_of, node_state};
 ghost use Rattle.flow_base.specs.Visits.{IsWired, Went};
 ghost use Rattle.flow_base.specs.declared.node.Phase.TheVariants.{Working};
 ghost use Rattle.flow_messages.specs.Ends.{SameEnds};
 ghost use Rattle.flow_messages.specs.Signals.{signal_of};
-ghost use Rattle.snesl_operators.specs.Operators.{unary_operand};
+ghost use Rattle.snesl_operators.specs.Operators.{unary_operand, unary_value};
+ghost use Rattle.snesl_operators.specs.declared.scalar.Scalar.TheVariants.{Int};
 ghost use Rattle.flow_scalar.specs.Operands.{on_operand};
 ghost use Rattle.flow_scalar.specs.UnaryMachine.{unary_next, unary_machine, unary_view, IntsAt, FlagsAt};
 
-use crate::operand::operand_of;
+use crate::operand::{narrow_of, operand_of};
 use flow_base::{Ask, BLOCK, SHORT_BLOCK, Stop, Worker, put_in_space, take_front};
 use flow_folds::{item_of, kind_of};
 use flow_messages::{Ends, Item, Kind, Msg};
@@ -30,6 +31,14 @@ pub struct Unary {
     operator: UnaryOperator,
     // The value that is to be written.
     value: Option<Scalar>,
+}
+
+// The integer at an integer, where there is one of 64 bits.
+#[inline(always)]
+fn int_at(operator: UnaryOperator, dialect: Dialect, operand: i64) -> Option<i64>
+    ensures { IfSome result (λ v. unary_value dialect operator (Int operand) ≡ Ok (Int v)) }
+{
+    narrow_of(operator.apply(dialect, Scalar::Int(operand as i128)))
 }
 
 impl Unary {
@@ -65,7 +74,7 @@ impl Unary {
 
     // The integers at the first of these operands, as many as there is room for and as do not fault.
     #[inline(always)]
-    fn ints_of(&self, operands: &[i128], room: usize, values: &mut [i128]) -> usize
+    fn ints_of(&self, operands: &[i64], room: usize, values: &mut [i64]) -> usize
         ensures room { result ≤ room }
         ensures operands { result ≤ length operands.now }
         ensures block { result ≤ length values.new }
@@ -73,8 +82,7 @@ impl Unary {
     {
         let whole = operands.len().min(room).min(values.len());
         for at in 0..whole {
-            let operand = Scalar::Int(operands[at]);
-            let Ok(Scalar::Int(value)) = self.operator.apply(self.dialect, operand) else {
+            let Some(value) = int_at(self.operator, self.dialect, operands[at]) else {
                 return at;
             };
             values[at] = value;
@@ -109,7 +117,7 @@ impl Unary {
         outputs: &[usize],
         ends: &mut E,
         most: usize,
-        values: &mut [i128],
+        values: &mut [i64],
     ) -> usize
         requires start { self.now.value ≡ None }
         requires wired { IsWired inputs.now outputs.now 1 1 (E.view ends.old) }

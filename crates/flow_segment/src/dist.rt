@@ -1,7 +1,8 @@
 // An item for each element of a segment.
 
-ghost use Rattle.std.specs.Prelude.{◌≡◌, ◌*◌, ◌<◌, ◌≤◌, ℕ, true, false, [], ◌∷◌, get_or, length, pos, replicate, IfNone, IfSome};
-ghost use Rattle.flow_messages.specs.Cells.{cell_of, is_of};
+ghost use Rattle.std.specs.Prelude.{◌≡◌, ◌*◌, ◌<◌, ◌≤◌, ℕ, ℤ, FitsSigned, true, false, [], ◌∷◌, get_or, length, pos, replicate, IfNone, IfSome};
+ghost use Rattle.std.specs.Int.{w64};
+ghost use Rattle.flow_messages.specs.Cells.{cell_of, int, is_of};
 ghost use Rattle.flow_messages.specs.Ends.{SameEnds, PutAll, TakenAll};
 ghost use Rattle.flow_messages.specs.Signals.{carry};
 ghost use Rattle.flow_messages.specs.declared.message.Kind.TheVariants.{Vec as VecKind};
@@ -42,7 +43,7 @@ const FALSES: [bool; BLOCK] = [false; BLOCK];
 
 // Puts the integer in each place.
 #[inline(always)]
-fn fill(places: &mut [i128], value: i128)
+fn fill(places: &mut [i64], value: i64)
     ensures length { length places.new ≡ length places.old }
     ensures filled { (k : ℕ) → k < length places.old → get_or places.new k (pos 0) ≡ value }
 {
@@ -76,10 +77,24 @@ fn ends_at(flags: &[bool], place: usize) -> bool
     place < flags.len() && flags[place]
 }
 
-// Puts so many copies of an item that is no vector.
+// Whether copies of the item can be put in a block: it is no vector, and no integer of more than 64 bits.
 #[inline(always)]
-fn put_copies<E: Ends>(item: &Item, to: usize, count: usize, ends: &mut E, block: &mut [i128])
+fn fits_a_block(item: &Item) -> bool
+    ensures scalar { result ≡ true → is_of VecKind (cell_of item.now) ≡ false }
+    ensures narrow { result ≡ true → (n : ℤ) → cell_of item.now ≡ int n → FitsSigned w64 n }
+{
+    match item {
+        Item::Int(value) => i64::try_from(*value).is_ok(),
+        Item::Unit | Item::Bool(_) => true,
+        Item::Vec(_) => false,
+    }
+}
+
+// Puts so many copies of an item that fits a block.
+#[inline(always)]
+fn put_copies<E: Ends>(item: &Item, to: usize, count: usize, ends: &mut E, block: &mut [i64])
     requires scalar { is_of VecKind (cell_of item.now) ≡ false }
+    requires narrow { (n : ℤ) → cell_of item.now ≡ int n → FitsSigned w64 n }
     requires block { count ≤ 64 }
     requires lent { count ≤ length block.old }
     requires writes { (E.view ends.old).writes to ≡ true }
@@ -99,7 +114,10 @@ fn put_copies<E: Ends>(item: &Item, to: usize, count: usize, ends: &mut E, block
         }
         Item::Int(value) => {
             let copies = &mut block[..count];
-            fill(copies, *value);
+            match i64::try_from(*value) {
+                Ok(narrow) => fill(copies, narrow),
+                Err(_) => unreachable!(),
+            }
             ends.put_ints(to, copies);
         }
         Item::Vec(_) => unreachable!(),
@@ -121,7 +139,7 @@ fn take_shown<E: Ends>(kind: Kind, from: usize, ends: &mut E) -> Option<Item>
             let [first, ..] = ends.ints(from) else {
                 return None;
             };
-            Item::Int(*first)
+            Item::Int(*first as i128)
         }
         Kind::Bool => {
             let [first, ..] = ends.flags(from) else {
@@ -186,7 +204,7 @@ impl Dist {
         outputs: &[usize],
         ends: &mut E,
         most: usize,
-        block: &mut [i128],
+        block: &mut [i64],
     ) -> usize
         requires idle { self.old.copies ≡ false }
         requires some { 0 < most }
@@ -203,7 +221,8 @@ impl Dist {
             return self.hold_next(inputs, outputs, ends);
         };
         let (flags, to) = (inputs[1], outputs[0]);
-        if Kind::Vec.fits(item) {
+        // Other copies are left to single steps.
+        if !fits_a_block(item) {
             return 0;
         }
         let room = ends.space(to).min(BLOCK).min(block.len()).min(most / 2);
@@ -232,7 +251,7 @@ impl Dist {
         outputs: &[usize],
         ends: &mut E,
         most: usize,
-        block: &mut [i128],
+        block: &mut [i64],
     ) -> usize
         requires idle { self.old.copies ≡ false }
         requires wired { IsWired inputs.now outputs.now 2 1 (E.view ends.old) }

@@ -88,7 +88,7 @@ impl Pack {
         outputs: &[usize],
         ends: &mut E,
         most: usize,
-        block: &mut [i128],
+        block: &mut [i64],
     ) -> usize
         requires start { self.now.pair ≡ StartState }
         requires apart { edge_of inputs.now 0 ≢ edge_of inputs.now 1 }
@@ -152,7 +152,7 @@ impl Pack {
         outputs: &[usize],
         ends: &mut E,
         most: usize,
-        block: &mut [i128],
+        block: &mut [i64],
     ) -> usize
         requires start { self.now.pair ≡ StartState }
         requires apart { edge_of inputs.now 0 ≢ edge_of inputs.now 1 }

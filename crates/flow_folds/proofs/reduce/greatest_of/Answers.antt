@@ -1,5 +1,7 @@
 use Rattle.std.proofs.Common.{◌≡◌, ◌+◌, ◌++◌, [], ◌∷◌, Some, take, get_or, pos, sym, ◌∙◌, ap, rules, to_z, of_z}
-use Rattle.std.specs.Int.{w128}
+use Rattle.std.specs.Int.{w64, w128}
+use mir.Val.{SFits}
+use Rattle.flow_messages.proofs.Widened.{widened}
 use Rattle.std.specs.Prelude.{Ok, int_lt, if◌then◌else◌}
 use Rattle.std.proofs.lemmas.List.{take_more}
 use Rattle.snesl_operators.specs.Reductions.{reduced_more}
@@ -15,7 +17,8 @@ loop-place-preserved c = λ dialect.
     let place = c.loop-place.place in
     let x = get_or xs place (pos 0) in
     let block : take (place + 1) xs ≡ take place xs ++ x ∷ [] = take_more xs place (pos 0) c.loop-place-test.true in
-    let back : to_z w128 (of_z w128 x) ≡ x = search rules in
+    let fits : SFits w64 x = search rules in
+    let back : to_z w128 (of_z w128 (to_z w64 (of_z w64 x))) ≡ x = widened x fits in
     let before = to_z w128 (of_z w128 c.args.before) in
     let held = to_z w128 c.loop-place.greatest-bits in
     let greatest = c.greater-greatest.result in

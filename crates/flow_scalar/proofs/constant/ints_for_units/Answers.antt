@@ -1,5 +1,5 @@
 use Rattle.std.proofs.Common.{◌≡◌, ◌<◌, ◌≤◌, length, take, replicate, to_z, of_z, sym, ◌∙◌, ap, subst, arith, rules}
-use mir.Syntax.{w128}
+use mir.Syntax.{w64}
 use Rattle.snesl_operators.specs.declared.scalar.Scalar.TheVariants.{Int}
 use Rattle.flow_messages.specs.Ends.{PutAll}
 use Rattle.flow_messages.specs.Blocks.{units_said, ints_said}
@@ -17,7 +17,7 @@ rounds-init g c =
       same = g.met.E.Ends.same_refl c.args.ends.now;
       ends = same_ends_refl a;
       within = omega arith;
-      written = written_none (Int (to_z w128 (of_z w128 c.args.number))) c.args.from c.args.to a;
+      written = written_none (Int (to_z w64 (of_z w64 c.args.number))) c.args.from c.args.to a;
     }
 
 -- it only looked for room at last
@@ -25,16 +25,16 @@ pub returns-then-count-eq0-clause-written : goal.returns-then-count-eq0-clause-w
 returns-then-count-eq0-clause-written g c =
     let view = g.E.Ends.view in
     let number = c.args.number in
-    let back : to_z w128 (of_z w128 number) ≡ number = search rules in
+    let back : to_z w64 (of_z w64 number) ≡ number = search rules in
     let a = view c.args.ends.now in
     let u = view c.space-room.new.self in
-    subst (λ n. WrittenFor (Int n) c.args.from c.args.to a u c.rounds.made) back (written_looked (Int (to_z w128 (of_z w128 number))) c.args.from c.args.to a (view c.rounds.ends) u c.rounds.made c.rounds.invariant.written c.space-room.ensures.looked)
+    subst (λ n. WrittenFor (Int n) c.args.from c.args.to a u c.rounds.made) back (written_looked (Int (to_z w64 (of_z w64 number))) c.args.from c.args.to a (view c.rounds.ends) u c.rounds.made c.rounds.invariant.written c.space-room.ensures.looked)
 
 pub rounds-preserved : goal.rounds-preserved
 rounds-preserved g c =
     let view = g.E.Ends.view in
     let number = c.args.number in
-    let k = Int (to_z w128 (of_z w128 number)) in
+    let k = Int (to_z w64 (of_z w64 number)) in
     let from = c.args.from in
     let to = c.args.to in
     let a = view c.args.ends.now in
@@ -50,7 +50,7 @@ rounds-preserved g c =
     let block : count ≤ many = omega (arith, c.min-count.ensures) in
     let some : 0 < count = omega (arith, c.if-count-eq0.false) in
     let taken = skipped count (units_said c.units.result) (units_said count) u from x c.units.ensures (omega (arith, shown, length_units c.units.result)) (take_units count c.units.result shown) c.skip.ensures.taken in
-    let kept = to_z w128 (of_z w128 number) in
+    let kept = to_z w64 (of_z w64 number) in
     let back : kept ≡ number = search rules in
     let all = subst (λ l. PutAll x to (ints_said (take count l)) w) (c.requires.copies ∙ ap (replicate many) (sym back)) c.put_ints.ensures.put in
     let put : PutAll x to (copies (cell_of_scalar k) count) w = subst (λ l. PutAll x to l w) (block_ints kept count many block) all in

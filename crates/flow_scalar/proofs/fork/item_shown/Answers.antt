@@ -1,6 +1,8 @@
-use Rattle.std.proofs.Common.{◌≡◌, ◌<◌, ◌∷◌, [], pos, slice_index_or, length, to_z, of_z, sym, subst, rules}
+use Rattle.std.proofs.Common.{◌≡◌, ◌<◌, ◌∷◌, [], pos, slice_index_or, length, sym, subst, rules}
 use mathlib.Core.List.{IsPrefix}
-use mir.Syntax.{w128}
+use mir.Val.{SFits}
+use mir.Syntax.{w64}
+use Rattle.flow_messages.proofs.Widened.{widened}
 use Rattle.flow_messages.specs.Cells.{int}
 use Rattle.flow_messages.specs.Signals.{carry}
 use Rattle.flow_scalar.proofs.ForkBlocks.{first_flag, first_int}
@@ -16,5 +18,5 @@ returns-else-is_empty-2-clause-first g c =
     let ns = c.ints-ints.result.now in
     let coming = (g.E.Ends.view c.args.ends.now).coming c.args.edge in
     let n = slice_index_or ns 0 (pos 0) in
-    let back : to_z w128 (of_z w128 n) ≡ n = search rules in
-    subst (λ k. IsPrefix (carry (int k) ∷ []) coming) (sym back) (first_int ns coming c.ints-ints.ensures (let some : 0 < length ns = search rules in some))
+    let fits : SFits w64 n = search rules in
+    subst (λ k. IsPrefix (carry (int k) ∷ []) coming) (sym (widened n fits)) (first_int ns coming c.ints-ints.ensures (let some : 0 < length ns = search rules in some))

@@ -1,7 +1,9 @@
-use Rattle.std.proofs.Common.{◌≡◌, pos, ◌≤ℤ◌, true, false, [], ◌∷◌, take, get_or, sym, ◌∙◌, ap, subst, arith, rules, to_z, of_z}
-use Rattle.std.specs.Int.{w128}
+use Rattle.std.proofs.Common.{◌≡◌, ℤ, pos, ◌≤ℤ◌, true, false, [], ◌∷◌, take, get_or, sym, ◌∙◌, ap, subst, arith, rules, to_z, of_z}
+use Rattle.std.specs.Int.{w64, w128}
+use mir.Val.{SFits}
+use Rattle.flow_messages.proofs.Widened.{widened}
 use Rattle.std.specs.Prelude.{int_lt}
-use Rattle.std.proofs.lemmas.Int.{ints}
+use Rattle.std.proofs.lemmas.Int.{ints, to_z-of_z}
 use mathlib.Core.List.{IsPrefix}
 use Rattle.flow_messages.specs.Cells.{flag, int}
 use Rattle.flow_messages.specs.Ends.{TakenAll}
@@ -48,10 +50,13 @@ returns-clause-went g c = λ at.
     let w = view c.skip.new.self in
     let from = edge_of ins 0 in
     let first = get_or c.ints.result.now 0 (pos 0) in
-    let count = to_z w128 (of_z w128 first) in
-    let back : count ≡ first = search rules in
-    let natural : pos 0 ≤ℤ count = grind (arith, ints, c.if-count-lt0.false) in
+    let narrow = to_z w64 (of_z w64 first) in
+    let natural_narrow : pos 0 ≤ℤ narrow = grind (arith, ints, c.if-count-lt0.false) in
     let test : int_lt c.args.next c.args.end ≡ false = grind (arith, ints, c.requires.at_end) in
+    let fits : SFits w64 first = search rules in
+    let count = to_z w128 (of_z w128 narrow) in
+    let back : count ≡ first = widened first fits in
+    let natural : pos 0 ≤ℤ count = subst (λ (k : ℤ). pos 0 ≤ℤ k) (to_z-of_z w64 first fits ∙ sym back) natural_narrow in
     let still = subst (IsPrefix (ints_said c.ints.result.now)) (sym (c.space.ensures.looked.coming from)) c.ints.ensures in
     let seen = prefix_then (ints_said c.ints.result.now) (v.coming from) (u.coming from) still (coming_still v u (edge_of outs 0) from (carry (flag true) ∷ []) c.put_flags.ensures.put) in
     let one : take 1 (u.coming from) ≡ carry (int count) ∷ [] = first_shown c.ints.result.now (u.coming from) c.in-len1-up.len_at_least seen ∙ ap (λ k. carry (int k) ∷ []) (sym back) in

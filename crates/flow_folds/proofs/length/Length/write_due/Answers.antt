@@ -1,5 +1,7 @@
-use Rattle.std.proofs.Common.{◌≡◌, ◌<◌, [], ◌∷◌, length, sym, ap, subst, arith, rules, to_z, of_z}
-use Rattle.std.specs.Int.{w128}
+use Rattle.std.proofs.Common.{◌≡◌, ◌<◌, [], ◌∷◌, length, sym, ◌∙◌, ap, subst, arith, rules, to_z, of_z}
+use Rattle.std.specs.Int.{w64, w128}
+use Rattle.std.proofs.lemmas.Int.{to_z-of_z}
+use mir.Val.{SFits}
 use Rattle.snesl_data.specs.declared.dialect.Dialect.{Dialect}
 use Rattle.flow_messages.specs.Cells.{int}
 use Rattle.flow_messages.specs.Ends.{PutAll}
@@ -17,6 +19,9 @@ use Rattle.flow_folds.proofs.length.Length.write_due.Goals as goal
 
 pub returns-in_default-clause-went : goal.returns-in_default-clause-went
 returns-in_default-clause-went g c = λ ins at. went_none (behaviour_of length_machine) ins c.args.outputs.now (node_state (length_view c.args.self.now) Working at) (g.E.Ends.view c.args.ends.now)
+
+pub returns-in_default-try_from-clause-went : goal.returns-in_default-try_from-clause-went
+returns-in_default-try_from-clause-went g c = λ ins at. went_none (behaviour_of length_machine) ins c.args.outputs.now (node_state (length_view c.args.self.now) Working at) (g.E.Ends.view c.args.ends.now)
 
 pub returns-then-most-eq0-clause-went : goal.returns-then-most-eq0-clause-went
 returns-then-most-eq0-clause-went g c = λ ins at.
@@ -41,7 +46,11 @@ returns-clause-went g c = λ ins at.
     let w = view c.put_ints.new.self in
     let d = c.args.self.now.dialect in
     let number = c.in-Due.number in
-    let back : to_z w128 (of_z w128 number) ≡ number = search rules in
+    let fits : SFits w128 number = search rules in
+    let narrow = c.in-Ok.narrow in
+    let same : narrow ≡ number = c.in-Ok.ensures.1 ∙ to_z-of_z w128 number fits in
+    let narrow_fits : SFits w64 narrow = search rules in
+    let back : to_z w64 (of_z w64 narrow) ≡ number = to_z-of_z w64 narrow narrow_fits ∙ same in
     let there : 0 < length outs = omega (arith, c.requires.outputs) in
     let on : Count → NodeState (Dialect × Count) = λ q. node_state (d, q) Working at in
     let due = on (Due number) in

@@ -1,5 +1,7 @@
-use Rattle.std.proofs.Common.{◌≡◌, ◌<◌, [], ◌∷◌, length, get_or, true, false, sym, subst, arith, rules, to_z, of_z}
-use Rattle.std.specs.Int.{w128}
+use Rattle.std.proofs.Common.{◌≡◌, ◌<◌, [], ◌∷◌, length, get_or, true, false, sym, ◌∙◌, subst, arith, rules, to_z, of_z}
+use Rattle.std.specs.Int.{w64, w128}
+use Rattle.std.proofs.lemmas.Int.{to_z-of_z}
+use mir.Val.{SFits}
 use mathlib.Core.List.{IsPrefix}
 use Rattle.snesl_data.specs.declared.dialect.Dialect.{Dialect}
 use Rattle.snesl_operators.specs.declared.operator.Reduction.{Reduction}
@@ -19,6 +21,9 @@ use Rattle.flow_folds.proofs.reduce.Reduce.end_segment.Goals as goal
 
 pub returns-in_default-clause-stays : goal.returns-in_default-clause-stays
 returns-in_default-clause-stays g c = λ is at. went_none (behaviour_of reduce_machine) c.args.inputs.now c.args.outputs.now (stage_on (c.args.self.now.dialect, c.args.self.now.reduction) at c.args.stage) (g.E.Ends.view c.args.ends.now)
+
+pub returns-in_default-try_from-clause-stays : goal.returns-in_default-try_from-clause-stays
+returns-in_default-try_from-clause-stays g c = λ is at. went_none (behaviour_of reduce_machine) c.args.inputs.now c.args.outputs.now (stage_on (c.args.self.now.dialect, c.args.self.now.reduction) at c.args.stage) (g.E.Ends.view c.args.ends.now)
 
 pub returns-then-not-begins_with_end-clause-stays : goal.returns-then-not-begins_with_end-clause-stays
 returns-then-not-begins_with_end-clause-stays g c = λ is at.
@@ -48,7 +53,11 @@ returns-clause-ended g c = λ is at.
     let s = stage_on p at c.args.stage in
     let from = edge_of ins 0 in
     let value = c.in-Some.value in
-    let back : to_z w128 (of_z w128 value) ≡ value = search rules in
+    let fits : SFits w128 value = search rules in
+    let narrow = c.in-Ok.narrow in
+    let same : narrow ≡ value = c.in-Ok.ensures.1 ∙ to_z-of_z w128 value fits in
+    let narrow_fits : SFits w64 narrow = search rules in
+    let back : to_z w64 (of_z w64 narrow) ≡ value = to_z-of_z w64 narrow narrow_fits ∙ same in
     let bs = c.flags.result.now in
     let there : 0 < length outs = omega (arith, c.requires.wired.each_output) in
     let looked = went_looked b ins outs (went_none b ins outs s a) 0 v there c.space.ensures.looked in

@@ -1,11 +1,13 @@
-use Rattle.std.proofs.Common.{◌≡◌, ◌+◌, ◌<◌, ◌≤◌, ℤ, pos, [], ◌∷◌, ◌++◌, length, take, get_or, to_z, of_z, refl, sym, ◌∙◌, ap, subst, arith, rules}
-use mir.Syntax.{w128}
+use Rattle.std.proofs.Common.{◌≡◌, ◌+◌, ◌<◌, ◌≤◌, ℤ, pos, [], ◌∷◌, ◌++◌, length, take, get_or, refl, sym, ◌∙◌, ap, subst, arith, rules}
+use mir.Val.{SFits}
+use mir.Syntax.{w64}
 use Rattle.std.proofs.lemmas.List.{length-map, length-take-le, take_all}
 use Rattle.flow_messages.specs.Cells.{int}
 use Rattle.flow_messages.specs.Signals.{carry}
 use Rattle.flow_messages.specs.Ends.{PutAll}
 use Rattle.flow_messages.specs.Blocks.{ints_said}
 use Rattle.flow_messages.proofs.Blocks.{put_none, put_next, block_next, items_go_on}
+use Rattle.flow_messages.proofs.Widened.{widened}
 use Rattle.flow_messages.proofs.ends.Ends.put_ints.Goals as goal
 
 pub loop-int-init : goal.loop-int-init
@@ -27,10 +29,10 @@ loop-int-preserved g c =
     let no_end = items_go_on (λ n. carry (int n)) (λ n. refl) (take i ns) in
     let next = put_next a v w c.args.edge ms _ _ c.put.result c.loop-int.invariant.put no_end short c.put.ensures.ok c.put.ensures.refused c.put.ensures.closed c.put.ensures.succeeds in
     let x = get_or ns i (pos 0) in
-    let back : to_z w128 (of_z w128 x) ≡ x = search rules in
+    let fits : SFits w64 x = search rules in
     record {
       same = g.met.Self.Ends.same_trans c.args.self.now c.loop-int.self c.put.new.self c.loop-int.invariant.same c.put.ensures.same;
-      put = subst (λ l. PutAll a c.args.edge l w) (ap (λ (y : ℤ). ms ++ carry (int y) ∷ []) back ∙ sym (block_next (λ n. carry (int n)) ns i (pos 0) c.loop-int-test.true)) next;
+      put = subst (λ l. PutAll a c.args.edge l w) (ap (λ (y : ℤ). ms ++ carry (int y) ∷ []) (widened x fits) ∙ sym (block_next (λ n. carry (int n)) ns i (pos 0) c.loop-int-test.true)) next;
     }
 
 pub returns : goal.returns

@@ -1,13 +1,13 @@
 use Rattle.std.proofs.Common.{◌≡◌, ◌-◌, ℤ, List, [], ◌∷◌, ap, sym, length, ◌∙◌, rules, arith}
-use Rattle.std.proofs.lemmas.Int.{to_z-of_z}
 use mir.Val.{SFits, to_z, of_z}
-use mir.Syntax.{w128}
+use mir.Syntax.{w64, w128}
 use Rattle.flow_messages.specs.declared.message.Msg.{Msg}
 use Rattle.flow_messages.specs.declared.message.Msg.TheVariants.{Item as ItemMsg}
 use Rattle.flow_messages.specs.declared.message.Item.TheVariants.{Int as IntItem}
 use Rattle.flow_messages.specs.Runs.{run_items}
 use Rattle.flow_messages.specs.Contents.{content}
 use Rattle.flow_messages.proofs.Contents.{length-content, empty_of, only_queue, take_unit, take_flag, take_int, at_none}
+use Rattle.flow_messages.proofs.Widened.{widened}
 use Rattle.flow_messages.proofs.store.Store.pop.Goals as goal
 
 pub overflow_sub-self-then-self-gt0 : goal.overflow_sub-self-then-self-gt0
@@ -92,12 +92,12 @@ returns-in-Some-take-clause-some c =
     let queue = s.queue.items in
     let left = run_items c.take-2.new.self in
     let n = c.in-Some-take.number in
-    let fits : SFits w128 n = search rules in
+    let fits : SFits w64 n = search rules in
     let same : content s.units flags left queue ≡ content s.units (run_items c.take.new.self) left queue =
     ap (λ l. content s.units l left queue) (c.in_default.ensures.none.0 ∙ sym c.in_default.ensures.none.1) in
     take_int s.units flags ints left n queue (omega arith) c.in_default.ensures.none.0 c.in-Some-take.ensures.some
-    ∙ ap (λ (k : ℤ). ItemMsg (IntItem k) ∷ content s.units flags left queue) (sym (to_z-of_z w128 n fits))
-    ∙ ap (λ l. ItemMsg (IntItem (to_z w128 (of_z w128 n))) ∷ l) same
+    ∙ ap (λ (k : ℤ). ItemMsg (IntItem k) ∷ content s.units flags left queue) (sym (widened n fits))
+    ∙ ap (λ l. ItemMsg (IntItem (to_z w128 (of_z w128 (to_z w64 (of_z w64 n))))) ∷ l) same
 
 pub returns-in_err-message-clause-none : goal.returns-in_err-message-clause-none
 returns-in_err-message-clause-none c =

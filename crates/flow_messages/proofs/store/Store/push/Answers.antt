@@ -2,7 +2,7 @@ use Rattle.std.proofs.Common.{◌≡◌, ◌+◌, ◌<◌, ℤ, [], ◌∷◌, �
 use Rattle.std.specs.VecDeque.{deque_len}
 use Rattle.std.proofs.lemmas.Int.{to_z-of_z}
 use mir.Val.{SFits}
-use mir.Syntax.{w128}
+use mir.Syntax.{w64, w128}
 use Rattle.flow_messages.specs.declared.message.Msg.{Msg}
 use Rattle.flow_messages.specs.declared.message.Msg.TheVariants.{Item as ItemMsg}
 use Rattle.flow_messages.specs.declared.message.Item.TheVariants.{Unit as UnitItem, Bool as BoolItem, Int as IntItem}
@@ -28,19 +28,23 @@ invariant_of-self-clause-counts c =
     let queue = s.queue.items in
     omega (arith, length-content s.units flags ints queue, length-content s.units flags (run_items c.put.new.self) queue, simp length-append at (ap length c.put.ensures.items))
 
-pub returns-in-Item-Int-clause-content : goal.returns-in-Item-Int-clause-content
-returns-in-Item-Int-clause-content c =
+pub returns-in-Ok-clause-content : goal.returns-in-Ok-clause-content
+returns-in-Ok-clause-content c =
     let s = c.args.self.now in
     let flags = run_items s.flags in
     let ints = run_items s.ints in
     let queue = s.queue.items in
     let none : deque_len s.queue ≡ 0 = search rules in
-    let n = c.in-Item-Int.number in
-    let is : c.args.message ≡ ItemMsg (IntItem n) = search rules in
-    let fits : SFits w128 n = search rules in
-    let put : run_items c.put.new.self ≡ ints ++ n ∷ [] = c.put.ensures.items ∙ ap (λ (k : ℤ). ints ++ k ∷ []) (to_z-of_z w128 n fits) in
+    let m = c.in-Item-Int.number in
+    let n = c.in-Ok.narrow in
+    let fits : SFits w128 m = search rules in
+    let is_m : n ≡ m = c.in-Ok.ensures.1 ∙ to_z-of_z w128 m fits in
+    let narrow : SFits w64 n = search rules in
+    let put : run_items c.put.new.self ≡ ints ++ n ∷ [] = c.put.ensures.items ∙ ap (λ (k : ℤ). ints ++ k ∷ []) (to_z-of_z w64 n narrow) in
+    let is : c.args.message ≡ ItemMsg (IntItem m) = search rules in
     ap (λ l. content s.units flags l queue) put ∙ put_ints s.units flags ints (n ∷ []) queue (omega arith)
-    ∙ ap (λ (m : Msg). content s.units flags ints queue ++ m ∷ []) (sym is)
+    ∙ ap (λ (k : ℤ). content s.units flags ints queue ++ ItemMsg (IntItem k) ∷ []) is_m
+    ∙ ap (λ (x : Msg). content s.units flags ints queue ++ x ∷ []) (sym is)
 
 pub put-requires-in-Item-Bool : goal.put-requires-in-Item-Bool
 put-requires-in-Item-Bool c =

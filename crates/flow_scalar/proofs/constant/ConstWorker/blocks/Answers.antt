@@ -1,5 +1,7 @@
 use Rattle.std.proofs.Common.{◌≡◌, ◌<◌, Bool, false, length, to_z, of_z, refl, sym, ◌∙◌, ap, subst, arith, rules}
-use mir.Syntax.{w128}
+use Rattle.std.proofs.lemmas.Int.{to_z-of_z}
+use mir.Val.{SFits}
+use mir.Syntax.{w64, w128}
 use Rattle.snesl_operators.specs.declared.scalar.Scalar.{Scalar}
 use Rattle.snesl_operators.specs.declared.scalar.Scalar.TheVariants.{Int, Bool as Truth}
 use Rattle.flow_base.specs.Nodes.{NodeState, behaviour_of, node_state}
@@ -13,35 +15,46 @@ use Rattle.flow_scalar.proofs.constant.ConstWorker.blocks.Goals as goal
 pub returns-then-self-clause-went : goal.returns-then-self-clause-went
 returns-then-self-clause-went g c = λ at. went_none (behaviour_of const_machine) c.args.inputs.now c.args.outputs.now (node_state (const_view c.args.self.now) Working at) (g.E.Ends.view c.args.ends.now)
 
-pub returns-in-Int-clause-went : goal.returns-in-Int-clause-went
-returns-in-Int-clause-went g c =
+pub returns-in-Ok-clause-went : goal.returns-in-Ok-clause-went
+returns-in-Ok-clause-went g c =
     let ins = c.args.inputs.now in
     let outs = c.args.outputs.now in
     let view = g.E.Ends.view in
     let n = c.args.self.now in
     let number = c.in-Int.number in
-    let back : to_z w128 (of_z w128 number) ≡ number = search rules in
+    let fits : SFits w128 number = search rules in
+    let narrow = c.in-Ok.narrow in
+    let same : narrow ≡ number = c.in-Ok.ensures.1 ∙ to_z-of_z w128 number fits in
+    let narrow_fits : SFits w64 narrow = search rules in
+    let back : to_z w64 (of_z w64 narrow) ≡ number = to_z-of_z w64 narrow narrow_fits ∙ same in
     let reads : 0 < length ins = omega (arith, c.requires.wired.each_input) in
     let writes : 0 < length outs = omega (arith, c.requires.wired.each_output) in
     λ at.
     let on : Scalar → Bool → NodeState (Scalar × Bool) = λ k due. node_state (k, due) Working at in
-    let at_start : on (Int (to_z w128 (of_z w128 number))) false ≡ on n.scalar n.due = ap (λ k. on (Int k) false) back ∙ ap (λ k. on k false) (sym c.in-Int.is) ∙ ap (on n.scalar) (sym c.if-self.false) in
+    let at_start : on (Int (to_z w64 (of_z w64 narrow))) false ≡ on n.scalar n.due = ap (λ k. on (Int k) false) back ∙ ap (λ k. on k false) (sym c.in-Int.is) ∙ ap (on n.scalar) (sym c.if-self.false) in
     subst (λ s. Went ins outs (behaviour_of const_machine) s (view c.args.ends.now) s (view c.ints_for_units.new.ends) c.ints_for_units.result) at_start (c.ints_for_units.ensures.written ins outs reads refl writes refl at)
 
-pub returns-in-Int-2-clause-went : goal.returns-in-Int-2-clause-went
-returns-in-Int-2-clause-went g c =
+pub returns-in-Ok-2-clause-went : goal.returns-in-Ok-2-clause-went
+returns-in-Ok-2-clause-went g c =
     let ins = c.args.inputs.now in
     let outs = c.args.outputs.now in
     let view = g.E.Ends.view in
     let n = c.args.self.now in
-    let number = c.in-Int-2.number in
-    let back : to_z w128 (of_z w128 number) ≡ number = search rules in
+    let number = c.in-Int.number in
+    let fits : SFits w128 number = search rules in
+    let narrow = c.in-Ok.narrow in
+    let same : narrow ≡ number = c.in-Ok.ensures.1 ∙ to_z-of_z w128 number fits in
+    let narrow_fits : SFits w64 narrow = search rules in
+    let back : to_z w64 (of_z w64 narrow) ≡ number = to_z-of_z w64 narrow narrow_fits ∙ same in
     let reads : 0 < length ins = omega (arith, c.requires.wired.each_input) in
     let writes : 0 < length outs = omega (arith, c.requires.wired.each_output) in
     λ at.
     let on : Scalar → Bool → NodeState (Scalar × Bool) = λ k due. node_state (k, due) Working at in
-    let at_start : on (Int (to_z w128 (of_z w128 number))) false ≡ on n.scalar n.due = ap (λ k. on (Int k) false) back ∙ ap (λ k. on k false) (sym c.in-Int-2.is) ∙ ap (on n.scalar) (sym c.if-self.false) in
-    subst (λ s. Went ins outs (behaviour_of const_machine) s (view c.args.ends.now) s (view c.ints_for_units-in-Int-2.new.ends) c.ints_for_units-in-Int-2.result) at_start (c.ints_for_units-in-Int-2.ensures.written ins outs reads refl writes refl at)
+    let at_start : on (Int (to_z w64 (of_z w64 narrow))) false ≡ on n.scalar n.due = ap (λ k. on (Int k) false) back ∙ ap (λ k. on k false) (sym c.in-Int.is) ∙ ap (on n.scalar) (sym c.if-self.false) in
+    subst (λ s. Went ins outs (behaviour_of const_machine) s (view c.args.ends.now) s (view c.ints_for_units-in-Ok-2.new.ends) c.ints_for_units-in-Ok-2.result) at_start (c.ints_for_units-in-Ok-2.ensures.written ins outs reads refl writes refl at)
+
+pub returns-in-Err-clause-went : goal.returns-in-Err-clause-went
+returns-in-Err-clause-went g c = λ at. went_none (behaviour_of const_machine) c.args.inputs.now c.args.outputs.now (node_state (const_view c.args.self.now) Working at) (g.E.Ends.view c.args.ends.now)
 
 pub returns-in-Bool-clause-went : goal.returns-in-Bool-clause-went
 returns-in-Bool-clause-went g c =
