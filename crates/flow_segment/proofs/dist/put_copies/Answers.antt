@@ -1,5 +1,7 @@
 use Rattle.std.proofs.Common.{◌≡◌, ℕ, ◌<◌, true, false, pos, length, take, get_or, to_z, of_z, sym, ◌∙◌, ap, subst, arith, rules}
-use Rattle.std.specs.Int.{w128}
+use Rattle.std.specs.Int.{w64, w128}
+use Rattle.std.proofs.lemmas.Int.{to_z-of_z}
+use mir.Val.{SFits}
 use Rattle.std.specs.Prelude.{replicate}
 use Rattle.std.proofs.lemmas.List.{take-replicate, take_all, length-take-le}
 use Rattle.flow_messages.specs.Cells.{cell_of, flag}
@@ -21,12 +23,15 @@ returns-else-truth-clause-put g c =
     let says : flags_said (take n (replicate 64 false)) ≡ replicate n (carry (cell_of c.args.item.now)) = ap flags_said (take-replicate n 64 false c.requires.block) ∙ flags_same n false ∙ ap (λ b. replicate n (carry (flag b))) (sym c.if-truth.false) ∙ ap (λ i. replicate n (carry (cell_of i))) (sym c.in-Bool.is) in
     subst (λ ms. PutAll (g.E.Ends.view c.args.ends.now) c.args.to ms (g.E.Ends.view c.put_flags-else-truth.new.self)) says c.put_flags-else-truth.ensures.put
 
-pub returns-in-Int-clause-put : goal.returns-in-Int-clause-put
-returns-in-Int-clause-put g c =
+pub returns-in-Ok-clause-put : goal.returns-in-Ok-clause-put
+returns-in-Ok-clause-put g c =
     let n = c.args.count in
     let v = c.in-Int.value in
     let xs = c.fill.new.places in
-    let back : to_z w128 (of_z w128 v) ≡ v = search rules in
+    let fits : SFits w128 v = search rules in
+    let narrow = c.in-Ok.narrow in
+    let narrow_fits : SFits w64 narrow = search rules in
+    let back : to_z w64 (of_z w64 narrow) ≡ v = to_z-of_z w64 narrow narrow_fits ∙ c.in-Ok.ensures.1 ∙ to_z-of_z w128 v fits in
     let part : length (take n c.args.block.now) ≡ n = length-take-le n c.args.block.now c.requires.lent in
     let long : length xs ≡ n = c.fill.ensures.length ∙ part in
     let filled : (k : ℕ) → k < n → get_or xs k (pos 0) ≡ v = λ k h. c.fill.ensures.filled k (omega arith) ∙ back in

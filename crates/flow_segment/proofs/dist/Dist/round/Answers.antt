@@ -13,8 +13,8 @@ use Rattle.flow_segment.proofs.DistBlocks.{held_at, same_block, segment_block, c
 use Rattle.flow_segment.proofs.dist.Dist.round.Goals as goal
 
 -- it made no step
-pub returns-then-fits-clause-went : goal.returns-then-fits-clause-went
-returns-then-fits-clause-went g c = λ at. went_none (behaviour_of dist_machine) c.args.inputs.now c.args.outputs.now (node_state (dist_view c.args.self.now) Working at) (g.E.Ends.view c.args.ends.now)
+pub returns-then-not-fits_a_block-clause-went : goal.returns-then-not-fits_a_block-clause-went
+returns-then-not-fits_a_block-clause-went g c = λ at. went_none (behaviour_of dist_machine) c.args.inputs.now c.args.outputs.now (node_state (dist_view c.args.self.now) Working at) (g.E.Ends.view c.args.ends.now)
 
 -- it only looked for room
 pub returns-then-count-eq0-clause-went : goal.returns-then-count-eq0-clause-went
