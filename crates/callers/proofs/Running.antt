@@ -11,13 +11,13 @@ use Rattle.snesl_run.specs.Outcome.TheVariants.{Value as Ended, Fault as Failed,
 use Rattle.snesl_run.specs.Refusal.{Refusal}
 use Rattle.snesl_run.specs.Refusal.TheVariants.{BadConfig, NoMemory, NoThread, Output, Short}
 use Rattle.snesl_run.specs.Runs.{outcome_of, value_line, IsReported, WroteFor, HasWritten, HasError}
-use Rattle.snesl_run.specs.Streams.{Taken, taken}
+use Rattle.snesl_run.specs.Streams.{WriteEffect, write_effect}
 use Rattle.snesl_run.specs.declared.report.Report.{Report}
 use Rattle.callers.specs.Run.{IsLineOf, IsRefusedFor}
 
 -- what a writer took that is a vector
-abbrev pub taken_by : Counted (Vec ℕ Global) → Counted (Vec ℕ Global) → Taken
-taken_by before after = taken (λ (bytes : Vec ℕ Global). Some bytes.items) before after
+abbrev pub taken_by : Counted (Vec ℕ Global) → Counted (Vec ℕ Global) → WriteEffect
+taken_by before after = write_effect (λ (bytes : Vec ℕ Global). Some bytes.items) before after
 
 module _ (program input : List ℕ) (config : Config) where
   -- the line, where all nodes have ended
@@ -28,7 +28,7 @@ module _ (program input : List ℕ) (config : Config) where
       (h.0, h.1, ap (λ (bytes : Vec ℕ Global). bytes.items) is ∙ h.2.0 ∙ ap (λ all. all ++ value_line h.0) empty)
 
   -- no line, where a fault is named
-  pub fault_named : (report : Report) (out : Taken) (f : Fault) → outcome_of report ≡ Failed f → HasWritten program input out report → IsLineOf program input None
+  pub fault_named : (report : Report) (out : WriteEffect) (f : Fault) → outcome_of report ≡ Failed f → HasWritten program input out report → IsLineOf program input None
   fault_named report out f is wrote = inl (subst (WroteFor program input out) is wrote).0
 
   -- no line, where it has stalled
@@ -37,7 +37,7 @@ module _ (program input : List ℕ) (config : Config) where
   has_stalled report edge capacity reported is =
       inr (record { config = config; report = report; edge = edge; capacity_is = capacity; reported = reported; stalled = is })
 
-  module _ (lawful : IsLawful config) (serial : config.drive ≡ Serial) (out : Taken) where
+  module _ (lawful : IsLawful config) (serial : config.drive ≡ Serial) (out : WriteEffect) where
     -- a refusal of the run is that of the program
     pub refused_for : (refusal : Refusal) → HasError program input config out refusal → IsRefusedFor program input refusal
     refused_for NoMemory error = tt

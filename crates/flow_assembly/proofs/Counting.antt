@@ -9,7 +9,7 @@ use Rattle.flow_graph.specs.Limits.{most_edges}
 use Rattle.flow_plans.specs.declared.operation.Step.{Step as StepData}
 use Rattle.flow_plans.specs.Layouts.{times, uses}
 use Rattle.flow_plans.specs.Views.{step_of, steps_of}
-use Rattle.flow_assembly.specs.declared.plan.Plan.{Plan}
+use Rattle.flow_assembly.specs.declared.counted_steps.CountedSteps.{CountedSteps}
 use Rattle.flow_assembly.specs.Ready.{plan_of, IsTooBig}
 use Rattle.flow_assembly.proofs.Limiting.{too_many_uses}
 use Rattle.flow_assembly.proofs.Stepping.{read_one, read_others}
@@ -42,7 +42,7 @@ drop_map f [] (suc i) = refl
 drop_map f (x ∷ xs) (suc i) = drop_map f xs i
 
 -- the step of this number, and those behind it
-pub step_now : (plan : Plan) (i : ℕ) (step : StepData) → i < length plan.steps.items → step ≡ get_or plan.steps.items i step → drop i (plan_of plan) ≡ step_of plan.dialect step ∷ drop (i + 1) (plan_of plan)
+pub step_now : (plan : CountedSteps) (i : ℕ) (step : StepData) → i < length plan.steps.items → step ≡ get_or plan.steps.items i step → drop i (plan_of plan) ≡ step_of plan.dialect step ∷ drop (i + 1) (plan_of plan)
 step_now plan i step lt is =
     drop_map (step_of plan.dialect) plan.steps.items i ∙ steps_now plan.dialect plan.steps.items i step lt is
     ∙ ap (λ l. step_of plan.dialect step ∷ l) (sym (drop_map (step_of plan.dialect) plan.steps.items (i + 1)))

@@ -17,7 +17,7 @@ use Rattle.flow_plans.specs.Views.{step_of}
 use Rattle.flow_plans.specs.Layouts.{Placed, uses, layout, layout_from, places, places_from, edges_needed, edges_between, Performs, IsNetworkOf}
 use Rattle.flow_assembly.specs.declared.network.Port.{Port}
 use Rattle.flow_assembly.specs.Openings.{AllOpen, OpeningsPerform}
-use Rattle.flow_assembly.specs.declared.plan.Plan.{Plan}
+use Rattle.flow_assembly.specs.declared.counted_steps.CountedSteps.{CountedSteps}
 use Rattle.flow_assembly.specs.Ready.{plan_of, IsBuiltTo}
 use Rattle.flow_assembly.proofs.Fitting.{FitsKinds, each_length, stands_at}
 use Rattle.flow_assembly.proofs.Joining.{finished}
@@ -55,7 +55,7 @@ empty_built plan supply found states edges one two three four =
     (subst (λ x. IsBuiltTo plan 0 [] [] x edges) (sym three) (subst (λ x. IsBuiltTo plan 0 [] [] [] x) (sym four) (nothing_built plan))))
 
 -- behind its last step a plan has none
-pub plan_ended : (plan : Plan) → drop (length plan.steps.items) (plan_of plan) ≡ []
+pub plan_ended : (plan : CountedSteps) → drop (length plan.steps.items) (plan_of plan) ≡ []
 plan_ended plan = drop_of_length-le (plan_of plan) (omega (arith, length-map plan.steps.items (step_of plan.dialect)))
 
 module _ (plan : List Step) (n : ℕ) (supply : List Port) (found : List ℕ) (states : List ((t : NodeKind) × (member t).State)) (edges : List Edge)

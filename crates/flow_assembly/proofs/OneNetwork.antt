@@ -7,7 +7,7 @@ use Rattle.flow_messages.specs.Cells.{Cell}
 use Rattle.flow_messages.specs.declared.message.Kind.{Kind}
 use Rattle.flow_base.specs.Ranges.{AllOf}
 use Rattle.flow_scalar.specs.Streams.{Items}
-use Rattle.flow_scalar.specs.SourceBehaviour.{source_opened}
+use Rattle.flow_scalar.specs.SourceBehaviour.{source_opening}
 use Rattle.flow_graph.specs.Networks.{state_at}
 use Rattle.flow_nodes.specs.StreamNodes.{NodeKind, member, node_behaviour, a_source}
 use Rattle.flow_plans.specs.Plans.{Operation, source}
@@ -31,7 +31,7 @@ items_same a b kind cells =
     (λ q. ap (λ p. (let items : Items = record { kind = a.kind; cells = a.cells; all_of = p } in items)) (AllOf-prop a.kind a.cells a.all_of q))) b.all_of
 
 abbrev opened_source : Items → State
-opened_source items = (a_source, source_opened items)
+opened_source items = (a_source, source_opening items)
 
 -- the transducer of an operation opens in one state
 opens_once : (at : ℕ) (operation : Operation) (s t : State) → Opens at operation s → Opens at operation t → s ≡ t

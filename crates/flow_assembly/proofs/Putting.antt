@@ -17,7 +17,7 @@ use Rattle.flow_plans.specs.Layouts.{Placed, uses, behind, layout, stream_from, 
 use Rattle.flow_assembly.specs.declared.network.Port.{Port}
 use Rattle.flow_assembly.specs.Openings.{Opens, OpeningsPerform}
 use Rattle.flow_assembly.specs.Joined.{supplier, edge_from, port_after, IsJoinedTo}
-use Rattle.flow_assembly.specs.declared.plan.Plan.{Plan}
+use Rattle.flow_assembly.specs.declared.counted_steps.CountedSteps.{CountedSteps}
 use Rattle.flow_assembly.specs.Ready.{plan_of, left_before, ComeNext, IsPutTo, IsWithin, IsTooBig}
 use Rattle.flow_assembly.proofs.Fitting.{FitsKinds, some_same}
 use Rattle.flow_assembly.proofs.Laying.{layout_fits, steps_usable}
@@ -257,5 +257,5 @@ put_same plan s supply newer found found' states states' edges newest one two th
     (subst (λ x. IsPutTo plan s supply found x newest) (sym three) (subst (λ x. IsPutTo plan s supply found states x) (sym four) is)))
 
 -- the kinds of the streams at the ports of the network of a program's plan
-pub plan_fits : (plan : Plan) → AreWired [] (plan_of plan) → (k : ℕ) (placed : Placed) → slice_get (layout (plan_of plan)) k ≡ Some placed → FitsKinds (kinds_after [] (plan_of plan)) placed
+pub plan_fits : (plan : CountedSteps) → AreWired [] (plan_of plan) → (k : ℕ) (placed : Placed) → slice_get (layout (plan_of plan)) k ≡ Some placed → FitsKinds (kinds_after [] (plan_of plan)) placed
 plan_fits plan wired = layout_fits (plan_of plan) [] (plan_of plan) (steps_usable plan.dialect plan.steps.items) wired

@@ -3,7 +3,7 @@ use Rattle.std.specs.Prelude.{◌≡◌, ℕ, ◌≤◌, List, Some}
 use Rattle.std.specs.List.{slice_get}
 use Rattle.flow_base.specs.Nodes.{opened}
 use Rattle.flow_scalar.specs.Streams.{Items}
-use Rattle.flow_scalar.specs.SourceBehaviour.{source_opened}
+use Rattle.flow_scalar.specs.SourceBehaviour.{source_opening}
 use Rattle.flow_scalar.specs.ConstMachine.{const_machine}
 use Rattle.flow_scalar.specs.UnaryMachine.{unary_machine}
 use Rattle.flow_scalar.specs.BinaryMachine.{binary_machine}
@@ -25,7 +25,7 @@ use Rattle.flow_segment.specs.PackMachine.{pack_machine}
 use Rattle.flow_segment.specs.PackGroupsMachine.{pack_groups_table}
 use Rattle.flow_segment.specs.InterleaveMachine.{interleave_machine}
 use Rattle.flow_segment.specs.InterleaveGroupsMachine.{interleave_groups_table}
-use Rattle.flow_values.specs.PrintMachine.{print_opened}
+use Rattle.flow_values.specs.PrintMachine.{print_opening}
 use Rattle.flow_values.specs.TabMachine.{tab_machine}
 use Rattle.flow_values.specs.SeqMachine.{seq_machine}
 use Rattle.flow_values.specs.IndexMachine.{index_machine}
@@ -37,7 +37,7 @@ use Rattle.flow_plans.specs.Layouts.{Placed, Performs}
 -- The state is the one in which the transducer of the operation opens whose faults are at this offset: that of its kind, with
 -- its parameters, before its first instance.
 abbrev pub Opens : ℕ → Operation → ((t : NodeKind) × (member t).State) → Type 0
-Opens at (source kind cells) s = (items : Items) × (s ≡ (a_source, source_opened items)) × (items.kind ≡ kind) × (items.cells ≡ cells)
+Opens at (source kind cells) s = (items : Items) × (s ≡ (a_source, source_opening items)) × (items.kind ≡ kind) × (items.cells ≡ cells)
 Opens at (const k) s = s ≡ (a_const, opened (k, const_machine.start) at)
 Opens at (unary dialect op) s = s ≡ (a_unary, opened ((dialect, op), unary_machine.start) at)
 Opens at (binary dialect op) s = s ≡ (a_binary, opened ((dialect, op), binary_machine.start) at)
@@ -57,7 +57,7 @@ Opens at the_check s = s ≡ (a_the_check, opened (tt, the_check_table.start) at
 Opens at append_flags s = s ≡ (an_append_flags, opened (tt, append_flags_table.start) at)
 Opens at (interleave kind) s = s ≡ (an_interleave, opened (kind, interleave_machine.start) at)
 Opens at interleave_groups s = s ≡ (an_interleave_groups, opened (tt, interleave_groups_table.start) at)
-Opens at (print ty) s = s ≡ (a_print, print_opened ty at)
+Opens at (print ty) s = s ≡ (a_print, print_opening ty at)
 Opens at (tab ty) s = s ≡ (a_tab, opened (ty, tab_machine.start) at)
 Opens at (seq_of ty) s = s ≡ (a_seq_of_vector, opened (ty, seq_machine.start) at)
 Opens at (index ty) s = s ≡ (an_index, opened (ty, index_machine.start) at)

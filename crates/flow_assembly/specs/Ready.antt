@@ -10,11 +10,11 @@ use Rattle.flow_plans.specs.Ports.{kinds_after}
 use Rattle.flow_plans.specs.Views.{steps_of}
 use Rattle.flow_plans.specs.Layouts.{Placed, uses, layout, layout_from, places, places_from, edges_needed}
 use Rattle.flow_assembly.specs.declared.network.Port.{Port}
-use Rattle.flow_assembly.specs.declared.plan.Plan.{Plan}
+use Rattle.flow_assembly.specs.declared.counted_steps.CountedSteps.{CountedSteps}
 use Rattle.flow_assembly.specs.Joined.{IsJoinedTo}
 
 -- the steps of the plan
-abbrev pub plan_of : Plan → List Step
+abbrev pub plan_of : CountedSteps → List Step
 plan_of plan = steps_of plan.dialect plan.steps.items
 
 -- how often each stream is read is what the table says; a stream that is not in it is not read

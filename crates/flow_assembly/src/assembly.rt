@@ -12,9 +12,9 @@ ghost use Rattle.flow_plans.specs.Views.{steps_of};
 ghost use Rattle.flow_assembly.specs.Openings.{AllOpen};
 ghost use Rattle.flow_assembly.specs.Ready.{plan_of, IsBuiltTo};
 
+use crate::counted_steps::CountedSteps;
 use crate::laws::openings_perform;
 use crate::network::Network;
-use crate::plan::Plan;
 use flow_graph::Graph;
 use flow_nodes::StreamNode;
 use flow_plans::Step;
@@ -53,7 +53,7 @@ pub fn assemble(alloc: Global, dialect: Dialect, steps: Vec<Step>) -> Result<Ass
         (most_edges < edges_needed (layout (steps_of dialect steps.items))) }
     ensures memory { IfErr result (λ refusal. (refusal ≡ TooBig) ⊎ (refusal ≡ NoMemory)) }
 {
-    let plan = Plan::new(alloc, dialect, steps)?;
+    let plan = CountedSteps::new(alloc, dialect, steps)?;
     let mut network = Network::new(alloc);
     for number in 0..plan.steps.len() {
         network.add_step(&plan, number)?;
@@ -62,7 +62,7 @@ pub fn assemble(alloc: Global, dialect: Dialect, steps: Vec<Step>) -> Result<Ass
 }
 
 // The network of a plan that is built whole.
-fn finished(network: Network, plan: &Plan) -> Assembled
+fn finished(network: Network, plan: &CountedSteps) -> Assembled
     requires wired { AreWired [] (plan_of plan.now) }
     requires built { IsBuiltTo (plan_of plan.now)
         (length plan.now.steps.items) network.supply.items network.places.items

@@ -9,17 +9,17 @@ ghost use Rattle.flow_plans.specs.Ports.{AreWired, kinds_after};
 ghost use Rattle.flow_assembly.specs.Joined.{IsJoinedTo};
 ghost use Rattle.flow_assembly.specs.Ready.{plan_of, IsCounted, IsTooBig, IsWithin, IsBuiltTo, IsPutTo, ComeNext};
 
+use crate::counted_steps::CountedSteps;
 use crate::laws::openings_perform;
 use crate::network::{Network, Port};
 use crate::nodes::{fork_of, kinds_written, node_of, sink_of};
-use crate::plan::Plan;
 use flow_messages::Kind;
 use snesl_data::Refusal;
 
 impl Network {
     /// Adds the step of this number, behind all before it: its transducer, and what stands behind the streams that it
     /// writes. Each port that reads a stream is joined.
-    pub fn add_step(&mut self, plan: &Plan, number: usize) -> Result<(), Refusal>
+    pub fn add_step(&mut self, plan: &CountedSteps, number: usize) -> Result<(), Refusal>
         requires inside { number < length plan.now.steps.items }
         requires wired { AreWired [] (plan_of plan.now) }
         requires counted { IsCounted plan.now.uses.items (plan_of plan.now) }
@@ -46,7 +46,12 @@ impl Network {
     }
 
     // Joins the streams that the last node reads to its inputs, port by port.
-    fn read_streams(&mut self, plan: &Plan, reads: &[usize], node: usize) -> Result<(), Refusal>
+    fn read_streams(
+        &mut self,
+        plan: &CountedSteps,
+        reads: &[usize],
+        node: usize,
+    ) -> Result<(), Refusal>
         requires wired { AreWired [] (plan_of plan.now) }
         requires last { length (states_so_far self.old.builder) ≡ node + 1 }
         requires reads { (q : ℕ) → stream_to (layout (plan_of plan.now)) node q ≡
@@ -81,7 +86,7 @@ impl Network {
     // Puts what stands behind the streams of these kinds, the first of which has this number.
     fn put_all_behind(
         &mut self,
-        plan: &Plan,
+        plan: &CountedSteps,
         at: usize,
         first: usize,
         kinds: &[Kind],
@@ -116,7 +121,7 @@ impl Network {
     // Puts what stands behind one stream.
     fn put_behind(
         &mut self,
-        plan: &Plan,
+        plan: &CountedSteps,
         at: usize,
         stream: usize,
         kind: Kind,

@@ -3,10 +3,10 @@
 
 mod assembly;
 mod building;
+mod counted_steps;
 mod laws;
 mod network;
 mod nodes;
-mod plan;
 
 pub use assembly::{Assembled, assemble};
 pub use laws::{openings_perform, plan_has_one_network};

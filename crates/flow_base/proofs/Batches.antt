@@ -9,7 +9,7 @@ use Rattle.kahn.proofs.History.{does_then}
 use Rattle.flow_messages.specs.Cells.{Cell, unit, flag, int}
 use Rattle.flow_messages.specs.Signals.{Signal, carry, stop, ended}
 use Rattle.flow_messages.specs.Ends.{View, SameEnds, TakenAll, PutAll}
-use Rattle.flow_messages.specs.Blocks.{units_said, flags_said, ints_said}
+use Rattle.flow_messages.specs.Blocks.{unit_signals, flag_signals, int_signals}
 use Rattle.flow_base.specs.Transducers.{Behaviour}
 use Rattle.flow_base.specs.Visits.{read_from, sent_after, edge_of, IsNone, Went}
 use Rattle.flow_base.proofs.Carried.{same_ends_refl, same_ends_then, prefix_same, prefix_then, read_append, sent_append}
@@ -57,42 +57,42 @@ pub ended_one : (x : Cell) → ended (carry x ∷ []) ≡ false
 unfolding ended
 ended_one x = refl
 
-pub ended_units : (n : ℕ) → ended (units_said n) ≡ false
+pub ended_units : (n : ℕ) → ended (unit_signals n) ≡ false
 unfolding ended
 ended_units zero = refl
 ended_units (suc n) = ended_units n
 
-pub ended_flags : (bs : List Bool) → ended (flags_said bs) ≡ false
+pub ended_flags : (bs : List Bool) → ended (flag_signals bs) ≡ false
 unfolding ended
 ended_flags [] = refl
 ended_flags (b ∷ bs) = ended_flags bs
 
-pub ended_ints : (ns : List ℤ) → ended (ints_said ns) ≡ false
+pub ended_ints : (ns : List ℤ) → ended (int_signals ns) ≡ false
 unfolding ended
 ended_ints [] = refl
 ended_ints (n ∷ ns) = ended_ints ns
 
 -- the first of a block
-pub take_flags : (k : ℕ) (bs : List Bool) → take k (flags_said bs) ≡ flags_said (take k bs)
+pub take_flags : (k : ℕ) (bs : List Bool) → take k (flag_signals bs) ≡ flag_signals (take k bs)
 take_flags k bs = take-map (λ b. carry (flag b)) k bs
 
-pub take_ints : (k : ℕ) (ns : List ℤ) → take k (ints_said ns) ≡ ints_said (take k ns)
+pub take_ints : (k : ℕ) (ns : List ℤ) → take k (int_signals ns) ≡ int_signals (take k ns)
 take_ints k ns = take-map (λ n. carry (int n)) k ns
 
-pub take_units : (k n : ℕ) → k ≤ n → take k (units_said n) ≡ units_said k
+pub take_units : (k n : ℕ) → k ≤ n → take k (unit_signals n) ≡ unit_signals k
 take_units zero n within = refl
 take_units (suc k) zero within = absurd (omega arith)
 take_units (suc k) (suc n) within = ap (λ l. carry unit ∷ l) (take_units k n (omega arith))
 
 -- how long blocks are
-pub length_units : (n : ℕ) → length (units_said n) ≡ n
+pub length_units : (n : ℕ) → length (unit_signals n) ≡ n
 length_units zero = refl
 length_units (suc n) = omega (arith, length_units n)
 
-pub length_flags : (bs : List Bool) → length (flags_said bs) ≡ length bs
+pub length_flags : (bs : List Bool) → length (flag_signals bs) ≡ length bs
 length_flags bs = length-map bs (λ b. carry (flag b))
 
-pub length_ints : (ns : List ℤ) → length (ints_said ns) ≡ length ns
+pub length_ints : (ns : List ℤ) → length (int_signals ns) ≡ length ns
 length_ints ns = length-map ns (λ n. carry (int n))
 
 -- what is shown is what is certain, as far as it goes

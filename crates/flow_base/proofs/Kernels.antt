@@ -11,8 +11,8 @@ use Rattle.flow_messages.specs.declared.ends.Refused.{Refused}
 use Rattle.flow_messages.specs.declared.ends.Why.TheVariants.{Closed}
 use Rattle.flow_messages.specs.declared.message.Msg.{Msg}
 use Rattle.flow_messages.specs.Cells.{Cell}
-use Rattle.flow_base.specs.Machines.{Machine, Taking, taken, given_of, Leads}
-use Rattle.flow_base.specs.Nodes.{node_state, given_in, moved}
+use Rattle.flow_base.specs.Machines.{Machine, Taking, state_after_item, state_after_read, Leads}
+use Rattle.flow_base.specs.Nodes.{node_state, node_after_read, moved}
 use Rattle.flow_base.specs.declared.node.Phase.TheVariants.{Working}
 use Rattle.flow_base.specs.Transducers.{Behaviour, BehaviourLaws}
 use Rattle.flow_base.specs.Visits.{read_from, sent_after, longer, Wrote, edge_of, LeavesAlone, Went, WentOn, IsPlaced, IsWired}
@@ -55,7 +55,7 @@ pub put_sure : (v w : View) (f : ℕ) (message : Msg) (r : Result (Unit {0}) Ref
 put_sure v w f message r certain ok refused closed succeeds = put_wrote v v w f (signal_of message) message (looked_nowhere v f) r certain ok refused closed succeeds
 
 -- an item that leads on, in a node that works
-pub leads_on : {P S : Type 0} (m : Machine P S) (p : P) (s next : S) (at : ℕ) (t : Taking S) (x : Signal) → ((y : Cell) → given_of (m.move p s) y ≡ taken t y) → Leads t x next → node_state (p, next) Working at ≡ given_in m Working (node_state (p, s) Working at) x
+pub leads_on : {P S : Type 0} (m : Machine P S) (p : P) (s next : S) (at : ℕ) (t : Taking S) (x : Signal) → ((y : Cell) → state_after_read (m.move p s) y ≡ state_after_item t y) → Leads t x next → node_state (p, next) Working at ≡ node_after_read m Working (node_state (p, s) Working at) x
 leads_on m p s next at t (carry y) reads leads = sym (ap (moved m (node_state (p, s) Working at)) (reads y ∙ leads))
 leads_on m p s next at t stop reads leads = absurd leads
 
@@ -107,7 +107,7 @@ module _ {S : Type 0} (b : Behaviour S) (inputs outputs : List ℕ) where
     -- it read a message
     pub went_read : (p : ℕ) (m : Signal) (t' : S) (w : View) → p < length inputs → b.process.want t ≡ Read p → Taken v (edge_of inputs p) m w → t' ≡ b.process.read t m → Went inputs outputs b s a t' w (n + 1)
     unfolding read_from sent_after
-    went_read p m t' w there wants taken is =
+    went_read p m t' w there wants state_after_item is =
         let f = edge_of inputs p in
         let edge = edge_of inputs in
         let h = went.history in
@@ -115,12 +115,12 @@ module _ {S : Type 0} (b : Behaviour S) (inputs outputs : List ℕ) where
           history = h ++ Reads p m ∷ [];
           does = does_then b.process s t t' h (Reads p m ∷ []) went.does (wants, sym is);
           carried = record {
-            received = λ e. taken_received v w f e m taken ∙ ap (λ l. l ++ cond (eqb e f) (m ∷ []) []) (went.carried.received e) ∙ append_assoc (a.received e) (read_from edge e h) (cond (eqb e f) (m ∷ []) []) ∙ ap (λ l. a.received e ++ l) (read_append edge e h (Reads p m ∷ []));
-            sent = λ e. taken.sent e ∙ went.carried.sent e ∙ sym (sent_append (edge_of outputs) e (a.sent e) h (Reads p m ∷ []));
+            received = λ e. taken_received v w f e m state_after_item ∙ ap (λ l. l ++ cond (eqb e f) (m ∷ []) []) (went.carried.received e) ∙ append_assoc (a.received e) (read_from edge e h) (cond (eqb e f) (m ∷ []) []) ∙ ap (λ l. a.received e ++ l) (read_append edge e h (Reads p m ∷ []));
+            sent = λ e. state_after_item.sent e ∙ went.carried.sent e ∙ sym (sent_append (edge_of outputs) e (a.sent e) h (Reads p m ∷ []));
           };
           spares = record {
-            coming = λ e none. prefix_then (a.coming e) (v.coming e) (w.coming e) (went.spares.coming e none) (prefix_same (v.coming e) (w.coming e) (taken.coming e (not_at inputs e p none there)));
-            room = λ e none. omega (arith, went.spares.room e none, taken_room v w f e m taken);
+            coming = λ e none. prefix_then (a.coming e) (v.coming e) (w.coming e) (went.spares.coming e none) (prefix_same (v.coming e) (w.coming e) (state_after_item.coming e (not_at inputs e p none there)));
+            room = λ e none. omega (arith, went.spares.room e none, taken_room v w f e m state_after_item);
           };
           counts = one_longer h (Reads p m) n went.counts;
           calm = λ h. absurd (omega arith);

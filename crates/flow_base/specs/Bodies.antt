@@ -9,10 +9,10 @@ use Rattle.flow_base.specs.Lists.{Lists, push, with_port, First, First-full, IsF
 use Rattle.flow_base.specs.Ports.{at_port, take_away, nothing_at, first_of_list, First-from}
 use Rattle.flow_base.specs.Ranges.{CellInRange}
 use Rattle.flow_base.specs.Columns.{Columns, columns, At, at_first, first_at, all_read, nothing_read}
-use Rattle.flow_base.specs.Machines.{Taking, on_flag, on_int, on_kind, Move, begins, takes, gives, taken, kind_taken, Machine, OnNext, OfNext, OfKind, OfRange, RunOf}
+use Rattle.flow_base.specs.Machines.{Taking, on_flag, on_int, on_kind, Move, begins, takes, gives, state_after_item, kind_of_taking, Machine, OnNext, OfNext, OfKind, OfRange, RunOf}
 
 -- an item of another kind is a fault
-pub other_kind : {S : Type 0} (t : Taking S) (x : Cell) → is_of (kind_taken t) x ≡ false → taken t x ≡ Err Shape
+pub other_kind : {S : Type 0} (t : Taking S) (x : Cell) → is_of (kind_of_taking t) x ≡ false → state_after_item t x ≡ Err Shape
 other_kind (on_flag at_f at_t) (flag b) e = absurd (cc)
 other_kind (on_flag at_f at_t) _ e = refl
 other_kind (on_int next) (int n) e = absurd (cc)
@@ -21,7 +21,7 @@ other_kind (on_kind kind next) x e = ap (λ b. cond b (next x) (Err Shape)) e
 
 module _ {S : Type 0} (P : S → Type 0) where
   -- where an item leads, what holds wherever one of the kind does
-  pub of_kind_there : (t : Taking S) (x : Cell) → OfKind P t → OfNext (taken t x) P
+  pub of_kind_there : (t : Taking S) (x : Cell) → OfKind P t → OfNext (state_after_item t x) P
   of_kind_there (on_flag at_f at_t) (flag false) h = h.0
   of_kind_there (on_flag at_f at_t) (flag true) h = h.1
   of_kind_there (on_flag at_f at_t) _ h = tt
@@ -35,7 +35,7 @@ module _ {S : Type 0} (P : S → Type 0) where
 
 module _ {S : Type 0} (dialect : Dialect) (P : S → Type 0) where
   -- where an item leads whose integers lie in the range of the dialect, what holds wherever one of the kind does
-  pub in_range_there : (t : Taking S) (x : Cell) → OfRange dialect P t → CellInRange dialect x → OfNext (taken t x) P
+  pub in_range_there : (t : Taking S) (x : Cell) → OfRange dialect P t → CellInRange dialect x → OfNext (state_after_item t x) P
   in_range_there (on_flag at_f at_t) (flag false) h range = h.0
   in_range_there (on_flag at_f at_t) (flag true) h range = h.1
   in_range_there (on_flag at_f at_t) _ h range = tt
@@ -71,7 +71,7 @@ module _ {P S : Type 0} (m : Machine P S) (p : P) where
   in_front q x i R lt h = first_at (m.inputs p) q (push q x i) R lt (First-from (push q x i q) x (i q) (λ y r. R y (Ins (with_port q r (push q x i)))) (at_port q (x ∷ i q) i) (subst (λ j. R x (Ins j)) (sym (take_away q x i)) h))
 
   abbrev Next : ℕ → Taking S → Lists Cell → Cell → Columns → Type 0
-  Next n t o x r = OnNext (taken t x) (λ s. RunOf m p n (m.move p s) r (Outs o))
+  Next n t o x r = OnNext (state_after_item t x) (λ s. RunOf m p n (m.move p s) r (Outs o))
 
   on : (n : ℕ) (r : Result S FaultKind) (i o : Lists Cell) → OnNext r (λ s. RunOf m p n (m.move p s) (Ins i) (Outs o)) → BodyAfter r i o
   on n (Ok s) i o h = (n, h)
@@ -81,19 +81,19 @@ module _ {P S : Type 0} (m : Machine P S) (p : P) where
   off (Ok s) i o h = h
   off (Err kind) i o h = absurd h
 
-  pub take_read : (q : ℕ) (t : Taking S) (x : Cell) (i o : Lists Cell) → q < m.inputs p → Body (takes q t) (push q x i) o ↔ BodyAfter (taken t x) i o
-  take_read q t x i o lt = (forth, λ h. let g = off (taken t x) i o h in (suc g.0, in_front q x i (Next g.0 t o) lt g.1))
+  pub take_read : (q : ℕ) (t : Taking S) (x : Cell) (i o : Lists Cell) → q < m.inputs p → Body (takes q t) (push q x i) o ↔ BodyAfter (state_after_item t x) i o
+  take_read q t x i o lt = (forth, λ h. let g = off (state_after_item t x) i o h in (suc g.0, in_front q x i (Next g.0 t o) lt g.1))
     where
-      forth : Body (takes q t) (push q x i) o → BodyAfter (taken t x) i o
+      forth : Body (takes q t) (push q x i) o → BodyAfter (state_after_item t x) i o
       forth (zero, h) = absurd h
-      forth (suc n, h) = on n (taken t x) i o (front q x i (Next n t o) lt h)
+      forth (suc n, h) = on n (state_after_item t x) i o (front q x i (Next n t o) lt h)
 
-  pub begin_read : (t : Taking S) (x : Cell) (i o : Lists Cell) → 0 < m.inputs p → Body (begins t) (push 0 x i) o ↔ BodyAfter (taken t x) i o
-  begin_read t x i o lt = (forth, λ h. let g = off (taken t x) i o h in (suc g.0, in_front 0 x i (Next g.0 t o) lt g.1))
+  pub begin_read : (t : Taking S) (x : Cell) (i o : Lists Cell) → 0 < m.inputs p → Body (begins t) (push 0 x i) o ↔ BodyAfter (state_after_item t x) i o
+  begin_read t x i o lt = (forth, λ h. let g = off (state_after_item t x) i o h in (suc g.0, in_front 0 x i (Next g.0 t o) lt g.1))
     where
-      forth : Body (begins t) (push 0 x i) o → BodyAfter (taken t x) i o
+      forth : Body (begins t) (push 0 x i) o → BodyAfter (state_after_item t x) i o
       forth (zero, h) = let none = nothing_at (m.inputs p) (push 0 x i) (all_read (m.inputs p) (push 0 x i) h.0) 0 lt in absurd (cc)
-      forth (suc n, h) = on n (taken t x) i o (front 0 x i (Next n t o) lt h)
+      forth (suc n, h) = on n (state_after_item t x) i o (front 0 x i (Next n t o) lt h)
 
   -- where the first input has no item, there is nothing left
   pub begin_stop : (t : Taking S) (i o : Lists Cell) → 0 < m.inputs p → i 0 ≡ [] → Body (begins t) i o → NothingAt (m.inputs p) i × NothingAt (m.outputs p) o

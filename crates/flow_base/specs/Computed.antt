@@ -6,7 +6,7 @@ use Rattle.flow_messages.specs.Cells.{Cell}
 use Rattle.flow_base.specs.Lists.{Lists, First}
 use Rattle.flow_base.specs.Ports.{each_port}
 use Rattle.flow_base.specs.Columns.{Columns, columns, nothing, push_column, with_column, At}
-use Rattle.flow_base.specs.Machines.{Taking, Move, begins, takes, gives, taken, Machine, MachineLaws, ask_of, OnNext, RunOf, Runs, SoundAt}
+use Rattle.flow_base.specs.Machines.{Taking, Move, begins, takes, gives, state_after_item, Machine, MachineLaws, ask_of, OnNext, RunOf, Runs, SoundAt}
 use Rattle.flow_base.specs.MachineRuns.{reading, writing, Then, run_is}
 use Rattle.flow_base.specs.declared.worker.Ask.TheVariants.{Begin}
 
@@ -40,8 +40,8 @@ module _ {P S : Type 0} (m : Machine P S) (p : P) where
 
   -- what is written where n items are left, and the next is read or there is none
   abbrev pub answer : ℕ → Move S → Columns → Option Columns
-  answer (suc n) (begins t) i = on_item (each_port i 0) (λ x l. on_next (taken t x) (λ s. after_writes (answer n) (m.move p s) (m.debt p s) (with_column 0 l i)))
-  answer (suc n) (takes q t) i = on_item (each_port i q) (λ x l. on_next (taken t x) (λ s. after_writes (answer n) (m.move p s) (m.debt p s) (with_column q l i)))
+  answer (suc n) (begins t) i = on_item (each_port i 0) (λ x l. on_next (state_after_item t x) (λ s. after_writes (answer n) (m.move p s) (m.debt p s) (with_column 0 l i)))
+  answer (suc n) (takes q t) i = on_item (each_port i q) (λ x l. on_next (state_after_item t x) (λ s. after_writes (answer n) (m.move p s) (m.debt p s) (with_column q l i)))
   answer zero (begins t) i = Some (nothing (m.outputs p))
   answer _ _ i = None
 
@@ -122,12 +122,12 @@ module _ {P S : Type 0} (m : Machine P S) (laws : MachineLaws m) (p : P) where
   abbrev Computes : S → Columns → Columns → Type 0
   Computes s i o = width i ≡ m.inputs p → width o ≡ m.outputs p → (bound : ℕ) → m.debt p s ≤ bound → From (items i) s bound i ≡ Some o
 
-  read_computes : (q : ℕ) (t : Taking S) (x : Cell) (i o : Columns) → q < width i → width i ≡ m.inputs p → width o ≡ m.outputs p → OnNext (taken t x) (λ next. Computes next i o) →
-      on_item (each_port (push_column q x i) q) (λ y l. on_next (taken t y) (λ s. From (items i) s (m.debt p s) (with_column q l (push_column q x i)))) ≡ Some o
+  read_computes : (q : ℕ) (t : Taking S) (x : Cell) (i o : Columns) → q < width i → width i ≡ m.inputs p → width o ≡ m.outputs p → OnNext (state_after_item t x) (λ next. Computes next i o) →
+      on_item (each_port (push_column q x i) q) (λ y l. on_next (state_after_item t y) (λ s. From (items i) s (m.debt p s) (with_column q l (push_column q x i)))) ≡ Some o
   read_computes q t x i o lt wi wo h =
-      ap (λ l. on_item l (λ y l. on_next (taken t y) (λ s. From (items i) s (m.debt p s) (with_column q l (push_column q x i))))) (port_push q x i lt)
-      ∙ ap (λ c. on_next (taken t x) (λ s. From (items i) s (m.debt p s) c)) (taken_away q x i)
-      ∙ next (taken t x) h
+      ap (λ l. on_item l (λ y l. on_next (state_after_item t y) (λ s. From (items i) s (m.debt p s) (with_column q l (push_column q x i))))) (port_push q x i lt)
+      ∙ ap (λ c. on_next (state_after_item t x) (λ s. From (items i) s (m.debt p s) c)) (taken_away q x i)
+      ∙ next (state_after_item t x) h
     where
       next : (r : Result S FaultKind) → OnNext r (λ next. Computes next i o) → on_next r (λ s. From (items i) s (m.debt p s) i) ≡ Some o
       next (Ok s) h = h wi wo (m.debt p s) (omega arith)
@@ -175,8 +175,8 @@ module _ {P S : Type 0} (m : Machine P S) (laws : MachineLaws m) (p : P) where
       (ap width g.2 ∙ width_push q c g.0 ∙ there.0, (suc there.1.0, subst (λ r. At q r (λ x r. (x ≡ c) × RunOf m p there.1.0 (m.move p next) i r)) (sym g.2) (at_push q c g.0 (λ x r. (x ≡ c) × RunOf m p there.1.0 (m.move p next) i r) lt (refl, there.1.1))))
 
   read_run : (n q : ℕ) (t : Taking S) (i o : Columns) → AnswersRun n → items i ≡ suc n → width i ≡ m.inputs p →
-      on_item (each_port i q) (λ x l. on_next (taken t x) (λ s. From n s (m.debt p s) (with_column q l i))) ≡ Some o →
-      (width o ≡ m.outputs p) × ((k : ℕ) × At q i (λ x r. OnNext (taken t x) (λ s. RunOf m p k (m.move p s) r o)))
+      on_item (each_port i q) (λ x l. on_next (state_after_item t x) (λ s. From n s (m.debt p s) (with_column q l i))) ≡ Some o →
+      (width o ≡ m.outputs p) × ((k : ℕ) × At q i (λ x r. OnNext (state_after_item t x) (λ s. RunOf m p k (m.move p s) r o)))
   read_run n q t i o reads e w h = go (each_port i q) refl h
     where
       next : (r : Result S FaultKind) (c : Columns) → items c ≡ n → width c ≡ m.inputs p → on_next r (λ s. From n s (m.debt p s) c) ≡ Some o →
@@ -184,10 +184,10 @@ module _ {P S : Type 0} (m : Machine P S) (laws : MachineLaws m) (p : P) where
       next (Ok s) c e w h = writes_run n reads (m.debt p s) s (m.move p s) (laws.sound p s) c o e w h
       next (Err kind) c e w h = absurd (cc)
 
-      go : (l : List Cell) → each_port i q ≡ l → on_item l (λ x l. on_next (taken t x) (λ s. From n s (m.debt p s) (with_column q l i))) ≡ Some o →
-          (width o ≡ m.outputs p) × ((k : ℕ) × First l (λ x r. OnNext (taken t x) (λ s. RunOf m p k (m.move p s) (with_column q r i) o)))
+      go : (l : List Cell) → each_port i q ≡ l → on_item l (λ x l. on_next (state_after_item t x) (λ s. From n s (m.debt p s) (with_column q l i))) ≡ Some o →
+          (width o ≡ m.outputs p) × ((k : ℕ) × First l (λ x r. OnNext (state_after_item t x) (λ s. RunOf m p k (m.move p s) (with_column q r i) o)))
       go [] is h = absurd (cc)
-      go (x ∷ l) is h = let less = items_less q x l i is in next (taken t x) (with_column q l i) (omega arith) (width_with q l i ∙ w) h
+      go (x ∷ l) is h = let less = items_less q x l i is in next (state_after_item t x) (with_column q l i) (omega arith) (width_with q l i ∙ w) h
 
   answers_run : (n : ℕ) → AnswersRun n
   answers_run zero s (begins t) law i o e w h =

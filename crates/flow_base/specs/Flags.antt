@@ -20,9 +20,9 @@ flags [] = []
 flags (n ∷ ns) = elements n (T ∷ flags ns)
 
 -- the lists joined in order
-abbrev pub joined : {A : Type 0} → List (List A) → List A
-joined [] = []
-joined (xs ∷ rest) = xs ++ joined rest
+abbrev pub concatenation : {A : Type 0} → List (List A) → List A
+concatenation [] = []
+concatenation (xs ∷ rest) = xs ++ concatenation rest
 
 abbrev pub lengths : {A : Type 0} → List (List A) → List ℕ
 lengths [] = []

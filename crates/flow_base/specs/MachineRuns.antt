@@ -6,13 +6,13 @@ use Rattle.snesl_data.specs.declared.fault.FaultKind.TheVariants.{Shape}
 use Rattle.flow_messages.specs.Cells.{Cell, unit, is_of}
 use Rattle.flow_messages.specs.declared.message.Kind.{Kind}
 use Rattle.flow_base.specs.Columns.{Columns, nothing, push_column, pushed, At}
-use Rattle.flow_base.specs.Machines.{Taking, on_kind, Move, begins, takes, gives, taken, Machine, OnNext, RunOf, Run, Runs, SoundAt}
+use Rattle.flow_base.specs.Machines.{Taking, on_kind, Move, begins, takes, gives, state_after_item, Machine, OnNext, RunOf, Run, Runs, SoundAt}
 
 -- an item of the kind leads on, and no other does
-pub leads_on : {S : Type 0} (kind : Kind) (next : Cell → Result S FaultKind) (x : Cell) (P : S → Type 0) → is_of kind x ≡ true → OnNext (next x) P → OnNext (taken (on_kind kind next) x) P
+pub leads_on : {S : Type 0} (kind : Kind) (next : Cell → Result S FaultKind) (x : Cell) (P : S → Type 0) → is_of kind x ≡ true → OnNext (next x) P → OnNext (state_after_item (on_kind kind next) x) P
 leads_on kind next x P e h = subst (λ b. OnNext (cond b (next x) (Err Shape)) P) (sym e) h
 
-pub led_on : {S : Type 0} (kind : Kind) (next : Cell → Result S FaultKind) (x : Cell) (P : S → Type 0) → OnNext (taken (on_kind kind next) x) P → (is_of kind x ≡ true) × OnNext (next x) P
+pub led_on : {S : Type 0} (kind : Kind) (next : Cell → Result S FaultKind) (x : Cell) (P : S → Type 0) → OnNext (state_after_item (on_kind kind next) x) P → (is_of kind x ≡ true) × OnNext (next x) P
 led_on kind next x P h = go (is_of kind x) refl h
   where
     go : (b : Bool) → is_of kind x ≡ b → OnNext (cond b (next x) (Err Shape)) P → (is_of kind x ≡ true) × OnNext (next x) P
@@ -31,8 +31,8 @@ writing _ o = o
 
 -- where the move leads with this item, Q holds
 abbrev pub Then : {S : Type 0} → (S → Type 0) → Move S → Cell → Type 0
-Then Q (begins t) x = OnNext (taken t x) Q
-Then Q (takes q t) x = OnNext (taken t x) Q
+Then Q (begins t) x = OnNext (state_after_item t x) Q
+Then Q (takes q t) x = OnNext (state_after_item t x) Q
 Then Q (gives q c s) x = Q s
 
 module _ {P S : Type 0} (m : Machine P S) where
@@ -41,8 +41,8 @@ module _ {P S : Type 0} (m : Machine P S) where
     next l (Ok s) h = ih s l h
     next l (Err kind) h = h
 
-    read_as : (t : Taking S) → ((x : Cell) (i o : Columns) → OnNext (taken t x) (λ next. Q next i o) → Q s (push_column q x i) o) → (i : Columns) → At q i (λ x l. OnNext (taken t x) (λ s. Run m p n s l o)) → Q s i o
-    read_as t e i h = let g = pushed q i (λ x l. OnNext (taken t x) (λ s. Run m p n s l o)) h in subst (λ l. Q s l o) (sym g.2) (e g.0 g.1 o (next g.1 (taken t g.0) g.3))
+    read_as : (t : Taking S) → ((x : Cell) (i o : Columns) → OnNext (state_after_item t x) (λ next. Q next i o) → Q s (push_column q x i) o) → (i : Columns) → At q i (λ x l. OnNext (state_after_item t x) (λ s. Run m p n s l o)) → Q s i o
+    read_as t e i h = let g = pushed q i (λ x l. OnNext (state_after_item t x) (λ s. Run m p n s l o)) h in subst (λ l. Q s l o) (sym g.2) (e g.0 g.1 o (next g.1 (state_after_item t g.0) g.3))
 
   -- what holds where nothing is left, and then one step earlier, holds of each run
   module _ (p : P) (Q : S → Columns → Columns → Type 0) (sound : (s : S) → SoundAt m p s (m.move p s)) (none : Q m.start (nothing (m.inputs p)) (nothing (m.outputs p)))

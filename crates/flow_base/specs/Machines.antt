@@ -27,22 +27,22 @@ pub data Move (S : Type 0) : Type 0 where
   gives : ℕ → Cell → S → Move S
 
 -- where the item leads; one of another kind is a fault
-abbrev pub taken : {S : Type 0} → Taking S → Cell → Result S FaultKind
-taken (on_flag at_f at_t) (flag false) = at_f
-taken (on_flag at_f at_t) (flag true) = at_t
-taken (on_int next) (int n) = next n
-taken (on_kind kind next) x = cond (is_of kind x) (next x) (Err Shape)
-taken _ _ = Err Shape
+abbrev pub state_after_item : {S : Type 0} → Taking S → Cell → Result S FaultKind
+state_after_item (on_flag at_f at_t) (flag false) = at_f
+state_after_item (on_flag at_f at_t) (flag true) = at_t
+state_after_item (on_int next) (int n) = next n
+state_after_item (on_kind kind next) x = cond (is_of kind x) (next x) (Err Shape)
+state_after_item _ _ = Err Shape
 
 -- the message is an item, and leads to this state
 abbrev pub Leads : {S : Type 0} → Taking S → Signal → S → Type 0
-Leads t (carry x) s = taken t x ≡ Ok s
+Leads t (carry x) s = state_after_item t x ≡ Ok s
 Leads t stop s = ⊥
 
-abbrev pub kind_taken : {S : Type 0} → Taking S → Kind
-kind_taken (on_flag at_f at_t) = BoolKind
-kind_taken (on_int next) = IntKind
-kind_taken (on_kind kind next) = kind
+abbrev pub kind_of_taking : {S : Type 0} → Taking S → Kind
+kind_of_taking (on_flag at_f at_t) = BoolKind
+kind_of_taking (on_int next) = IntKind
+kind_of_taking (on_kind kind next) = kind
 
 -- A worker: P are its parameters, which stay as they are, and S are its states.
 pub record Machine (P S : Type 0) : Type 1 where
@@ -81,18 +81,18 @@ ask_of (begins t) = Begin
 ask_of (takes p t) = Take p
 ask_of (gives q x s) = Give q
 
-abbrev pub given_of : {S : Type 0} → Move S → Cell → Result S FaultKind
-given_of (begins t) x = taken t x
-given_of (takes p t) x = taken t x
-given_of (gives q y s) x = Err Shape
+abbrev pub state_after_read : {S : Type 0} → Move S → Cell → Result S FaultKind
+state_after_read (begins t) x = state_after_item t x
+state_after_read (takes p t) x = state_after_item t x
+state_after_read (gives q y s) x = Err Shape
 
-abbrev pub told_of : {S : Type 0} → Move S → Cell
-told_of (gives q x s) = x
-told_of _ = unit
+abbrev pub written_cell : {S : Type 0} → Move S → Cell
+written_cell (gives q x s) = x
+written_cell _ = unit
 
-abbrev pub after_of : {S : Type 0} → S → Move S → S
-after_of old (gives q x s) = s
-after_of old _ = old
+abbrev pub state_after_write : {S : Type 0} → S → Move S → S
+state_after_write old (gives q x s) = s
+state_after_write old _ = old
 
 -- a state with its parameters
 abbrev pub with_parameters : {P S : Type 0} → P → Result S FaultKind → Result (P × S) FaultKind
@@ -126,8 +126,8 @@ module _ {P S : Type 0} (m : Machine P S) (p : P) where
   abbrev pub RunOf : ℕ → Move S → Columns → Columns → Type 0
   RunOf zero (begins t) i o = (i ≡ nothing (m.inputs p)) × (o ≡ nothing (m.outputs p))
   RunOf zero _ i o = ⊥
-  RunOf (suc n) (begins t) i o = At 0 i (λ x r. OnNext (taken t x) (λ s. RunOf n (m.move p s) r o))
-  RunOf (suc n) (takes q t) i o = At q i (λ x r. OnNext (taken t x) (λ s. RunOf n (m.move p s) r o))
+  RunOf (suc n) (begins t) i o = At 0 i (λ x r. OnNext (state_after_item t x) (λ s. RunOf n (m.move p s) r o))
+  RunOf (suc n) (takes q t) i o = At q i (λ x r. OnNext (state_after_item t x) (λ s. RunOf n (m.move p s) r o))
   RunOf (suc n) (gives q c s) i o = At q o (λ x r. (x ≡ c) × RunOf n (m.move p s) i r)
 
   abbrev pub Run : ℕ → S → Columns → Columns → Type 0
@@ -139,7 +139,7 @@ module _ {P S : Type 0} (m : Machine P S) (p : P) where
   -- Where an item is read from port q: the port is there, its kind is that which is taken, and where the item leads,
   -- what is held is of its kind, and in the range of each dialect where what was held and read is.
   abbrev pub SoundRead : S → ℕ → Taking S → Type 0
-  SoundRead s q t = (q < m.inputs p) × (m.kind_in p q ≡ kind_taken t) × (m.of_kind p s → OfKind (m.of_kind p) t) × ((dialect : Dialect) → m.of_kind p s → m.in_range dialect p s → OfRange dialect (m.in_range dialect p) t)
+  SoundRead s q t = (q < m.inputs p) × (m.kind_in p q ≡ kind_of_taking t) × (m.of_kind p s → OfKind (m.of_kind p) t) × ((dialect : Dialect) → m.of_kind p s → m.in_range dialect p s → OfRange dialect (m.in_range dialect p) t)
 
   -- What the table keeps to at a state.
   abbrev pub SoundAt : S → Move S → Type 0

@@ -9,7 +9,7 @@ use Rattle.flow_base.specs.Lists.{Lists, push, with_port, First}
 use Rattle.flow_base.specs.Ports.{at_port, put_back, first_of_list, First-from}
 use Rattle.flow_base.specs.Machines.{Machine}
 use Rattle.flow_base.specs.Promises.{Keeps}
-use Rattle.flow_base.specs.Nodes.{node_state, behaviour_of, opened, given_in}
+use Rattle.flow_base.specs.Nodes.{node_state, behaviour_of, opened, node_after_read}
 use Rattle.flow_base.specs.ClosedLists.{EndsFrom, ends_less, ends_more, end_due, none_due, due_none}
 use Rattle.flow_base.specs.NodePromises.{owes_in, over_in, promise_of, closing_owes}
 use Rattle.flow_base.specs.declared.node.Phase.TheVariants.{Closing, Ending}
@@ -42,7 +42,7 @@ module _ {P S : Type 0} (m : Machine P S) where
       over true k h = h
       over false k h = refl
 
-      steps : (x : Signal) (i o : Lists Signal) → owes_in m (Closing p) s (push p x i) o ↔ owes_in m (given_in m (Closing p) (node_state s (Closing p) at) x).phase (given_in m (Closing p) (node_state s (Closing p) at) x).worker i o
+      steps : (x : Signal) (i o : Lists Signal) → owes_in m (Closing p) s (push p x i) o ↔ owes_in m (node_after_read m (Closing p) (node_state s (Closing p) at) x).phase (node_after_read m (Closing p) (node_state s (Closing p) at) x).worker i o
       steps (carry x) i o = (
         λ h.
             let e : carry x ∷ i p ≡ stop ∷ [] = sym (at_port p (carry x ∷ i p) i) ∙ end_due p (m.inputs s.0) (push p (carry x) i) lt h.1 in
@@ -54,15 +54,15 @@ module _ {P S : Type 0} (m : Machine P S) where
         λ h. let g = (closing_owes m (nat_lt (p + 1) (m.inputs s.0)) s (p + 1) i o refl).1 h in (lt, ends_more p (m.inputs s.0) i lt g.0, g.1),
       )
 
-      stays : (x : Signal) → (behaviour_of m).opening (given_in m (Closing p) (node_state s (Closing p) at) x) ≡ opened (s.0, m.start) at
+      stays : (x : Signal) → (behaviour_of m).opening (node_after_read m (Closing p) (node_state s (Closing p) at) x) ≡ opened (s.0, m.start) at
       stays (carry x) = refl
       stays stop = refl
 
-      still : (x : Signal) (k : ℕ) → nat_lt k p ≡ true → over_in (given_in m (Closing p) (node_state s (Closing p) at) x).phase k ≡ true
+      still : (x : Signal) (k : ℕ) → nat_lt k p ≡ true → over_in (node_after_read m (Closing p) (node_state s (Closing p) at) x).phase k ≡ true
       still (carry x) k h = refl
       still stop k h = over (nat_lt (p + 1) (m.inputs s.0)) k (grind (arith, nat_tests))
 
-      same : (x : Signal) → s ≡ (given_in m (Closing p) (node_state s (Closing p) at) x).worker
+      same : (x : Signal) → s ≡ (node_after_read m (Closing p) (node_state s (Closing p) at) x).worker
       same (carry x) = refl
       same stop = refl
 

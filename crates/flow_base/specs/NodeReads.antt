@@ -9,10 +9,10 @@ use Rattle.flow_messages.specs.Signals.{Signal, carry, stop}
 use Rattle.flow_base.specs.Lists.{Lists, push, with_port, IsFull}
 use Rattle.flow_base.specs.Ports.{at_port, put_back, nothing_at, NothingAt-from}
 use Rattle.flow_base.specs.Ranges.{CellInRange, SignalInRange}
-use Rattle.flow_base.specs.Machines.{Taking, Move, begins, takes, Machine, ask_of, given_of, OfNext, SoundRead}
+use Rattle.flow_base.specs.Machines.{Taking, Move, begins, takes, Machine, ask_of, state_after_read, OfNext, SoundRead}
 use Rattle.flow_base.specs.Bodies.{Body, BodyAfter, take_read, begin_read, begin_stop, begin_none, take_full, other_kind, of_kind_there, in_range_there}
 use Rattle.flow_base.specs.Promises.{KeepsRead}
-use Rattle.flow_base.specs.Nodes.{NodeState, node_state, opened, behaviour_of, want_in, moved, at_end, given_in}
+use Rattle.flow_base.specs.Nodes.{NodeState, node_state, opened, behaviour_of, want_in, moved, at_end, node_after_read}
 use Rattle.flow_base.specs.ClosedLists.{AreClosed, closed_full, carried, stopped, closed_rest, closed_more, ends_less, ends_more, ends_closed, closed_ends}
 use Rattle.flow_base.specs.NodePromises.{Remains, owes_in, over_in, promise_of, closing_owes}
 use Rattle.flow_base.specs.declared.node.Phase.TheVariants.{Working, Closing, Ending}
@@ -48,22 +48,22 @@ module _ {P S : Type 0} (m : Machine P S) (p : P) (s : S) (at : ℕ) where
   -- What is known of a move that reads port q.
   record ReadsBy (v : Move S) (q : ℕ) : Type 0 where
     port : q < m.inputs p
-    steps : (x : Cell) (i o : Lists Cell) → Body m p v (push q x i) o ↔ BodyAfter m p (given_of v x) i o
-    kinds : (x : Cell) → is_of (m.kind_in p q) x ≡ false → given_of v x ≡ Err Shape
-    of_kind : (x : Cell) → m.of_kind p s → OfNext (given_of v x) (m.of_kind p)
-    in_range : (dialect : Dialect) (x : Cell) → m.of_kind p s → m.in_range dialect p s → CellInRange dialect x → OfNext (given_of v x) (m.in_range dialect p)
+    steps : (x : Cell) (i o : Lists Cell) → Body m p v (push q x i) o ↔ BodyAfter m p (state_after_read v x) i o
+    kinds : (x : Cell) → is_of (m.kind_in p q) x ≡ false → state_after_read v x ≡ Err Shape
+    of_kind : (x : Cell) → m.of_kind p s → OfNext (state_after_read v x) (m.of_kind p)
+    in_range : (dialect : Dialect) (x : Cell) → m.of_kind p s → m.in_range dialect p s → CellInRange dialect x → OfNext (state_after_read v x) (m.in_range dialect p)
 
   module _ (v : Move S) (q : ℕ) (law : ReadsBy v q) where
-    item_forth : (x : Cell) (i o : Lists Signal) → Remains m p v (push q (carry x) i) o → Owes (moved m here (given_of v x)) i o
+    item_forth : (x : Cell) (i o : Lists Signal) → Remains m p v (push q (carry x) i) o → Owes (moved m here (state_after_read v x)) i o
     item_forth x i o h =
         let front = carried x (i q) (h.ins q) (sym (at_port q (carry x ∷ i q) i) ∙ h.closed_ins q law.port) in
         let less = with_port q front.0 h.ins in
         let body : Body m p v (push q x less) h.outs = subst (λ l. Body m p v l h.outs) (sym (put_back q x front.0 h.ins front.1)) h.body in
-        moved_forth (given_of v x) i o less h.outs ((law.steps x less h.outs).0 body) (closed_rest (m.inputs p) q (carry x) i h.ins front.0 front.2 h.closed_ins) h.closed_outs
+        moved_forth (state_after_read v x) i o less h.outs ((law.steps x less h.outs).0 body) (closed_rest (m.inputs p) q (carry x) i h.ins front.0 front.2 h.closed_ins) h.closed_outs
 
-    item_back : (x : Cell) (i o : Lists Signal) → Owes (moved m here (given_of v x)) i o → Remains m p v (push q (carry x) i) o
+    item_back : (x : Cell) (i o : Lists Signal) → Owes (moved m here (state_after_read v x)) i o → Remains m p v (push q (carry x) i) o
     item_back x i o h =
-        let g = moved_back (given_of v x) i o h in
+        let g = moved_back (state_after_read v x) i o h in
         record {
           ins = push q x g.0;
           outs = g.1;
@@ -92,28 +92,28 @@ module _ {P S : Type 0} (m : Machine P S) (p : P) (s : S) (at : ℕ) where
       ends = ap (λ w. over_in (at_end m (ask_of w) here).phase q) e ∙ end_passed;
       still_in = λ message k h. absurd (cc);
       still_out = λ message k h. absurd (cc);
-      kinds = λ x other. ap (λ r. want_in m (moved m here r).phase (moved m here r)) (ap (λ w. given_of w x) e ∙ law.kinds x other);
+      kinds = λ x other. ap (λ r. want_in m (moved m here r).phase (moved m here r)) (ap (λ w. state_after_read w x) e ∙ law.kinds x other);
       of_kind = of_kind;
       in_range = in_range;
     }
       where
-        message : (x : Signal) (i o : Lists Signal) → Remains m p (m.move p s) (push q x i) o ↔ Owes (given_in m Working here x) i o
-        message (carry x) i o = subst (λ w. Remains m p w (push q (carry x) i) o ↔ Owes (moved m here (given_of w x)) i o) (sym e) (λ h. item_forth x i o h, λ h. item_back x i o h)
+        message : (x : Signal) (i o : Lists Signal) → Remains m p (m.move p s) (push q x i) o ↔ Owes (node_after_read m Working here x) i o
+        message (carry x) i o = subst (λ w. Remains m p w (push q (carry x) i) o ↔ Owes (moved m here (state_after_read w x)) i o) (sym e) (λ h. item_forth x i o h, λ h. item_back x i o h)
         message stop i o = subst (λ w. Remains m p w (push q stop i) o ↔ Owes (at_end m (ask_of w) here) i o) (sym e) (end_steps i o)
 
-        opening : (x : Signal) → (behaviour_of m).opening (given_in m Working here x) ≡ opened (p, m.start) at
-        opening (carry x) = moved_opening (given_of (m.move p s) x)
+        opening : (x : Signal) → (behaviour_of m).opening (node_after_read m Working here x) ≡ opened (p, m.start) at
+        opening (carry x) = moved_opening (state_after_read (m.move p s) x)
         opening stop = ap (λ w. (behaviour_of m).opening (at_end m (ask_of w) here)) e ∙ end_stays
 
         worker_at_end : (at_end m (ask_of (m.move p s)) here).worker ≡ (p, s)
         worker_at_end = ap (λ w. (at_end m (ask_of w) here).worker) e ∙ end_worker
 
-        of_kind : (x : Signal) → m.of_kind p s → (behaviour_of m).of_kind (given_in m Working here x)
-        of_kind (carry x) held = moved_of_kind (given_of (m.move p s) x) held (subst (λ w. OfNext (given_of w x) (m.of_kind p)) (sym e) (law.of_kind x held))
+        of_kind : (x : Signal) → m.of_kind p s → (behaviour_of m).of_kind (node_after_read m Working here x)
+        of_kind (carry x) held = moved_of_kind (state_after_read (m.move p s) x) held (subst (λ w. OfNext (state_after_read w x) (m.of_kind p)) (sym e) (law.of_kind x held))
         of_kind stop held = subst (λ w. m.of_kind w.0 w.1) (sym worker_at_end) held
 
-        in_range : (dialect : Dialect) (x : Signal) → m.of_kind p s → m.in_range dialect p s → SignalInRange dialect x → (behaviour_of m).in_range dialect (given_in m Working here x)
-        in_range dialect (carry x) held own range = moved_in_range dialect (given_of (m.move p s) x) own (subst (λ w. OfNext (given_of w x) (m.in_range dialect p)) (sym e) (law.in_range dialect x held own range))
+        in_range : (dialect : Dialect) (x : Signal) → m.of_kind p s → m.in_range dialect p s → SignalInRange dialect x → (behaviour_of m).in_range dialect (node_after_read m Working here x)
+        in_range dialect (carry x) held own range = moved_in_range dialect (state_after_read (m.move p s) x) own (subst (λ w. OfNext (state_after_read w x) (m.in_range dialect p)) (sym e) (law.in_range dialect x held own range))
         in_range dialect stop held own range = subst (λ w. m.in_range dialect w.0 w.1) (sym worker_at_end) own
 
   -- a read within an instance

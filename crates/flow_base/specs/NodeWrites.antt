@@ -6,7 +6,7 @@ use Rattle.flow_messages.specs.Signals.{Signal, carry}
 use Rattle.flow_base.specs.Lists.{Lists, push, with_port, First}
 use Rattle.flow_base.specs.Ports.{at_port, put_back, take_away, first_of_list, First-from}
 use Rattle.flow_base.specs.Ranges.{CellInRange}
-use Rattle.flow_base.specs.Machines.{Move, gives, Machine, told_of, after_of, SoundAt}
+use Rattle.flow_base.specs.Machines.{Move, gives, Machine, written_cell, state_after_write, SoundAt}
 use Rattle.flow_base.specs.Bodies.{Body, give_write}
 use Rattle.flow_base.specs.Transducers.{closed}
 use Rattle.flow_base.specs.Promises.{KeepsWrite}
@@ -18,7 +18,7 @@ use Rattle.flow_base.specs.declared.node.Phase.TheVariants.{Working}
 module _ {P S : Type 0} (m : Machine P S) (p : P) (s : S) where
   -- what is left after a write by this move: what was written, the others at its port, and the others at each
   abbrev After : Move S → ℕ → Lists Signal → Lists Signal → Signal → List Signal → Type 0
-  After v q i o x r = (x ≡ carry (told_of v)) × Remains m p (m.move p (after_of s v)) i (with_port q r o)
+  After v q i o x r = (x ≡ carry (written_cell v)) × Remains m p (m.move p (state_after_write s v)) i (with_port q r o)
 
   -- what is left to the worker after it wrote c
   abbrev Wrote : ℕ → Cell → S → Lists Cell → Lists Cell → Cell → List Cell → Type 0
@@ -29,14 +29,14 @@ module _ {P S : Type 0} (m : Machine P S) (p : P) (s : S) where
   give_keeps q c next at e law = record {
     port = law.0;
     steps = λ i o. subst (λ v. Remains m p v i o ↔ First (o q) (After v q i o)) (sym e) (λ h. forth i o h, λ h. back i o h);
-    falls = subst (λ v. m.debt p (after_of s v) < m.debt p s) (sym e) law.1;
+    falls = subst (λ v. m.debt p (state_after_write s v) < m.debt p s) (sym e) law.1;
     stays = refl;
     open_yet = refl;
     ends = λ h. absurd (cc);
     still_in = λ k h. absurd (cc);
     still_out = λ k h. absurd (cc);
-    of_kind = λ held. subst (λ v. (is_of (m.kind_out p q) (told_of v) ≡ true) × m.of_kind p (after_of s v)) (sym e) (law.2 held);
-    in_range = λ dialect held own. subst (λ v. CellInRange dialect (told_of v) × m.in_range dialect p (after_of s v)) (sym e) (law.3 dialect held own);
+    of_kind = λ held. subst (λ v. (is_of (m.kind_out p q) (written_cell v) ≡ true) × m.of_kind p (state_after_write s v)) (sym e) (law.2 held);
+    in_range = λ dialect held own. subst (λ v. CellInRange dialect (written_cell v) × m.in_range dialect p (state_after_write s v)) (sym e) (law.3 dialect held own);
   }
     where
       forth : (i o : Lists Signal) → Remains m p (gives q c next) i o → First (o q) (After (gives q c next) q i o)

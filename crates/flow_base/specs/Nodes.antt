@@ -5,7 +5,7 @@ use Rattle.snesl_data.specs.declared.fault.FaultKind.TheVariants.{Shape}
 use Rattle.kahn.specs.declared.want.Want.{Want}
 use Rattle.kahn.specs.declared.want.Want.TheVariants.{Read, Write, Ended, Faulted as Stopped}
 use Rattle.flow_messages.specs.Signals.{Signal, carry, stop}
-use Rattle.flow_base.specs.Machines.{Machine, move_of, ask_of, given_of, told_of, after_of}
+use Rattle.flow_base.specs.Machines.{Machine, move_of, ask_of, state_after_read, written_cell, state_after_write}
 use Rattle.flow_base.specs.Transducers.{Behaviour}
 use Rattle.flow_base.specs.declared.worker.Ask.{Ask}
 use Rattle.flow_base.specs.declared.worker.Ask.TheVariants.{Begin, Take, Give}
@@ -53,19 +53,19 @@ module _ {P S : Type 0} (m : Machine P S) where
   at_end _ n = record n { phase = Faulted Shape }
 
   -- where an end is due, nothing else may come
-  abbrev pub given_in : Phase → NodeState (P × S) → Signal → NodeState (P × S)
-  given_in Working n (carry x) = moved n (given_of (move_of m n.worker) x)
-  given_in Working n stop = at_end (ask_of (move_of m n.worker)) n
-  given_in (Closing p) n stop = record n { phase = closing (p + 1) (m.inputs n.worker.0) }
-  given_in (Closing p) n (carry x) = record n { phase = Faulted Shape }
-  given_in _ n _ = n
+  abbrev pub node_after_read : Phase → NodeState (P × S) → Signal → NodeState (P × S)
+  node_after_read Working n (carry x) = moved n (state_after_read (move_of m n.worker) x)
+  node_after_read Working n stop = at_end (ask_of (move_of m n.worker)) n
+  node_after_read (Closing p) n stop = record n { phase = closing (p + 1) (m.inputs n.worker.0) }
+  node_after_read (Closing p) n (carry x) = record n { phase = Faulted Shape }
+  node_after_read _ n _ = n
 
-  abbrev pub told_in : Phase → NodeState (P × S) → Signal
-  told_in Working n = carry (told_of (move_of m n.worker))
-  told_in _ n = stop
+  abbrev pub written_signal : Phase → NodeState (P × S) → Signal
+  written_signal Working n = carry (written_cell (move_of m n.worker))
+  written_signal _ n = stop
 
   abbrev pub after_in : Phase → NodeState (P × S) → NodeState (P × S)
-  after_in Working n = record n { worker = (n.worker.0, after_of n.worker.1 (move_of m n.worker)) }
+  after_in Working n = record n { worker = (n.worker.0, state_after_write n.worker.1 (move_of m n.worker)) }
   after_in (Ending q) n = record n { phase = Ending (q + 1) }
   after_in _ n = n
 
@@ -83,8 +83,8 @@ module _ {P S : Type 0} (m : Machine P S) where
     sample = opened (m.sample, m.start) 0;
     process = record {
       want = λ n. want_in n.phase n;
-      read = λ n message. given_in n.phase n message;
-      written = λ n. told_in n.phase n;
+      read = λ n message. node_after_read n.phase n message;
+      written = λ n. written_signal n.phase n;
       wrote = λ n. after_in n.phase n;
       debt = λ n. debt_in n.phase n;
       end = stop;

@@ -5,9 +5,9 @@ use Rattle.flow_messages.specs.Cells.{Cell}
 use Rattle.flow_base.specs.Flags.{F, T, elements}
 
 -- the lists of each in order
-abbrev pub joined_by : {A B : Type 0} → (A → List B) → List A → List B
-joined_by f [] = []
-joined_by f (x ∷ xs) = f x ++ joined_by f xs
+abbrev pub concatenation_by : {A B : Type 0} → (A → List B) → List A → List B
+concatenation_by f [] = []
+concatenation_by f (x ∷ xs) = f x ++ concatenation_by f xs
 
 -- flags are those of the segments, one after another
 pub elements-append : (n : ℕ) (rest : List Cell) → elements n (T ∷ []) ++ rest ≡ elements n (T ∷ rest)

@@ -66,7 +66,7 @@ pub trait Worker {
     ghost use Rattle.flow_base.specs.Visits.{IsWired, Went};
     ghost use Rattle.flow_base.specs.declared.node.Phase.TheVariants.{Working};
     ghost use Rattle.flow_base.specs.Workers.{Takes, IsReading, IsWriting};
-    ghost use Rattle.flow_base.specs.Machines.{Machine, MachineLaws, move_of, ask_of, given_of, told_of, after_of, with_parameters};
+    ghost use Rattle.flow_base.specs.Machines.{Machine, MachineLaws, move_of, ask_of, state_after_read, written_cell, state_after_write, with_parameters};
     ghost use Rattle.flow_base.specs.declared.worker.Stop.TheVariants.{OutOfMemory};
 
     /// What stays as it is from one instance to the next.
@@ -106,8 +106,8 @@ pub trait Worker {
     fn take(&mut self, item: Item) -> Result<(), Stop>
         requires { IsReading (ask_of (move_of machine (state self.old))) }
         ensures takes { Takes (with_parameters (state self.old).0
-            (given_of (move_of machine (state self.old)) (cell_of item))) (state self.old) result
-            (state self.new) }
+            (state_after_read (move_of machine (state self.old)) (cell_of item)))
+            (state self.old) result (state self.new) }
         ensures sure { machine.takes_memory (state self.old).1 ≡ false →
             result ≡ Err OutOfMemory → ⊥ };
 
@@ -115,10 +115,10 @@ pub trait Worker {
     fn give(&mut self) -> Result<Item, AllocError>
         requires { IsWriting (ask_of (move_of machine (state self.old))) }
         ensures ok { IfOk result (λ item.
-            (cell_of item ≡ told_of (move_of machine (state self.old))) ×
+            (cell_of item ≡ written_cell (move_of machine (state self.old))) ×
             (state self.new ≡ (
               (state self.old).0,
-              after_of (state self.old).1 (move_of machine (state self.old)),
+              state_after_write (state self.old).1 (move_of machine (state self.old)),
             ))) }
         ensures err { OnErr result (state self.new ≡ state self.old) }
         ensures sure { machine.takes_memory (state self.old).1 ≡ false → IsOk result };

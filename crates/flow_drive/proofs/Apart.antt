@@ -12,7 +12,7 @@ use Rattle.flow_base.specs.declared.transducer.Transducer.{Ghosts}
 use Rattle.flow_graph.specs.declared.edge.Edge.{Edge}
 use Rattle.flow_graph.specs.declared.placed.Placed.{Placed}
 use Rattle.flow_graph.specs.Kept.{IsBuilt}
-use Rattle.flow_graph.specs.Layouts.{FitTogether}
+use Rattle.flow_graph.specs.Skeletons.{FitTogether}
 use Rattle.flow_graph.specs.Networks.{state_at, configuration_of}
 use Rattle.flow_graph.specs.Places.{placed_state, states_in}
 use Rattle.flow_graph.specs.Shapes.{IsSameNetwork}
@@ -24,13 +24,13 @@ use Rattle.flow_shares.specs.declared.share.Share.{Share}
 use Rattle.flow_meetings.specs.Joints.{nodes_at, no_ends, AreStates}
 use Rattle.flow_meetings.proofs.Parts.{any_of}
 use Rattle.flow_meetings.specs.Deals.{nodes_in, ends_in}
-use Rattle.flow_meetings.specs.Settings.{Setting, view_at, moved_by, AreFed}
+use Rattle.flow_meetings.specs.SharedNetworks.{SharedNetwork, view_at, moves_by, AreFed}
 use Rattle.flow_meetings.proofs.Lists.{mapped_twice}
-use Rattle.flow_rounds.specs.Epochs.{AreOfOneGraph, HaveMetAll, StandSound, StandAtRest}
+use Rattle.flow_rounds.specs.Epochs.{AreOfOneGraph, SharesHaveMet, StandSound, StandAtRest}
 use Rattle.flow_rounds.proofs.EpochGathers.{HaveRested, have_rested}
 use Rattle.flow_rounds.proofs.ShareLists.{ends_are}
 use Rattle.flow_drive.specs.Apart.{AreItsPlaces, AreThePlaces, HavePlaces, state_in_place, states_in_places, states_apart, traffic_apart, RestApart}
-use Rattle.flow_drive.specs.Edges.{seen_by, moved_on}
+use Rattle.flow_drive.specs.Edges.{seen_by, moves_over}
 use Rattle.flow_drive.proofs.Gathered.{of_lines}
 
 -- a part is no more than the whole
@@ -107,8 +107,8 @@ module _ {X : Type 0} {t : Ghosts X} {u : EndsGhosts Rings} (shares : List (Shar
   ends_found b = ap (λ (share : Share X Rings t u). share.ends) (found own) ∙ sym (ends_are shares s own l b)
 
 -- shares of one graph that came to rest
-module _ {X : Type 0} {t : Ghosts X} {u : EndsGhosts Rings} (laws : BehaviourLaws t.behaviour) (sees : u.view ≡ ends_of) (setting : Setting t) (shares : List (Share X Rings t u)) (graph : AreOfOneGraph setting shares)
-    (places : List ℕ) (known : AreThePlaces setting shares places) where
+module _ {X : Type 0} {t : Ghosts X} {u : EndsGhosts Rings} (laws : BehaviourLaws t.behaviour) (sees : u.view ≡ ends_of) (network : SharedNetwork t) (shares : List (Share X Rings t u)) (graph : AreOfOneGraph network shares)
+    (places : List ℕ) (known : AreThePlaces network shares places) where
   abbrev dealt : List (List (Placed X t))
   dealt = nodes_in shares
 
@@ -118,48 +118,48 @@ module _ {X : Type 0} {t : Ghosts X} {u : EndsGhosts Rings} (laws : BehaviourLaw
       ap {B = ℕ → View} (λ (vs : List View) (s : ℕ). get_or vs s no_ends)
       (sym (mapped_twice u.view (λ (share : Share X Rings t u). share.ends) shares) ∙ ap (λ (v : Rings → View). map v (ends_in shares)) sees)
 
-  same : IsSameNetwork t.behaviour (states_in setting.nodes) setting.edges (states_apart setting.share places shares) setting.edges
-  same = same_apart laws setting.edges setting.nodes setting.fit setting.share dealt graph.deals places (known graph.deals)
+  same : IsSameNetwork t.behaviour (states_in network.nodes) network.edges (states_apart network.share places shares) network.edges
+  same = same_apart laws network.edges network.nodes network.fit network.share dealt graph.deals places (known graph.deals)
 
   abbrev where_they_stand : Configuration t.State Signal
-  where_they_stand = configuration_of t.behaviour (states_apart setting.share places shares) (traffic_apart setting.share setting.edges shares)
+  where_they_stand = configuration_of t.behaviour (states_apart network.share places shares) (traffic_apart network.share network.edges shares)
 
-  module _ (named : 0 < length setting.share) (fed : AreFed shares) (sound : StandSound setting shares) (rest : StandAtRest setting shares) (met : HaveMetAll setting shares) where
-    rested : HaveRested setting (states_apart setting.share places shares) (ends_in shares)
+  module _ (named : 0 < length network.share) (fed : AreFed shares) (sound : StandSound network shares) (rest : StandAtRest network shares) (met : SharesHaveMet network shares) where
+    rested : HaveRested network (states_apart network.share places shares) (ends_in shares)
     rested =
-        have_rested setting shares graph sound rest met (states_apart setting.share places shares)
-        (λ deals. are_apart laws setting.edges setting.nodes setting.fit setting.share dealt deals places (known deals))
+        have_rested network shares graph sound rest met (states_apart network.share places shares)
+        (λ deals. are_apart laws network.edges network.nodes network.fit network.share dealt deals places (known deals))
         (ends_in shares) refl sees
 
-    they_rest : RestApart setting.share places setting.edges shares setting.capacity
+    they_rest : RestApart network.share places network.edges shares network.capacity
     they_rest = record {
       named = named;
       fed = fed;
-      lie = have_places laws setting.edges setting.nodes setting.fit setting.share dealt graph.deals places (known graph.deals);
+      lie = have_places laws network.edges network.nodes network.fit network.share dealt graph.deals places (known graph.deals);
       nodes = ∣ record {
-        nodes = setting.nodes;
-        fit = setting.fit;
+        nodes = network.nodes;
+        fit = network.fit;
         deals = graph.deals;
-        are = are_apart laws setting.edges setting.nodes setting.fit setting.share dealt graph.deals places (known graph.deals);
+        are = are_apart laws network.edges network.nodes network.fit network.share dealt graph.deals places (known graph.deals);
       } ∣₁;
-      built = built_apart laws setting.edges setting.nodes setting.fit setting.share dealt graph.deals places (known graph.deals);
+      built = built_apart laws network.edges network.nodes network.fit network.share dealt graph.deals places (known graph.deals);
       joined = ∣ record { writers = rested.writers; readers = rested.readers; joined = rested.joined; met = rested.met } ∣₁;
       sound = subst (λ net. ∥ IsSound t.behaviour.process net where_they_stand ∥₁) (sym same.network) rested.sound;
-      rest = subst (λ net. AtRest t.behaviour.process net (Some setting.capacity) where_they_stand) (sym same.network) rested.rest;
+      rest = subst (λ net. AtRest t.behaviour.process net (Some network.capacity) where_they_stand) (sym same.network) rested.rest;
     }
 
-  -- what holds in the setting holds of the list, the edges and the capacity that are those of the setting
-  module _ (share : List ℕ) (edges : List Edge) (capacity : ℕ) (same_share : share ≡ setting.share) (same_edges : edges ≡ setting.edges) (same_capacity : capacity ≡ setting.capacity) where
-    of_setting : (Q : List ℕ → List Edge → ℕ → Type 0) → Q setting.share setting.edges setting.capacity → Q share edges capacity
-    of_setting = of_lines setting share edges capacity same_share same_edges same_capacity
+  -- what holds in the network holds of the list, the edges and the capacity that are those of the network
+  module _ (share : List ℕ) (edges : List Edge) (capacity : ℕ) (same_share : share ≡ network.share) (same_edges : edges ≡ network.edges) (same_capacity : capacity ≡ network.capacity) where
+    of_network : (Q : List ℕ → List Edge → ℕ → Type 0) → Q network.share network.edges network.capacity → Q share edges capacity
+    of_network = of_lines network share edges capacity same_share same_edges same_capacity
 
-    pub rest_apart : 0 < length share → AreFed shares → StandSound setting shares → StandAtRest setting shares → HaveMetAll setting shares → RestApart share places edges shares capacity
+    pub rest_apart : 0 < length share → AreFed shares → StandSound network shares → StandAtRest network shares → SharesHaveMet network shares → RestApart share places edges shares capacity
     rest_apart named fed sound rest met =
-        of_setting (λ s e n. RestApart s places e shares n) (they_rest (subst (λ s. 0 < length s) same_share named) fed sound rest met)
+        of_network (λ s e n. RestApart s places e shares n) (they_rest (subst (λ s. 0 < length s) same_share named) fed sound rest met)
 
-    pub network_apart : IsSameNetwork t.behaviour (states_in setting.nodes) setting.edges (states_apart share places shares) edges
-    network_apart = of_setting (λ s e n. IsSameNetwork t.behaviour (states_in setting.nodes) setting.edges (states_apart s places shares) e) same
+    pub network_apart : IsSameNetwork t.behaviour (states_in network.nodes) network.edges (states_apart share places shares) edges
+    network_apart = of_network (λ s e n. IsSameNetwork t.behaviour (states_in network.nodes) network.edges (states_apart s places shares) e) same
 
     -- as many messages went over the edges
-    pub moved_apart : (Q : ℕ → Type 0) → Q (moved_by setting (view_at shares)) → Q (moved_on edges (traffic_apart share edges shares))
-    moved_apart Q q = of_setting (λ s e n. Q (moved_on e (traffic_apart s e shares))) (subst (λ v. Q (moved_by setting v)) seen_apart q)
+    pub moved_apart : (Q : ℕ → Type 0) → Q (moves_by network (view_at shares)) → Q (moves_over edges (traffic_apart share edges shares))
+    moved_apart Q q = of_network (λ s e n. Q (moves_over e (traffic_apart s e shares))) (subst (λ v. Q (moves_by network v)) seen_apart q)

@@ -8,7 +8,7 @@ use Rattle.flow_base.specs.declared.transducer.Transducer.{Ghosts}
 use Rattle.flow_graph.specs.declared.edge.Edge.{Edge}
 use Rattle.flow_graph.specs.Edges.{edge_at}
 use Rattle.flow_graph.specs.Graphs.{edges_of}
-use Rattle.flow_graph.specs.Layouts.{edges_in}
+use Rattle.flow_graph.specs.Skeletons.{edges_in}
 use Rattle.flow_graph.specs.Networks.{network_of}
 use Rattle.flow_graph.proofs.Nets.{graph_wired}
 use Rattle.flow_rings.specs.Rings.{ends_of}
@@ -23,7 +23,7 @@ use Rattle.flow_drive.specs.Drives.{IsSoundAt, RestsAt}
 use Rattle.flow_drive.specs.Edges.{AreJoined}
 use Rattle.flow_drive.specs.Parts.{states_at, edges_at, traffic_at, capacity_at, share_at, shares_at, AreApart}
 use Rattle.flow_drive.specs.Resteds.{AreTheShares}
-use Rattle.flow_drive.proofs.Holding.{lines_fit, ends_fit}
+use Rattle.flow_drive.proofs.Holding.{all_ends_fit, ends_fit}
 
 between : (a b c : ℕ) → a < b → b < c → a < c
 between a b c less more = omega arith
@@ -43,10 +43,10 @@ module _ {X : Type 0} {t : Ghosts X} where
 
   -- no edge holds more than the capacity
   pub all_fit : (parts : Parts X t) (e : ℕ) → length ((traffic_at parts).sent e) ≤ length ((traffic_at parts).received e) + capacity_at parts
-  all_fit (Together gathered) e = lines_fit (edges_of gathered.graph) gathered.lines gathered.there e
+  all_fit (Together gathered) e = all_ends_fit (edges_of gathered.graph) gathered.all_ends gathered.there e
   all_fit (Apart shares) e =
       ∥∥₁_elim shares.rest.joined (hlevel props)
-      (λ joined. ends_fit ends_of shares.share.items (edges_in shares.layout) (ends_in shares.shares.items) shares.capacity joined.met e (cases_lt e (length (edges_in shares.layout))))
+      (λ joined. ends_fit ends_of shares.share.items (edges_in shares.skeleton) (ends_in shares.shares.items) shares.capacity joined.met e (cases_lt e (length (edges_in shares.skeleton))))
 
   -- the writer of an edge is one of the nodes
   pub writer_among : (parts : Parts X t) (e : ℕ) → e < length (edges_at parts) → (edge : Edge) → edge ≡ edge_at (edges_at parts) e → edge.writer < length (states_at parts)

@@ -4,7 +4,7 @@ use Rattle.flow_messages.specs.declared.ends.Ends.{Ghosts as EndsGhosts}
 use Rattle.flow_base.specs.declared.transducer.Transducer.{Ghosts}
 use Rattle.flow_graph.specs.declared.graph.Graph.{Graph}
 use Rattle.flow_meetings.specs.declared.dealt.Dealt.{Dealt}
-use Rattle.flow_meetings.specs.Settings.{AreFed}
+use Rattle.flow_meetings.specs.SharedNetworks.{AreFed}
 use Rattle.flow_drive.specs.declared.config.Config.{Config}
 use Rattle.flow_drive.specs.Configs.{IsLawful}
 use Rattle.flow_drive.specs.Dealings.{IsDealtUnder, AreDealtOut}
@@ -16,8 +16,8 @@ module _ {X Y : Type 0} {t : Ghosts X} {u : EndsGhosts Y} (joins : Y → Y → �
     count = is.count;
     new = is.new;
     nodes = is.nodes;
-    wires = dealt.wires.items;
-    are_wires = is.wires;
+    owners = dealt.owners.items;
+    are_owners = is.owners;
     ends = is.ends;
   }
 

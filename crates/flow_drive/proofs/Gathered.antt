@@ -17,16 +17,16 @@ use Rattle.flow_boxes.specs.Contents.{Contents, contents, view_of}
 use Rattle.flow_boxes.specs.Rounds.{IsLinked}
 use Rattle.flow_meetings.specs.BoxMeetings.{BoxesJoin}
 use Rattle.flow_shares.specs.Deals.{share_of}
-use Rattle.flow_meetings.specs.Joints.{no_contents, boxes_at, views_of, writer_boxes, reader_boxes, joined_view, HaveMet}
-use Rattle.flow_meetings.specs.JoinedTheorems.{AllMet}
-use Rattle.flow_meetings.specs.Settings.{Setting, moved_by}
+use Rattle.flow_meetings.specs.Joints.{no_contents, boxes_at, views_of, writer_boxes, reader_boxes, end_view, BoxesHaveMet}
+use Rattle.flow_meetings.specs.EndTheorems.{EdgesHaveMet}
+use Rattle.flow_meetings.specs.SharedNetworks.{SharedNetwork, moves_by}
 use Rattle.flow_rounds.specs.Standing.{seen}
 use Rattle.flow_rounds.proofs.RoundGathers.{HaveComeToRest}
-use Rattle.flow_drive.specs.declared.lines.SharedLines.{SharedLines}
-use Rattle.flow_drive.specs.declared.lines.Lines.{Lines}
-use Rattle.flow_drive.specs.declared.lines.Lines.TheVariants.{Whole, Shared}
+use Rattle.flow_drive.specs.declared.all_ends.SharedEnds.{SharedEnds}
+use Rattle.flow_drive.specs.declared.all_ends.AllEnds.{AllEnds}
+use Rattle.flow_drive.specs.declared.all_ends.AllEnds.TheVariants.{Whole, Shared}
 use Rattle.flow_drive.specs.Drives.{EndsMaximalRun, IsSoundAt, RestsAt}
-use Rattle.flow_drive.specs.Edges.{seen_by, traffic_by, AreJoined, traffic_in, moved_on, AreThere}
+use Rattle.flow_drive.specs.Edges.{seen_by, traffic_by, AreJoined, traffic_in, moves_over, AreThere}
 use Rattle.flow_drive.proofs.Rests.{run_sound, run_rests}
 
 -- what is seen of boxes is what is seen of their ends
@@ -39,7 +39,7 @@ all_seen : (boxes : List Boxes) → views_of (map contents boxes) ≡ seen_by vi
 all_seen boxes = fun_ext (seen_of boxes)
 
 -- boxes that have met are joined
-module _ (share : List ℕ) (edges : List Edge) (boxes : List Boxes) (most : ℕ) (met : HaveMet share edges (seen boxes) most) where
+module _ (share : List ℕ) (edges : List Edge) (boxes : List Boxes) (most : ℕ) (met : BoxesHaveMet share edges (seen boxes) most) where
   abbrev writer : ℕ → ℕ
   writer e = share_of share (edge_at edges e).writer
 
@@ -67,7 +67,7 @@ module _ (share : List ℕ) (edges : List Edge) (boxes : List Boxes) (most : ℕ
         subst (λ (a : Contents). IsLinked a (contents (get_or boxes (reader e) d)) e) (get_or-map contents boxes (writer e) d no_contents writer_there)
         (subst (λ (b : Contents). IsLinked (writer_boxes share edges (seen boxes) e) b e) (get_or-map contents boxes (reader e) d no_contents reader_there) (met.linked e l))
 
-  boxes_met : AllMet share edges (views_of (seen boxes)) most
+  boxes_met : EdgesHaveMet share edges (views_of (seen boxes)) most
   boxes_met e l =
       let w = (writer_boxes share edges (seen boxes) e).ends in
       let r = (reader_boxes share edges (seen boxes) e).ends in
@@ -85,24 +85,24 @@ module _ (share : List ℕ) (edges : List Edge) (boxes : List Boxes) (most : ℕ
     writers = writer_there;
     readers = reader_there;
     joined = λ e d l. joined_at e l d;
-    met = subst (λ v. AllMet share edges v most) (all_seen boxes) boxes_met;
+    met = subst (λ v. EdgesHaveMet share edges v most) (all_seen boxes) boxes_met;
   }
 
 -- the ends of these edges are joined, where they are in boxes
-abbrev BoxesThere : List Edge → Lines → Type 0
+abbrev BoxesThere : List Edge → AllEnds → Type 0
 BoxesThere edges (Whole table) = Unit {0}
 BoxesThere edges (Shared boxes) = AreJoined view_of boxes.share.items edges boxes.ends.items BoxesJoin boxes.capacity
 
--- what holds of the ends in a setting holds of the edges that a graph gathered there has
-module _ {X : Type 0} {t : Ghosts X} (setting : Setting t) (share : List ℕ) (edges : List Edge) (capacity : ℕ) (same_share : share ≡ setting.share) (same_edges : edges ≡ setting.edges) (same_capacity : capacity ≡ setting.capacity) where
-  pub of_lines : (Q : List ℕ → List Edge → ℕ → Type 0) → Q setting.share setting.edges setting.capacity → Q share edges capacity
-  of_lines Q q = subst (λ s. Q s edges capacity) (sym same_share) (subst (λ e. Q setting.share e capacity) (sym same_edges) (subst (λ n. Q setting.share setting.edges n) (sym same_capacity) q))
+-- what holds of the ends in a network holds of the edges that a graph gathered there has
+module _ {X : Type 0} {t : Ghosts X} (network : SharedNetwork t) (share : List ℕ) (edges : List Edge) (capacity : ℕ) (same_share : share ≡ network.share) (same_edges : edges ≡ network.edges) (same_capacity : capacity ≡ network.capacity) where
+  pub of_lines : (Q : List ℕ → List Edge → ℕ → Type 0) → Q network.share network.edges network.capacity → Q share edges capacity
+  of_lines Q q = subst (λ s. Q s edges capacity) (sym same_share) (subst (λ e. Q network.share e capacity) (sym same_edges) (subst (λ n. Q network.share network.edges n) (sym same_capacity) q))
 
 -- over boxes
-module _ {X : Type 0} {t : Ghosts X} (setting : Setting t) (graph : Graph X t) (shared : SharedLines Boxes)
-    (same : IsSameNetwork t.behaviour (states_in setting.nodes) setting.edges (states_of graph) (edges_of graph))
-    (rested : HaveComeToRest setting (states_of graph) (seen shared.ends.items))
-    (share : shared.share.items ≡ setting.share) (capacity : shared.capacity ≡ setting.capacity) where
+module _ {X : Type 0} {t : Ghosts X} (network : SharedNetwork t) (graph : Graph X t) (shared : SharedEnds Boxes)
+    (same : IsSameNetwork t.behaviour (states_in network.nodes) network.edges (states_of graph) (edges_of graph))
+    (rested : HaveComeToRest network (states_of graph) (seen shared.ends.items))
+    (share : shared.share.items ≡ network.share) (capacity : shared.capacity ≡ network.capacity) where
   abbrev boxes : List Boxes
   boxes = shared.ends.items
 
@@ -111,30 +111,30 @@ module _ {X : Type 0} {t : Ghosts X} (setting : Setting t) (graph : Graph X t) (
 
   boxes_there : AreJoined view_of shared.share.items (edges_of graph) boxes BoxesJoin shared.capacity
   boxes_there =
-      of_lines setting shared.share.items (edges_of graph) shared.capacity share same.same_edges capacity (λ s e n. AreJoined view_of s e boxes BoxesJoin n)
-      (boxes_joined setting.share setting.edges boxes setting.capacity rested.met)
+      of_lines network shared.share.items (edges_of graph) shared.capacity share same.same_edges capacity (λ s e n. AreJoined view_of s e boxes BoxesJoin n)
+      (boxes_joined network.share network.edges boxes network.capacity rested.met)
 
   pub are_there : AreThere (edges_of graph) (Shared shared)
   are_there = record {
     whole = λ table is. absurd (cc is);
-    shared = λ other is. ∣ subst (λ lines. BoxesThere (edges_of graph) lines) is boxes_there ∣₁;
+    shared = λ other is. ∣ subst (λ all_ends. BoxesThere (edges_of graph) all_ends) is boxes_there ∣₁;
   }
 
-  pub run : EndsMaximalRun t.behaviour setting.capacity (states_in setting.nodes) setting.edges (states_of graph) traffic
-  run = of_lines setting shared.share.items (edges_of graph) shared.capacity share same.same_edges capacity
-      (λ s e n. EndsMaximalRun t.behaviour setting.capacity (states_in setting.nodes) setting.edges (states_of graph) (traffic_by view_of s e boxes))
-      (subst (λ v. EndsMaximalRun t.behaviour setting.capacity (states_in setting.nodes) setting.edges (states_of graph) (joined_view setting.share setting.edges v)) (all_seen boxes)
+  pub run : EndsMaximalRun t.behaviour network.capacity (states_in network.nodes) network.edges (states_of graph) traffic
+  run = of_lines network shared.share.items (edges_of graph) shared.capacity share same.same_edges capacity
+      (λ s e n. EndsMaximalRun t.behaviour network.capacity (states_in network.nodes) network.edges (states_of graph) (traffic_by view_of s e boxes))
+      (subst (λ v. EndsMaximalRun t.behaviour network.capacity (states_in network.nodes) network.edges (states_of graph) (end_view network.share network.edges v)) (all_seen boxes)
       (rested.reaches.0, record { run = rested.reaches.1; rest = rested.rest }))
 
   -- as many messages went over the edges of the graph
-  pub boxes_moved : (Q : ℕ → Type 0) → Q (moved_by setting (views_of (seen boxes))) → Q (moved_on (edges_of graph) traffic)
+  pub boxes_moved : (Q : ℕ → Type 0) → Q (moves_by network (views_of (seen boxes))) → Q (moves_over (edges_of graph) traffic)
   boxes_moved Q q =
-      of_lines setting shared.share.items (edges_of graph) shared.capacity share same.same_edges capacity (λ s e n. Q (moved_on e (traffic_by view_of s e boxes)))
-      (subst (λ v. Q (moved_by setting v)) (all_seen boxes) q)
+      of_lines network shared.share.items (edges_of graph) shared.capacity share same.same_edges capacity (λ s e n. Q (moves_over e (traffic_by view_of s e boxes)))
+      (subst (λ v. Q (moves_by network v)) (all_seen boxes) q)
 
   pub sound : IsSoundAt t.behaviour (states_of graph) (edges_of graph) traffic
-  sound = run_sound t.behaviour setting.capacity (states_in setting.nodes) setting.edges (states_of graph) (edges_of graph) traffic same run setting.fit.built.wired
+  sound = run_sound t.behaviour network.capacity (states_in network.nodes) network.edges (states_of graph) (edges_of graph) traffic same run network.fit.built.wired
 
   pub rests : RestsAt t.behaviour (states_of graph) (edges_of graph) shared.capacity traffic
   rests = subst (λ n. RestsAt t.behaviour (states_of graph) (edges_of graph) n traffic) (sym capacity)
-      (run_rests t.behaviour setting.capacity (states_in setting.nodes) setting.edges (states_of graph) (edges_of graph) traffic same run)
+      (run_rests t.behaviour network.capacity (states_in network.nodes) network.edges (states_of graph) (edges_of graph) traffic same run)

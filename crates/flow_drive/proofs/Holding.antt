@@ -16,25 +16,25 @@ use Rattle.flow_graph.specs.Edges.{edge_at}
 use Rattle.flow_boxes.specs.Contents.{view_of}
 use Rattle.flow_shares.specs.Deals.{share_of}
 use Rattle.flow_meetings.specs.Joints.{no_ends}
-use Rattle.flow_meetings.specs.JoinedTheorems.{AllMet}
+use Rattle.flow_meetings.specs.EndTheorems.{EdgesHaveMet}
 use Rattle.flow_meetings.proofs.Parts.{any_of}
 use Rattle.flow_meetings.proofs.Views.{sent_at, received_at, none_sent}
-use Rattle.flow_drive.specs.declared.lines.Lines.{Lines}
-use Rattle.flow_drive.specs.declared.lines.Lines.TheVariants.{Whole, Shared}
+use Rattle.flow_drive.specs.declared.all_ends.AllEnds.{AllEnds}
+use Rattle.flow_drive.specs.declared.all_ends.AllEnds.TheVariants.{Whole, Shared}
 use Rattle.flow_drive.specs.Edges.{seen_by, traffic_by, AreJoined, traffic_in, capacity_in, AreThere}
 
 -- where the ends of all edges have met, no edge holds more than the capacity
-module _ {Y : Type 0} (view : Y → View) (share : List ℕ) (edges : List Edge) (ends : List Y) (most : ℕ) (met : AllMet share edges (seen_by view ends) most) (e : ℕ) where
+module _ {Y : Type 0} (view : Y → View) (share : List ℕ) (edges : List Edge) (ends : List Y) (most : ℕ) (met : EdgesHaveMet share edges (seen_by view ends) most) (e : ℕ) where
   pub ends_fit : (e < length edges) ⊎ (length edges ≤ e) → let traffic = traffic_by view share edges ends in length (traffic.sent e) ≤ length (traffic.received e) + most
   ends_fit (inl l) =
       omega (arith, ap length (sent_at share edges (seen_by view ends) e l), ap length (received_at share edges (seen_by view ends) e l), (met e l).fits)
   ends_fit (inr above) = omega (arith, ap length (none_sent share edges (seen_by view ends) e above))
 
 -- no edge holds more than the capacity
-pub lines_fit : (edges : List Edge) (lines : Lines) → AreThere edges lines → (e : ℕ) → length ((traffic_in edges lines).sent e) ≤ length ((traffic_in edges lines).received e) + capacity_in lines
-lines_fit edges (Whole table) there e =
+pub all_ends_fit : (edges : List Edge) (all_ends : AllEnds) → AreThere edges all_ends → (e : ℕ) → length ((traffic_in edges all_ends).sent e) ≤ length ((traffic_in edges all_ends).received e) + capacity_in all_ends
+all_ends_fit edges (Whole table) there e =
     omega (arith, table_holds table e, ap length ((whole_table table).coming e), waits-length (capacity_of table) (ends_of table) e (whole_table table))
-lines_fit edges (Shared boxes) there e =
+all_ends_fit edges (Shared boxes) there e =
     ∥∥₁_elim (there.shared boxes refl) (hlevel props) (λ joined. ends_fit view_of boxes.share.items edges boxes.ends.items boxes.capacity joined.met e (cases_lt e (length edges)))
 
 -- the ends of an edge, in the shares of its two nodes

@@ -5,13 +5,13 @@ use Rattle.flow_messages.specs.declared.ends.Ends.{Ghosts as EndsGhosts}
 use Rattle.flow_base.specs.declared.transducer.Transducer.{Ghosts}
 use Rattle.flow_graph.specs.declared.edge.Edge.{Edge}
 use Rattle.flow_graph.specs.declared.placed.Placed.{Placed}
-use Rattle.flow_graph.specs.Layouts.{FitTogether}
+use Rattle.flow_graph.specs.Skeletons.{FitTogether}
 use Rattle.flow_shares.specs.Deals.{share_of, AreDealt}
 use Rattle.flow_shares.specs.declared.share.Share.{Share}
 use Rattle.flow_meetings.specs.Joints.{nodes_at}
 use Rattle.flow_meetings.proofs.Seats.{number_is}
 use Rattle.flow_meetings.specs.Deals.{nodes_in}
-use Rattle.flow_meetings.specs.Settings.{Setting}
+use Rattle.flow_meetings.specs.SharedNetworks.{SharedNetwork}
 use Rattle.flow_rounds.proofs.ShareLists.{count_dealt, nodes_are}
 use Rattle.flow_drive.specs.Apart.{AreItsPlaces}
 
@@ -78,9 +78,9 @@ module _ {X : Type 0} {t : Ghosts X} (share : List ℕ) (nodes : List (Placed X 
 both : (a b : ℕ) → a ≤ b → b ≤ a → a ≡ b
 both a b less more = omega arith
 
-module _ {X Y : Type 0} {t : Ghosts X} {u : EndsGhosts Y} (setting : Setting t) (shares : List (Share X Y t u)) (deals : AreDealt setting.share setting.nodes (nodes_in shares)) where
+module _ {X Y : Type 0} {t : Ghosts X} {u : EndsGhosts Y} (network : SharedNetwork t) (shares : List (Share X Y t u)) (deals : AreDealt network.share network.nodes (nodes_in shares)) where
   abbrev NotedTo : ℕ → ℕ → List ℕ → Type 0
-  NotedTo = AreNoted setting.share setting.nodes (nodes_in shares) deals
+  NotedTo = AreNoted network.share network.nodes (nodes_in shares) deals
 
   -- share s, with these nodes
   module _ (s : ℕ) (l : s < length shares) (own : Share X Y t u) (found : own ≡ get_or shares s own) (nodes : List (Placed X t)) (of : nodes ≡ own.nodes.items) where
@@ -98,20 +98,20 @@ module _ {X Y : Type 0} {t : Ghosts X} {u : EndsGhosts Y} (setting : Setting t) 
       it : x ≡ get_or (nodes_at (nodes_in shares) s) i x
       it = is ∙ ap (λ ns. get_or ns i x) are
 
-      pub note_below : number < length setting.nodes
-      note_below = subst (λ n. n < length setting.nodes) (sym named) (number_below setting.share setting.nodes (nodes_in shares) deals setting.edges setting.fit s i low inside x it)
+      pub note_below : number < length network.nodes
+      note_below = subst (λ n. n < length network.nodes) (sym named) (number_below network.share network.nodes (nodes_in shares) deals network.edges network.fit s i low inside x it)
 
       pub note_next : (places : List ℕ) → NotedTo s i places → NotedTo s (i + 1) (set places number i)
       note_next places noted =
           subst (λ n. NotedTo s (i + 1) (set places n i)) (sym named)
-          (noted_next setting.share setting.nodes (nodes_in shares) deals setting.edges setting.fit s i low inside x it places noted)
+          (noted_next network.share network.nodes (nodes_in shares) deals network.edges network.fit s i low inside x it places noted)
 
     pub note_share : (i : ℕ) → i ≤ length nodes → length nodes ≤ i → (places : List ℕ) → NotedTo s i places → NotedTo (s + 1) 0 places
     note_share i most least places noted =
-        noted_share setting.share setting.nodes (nodes_in shares) deals s places
+        noted_share network.share network.nodes (nodes_in shares) deals s places
         (subst (λ n. NotedTo s n places) (both i (length nodes) most least ∙ ap (λ (ns : List (Placed X t)). length ns) are) noted)
 
-  pub note_all : (s : ℕ) → s ≤ length shares → length shares ≤ s → (places : List ℕ) → NotedTo s 0 places → AreItsPlaces setting.share setting.nodes (nodes_in shares) deals places
+  pub note_all : (s : ℕ) → s ≤ length shares → length shares ≤ s → (places : List ℕ) → NotedTo s 0 places → AreItsPlaces network.share network.nodes (nodes_in shares) deals places
   note_all s most least places noted =
-      noted_all setting.share setting.nodes (nodes_in shares) deals places
+      noted_all network.share network.nodes (nodes_in shares) deals places
       (subst (λ n. NotedTo n 0 places) (both s (length shares) most least ∙ sym (count_dealt shares)) noted)

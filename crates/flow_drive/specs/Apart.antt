@@ -7,7 +7,7 @@ use Rattle.flow_base.specs.declared.transducer.Transducer.{Ghosts}
 use Rattle.flow_graph.specs.declared.edge.Edge.{Edge}
 use Rattle.flow_graph.specs.declared.placed.Placed.{Placed}
 use Rattle.flow_graph.specs.Kept.{IsBuilt}
-use Rattle.flow_graph.specs.Layouts.{FitTogether}
+use Rattle.flow_graph.specs.Skeletons.{FitTogether}
 use Rattle.flow_graph.specs.Networks.{state_at}
 use Rattle.flow_graph.specs.Places.{states_in}
 use Rattle.flow_rings.specs.declared.rings.Rings.{Rings}
@@ -17,7 +17,7 @@ use Rattle.flow_shares.specs.Deals.{share_of, AreDealt}
 use Rattle.flow_shares.specs.declared.share.Share.{Share}
 use Rattle.flow_meetings.specs.Joints.{nodes_at, AreStates}
 use Rattle.flow_meetings.specs.Deals.{nodes_in, ends_in}
-use Rattle.flow_meetings.specs.Settings.{Setting, AreFed}
+use Rattle.flow_meetings.specs.SharedNetworks.{SharedNetwork, AreFed}
 use Rattle.flow_drive.specs.Drives.{IsSoundAt, RestsAt}
 use Rattle.flow_drive.specs.Edges.{traffic_by, AreJoined}
 
@@ -49,8 +49,8 @@ module _ {X : Type 0} {t : Ghosts X} where
       pub inside : (k : ℕ) → k < length places → slice_index_or places k 0 < length (nodes_at dealt (share_of share k))
 
 -- each node that was dealt out to these shares lies at the place that the list names
-abbrev pub AreThePlaces : {X Y : Type 0} {t : Ghosts X} {u : EndsGhosts Y} → Setting t → List (Share X Y t u) → List ℕ → Type 0
-AreThePlaces setting shares places = (deals : AreDealt setting.share setting.nodes (nodes_in shares)) → AreItsPlaces setting.share setting.nodes (nodes_in shares) deals places
+abbrev pub AreThePlaces : {X Y : Type 0} {t : Ghosts X} {u : EndsGhosts Y} → SharedNetwork t → List (Share X Y t u) → List ℕ → Type 0
+AreThePlaces network shares places = (deals : AreDealt network.share network.nodes (nodes_in shares)) → AreItsPlaces network.share network.nodes (nodes_in shares) deals places
 
 module _ {X : Type 0} {t : Ghosts X} {u : EndsGhosts Rings} where
   -- the states of the nodes in these shares

@@ -4,25 +4,25 @@ use Rattle.flow_messages.specs.declared.ends.Ends.{Ghosts as EndsGhosts}
 use Rattle.flow_base.specs.declared.transducer.Transducer.{Ghosts}
 use Rattle.flow_graph.specs.declared.graph.Graph.{Graph}
 use Rattle.flow_graph.specs.Graphs.{edges_of}
-use Rattle.flow_graph.specs.Layouts.{nodes_of}
+use Rattle.flow_graph.specs.Skeletons.{nodes_of}
 use Rattle.flow_boxes.specs.declared.boxes.Boxes.{Boxes}
 use Rattle.flow_rings.specs.declared.rings.Rings.{Rings}
-use Rattle.flow_meetings.specs.declared.wires.Wire.{Wire}
-use Rattle.flow_meetings.specs.BoxMeetings.{BoxesJoin, box_places}
-use Rattle.flow_meetings.specs.RingMeetings.{RingsJoin, ring_places}
+use Rattle.flow_meetings.specs.declared.owners.EdgeOwners.{EdgeOwners}
+use Rattle.flow_meetings.specs.BoxMeetings.{BoxesJoin, box_slots}
+use Rattle.flow_meetings.specs.RingMeetings.{RingsJoin, ring_slots}
 use Rattle.flow_shares.specs.Deals.{AreJustDealt}
 use Rattle.flow_shares.specs.declared.share.Share.{Share}
-use Rattle.flow_meetings.specs.Open.{AreWires, AreFreshEnds}
+use Rattle.flow_meetings.specs.Open.{AreOwners, AreFreshEnds}
 use Rattle.flow_meetings.specs.declared.dealt.Dealt.{Dealt}
 use Rattle.flow_meetings.specs.Deals.{nodes_in, ends_in, AreNew, IsDealt}
-use Rattle.flow_meetings.specs.Settings.{Setting, setting_of}
+use Rattle.flow_meetings.specs.SharedNetworks.{SharedNetwork, shared_network}
 use Rattle.flow_rounds.specs.Epochs.{AreOfOneGraph}
 use Rattle.flow_drive.specs.Configs.{IsLawful}
 use Rattle.flow_drive.specs.declared.config.Config.{Config}
 
--- the setting in which the configuration deals the graph out
-abbrev pub setting_under : {X : Type 0} {t : Ghosts X} → Graph X t → Config → Setting t
-setting_under graph config = setting_of graph config.share.items config.capacity
+-- the network in which the configuration deals the graph out
+abbrev pub network_under : {X : Type 0} {t : Ghosts X} → Graph X t → Config → SharedNetwork t
+network_under graph config = shared_network graph config.share.items config.capacity
 
 module _ {X Y : Type 0} {t : Ghosts X} {u : EndsGhosts Y} where
   -- the graph was dealt out as the configuration says
@@ -39,19 +39,19 @@ module _ {X Y : Type 0} {t : Ghosts X} {u : EndsGhosts Y} where
     -- each node lies in its share, at one place there, and nothing else does
     pub nodes : AreJustDealt config.share.items (nodes_of graph) (nodes_in shares)
     -- of each edge of the graph, the shares of its writer and its reader
-    pub wires : List Wire
-    pub are_wires : AreWires config.share.items (edges_of graph) wires
-    -- each end of each edge lies in the share that its wire names, and nowhere else, and all are fresh
-    pub ends : AreFreshEnds u.view joins places wires config.capacity (ends_in shares)
+    pub owners : List EdgeOwners
+    pub are_owners : AreOwners config.share.items (edges_of graph) owners
+    -- each end of each edge lies in the share that its owner names, and nowhere else, and all are fresh
+    pub ends : AreFreshEnds u.view joins places owners config.capacity (ends_in shares)
 
 -- over boxes
 abbrev pub AreDealtOverBoxes : {X : Type 0} {t : Ghosts X} {u : EndsGhosts Boxes} → Graph X t → Config → List (Share X Boxes t u) → Type 0
-AreDealtOverBoxes graph config shares = AreDealtOut BoxesJoin box_places graph config shares
+AreDealtOverBoxes graph config shares = AreDealtOut BoxesJoin box_slots graph config shares
 
 -- over rings
 abbrev pub AreDealtOverRings : {X : Type 0} {t : Ghosts X} {u : EndsGhosts Rings} → Graph X t → Config → List (Share X Rings t u) → Type 0
-AreDealtOverRings graph config shares = AreDealtOut RingsJoin ring_places graph config shares
+AreDealtOverRings graph config shares = AreDealtOut RingsJoin ring_slots graph config shares
 
 -- and these are the shares of that graph
 abbrev pub AreSharesOf : {X : Type 0} {t : Ghosts X} {u : EndsGhosts Rings} → Graph X t → Config → List (Share X Rings t u) → Type 0
-AreSharesOf graph config shares = AreOfOneGraph (setting_under graph config) shares
+AreSharesOf graph config shares = AreOfOneGraph (network_under graph config) shares

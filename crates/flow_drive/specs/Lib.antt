@@ -10,7 +10,7 @@ pub mod Resteds
 pub mod Driven
 pub mod Dealings
 pub mod Pumped
-pub mod Givens
+pub mod Origins
 pub mod Texts
 -- what the public clauses cite of the crates below, and what the words above are made of: of networks and their runs
 pub use Rattle.kahn.specs.declared.outcome.Outcome
@@ -31,7 +31,7 @@ pub use Rattle.flow_graph.specs.Shapes
 pub use Rattle.flow_rings.specs.declared.rings.Rings as RingEnds
 pub use Rattle.flow_rings.specs.Rings
 pub use Rattle.flow_boxes.specs.declared.boxes.Boxes
-pub use Rattle.flow_meetings.specs.declared.wires.Wire
+pub use Rattle.flow_meetings.specs.declared.owners.EdgeOwners
 pub use Rattle.flow_meetings.specs.BoxMeetings
 pub use Rattle.flow_meetings.specs.Met
 pub use Rattle.flow_meetings.specs.RingMeetings
@@ -43,8 +43,8 @@ pub use Rattle.flow_shares.specs.Pumps
 pub use Rattle.flow_shares.specs.Shares
 pub use Rattle.flow_shares.specs.declared.error.WorkError
 pub use Rattle.flow_meetings.specs.Joints
-pub use Rattle.flow_meetings.specs.JoinedTheorems
+pub use Rattle.flow_meetings.specs.EndTheorems
 pub use Rattle.flow_meetings.specs.Deals as ShareDeals
 pub use Rattle.flow_meetings.specs.Open
-pub use Rattle.flow_meetings.specs.Settings
+pub use Rattle.flow_meetings.specs.SharedNetworks
 pub use Rattle.flow_rounds.specs.Epochs as ShareEpochs

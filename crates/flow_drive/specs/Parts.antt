@@ -4,7 +4,7 @@ use Rattle.flow_messages.specs.Ends.{View}
 use Rattle.flow_base.specs.declared.transducer.Transducer.{Ghosts}
 use Rattle.flow_graph.specs.declared.edge.Edge.{Edge}
 use Rattle.flow_graph.specs.Graphs.{states_of, edges_of}
-use Rattle.flow_graph.specs.Layouts.{edges_in}
+use Rattle.flow_graph.specs.Skeletons.{edges_in}
 use Rattle.flow_drive.specs.Apart.{states_apart, traffic_apart}
 use Rattle.flow_drive.specs.Edges.{traffic_in, capacity_in, share_in, shares_in}
 use Rattle.flow_drive.specs.declared.parts.Gathered.{Gathered}
@@ -15,14 +15,14 @@ use Rattle.flow_drive.specs.declared.ring_shares.RingShares.{RingShares}
 module _ {X : Type 0} {t : Ghosts X} where
   -- what was sent and received on the edges of a graph
   abbrev pub gathered_traffic : Gathered X t → View
-  gathered_traffic gathered = traffic_in (edges_of gathered.graph) gathered.lines
+  gathered_traffic gathered = traffic_in (edges_of gathered.graph) gathered.all_ends
 
   -- the states of the nodes in shares, and what was sent and received on their edges
   abbrev pub shares_states : RingShares X t → List t.State
   shares_states shares = states_apart shares.share.items shares.places.items shares.shares.items
 
   abbrev pub shares_traffic : RingShares X t → View
-  shares_traffic shares = traffic_apart shares.share.items (edges_in shares.layout) shares.shares.items
+  shares_traffic shares = traffic_apart shares.share.items (edges_in shares.skeleton) shares.shares.items
 
   -- the states of the nodes
   abbrev pub states_at : Parts X t → List t.State
@@ -32,7 +32,7 @@ module _ {X : Type 0} {t : Ghosts X} where
   -- the edges
   abbrev pub edges_at : Parts X t → List Edge
   edges_at (Together gathered) = edges_of gathered.graph
-  edges_at (Apart shares) = edges_in shares.layout
+  edges_at (Apart shares) = edges_in shares.skeleton
 
   -- what was sent and received on them
   abbrev pub traffic_at : Parts X t → View
@@ -41,16 +41,16 @@ module _ {X : Type 0} {t : Ghosts X} where
 
   -- how many messages each edge holds at most
   abbrev pub capacity_at : Parts X t → ℕ
-  capacity_at (Together gathered) = capacity_in gathered.lines
+  capacity_at (Together gathered) = capacity_in gathered.all_ends
   capacity_at (Apart shares) = shares.capacity
 
   -- which share had each node, where they were dealt out, and how many shares there were
   abbrev pub share_at : Parts X t → List ℕ
-  share_at (Together gathered) = share_in gathered.lines
+  share_at (Together gathered) = share_in gathered.all_ends
   share_at (Apart shares) = shares.share.items
 
   abbrev pub shares_at : Parts X t → ℕ
-  shares_at (Together gathered) = shares_in gathered.lines
+  shares_at (Together gathered) = shares_in gathered.all_ends
   shares_at (Apart shares) = length shares.shares.items
 
   -- the nodes stayed in shares, over rings

@@ -4,6 +4,6 @@ use Rattle.flow_shares.specs.declared.error.WorkError.TheVariants as work
 use Rattle.flow_drive.specs.declared.driver.DriveError.{DriveError}
 use Rattle.flow_drive.specs.declared.driver.DriveError.TheVariants as drive
 
-abbrev pub refused_work : WorkError → DriveError
-refused_work work.NoMemory = drive.NoMemory
-refused_work work.NoThread = drive.NoThread
+abbrev pub drive_error_of : WorkError → DriveError
+drive_error_of work.NoMemory = drive.NoMemory
+drive_error_of work.NoThread = drive.NoThread

@@ -9,9 +9,9 @@ use Rattle.flow_base.specs.declared.transducer.Transducer.{Ghosts}
 use Rattle.flow_graph.specs.declared.edge.Edge.{Edge}
 use Rattle.flow_shares.specs.declared.share.Share.{Share}
 use Rattle.flow_meetings.specs.Deals.{nodes_in, ends_in}
-use Rattle.flow_meetings.specs.Settings.{AreFed}
+use Rattle.flow_meetings.specs.SharedNetworks.{AreFed}
 use Rattle.flow_drive.specs.Apart.{HaveStates, traffic_apart}
-use Rattle.flow_drive.specs.Edges.{AreJoined, moved_on}
+use Rattle.flow_drive.specs.Edges.{AreJoined, moves_over}
 use Rattle.flow_drive.specs.Parts.{states_at, edges_at, traffic_at, capacity_at, share_at, shares_at, AreApart}
 use Rattle.flow_drive.specs.declared.rested.Rested.{Rested}
 
@@ -41,8 +41,8 @@ module _ {X : Type 0} {t : Ghosts X} where
   rested_epochs rested = rested.epochs
 
   -- how many messages were sent and received on all its edges
-  abbrev pub moved_of : Rested X t → ℕ
-  moved_of rested = moved_on (rested_edges rested) (traffic_of rested)
+  abbrev pub moves_of : Rested X t → ℕ
+  moves_of rested = moves_over (rested_edges rested) (traffic_of rested)
 
   -- it was driven over rings, and its nodes stayed in their shares
   abbrev pub IsOverRings : Rested X t → Type 0

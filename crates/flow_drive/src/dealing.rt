@@ -2,7 +2,7 @@
 ghost use Rattle.std.specs.Prelude.{◌≡◌, ◌↔◌, ◌⊎◌, Err, IfOk, IfErr};
 ghost use Rattle.flow_graph.specs.Graphs.{states_of};
 ghost use Rattle.flow_graph.specs.Networks.{AreOpened};
-ghost use Rattle.flow_meetings.specs.Settings.{AreFed};
+ghost use Rattle.flow_meetings.specs.SharedNetworks.{AreFed};
 ghost use Rattle.flow_drive.specs.Configs.{IsLawful};
 ghost use Rattle.flow_drive.specs.Dealings.{IsDealtUnder, AreDealtOverBoxes, AreDealtOverRings, AreSharesOf};
 ghost use Rattle.flow_drive.specs.declared.driver.DriveError.TheVariants.{BadConfig, NoMemory};
@@ -65,7 +65,7 @@ fn dealt_out<T: Transducer + Drop, E: Opening + Drop>(
     ensures config { (result ≡ Err BadConfig) ↔ (IsLawful config.now → ⊥) }
     ensures refused { IfErr result (λ error. (error ≡ BadConfig) ⊎ (error ≡ NoMemory)) }
     ensures lawful { IfOk result (λ _. IsLawful config.now) }
-    ensures dealt { IfOk result (λ dealt. IsDealtUnder E.joins E.places graph config.now dealt) }
+    ensures dealt { IfOk result (λ dealt. IsDealtUnder E.joins E.slots graph config.now dealt) }
 {
     if !config.lawful() {
         return Err(DriveError::BadConfig);

@@ -7,14 +7,14 @@ ghost use Rattle.flow_drive.specs.Configs.{IsLawful, StartsThreads, IsInSteps};
 ghost use Rattle.flow_drive.specs.Driven.{HasNetworkOf, EndsRunOf};
 ghost use Rattle.flow_drive.specs.Drives.{EndsMaximalRun};
 ghost use Rattle.flow_drive.specs.Epochs.{TookRounds, TookEpochs};
-ghost use Rattle.flow_drive.specs.Refusals.{refused_work};
-ghost use Rattle.flow_drive.specs.Resteds.{rested_states, rested_edges, rested_capacity, rested_rounds, rested_epochs, rested_share, rested_shares, moved_of, traffic_of, IsOverRings};
+ghost use Rattle.flow_drive.specs.Refusals.{drive_error_of};
+ghost use Rattle.flow_drive.specs.Resteds.{rested_states, rested_edges, rested_capacity, rested_rounds, rested_epochs, rested_share, rested_shares, moves_of, traffic_of, IsOverRings};
 ghost use Rattle.flow_drive.specs.declared.config.Drive.TheVariants.{Rings};
 ghost use Rattle.flow_drive.specs.declared.driver.DriveError.TheVariants.{BadConfig, NoMemory, NoThread, Short};
 
+use crate::all_ends::AllEnds;
 use crate::config::{Config, Drive};
 use crate::joined::drive_rings;
-use crate::lines::Lines;
 use crate::parts::{Gathered, Parts};
 use crate::rested::Rested;
 use crate::rounds::drive_rounds;
@@ -63,7 +63,7 @@ impl<T: Drop> From<AllocFailed<T>> for DriveError {
 }
 
 impl From<WorkError> for DriveError {
-    ghost from_gives = { λ refused error. error ≡ refused_work refused };
+    ghost from_gives = { λ refused error. error ≡ drive_error_of refused };
 
     fn from(refused: WorkError) -> Self {
         match refused {
@@ -102,9 +102,9 @@ pub fn drive<
     ensures run { IsInSteps config.now.drive
         → IfOk result (λ rested. EndsRunOf graph config.now rested) }
     ensures rounds { IfOk result (λ rested.
-        TookRounds config.now.drive (rested_rounds rested) (moved_of rested)) }
+        TookRounds config.now.drive (rested_rounds rested) (moves_of rested)) }
     ensures epochs { IfOk result (λ rested.
-        TookEpochs config.now.drive (rested_epochs rested) (moved_of rested)) }
+        TookEpochs config.now.drive (rested_epochs rested) (moves_of rested)) }
     ensures rings { IfOk result (λ rested. IsOverRings rested ↔ (config.now.drive ≡ Rings)) }
     ensures share { StartsThreads config.now.drive
         → IfOk result (λ rested. rested_share rested ≡ config.now.share.items) }
@@ -138,9 +138,9 @@ pub fn drive_with<
     ensures run { IsInSteps config.now.drive
         → IfOk result (λ rested. EndsRunOf graph config.now rested) }
     ensures rounds { IfOk result (λ rested.
-        TookRounds config.now.drive (rested_rounds rested) (moved_of rested)) }
+        TookRounds config.now.drive (rested_rounds rested) (moves_of rested)) }
     ensures epochs { IfOk result (λ rested.
-        TookEpochs config.now.drive (rested_epochs rested) (moved_of rested)) }
+        TookEpochs config.now.drive (rested_epochs rested) (moves_of rested)) }
     ensures rings { IfOk result (λ rested. IsOverRings rested ↔ (config.now.drive ≡ Rings)) }
     ensures share { StartsThreads config.now.drive
         → IfOk result (λ rested. rested_share rested ≡ config.now.share.items) }
@@ -180,7 +180,7 @@ fn drive_serial<T: Transducer + Drop>(
     run_serial(alloc, &mut graph, &mut ends, config.chunk)?;
     let gathered = Gathered {
         graph,
-        lines: Lines::Whole(ends),
+        all_ends: AllEnds::Whole(ends),
     };
     Ok(Rested {
         parts: Parts::Together(gathered),

@@ -1,6 +1,6 @@
 // Epochs as configurations say.
 ghost use Rattle.std.specs.Prelude.{◌≡◌, ◌⊎◌, Err, IfOk, IfErr};
-ghost use Rattle.flow_meetings.specs.Settings.{Setting, AreFed};
+ghost use Rattle.flow_meetings.specs.SharedNetworks.{SharedNetwork, AreFed};
 ghost use Rattle.flow_rounds.specs.Epochs.{AreOfOneGraph, IsEpoch};
 ghost use Rattle.flow_drive.specs.Configs.{IsLawful};
 ghost use Rattle.flow_drive.specs.declared.driver.DriveError.TheVariants.{NoMemory, NoThread};
@@ -9,7 +9,7 @@ use crate::config::Config;
 use crate::driver::DriveError;
 use flow_base::Transducer;
 use flow_rings::Rings;
-use flow_rounds::wires_of_shares;
+use flow_rounds::owners_of_shares;
 use flow_shares::{AlwaysStart, Gate, Share, Start};
 use std::alloc::Global;
 use std::sync::Arc;
@@ -31,11 +31,11 @@ pub fn epoch<
     config: &Config,
     gate: &Arc<G, Global>,
 ) -> Result<Vec<Share<T, Rings>>, DriveError>
-    ghost setting: { Setting ⟦<T as Transducer>⟧ }
+    ghost network: { SharedNetwork ⟦<T as Transducer>⟧ }
     requires lawful { IsLawful config.now }
-    requires graph { AreOfOneGraph setting shares.items }
+    requires graph { AreOfOneGraph network shares.items }
     requires fed { AreFed shares.items }
-    ensures epoch { IfOk result (λ back. IsEpoch setting shares.items back.items) }
+    ensures epoch { IfOk result (λ back. IsEpoch network shares.items back.items) }
     ensures refused { IfErr result (λ error. (error ≡ NoMemory) ⊎ (error ≡ NoThread)) }
 {
     epoch_with(rt, alloc, shares, config, gate, &mut AlwaysStart)
@@ -55,20 +55,20 @@ pub fn epoch_with<
     gate: &Arc<G, Global>,
     start: &mut S,
 ) -> Result<Vec<Share<T, Rings>>, DriveError>
-    ghost setting: { Setting ⟦<T as Transducer>⟧ }
+    ghost network: { SharedNetwork ⟦<T as Transducer>⟧ }
     requires lawful { IsLawful config.now }
-    requires graph { AreOfOneGraph setting shares.items }
+    requires graph { AreOfOneGraph network shares.items }
     requires fed { AreFed shares.items }
-    ensures epoch { IfOk result (λ back. IsEpoch setting shares.items back.items) }
+    ensures epoch { IfOk result (λ back. IsEpoch network shares.items back.items) }
     ensures refused { IfErr result (λ error. (error ≡ NoMemory) ⊎ (error ≡ NoThread)) }
     ensures start { S.refused start.new → S.refused start.old ⊎ (result ≡ Err NoThread) }
 {
-    let wires = wires_of_shares(alloc, &shares)?;
+    let owners = owners_of_shares(alloc, &shares)?;
     let back = flow_rounds::epoch(
         rt,
         alloc,
         shares,
-        &wires,
+        &owners,
         config.chunk,
         config.idle,
         gate,

@@ -1,20 +1,20 @@
 // The drive of several threads over rings.
 ghost use Rattle.std.specs.Prelude.{◌≡◌, ◌<◌, ◌≤◌, ◌⊎◌, length, Err, IfOk};
 ghost use Rattle.flow_graph.specs.Graphs.{states_of, edges_of};
-ghost use Rattle.flow_graph.specs.Layouts.{edges_in};
+ghost use Rattle.flow_graph.specs.Skeletons.{edges_in};
 ghost use Rattle.flow_graph.specs.Networks.{AreOpened};
 ghost use Rattle.flow_graph.specs.Places.{states_in};
 ghost use Rattle.flow_graph.specs.Shapes.{IsSameNetwork};
-ghost use Rattle.flow_meetings.specs.Open.{AreWires};
-ghost use Rattle.flow_meetings.specs.Settings.{Setting, AreFed};
+ghost use Rattle.flow_meetings.specs.Open.{AreOwners};
+ghost use Rattle.flow_meetings.specs.SharedNetworks.{SharedNetwork, AreFed};
 ghost use Rattle.flow_shares.specs.declared.error.WorkError.TheVariants.{NoThread};
 ghost use Rattle.flow_rounds.specs.Epochs.{moved_in, AreOfOneGraph};
 ghost use Rattle.flow_drive.specs.Configs.{IsLawful};
-ghost use Rattle.flow_drive.specs.Givens.{IsOfSetting};
-ghost use Rattle.flow_drive.specs.Resteds.{rested_states, rested_edges, rested_capacity, rested_rounds, rested_epochs, rested_share, rested_shares, moved_of, IsOverRings};
+ghost use Rattle.flow_drive.specs.Origins.{IsOriginOf};
+ghost use Rattle.flow_drive.specs.Resteds.{rested_states, rested_edges, rested_capacity, rested_rounds, rested_epochs, rested_share, rested_shares, moves_of, IsOverRings};
 
 use crate::config::Config;
-use crate::given::{Given, deal_out};
+use crate::origin::{Origin, deal_out};
 use crate::parts::Parts;
 use crate::places::places_of;
 use crate::rested::Rested;
@@ -52,15 +52,15 @@ pub fn drive_rings<
         (edges_of graph) (rested_states rested) (rested_edges rested)) }
     ensures capacity { IfOk result (λ rested. rested_capacity rested ≡ config.now.capacity) }
     ensures rounds { IfOk result (λ rested. rested_rounds rested ≡ 0) }
-    ensures least { IfOk result (λ rested. 0 < moved_of rested → 0 < rested_epochs rested) }
-    ensures most { IfOk result (λ rested. rested_epochs rested ≤ moved_of rested) }
+    ensures least { IfOk result (λ rested. 0 < moves_of rested → 0 < rested_epochs rested) }
+    ensures most { IfOk result (λ rested. rested_epochs rested ≤ moves_of rested) }
     ensures rings { IfOk result (λ rested. IsOverRings rested) }
     ensures share { IfOk result (λ rested. rested_share rested ≡ config.now.share.items) }
     ensures shares { IfOk result (λ rested. rested_shares rested ≡ config.now.threads) }
     ensures refused { S.refused start.new → S.refused start.old ⊎ (result ≡ Err NoThread) }
 {
-    let (given, dealt) = deal_out(alloc, graph, config)?;
-    run_dealt(rt, alloc, given, dealt, config, gate, start)
+    let (origin, dealt) = deal_out(alloc, graph, config)?;
+    run_dealt(rt, alloc, origin, dealt, config, gate, start)
 }
 
 // Runs the shares of a graph that was just dealt out.
@@ -72,53 +72,53 @@ fn run_dealt<
 >(
     rt: &R,
     alloc: Global,
-    given: Given<T>,
+    origin: Origin<T>,
     dealt: Dealt<T, Rings>,
     config: &Config,
     gate: &Arc<G, Global>,
     start: &mut S,
 ) -> Result<Rested<T>, WorkError>
-    ghost setting: { Setting ⟦<T as Transducer>⟧ }
+    ghost network: { SharedNetwork ⟦<T as Transducer>⟧ }
     requires lawful { IsLawful config.now }
-    requires given { IsOfSetting setting given }
-    requires wires { AreWires setting.share setting.edges dealt.wires.items }
-    requires layout { edges_in dealt.layout ≡ setting.edges }
-    requires graph { AreOfOneGraph setting dealt.shares.items }
+    requires origin { IsOriginOf network origin }
+    requires owners { AreOwners network.share network.edges dealt.owners.items }
+    requires skeleton { edges_in dealt.skeleton ≡ network.edges }
+    requires graph { AreOfOneGraph network dealt.shares.items }
     requires fed { AreFed dealt.shares.items }
-    requires none { moved_in setting dealt.shares.items ≡ 0 }
+    requires none { moved_in network dealt.shares.items ≡ 0 }
     ensures network { IfOk result (λ rested. IsSameNetwork T.behaviour
-        (states_in setting.nodes) setting.edges (rested_states rested) (rested_edges rested)) }
-    ensures capacity { IfOk result (λ rested. rested_capacity rested ≡ setting.capacity) }
+        (states_in network.nodes) network.edges (rested_states rested) (rested_edges rested)) }
+    ensures capacity { IfOk result (λ rested. rested_capacity rested ≡ network.capacity) }
     ensures rounds { IfOk result (λ rested. rested_rounds rested ≡ 0) }
-    ensures least { IfOk result (λ rested. 0 < moved_of rested → 0 < rested_epochs rested) }
-    ensures most { IfOk result (λ rested. rested_epochs rested ≤ moved_of rested) }
+    ensures least { IfOk result (λ rested. 0 < moves_of rested → 0 < rested_epochs rested) }
+    ensures most { IfOk result (λ rested. rested_epochs rested ≤ moves_of rested) }
     ensures rings { IfOk result (λ rested. IsOverRings rested) }
-    ensures share { IfOk result (λ rested. rested_share rested ≡ setting.share) }
+    ensures share { IfOk result (λ rested. rested_share rested ≡ network.share) }
     ensures shares { IfOk result (λ rested. rested_shares rested ≡ length dealt.shares.items) }
     ensures refused { S.refused start.new → S.refused start.old ⊎ (result ≡ Err NoThread) }
 {
     let Dealt {
         shares,
-        wires,
-        layout,
+        owners,
+        skeleton,
     } = dealt;
     let (shares, count) = run_epochs(
         rt,
         alloc,
         shares,
-        &wires,
+        &owners,
         config.chunk,
         config.idle,
         gate,
         start,
     )?;
-    let places = places_of(alloc, &shares, given.nodes)?;
+    let places = places_of(alloc, &shares, origin.nodes)?;
     let apart = RingShares {
         places,
-        layout,
-        share: given.share,
+        skeleton,
+        share: origin.share,
         shares,
-        capacity: given.capacity,
+        capacity: origin.capacity,
     };
     Ok(Rested {
         parts: Parts::Apart(apart),

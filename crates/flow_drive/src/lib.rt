@@ -1,14 +1,14 @@
 //! Drives: what runs a graph of stream transducers until no node can step.
 #![tactic(auto)]
 
+mod all_ends;
 mod config;
 mod dealing;
 mod driver;
 mod epochs;
-mod given;
 mod joined;
-mod lines;
 mod numbered;
+mod origin;
 mod outcome;
 mod parts;
 mod places;

@@ -3,12 +3,12 @@ ghost use Rattle.std.specs.Prelude.{◌≡◌, ◌<◌, length, slice_index_or};
 ghost use Rattle.std.specs.Io.Iter.{u64_saturate};
 ghost use Rattle.flow_graph.specs.Edges.{edge_at};
 ghost use Rattle.flow_graph.specs.Graphs.{edges_of};
-ghost use Rattle.flow_graph.specs.Layouts.{edges_in};
+ghost use Rattle.flow_graph.specs.Skeletons.{edges_in};
 ghost use Rattle.flow_graph.specs.Networks.{state_at};
 ghost use Rattle.flow_shares.specs.Deals.{share_of};
 ghost use Rattle.flow_drive.specs.Parts.{gathered_traffic, shares_states, shares_traffic};
 
-use crate::lines::Lines;
+use crate::all_ends::AllEnds;
 use crate::parts::Gathered;
 use crate::ring_shares::RingShares;
 use flow_base::Transducer;
@@ -26,9 +26,9 @@ impl<T: Transducer> Gathered<T> {
             ((gathered_traffic self.now).received edge)) }
     {
         let ends = self.graph.edge(edge);
-        match &self.lines {
-            Lines::Whole(table) => (table.sent_count(edge), table.received_count(edge)),
-            Lines::Shared(shared) => shared.counts(ends, edge),
+        match &self.all_ends {
+            AllEnds::Whole(table) => (table.sent_count(edge), table.received_count(edge)),
+            AllEnds::Shared(shared) => shared.counts(ends, edge),
         }
     }
 }
@@ -36,10 +36,10 @@ impl<T: Transducer> Gathered<T> {
 impl<T: Transducer> RingShares<T> {
     /// The edge of this number.
     pub fn edge(&self, number: usize) -> Edge
-        requires { number < length (edges_in self.now.layout) }
-        ensures { result ≡ edge_at (edges_in self.now.layout) number }
+        requires { number < length (edges_in self.now.skeleton) }
+        ensures { result ≡ edge_at (edges_in self.now.skeleton) number }
     {
-        self.layout.edges()[number]
+        self.skeleton.edges()[number]
     }
 
     /// The node of this number, where it lies in its share.
@@ -53,7 +53,7 @@ impl<T: Transducer> RingShares<T> {
 
     /// How many messages were sent on the edge, and how many were received from it, as the shares of its two nodes count.
     pub fn counts(&self, edge: usize) -> (u64, u64)
-        requires { edge < length (edges_in self.now.layout) }
+        requires { edge < length (edges_in self.now.skeleton) }
         ensures sent { result.0 ≡ u64_saturate (length ((shares_traffic self.now).sent edge)) }
         ensures received { result.1 ≡ u64_saturate (length
             ((shares_traffic self.now).received edge)) }

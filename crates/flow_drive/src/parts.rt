@@ -3,7 +3,7 @@ ghost use Rattle.flow_graph.specs.Graphs.{states_of, edges_of};
 ghost use Rattle.flow_drive.specs.Drives.{IsSoundAt, RestsAt};
 ghost use Rattle.flow_drive.specs.Edges.{traffic_in, capacity_in, AreThere};
 
-use crate::lines::Lines;
+use crate::all_ends::AllEnds;
 use crate::ring_shares::RingShares;
 use flow_base::Transducer;
 use flow_graph::Graph;
@@ -23,10 +23,10 @@ pub struct Gathered<T: Transducer> {
     /// The graph.
     pub graph: Graph<T>,
     /// Its edges, as its drive left them.
-    pub lines: Lines,
-    ghost there: { AreThere (edges_of graph) lines },
+    pub all_ends: AllEnds,
+    ghost there: { AreThere (edges_of graph) all_ends },
     ghost sound: { IsSoundAt T.behaviour (states_of graph) (edges_of graph)
-        (traffic_in (edges_of graph) lines) },
+        (traffic_in (edges_of graph) all_ends) },
     ghost rest: { RestsAt T.behaviour (states_of graph) (edges_of graph)
-        (capacity_in lines) (traffic_in (edges_of graph) lines) },
+        (capacity_in all_ends) (traffic_in (edges_of graph) all_ends) },
 }

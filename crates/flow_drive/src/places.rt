@@ -2,7 +2,7 @@
 ghost use Rattle.std.specs.Prelude.{◌≡◌, ◌<◌, length, IfOk};
 ghost use Rattle.flow_shares.specs.Deals.{AreDealt};
 ghost use Rattle.flow_meetings.specs.Deals.{nodes_in};
-ghost use Rattle.flow_meetings.specs.Settings.{Setting};
+ghost use Rattle.flow_meetings.specs.SharedNetworks.{SharedNetwork};
 ghost use Rattle.flow_drive.specs.Apart.{AreThePlaces};
 
 use flow_base::Transducer;
@@ -18,10 +18,10 @@ pub fn places_of<T: Transducer, E: Ends>(
     shares: &[Share<T, E>],
     count: usize,
 ) -> Result<Vec<usize>, AllocError>
-    ghost setting: { Setting ⟦<T as Transducer>⟧ }
-    requires count { count ≡ length setting.nodes }
-    requires deals { AreDealt setting.share setting.nodes (nodes_in shares.now) }
-    ensures { IfOk result (λ places. AreThePlaces setting shares.now places.items) }
+    ghost network: { SharedNetwork ⟦<T as Transducer>⟧ }
+    requires count { count ≡ length network.nodes }
+    requires deals { AreDealt network.share network.nodes (nodes_in shares.now) }
+    ensures { IfOk result (λ places. AreThePlaces network shares.now places.items) }
 {
     let mut places = Vec::new(alloc);
     places.resize(count, 0)?;

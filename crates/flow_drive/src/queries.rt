@@ -59,7 +59,7 @@ impl<T: Transducer> Rested<T> {
     {
         match &self.parts {
             Parts::Together(gathered) => gathered.graph.edges(),
-            Parts::Apart(shares) => shares.layout.edges().len(),
+            Parts::Apart(shares) => shares.skeleton.edges().len(),
         }
     }
 

@@ -1,9 +1,9 @@
 // Shares at rest, over rings.
-ghost use Rattle.flow_graph.specs.Layouts.{edges_in};
+ghost use Rattle.flow_graph.specs.Skeletons.{edges_in};
 ghost use Rattle.flow_drive.specs.Apart.{RestApart};
 
 use flow_base::Transducer;
-use flow_graph::Layout;
+use flow_graph::Skeleton;
 use flow_rings::Rings;
 use flow_shares::Share;
 
@@ -13,12 +13,12 @@ pub struct RingShares<T: Transducer> {
     /// At which place of its share each node lies.
     pub places: Vec<usize>,
     /// The edges.
-    pub layout: Layout,
+    pub skeleton: Skeleton,
     /// Which share has each node: node `k` has the entry at `k` modulo the length.
     pub share: Vec<u8>,
     /// The shares, by their numbers.
     pub shares: Vec<Share<T, Rings>>,
     /// How many messages an edge holds at most.
     pub capacity: usize,
-    ghost rest: { RestApart share.items places.items (edges_in layout) shares.items capacity },
+    ghost rest: { RestApart share.items places.items (edges_in skeleton) shares.items capacity },
 }

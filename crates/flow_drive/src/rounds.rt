@@ -1,22 +1,22 @@
 // The drive of several threads by rounds.
 ghost use Rattle.std.specs.Prelude.{◌≡◌, ◌<◌, ◌≤◌, ◌⊎◌, length, Err, IfOk};
 ghost use Rattle.flow_graph.specs.Graphs.{states_of, edges_of};
-ghost use Rattle.flow_graph.specs.Layouts.{edges_in};
+ghost use Rattle.flow_graph.specs.Skeletons.{edges_in};
 ghost use Rattle.flow_graph.specs.Networks.{AreOpened};
 ghost use Rattle.flow_graph.specs.Places.{states_in};
 ghost use Rattle.flow_graph.specs.Shapes.{IsSameNetwork};
-ghost use Rattle.flow_meetings.specs.Open.{AreWires};
-ghost use Rattle.flow_meetings.specs.Settings.{Setting};
+ghost use Rattle.flow_meetings.specs.Open.{AreOwners};
+ghost use Rattle.flow_meetings.specs.SharedNetworks.{SharedNetwork};
 ghost use Rattle.flow_shares.specs.declared.error.WorkError.TheVariants.{NoThread};
 ghost use Rattle.flow_rounds.specs.Standing.{boxes_of, moved_in, StandBetweenRounds};
 ghost use Rattle.flow_drive.specs.Configs.{IsLawful};
 ghost use Rattle.flow_drive.specs.Drives.{EndsMaximalRun};
-ghost use Rattle.flow_drive.specs.Givens.{IsOfSetting};
-ghost use Rattle.flow_drive.specs.Resteds.{rested_states, rested_edges, rested_capacity, rested_rounds, rested_epochs, rested_share, rested_shares, moved_of, traffic_of, IsOverRings};
+ghost use Rattle.flow_drive.specs.Origins.{IsOriginOf};
+ghost use Rattle.flow_drive.specs.Resteds.{rested_states, rested_edges, rested_capacity, rested_rounds, rested_epochs, rested_share, rested_shares, moves_of, traffic_of, IsOverRings};
 
+use crate::all_ends::{AllEnds, SharedEnds};
 use crate::config::Config;
-use crate::given::{Given, deal_out};
-use crate::lines::{Lines, SharedLines};
+use crate::origin::{Origin, deal_out};
 use crate::parts::{Gathered, Parts};
 use crate::rested::Rested;
 use flow_base::Transducer;
@@ -50,16 +50,16 @@ pub fn drive_rounds<
     ensures capacity { IfOk result (λ rested. rested_capacity rested ≡ config.now.capacity) }
     ensures run { IfOk result (λ rested. EndsMaximalRun T.behaviour config.now.capacity
         (states_of graph) (edges_of graph) (rested_states rested) (traffic_of rested)) }
-    ensures least { IfOk result (λ rested. 0 < moved_of rested → 0 < rested_rounds rested) }
-    ensures most { IfOk result (λ rested. rested_rounds rested ≤ moved_of rested) }
+    ensures least { IfOk result (λ rested. 0 < moves_of rested → 0 < rested_rounds rested) }
+    ensures most { IfOk result (λ rested. rested_rounds rested ≤ moves_of rested) }
     ensures epochs { IfOk result (λ rested. rested_epochs rested ≡ 0) }
     ensures rings { IfOk result (λ rested. IsOverRings rested → ⊥) }
     ensures share { IfOk result (λ rested. rested_share rested ≡ config.now.share.items) }
     ensures shares { IfOk result (λ rested. rested_shares rested ≡ config.now.threads) }
     ensures refused { S.refused start.new → S.refused start.old ⊎ (result ≡ Err NoThread) }
 {
-    let (given, dealt) = deal_out(alloc, graph, config)?;
-    run_dealt(rt, alloc, given, dealt, config, gate, start)
+    let (origin, dealt) = deal_out(alloc, graph, config)?;
+    run_dealt(rt, alloc, origin, dealt, config, gate, start)
 }
 
 // Runs the shares of a graph that was just dealt out, and gathers them.
@@ -71,52 +71,52 @@ fn run_dealt<
 >(
     rt: &R,
     alloc: Global,
-    given: Given<T>,
+    origin: Origin<T>,
     dealt: Dealt<T, Boxes>,
     config: &Config,
     gate: &Arc<G, Global>,
     start: &mut S,
 ) -> Result<Rested<T>, WorkError>
-    ghost setting: { Setting ⟦<T as Transducer>⟧ }
+    ghost network: { SharedNetwork ⟦<T as Transducer>⟧ }
     requires lawful { IsLawful config.now }
-    requires given { IsOfSetting setting given }
-    requires wires { AreWires setting.share setting.edges dealt.wires.items }
-    requires layout { edges_in dealt.layout ≡ setting.edges }
-    requires stand { StandBetweenRounds setting dealt.shares.items }
-    requires none { moved_in setting (boxes_of dealt.shares.items) ≡ 0 }
+    requires origin { IsOriginOf network origin }
+    requires owners { AreOwners network.share network.edges dealt.owners.items }
+    requires skeleton { edges_in dealt.skeleton ≡ network.edges }
+    requires stand { StandBetweenRounds network dealt.shares.items }
+    requires none { moved_in network (boxes_of dealt.shares.items) ≡ 0 }
     ensures network { IfOk result (λ rested. IsSameNetwork T.behaviour
-        (states_in setting.nodes) setting.edges (rested_states rested) (rested_edges rested)) }
-    ensures capacity { IfOk result (λ rested. rested_capacity rested ≡ setting.capacity) }
-    ensures run { IfOk result (λ rested. EndsMaximalRun T.behaviour setting.capacity
-        (states_in setting.nodes) setting.edges (rested_states rested) (traffic_of rested)) }
-    ensures least { IfOk result (λ rested. 0 < moved_of rested → 0 < rested_rounds rested) }
-    ensures most { IfOk result (λ rested. rested_rounds rested ≤ moved_of rested) }
+        (states_in network.nodes) network.edges (rested_states rested) (rested_edges rested)) }
+    ensures capacity { IfOk result (λ rested. rested_capacity rested ≡ network.capacity) }
+    ensures run { IfOk result (λ rested. EndsMaximalRun T.behaviour network.capacity
+        (states_in network.nodes) network.edges (rested_states rested) (traffic_of rested)) }
+    ensures least { IfOk result (λ rested. 0 < moves_of rested → 0 < rested_rounds rested) }
+    ensures most { IfOk result (λ rested. rested_rounds rested ≤ moves_of rested) }
     ensures epochs { IfOk result (λ rested. rested_epochs rested ≡ 0) }
     ensures rings { IfOk result (λ rested. IsOverRings rested → ⊥) }
-    ensures share { IfOk result (λ rested. rested_share rested ≡ setting.share) }
+    ensures share { IfOk result (λ rested. rested_share rested ≡ network.share) }
     ensures shares { IfOk result (λ rested. rested_shares rested ≡ length dealt.shares.items) }
     ensures refused { S.refused start.new → S.refused start.old ⊎ (result ≡ Err NoThread) }
 {
     let Dealt {
         shares,
-        wires,
-        layout,
+        owners,
+        skeleton,
     } = dealt;
     let (shares, count) = run_rounds(
         rt,
         alloc,
         shares,
-        &wires,
+        &owners,
         config.chunk,
         config.idle,
         gate,
         start,
     )?;
-    let (graph, boxes) = gather_graph(alloc, shares, layout, given.nodes, &given.share)?;
-    let shared = SharedLines::new(given.share, boxes, given.capacity);
+    let (graph, boxes) = gather_graph(alloc, shares, skeleton, origin.nodes, &origin.share)?;
+    let shared = SharedEnds::new(origin.share, boxes, origin.capacity);
     let gathered = Gathered {
         graph,
-        lines: Lines::Shared(shared),
+        all_ends: AllEnds::Shared(shared),
     };
     Ok(Rested {
         parts: Parts::Together(gathered),

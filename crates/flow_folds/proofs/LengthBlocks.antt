@@ -7,9 +7,9 @@ use Rattle.snesl_data.specs.declared.fault.FaultKind.TheVariants.{Overflow}
 use Rattle.snesl_data.specs.Integers.{greatest_integer, is_integer}
 use Rattle.flow_messages.specs.Cells.{Cell, flag, int}
 use Rattle.flow_messages.specs.Ends.{View, PutAll}
-use Rattle.flow_messages.specs.Blocks.{flags_said, ints_said}
+use Rattle.flow_messages.specs.Blocks.{flag_signals, int_signals}
 use Rattle.flow_messages.specs.Signals.{carry}
-use Rattle.flow_base.specs.Machines.{taken, given_of}
+use Rattle.flow_base.specs.Machines.{state_after_item, state_after_read}
 use Rattle.flow_base.specs.Nodes.{NodeState, behaviour_of, node_state}
 use Rattle.flow_base.specs.Visits.{edge_of, Went}
 use Rattle.flow_base.specs.declared.node.Phase.TheVariants.{Working}
@@ -26,7 +26,7 @@ pub counts_want : (p : Dialect) (n at : ℕ) → (behaviour_of length_machine).p
 counts_want p zero at = refl
 counts_want p (suc n) at = refl
 
-pub counts_read : (p : Dialect) (n : ℕ) (y : Cell) → given_of (length_move p (Counting n)) y ≡ taken (length_counts p n) y
+pub counts_read : (p : Dialect) (n : ℕ) (y : Cell) → state_after_read (length_move p (Counting n)) y ≡ state_after_item (length_counts p n) y
 counts_read p zero y = refl
 counts_read p (suc n) y = refl
 
@@ -58,7 +58,7 @@ module _ (ins outs : List ℕ) (d : Dialect) (at : ℕ) where
   element_round : (n : ℕ) → n < greatest_integer d → Singles ins outs (behaviour_of length_machine) (counting n) (counting (suc n)) (carry (flag false) ∷ []) [] 1
   element_round n within =
       let b = behaviour_of length_machine in
-      let leads : taken (length_counts d n) (flag false) ≡ Ok (Counting (suc n)) = let least : one_more d n ≡ suc n = omega arith in ap (λ k. Ok (Counting k)) least in
+      let leads : state_after_item (length_counts d n) (flag false) ≡ Ok (Counting (suc n)) = let least : one_more d n ≡ suc n = omega arith in ap (λ k. Ok (Counting k)) least in
       singles_read ins outs b (counting n) (counting (suc n)) (carry (flag false)) (counts_want d n at) (leads_on length_machine d (Counting n) (Counting (suc n)) at (length_counts d n) (carry (flag false)) (counts_read d n) leads)
 
   -- the end of a segment, with its length
@@ -66,24 +66,24 @@ module _ (ins outs : List ℕ) (d : Dialect) (at : ℕ) where
   end_round n within =
       let b = behaviour_of length_machine in
       let due = node_state (d, Due (pos n)) Working at in
-      let leads : taken (length_counts d n) (flag true) ≡ Ok (Due (pos n)) = ap (λ t. cond t (Ok (Due (pos n))) (Err Overflow)) (counted_integer d n within) in
+      let leads : state_after_item (length_counts d n) (flag true) ≡ Ok (Due (pos n)) = ap (λ t. cond t (Ok (Due (pos n))) (Err Overflow)) (counted_integer d n within) in
       singles_one ins outs b (counting n) due (counting 0) (carry (flag true)) (int (pos n)) (counts_want d n at) (leads_on length_machine d (Counting n) (Due (pos n)) at (length_counts d n) (carry (flag true)) (counts_read d n) leads) refl refl refl
 
   -- flags in the range are rounds
-  pub lengths_rounds : (n more : ℕ) (flags : List Bool) (lengths : List ℤ) → n + length flags ≤ greatest_integer d → LengthsAlong n flags lengths more → Singles ins outs (behaviour_of length_machine) (counting n) (counting more) (flags_said flags) (ints_said lengths) (length flags + length lengths)
+  pub lengths_rounds : (n more : ℕ) (flags : List Bool) (lengths : List ℤ) → n + length flags ≤ greatest_integer d → LengthsAlong n flags lengths more → Singles ins outs (behaviour_of length_machine) (counting n) (counting more) (flag_signals flags) (int_signals lengths) (length flags + length lengths)
   lengths_rounds n more [] [] within along = subst (λ k. Singles ins outs (behaviour_of length_machine) (counting n) (counting k) [] [] 0) along (singles_none ins outs (behaviour_of length_machine) (counting n))
   lengths_rounds n more [] (l ∷ lengths) within along = absurd along
   lengths_rounds n more (false ∷ flags) lengths within along =
       let b = behaviour_of length_machine in
       let steps : 1 + (length flags + length lengths) ≡ length (false ∷ flags) + length lengths = omega arith in
       let rest = lengths_rounds (suc n) more flags lengths (omega (arith, within)) along in
-      subst (Singles ins outs b (counting n) (counting more) (flags_said (false ∷ flags)) (ints_said lengths)) steps (singles_more ins outs b (carry (flag false) ∷ []) [] (flags_said flags) (ints_said lengths) (element_round n (omega (arith, within))) rest)
+      subst (Singles ins outs b (counting n) (counting more) (flag_signals (false ∷ flags)) (int_signals lengths)) steps (singles_more ins outs b (carry (flag false) ∷ []) [] (flag_signals flags) (int_signals lengths) (element_round n (omega (arith, within))) rest)
   lengths_rounds n more (true ∷ flags) (l ∷ lengths) within along =
       let b = behaviour_of length_machine in
       let steps : 2 + (length flags + length lengths) ≡ length (true ∷ flags) + length (l ∷ lengths) = omega arith in
       let rest = lengths_rounds 0 more flags lengths (omega (arith, within)) along.1 in
       let ended = subst (λ k. Singles ins outs b (counting n) (counting 0) (carry (flag true) ∷ []) (carry (int k) ∷ []) 2) along.0 (end_round n (omega (arith, within))) in
-      subst (Singles ins outs b (counting n) (counting more) (flags_said (true ∷ flags)) (ints_said (l ∷ lengths))) steps (singles_more ins outs b (carry (flag true) ∷ []) (carry (int l) ∷ []) (flags_said flags) (ints_said lengths) ended rest)
+      subst (Singles ins outs b (counting n) (counting more) (flag_signals (true ∷ flags)) (int_signals (l ∷ lengths))) steps (singles_more ins outs b (carry (flag true) ∷ []) (carry (int l) ∷ []) (flag_signals flags) (int_signals lengths) ended rest)
   lengths_rounds n more (true ∷ flags) [] within along = absurd along
 
   -- the number that is due is written

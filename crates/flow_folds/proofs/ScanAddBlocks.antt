@@ -5,10 +5,10 @@ use Rattle.snesl_data.specs.declared.dialect.Dialect.{Dialect}
 use Rattle.snesl_operators.specs.Operators.{ranged}
 use Rattle.flow_messages.specs.Cells.{flag, int}
 use Rattle.flow_messages.specs.Ends.{View, TakenAll, PutAll}
-use Rattle.flow_messages.specs.Blocks.{flags_said, ints_said}
+use Rattle.flow_messages.specs.Blocks.{flag_signals, int_signals}
 use Rattle.flow_messages.specs.Signals.{Signal, carry}
 use Rattle.flow_base.specs.Flags.{F, T}
-use Rattle.flow_base.specs.Machines.{given_of, on_int}
+use Rattle.flow_base.specs.Machines.{state_after_read, on_int}
 use Rattle.flow_base.specs.Nodes.{NodeState, behaviour_of, node_state, moved}
 use Rattle.flow_base.specs.Visits.{edge_of, Went}
 use Rattle.flow_base.specs.declared.node.Phase.TheVariants.{Working}
@@ -21,20 +21,20 @@ use Rattle.flow_folds.specs.declared.scan_add.Stage.TheVariants.{Start, Flag, El
 use Rattle.flow_folds.proofs.SingleBlocks.{block_none}
 
 -- where F leads to an element, a flag comes next
-pub flag_next : (d : Dialect) (s : Stage) (before last : ℤ) (at : ℕ) → given_of (scan_add_move d s) F ≡ Ok (Element before last) → (behaviour_of scan_add_machine).process.want (node_state (d, s) Working at) ≡ Read 0
+pub flag_next : (d : Dialect) (s : Stage) (before last : ℤ) (at : ℕ) → state_after_read (scan_add_move d s) F ≡ Ok (Element before last) → (behaviour_of scan_add_machine).process.want (node_state (d, s) Working at) ≡ Read 0
 flag_next d Start before last at e = refl
 flag_next d (Flag b l) before last at e = refl
 flag_next d (Element b l) before last at e = absurd (cc)
 flag_next d (Write b l) before last at e = absurd (cc)
 
 -- and T ends the segment
-pub ends_there : (d : Dialect) (s : Stage) (before last : ℤ) → given_of (scan_add_move d s) F ≡ Ok (Element before last) → given_of (scan_add_move d s) T ≡ Ok Start
+pub ends_there : (d : Dialect) (s : Stage) (before last : ℤ) → state_after_read (scan_add_move d s) F ≡ Ok (Element before last) → state_after_read (scan_add_move d s) T ≡ Ok Start
 ends_there d Start before last e = refl
 ends_there d (Flag b l) before last e = refl
 ends_there d (Element b l) before last e = absurd (cc)
 ends_there d (Write b l) before last e = absurd (cc)
 
-pub awaits : (d : Dialect) (s : Stage) (before last : ℤ) → given_of (scan_add_move d s) F ≡ Ok (Element before last) → AwaitsFlag s
+pub awaits : (d : Dialect) (s : Stage) (before last : ℤ) → state_after_read (scan_add_move d s) F ≡ Ok (Element before last) → AwaitsFlag s
 awaits d Start before last e = tt
 awaits d (Flag b l) before last e = tt
 awaits d (Element b l) before last e = absurd (cc)
@@ -54,7 +54,7 @@ awaits_end d (Element b l) at comes = absurd comes
 awaits_end d (Write b l) at comes = absurd comes
 
 -- and the sum of what is held is the next
-pub next_sum : (d : Dialect) (s : Stage) (before last sum : ℤ) → given_of (scan_add_move d s) F ≡ Ok (Element before last) → ranged d (before +ℤ last) ≡ Ok sum → IsNextSum d s sum
+pub next_sum : (d : Dialect) (s : Stage) (before last sum : ℤ) → state_after_read (scan_add_move d s) F ≡ Ok (Element before last) → ranged d (before +ℤ last) ≡ Ok sum → IsNextSum d s sum
 next_sum d Start before last sum e is =
     let first : before ≡ pos 0 = cc in
     let second : last ≡ pos 0 = cc in
@@ -118,7 +118,7 @@ module _ (ins outs : List ℕ) where
       batch_as ins outs b one _ _ (λ e. and_none (eqb e (edge_of ins 0)) (eqb e (edge_of ins 1)) (carry T ∷ [])) (λ e. sym (block_none (eqb e (edge_of outs 0))))
 
   -- a flag with its element, after these
-  after_round : (d : Dialect) (at : ℕ) (s : Stage) (before last x sum : ℤ) → given_of (scan_add_move d s) F ≡ Ok (Element before last) → ranged d (before +ℤ last) ≡ Ok sum → Rounds d at s (Flag sum x) (carry F ∷ []) (carry (int x) ∷ []) (carry (int sum) ∷ []) 3
+  after_round : (d : Dialect) (at : ℕ) (s : Stage) (before last x sum : ℤ) → state_after_read (scan_add_move d s) F ≡ Ok (Element before last) → ranged d (before +ℤ last) ≡ Ok sum → Rounds d at s (Flag sum x) (carry F ∷ []) (carry (int x) ∷ []) (carry (int sum) ∷ []) 3
   after_round d at s before last x sum opens is =
       let b = behaviour_of scan_add_machine in
       let m = scan_add_machine in
@@ -141,22 +141,22 @@ module _ (ins outs : List ℕ) where
       let all = batch_as ins outs b (batch_then ins outs b one more) _ _ (λ e. blocks_then e (edge_of ins 0) (edge_of ins 1) bs xs cs ys apart) (λ e. block_then (eqb e (edge_of outs 0)) vs ws) in
       subst (Rounds d at s u (bs ++ cs) (xs ++ ys) (vs ++ ws)) count all
 
-  sums_rounds : edge_of ins 0 ≢ edge_of ins 1 → (d : Dialect) (at : ℕ) (s t : Stage) (flags : List Bool) (xs sums : List ℤ) → SumsAlong d s flags xs sums t → Rounds d at s t (flags_said flags) (ints_said xs) (ints_said sums) (length flags + 2 * length xs)
+  sums_rounds : edge_of ins 0 ≢ edge_of ins 1 → (d : Dialect) (at : ℕ) (s t : Stage) (flags : List Bool) (xs sums : List ℤ) → SumsAlong d s flags xs sums t → Rounds d at s t (flag_signals flags) (int_signals xs) (int_signals sums) (length flags + 2 * length xs)
   sums_rounds apart d at s t [] [] [] along = subst (λ k. Rounds d at s k [] [] [] 0) along (no_round d at s)
   sums_rounds apart d at s t [] [] (v ∷ sums) along = absurd along
   sums_rounds apart d at s t [] (x ∷ xs) sums along = absurd along
-  sums_rounds apart d at s t (true ∷ flags) xs sums along = rounds_then apart d at s Start t (carry T ∷ []) [] [] (flags_said flags) (ints_said xs) (ints_said sums) 1 (length flags + 2 * length xs) (length (true ∷ flags) + 2 * length xs) (omega arith) (end_round d at s along.0) (sums_rounds apart d at Start t flags xs sums along.1)
-  sums_rounds apart d at s t (false ∷ flags) (x ∷ xs) (v ∷ sums) along = rounds_then apart d at s (Flag v x) t (carry F ∷ []) (carry (int x) ∷ []) (carry (int v) ∷ []) (flags_said flags) (ints_said xs) (ints_said sums) 3 (length flags + 2 * length xs) (length (false ∷ flags) + 2 * length (x ∷ xs)) (omega arith) (element_round d at s x v along.0) (sums_rounds apart d at (Flag v x) t flags xs sums along.1)
+  sums_rounds apart d at s t (true ∷ flags) xs sums along = rounds_then apart d at s Start t (carry T ∷ []) [] [] (flag_signals flags) (int_signals xs) (int_signals sums) 1 (length flags + 2 * length xs) (length (true ∷ flags) + 2 * length xs) (omega arith) (end_round d at s along.0) (sums_rounds apart d at Start t flags xs sums along.1)
+  sums_rounds apart d at s t (false ∷ flags) (x ∷ xs) (v ∷ sums) along = rounds_then apart d at s (Flag v x) t (carry F ∷ []) (carry (int x) ∷ []) (carry (int v) ∷ []) (flag_signals flags) (int_signals xs) (int_signals sums) 3 (length flags + 2 * length xs) (length (false ∷ flags) + 2 * length (x ∷ xs)) (omega arith) (element_round d at s x v along.0) (sums_rounds apart d at (Flag v x) t flags xs sums along.1)
   sums_rounds apart d at s t (false ∷ flags) [] sums along = absurd along
   sums_rounds apart d at s t (false ∷ flags) (x ∷ xs) [] along = absurd along
 
   -- blocks that are skipped and put are those rounds
   pub sums_went : edge_of ins 0 ≢ edge_of ins 1 → 1 < length ins → 0 < length outs → (d : Dialect) (at : ℕ) (s t : Stage) (flags : List Bool) (xs sums : List ℤ) → SumsAlong d s flags xs sums t → 0 < length flags → (a u v w z : View) → Went ins outs (behaviour_of scan_add_machine) (stage_on d at s) a (stage_on d at s) u 0 →
-      TakenAll u (edge_of ins 0) (flags_said flags) v → TakenAll v (edge_of ins 1) (ints_said xs) w → PutAll w (edge_of outs 0) (ints_said sums) z → Went ins outs (behaviour_of scan_add_machine) (stage_on d at s) a (stage_on d at t) z (length flags + 2 * length xs)
+      TakenAll u (edge_of ins 0) (flag_signals flags) v → TakenAll v (edge_of ins 1) (int_signals xs) w → PutAll w (edge_of outs 0) (int_signals sums) z → Went ins outs (behaviour_of scan_add_machine) (stage_on d at s) a (stage_on d at t) z (length flags + 2 * length xs)
   sums_went apart there out d at s t flags xs sums along some a u v w z went flagged taken put =
-      let one = shifted_skip ins outs (shifted_none ins outs u) 0 (flags_said flags) v (omega arith) flagged in
-      let two = shifted_skip ins outs one 1 (ints_said xs) w there taken in
-      let three = shifted_put ins outs two 0 (ints_said sums) z out (ended_ints sums) put in
+      let one = shifted_skip ins outs (shifted_none ins outs u) 0 (flag_signals flags) v (omega arith) flagged in
+      let two = shifted_skip ins outs one 1 (int_signals xs) w there taken in
+      let three = shifted_put ins outs two 0 (int_signals sums) z out (ended_ints sums) put in
       let all = went_batch ins outs (behaviour_of scan_add_machine) went (sums_rounds apart d at s t flags xs sums along) (omega arith) z three in
       let steps : 0 + (length flags + 2 * length xs) ≡ length flags + 2 * length xs = omega arith in
       subst (Went ins outs (behaviour_of scan_add_machine) (stage_on d at s) a (stage_on d at t) z) steps all

@@ -19,12 +19,12 @@ abbrev pub one_more : Dialect → ℕ → ℕ
 one_more dialect n = suc (min n (greatest_integer dialect))
 
 -- at the end of a segment of n elements the number n is due, if it lies in the range
-abbrev pub length_ended : Dialect → ℕ → Result Count FaultKind
-length_ended dialect n = cond (is_integer dialect (pos n)) (Ok (Due (pos n))) (Err Overflow)
+abbrev pub length_at_end : Dialect → ℕ → Result Count FaultKind
+length_at_end dialect n = cond (is_integer dialect (pos n)) (Ok (Due (pos n))) (Err Overflow)
 
 -- after n elements, F counts, and T ends the segment
 abbrev pub length_counts : Dialect → ℕ → Taking Count
-length_counts dialect n = on_flag (Ok (Counting (one_more dialect n))) (length_ended dialect n)
+length_counts dialect n = on_flag (Ok (Counting (one_more dialect n))) (length_at_end dialect n)
 
 -- the stream may end where no element of a segment came
 abbrev pub length_move : Dialect → Count → Move Count

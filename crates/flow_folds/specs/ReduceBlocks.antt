@@ -10,9 +10,9 @@ use Rattle.flow_folds.specs.declared.reduce.Stage.{Stage}
 use Rattle.flow_folds.specs.declared.reduce.Stage.TheVariants.{Start, Flag}
 
 -- what the elements so far and these integers after them reduce to
-abbrev pub reduced_ints : Dialect → Reduction → Option Scalar → List ℤ → Result (Option Scalar) FaultKind
-reduced_ints dialect reduction so_far [] = Ok so_far
-reduced_ints dialect reduction so_far (x ∷ xs) = and_then (reduced_more dialect reduction so_far (Int x)) (λ more. reduced_ints dialect reduction more xs)
+abbrev pub reduction_of_ints : Dialect → Reduction → Option Scalar → List ℤ → Result (Option Scalar) FaultKind
+reduction_of_ints dialect reduction so_far [] = Ok so_far
+reduction_of_ints dialect reduction so_far (x ∷ xs) = and_then (reduced_more dialect reduction so_far (Int x)) (λ more. reduction_of_ints dialect reduction more xs)
 
 -- a flag comes at this stage, and this is what the elements so far reduce to
 abbrev pub AwaitsFlag : Reduction → Stage → Option Scalar → Type 0

@@ -3,12 +3,12 @@ use Rattle.std.specs.Prelude.{◌≡◌, ℕ, pos, List, [], ◌∷◌, map, Ok,
 use Rattle.std.specs.List.{All}
 use Rattle.snesl_data.specs.declared.dialect.Dialect.{Dialect}
 use Rattle.snesl_data.specs.Integers.{IsInteger}
-use Rattle.snesl_operators.specs.Reductions.{reduced, scanned}
+use Rattle.snesl_operators.specs.Reductions.{reduction_of, scan_of}
 use Rattle.snesl_operators.specs.declared.scalar.Scalar.{Scalar}
 use Rattle.snesl_operators.specs.declared.operator.Reduction.{Reduction}
 use Rattle.flow_messages.specs.Cells.{Cell, int}
 use Rattle.flow_base.specs.Lists.{Lists}
-use Rattle.flow_base.specs.Flags.{flags, joined}
+use Rattle.flow_base.specs.Flags.{flags, concatenation}
 use Rattle.flow_base.specs.Columns.{Columns, RowOf}
 use Rattle.flow_folds.specs.Scalars.{cell_of_scalar}
 
@@ -16,15 +16,15 @@ use Rattle.flow_folds.specs.Scalars.{cell_of_scalar}
 
 -- a group of integers with its running sums in the dialect, none of which is a fault
 abbrev pub Scanned : Dialect → Type 0
-Scanned dialect = (xs : List ℤ) × (sums : List ℤ) × (scanned dialect xs ≡ Ok sums)
+Scanned dialect = (xs : List ℤ) × (sums : List ℤ) × (scan_of dialect xs ≡ Ok sums)
 
 -- what instances read: the flags of their groups, and the integers of these, joined
 abbrev pub scan_add_reads : (dialect : Dialect) → List (Scanned dialect) → Columns
-scan_add_reads dialect groups = flags (map (λ g. length g.0) groups) ∷ joined (map (λ g. map int g.0) groups) ∷ []
+scan_add_reads dialect groups = flags (map (λ g. length g.0) groups) ∷ concatenation (map (λ g. map int g.0) groups) ∷ []
 
 -- what they write: the sums of each group, joined
 abbrev pub scan_add_writes : (dialect : Dialect) → List (Scanned dialect) → Columns
-scan_add_writes dialect groups = joined (map (λ g. map int g.1) groups) ∷ []
+scan_add_writes dialect groups = concatenation (map (λ g. map int g.1) groups) ∷ []
 
 -- the row: a list of groups, as it is read and written
 abbrev pub ScanAddRow : Dialect → Lists Cell → Lists Cell → Type 0
@@ -34,11 +34,11 @@ ScanAddRow dialect = RowOf (scan_add_reads dialect) (scan_add_writes dialect) 2 
 
 -- a group of scalars with the value that they reduce to in the dialect, which is no fault
 abbrev pub Reduced : Dialect → Reduction → Type 0
-Reduced dialect reduction = (xs : List Scalar) × (value : Scalar) × (reduced dialect reduction xs ≡ Ok value)
+Reduced dialect reduction = (xs : List Scalar) × (value : Scalar) × (reduction_of dialect reduction xs ≡ Ok value)
 
 -- what instances read: the flags of their groups, and the scalars of these, joined
 abbrev pub reduce_reads : (dialect : Dialect) (reduction : Reduction) → List (Reduced dialect reduction) → Columns
-reduce_reads dialect reduction groups = flags (map (λ g. length g.0) groups) ∷ joined (map (λ g. map cell_of_scalar g.0) groups) ∷ []
+reduce_reads dialect reduction groups = flags (map (λ g. length g.0) groups) ∷ concatenation (map (λ g. map cell_of_scalar g.0) groups) ∷ []
 
 -- what they write: the value of each group
 abbrev pub reduce_writes : (dialect : Dialect) (reduction : Reduction) → List (Reduced dialect reduction) → Columns

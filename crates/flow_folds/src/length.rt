@@ -9,7 +9,7 @@ ghost use Rattle.flow_base.specs.Machines.{Leads};
 ghost use Rattle.flow_base.specs.Nodes.{behaviour_of, node_state};
 ghost use Rattle.flow_base.specs.Visits.{IsWired, Went};
 ghost use Rattle.flow_base.specs.declared.node.Phase.TheVariants.{Working};
-ghost use Rattle.flow_folds.specs.LengthMachine.{one_more, length_ended, length_counts, length_machine, length_view};
+ghost use Rattle.flow_folds.specs.LengthMachine.{one_more, length_at_end, length_counts, length_machine, length_view};
 ghost use Rattle.flow_folds.specs.LengthBlocks.{LengthsAlong};
 
 use flow_base::{Ask, BLOCK, SHORT_BLOCK, Stop, Worker, put_in_space, take_front};
@@ -50,7 +50,7 @@ impl Count {
     // Where the end of a segment leads after so many elements.
     #[inline(always)]
     fn after_end(dialect: Dialect, count: u128) -> Result<Count, FaultKind>
-        ensures { result ≡ length_ended dialect count }
+        ensures { result ≡ length_at_end dialect count }
     {
         if count <= dialect.greatest() as u128 {
             Ok(Count::Due(count as i128))

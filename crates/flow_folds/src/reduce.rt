@@ -11,7 +11,7 @@ ghost use Rattle.flow_base.specs.Visits.{edge_of, IsWired, Went};
 ghost use Rattle.flow_base.specs.declared.node.Phase.TheVariants.{Working};
 ghost use Rattle.flow_folds.specs.Scalars.{scalar_in};
 ghost use Rattle.flow_folds.specs.ReduceMachine.{at_element, reduced_kind, reduce_machine, reduce_view};
-ghost use Rattle.flow_folds.specs.ReduceBlocks.{reduced_ints, AwaitsFlag};
+ghost use Rattle.flow_folds.specs.ReduceBlocks.{reduction_of_ints, AwaitsFlag};
 ghost use Rattle.snesl_data.specs.declared.dialect.Dialect.{Dialect};
 ghost use Rattle.snesl_operators.specs.declared.operator.Reduction.TheVariants.{Sum as SumOf, Max as MaxOf};
 ghost use Rattle.snesl_operators.specs.declared.scalar.Scalar.TheVariants.{Int as IntScalar};
@@ -55,13 +55,13 @@ enum Stage {
 
 impl Stage {
     ghost use Rattle.flow_messages.specs.Cells.{cell_of};
-    ghost use Rattle.flow_base.specs.Machines.{taken, given_of};
+    ghost use Rattle.flow_base.specs.Machines.{state_after_item, state_after_read};
     ghost use Rattle.flow_folds.specs.ReduceMachine.{at_flag, reduce_move, LeadsAtFlag};
 
     // Where the item leads that comes as a flag, after elements that reduce to what is so far.
     #[inline(always)]
     fn at_flag(so_far: Option<Scalar>, item: &Item) -> Result<Stage, FaultKind>
-        ensures { result ≡ taken (at_flag so_far) (cell_of item.now) }
+        ensures { result ≡ state_after_item (at_flag so_far) (cell_of item.now) }
     {
         match item {
             Item::Bool(false) => Ok(Stage::Element(so_far)),
@@ -74,7 +74,8 @@ impl Stage {
     #[inline(always)]
     #[tactic(auto, using(crate::specs::laws::Reduce::element_is))]
     fn next(self, dialect: Dialect, reduction: Reduction, item: &Item) -> Result<Stage, FaultKind>
-        ensures { result ≡ given_of (reduce_move dialect reduction self) (cell_of item.now) }
+        ensures { result ≡ state_after_read (reduce_move dialect reduction self)
+            (cell_of item.now) }
     {
         match self {
             Stage::Start => Stage::at_flag(reduction.nothing(), item),
@@ -151,7 +152,7 @@ fn elements_ahead(flags: &[bool], most: usize) -> usize
 #[inline(always)]
 fn small_sum_of(total: i64, elements: &[i64]) -> (usize, i64)
     ensures within { result.0 ≤ length elements.now }
-    ensures reduced { (dialect : Dialect) → reduced_ints dialect SumOf (Some (IntScalar total))
+    ensures reduced { (dialect : Dialect) → reduction_of_ints dialect SumOf (Some (IntScalar total))
         (take result.0 elements.now) ≡ Ok (Some (IntScalar result.1)) }
 {
     let mut reached = total;
@@ -168,7 +169,7 @@ fn small_sum_of(total: i64, elements: &[i64]) -> (usize, i64)
 #[inline(always)]
 fn sum_of(dialect: Dialect, total: i128, elements: &[i64]) -> (usize, i128)
     ensures within { result.0 ≤ length elements.now }
-    ensures reduced { reduced_ints dialect SumOf (Some (IntScalar total))
+    ensures reduced { reduction_of_ints dialect SumOf (Some (IntScalar total))
         (take result.0 elements.now) ≡ Ok (Some (IntScalar result.1)) }
 {
     if let Ok(small) = i64::try_from(total) {
@@ -198,7 +199,7 @@ fn greater(m: i128, n: i128) -> i128
 // The greatest of the elements and of what came before them.
 #[inline(always)]
 fn greatest_of(before: i128, elements: &[i64]) -> i128
-    ensures { (dialect : Dialect) → reduced_ints dialect MaxOf (Some (IntScalar before))
+    ensures { (dialect : Dialect) → reduction_of_ints dialect MaxOf (Some (IntScalar before))
         elements.now ≡ Ok (Some (IntScalar result)) }
 {
     let mut greatest = before;
@@ -256,7 +257,7 @@ impl Reduce {
     #[inline(always)]
     fn more_of(&self, so_far: Option<Scalar>, elements: &[i64]) -> (usize, Option<Scalar>)
         ensures within { result.0 ≤ length elements.now }
-        ensures reduced { reduced_ints self.now.dialect self.now.reduction so_far
+        ensures reduced { reduction_of_ints self.now.dialect self.now.reduction so_far
             (take result.0 elements.now) ≡ Ok result.1 }
     {
         match (self.reduction, so_far) {

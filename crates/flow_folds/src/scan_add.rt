@@ -7,7 +7,7 @@ ghost use Rattle.flow_messages.specs.Cells.{flag, int};
 ghost use Rattle.flow_messages.specs.Ends.{SameEnds};
 ghost use Rattle.flow_messages.specs.Signals.{carry};
 ghost use Rattle.flow_base.specs.Flags.{F};
-ghost use Rattle.flow_base.specs.Machines.{given_of};
+ghost use Rattle.flow_base.specs.Machines.{state_after_read};
 ghost use Rattle.flow_base.specs.Nodes.{behaviour_of, node_state};
 ghost use Rattle.flow_base.specs.Visits.{edge_of, IsWired, Went};
 ghost use Rattle.flow_base.specs.declared.node.Phase.TheVariants.{Working};
@@ -65,13 +65,13 @@ fn flag_at<E: Ends>(ends: &E, edge: usize) -> Option<bool>
 
 impl Stage {
     ghost use Rattle.flow_messages.specs.Cells.{cell_of};
-    ghost use Rattle.flow_base.specs.Machines.{given_of};
+    ghost use Rattle.flow_base.specs.Machines.{state_after_read};
     ghost use Rattle.flow_folds.specs.ScanAddMachine.{scan_add_move};
 
     // Where the item leads.
     #[inline(always)]
     fn next(self, dialect: Dialect, item: &Item) -> Result<Stage, FaultKind>
-        ensures { result ≡ given_of (scan_add_move dialect self) (cell_of item.now) }
+        ensures { result ≡ state_after_read (scan_add_move dialect self) (cell_of item.now) }
     {
         match (self, item) {
             (Stage::Start, Item::Bool(false)) => Ok(Stage::Element { before: 0, last: 0 }),
@@ -106,7 +106,7 @@ impl ScanAdd {
     #[inline(always)]
     fn held(&self) -> Option<(i128, i128)>
         ensures { IfSome result (λ held.
-            given_of (scan_add_move self.now.dialect self.now.stage) F ≡
+            state_after_read (scan_add_move self.now.dialect self.now.stage) F ≡
             Ok (Element held.0 held.1)) }
     {
         match self.stage {
@@ -145,7 +145,7 @@ impl ScanAdd {
         elements: &[i64],
         sums: &mut [i64],
     ) -> (usize, usize, Stage)
-        requires flag { given_of (scan_add_move self.now.dialect self.now.stage) F ≡
+        requires flag { state_after_read (scan_add_move self.now.dialect self.now.stage) F ≡
             Ok (Element held.0 held.1) }
         requires block { length flags.now ≤ length sums.old }
         ensures flags { result.0 ≤ length flags.now }

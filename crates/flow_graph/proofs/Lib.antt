@@ -11,7 +11,7 @@ pub mod Carried
 pub mod Visits
 pub mod NodeEnds
 pub mod Shapes
-pub mod Layouts
+pub mod Skeletons
 pub mod Flows
 pub mod Replacements
 pub mod Refused

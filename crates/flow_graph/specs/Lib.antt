@@ -6,7 +6,7 @@ pub mod Places
 pub mod Laws
 pub mod Kept
 pub mod Graphs
-pub mod Layouts
+pub mod Skeletons
 pub mod Steps
 pub mod Shapes
 pub mod Turns

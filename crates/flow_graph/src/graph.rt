@@ -30,6 +30,6 @@ pub struct Graph<T: Transducer> {
 
 /// The edges of a graph whose nodes were taken out.
 #[derive(Drop)]
-pub struct Layout {
+pub struct Skeleton {
     pub(crate) edges: Vec<Edge>,
 }

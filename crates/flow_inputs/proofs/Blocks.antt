@@ -7,13 +7,13 @@ use Rattle.kahn.specs.declared.want.Want.TheVariants.{Write, Ended}
 use Rattle.flow_messages.specs.Cells.{flag, int}
 use Rattle.flow_messages.specs.Signals.{Signal, carry, stop, ended}
 use Rattle.flow_messages.specs.Ends.{View, LookedForRoom, PutAll}
-use Rattle.flow_messages.specs.Blocks.{flags_said, ints_said}
+use Rattle.flow_messages.specs.Blocks.{flag_signals, int_signals}
 use Rattle.flow_base.specs.Visits.{edge_of, Went}
 use Rattle.flow_base.proofs.Kernels.{went_looked}
 use Rattle.flow_base.proofs.Batches.{Batch, batch_none, batch_write, batch_then, batch_as, block_then, shifted_none, shifted_put, went_batch}
 use Rattle.snesl_data.specs.Values.{Value}
-use Rattle.flow_scalar.specs.SourceBehaviour.{SourceState, sending, next_signal, next_state, source_want, source_wrote, source_behaviour}
-use Rattle.flow_inputs.specs.declared.turns.Step.{Step}
+use Rattle.flow_scalar.specs.SourceBehaviour.{SourceState, sending, next_signal, next_state, source_want, source_after_write, source_behaviour}
+use Rattle.flow_inputs.specs.declared.turns.Component.{Component}
 use Rattle.flow_inputs.specs.declared.turns.Leaf.{Leaf}
 use Rattle.flow_inputs.specs.declared.turns.State.{State}
 use Rattle.flow_inputs.specs.declared.turns.Piece.{Piece}
@@ -30,16 +30,16 @@ use Rattle.flow_inputs.proofs.Sending.{nexts}
 abbrev pub said : (ℕ → Value) → List Piece → List Signal
 said vector pieces = map (λ x. carry (cell vector x)) pieces
 
-pub said_ints : (vector : ℕ → Value) (ns : List ℤ) → said vector (map Int ns) ≡ ints_said ns
+pub said_ints : (vector : ℕ → Value) (ns : List ℤ) → said vector (map Int ns) ≡ int_signals ns
 said_ints vector [] = refl
 said_ints vector (n ∷ ns) = ap (λ l. carry (int n) ∷ l) (said_ints vector ns)
 
-pub said_flags : (vector : ℕ → Value) (bs : List Bool) → said vector (map Flag bs) ≡ flags_said bs
+pub said_flags : (vector : ℕ → Value) (bs : List Bool) → said vector (map Flag bs) ≡ flag_signals bs
 said_flags vector [] = refl
 said_flags vector (b ∷ bs) = ap (λ l. carry (flag b) ∷ l) (said_flags vector bs)
 
 -- the scan of the same text on the same way found these pieces, and leaves others
-pub left_ahead : (text same : List ℕ) (way alike : List Step) (leaf : Leaf) (at end : ℕ) (s u : State) (pieces : List Piece) → same ≡ text → alike ≡ way
+pub left_ahead : (text same : List ℕ) (way alike : List Component) (leaf : Leaf) (at end : ℕ) (s u : State) (pieces : List Piece) → same ≡ text → alike ≡ way
     → left same alike leaf at s ≡ pieces ++ left same alike leaf end u → left text way leaf at s ≡ pieces ++ left text way leaf end u
 left_ahead text same way alike leaf at end s u pieces e f first =
     subst (λ t. left t way leaf at s ≡ pieces ++ left t way leaf end u) e
@@ -51,7 +51,7 @@ rest_behind all rest [] others is e = subst (IsRest all) e is
 rest_behind all rest (x ∷ pieces) others is e = rest_behind all (pieces ++ others) pieces others (nexts all rest x (pieces ++ others) is e).left refl
 
 -- and the pieces are what is written next
-sends_pieces : (text : List ℕ) (way : List Step) (leaf : Leaf) (place : ℕ) (rest pieces others : List Piece) → IsRest (left text way leaf place opening_state) rest → rest ≡ pieces ++ others
+sends_pieces : (text : List ℕ) (way : List Component) (leaf : Leaf) (place : ℕ) (rest pieces others : List Piece) → IsRest (left text way leaf place opening_state) rest → rest ≡ pieces ++ others
     → Sends (sending (items_at text way leaf place) (written_of (left text way leaf place opening_state) rest)) (said (value_at text) pieces) (sending (items_at text way leaf place) (written_of (left text way leaf place opening_state) others))
 sends_pieces text way leaf place rest [] others is e = ap (λ l. sending (items_at text way leaf place) (written_of (left text way leaf place opening_state) l)) e
 sends_pieces text way leaf place rest (x ∷ pieces) others is e =
@@ -60,11 +60,11 @@ sends_pieces text way leaf place rest (x ∷ pieces) others is e =
     let count = written_of all rest in
     let next = nexts all rest x (pieces ++ others) is e in
     let here : slice_get items.cells count ≡ Some (cell (value_at text) x) = slice_get-map (cell (value_at text)) all count ∙ ap (option_map (cell (value_at text))) next.next in
-    let wrote : source_wrote (sending items count) ≡ sending items (written_of all (pieces ++ others)) = ap (next_state items count) here ∙ ap (sending items) (sym next.more) in
+    let wrote : source_after_write (sending items count) ≡ sending items (written_of all (pieces ++ others)) = ap (next_state items count) here ∙ ap (sending items) (sym next.more) in
     (refl, ap next_signal here, subst (λ s. Sends s (said (value_at text) pieces) (sending items (written_of all others))) (sym wrote) (sends_pieces text way leaf place (pieces ++ others) pieces others next.left refl))
 
 -- so it is of a source that has not written its end
-pub sends_ahead : (text : List ℕ) (way : List Step) (leaf : Leaf) (place at end : ℕ) (s u : State) (ended : Bool) (pieces : List Piece) (ms : List Signal) → ended ≡ false
+pub sends_ahead : (text : List ℕ) (way : List Component) (leaf : Leaf) (place at end : ℕ) (s u : State) (ended : Bool) (pieces : List Piece) (ms : List Signal) → ended ≡ false
     → IsRest (left text way leaf place opening_state) (left text way leaf at s) → left text way leaf at s ≡ pieces ++ left text way leaf end u → said (value_at text) pieces ≡ ms
     → Sends (text_state text way leaf place at s ended) ms (text_state text way leaf place end u ended)
 sends_ahead text way leaf place at end s u true pieces ms off is e same = absurd (cc)
@@ -95,8 +95,8 @@ module _ (ins outs : List ℕ) where
   sends_batch (stop ∷ ms) s t unended sends = absurd (cc)
   sends_batch (carry x ∷ ms) s t unended sends =
       let writes = λ (e : ℕ). cond (eqb e (edge_of outs 0)) (carry x ∷ ms) [] in
-      let one = batch_write ins outs source_behaviour (batch_none ins outs source_behaviour s) 0 x (source_wrote s) sends.0 (sym sends.1) refl in
-      let rest = sends_batch ms (source_wrote s) t unended sends.2 in
+      let one = batch_write ins outs source_behaviour (batch_none ins outs source_behaviour s) 0 x (source_after_write s) sends.0 (sym sends.1) refl in
+      let rest = sends_batch ms (source_after_write s) t unended sends.2 in
       let all = batch_as ins outs source_behaviour (batch_then ins outs source_behaviour one rest) (λ e. []) writes (λ e. refl) (λ e. block_then (eqb e (edge_of outs 0)) (carry x ∷ []) ms) in
       let count : 1 + length ms ≡ suc (length ms) = omega arith in
       subst (Batch ins outs source_behaviour s t (λ e. []) writes) count all

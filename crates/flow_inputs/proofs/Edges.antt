@@ -12,13 +12,13 @@ use Rattle.flow_messages.specs.Cells.{Cell}
 use Rattle.flow_messages.specs.declared.message.Kind.{Kind}
 use Rattle.flow_messages.specs.declared.message.Kind.TheVariants.{Unit as UnitKind}
 use Rattle.flow_base.specs.Flags.{T, elements}
-use Rattle.flow_base.specs.Segments.{joined_by}
+use Rattle.flow_base.specs.Segments.{concatenation_by}
 use Rattle.flow_values.specs.Shapes.{kinds_of, kind_at, cell_for, first_of, second_of, elements_of}
 use Rattle.flow_values.specs.Flats.{only_at, width, flat, spread, spread_all}
 use Rattle.flow_values.specs.laws.Sides.{only_here, only_there, spread_below, spread_above, all_below}
 use Rattle.flow_values.specs.laws.Flats.{flat_one}
-use Rattle.flow_inputs.specs.declared.turns.Step.{Step}
-use Rattle.flow_inputs.specs.declared.turns.Step.TheVariants.{First, Second}
+use Rattle.flow_inputs.specs.declared.turns.Component.{Component}
+use Rattle.flow_inputs.specs.declared.turns.Component.TheVariants.{First, Second}
 use Rattle.flow_inputs.specs.declared.turns.Mode.TheVariants.{Value as ValueNext, Behind}
 use Rattle.flow_inputs.specs.Turns.{state}
 use Rattle.flow_inputs.specs.Left.{left, cell}
@@ -49,7 +49,7 @@ leads (pair a b) edge lt = by_side (nat_lt edge (width a)) refl (λ h. leads a e
 leads (seq a) zero lt = to_flags
 leads (seq a) (suc edge) lt = by_elements (leads a edge (omega arith))
 
-joined_same : (f g : Value → List Cell) → ((v : Value) → f v ≡ g v) → (vs : List Value) → joined_by f vs ≡ joined_by g vs
+joined_same : (f g : Value → List Cell) → ((v : Value) → f v ≡ g v) → (vs : List Value) → concatenation_by f vs ≡ concatenation_by g vs
 joined_same f g same [] = refl
 joined_same f g same (v ∷ vs) = ap₂ (λ a b. a ++ b) (same v) (joined_same f g same vs)
 
@@ -88,10 +88,10 @@ items_are (seq a) (suc edge) lt p v =
     ∙ ap (λ l. l ++ spread_all a (p + 1) (elements_of v) (p + suc edge)) (sym (only_there p (p + suc edge) _ n))
 
 -- the way lies ahead
-ahead_from : (before rest : List Step) → Ahead (before ++ rest) (length before) rest
+ahead_from : (before rest : List Component) → Ahead (before ++ rest) (length before) rest
 ahead_from before [] = past before
   where
-    past : (xs : List Step) → slice_get (xs ++ []) (length xs) ≡ None
+    past : (xs : List Component) → slice_get (xs ++ []) (length xs) ≡ None
     past [] = refl
     past (x ∷ xs) = past xs
 ahead_from before (step ∷ rest) =
@@ -99,7 +99,7 @@ ahead_from before (step ∷ rest) =
     let longer : length (before ++ step ∷ []) ≡ length before + 1 = length-append before (step ∷ []) in
     (here before, subst (λ whole. Ahead whole (length before + 1) rest) grown (subst (λ n. Ahead ((before ++ step ∷ []) ++ rest) n rest) longer (ahead_from (before ++ step ∷ []) rest)))
   where
-    here : (xs : List Step) → slice_get (xs ++ step ∷ rest) (length xs) ≡ Some step
+    here : (xs : List Component) → slice_get (xs ++ step ∷ rest) (length xs) ≡ Some step
     here [] = refl
     here (x ∷ xs) = here xs
 

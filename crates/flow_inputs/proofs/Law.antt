@@ -10,8 +10,8 @@ use Rattle.snesl_values.specs.Inputs.{value_tokens, items_tokens, further_tokens
 use Rattle.flow_messages.specs.Cells.{Cell}
 use Rattle.snesl_values.specs.declared.marks.Bracket.TheVariants.{Round, Square, Curly}
 use Rattle.snesl_values.specs.declared.marks.Mark.TheVariants.{Truth, Number, Other}
-use Rattle.flow_inputs.specs.declared.turns.Step.{Step}
-use Rattle.flow_inputs.specs.declared.turns.Step.TheVariants.{Elements, First, Second}
+use Rattle.flow_inputs.specs.declared.turns.Component.{Component}
+use Rattle.flow_inputs.specs.declared.turns.Component.TheVariants.{Elements, First, Second}
 use Rattle.flow_inputs.specs.declared.turns.Leaf.{Leaf}
 use Rattle.flow_inputs.specs.declared.turns.Mode.{Mode}
 use Rattle.flow_inputs.specs.declared.turns.Mode.TheVariants.{Passing, Counting, Within}
@@ -30,7 +30,7 @@ pub record Turned (text : List ℕ) (from : ℕ) (t : Token) (ts : List Token) (
   pub at : ℕ
   pub inside : at ≤ length text
   pub rest : Reads text at ts end
-  pub turns : (way : List Step) (leaf : Leaf) (s : State) → left text way leaf from s ≡ behind_turn text way leaf (turn way leaf s (mark_of t) from) at
+  pub turns : (way : List Component) (leaf : Leaf) (s : State) → left text way leaf from s ≡ behind_turn text way leaf (turn way leaf s (mark_of t) from) at
 
 pub turned : {text : List ℕ} {from end : ℕ} {t : Token} {ts : List Token} → from ≤ length text → Reads text from (t ∷ ts) end → Turned text from t ts end
 turned {text = text} {from = from} {t = t} inside r =
@@ -43,19 +43,19 @@ turned {text = text} {from = from} {t = t} inside r =
     }
 
 -- what is left, as items
-abbrev pub cells : (ℕ → Value) → List ℕ → List Step → Leaf → ℕ → State → List Cell
+abbrev pub cells : (ℕ → Value) → List ℕ → List Component → Leaf → ℕ → State → List Cell
 cells vector text way leaf at s = map (cell vector) (left text way leaf at s)
 
 -- by what the turn does
-pub then_moved : {text : List ℕ} {from end : ℕ} {t : Token} {ts : List Token} (vector : ℕ → Value) (way : List Step) (leaf : Leaf) (s : State) (level : ℕ) (mode : Mode) (w : Turned text from t ts end)
+pub then_moved : {text : List ℕ} {from end : ℕ} {t : Token} {ts : List Token} (vector : ℕ → Value) (way : List Component) (leaf : Leaf) (s : State) (level : ℕ) (mode : Mode) (w : Turned text from t ts end)
     → turn way leaf s (mark_of t) from ≡ moved level mode → cells vector text way leaf from s ≡ cells vector text way leaf w.at (state level mode)
 then_moved {text = text} vector way leaf s level mode w e = ap (map (cell vector)) (w.turns way leaf s ∙ ap (λ (u : Turn). behind_turn text way leaf u w.at) e)
 
-pub then_wrote : {text : List ℕ} {from end : ℕ} {t : Token} {ts : List Token} (vector : ℕ → Value) (way : List Step) (leaf : Leaf) (s : State) (piece : Piece) (level : ℕ) (mode : Mode) (w : Turned text from t ts end)
+pub then_wrote : {text : List ℕ} {from end : ℕ} {t : Token} {ts : List Token} (vector : ℕ → Value) (way : List Component) (leaf : Leaf) (s : State) (piece : Piece) (level : ℕ) (mode : Mode) (w : Turned text from t ts end)
     → turn way leaf s (mark_of t) from ≡ wrote piece level mode → cells vector text way leaf from s ≡ cell vector piece ∷ cells vector text way leaf w.at (state level mode)
 then_wrote {text = text} vector way leaf s piece level mode w e = ap (map (cell vector)) (w.turns way leaf s ∙ ap (λ (u : Turn). behind_turn text way leaf u w.at) e)
 
-number_passes : {way : List Step} {leaf : Leaf} {level : ℕ} {mode : ℕ → Mode} → Passes way leaf level mode → (depth place : ℕ) (n : ℤ) → turn way leaf (state level (mode depth)) (mark_of (integer n)) place ≡ moved level (mode depth)
+number_passes : {way : List Component} {leaf : Leaf} {level : ℕ} {mode : ℕ → Mode} → Passes way leaf level mode → (depth place : ℕ) (n : ℤ) → turn way leaf (state level (mode depth)) (mark_of (integer n)) place ≡ moved level (mode depth)
 number_passes {way = way} {leaf = leaf} {level = level} {mode = mode} p depth place n = by_range (is_integer Two n)
   where
     by_range : (b : Bool) → turn way leaf (state level (mode depth)) (cond b (Number n) Other) place ≡ moved level (mode depth)
@@ -64,7 +64,7 @@ number_passes {way = way} {leaf = leaf} {level = level} {mode = mode} p depth pl
 
 -- a value is passed over
 mutual
-  pub over_value : (vector : ℕ → Value) {text : List ℕ} (way : List Step) (leaf : Leaf) (level : ℕ) (mode : ℕ → Mode) → Passes way leaf level mode → (v : Value) {from end : ℕ} (depth : ℕ) → from ≤ length text → Reads text from (value_tokens v) end
+  pub over_value : (vector : ℕ → Value) {text : List ℕ} (way : List Component) (leaf : Leaf) (level : ℕ) (mode : ℕ → Mode) → Passes way leaf level mode → (v : Value) {from end : ℕ} (depth : ℕ) → from ≤ length text → Reads text from (value_tokens v) end
       → cells vector text way leaf from (state level (mode depth)) ≡ cells vector text way leaf end (state level (mode depth))
   over_value vector {text = text} way leaf level mode p (an_int n) depth inside r =
       let w = turned inside r in
@@ -109,7 +109,7 @@ mutual
       ∙ ap (λ at. cells vector text way leaf at (state level (mode depth))) (unread closing.rest)
 
   -- the items of a vector or a sequence
-  pub over_items : (vector : ℕ → Value) {text : List ℕ} (way : List Step) (leaf : Leaf) (level : ℕ) (mode : ℕ → Mode) → Passes way leaf level mode → (vs : Values) {from end : ℕ} (depth : ℕ) → PassesParts way leaf level mode depth → from ≤ length text → Reads text from (items_tokens vs) end
+  pub over_items : (vector : ℕ → Value) {text : List ℕ} (way : List Component) (leaf : Leaf) (level : ℕ) (mode : ℕ → Mode) → Passes way leaf level mode → (vs : Values) {from end : ℕ} (depth : ℕ) → PassesParts way leaf level mode depth → from ≤ length text → Reads text from (items_tokens vs) end
       → cells vector text way leaf from (state level (mode depth)) ≡ cells vector text way leaf end (state level (mode depth))
   over_items vector {text = text} way leaf level mode p no_values depth q inside r = ap (λ at. cells vector text way leaf at (state level (mode depth))) (unread r)
   over_items vector way leaf level mode p (more_values v vs) depth q inside r =
@@ -117,7 +117,7 @@ mutual
       over_value vector way leaf level mode p v depth inside first.1
       ∙ over_further vector way leaf level mode p vs depth q (ends_inside (value_tokens v) inside first.1) first.2
 
-  over_further : (vector : ℕ → Value) {text : List ℕ} (way : List Step) (leaf : Leaf) (level : ℕ) (mode : ℕ → Mode) → Passes way leaf level mode → (vs : Values) {from end : ℕ} (depth : ℕ) → PassesParts way leaf level mode depth → from ≤ length text → Reads text from (further_tokens vs) end
+  over_further : (vector : ℕ → Value) {text : List ℕ} (way : List Component) (leaf : Leaf) (level : ℕ) (mode : ℕ → Mode) → Passes way leaf level mode → (vs : Values) {from end : ℕ} (depth : ℕ) → PassesParts way leaf level mode depth → from ≤ length text → Reads text from (further_tokens vs) end
       → cells vector text way leaf from (state level (mode depth)) ≡ cells vector text way leaf end (state level (mode depth))
   over_further vector {text = text} way leaf level mode p no_values depth q inside r = ap (λ at. cells vector text way leaf at (state level (mode depth))) (unread r)
   over_further vector way leaf level mode p (more_values v vs) depth q inside r =
@@ -131,19 +131,19 @@ mutual
 not_zero : (n : ℕ) → eqb (n + 1) 0 ≡ false
 not_zero n = grind (arith, nat_tests)
 
-passed_truth : (step : Option Step) (level : ℕ) (b : Bool) → passed step level (Truth b) ≡ moved level (Passing 0)
+passed_truth : (step : Option Component) (level : ℕ) (b : Bool) → passed step level (Truth b) ≡ moved level (Passing 0)
 passed_truth None level b = refl
 passed_truth (Some Elements) level b = refl
 passed_truth (Some First) level b = refl
 passed_truth (Some Second) level b = refl
 
-passed_number : (step : Option Step) (level : ℕ) (n : ℤ) → passed step level (Number n) ≡ moved level (Passing 0)
+passed_number : (step : Option Component) (level : ℕ) (n : ℤ) → passed step level (Number n) ≡ moved level (Passing 0)
 passed_number None level n = refl
 passed_number (Some Elements) level n = refl
 passed_number (Some First) level n = refl
 passed_number (Some Second) level n = refl
 
-passed_other : (step : Option Step) (level : ℕ) → passed step level Other ≡ moved level (Passing 0)
+passed_other : (step : Option Component) (level : ℕ) → passed step level Other ≡ moved level (Passing 0)
 passed_other None level = refl
 passed_other (Some Elements) level = refl
 passed_other (Some First) level = refl
@@ -156,7 +156,7 @@ stays level depth u e = by_test (eqb depth 0) refl
     by_test true h = e ∙ ap (λ n. moved level (Passing n)) (sym (eqb-true depth 0 h))
     by_test false h = refl
 
-pub passing_passes : (way : List Step) (leaf : Leaf) (level : ℕ) → Passes way leaf level Passing
+pub passing_passes : (way : List Component) (leaf : Leaf) (level : ℕ) → Passes way leaf level Passing
 passing_passes way leaf level = record {
   opens = λ depth place b. refl;
   closes = λ depth place b. cond-false _ _ _ (not_zero depth) ∙ ap (λ n. moved level (Passing n)) (omega arith);
@@ -167,7 +167,7 @@ passing_passes way leaf level = record {
   anywhere = λ depth place other mark. refl;
 }
 
-pub counting_passes : (way : List Step) (leaf : Leaf) (level : ℕ) → Passes way leaf level Counting
+pub counting_passes : (way : List Component) (leaf : Leaf) (level : ℕ) → Passes way leaf level Counting
 counting_passes way leaf level = record {
   opens = λ depth place b. refl;
   closes = λ depth place b. cond-false _ _ _ (not_zero depth) ∙ ap (λ n. moved level (Counting n)) (omega arith);
@@ -178,7 +178,7 @@ counting_passes way leaf level = record {
   anywhere = λ depth place other mark. refl;
 }
 
-pub within_passes : (way : List Step) (leaf : Leaf) (level : ℕ) → Passes way leaf level Within
+pub within_passes : (way : List Component) (leaf : Leaf) (level : ℕ) → Passes way leaf level Within
 within_passes way leaf level = record {
   opens = λ depth place b. refl;
   closes = λ depth place b. cond-false _ _ _ (not_zero depth) ∙ ap (λ n. moved level (Within n)) (omega arith);

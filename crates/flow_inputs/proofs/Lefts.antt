@@ -7,8 +7,8 @@ use Rattle.snesl_values.specs.declared.marks.Found.{Found}
 use Rattle.snesl_values.specs.declared.marks.Bracket.TheVariants.{Round, Square, Curly}
 use Rattle.snesl_values.specs.declared.marks.Mark.{Mark}
 use Rattle.snesl_values.specs.declared.marks.Mark.TheVariants.{Truth, Number, Open, Close, Comma}
-use Rattle.flow_inputs.specs.declared.turns.Step.{Step}
-use Rattle.flow_inputs.specs.declared.turns.Step.TheVariants.{Elements, First, Second}
+use Rattle.flow_inputs.specs.declared.turns.Component.{Component}
+use Rattle.flow_inputs.specs.declared.turns.Component.TheVariants.{Elements, First, Second}
 use Rattle.flow_inputs.specs.declared.turns.Leaf.{Leaf}
 use Rattle.flow_inputs.specs.declared.turns.Leaf.TheVariants.{Flags, Bools, Ints, Vectors}
 use Rattle.flow_inputs.specs.declared.turns.Mode.{Mode}
@@ -21,33 +21,33 @@ use Rattle.flow_inputs.specs.Left.{run, left}
 use Rattle.snesl_values.proofs.Spots.{spots_none, spots_some}
 
 -- what is written by a turn and behind it
-abbrev pub behind_turn : List ℕ → List Step → Leaf → Turn → ℕ → List Piece
+abbrev pub behind_turn : List ℕ → List Component → Leaf → Turn → ℕ → List Piece
 behind_turn text way leaf u end = option_to_list u.0 ++ left text way leaf end u.1
 
 -- at the next token, and where there is none
-pub left_turn : (text : List ℕ) (way : List Step) (leaf : Leaf) (at : ℕ) (s : State) (l : Lexeme) → at ≤ length text → next text at ≡ Some l
+pub left_turn : (text : List ℕ) (way : List Component) (leaf : Leaf) (at : ℕ) (s : State) (l : Lexeme) → at ≤ length text → next text at ≡ Some l
     → left text way leaf at s ≡ behind_turn text way leaf (turn way leaf s (mark_of l.0) at) (next_at text at + l.1)
 unfolding left
 left_turn text way leaf at s l within e = ap (run way leaf s) (spots_some text at l within e)
 
-pub left_none : (text : List ℕ) (way : List Step) (leaf : Leaf) (at : ℕ) (s : State) → next text at ≡ None → left text way leaf at s ≡ []
+pub left_none : (text : List ℕ) (way : List Component) (leaf : Leaf) (at : ℕ) (s : State) → next text at ≡ None → left text way leaf at s ≡ []
 unfolding left
 left_none text way leaf at s e = ap (run way leaf s) (spots_none text at e)
 
 -- where nothing is written any more
-lost_run : (way : List Step) (leaf : Leaf) (spots : List Spot) → run way leaf (state 0 Lost) spots ≡ []
+lost_run : (way : List Component) (leaf : Leaf) (spots : List Spot) → run way leaf (state 0 Lost) spots ≡ []
 lost_run way leaf [] = refl
 lost_run way leaf (x ∷ xs) = lost_run way leaf xs
 
-lost_at : (way : List Step) (leaf : Leaf) (level : ℕ) (spots : List Spot) → run way leaf (state level Lost) spots ≡ []
+lost_at : (way : List Component) (leaf : Leaf) (level : ℕ) (spots : List Spot) → run way leaf (state level Lost) spots ≡ []
 lost_at way leaf level [] = refl
 lost_at way leaf level (x ∷ xs) = lost_run way leaf xs
 
-behind_all : (way : List Step) (leaf : Leaf) (spots : List Spot) → run way leaf (state 0 Behind) spots ≡ []
+behind_all : (way : List Component) (leaf : Leaf) (spots : List Spot) → run way leaf (state 0 Behind) spots ≡ []
 behind_all way leaf [] = refl
 behind_all way leaf (x ∷ xs) = lost_run way leaf xs
 
-pub left_done : (text : List ℕ) (way : List Step) (leaf : Leaf) (at : ℕ) (s : State) → is_done s ≡ true → left text way leaf at s ≡ []
+pub left_done : (text : List ℕ) (way : List Component) (leaf : Leaf) (at : ℕ) (s : State) → is_done s ≡ true → left text way leaf at s ≡ []
 unfolding left
 left_done text way leaf at s done = by_mode s.mode s.level done
   where
@@ -57,7 +57,7 @@ left_done text way leaf at s done = by_mode s.mode s.level done
     by_mode _ level e = absurd (cc)
 
 -- by what was found
-pub left_found : (text : List ℕ) (way : List Step) (leaf : Leaf) (at : ℕ) (s : State) (f : Found) → at ≤ length text → Some f ≡ found_from (next_at text at) (next text at)
+pub left_found : (text : List ℕ) (way : List Component) (leaf : Leaf) (at : ℕ) (s : State) (f : Found) → at ≤ length text → Some f ≡ found_from (next_at text at) (next text at)
     → left text way leaf at s ≡ behind_turn text way leaf (turn way leaf s f.mark at) f.end
 left_found text way leaf at s f within e = by_next (next text at) refl e
   where
@@ -68,7 +68,7 @@ left_found text way leaf at s f within e = by_next (next text at) refl e
         let same : g ≡ f = cc in
         left_turn text way leaf at s l within is ∙ ap (λ (f : Found). behind_turn text way leaf (turn way leaf s f.mark at) f.end) same
 
-pub left_unfound : (text : List ℕ) (way : List Step) (leaf : Leaf) (at : ℕ) (s : State) → None ≡ found_from (next_at text at) (next text at) → left text way leaf at s ≡ []
+pub left_unfound : (text : List ℕ) (way : List Component) (leaf : Leaf) (at : ℕ) (s : State) → None ≡ found_from (next_at text at) (next text at) → left text way leaf at s ≡ []
 left_unfound text way leaf at s e = by_next (next text at) refl e
   where
     by_next : (o : Option Lexeme) → next text at ≡ o → None ≡ found_from (next_at text at) o → left text way leaf at s ≡ []
@@ -86,25 +86,25 @@ leaf_deeper Ints level (Number n) place = omega arith
 leaf_deeper Vectors level (Open Square) place = omega arith
 leaf_deeper _ level mark place = omega arith
 
-value_deeper : (step : Option Step) (leaf : Leaf) (level : ℕ) (mark : Mark) (place : ℕ) → OneDeeper 0 (at_value step leaf level mark place)
+value_deeper : (step : Option Component) (leaf : Leaf) (level : ℕ) (mark : Mark) (place : ℕ) → OneDeeper 0 (at_value step leaf level mark place)
 value_deeper None leaf level mark place = leaf_deeper leaf level mark place
 value_deeper (Some Elements) leaf level (Open Curly) place = omega arith
 value_deeper (Some First) leaf level (Open Round) place = omega arith
 value_deeper (Some Second) leaf level (Open Round) place = omega arith
 value_deeper _ leaf level mark place = omega arith
 
-opened_deeper : (step : Option Step) (leaf : Leaf) (level : ℕ) (mark : Mark) (place : ℕ) → OneDeeper 0 (at_opened step leaf level mark place)
+opened_deeper : (step : Option Component) (leaf : Leaf) (level : ℕ) (mark : Mark) (place : ℕ) → OneDeeper 0 (at_opened step leaf level mark place)
 opened_deeper step leaf level (Close Curly) place = omega arith
 opened_deeper step leaf level mark place = value_deeper step leaf level mark place
 
-behind_deeper : (step : Option Step) (level : ℕ) (mark : Mark) → OneDeeper 0 (behind step level mark)
+behind_deeper : (step : Option Component) (level : ℕ) (mark : Mark) → OneDeeper 0 (behind step level mark)
 behind_deeper (Some Elements) level Comma = omega arith
 behind_deeper (Some First) level Comma = omega arith
 behind_deeper (Some Elements) level (Close Curly) = omega arith
 behind_deeper (Some Second) level (Close Round) = omega arith
 behind_deeper _ level mark = omega arith
 
-passed_deeper : (step : Option Step) (level : ℕ) (mark : Mark) → depth_of (passed step level mark).1.mode ≡ 0
+passed_deeper : (step : Option Component) (level : ℕ) (mark : Mark) → depth_of (passed step level mark).1.mode ≡ 0
 passed_deeper (Some Second) level Comma = refl
 passed_deeper (Some First) level (Close Round) = refl
 passed_deeper _ level mark = refl
@@ -113,7 +113,7 @@ by_depth : (depth n : ℕ) (at_ground in_brackets : Turn) → OneDeeper n at_gro
 by_depth depth n at_ground in_brackets h k true = h
 by_depth depth n at_ground in_brackets h k false = k
 
-passing_deeper : (step : Option Step) (level depth : ℕ) (mark : Mark) → OneDeeper depth (passing step level depth mark)
+passing_deeper : (step : Option Component) (level depth : ℕ) (mark : Mark) → OneDeeper depth (passing step level depth mark)
 passing_deeper step level depth (Open b) = omega arith
 passing_deeper step level depth (Close b) = by_depth depth depth _ _ (omega (arith, passed_deeper step level (Close b))) (omega arith) (depth == 0)
 passing_deeper step level depth mark = by_depth depth depth _ _ (omega (arith, passed_deeper step level mark)) (omega arith) (depth == 0)
@@ -134,7 +134,7 @@ within_deeper level depth (Open b) = omega arith
 within_deeper level depth (Close b) = by_depth depth depth _ _ (omega arith) (omega arith) (depth == 0)
 within_deeper level depth mark = omega arith
 
-pub turn_deeper : (way : List Step) (leaf : Leaf) (s : State) (mark : Mark) (place : ℕ) → depth_of (turn way leaf s mark place).1.mode ≤ depth_of s.mode + 1
+pub turn_deeper : (way : List Component) (leaf : Leaf) (s : State) (mark : Mark) (place : ℕ) → depth_of (turn way leaf s mark place).1.mode ≤ depth_of s.mode + 1
 turn_deeper way leaf s mark place = by_mode s.mode
   where
     by_mode : (mode : Mode) → OneDeeper (depth_of mode) (turn_by mode way leaf s.level mark place)

@@ -12,11 +12,11 @@ use Rattle.snesl_values.specs.InputTokens.{Token, integer, Reads}
 use Rattle.snesl_values.specs.Inputs.{value_tokens, items_tokens, further_tokens, right_brace}
 use Rattle.flow_messages.specs.Cells.{flag, int as int_cell, datum}
 use Rattle.flow_base.specs.Flags.{F, T, elements}
-use Rattle.flow_base.specs.Segments.{joined_by}
+use Rattle.flow_base.specs.Segments.{concatenation_by}
 use Rattle.snesl_values.specs.declared.marks.Bracket.TheVariants.{Round, Square, Curly}
 use Rattle.snesl_values.specs.declared.marks.Mark.TheVariants.{Truth, Number, Open, Close, Comma, Other}
-use Rattle.flow_inputs.specs.declared.turns.Step.{Step}
-use Rattle.flow_inputs.specs.declared.turns.Step.TheVariants.{Elements, First, Second}
+use Rattle.flow_inputs.specs.declared.turns.Component.{Component}
+use Rattle.flow_inputs.specs.declared.turns.Component.TheVariants.{Elements, First, Second}
 use Rattle.flow_inputs.specs.declared.turns.Leaf.{Leaf}
 use Rattle.flow_inputs.specs.declared.turns.Leaf.TheVariants.{Flags, Bools, Ints, Vectors}
 use Rattle.flow_inputs.specs.declared.turns.Mode.TheVariants.{Value as ValueNext, Opened, Behind, Passing, Flagging, Counting, Within}
@@ -32,14 +32,14 @@ use Rattle.flow_inputs.proofs.Lefts.{behind_turn}
 use Rattle.flow_inputs.proofs.Law.{turned, cells, then_moved, then_wrote, over_value, over_items, passing_passes, counting_passes, within_passes}
 
 -- the way back
-made-next : (way : List Step) (level : ℕ) → made way (level + 1) ≡ slice_get way level
+made-next : (way : List Component) (level : ℕ) → made way (level + 1) ≡ slice_get way level
 made-next way level = let e : eqb (level + 1) 0 ≡ false = grind (arith, nat_tests) in cond-false _ _ _ e ∙ ap (slice_get way) (omega arith)
 
 back : (level : ℕ) → moved (level + 1 - 1) Behind ≡ moved level Behind
 back level = ap (λ n. moved n Behind) (omega arith)
 
 -- the first token of a value opens no sequence's end, and stands for an element
-first_opened : (vector : ℕ → Value) {text : List ℕ} (way : List Step) (leaf : Leaf) (level : ℕ) (v : Value) (ts : List Token) {from end : ℕ} → from ≤ length text → Reads text from (value_tokens v ++ ts) end
+first_opened : (vector : ℕ → Value) {text : List ℕ} (way : List Component) (leaf : Leaf) (level : ℕ) (v : Value) (ts : List Token) {from end : ℕ} → from ≤ length text → Reads text from (value_tokens v ++ ts) end
     → cells vector text way leaf from (state level Opened) ≡ cells vector text way leaf from (state level ValueNext)
 first_opened vector {text = text} way leaf level v ts {from = from} {end = end} inside r = by_value v r
   where
@@ -61,7 +61,7 @@ first_opened vector {text = text} way leaf level v ts {from = from} {end = end} 
     by_value (a_vec vs) r = alike r (λ place. refl)
     by_value (a_seq vs) r = alike r (λ place. refl)
 
-first_flagged : (vector : ℕ → Value) {text : List ℕ} (way : List Step) (level : ℕ) (v : Value) (ts : List Token) {from end : ℕ} → from ≤ length text → Reads text from (value_tokens v ++ ts) end
+first_flagged : (vector : ℕ → Value) {text : List ℕ} (way : List Component) (level : ℕ) (v : Value) (ts : List Token) {from end : ℕ} → from ≤ length text → Reads text from (value_tokens v ++ ts) end
     → cells vector text way Flags from (state level Flagging) ≡ F ∷ cells vector text way Flags from (state level (Counting 0))
 first_flagged vector {text = text} way level v ts {from = from} {end = end} inside r = by_value v r
   where
@@ -91,7 +91,7 @@ first_flagged vector {text = text} way level v ts {from = from} {end = end} insi
     by_value (a_seq vs) r = alike r (λ place. refl) (λ place. refl)
 
 -- an integer
-int_law : (dialect : Dialect) (vector : ℕ → Value) {text : List ℕ} (way : List Step) (level : ℕ) → slice_get way level ≡ None → (n : ℤ) → IsInteger dialect n → {from end : ℕ} → from ≤ length text → Reads text from (integer n ∷ []) end
+int_law : (dialect : Dialect) (vector : ℕ → Value) {text : List ℕ} (way : List Component) (level : ℕ) → slice_get way level ≡ None → (n : ℤ) → IsInteger dialect n → {from end : ℕ} → from ≤ length text → Reads text from (integer n ∷ []) end
     → cells vector text way Ints from (state level ValueNext) ≡ int_cell n ∷ cells vector text way Ints end (state level Behind)
 int_law dialect vector {text = text} way level ahead n ranged {from = from} inside r =
     let w = turned inside r in
@@ -99,7 +99,7 @@ int_law dialect vector {text = text} way level ahead n ranged {from = from} insi
     (ap (λ o. at_value o Ints level (mark_of (integer n)) from) ahead ∙ ap (λ m. at_leaf Ints level m from) (cond-true _ _ _ (wide dialect n ranged)))
     ∙ ap (λ at. int_cell n ∷ cells vector text way Ints at (state level Behind)) (unread w.rest)
 
-bool_law : (vector : ℕ → Value) {text : List ℕ} (way : List Step) (level : ℕ) → slice_get way level ≡ None → (b : Bool) → {from end : ℕ} → from ≤ length text → Reads text from (value_tokens (a_bool b)) end
+bool_law : (vector : ℕ → Value) {text : List ℕ} (way : List Component) (level : ℕ) → slice_get way level ≡ None → (b : Bool) → {from end : ℕ} → from ≤ length text → Reads text from (value_tokens (a_bool b)) end
     → cells vector text way Bools from (state level ValueNext) ≡ flag b ∷ cells vector text way Bools end (state level Behind)
 bool_law vector {text = text} way level ahead true {from = from} inside r =
     let w = turned inside r in
@@ -110,7 +110,7 @@ bool_law vector {text = text} way level ahead false {from = from} inside r =
     then_wrote vector way Bools (state level ValueNext) (Flag false) level Behind w (ap (λ o. at_value o Bools level (Truth false) from) ahead)
     ∙ ap (λ at. flag false ∷ cells vector text way Bools at (state level Behind)) (unread w.rest)
 
-vector_law : (dialect : Dialect) (a : Ty) (vector : ℕ → Value) {text : List ℕ} → Tells vector text → (way : List Step) (level : ℕ) → slice_get way level ≡ None → (vs : Values) → HasType dialect (a_vec vs) (vec a) → {from end : ℕ} → from ≤ length text → Reads text from (value_tokens (a_vec vs)) end
+vector_law : (dialect : Dialect) (a : Ty) (vector : ℕ → Value) {text : List ℕ} → Tells vector text → (way : List Component) (level : ℕ) → slice_get way level ≡ None → (vs : Values) → HasType dialect (a_vec vs) (vec a) → {from end : ℕ} → from ≤ length text → Reads text from (value_tokens (a_vec vs)) end
     → cells vector text way Vectors from (state level ValueNext) ≡ datum (a_vec vs) ∷ cells vector text way Vectors end (state level Behind)
 vector_law dialect a vector {text = text} tells way level ahead vs typed {from = from} {end = end} inside r =
     let opening = turned inside r in
@@ -123,7 +123,7 @@ vector_law dialect a vector {text = text} tells way level ahead vs typed {from =
     ∙ ap (λ at. cells vector text way Vectors at (state level Behind)) (unread closing.rest))
 
 -- flags
-further_flags : (vector : ℕ → Value) {text : List ℕ} (way : List Step) (level : ℕ) (vs : Values) {from end : ℕ} → from ≤ length text → Reads text from (further_tokens vs ++ right_brace ∷ []) end
+further_flags : (vector : ℕ → Value) {text : List ℕ} (way : List Component) (level : ℕ) (vs : Values) {from end : ℕ} → from ≤ length text → Reads text from (further_tokens vs ++ right_brace ∷ []) end
     → cells vector text way Flags from (state level (Counting 0)) ≡ elements (length (list_of vs)) (T ∷ []) ++ cells vector text way Flags end (state level Behind)
 further_flags vector {text = text} way level no_values inside r =
     let closing = turned inside r in
@@ -136,7 +136,7 @@ further_flags vector {text = text} way level (more_values v vs) {end = end} insi
     ∙ ap (λ l. F ∷ l) (over_value vector way Flags level Counting (counting_passes way Flags level) v 0 parting.inside first.1
     ∙ further_flags vector way level vs (ends_inside (value_tokens v) parting.inside first.1) first.2)
 
-flags_law : (vector : ℕ → Value) {text : List ℕ} (way : List Step) (level : ℕ) → slice_get way level ≡ None → (vs : Values) → {from end : ℕ} → from ≤ length text → Reads text from (value_tokens (a_seq vs)) end
+flags_law : (vector : ℕ → Value) {text : List ℕ} (way : List Component) (level : ℕ) → slice_get way level ≡ None → (vs : Values) → {from end : ℕ} → from ≤ length text → Reads text from (value_tokens (a_seq vs)) end
     → cells vector text way Flags from (state level ValueNext) ≡ elements (length (list_of vs)) (T ∷ []) ++ cells vector text way Flags end (state level Behind)
 flags_law vector {text = text} way level ahead vs {from = from} {end = end} inside r =
     let opening = turned inside r in
@@ -157,14 +157,14 @@ flags_law vector {text = text} way level ahead vs {from = from} {end = end} insi
         ∙ further_flags vector way level vs (ends_inside (value_tokens v) inside first.1) first.2)
 
 -- What a value at the front of a way leaves: its items there, and what is left behind it.
-abbrev pub Leaves : (vector : ℕ → Value) (text : List ℕ) (way : List Step) (leaf : Leaf) (level : ℕ) (rest : List Step) (v : Value) → Type 0
+abbrev pub Leaves : (vector : ℕ → Value) (text : List ℕ) (way : List Component) (leaf : Leaf) (level : ℕ) (rest : List Component) (v : Value) → Type 0
 Leaves vector text way leaf level rest v = (from end : ℕ) → from ≤ length text → Reads text from (value_tokens v) end
     → cells vector text way leaf from (state level ValueNext) ≡ items rest leaf v ++ cells vector text way leaf end (state level Behind)
 
 -- the elements behind the first one
-further_elements : (dialect : Dialect) (vector : ℕ → Value) {text : List ℕ} (way : List Step) (leaf : Leaf) (level : ℕ) (rest : List Step) (a : Ty) → slice_get way level ≡ Some Elements
+further_elements : (dialect : Dialect) (vector : ℕ → Value) {text : List ℕ} (way : List Component) (leaf : Leaf) (level : ℕ) (rest : List Component) (a : Ty) → slice_get way level ≡ Some Elements
     → ((v : Value) → HasType dialect v a → Leaves vector text way leaf (level + 1) rest v) → (vs : Values) → AllHaveType dialect vs a → {from end : ℕ} → from ≤ length text → Reads text from (further_tokens vs ++ right_brace ∷ []) end
-    → cells vector text way leaf from (state (level + 1) Behind) ≡ joined_by (items rest leaf) (list_of vs) ++ cells vector text way leaf end (state level Behind)
+    → cells vector text way leaf from (state (level + 1) Behind) ≡ concatenation_by (items rest leaf) (list_of vs) ++ cells vector text way leaf end (state level Behind)
 further_elements dialect vector {text = text} way leaf level rest a ahead each no_values typed inside r =
     let closing = turned inside r in
     then_moved vector way leaf (state (level + 1) Behind) level Behind closing (ap (λ o. behind o (level + 1) (Close Curly)) (made-next way level ∙ ahead) ∙ back level)
@@ -175,9 +175,9 @@ further_elements dialect vector {text = text} way leaf level rest a ahead each (
     then_moved vector way leaf (state (level + 1) Behind) (level + 1) ValueNext parting (ap (λ o. behind o (level + 1) Comma) (made-next way level ∙ ahead))
     ∙ each v typed.0 _ _ parting.inside first.1
     ∙ ap (λ l. items rest leaf v ++ l) (further_elements dialect vector way leaf level rest a ahead each vs typed.1 (ends_inside (value_tokens v) parting.inside first.1) first.2)
-    ∙ sym (append_assoc (items rest leaf v) (joined_by (items rest leaf) (list_of vs)) (cells vector text way leaf end (state level Behind)))
+    ∙ sym (append_assoc (items rest leaf v) (concatenation_by (items rest leaf) (list_of vs)) (cells vector text way leaf end (state level Behind)))
 
-elements_law : (dialect : Dialect) (vector : ℕ → Value) (text : List ℕ) (way : List Step) (leaf : Leaf) (level : ℕ) (rest : List Step) (a : Ty) → slice_get way level ≡ Some Elements
+elements_law : (dialect : Dialect) (vector : ℕ → Value) (text : List ℕ) (way : List Component) (leaf : Leaf) (level : ℕ) (rest : List Component) (a : Ty) → slice_get way level ≡ Some Elements
     → ((v : Value) → HasType dialect v a → Leaves vector text way leaf (level + 1) rest v) → (vs : Values) → AllHaveType dialect vs a → Leaves vector text way leaf level (Elements ∷ rest) (a_seq vs)
 elements_law dialect vector text way leaf level rest a ahead each vs typed from end inside r =
     let opening = turned inside r in
@@ -185,7 +185,7 @@ elements_law dialect vector text way leaf level rest a ahead each vs typed from 
     ∙ by_items vs typed opening.at opening.inside opening.rest
   where
     by_items : (vs : Values) → AllHaveType dialect vs a → (from : ℕ) → from ≤ length text → Reads text from (items_tokens vs ++ right_brace ∷ []) end
-        → cells vector text way leaf from (state (level + 1) Opened) ≡ joined_by (items rest leaf) (list_of vs) ++ cells vector text way leaf end (state level Behind)
+        → cells vector text way leaf from (state (level + 1) Opened) ≡ concatenation_by (items rest leaf) (list_of vs) ++ cells vector text way leaf end (state level Behind)
     by_items no_values typed from inside r =
         let closing = turned inside r in
         then_moved vector way leaf (state (level + 1) Opened) level Behind closing (back level)
@@ -196,10 +196,10 @@ elements_law dialect vector text way leaf level rest a ahead each vs typed from 
         first_opened vector way leaf (level + 1) v (further_tokens vs ++ right_brace ∷ []) inside q
         ∙ each v typed.0 _ _ inside first.1
         ∙ ap (λ l. items rest leaf v ++ l) (further_elements dialect vector way leaf level rest a ahead each vs typed.1 (ends_inside (value_tokens v) inside first.1) first.2)
-        ∙ sym (append_assoc (items rest leaf v) (joined_by (items rest leaf) (list_of vs)) (cells vector text way leaf end (state level Behind)))
+        ∙ sym (append_assoc (items rest leaf v) (concatenation_by (items rest leaf) (list_of vs)) (cells vector text way leaf end (state level Behind)))
 
 -- pairs
-first_law : (vector : ℕ → Value) (text : List ℕ) (way : List Step) (leaf : Leaf) (level : ℕ) (rest : List Step) (a b : Value) → slice_get way level ≡ Some First
+first_law : (vector : ℕ → Value) (text : List ℕ) (way : List Component) (leaf : Leaf) (level : ℕ) (rest : List Component) (a b : Value) → slice_get way level ≡ Some First
     → Leaves vector text way leaf (level + 1) rest a → Leaves vector text way leaf level (First ∷ rest) (a_pair a b)
 first_law vector text way leaf level rest a b ahead one from end inside r =
     let opening = turned inside r in
@@ -215,7 +215,7 @@ first_law vector text way leaf level rest a b ahead one from end inside r =
     ∙ then_moved vector way leaf (state (level + 1) (Passing 0)) level Behind closing (ap (λ o. passed o (level + 1) (Close Round)) here ∙ back level)
     ∙ ap (λ at. cells vector text way leaf at (state level Behind)) (unread closing.rest))
 
-second_law : (vector : ℕ → Value) (text : List ℕ) (way : List Step) (leaf : Leaf) (level : ℕ) (rest : List Step) (a b : Value) → slice_get way level ≡ Some Second
+second_law : (vector : ℕ → Value) (text : List ℕ) (way : List Component) (leaf : Leaf) (level : ℕ) (rest : List Component) (a b : Value) → slice_get way level ≡ Some Second
     → Leaves vector text way leaf (level + 1) rest b → Leaves vector text way leaf level (Second ∷ rest) (a_pair a b)
 second_law vector text way leaf level rest a b ahead two from end inside r =
     let opening = turned inside r in
@@ -232,7 +232,7 @@ second_law vector text way leaf level rest a b ahead two from end inside r =
     ∙ ap (λ at. cells vector text way leaf at (state level Behind)) (unread closing.rest))
 
 -- the law on every way
-pub law : {t : Ty} {rest : List Step} {leaf : Leaf} → Leads t rest leaf → (dialect : Dialect) (vector : ℕ → Value) (text : List ℕ) → Tells vector text → (way : List Step) (level : ℕ) → Ahead way level rest
+pub law : {t : Ty} {rest : List Component} {leaf : Leaf} → Leads t rest leaf → (dialect : Dialect) (vector : ℕ → Value) (text : List ℕ) → Tells vector text → (way : List Component) (level : ℕ) → Ahead way level rest
     → (v : Value) → HasType dialect v t → Leaves vector text way leaf level rest v
 law to_int dialect vector text tells way level ahead (an_int n) typed from end inside r = int_law dialect vector way level ahead n typed inside r
 law to_bool dialect vector text tells way level ahead (a_bool b) typed from end inside r = bool_law vector way level ahead b inside r

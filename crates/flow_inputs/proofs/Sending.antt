@@ -6,8 +6,8 @@ use Rattle.flow_messages.specs.Cells.{Cell, is_of}
 use Rattle.flow_messages.specs.Signals.{carry, stop}
 use Rattle.flow_messages.specs.declared.message.Kind.TheVariants.{Vec as VecKind}
 use Rattle.flow_base.specs.Transducers.{IsWrite}
-use Rattle.flow_scalar.specs.SourceBehaviour.{finished, sending, is_vector, next_signal, next_state, source_want, source_written, source_wrote, source_takes_memory}
-use Rattle.flow_inputs.specs.declared.turns.Step.{Step}
+use Rattle.flow_scalar.specs.SourceBehaviour.{finished, sending, is_vector, next_signal, next_state, source_want, source_signal, source_after_write, source_takes_memory}
+use Rattle.flow_inputs.specs.declared.turns.Component.{Component}
 use Rattle.flow_inputs.specs.declared.turns.Leaf.{Leaf}
 use Rattle.flow_inputs.specs.declared.turns.State.{State}
 use Rattle.flow_inputs.specs.declared.turns.Piece.{Piece}
@@ -47,14 +47,14 @@ nexts all rest x others is e =
     }
 
 -- what is written next
-next_cell : (text : List ℕ) (way : List Step) (leaf : Leaf) (place at : ℕ) (s : State) (x : Piece) (others : List Piece) → Nexts (left text way leaf place opening_state) (left text way leaf at s) x others
+next_cell : (text : List ℕ) (way : List Component) (leaf : Leaf) (place at : ℕ) (s : State) (x : Piece) (others : List Piece) → Nexts (left text way leaf place opening_state) (left text way leaf at s) x others
     → slice_get (items_at text way leaf place).cells (written_of (left text way leaf place opening_state) (left text way leaf at s)) ≡ Some (cell (value_at text) x)
 next_cell text way leaf place at s x others n =
     slice_get-map (cell (value_at text)) (left text way leaf place opening_state) _ ∙ ap (option_map (cell (value_at text))) n.next
 
-pub sends_piece : (text : List ℕ) (way : List Step) (leaf : Leaf) (place at end : ℕ) (s u : State) (ended : Bool) (x : Piece) (c : Cell) → IsWrite (source_want (text_state text way leaf place at s ended))
+pub sends_piece : (text : List ℕ) (way : List Component) (leaf : Leaf) (place at end : ℕ) (s u : State) (ended : Bool) (x : Piece) (c : Cell) → IsWrite (source_want (text_state text way leaf place at s ended))
     → Nexts (left text way leaf place opening_state) (left text way leaf at s) x (left text way leaf end u) → c ≡ cell (value_at text) x
-    → (carry c ≡ source_written (text_state text way leaf place at s ended)) × (text_state text way leaf place end u ended ≡ source_wrote (text_state text way leaf place at s ended))
+    → (carry c ≡ source_signal (text_state text way leaf place at s ended)) × (text_state text way leaf place end u ended ≡ source_after_write (text_state text way leaf place at s ended))
 sends_piece text way leaf place at end s u true x c h n e = absurd h
 sends_piece text way leaf place at end s u false x c h n e =
     let items = items_at text way leaf place in
@@ -62,8 +62,8 @@ sends_piece text way leaf place at end s u false x c h n e =
     let here = next_cell text way leaf place at s x (left text way leaf end u) n in
     (ap carry e ∙ sym (ap next_signal here), ap (sending items) n.more ∙ sym (ap (next_state items count) here))
 
-pub sends_end : (text : List ℕ) (way : List Step) (leaf : Leaf) (place at : ℕ) (s : State) (ended : Bool) → IsWrite (source_want (text_state text way leaf place at s ended)) → left text way leaf at s ≡ []
-    → (stop ≡ source_written (text_state text way leaf place at s ended)) × (finished (items_at text way leaf place) ≡ source_wrote (text_state text way leaf place at s ended))
+pub sends_end : (text : List ℕ) (way : List Component) (leaf : Leaf) (place at : ℕ) (s : State) (ended : Bool) → IsWrite (source_want (text_state text way leaf place at s ended)) → left text way leaf at s ≡ []
+    → (stop ≡ source_signal (text_state text way leaf place at s ended)) × (finished (items_at text way leaf place) ≡ source_after_write (text_state text way leaf place at s ended))
 sends_end text way leaf place at s true h e = absurd h
 sends_end text way leaf place at s false h e =
     let items = items_at text way leaf place in
@@ -75,7 +75,7 @@ sends_end text way leaf place at s false h e =
     (sym (ap next_signal here), sym (ap (next_state items count) here))
 
 -- where the next item is no vector, no memory is taken
-pub takes : (text : List ℕ) (way : List Step) (leaf : Leaf) (place at : ℕ) (s : State) (ended : Bool) (x : Piece) (others : List Piece) → IsWrite (source_want (text_state text way leaf place at s ended))
+pub takes : (text : List ℕ) (way : List Component) (leaf : Leaf) (place at : ℕ) (s : State) (ended : Bool) (x : Piece) (others : List Piece) → IsWrite (source_want (text_state text way leaf place at s ended))
     → Nexts (left text way leaf place opening_state) (left text way leaf at s) x others → source_takes_memory (text_state text way leaf place at s ended) ≡ false → is_of VecKind (cell (value_at text) x) ≡ false
 takes text way leaf place at s true x others h n e = absurd h
 takes text way leaf place at s false x others h n e = sym (ap is_vector (next_cell text way leaf place at s x others n)) ∙ e

@@ -20,7 +20,7 @@ use Rattle.snesl_values.specs.Marks.{found_from, mark_of, sign_mark, word_mark}
 use Rattle.snesl_values.proofs.InputScan.{next_at-is}
 use Rattle.snesl_values.proofs.First.{seen, a_sign}
 use Rattle.snesl_values.proofs.Spots.{found_some, Comes, Next, nothing, lexeme, next_is}
-use Rattle.flow_inputs.specs.declared.turns.Step.{Step}
+use Rattle.flow_inputs.specs.declared.turns.Component.{Component}
 use Rattle.flow_inputs.specs.declared.turns.Leaf.{Leaf}
 use Rattle.flow_inputs.specs.declared.turns.Mode.{Mode}
 use Rattle.flow_inputs.specs.declared.turns.Piece.{Piece}
@@ -159,7 +159,7 @@ next-first : (text : List ℕ) (at : ℕ) → next_at text at ≡ at → next te
 unfolding next
 next-first text at e = ap (λ n. first (drop n text)) e
 
-module _ (text : List ℕ) (way : List Step) (leaf : Leaf) (level : ℕ) (mode : ℕ → Mode) (passes : Passes way leaf level mode) (depth : ℕ) where
+module _ (text : List ℕ) (way : List Component) (leaf : Leaf) (level : ℕ) (mode : ℕ → Mode) (passes : Passes way leaf level mode) (depth : ℕ) where
   -- what is left to write from an offset on, in the same state
   abbrev left_from : ℕ → List Piece
   left_from at = left text way leaf at (state level (mode depth))
@@ -309,7 +309,7 @@ behind_comma depth deeper true e = absurd (cc)
 behind_comma depth deeper false e = (refl, some_same e)
 
 -- a turn by a mark that is passed over
-turn_past : (way : List Step) (leaf : Leaf) (level : ℕ) (mode : ℕ → Mode) → Passes way leaf level mode → (commas : Bool) → (IsTrue commas → PassesParts way leaf level mode 0)
+turn_past : (way : List Component) (leaf : Leaf) (level : ℕ) (mode : ℕ → Mode) → Passes way leaf level mode → (commas : Bool) → (IsTrue commas → PassesParts way leaf level mode 0)
     → (mark : Mark) (depth deeper place : ℕ) → depth_behind mark depth commas ≡ Some deeper → turn way leaf (state level (mode depth)) mark place ≡ moved level (mode deeper)
 turn_past way leaf level mode p commas q (Open b) depth deeper place e = p.opens depth place b ∙ ap (λ n. moved level (mode n)) (some_same e)
 turn_past way leaf level mode p commas q (Close b) depth deeper place e = ap (λ n. turn way leaf (state level (mode n)) (Close b) place) (behind_close depth deeper e) ∙ p.closes deeper place b

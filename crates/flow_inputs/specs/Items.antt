@@ -11,8 +11,8 @@ use Rattle.flow_scalar.specs.SourceBehaviour.{SourceState, sending, finished}
 use Rattle.snesl_values.specs.declared.marks.Bracket.TheVariants.{Round, Square, Curly}
 use Rattle.snesl_values.specs.declared.marks.Mark.{Mark}
 use Rattle.snesl_values.specs.declared.marks.Mark.TheVariants.{Truth, Number, Open, Close, Comma}
-use Rattle.flow_inputs.specs.declared.turns.Step.{Step}
-use Rattle.flow_inputs.specs.declared.turns.Step.TheVariants.{Elements, First, Second}
+use Rattle.flow_inputs.specs.declared.turns.Component.{Component}
+use Rattle.flow_inputs.specs.declared.turns.Component.TheVariants.{Elements, First, Second}
 use Rattle.flow_inputs.specs.declared.turns.Leaf.{Leaf}
 use Rattle.flow_inputs.specs.declared.turns.Leaf.TheVariants.{Flags, Bools, Ints, Vectors}
 use Rattle.flow_inputs.specs.declared.turns.Mode.{Mode}
@@ -51,7 +51,7 @@ module _ (vector : ℕ → Value) where
   leaf_fine _ level mark place = (tt, tt)
 
   -- where a value comes next
-  value_fine : (step : Option Step) (leaf : Leaf) (level : ℕ) (mark : Mark) (place : ℕ) → Fine leaf (at_value step leaf level mark place)
+  value_fine : (step : Option Component) (leaf : Leaf) (level : ℕ) (mark : Mark) (place : ℕ) → Fine leaf (at_value step leaf level mark place)
   value_fine None leaf level mark place = leaf_fine leaf level mark place
   value_fine (Some Elements) leaf level (Open Curly) place = (tt, tt)
   value_fine (Some First) leaf level (Open Round) place = (tt, tt)
@@ -59,12 +59,12 @@ module _ (vector : ℕ → Value) where
   value_fine _ leaf level mark place = (tt, tt)
 
   -- where a sequence was opened on the way
-  opened_fine : (step : Option Step) (leaf : Leaf) (level : ℕ) (mark : Mark) (place : ℕ) → Fine leaf (at_opened step leaf level mark place)
+  opened_fine : (step : Option Component) (leaf : Leaf) (level : ℕ) (mark : Mark) (place : ℕ) → Fine leaf (at_opened step leaf level mark place)
   opened_fine step leaf level (Close Curly) place = (tt, tt)
   opened_fine step leaf level mark place = value_fine step leaf level mark place
 
   -- behind a value
-  behind_fine : (step : Option Step) (leaf : Leaf) (level : ℕ) (mark : Mark) → Fine leaf (behind step level mark)
+  behind_fine : (step : Option Component) (leaf : Leaf) (level : ℕ) (mark : Mark) → Fine leaf (behind step level mark)
   behind_fine (Some Elements) leaf level Comma = (tt, tt)
   behind_fine (Some First) leaf level Comma = (tt, tt)
   behind_fine (Some Elements) leaf level (Close Curly) = (tt, tt)
@@ -72,7 +72,7 @@ module _ (vector : ℕ → Value) where
   behind_fine _ leaf level mark = (tt, tt)
 
   -- in a part that is passed over, outside its brackets
-  passed_fine : (step : Option Step) (leaf : Leaf) (level : ℕ) (mark : Mark) → Fine leaf (passed step level mark)
+  passed_fine : (step : Option Component) (leaf : Leaf) (level : ℕ) (mark : Mark) → Fine leaf (passed step level mark)
   passed_fine (Some Second) leaf level Comma = (tt, tt)
   passed_fine (Some First) leaf level (Close Round) = (tt, tt)
   passed_fine _ leaf level mark = (tt, tt)
@@ -83,7 +83,7 @@ module _ (vector : ℕ → Value) where
   either_fine leaf u v h k false = k
 
   -- in a part that is passed over
-  passing_fine : (step : Option Step) (leaf : Leaf) (level depth : ℕ) (mark : Mark) → Fine leaf (passing step level depth mark)
+  passing_fine : (step : Option Component) (leaf : Leaf) (level depth : ℕ) (mark : Mark) → Fine leaf (passing step level depth mark)
   passing_fine step leaf level depth (Open b) = (tt, tt)
   passing_fine step leaf level depth (Close b) = either_fine leaf _ _ (passed_fine step leaf level (Close b)) (tt, tt) (depth == 0)
   passing_fine step leaf level depth mark = either_fine leaf _ _ (passed_fine step leaf level mark) (tt, tt) (depth == 0)
@@ -112,7 +112,7 @@ module _ (vector : ℕ → Value) where
   within_fine leaf level depth mark = (tt, tt)
 
   -- of each turn
-  turn_fine : (mode : Mode) (way : List Step) (leaf : Leaf) (level : ℕ) (mark : Mark) (place : ℕ) → FlagsOnly leaf mode → Fine leaf (turn_by mode way leaf level mark place)
+  turn_fine : (mode : Mode) (way : List Component) (leaf : Leaf) (level : ℕ) (mark : Mark) (place : ℕ) → FlagsOnly leaf mode → Fine leaf (turn_by mode way leaf level mark place)
   turn_fine ValueNext way leaf level mark place e = value_fine (slice_get way level) leaf level mark place
   turn_fine Opened way leaf level mark place e = opened_fine (slice_get way level) leaf level mark place
   turn_fine Behind way leaf level mark place e = behind_fine (made way level) leaf level mark
@@ -128,7 +128,7 @@ module _ (vector : ℕ → Value) where
   with_rest kind (Some x) rest h k = (h.0, k)
 
   -- what is written at some tokens
-  run_all_of : (way : List Step) (leaf : Leaf) (tokens : List Spot) (s : State) → FlagsOnly leaf s.mode → AllOf (leaf_kind leaf) (map (cell vector) (run way leaf s tokens))
+  run_all_of : (way : List Component) (leaf : Leaf) (tokens : List Spot) (s : State) → FlagsOnly leaf s.mode → AllOf (leaf_kind leaf) (map (cell vector) (run way leaf s tokens))
   run_all_of way leaf [] s e = tt
   run_all_of way leaf (x ∷ xs) s e =
       let u = turn way leaf s x.0 x.1 in
@@ -136,12 +136,12 @@ module _ (vector : ℕ → Value) where
       with_rest (leaf_kind leaf) u.0 (run way leaf u.1 xs) fine.1 (run_all_of way leaf xs u.1 fine.0)
 
   -- all that is written on the edge is of its kind
-  pub left_all_of : (text : List ℕ) (way : List Step) (leaf : Leaf) (at : ℕ) (s : State) → FlagsOnly leaf s.mode → AllOf (leaf_kind leaf) (map (cell vector) (left text way leaf at s))
+  pub left_all_of : (text : List ℕ) (way : List Component) (leaf : Leaf) (at : ℕ) (s : State) → FlagsOnly leaf s.mode → AllOf (leaf_kind leaf) (map (cell vector) (left text way leaf at s))
   unfolding left
   left_all_of text way leaf at s e = run_all_of way leaf (spots text at) s e
 
 -- what is written from this state and offset on, as items
-abbrev pub cells_left : List ℕ → List Step → Leaf → ℕ → State → List Cell
+abbrev pub cells_left : List ℕ → List Component → Leaf → ℕ → State → List Cell
 cells_left text way leaf at s = map (cell (value_at text)) (left text way leaf at s)
 
 -- the state in which a scanner opens: a value comes next
@@ -149,7 +149,7 @@ abbrev pub opening_state : State
 opening_state = state 0 ValueNext
 
 -- all items of a source whose value is read from this place on
-abbrev pub items_at : List ℕ → List Step → Leaf → ℕ → Items
+abbrev pub items_at : List ℕ → List Component → Leaf → ℕ → Items
 items_at text way leaf place = record {
   kind = leaf_kind leaf;
   cells = cells_left text way leaf place opening_state;
@@ -165,6 +165,6 @@ abbrev pub IsRest : List Piece → List Piece → Type 0
 IsRest whole rest = drop (written_of whole rest) whole ≡ rest
 
 -- what the laws see of a source over a text
-abbrev pub text_state : List ℕ → List Step → Leaf → ℕ → ℕ → State → Bool → SourceState
+abbrev pub text_state : List ℕ → List Component → Leaf → ℕ → ℕ → State → Bool → SourceState
 text_state text way leaf place at s true = finished (items_at text way leaf place)
 text_state text way leaf place at s false = sending (items_at text way leaf place) (written_of (left text way leaf place opening_state) (left text way leaf at s))

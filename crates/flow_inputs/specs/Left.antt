@@ -2,7 +2,7 @@
 use Rattle.std.specs.Prelude.{ℕ, List, [], ◌∷◌, ◌++◌, option_to_list}
 use Rattle.snesl_data.specs.Values.{Value}
 use Rattle.flow_messages.specs.Cells.{Cell, flag, int, datum}
-use Rattle.flow_inputs.specs.declared.turns.Step.{Step}
+use Rattle.flow_inputs.specs.declared.turns.Component.{Component}
 use Rattle.flow_inputs.specs.declared.turns.Leaf.{Leaf}
 use Rattle.flow_inputs.specs.declared.turns.State.{State}
 use Rattle.flow_inputs.specs.declared.turns.Piece.{Piece}
@@ -11,12 +11,12 @@ use Rattle.flow_inputs.specs.Turns.{turn}
 use Rattle.snesl_values.specs.Marks.{Spot, spots}
 
 -- what is written from this state on at these tokens
-abbrev pub run : List Step → Leaf → State → List Spot → List Piece
+abbrev pub run : List Component → Leaf → State → List Spot → List Piece
 run way leaf s [] = []
 run way leaf s (spot ∷ rest) = (let u = turn way leaf s spot.0 spot.1 in option_to_list u.0 ++ run way leaf u.1 rest)
 
 -- what is written from this state and this offset on
-unfoldable pub left : List ℕ → List Step → Leaf → ℕ → State → List Piece
+unfoldable pub left : List ℕ → List Component → Leaf → ℕ → State → List Piece
 left text way leaf at s = run way leaf s (spots text at)
 
 -- the item that a piece is, where `vector` gives the vector at a place

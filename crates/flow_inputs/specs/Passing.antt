@@ -3,14 +3,14 @@ use Rattle.std.specs.Prelude.{◌≡◌, ℕ, ℤ, ◌+◌, ◌-◌, ◌==◌, �
 use Rattle.snesl_values.specs.declared.marks.Bracket.{Bracket}
 use Rattle.snesl_values.specs.declared.marks.Mark.{Mark}
 use Rattle.snesl_values.specs.declared.marks.Mark.TheVariants.{Truth, Number, Open, Close, Comma, Other}
-use Rattle.flow_inputs.specs.declared.turns.Step.{Step}
+use Rattle.flow_inputs.specs.declared.turns.Component.{Component}
 use Rattle.flow_inputs.specs.declared.turns.Leaf.{Leaf}
 use Rattle.flow_inputs.specs.declared.turns.Mode.{Mode}
 use Rattle.flow_inputs.specs.Turns.{turn, state, moved}
 use Rattle.flow_inputs.specs.Left.{left}
 
 -- how a mode passes over values, with so many brackets open
-pub record Passes (way : List Step) (leaf : Leaf) (level : ℕ) (mode : ℕ → Mode) : Type 0 where
+pub record Passes (way : List Component) (leaf : Leaf) (level : ℕ) (mode : ℕ → Mode) : Type 0 where
   pub opens : (depth place : ℕ) (b : Bracket) → turn way leaf (state level (mode depth)) (Open b) place ≡ moved level (mode (depth + 1))
   pub closes : (depth place : ℕ) (b : Bracket) → turn way leaf (state level (mode (depth + 1))) (Close b) place ≡ moved level (mode depth)
   pub parts : (depth place : ℕ) → turn way leaf (state level (mode (depth + 1))) Comma place ≡ moved level (mode (depth + 1))
@@ -20,7 +20,7 @@ pub record Passes (way : List Step) (leaf : Leaf) (level : ℕ) (mode : ℕ → 
   pub anywhere : (depth place other : ℕ) (mark : Mark) → turn way leaf (state level (mode depth)) mark place ≡ turn way leaf (state level (mode depth)) mark other
 
 -- and at this depth what parts items
-abbrev pub PassesParts : List Step → Leaf → ℕ → (ℕ → Mode) → ℕ → Type 0
+abbrev pub PassesParts : List Component → Leaf → ℕ → (ℕ → Mode) → ℕ → Type 0
 PassesParts way leaf level mode depth = (place : ℕ) → turn way leaf (state level (mode depth)) Comma place ≡ moved level (mode depth)
 
 -- the depth behind a byte of this mark, if a scanner passes over it: all but what closes the brackets in which it stands, and, unless
@@ -34,5 +34,5 @@ depth_behind mark depth commas = Some depth
 -- from one offset and depth on the same is left to write as from another, in each mode that passes over values
 abbrev pub SameLeft : List ℕ → Bool → ℕ → ℕ → ℕ → ℕ → Type 0
 SameLeft text commas at depth later deeper =
-    (way : List Step) (leaf : Leaf) (level : ℕ) (mode : ℕ → Mode) → Passes way leaf level mode → (IsTrue commas → PassesParts way leaf level mode 0)
+    (way : List Component) (leaf : Leaf) (level : ℕ) (mode : ℕ → Mode) → Passes way leaf level mode → (IsTrue commas → PassesParts way leaf level mode 0)
     → left text way leaf at (state level (mode depth)) ≡ left text way leaf later (state level (mode deeper))

@@ -3,8 +3,8 @@ use Rattle.std.specs.Prelude.{ℕ, ◌+◌, ◌-◌, ◌==◌, Bool, true, false
 use Rattle.snesl_values.specs.declared.marks.Bracket.TheVariants.{Round, Square, Curly}
 use Rattle.snesl_values.specs.declared.marks.Mark.{Mark}
 use Rattle.snesl_values.specs.declared.marks.Mark.TheVariants.{Truth, Number, Open, Close, Comma}
-use Rattle.flow_inputs.specs.declared.turns.Step.{Step}
-use Rattle.flow_inputs.specs.declared.turns.Step.TheVariants.{Elements, First, Second}
+use Rattle.flow_inputs.specs.declared.turns.Component.{Component}
+use Rattle.flow_inputs.specs.declared.turns.Component.TheVariants.{Elements, First, Second}
 use Rattle.flow_inputs.specs.declared.turns.Leaf.{Leaf}
 use Rattle.flow_inputs.specs.declared.turns.Leaf.TheVariants.{Flags, Bools, Ints, Vectors}
 use Rattle.flow_inputs.specs.declared.turns.Mode.{Mode}
@@ -42,7 +42,7 @@ at_leaf Vectors level (Open Square) place = wrote (VectorAt place) level (Within
 at_leaf _ level mark place = lost
 
 -- a token where a value comes next, by the next step of the way
-abbrev pub at_value : Option Step → Leaf → ℕ → Mark → ℕ → Turn
+abbrev pub at_value : Option Component → Leaf → ℕ → Mark → ℕ → Turn
 at_value None leaf level mark place = at_leaf leaf level mark place
 at_value (Some Elements) leaf level (Open Curly) place = moved (level + 1) Opened
 at_value (Some First) leaf level (Open Round) place = moved (level + 1) Value
@@ -50,12 +50,12 @@ at_value (Some Second) leaf level (Open Round) place = moved (level + 1) (Passin
 at_value _ leaf level mark place = lost
 
 -- a token where a sequence was opened on the way
-abbrev pub at_opened : Option Step → Leaf → ℕ → Mark → ℕ → Turn
+abbrev pub at_opened : Option Component → Leaf → ℕ → Mark → ℕ → Turn
 at_opened step leaf level (Close Curly) place = moved (level - 1) Behind
 at_opened step leaf level mark place = at_value step leaf level mark place
 
 -- a token behind a value, by the innermost step that was made
-abbrev pub behind : Option Step → ℕ → Mark → Turn
+abbrev pub behind : Option Component → ℕ → Mark → Turn
 behind (Some Elements) level Comma = moved level Value
 behind (Some First) level Comma = moved level (Passing 0)
 behind (Some Elements) level (Close Curly) = moved (level - 1) Behind
@@ -63,13 +63,13 @@ behind (Some Second) level (Close Round) = moved (level - 1) Behind
 behind _ level mark = lost
 
 -- a token in a part that is passed over, outside its brackets: `,` ends a first part, `)` a pair
-abbrev pub passed : Option Step → ℕ → Mark → Turn
+abbrev pub passed : Option Component → ℕ → Mark → Turn
 passed (Some Second) level Comma = moved level Value
 passed (Some First) level (Close Round) = moved (level - 1) Behind
 passed _ level mark = moved level (Passing 0)
 
 -- a token in a part that is passed over, in so many brackets of it
-abbrev pub passing : Option Step → ℕ → ℕ → Mark → Turn
+abbrev pub passing : Option Component → ℕ → ℕ → Mark → Turn
 passing step level depth (Open b) = moved level (Passing (depth + 1))
 passing step level depth (Close b) = cond (depth == 0) (passed step level (Close b)) (moved level (Passing (depth - 1)))
 passing step level depth mark = cond (depth == 0) (passed step level mark) (moved level (Passing depth))
@@ -94,11 +94,11 @@ within level depth (Close b) = cond (depth == 0) (moved level Behind) (moved lev
 within level depth mark = moved level (Within depth)
 
 -- the innermost step that was made
-abbrev pub made : List Step → ℕ → Option Step
+abbrev pub made : List Component → ℕ → Option Component
 made way level = cond (level == 0) None (slice_get way (level - 1))
 
 -- what a token makes of a scanner that stands here
-abbrev pub turn_by : Mode → List Step → Leaf → ℕ → Mark → ℕ → Turn
+abbrev pub turn_by : Mode → List Component → Leaf → ℕ → Mark → ℕ → Turn
 turn_by Value way leaf level mark place = at_value (slice_get way level) leaf level mark place
 turn_by Opened way leaf level mark place = at_opened (slice_get way level) leaf level mark place
 turn_by Behind way leaf level mark place = behind (made way level) level mark
@@ -109,7 +109,7 @@ turn_by (Within depth) way leaf level mark place = within level depth mark
 turn_by Lost way leaf level mark place = lost
 
 -- what a token makes of a state, where it was looked for from a place on
-abbrev pub turn : List Step → Leaf → State → Mark → ℕ → Turn
+abbrev pub turn : List Component → Leaf → State → Mark → ℕ → Turn
 turn way leaf s mark place = turn_by s.mode way leaf s.level mark place
 
 -- how many brackets are counted as open

@@ -2,7 +2,7 @@
 
 ghost use Rattle.std.specs.Prelude.{◌≡◌, ℕ, ◌+◌, ◌<◌, ◌≤◌, ◌^◌, List, length};
 ghost use Rattle.snesl_values.specs.Marks.{sign_mark};
-ghost use Rattle.flow_inputs.specs.declared.turns.Step.{Step};
+ghost use Rattle.flow_inputs.specs.declared.turns.Component.{Component};
 ghost use Rattle.flow_inputs.specs.declared.turns.Leaf.{Leaf};
 ghost use Rattle.flow_inputs.specs.Turns.{state, depth_of};
 ghost use Rattle.flow_inputs.specs.Left.{left};
@@ -64,7 +64,7 @@ fn past_brackets(text: &[u8], from: usize, opened: usize, passes_commas: bool) -
 pub(crate) fn past(text: &[u8], mode: Mode, at: usize) -> (usize, Mode)
     requires within { at ≤ length text.now }
     requires shallow { depth_of mode ≤ at }
-    ensures same { (way : List Step) (leaf : Leaf) (level : ℕ) →
+    ensures same { (way : List Component) (leaf : Leaf) (level : ℕ) →
         left text.now way leaf at (state level mode) ≡
         left text.now way leaf result.0 (state level result.1) }
     ensures from { at ≤ result.0 }

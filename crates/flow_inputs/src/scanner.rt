@@ -4,13 +4,13 @@ ghost use Rattle.std.specs.Prelude.{◌≡◌, ℕ, ◌+◌, ◌<◌, ◌≤◌,
 ghost use Rattle.snesl_values.specs.InputTokens.{next, next_at};
 ghost use Rattle.snesl_values.specs.Marks.{found_from};
 ghost use Rattle.flow_inputs.specs.declared.turns.Piece.TheVariants.{Flag, Int};
-ghost use Rattle.flow_inputs.specs.declared.turns.Step.{Step};
+ghost use Rattle.flow_inputs.specs.declared.turns.Component.{Component};
 ghost use Rattle.flow_inputs.specs.declared.turns.Leaf.{Leaf};
 ghost use Rattle.flow_inputs.specs.Turns.{state, depth_of};
 ghost use Rattle.flow_inputs.specs.Left.{left};
 
 use crate::brackets::past;
-use crate::turns::{Leaf, Mode, Piece, State, Step, is_done, made, step_at, turn};
+use crate::turns::{Component, Leaf, Mode, Piece, State, is_done, made, step_at, turn};
 use snesl_values::{Found, Mark, mark_at, sign_mark};
 
 // How many items are scanned at most before they are written.
@@ -55,7 +55,7 @@ fn next_mark(text: &[u8], at: usize) -> Option<Found>
 #[inline(always)]
 pub(crate) fn scan(
     text: &[u8],
-    way: &[Step],
+    way: &[Component],
     leaf: Leaf,
     mut at: usize,
     mut state: State,
@@ -105,7 +105,7 @@ pub(crate) fn scan(
 #[inline(always)]
 fn next_element(
     text: &[u8],
-    way: &[Step],
+    way: &[Component],
     leaf: Leaf,
     at: usize,
     state: State,
@@ -119,7 +119,7 @@ fn next_element(
     let (Leaf::Ints, Mode::Behind) = (leaf, state.mode) else {
         return None;
     };
-    let Some(Step::Elements) = made(way, state.level) else {
+    let Some(Component::Elements) = made(way, state.level) else {
         return None;
     };
     let None = step_at(way, state.level) else {
@@ -148,7 +148,7 @@ fn next_element(
 #[inline(never)]
 pub(crate) fn ints_ahead(
     text: &[u8],
-    way: &[Step],
+    way: &[Component],
     leaf: Leaf,
     mut at: usize,
     mut state: State,
@@ -203,7 +203,7 @@ pub(crate) fn ints_ahead(
 #[inline(always)]
 fn is_element_end(text: &[u8], at: usize, mode: Mode) -> bool
     requires { at ≤ length text.now }
-    ensures first { IsTrue result → (way : List Step) (leaf : Leaf) (level : ℕ) →
+    ensures first { IsTrue result → (way : List Component) (leaf : Leaf) (level : ℕ) →
         left text.now way leaf at (state level mode) ≡
         Flag false ∷ left text.now way leaf (at + 1) (state level mode) }
     ensures within { IsTrue result → at < length text.now }
@@ -225,7 +225,7 @@ fn is_element_end(text: &[u8], at: usize, mode: Mode) -> bool
 #[inline(never)]
 pub(crate) fn flags_ahead(
     text: &[u8],
-    way: &[Step],
+    way: &[Component],
     leaf: Leaf,
     mut at: usize,
     mut state: State,

@@ -5,13 +5,13 @@ ghost use Rattle.std.specs.List.{All};
 ghost use Rattle.std.specs.Arc.{arc_value};
 ghost use Rattle.snesl_data.specs.Types.{ty_of};
 ghost use Rattle.flow_messages.specs.Cells.{cell_of, is_of};
-ghost use Rattle.flow_messages.specs.Blocks.{flags_said, ints_said};
+ghost use Rattle.flow_messages.specs.Blocks.{flag_signals, int_signals};
 ghost use Rattle.flow_messages.specs.Ends.{SameEnds};
 ghost use Rattle.flow_messages.specs.Signals.{signal_of};
 ghost use Rattle.flow_messages.specs.declared.message.Kind.TheVariants.{Vec as VecKind};
 ghost use Rattle.flow_base.specs.Visits.{IsPlaced, Went, Visited, BrokeOff};
 ghost use Rattle.flow_values.specs.Flats.{width};
-ghost use Rattle.flow_scalar.specs.SourceBehaviour.{source_opened, source_behaviour};
+ghost use Rattle.flow_scalar.specs.SourceBehaviour.{source_opening, source_behaviour};
 ghost use Rattle.flow_inputs.specs.Left.{left, cell};
 ghost use Rattle.snesl_values.specs.Places.{value_at};
 ghost use Rattle.flow_inputs.specs.Turns.{depth_of};
@@ -20,7 +20,7 @@ ghost use Rattle.flow_inputs.specs.Items.{items_at, opening_state, IsRest};
 ghost use Rattle.flow_inputs.specs.Sends.{Sends};
 
 use crate::scanner::{BLOCK, flags_ahead, ints_ahead, scan};
-use crate::turns::{Leaf, Mode, Piece, State, Step};
+use crate::turns::{Component, Leaf, Mode, Piece, State};
 use crate::ways::add_way;
 use flow_base::{Port, Side, Transducer, put_in_space};
 use flow_messages::{Ends, Item, Msg};
@@ -41,7 +41,7 @@ pub struct TextSource {
     text: Arc<Vec<u8>>,
     // Where the value begins, and the way from its type to the edge.
     place: usize,
-    way: Vec<Step>,
+    way: Vec<Component>,
     leaf: Leaf,
     // How far it has read, and in what state.
     at: usize,
@@ -75,7 +75,7 @@ impl TextSource {
         requires inside { place ≤ length (arc_value text).items }
         requires fits { width (ty_of ty.now) < 2 ^ 64 }
         ensures opens { IfOk result (λ source.
-            text_source_state source ≡ source_opened (items_in source)) }
+            text_source_state source ≡ source_opening (items_in source)) }
         ensures items { IfOk result (λ source. items_in source ≡
             items_at (arc_value text).items
             (way_to (ty_of ty.now) edge) (leaf_at (ty_of ty.now) edge) place) }
@@ -105,7 +105,7 @@ impl TextSource {
         ensures sending { self.new.ended ≡ false }
         ensures most { result ≤ most }
         ensures long { length ints.new ≡ 16 }
-        ensures sends { Sends (text_source_state self.old) (ints_said (take result ints.new))
+        ensures sends { Sends (text_source_state self.old) (int_signals (take result ints.new))
             (text_source_state self.new) }
     {
         let (at, state) = (self.at, self.state);
@@ -151,7 +151,7 @@ impl TextSource {
         ensures sending { self.new.ended ≡ false }
         ensures most { result ≤ most }
         ensures long { length flags.new ≡ 16 }
-        ensures sends { Sends (text_source_state self.old) (flags_said (take result flags.new))
+        ensures sends { Sends (text_source_state self.old) (flag_signals (take result flags.new))
             (text_source_state self.new) }
     {
         let (at, state) = (self.at, self.state);

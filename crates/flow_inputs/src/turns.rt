@@ -9,7 +9,7 @@ use snesl_values::{Bracket, Mark};
 
 /// A step on the way from a type to one of its edges.
 #[derive(Clone, Copy, Debug, PartialEq, Eq)]
-pub enum Step {
+pub enum Component {
     /// To the elements of a sequence.
     Elements,
     /// To the first part of a pair.
@@ -129,29 +129,29 @@ fn at_leaf(leaf: Leaf, level: usize, mark: Mark, place: usize) -> Turn
 
 // A token where a value comes next, by the next step of the way.
 #[inline(always)]
-fn at_value(step: Option<Step>, leaf: Leaf, level: usize, mark: Mark, place: usize) -> Turn
+fn at_value(step: Option<Component>, leaf: Leaf, level: usize, mark: Mark, place: usize) -> Turn
     requires { IfSome step (λ _. level < usize.MAX) }
     ensures { result ≡ at_value step leaf level mark place }
 {
     match (step, mark) {
         (None, _) => at_leaf(leaf, level, mark, place),
-        (Some(Step::Elements), Mark::Open(Bracket::Curly)) => moved(level + 1, Mode::Opened),
-        (Some(Step::First), Mark::Open(Bracket::Round)) => moved(level + 1, Mode::Value),
-        (Some(Step::Second), Mark::Open(Bracket::Round)) => moved(level + 1, Mode::Passing(0)),
+        (Some(Component::Elements), Mark::Open(Bracket::Curly)) => moved(level + 1, Mode::Opened),
+        (Some(Component::First), Mark::Open(Bracket::Round)) => moved(level + 1, Mode::Value),
+        (Some(Component::Second), Mark::Open(Bracket::Round)) => moved(level + 1, Mode::Passing(0)),
         _ => lost(),
     }
 }
 
 // A token behind a value, by the innermost step that was made.
 #[inline(always)]
-fn behind(step: Option<Step>, level: usize, mark: Mark) -> Turn
+fn behind(step: Option<Component>, level: usize, mark: Mark) -> Turn
     ensures { result ≡ behind step level mark }
 {
     match (step, mark) {
-        (Some(Step::Elements), Mark::Comma) => moved(level, Mode::Value),
-        (Some(Step::First), Mark::Comma) => moved(level, Mode::Passing(0)),
-        (Some(Step::Elements), Mark::Close(Bracket::Curly))
-        | (Some(Step::Second), Mark::Close(Bracket::Round)) => {
+        (Some(Component::Elements), Mark::Comma) => moved(level, Mode::Value),
+        (Some(Component::First), Mark::Comma) => moved(level, Mode::Passing(0)),
+        (Some(Component::Elements), Mark::Close(Bracket::Curly))
+        | (Some(Component::Second), Mark::Close(Bracket::Round)) => {
             moved(level.saturating_sub(1), Mode::Behind)
         }
         _ => lost(),
@@ -160,7 +160,7 @@ fn behind(step: Option<Step>, level: usize, mark: Mark) -> Turn
 
 // A token where a sequence was opened on the way.
 #[inline(always)]
-fn at_opened(step: Option<Step>, leaf: Leaf, level: usize, mark: Mark, place: usize) -> Turn
+fn at_opened(step: Option<Component>, leaf: Leaf, level: usize, mark: Mark, place: usize) -> Turn
     requires { IfSome step (λ _. level < usize.MAX) }
     ensures { result ≡ at_opened step leaf level mark place }
 {
@@ -173,12 +173,12 @@ fn at_opened(step: Option<Step>, leaf: Leaf, level: usize, mark: Mark, place: us
 // A token in a part that is passed over, outside its brackets: the comma behind a first part, and
 // the end of a pair.
 #[inline(always)]
-fn passed(step: Option<Step>, level: usize, mark: Mark) -> Turn
+fn passed(step: Option<Component>, level: usize, mark: Mark) -> Turn
     ensures { result ≡ passed step level mark }
 {
     match (step, mark) {
-        (Some(Step::Second), Mark::Comma) => moved(level, Mode::Value),
-        (Some(Step::First), Mark::Close(Bracket::Round)) => {
+        (Some(Component::Second), Mark::Comma) => moved(level, Mode::Value),
+        (Some(Component::First), Mark::Close(Bracket::Round)) => {
             moved(level.saturating_sub(1), Mode::Behind)
         }
         _ => moved(level, Mode::Passing(0)),
@@ -187,7 +187,7 @@ fn passed(step: Option<Step>, level: usize, mark: Mark) -> Turn
 
 // A token in a part that is passed over.
 #[inline(always)]
-fn passing(step: Option<Step>, level: usize, depth: usize, mark: Mark) -> Turn
+fn passing(step: Option<Component>, level: usize, depth: usize, mark: Mark) -> Turn
     requires { depth + 1 < 2 ^ 64 }
     ensures { result ≡ passing step level depth mark }
 {
@@ -269,7 +269,7 @@ fn within(level: usize, depth: usize, mark: Mark) -> Turn
 
 // The step at this level of the way, if there is one.
 #[inline(always)]
-pub(crate) fn step_at(way: &[Step], level: usize) -> Option<Step>
+pub(crate) fn step_at(way: &[Component], level: usize) -> Option<Component>
     ensures step { result ≡ slice_get way.now level }
     ensures within { IfSome result (λ _. level < usize.MAX) }
 {
@@ -281,7 +281,7 @@ pub(crate) fn step_at(way: &[Step], level: usize) -> Option<Step>
 
 // The innermost step that was made, if one was.
 #[inline(always)]
-pub(crate) fn made(way: &[Step], level: usize) -> Option<Step>
+pub(crate) fn made(way: &[Component], level: usize) -> Option<Component>
     ensures { result ≡ made way.now level }
 {
     if level == 0 {
@@ -293,7 +293,7 @@ pub(crate) fn made(way: &[Step], level: usize) -> Option<Step>
 
 // What a token makes of a state. The token was looked for from the offset `place` on.
 #[inline(always)]
-pub(crate) fn turn(way: &[Step], leaf: Leaf, state: State, mark: Mark, place: usize) -> Turn
+pub(crate) fn turn(way: &[Component], leaf: Leaf, state: State, mark: Mark, place: usize) -> Turn
     requires { depth_of state.mode + 1 < 2 ^ 64 }
     ensures { result ≡ turn way.now leaf state mark place }
 {

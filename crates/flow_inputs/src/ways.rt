@@ -5,7 +5,7 @@ ghost use Rattle.snesl_data.specs.Types.{ty_of};
 ghost use Rattle.flow_values.specs.Flats.{width};
 ghost use Rattle.flow_inputs.specs.Ways.{way_to, leaf_at};
 
-use crate::turns::{Leaf, Step};
+use crate::turns::{Component, Leaf};
 use snesl_data::Ty;
 use std::alloc::AllocError;
 
@@ -22,7 +22,7 @@ pub fn edge_count(ty: &Ty) -> usize
 }
 
 // Adds the steps from the type to the edge of this number. The result is what is at their end.
-pub(crate) fn add_way(way: &mut Vec<Step>, ty: &Ty, edge: usize) -> Result<Leaf, AllocError>
+pub(crate) fn add_way(way: &mut Vec<Component>, ty: &Ty, edge: usize) -> Result<Leaf, AllocError>
     requires { width (ty_of ty.now) < 2 ^ 64 }
     ensures way { OnOk result (way.new.items ≡ way.old.items ++ way_to (ty_of ty.now) edge) }
     ensures leaf { IfOk result (λ leaf. leaf ≡ leaf_at (ty_of ty.now) edge) }
@@ -34,10 +34,10 @@ pub(crate) fn add_way(way: &mut Vec<Step>, ty: &Ty, edge: usize) -> Result<Leaf,
         Ty::Pair(first, second) => {
             let edges = edge_count(first);
             if edge < edges {
-                way.push(Step::First)?;
+                way.push(Component::First)?;
                 add_way(way, first, edge)
             } else {
-                way.push(Step::Second)?;
+                way.push(Component::Second)?;
                 add_way(way, second, edge - edges)
             }
         }
@@ -45,7 +45,7 @@ pub(crate) fn add_way(way: &mut Vec<Step>, ty: &Ty, edge: usize) -> Result<Leaf,
             if edge == 0 {
                 return Ok(Leaf::Flags);
             }
-            way.push(Step::Elements)?;
+            way.push(Component::Elements)?;
             add_way(way, item, edge - 1)
         }
     }

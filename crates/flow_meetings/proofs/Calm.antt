@@ -14,14 +14,14 @@ use Rattle.flow_graph.specs.declared.edge.Edge.{Edge}
 use Rattle.flow_graph.specs.declared.placed.Placed.{Placed}
 use Rattle.flow_graph.specs.Edges.{edge_at}
 use Rattle.flow_graph.specs.Networks.{state_at}
-use Rattle.flow_graph.specs.Layouts.{FitTogether}
+use Rattle.flow_graph.specs.Skeletons.{FitTogether}
 use Rattle.flow_boxes.specs.Contents.{Contents}
 use Rattle.flow_boxes.specs.Rounds.{KeepsRound}
 use Rattle.flow_shares.specs.Shares.{inputs_of, outputs_of}
 use Rattle.flow_shares.specs.Deals.{share_of, AreDealt}
-use Rattle.flow_meetings.specs.Joints.{boxes_at, views_of, writer_view, reader_view, writer_boxes, reader_boxes, HaveMet, AreStates}
-use Rattle.flow_meetings.specs.RoundTheorems.{AllStuck, net_of, joint, CalmRoundsRest, CalmRoundLeadsToRest}
-use Rattle.flow_meetings.specs.JoinedTheorems.{AllMet, AllAreStuck, joined, StuckSharesRest}
+use Rattle.flow_meetings.specs.Joints.{boxes_at, views_of, writer_view, reader_view, writer_boxes, reader_boxes, BoxesHaveMet, AreStates}
+use Rattle.flow_meetings.specs.RoundTheorems.{AllStuck, net_of, box_configuration, CalmRoundsRest, CalmRoundLeadsToRest}
+use Rattle.flow_meetings.specs.EndTheorems.{EdgesHaveMet, AllAreStuck, end_configuration, StuckSharesRest}
 use Rattle.flow_meetings.proofs.Parts.{any_of}
 use Rattle.flow_meetings.proofs.Seats.{reader_inside, writer_inside, seat, seat_reads, seat_writes}
 use Rattle.flow_meetings.proofs.Carried.{same_joined}
@@ -29,9 +29,9 @@ use Rattle.flow_meetings.proofs.Views.{sent_at, received_at}
 
 module _ {X : Type 0} {t : Ghosts X} (capacity : ℕ) (share : List ℕ) (edges : List Edge) (nodes : List (Placed X t)) (fit : FitTogether nodes edges)
     (dealt : List (List (Placed X t))) (deals : AreDealt share nodes dealt) (states : List t.State) (are : AreStates share nodes dealt deals states)
-    (view_at : ℕ → View) (met : AllMet share edges view_at capacity) (stuck : AllAreStuck dealt view_at) where
+    (view_at : ℕ → View) (met : EdgesHaveMet share edges view_at capacity) (stuck : AllAreStuck dealt view_at) where
   abbrev c : Configuration t.State Signal
-  c = joined t share edges states view_at
+  c = end_configuration t share edges states view_at
 
   -- node k is stuck by the ends of its share
   stuck_at : (k : ℕ) (d : Placed X t) → k < length nodes → (w : Want) → t.behaviour.process.want (state_at t.behaviour states k) ≡ w
@@ -73,7 +73,7 @@ pub stuck_shares_rest : {X : Type 0} (t : Ghosts X) → StuckSharesRest t
 stuck_shares_rest t capacity share edges nodes fit dealt deals states are view_at met stuck = at_rest capacity share edges nodes fit dealt deals states are view_at met stuck
 
 -- boxes that have met are ends that have met
-pub all_met : (capacity : ℕ) (share : List ℕ) (edges : List Edge) (boxes : List Contents) → HaveMet share edges boxes capacity → AllMet share edges (views_of boxes) capacity
+pub all_met : (capacity : ℕ) (share : List ℕ) (edges : List Edge) (boxes : List Contents) → BoxesHaveMet share edges boxes capacity → EdgesHaveMet share edges (views_of boxes) capacity
 all_met capacity share edges boxes met e l =
     let w = (writer_boxes share edges boxes e).ends in
     let r = (reader_boxes share edges boxes e).ends in
@@ -109,7 +109,7 @@ a_calm_round_leads_to_rest t capacity share edges nodes fit dealt later deals st
         let there : s < length dealt = omega (arith, l, gone.count) in
         stuck_before _ _ (boxes_at boxes s) (boxes_at after s) (gone.kept s there) (nothing s there) _ (stuck s l i d low)
 
-    same : joint t share edges states' after ≡ joint t share edges states' boxes
+    same : box_configuration t share edges states' after ≡ box_configuration t share edges states' boxes
     same = same_joined share edges (views_of boxes) (views_of after)
         (λ e l. nothing _ (deals.inside (edge_at edges e).writer (writer_inside edges nodes fit e l)).0)
         (λ e l. nothing _ (deals.inside (edge_at edges e).reader (reader_inside edges nodes fit e l)).0)

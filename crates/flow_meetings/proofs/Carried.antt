@@ -7,23 +7,23 @@ use Rattle.flow_base.specs.declared.transducer.Transducer.{Ghosts}
 use Rattle.flow_graph.specs.declared.edge.Edge.{Edge}
 use Rattle.flow_graph.specs.Networks.{state_at}
 use Rattle.flow_boxes.specs.Contents.{Contents}
-use Rattle.flow_meetings.specs.Joints.{no_contents, boxes_at, views_of, writer_view, reader_view, joined_view}
+use Rattle.flow_meetings.specs.Joints.{no_contents, boxes_at, views_of, writer_view, reader_view, end_view}
 use Rattle.flow_meetings.specs.RoundTheorems.{NothingMoved, CarryingKeepsTheConfiguration}
-use Rattle.flow_meetings.specs.JoinedTheorems.{joined}
+use Rattle.flow_meetings.specs.EndTheorems.{end_configuration}
 use Rattle.flow_meetings.proofs.Views.{sent_at, received_at, none_sent, none_received}
 
 -- it is enough that nothing was sent or received at the ends of each edge
 module _ (share : List ℕ) (edges : List Edge) (view_at after : ℕ → View)
     (writers : (e : ℕ) → e < length edges → SameTraffic (writer_view share edges view_at e) (writer_view share edges after e)) (readers : (e : ℕ) → e < length edges → SameTraffic (reader_view share edges view_at e) (reader_view share edges after e)) where
-  same_sent : (e : ℕ) → ((e < length edges) ⊎ (length edges ≤ e)) → (joined_view share edges after).sent e ≡ (joined_view share edges view_at).sent e
+  same_sent : (e : ℕ) → ((e < length edges) ⊎ (length edges ≤ e)) → (end_view share edges after).sent e ≡ (end_view share edges view_at).sent e
   same_sent e (inl l) = sent_at share edges after e l ∙ (writers e l).sent e ∙ sym (sent_at share edges view_at e l)
   same_sent e (inr above) = none_sent share edges after e above ∙ sym (none_sent share edges view_at e above)
 
-  same_received : (e : ℕ) → ((e < length edges) ⊎ (length edges ≤ e)) → (joined_view share edges after).received e ≡ (joined_view share edges view_at).received e
+  same_received : (e : ℕ) → ((e < length edges) ⊎ (length edges ≤ e)) → (end_view share edges after).received e ≡ (end_view share edges view_at).received e
   same_received e (inl l) = received_at share edges after e l ∙ (readers e l).received e ∙ sym (received_at share edges view_at e l)
   same_received e (inr above) = none_received share edges after e above ∙ sym (none_received share edges view_at e above)
 
-  pub same_joined : {X : Type 0} (t : Ghosts X) (states : List t.State) → joined t share edges states after ≡ joined t share edges states view_at
+  pub same_joined : {X : Type 0} (t : Ghosts X) (states : List t.State) → end_configuration t share edges states after ≡ end_configuration t share edges states view_at
   same_joined t states = λ i. record {
     state = state_at t.behaviour states;
     sent = λ e. same_sent e (cases_lt e (length edges)) i;

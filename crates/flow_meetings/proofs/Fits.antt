@@ -9,12 +9,12 @@ use Rattle.flow_graph.specs.declared.placed.Placed.{Placed}
 use Rattle.flow_graph.specs.Edges.{edge_at, in_edge, out_edge}
 use Rattle.flow_graph.specs.Networks.{AreOpened, inputs_at, outputs_at}
 use Rattle.flow_graph.specs.Places.{placed_state, states_in}
-use Rattle.flow_graph.specs.Layouts.{FitTogether}
+use Rattle.flow_graph.specs.Skeletons.{FitTogether}
 use Rattle.flow_graph.proofs.Seats.{state_here, inputs_here, outputs_here, input_here, output_here}
-use Rattle.flow_meetings.specs.declared.wires.Wire.{Wire}
+use Rattle.flow_meetings.specs.declared.owners.EdgeOwners.{EdgeOwners}
 use Rattle.flow_shares.specs.Deals.{share_of, node_at, AreJustDealt}
 use Rattle.flow_shares.specs.Shares.{row_of, StandOnce, HasItsEnds, HasHistory}
-use Rattle.flow_meetings.specs.Open.{AreWires, HasFreshEnds}
+use Rattle.flow_meetings.specs.Open.{AreOwners, HasFreshEnds}
 use Rattle.flow_meetings.specs.Deals.{MakeAShare}
 use Rattle.flow_meetings.proofs.More.{writes_there, reads_there}
 
@@ -41,8 +41,8 @@ rows_apart {A} row of port name (x ∷ xs) at one k j p q l m same =
         go (inl low) = low
         go (inr past) = absurd (omega (arith, inside, ap length (get_or_past (map row (x ∷ xs)) i [] (omega (arith, past, length-map (x ∷ xs) row)))))
 
-module _ {X : Type 0} {t : Ghosts X} (share : List ℕ) (edges : List Edge) (nodes : List (Placed X t)) (fit : FitTogether nodes edges) (opened : AreOpened t.behaviour (states_in nodes)) (wires : List Wire) (are : AreWires share edges wires)
-    (dealt : List (List (Placed X t))) (just : AreJustDealt share nodes dealt) (capacity s : ℕ) (there : s < length dealt) (v : View) (fresh : HasFreshEnds wires capacity s v) where
+module _ {X : Type 0} {t : Ghosts X} (share : List ℕ) (edges : List Edge) (nodes : List (Placed X t)) (fit : FitTogether nodes edges) (opened : AreOpened t.behaviour (states_in nodes)) (owners : List EdgeOwners) (are : AreOwners share edges owners)
+    (dealt : List (List (Placed X t))) (just : AreJustDealt share nodes dealt) (capacity s : ℕ) (there : s < length dealt) (v : View) (fresh : HasFreshEnds owners capacity s v) where
   abbrev mine : List (Placed X t)
   mine = get_or dealt s []
 
@@ -87,8 +87,8 @@ module _ {X : Type 0} {t : Ghosts X} (share : List ℕ) (edges : List Edge) (nod
       reads_here : v.reads (get_or x.inputs.items p 0) ≡ true
       reads_here =
           let e = get_or x.inputs.items p 0 in
-          let none : Wire = record { writer = 0; reader = 0 } in
-          reads_there wires capacity s e none v fresh (omega (arith, input_at.0, are.count)) (are.readers e none input_at.0 ∙ ap (share_of share) input_at.1 ∙ in_share)
+          let none : EdgeOwners = record { writer = 0; reader = 0 } in
+          reads_there owners capacity s e none v fresh (omega (arith, input_at.0, are.count)) (are.readers e none input_at.0 ∙ ap (share_of share) input_at.1 ∙ in_share)
 
     module _ (q : ℕ) (within : q < length x.outputs.items) where
       out_port : q < outputs_at t.behaviour (states_in nodes) k
@@ -104,8 +104,8 @@ module _ {X : Type 0} {t : Ghosts X} (share : List ℕ) (edges : List Edge) (nod
       writes_here : v.writes (get_or x.outputs.items q 0) ≡ true
       writes_here =
           let e = get_or x.outputs.items q 0 in
-          let none : Wire = record { writer = 0; reader = 0 } in
-          writes_there wires capacity s e none v fresh (omega (arith, output_at.0, are.count)) (are.writers e none output_at.0 ∙ ap (share_of share) output_at.1 ∙ in_share)
+          let none : EdgeOwners = record { writer = 0; reader = 0 } in
+          writes_there owners capacity s e none v fresh (omega (arith, output_at.0, are.count)) (are.writers e none output_at.0 ∙ ap (share_of share) output_at.1 ∙ in_share)
 
     has_ends : HasItsEnds v x
     has_ends = record {

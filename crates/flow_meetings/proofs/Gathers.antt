@@ -6,63 +6,63 @@ use Rattle.flow_base.specs.Transducers.{BehaviourLaws}
 use Rattle.flow_base.specs.declared.transducer.Transducer.{Ghosts}
 use Rattle.flow_graph.specs.declared.placed.Placed.{Placed}
 use Rattle.flow_graph.specs.Places.{placed_state, states_in}
-use Rattle.flow_graph.specs.Layouts.{FitTogether, AreSamePlaces}
-use Rattle.flow_graph.proofs.Layouts.{later_fit}
+use Rattle.flow_graph.specs.Skeletons.{FitTogether, AreSamePlaces}
+use Rattle.flow_graph.proofs.Skeletons.{later_fit}
 use Rattle.flow_shares.specs.Deals.{share_of, node_at, AreDealt, AreJustDealt, AreSameAsDealt}
 use Rattle.flow_shares.specs.declared.share.Share.{Share}
 use Rattle.flow_meetings.specs.Joints.{AreStates}
 use Rattle.flow_meetings.proofs.Parts.{any_of}
 use Rattle.flow_meetings.proofs.Seats.{number_is}
 use Rattle.flow_meetings.specs.Deals.{nodes_in}
-use Rattle.flow_meetings.specs.Settings.{Setting}
+use Rattle.flow_meetings.specs.SharedNetworks.{SharedNetwork}
 use Rattle.flow_meetings.proofs.Lists.{mapped_twice}
 
-module _ {X Y : Type 0} {t : Ghosts X} {u : EndsGhosts Y} (setting : Setting t) (shares : List (Share X Y t u)) (deals : AreDealt setting.share setting.nodes (nodes_in shares))
-    (share : List ℕ) (named : share ≡ setting.share) (lists : List (List (Placed X t))) (taken : lists ≡ nodes_in shares) (gathered : List (Placed X t)) (gives : AreJustDealt share gathered lists) (keeps : AreSameAsDealt share lists gathered) where
-  just : AreJustDealt setting.share gathered (nodes_in shares)
-  just = subst (λ l. AreJustDealt setting.share gathered l) taken (subst (λ s. AreJustDealt s gathered lists) named gives)
+module _ {X Y : Type 0} {t : Ghosts X} {u : EndsGhosts Y} (network : SharedNetwork t) (shares : List (Share X Y t u)) (deals : AreDealt network.share network.nodes (nodes_in shares))
+    (share : List ℕ) (named : share ≡ network.share) (lists : List (List (Placed X t))) (taken : lists ≡ nodes_in shares) (gathered : List (Placed X t)) (gives : AreJustDealt share gathered lists) (keeps : AreSameAsDealt share lists gathered) where
+  just : AreJustDealt network.share gathered (nodes_in shares)
+  just = subst (λ l. AreJustDealt network.share gathered l) taken (subst (λ s. AreJustDealt s gathered lists) named gives)
 
-  places : AreSameAsDealt setting.share (nodes_in shares) gathered
-  places = subst (λ l. AreSameAsDealt setting.share l gathered) taken (subst (λ s. AreSameAsDealt s lists gathered) named keeps)
+  places : AreSameAsDealt network.share (nodes_in shares) gathered
+  places = subst (λ l. AreSameAsDealt network.share l gathered) taken (subst (λ s. AreSameAsDealt s lists gathered) named keeps)
 
-  same : AreSamePlaces setting.nodes gathered
-  same = places setting.nodes deals
+  same : AreSamePlaces network.nodes gathered
+  same = places network.nodes deals
 
-  pub they_fit : BehaviourLaws t.behaviour → FitTogether gathered setting.edges
-  they_fit laws = later_fit laws setting.nodes gathered setting.edges setting.fit same
+  pub they_fit : BehaviourLaws t.behaviour → FitTogether gathered network.edges
+  they_fit laws = later_fit laws network.nodes gathered network.edges network.fit same
 
   -- each lies where it was dealt out to
-  same_place : (k : ℕ) → k < length setting.nodes → just.place k ≡ deals.place k
+  same_place : (k : ℕ) → k < length network.nodes → just.place k ≡ deals.place k
   same_place k l =
-      let d = any_of setting.nodes k l in
+      let d = any_of network.nodes k l in
       let low : k < length gathered = omega (arith, l, same.count) in
       let inside = just.inside k low in
-      let number : (node_at (nodes_in shares) (share_of setting.share k) (just.place k) d).number ≡ k =
-      ap (λ (n : Placed X t). n.number) (sym (just.here k d low)) ∙ (same.each k d l).number ∙ number_is setting.edges setting.nodes setting.fit k d l in
-      sym (deals.back (share_of setting.share k) (just.place k) d inside.0 inside.1).2 ∙ ap deals.place number
+      let number : (node_at (nodes_in shares) (share_of network.share k) (just.place k) d).number ≡ k =
+      ap (λ (n : Placed X t). n.number) (sym (just.here k d low)) ∙ (same.each k d l).number ∙ number_is network.edges network.nodes network.fit k d l in
+      sym (deals.back (share_of network.share k) (just.place k) d inside.0 inside.1).2 ∙ ap deals.place number
 
   -- and their states are those of the graph
-  pub are : AreStates setting.share setting.nodes (nodes_in shares) deals (states_in gathered)
+  pub are : AreStates network.share network.nodes (nodes_in shares) deals (states_in gathered)
   are = record {
     count = length-map gathered placed_state ∙ same.count;
     each = λ k d l.
         let low : k < length gathered = omega (arith, l, same.count) in
         get_or-map placed_state gathered k d t.behaviour.sample low
-        ∙ ap placed_state (just.here k d low ∙ ap (λ i. node_at (nodes_in shares) (share_of setting.share k) i d) (same_place k l));
+        ∙ ap placed_state (just.here k d low ∙ ap (λ i. node_at (nodes_in shares) (share_of network.share k) i d) (same_place k l));
   }
 
-  pub openings : map t.behaviour.opening (states_in gathered) ≡ map t.behaviour.opening (states_in setting.nodes)
+  pub openings : map t.behaviour.opening (states_in gathered) ≡ map t.behaviour.opening (states_in network.nodes)
   openings =
       mapped_twice t.behaviour.opening placed_state gathered
-      ∙ ext_get_or t.behaviour.sample (map opens gathered) (map opens setting.nodes) (length-map gathered opens ∙ same.count ∙ sym (length-map setting.nodes opens)) alike
-      ∙ sym (mapped_twice t.behaviour.opening placed_state setting.nodes)
+      ∙ ext_get_or t.behaviour.sample (map opens gathered) (map opens network.nodes) (length-map gathered opens ∙ same.count ∙ sym (length-map network.nodes opens)) alike
+      ∙ sym (mapped_twice t.behaviour.opening placed_state network.nodes)
     where
       opens : Placed X t → t.State
       opens placed = t.behaviour.opening (placed_state placed)
 
-      alike : (k : ℕ) → k < length (map opens gathered) → get_or (map opens gathered) k t.behaviour.sample ≡ get_or (map opens setting.nodes) k t.behaviour.sample
+      alike : (k : ℕ) → k < length (map opens gathered) → get_or (map opens gathered) k t.behaviour.sample ≡ get_or (map opens network.nodes) k t.behaviour.sample
       alike k l =
           let low : k < length gathered = omega (arith, l, length-map gathered opens) in
-          let there : k < length setting.nodes = omega (arith, low, same.count) in
+          let there : k < length network.nodes = omega (arith, low, same.count) in
           let d = any_of gathered k low in
-          get_or-map opens gathered k d t.behaviour.sample low ∙ (same.each k d there).opening ∙ sym (get_or-map opens setting.nodes k d t.behaviour.sample there)
+          get_or-map opens gathered k d t.behaviour.sample low ∙ (same.each k d there).opening ∙ sym (get_or-map opens network.nodes k d t.behaviour.sample there)

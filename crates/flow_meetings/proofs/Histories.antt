@@ -14,12 +14,12 @@ use Rattle.flow_graph.specs.declared.placed.Placed.{Placed}
 use Rattle.flow_graph.specs.Edges.{edge_at}
 use Rattle.flow_graph.specs.Networks.{state_at}
 use Rattle.flow_graph.specs.Places.{placed_state}
-use Rattle.flow_graph.specs.Layouts.{FitTogether}
+use Rattle.flow_graph.specs.Skeletons.{FitTogether}
 use Rattle.flow_boxes.specs.Contents.{Contents}
 use Rattle.flow_boxes.specs.Rounds.{KeepsRound}
 use Rattle.flow_shares.specs.Shares.{inputs_of, outputs_of, HaveMoved}
 use Rattle.flow_shares.specs.Deals.{share_of, AreDealt}
-use Rattle.flow_meetings.specs.Joints.{nodes_at, boxes_at, writer_boxes, reader_boxes, HaveMet, AreStates}
+use Rattle.flow_meetings.specs.Joints.{nodes_at, boxes_at, writer_boxes, reader_boxes, BoxesHaveMet, AreStates}
 use Rattle.flow_meetings.specs.RoundTheorems.{NothingMoved, HaveGoneOn}
 use Rattle.flow_meetings.proofs.Parts.{any_of, in_rows, StandsIn}
 use Rattle.flow_meetings.proofs.Seats.{reader_inside, writer_inside, seat_reads, seat_writes, same_place}
@@ -126,7 +126,7 @@ module _ {X : Type 0} {t : Ghosts X} (share : List ℕ) (nodes : List (Placed X 
       kept_writer : KeepsRound (writer_boxes share edges boxes e) (writer_boxes share edges after e)
       kept_writer = gone.kept (share_of share (edge_at edges e).writer) (deals.inside (edge_at edges e).writer (writer_inside edges nodes fit e l)).0
 
-      module _ (capacity : ℕ) (met : HaveMet share edges boxes capacity) where
+      module _ (capacity : ℕ) (met : BoxesHaveMet share edges boxes capacity) where
         -- what was read had come before the round
         pub had_come : Begins ((reader_boxes share edges boxes e).ends.received e ++ reads (edge_at edges e).reader_port (history_of (edge_at edges e).reader)) ((writer_boxes share edges boxes e).ends.sent e)
         had_come = (

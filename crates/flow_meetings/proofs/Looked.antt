@@ -9,7 +9,7 @@ use Rattle.flow_shares.specs.declared.share.Share.{Share}
 use Rattle.flow_shares.specs.Looks.{IsLookedAt}
 use Rattle.flow_shares.specs.Shares.{AreStuck}
 use Rattle.flow_shares.proofs.Looked.{around_refl, around_then}
-use Rattle.flow_meetings.specs.Settings.{NoneCanStep, AreLookedAt}
+use Rattle.flow_meetings.specs.SharedNetworks.{NoneCanStep, AreLookedAt}
 
 module _ {X Y : Type 0} {t : Ghosts X} {u : EndsGhosts Y} where
   -- no node of this share can step

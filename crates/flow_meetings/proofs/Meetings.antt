@@ -14,13 +14,13 @@ use Rattle.flow_base.specs.declared.transducer.Transducer.{Ghosts}
 use Rattle.flow_graph.specs.declared.edge.Edge.{Edge}
 use Rattle.flow_graph.specs.declared.placed.Placed.{Placed}
 use Rattle.flow_graph.specs.Places.{placed_state, states_in}
-use Rattle.flow_graph.specs.Layouts.{FitTogether}
+use Rattle.flow_graph.specs.Skeletons.{FitTogether}
 use Rattle.flow_graph.proofs.Nets.{opens}
 use Rattle.flow_shares.specs.Shares.{inputs_of, outputs_of, HasHistory}
 use Rattle.flow_shares.specs.Deals.{share_of, AreDealt}
-use Rattle.flow_meetings.specs.Joints.{reader_boxes, views_of, joint_view, AreStates}
+use Rattle.flow_meetings.specs.Joints.{reader_boxes, views_of, box_view, AreStates}
 use Rattle.flow_meetings.specs.RoundTheorems.{net_of, FreshSharesStart, MeetingIsSound}
-use Rattle.flow_meetings.specs.JoinedTheorems.{AllBegin, AllAreOwn, joined, OwnSharesAreSound}
+use Rattle.flow_meetings.specs.EndTheorems.{AllBegin, AllAreOwn, end_configuration, OwnSharesAreSound}
 use Rattle.flow_meetings.proofs.Parts.{any_of, StandsAt}
 use Rattle.flow_meetings.proofs.Seats.{nodes_count, seat, seat_reads, seat_writes}
 use Rattle.flow_meetings.proofs.Views.{sent_at, received_at, none_sent, none_received}
@@ -30,13 +30,13 @@ fresh_shares_start t share edges nodes boxes opened empty = opens t.behaviour (s
   where
     -- what was sent and received, with both ends of each edge
     both : View
-    both = record (joint_view share edges boxes) { writes = λ e. nat_lt e (length edges); reads = λ e. nat_lt e (length edges) }
+    both = record (box_view share edges boxes) { writes = λ e. nat_lt e (length edges); reads = λ e. nat_lt e (length edges) }
 
-    none_sent_at : (e : ℕ) → (e < length edges) ⊎ (length edges ≤ e) → (joint_view share edges boxes).sent e ≡ []
+    none_sent_at : (e : ℕ) → (e < length edges) ⊎ (length edges ≤ e) → (box_view share edges boxes).sent e ≡ []
     none_sent_at e (inl l) = sent_at share edges (views_of boxes) e l ∙ (empty e l).0
     none_sent_at e (inr above) = none_sent share edges (views_of boxes) e above
 
-    none_received_at : (e : ℕ) → (e < length edges) ⊎ (length edges ≤ e) → (joint_view share edges boxes).received e ≡ []
+    none_received_at : (e : ℕ) → (e < length edges) ⊎ (length edges ≤ e) → (box_view share edges boxes).received e ≡ []
     none_received_at e (inl l) = received_at share edges (views_of boxes) e l ∙ (empty e l).1
     none_received_at e (inr above) = none_received share edges (views_of boxes) e above
 
@@ -47,7 +47,7 @@ module _ {X : Type 0} {t : Ghosts X} (share : List ℕ) (edges : List Edge) (nod
     (dealt : List (List (Placed X t))) (deals : AreDealt share nodes dealt) (states : List t.State) (are : AreStates share nodes dealt deals states)
     (view_at : ℕ → View) where
   abbrev c : Configuration t.State Signal
-  c = joined t share edges states view_at
+  c = end_configuration t share edges states view_at
 
   abbrev net : Network t.State
   net = net_of nodes edges
@@ -94,7 +94,7 @@ module _ {X : Type 0} {t : Ghosts X} (share : List ℕ) (edges : List Edge) (nod
 
 pub own_shares_are_sound : {X : Type 0} (t : Ghosts X) → OwnSharesAreSound t
 own_shares_are_sound t share edges nodes fit dealt deals states are view_at begins own =
-    sound_from t.behaviour.process (net_of nodes edges) (joined t share edges states view_at)
+    sound_from t.behaviour.process (net_of nodes edges) (end_configuration t share edges states view_at)
     (all_reached share edges nodes fit dealt deals states are view_at own)
     (flows share edges nodes fit dealt deals states are view_at begins)
 

@@ -5,7 +5,7 @@ use Rattle.std.proofs.lemmas.Bool.{eq-eqb, ne_eqb}
 use Rattle.std.proofs.lemmas.List.{get_or_default, get_or_append_left, get_or-append-add, set-append_left, set-append_right, length-append}
 use Rattle.flow_messages.specs.Ends.{View}
 use Rattle.flow_boxes.proofs.Changed.{everywhere}
-use Rattle.flow_meetings.specs.declared.wires.Wire.{Wire}
+use Rattle.flow_meetings.specs.declared.owners.EdgeOwners.{EdgeOwners}
 use Rattle.flow_meetings.specs.Opens.{OpensAt, OpensEdge}
 
 -- where no end was opened
@@ -76,32 +76,32 @@ pub on_all : {X E : Type 0} {P Q R S T : Type 0} (r : Result X E) → (P → Q �
 on_all (Ok x) f p q joined room = f p q joined room
 on_all (Err e) f p q joined room = tt
 
--- Edge e is opened, and its wire names these shares.
-module _ {X : Type 0} (view : X → View) (joins : X → X → ℕ → Type 0) (places_of : X → ℕ → ℕ) (opens_at : ℕ → X → X → Type 0) (opens_refl : (e : ℕ) (a : X) → opens_at e a a) (wire : Wire) (e capacity : ℕ) where
+-- Edge e is opened, and its owner names these shares.
+module _ {X : Type 0} (view : X → View) (joins : X → X → ℕ → Type 0) (slots_of : X → ℕ → ℕ) (opens_at : ℕ → X → X → Type 0) (opens_refl : (e : ℕ) (a : X) → opens_at e a a) (owner : EdgeOwners) (e capacity : ℕ) where
   abbrev w : ℕ
-  w = wire.writer
+  w = owner.writer
 
   abbrev r : ℕ
-  r = wire.reader
+  r = owner.reader
 
   -- one share, before and after
-  abbrev Step : Bool → Bool → X → X → Type 0
-  Step writer reader x a = opens_at e x a × OpensAt e capacity writer reader (view x) (view a)
+  abbrev OpensHere : Bool → Bool → X → X → Type 0
+  OpensHere writer reader x a = opens_at e x a × OpensAt e capacity writer reader (view x) (view a)
 
   -- share s, before and after
   abbrev Each : ℕ → X → X → Type 0
-  Each s x a = Step (w == s) (r == s) x a
+  Each s x a = OpensHere (w == s) (r == s) x a
 
   abbrev Whole : List X → List X → Type 0
-  Whole = OpensEdge view joins places_of opens_at wire e capacity
+  Whole = OpensEdge view joins slots_of opens_at owner e capacity
 
   other : (s : ℕ) (z : X) → s ≢ w → s ≢ r → Each s z z
   other s z nw nr = (opens_refl e z, none_opened e capacity (w == s) (r == s) (view z) (ne_eqb w s (λ h. nw (sym h))) (ne_eqb r s (λ h. nr (sym h))))
 
-  here : (s : ℕ) (p q : Bool) (x a : X) → (w == s) ≡ p → (r == s) ≡ q → Step p q x a → Each s x a
+  here : (s : ℕ) (p q : Bool) (x a : X) → (w == s) ≡ p → (r == s) ≡ q → OpensHere p q x a → Each s x a
   here s p q x a at_w at_r step = (step.0, opened_as e capacity (w == s) (r == s) p q (view x) (view a) at_w at_r step.1)
 
-  whole : (old new : List X) (a b : X) → ((s : ℕ) (d : X) → Each s (get_or old s d) (get_or new s d)) → ((d : X) → get_or new w d ≡ a) → ((d : X) → get_or new r d ≡ b) → joins a b e → places_of a e ≡ capacity → Whole old new
+  whole : (old new : List X) (a b : X) → ((s : ℕ) (d : X) → Each s (get_or old s d) (get_or new s d)) → ((d : X) → get_or new w d ≡ a) → ((d : X) → get_or new r d ≡ b) → joins a b e → slots_of a e ≡ capacity → Whole old new
   whole old new a b each at_w at_r joined room = record {
     opens = λ s d l. (each s d).0;
     fresh = λ s d l. (each s d).1;
@@ -111,21 +111,21 @@ module _ {X : Type 0} (view : X → View) (joins : X → X → ℕ → Type 0) (
 
   module _ (old front back : List X) (is : old ≡ front ++ back) (x y a b : X) where
     -- the writer's end comes to the front, and the reader's to the back
-    pub opened_before : length front ≡ r → w < r → r < length old → x ≡ get_or front w x → y ≡ get_or back 0 y → Step true false (get_or front w x) a → Step false true (get_or back 0 y) b → joins a b e → places_of a e ≡ capacity → Whole old (set front w a ++ set back 0 b)
+    pub opened_before : length front ≡ r → w < r → r < length old → x ≡ get_or front w x → y ≡ get_or back 0 y → OpensHere true false (get_or front w x) a → OpensHere false true (get_or back 0 y) b → joins a b e → slots_of a e ≡ capacity → Whole old (set front w a ++ set back 0 b)
     opened_before count less inside x_is y_is at_w at_r joined room =
         whole old (set front w a ++ set back 0 b) a b
         (each_place old front back r w is count less inside x y a b x_is y_is Each
-        (here w true false x a (eq-eqb w w refl) (ne_eqb r w (λ h. omega (arith, h, less))) (subst (λ z. Step true false z a) (sym x_is) at_w))
-        (here r false true y b (ne_eqb w r (λ h. omega (arith, h, less))) (eq-eqb r r refl) (subst (λ z. Step false true z b) (sym y_is) at_r))
+        (here w true false x a (eq-eqb w w refl) (ne_eqb r w (λ h. omega (arith, h, less))) (subst (λ z. OpensHere true false z a) (sym x_is) at_w))
+        (here r false true y b (ne_eqb w r (λ h. omega (arith, h, less))) (eq-eqb r r refl) (subst (λ z. OpensHere false true z b) (sym y_is) at_r))
         (λ s z nw nr. other s z nw nr))
         (front_now old front back r w is count less inside x y a b x_is y_is) (back_now old front back r w is count less inside x y a b x_is y_is) joined room
 
     -- the reader's end comes to the front, and the writer's to the back
-    pub opened_behind : length front ≡ w → r < w → w < length old → x ≡ get_or front r x → y ≡ get_or back 0 y → Step false true (get_or front r x) a → Step true false (get_or back 0 y) b → joins b a e → places_of b e ≡ capacity → Whole old (set front r a ++ set back 0 b)
+    pub opened_behind : length front ≡ w → r < w → w < length old → x ≡ get_or front r x → y ≡ get_or back 0 y → OpensHere false true (get_or front r x) a → OpensHere true false (get_or back 0 y) b → joins b a e → slots_of b e ≡ capacity → Whole old (set front r a ++ set back 0 b)
     opened_behind count less inside x_is y_is at_r at_w joined room =
         whole old (set front r a ++ set back 0 b) b a
         (each_place old front back w r is count less inside x y a b x_is y_is Each
-        (here r false true x a (ne_eqb w r (λ h. omega (arith, h, less))) (eq-eqb r r refl) (subst (λ z. Step false true z a) (sym x_is) at_r))
-        (here w true false y b (eq-eqb w w refl) (ne_eqb r w (λ h. omega (arith, h, less))) (subst (λ z. Step true false z b) (sym y_is) at_w))
+        (here r false true x a (ne_eqb w r (λ h. omega (arith, h, less))) (eq-eqb r r refl) (subst (λ z. OpensHere false true z a) (sym x_is) at_r))
+        (here w true false y b (eq-eqb w w refl) (ne_eqb r w (λ h. omega (arith, h, less))) (subst (λ z. OpensHere true false z b) (sym y_is) at_w))
         (λ s z nr nw. other s z nw nr))
         (back_now old front back w r is count less inside x y a b x_is y_is) (front_now old front back w r is count less inside x y a b x_is y_is) joined room

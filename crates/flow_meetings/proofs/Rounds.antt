@@ -16,12 +16,12 @@ use Rattle.flow_graph.specs.declared.edge.Edge.{Edge}
 use Rattle.flow_graph.specs.declared.placed.Placed.{Placed}
 use Rattle.flow_graph.specs.Networks.{state_at}
 use Rattle.flow_graph.specs.Places.{states_in}
-use Rattle.flow_graph.specs.Layouts.{FitTogether}
+use Rattle.flow_graph.specs.Skeletons.{FitTogether}
 use Rattle.flow_graph.proofs.Nets.{lawful_net}
 use Rattle.flow_boxes.specs.Contents.{Contents}
 use Rattle.flow_shares.specs.Deals.{AreDealt}
-use Rattle.flow_meetings.specs.Joints.{views_of, HaveMet, AreStates}
-use Rattle.flow_meetings.specs.RoundTheorems.{NothingMoved, HaveGoneOn, net_of, joint, RoundIsARun}
+use Rattle.flow_meetings.specs.Joints.{views_of, BoxesHaveMet, AreStates}
+use Rattle.flow_meetings.specs.RoundTheorems.{NothingMoved, HaveGoneOn, net_of, box_configuration, RoundIsARun}
 use Rattle.flow_meetings.proofs.Parts.{no_length, part_of_total}
 use Rattle.flow_meetings.proofs.Seats.{nodes_count}
 use Rattle.flow_meetings.proofs.Views.{sent_at, received_at, none_sent, none_received}
@@ -29,8 +29,8 @@ use Rattle.flow_meetings.proofs.Histories.{history_of, nothing_moved, does, rece
 
 module _ {X : Type 0} {t : Ghosts X} (laws : BehaviourLaws t.behaviour) (capacity : ℕ) (share : List ℕ) (edges : List Edge) (nodes : List (Placed X t)) (fit : FitTogether nodes edges)
     (dealt later : List (List (Placed X t))) (deals : AreDealt share nodes dealt) (still : AreDealt share nodes later) (states states' : List t.State)
-    (are : AreStates share nodes dealt deals states) (are' : AreStates share nodes later still states') (boxes after : List Contents) (met : HaveMet share edges boxes capacity)
-    (sound : IsSound t.behaviour.process (net_of nodes edges) (joint t share edges states boxes)) (gone : HaveGoneOn dealt later boxes after) where
+    (are : AreStates share nodes dealt deals states) (are' : AreStates share nodes later still states') (boxes after : List Contents) (met : BoxesHaveMet share edges boxes capacity)
+    (sound : IsSound t.behaviour.process (net_of nodes edges) (box_configuration t share edges states boxes)) (gone : HaveGoneOn dealt later boxes after) where
   abbrev P : Process t.State Signal
   P = t.behaviour.process
 
@@ -38,10 +38,10 @@ module _ {X : Type 0} {t : Ghosts X} (laws : BehaviourLaws t.behaviour) (capacit
   net = net_of nodes edges
 
   abbrev c : Configuration t.State Signal
-  c = joint t share edges states boxes
+  c = box_configuration t share edges states boxes
 
   abbrev d : Configuration t.State Signal
-  d = joint t share edges states' after
+  d = box_configuration t share edges states' after
 
   -- what node k did in the round
   abbrev h : ℕ → List (Event Signal)

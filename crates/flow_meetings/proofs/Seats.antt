@@ -8,7 +8,7 @@ use Rattle.flow_graph.specs.declared.placed.Placed.{Placed}
 use Rattle.flow_graph.specs.Edges.{edge_at, in_edge, out_edge}
 use Rattle.flow_graph.specs.Networks.{inputs_at, outputs_at}
 use Rattle.flow_graph.specs.Places.{states_in}
-use Rattle.flow_graph.specs.Layouts.{FitTogether, AreSamePlaces}
+use Rattle.flow_graph.specs.Skeletons.{FitTogether, AreSamePlaces}
 use Rattle.flow_graph.proofs.Seats.{inputs_here, outputs_here, input_here, output_here}
 use Rattle.flow_shares.specs.Shares.{inputs_of, outputs_of}
 use Rattle.flow_shares.specs.Deals.{share_of, AreDealt}

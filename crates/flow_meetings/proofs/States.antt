@@ -6,7 +6,7 @@ use Rattle.flow_graph.specs.declared.edge.Edge.{Edge}
 use Rattle.flow_graph.specs.declared.placed.Placed.{Placed}
 use Rattle.flow_graph.specs.Networks.{state_at}
 use Rattle.flow_graph.specs.Places.{placed_state}
-use Rattle.flow_graph.specs.Layouts.{FitTogether, AreSamePlaces}
+use Rattle.flow_graph.specs.Skeletons.{FitTogether, AreSamePlaces}
 use Rattle.flow_shares.specs.Deals.{share_of, AreDealt}
 use Rattle.flow_meetings.specs.Joints.{nodes_at, states_in_shares, AreStates}
 use Rattle.flow_meetings.proofs.Parts.{any_of}

@@ -13,8 +13,8 @@ abbrev pub BoxesJoin : Boxes → Boxes → ℕ → Type 0
 BoxesJoin a b e = IsLinked (contents a) (contents b) e
 
 -- how many messages each edge holds at most
-abbrev pub box_places : Boxes → ℕ → ℕ
-box_places a e = (contents a).capacity
+abbrev pub box_slots : Boxes → ℕ → ℕ
+box_slots a e = (contents a).capacity
 
 -- before and after a carrying at edge e: nothing was sent or received, and no certainty is lost
 pub record BoxesMeet (e : ℕ) (a b : Boxes) : Type 0 where
@@ -51,8 +51,8 @@ boxes_meet_refl e a = record { carries = carries_refl e (contents a); kept = kep
 pub boxes_meet_kept : (e : ℕ) (a b : Boxes) → BoxesMeet e a b → Kept (view_of a) (view_of b)
 boxes_meet_kept e a b met = met.kept
 
-pub boxes_meet_places : (e : ℕ) (a b : Boxes) → BoxesMeet e a b → (k : ℕ) → box_places b k ≡ box_places a k
-boxes_meet_places e a b met k = met.carries.boxes.capacity
+pub boxes_meet_slots : (e : ℕ) (a b : Boxes) → BoxesMeet e a b → (k : ℕ) → box_slots b k ≡ box_slots a k
+boxes_meet_slots e a b met k = met.carries.boxes.capacity
 
 pub boxes_meet_same : (e : ℕ) (a b : Boxes) → BoxesMeet e a b → BoxesStay a b
 boxes_meet_same e a b met = met.carries.boxes
@@ -76,5 +76,5 @@ boxes_join_reader a b b' e k joined ne met = reader-elsewhere (contents a) (cont
 pub boxes_stay_joined : (a a' b b' : Boxes) (e : ℕ) → BoxesJoin a b e → KeepsRound (contents a) (contents a') → KeepsRound (contents b) (contents b') → BoxesJoin a' b' e
 boxes_stay_joined a a' b b' e joined p q = reader-linked (contents a') (contents b) (contents b') e (writer-linked (contents a) (contents a') (contents b) e joined p) q
 
-pub boxes_keep_places : (a b : Boxes) → KeepsRound (contents a) (contents b) → (k : ℕ) → box_places b k ≡ box_places a k
-boxes_keep_places a b keeps k = keeps.boxes.capacity
+pub boxes_keep_slots : (a b : Boxes) → KeepsRound (contents a) (contents b) → (k : ℕ) → box_slots b k ≡ box_slots a k
+boxes_keep_slots a b keeps k = keeps.boxes.capacity

@@ -4,7 +4,7 @@ use Rattle.flow_boxes.specs.declared.boxes.Boxes.{Boxes}
 use Rattle.flow_boxes.specs.Contents.{contents}
 use Rattle.flow_boxes.specs.Rounds.{OthersSame}
 use Rattle.flow_boxes.proofs.Linking.{writer-elsewhere, reader-elsewhere}
-use Rattle.flow_meetings.specs.BoxMeetings.{BoxesJoin, box_places, boxes_meet_refl}
+use Rattle.flow_meetings.specs.BoxMeetings.{BoxesJoin, box_slots, boxes_meet_refl}
 
 -- edge e has a number among these, and each of them holds so many messages at most
 abbrev pub BoxesHavePlace : Boxes → ℕ → ℕ → Type 0
@@ -20,7 +20,7 @@ boxes_opens_refl e a = (boxes_meet_refl e a).carries.others
 pub boxes_opens_place : (e : ℕ) (a b : Boxes) → BoxesOpen e a b → (k capacity : ℕ) → BoxesHavePlace a k capacity → BoxesHavePlace b k capacity
 boxes_opens_place e a b opens k capacity place = (omega (arith, place.0, opens.count), opens.capacity ∙ place.1)
 
-pub boxes_opens_places : (e : ℕ) (a b : Boxes) → BoxesOpen e a b → (k : ℕ) → k ≢ e → box_places b k ≡ box_places a k
+pub boxes_opens_places : (e : ℕ) (a b : Boxes) → BoxesOpen e a b → (k : ℕ) → k ≢ e → box_slots b k ≡ box_slots a k
 boxes_opens_places e a b opens k ne = opens.capacity
 
 pub boxes_open_join_writer : (a a' b : Boxes) (e k : ℕ) → BoxesJoin a b k → k ≢ e → BoxesOpen e a a' → BoxesJoin a' b k

@@ -7,12 +7,12 @@ use Rattle.flow_base.specs.declared.transducer.Transducer.{Ghosts}
 use Rattle.flow_graph.specs.declared.placed.Placed.{Placed}
 use Rattle.flow_graph.specs.declared.graph.Graph.{Graph}
 use Rattle.flow_graph.specs.Graphs.{edges_of}
-use Rattle.flow_graph.specs.Layouts.{nodes_of, edges_in}
+use Rattle.flow_graph.specs.Skeletons.{nodes_of, edges_in}
 use Rattle.flow_shares.specs.Deals.{AreJustDealt}
 use Rattle.flow_shares.specs.declared.share.Share.{Share}
 use Rattle.flow_shares.specs.Shares.{HasItsEnds, AreApart, IsOwn}
 use Rattle.flow_meetings.specs.declared.dealt.Dealt.{Dealt}
-use Rattle.flow_meetings.specs.Open.{AreWires, AreFreshEnds}
+use Rattle.flow_meetings.specs.Open.{AreOwners, AreFreshEnds}
 
 -- These nodes make a share with the ends of which this is seen.
 pub record MakeAShare {X : Type 0} {t : Ghosts X} (view : View) (nodes : List (Placed X t)) : Type 0 where
@@ -47,9 +47,9 @@ module _ {X Y : Type 0} {t : Ghosts X} {u : EndsGhosts Y} where
     pub new : AreNew dealt.shares.items
     -- each node lies in its share, at one place there, and nothing else does
     pub nodes : AreJustDealt share (nodes_of graph) (nodes_in dealt.shares.items)
-    -- the layout has the edges of the graph
-    pub layout : edges_in dealt.layout ≡ edges_of graph
-    -- the wires name the shares of the writer and the reader of each edge
-    pub wires : AreWires share (edges_of graph) dealt.wires.items
-    -- each end of each edge lies in the share that the wire names, and nowhere else, and all are fresh
-    pub ends : AreFreshEnds u.view joins places dealt.wires.items capacity (ends_in dealt.shares.items)
+    -- the skeleton has the edges of the graph
+    pub skeleton : edges_in dealt.skeleton ≡ edges_of graph
+    -- the owners name the shares of the writer and the reader of each edge
+    pub owners : AreOwners share (edges_of graph) dealt.owners.items
+    -- each end of each edge lies in the share that the owner names, and nowhere else, and all are fresh
+    pub ends : AreFreshEnds u.view joins places dealt.owners.items capacity (ends_in dealt.shares.items)

@@ -41,8 +41,8 @@ module _ (share : List ℕ) (edges : List Edge) (view_at : ℕ → View) where
   at_edge e y n = cond (ltb e (length edges)) y n
 
   -- what was sent and received on each edge, whichever shares its ends lie in
-  abbrev pub joined_view : View
-  joined_view = record {
+  abbrev pub end_view : View
+  end_view = record {
     sent = λ e. at_edge e ((writer_view e).sent e) [];
     received = λ e. at_edge e ((reader_view e).received e) [];
     coming = λ e. at_edge e ((reader_view e).coming e) [];
@@ -60,11 +60,11 @@ module _ (share : List ℕ) (edges : List Edge) (boxes : List Contents) where
   reader_boxes e = boxes_at boxes (share_of share (edge_at edges e).reader)
 
   -- what was sent and received on each edge, as their boxes say
-  abbrev pub joint_view : View
-  joint_view = joined_view share edges (views_of boxes)
+  abbrev pub box_view : View
+  box_view = end_view share edges (views_of boxes)
 
   -- The two boxes of each edge have met, and hold at most the capacity.
-  pub record HaveMet (most : ℕ) : Type 0 where
+  pub record BoxesHaveMet (most : ℕ) : Type 0 where
     pub linked : (e : ℕ) → e < length edges → IsLinked (writer_boxes e) (reader_boxes e) e
     pub carried : (e : ℕ) → e < length edges → IsCarried (writer_boxes e) (reader_boxes e) e
     pub capacity : (e : ℕ) → e < length edges → (writer_boxes e).capacity ≡ most

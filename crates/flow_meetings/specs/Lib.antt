@@ -3,10 +3,10 @@ pub mod BoxMeetings
 pub mod RingMeetings
 pub mod Joints
 pub mod RoundTheorems
-pub mod JoinedTheorems
+pub mod EndTheorems
 pub mod Deals
 pub mod Open
 pub mod Opens
 pub mod BoxOpenings
 pub mod RingOpenings
-pub mod Settings
+pub mod SharedNetworks

@@ -6,19 +6,19 @@ use Rattle.flow_messages.specs.Ends.{View, held}
 use Rattle.flow_rings.specs.Rings.{Kept}
 
 -- The writer of edge e is seen in a, and its reader in b. The edge holds so many messages at most.
-pub record Met (a b : View) (places e : ℕ) : Type 0 where
+pub record Met (a b : View) (slots e : ℕ) : Type 0 where
   -- what was received is a beginning of what was sent
   pub begins : IsPrefix (b.received e) (a.sent e)
   -- all that was sent and not received is certain to the reader
   pub held : length (a.sent e) ≤ length (b.received e) + held b e
-  -- all places that hold no message are room to the writer
-  pub room : places + length (b.received e) ≤ a.room e + length (a.sent e)
-  -- it holds no more than its places
-  pub fits : length (a.sent e) ≤ length (b.received e) + places
+  -- all slots that hold no message are room to the writer
+  pub room : slots + length (b.received e) ≤ a.room e + length (a.sent e)
+  -- it holds no more than its slots
+  pub fits : length (a.sent e) ≤ length (b.received e) + slots
 
 -- what is known of an edge stays known where nothing is sent or received
-pub met_kept : (a a' b b' : View) (places e : ℕ) → Met a b places e → Kept a a' → Kept b b' → Met a' b' places e
-met_kept a a' b b' places e m p q =
+pub met_kept : (a a' b b' : View) (slots e : ℕ) → Met a b slots e → Kept a a' → Kept b b' → Met a' b' slots e
+met_kept a a' b b' slots e m p q =
     let more = q.coming e in
     let longer : held b' e ≡ held b e + length more.0 = ap length (sym more.1) ∙ length-append (b.coming e) more.0 in
     let sent = ap length (p.traffic.sent e) in

@@ -1,7 +1,7 @@
 -- What opening an edge makes of what is seen of some ends.
 use Rattle.std.specs.Prelude.{◌≡◌, ◌≢◌, ◌==◌, ℕ, ◌<◌, Bool, true, List, [], cond, length, slice_index_or}
 use Rattle.flow_messages.specs.Ends.{View}
-use Rattle.flow_meetings.specs.declared.wires.Wire.{Wire}
+use Rattle.flow_meetings.specs.declared.owners.EdgeOwners.{EdgeOwners}
 
 -- nothing changed at any edge but e
 pub record ElsewhereSame (e : ℕ) (a b : View) : Type 0 where
@@ -24,13 +24,13 @@ pub record OpensAt (e capacity : ℕ) (writer reader : Bool) (a b : View) : Type
   pub received : b.received e ≡ cond reader [] (a.received e)
   pub coming : b.coming e ≡ cond reader [] (a.coming e)
 
--- Edge e is opened among the ends of all shares: its ends come to the shares that its wire names.
-pub record OpensEdge {X : Type 0} (view : X → View) (joins : X → X → ℕ → Type 0) (places_of : X → ℕ → ℕ) (opens_at : ℕ → X → X → Type 0) (wire : Wire) (e capacity : ℕ) (old new : List X) : Type 0 where
+-- Edge e is opened among the ends of all shares: its ends come to the shares that its owner names.
+pub record OpensEdge {X : Type 0} (view : X → View) (joins : X → X → ℕ → Type 0) (slots_of : X → ℕ → ℕ) (opens_at : ℕ → X → X → Type 0) (owner : EdgeOwners) (e capacity : ℕ) (old new : List X) : Type 0 where
   -- each share is as before, or as after an opening of e
   pub opens : (s : ℕ) (d : X) → s < length old → opens_at e (slice_index_or old s d) (slice_index_or new s d)
   -- the fresh ends are in the shares that are named, and else all is as it was
-  pub fresh : (s : ℕ) (d : X) → s < length old → OpensAt e capacity (wire.writer == s) (wire.reader == s) (view (slice_index_or old s d)) (view (slice_index_or new s d))
+  pub fresh : (s : ℕ) (d : X) → s < length old → OpensAt e capacity (owner.writer == s) (owner.reader == s) (view (slice_index_or old s d)) (view (slice_index_or new s d))
   -- they are the two of one edge
-  pub joined : (d : X) → joins (slice_index_or new wire.writer d) (slice_index_or new wire.reader d) e
+  pub joined : (d : X) → joins (slice_index_or new owner.writer d) (slice_index_or new owner.reader d) e
   -- which holds at most the capacity
-  pub places : (d : X) → places_of (slice_index_or new wire.writer d) e ≡ capacity
+  pub places : (d : X) → slots_of (slice_index_or new owner.writer d) e ≡ capacity

@@ -16,8 +16,8 @@ abbrev pub RingsJoin : Rings → Rings → ℕ → Type 0
 RingsJoin a b e = Joins (writer_at a e) (reader_at b e)
 
 -- how many messages the edge of the writer holds at most
-abbrev pub ring_places : Rings → ℕ → ℕ
-ring_places a e = capacity_of (writer_at a e)
+abbrev pub ring_slots : Rings → ℕ → ℕ
+ring_slots a e = capacity_of (writer_at a e)
 
 -- the same ends are there, nothing was put or taken, and no certainty is lost
 pub record RingsMeet (e : ℕ) (a b : Rings) : Type 0 where
@@ -55,11 +55,11 @@ same_places None (Some v) same = absurd same
 same_places (Some w) None same = absurd same
 same_places (Some w) (Some v) same = same_capacity w v same
 
-pub rings_keep_places : (a b : Rings) → SameRings a b → (k : ℕ) → ring_places b k ≡ ring_places a k
-rings_keep_places a b same k = same_places (writer_at a k) (writer_at b k) (same.writers k)
+pub rings_keep_slots : (a b : Rings) → SameRings a b → (k : ℕ) → ring_slots b k ≡ ring_slots a k
+rings_keep_slots a b same k = same_places (writer_at a k) (writer_at b k) (same.writers k)
 
-pub rings_meet_places : (e : ℕ) (a b : Rings) → RingsMeet e a b → (k : ℕ) → ring_places b k ≡ ring_places a k
-rings_meet_places e a b met k = rings_keep_places a b met.same k
+pub rings_meet_slots : (e : ℕ) (a b : Rings) → RingsMeet e a b → (k : ℕ) → ring_slots b k ≡ ring_slots a k
+rings_meet_slots e a b met k = rings_keep_slots a b met.same k
 
 pub rings_meet_same : (e : ℕ) (a b : Rings) → RingsMeet e a b → SameRings a b
 rings_meet_same e a b met = met.same

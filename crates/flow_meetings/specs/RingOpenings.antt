@@ -2,7 +2,7 @@
 use Rattle.std.proofs.Common.{◌≡◌, ◌≢◌, ℕ, ◌<◌, length, refl, sym, ap, subst, arith}
 use Rattle.flow_rings.specs.declared.rings.Rings.{Rings}
 use Rattle.flow_rings.specs.Rings.{capacity_of, writer_at, reader_at, Joins}
-use Rattle.flow_meetings.specs.RingMeetings.{RingsJoin, ring_places}
+use Rattle.flow_meetings.specs.RingMeetings.{RingsJoin, ring_slots}
 
 -- edge e has a number among these
 abbrev pub RingsHavePlace : Rings → ℕ → ℕ → Type 0
@@ -21,7 +21,7 @@ rings_opens_refl e a = record { writer_count = refl; reader_count = refl; writer
 pub rings_opens_place : (e : ℕ) (a b : Rings) → RingsOpen e a b → (k capacity : ℕ) → RingsHavePlace a k capacity → RingsHavePlace b k capacity
 rings_opens_place e a b opens k capacity place = (omega (arith, place.0, opens.writer_count), omega (arith, place.1, opens.reader_count))
 
-pub rings_opens_places : (e : ℕ) (a b : Rings) → RingsOpen e a b → (k : ℕ) → k ≢ e → ring_places b k ≡ ring_places a k
+pub rings_opens_places : (e : ℕ) (a b : Rings) → RingsOpen e a b → (k : ℕ) → k ≢ e → ring_slots b k ≡ ring_slots a k
 rings_opens_places e a b opens k ne = ap capacity_of (opens.writers k ne)
 
 pub rings_open_join_writer : (a a' b : Rings) (e k : ℕ) → RingsJoin a b k → k ≢ e → RingsOpen e a a' → RingsJoin a' b k

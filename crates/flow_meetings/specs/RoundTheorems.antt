@@ -12,12 +12,12 @@ use Rattle.flow_graph.specs.declared.edge.Edge.{Edge}
 use Rattle.flow_graph.specs.declared.placed.Placed.{Placed}
 use Rattle.flow_graph.specs.Networks.{AreOpened, network_of, configuration_of}
 use Rattle.flow_graph.specs.Places.{states_in}
-use Rattle.flow_graph.specs.Layouts.{FitTogether, AreSamePlaces}
+use Rattle.flow_graph.specs.Skeletons.{FitTogether, AreSamePlaces}
 use Rattle.flow_boxes.specs.Contents.{Contents}
 use Rattle.flow_boxes.specs.Rounds.{KeepsRound}
 use Rattle.flow_shares.specs.Shares.{IsOwn, HaveMoved, AreStuck}
 use Rattle.flow_shares.specs.Deals.{AreDealt}
-use Rattle.flow_meetings.specs.Joints.{nodes_at, boxes_at, writer_boxes, reader_boxes, joint_view, HaveMet, AreStates}
+use Rattle.flow_meetings.specs.Joints.{nodes_at, boxes_at, writer_boxes, reader_boxes, box_view, BoxesHaveMet, AreStates}
 
 -- nothing was sent or received in the first so many shares
 abbrev pub NothingMoved : ℕ → List Contents → List Contents → Type 0
@@ -44,8 +44,8 @@ module _ {X : Type 0} {t : Ghosts X} where
   net_of nodes edges = network_of t.behaviour (states_in nodes) edges
 
 -- where the nodes stand, with what the boxes of all shares say
-abbrev pub joint : {X : Type 0} (t : Ghosts X) → List ℕ → List Edge → List t.State → List Contents → Configuration t.State Signal
-joint t share edges states boxes = configuration_of t.behaviour states (joint_view share edges boxes)
+abbrev pub box_configuration : {X : Type 0} (t : Ghosts X) → List ℕ → List Edge → List t.State → List Contents → Configuration t.State Signal
+box_configuration t share edges states boxes = configuration_of t.behaviour states (box_view share edges boxes)
 
 module _ {X : Type 0} (t : Ghosts X) where
   -- where the nodes are in their opening states, and nothing was sent or received on any edge, they are before any step
@@ -53,15 +53,15 @@ module _ {X : Type 0} (t : Ghosts X) where
   FreshSharesStart =
       (share : List ℕ) (edges : List Edge) (nodes : List (Placed X t)) (boxes : List Contents) → AreOpened t.behaviour (states_in nodes)
       → ((e : ℕ) → e < length edges → ((writer_boxes share edges boxes e).ends.sent e ≡ []) × ((reader_boxes share edges boxes e).ends.received e ≡ []))
-      → joint t share edges (states_in nodes) boxes ≡ start (net_of nodes edges)
+      → box_configuration t share edges (states_in nodes) boxes ≡ start (net_of nodes edges)
 
   -- where all edges have met, and each node's history is that of its own ends, the configuration is sound
   abbrev pub MeetingIsSound : Type 0
   MeetingIsSound =
       (capacity : ℕ) (share : List ℕ) (edges : List Edge) (nodes : List (Placed X t)) → FitTogether nodes edges
       → (dealt : List (List (Placed X t))) (deals : AreDealt share nodes dealt) (states : List t.State) → AreStates share nodes dealt deals states
-      → (boxes : List Contents) → HaveMet share edges boxes capacity → AllOwn dealt boxes
-      → ∥ IsSound t.behaviour.process (net_of nodes edges) (joint t share edges states boxes) ∥₁
+      → (boxes : List Contents) → BoxesHaveMet share edges boxes capacity → AllOwn dealt boxes
+      → ∥ IsSound t.behaviour.process (net_of nodes edges) (box_configuration t share edges states boxes) ∥₁
 
   -- where all edges had met, and each share went on by itself, all together is a run of the network, and there are more
   -- messages if one share sent or received any
@@ -72,9 +72,9 @@ module _ {X : Type 0} (t : Ghosts X) where
       → AreStates share nodes dealt deals states → AreStates share nodes later still states'
       → (boxes after : List Contents) →
       let net = net_of nodes edges in
-      let c = joint t share edges states boxes in
-      let d = joint t share edges states' after in
-      HaveMet share edges boxes capacity → IsSound t.behaviour.process net c → HaveGoneOn dealt later boxes after
+      let c = box_configuration t share edges states boxes in
+      let d = box_configuration t share edges states' after in
+      BoxesHaveMet share edges boxes capacity → IsSound t.behaviour.process net c → HaveGoneOn dealt later boxes after
       → Reaches t.behaviour.process net (Some capacity) c d × ((NothingMoved (length dealt) boxes after → ⊥) → moved net c < moved net d)
 
   -- where all edges have met, and no node of any share can step by what its own boxes are certain of, no node can step
@@ -82,8 +82,8 @@ module _ {X : Type 0} (t : Ghosts X) where
   CalmRoundsRest =
       (capacity : ℕ) (share : List ℕ) (edges : List Edge) (nodes : List (Placed X t)) → FitTogether nodes edges
       → (dealt : List (List (Placed X t))) (deals : AreDealt share nodes dealt) (states : List t.State) → AreStates share nodes dealt deals states
-      → (boxes : List Contents) → HaveMet share edges boxes capacity → AllStuck dealt boxes
-      → AtRest t.behaviour.process (net_of nodes edges) (Some capacity) (joint t share edges states boxes)
+      → (boxes : List Contents) → BoxesHaveMet share edges boxes capacity → AllStuck dealt boxes
+      → AtRest t.behaviour.process (net_of nodes edges) (Some capacity) (box_configuration t share edges states boxes)
 
   -- where all edges had met, nothing was sent or received in a round, and after it no node of any share could step by
   -- what its own boxes were certain of, no node can step
@@ -91,13 +91,13 @@ module _ {X : Type 0} (t : Ghosts X) where
   CalmRoundLeadsToRest =
       (capacity : ℕ) (share : List ℕ) (edges : List Edge) (nodes : List (Placed X t)) → FitTogether nodes edges
       → (dealt later : List (List (Placed X t))) → AreDealt share nodes dealt → (still : AreDealt share nodes later) (states' : List t.State) → AreStates share nodes later still states'
-      → (boxes after : List Contents) → HaveMet share edges boxes capacity → HaveGoneOn dealt later boxes after
+      → (boxes after : List Contents) → BoxesHaveMet share edges boxes capacity → HaveGoneOn dealt later boxes after
       → NothingMoved (length dealt) boxes after → AllStuck later after
-      → AtRest t.behaviour.process (net_of nodes edges) (Some capacity) (joint t share edges states' after)
+      → AtRest t.behaviour.process (net_of nodes edges) (Some capacity) (box_configuration t share edges states' after)
 
   -- where nothing was sent or received, the nodes and their boxes stand where they stood
   abbrev pub CarryingKeepsTheConfiguration : Type 0
   CarryingKeepsTheConfiguration =
       (share : List ℕ) (edges : List Edge) (states : List t.State) (boxes carried : List Contents) → length carried ≡ length boxes
       → NothingMoved (length boxes) boxes carried
-      → joint t share edges states carried ≡ joint t share edges states boxes
+      → box_configuration t share edges states carried ≡ box_configuration t share edges states boxes

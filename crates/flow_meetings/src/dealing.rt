@@ -10,7 +10,7 @@ ghost use Rattle.flow_meetings.specs.Deals.{MakeAShare, nodes_in, ends_in, AreNe
 use crate::dealt::Dealt;
 use crate::opening::Opening;
 use crate::opening_everywhere::open_all;
-use crate::wires::wires_of;
+use crate::owners::owners_of;
 use flow_base::Transducer;
 use flow_graph::{Graph, Placed};
 use flow_messages::Ends;
@@ -34,17 +34,17 @@ pub fn deal<T: Transducer + Drop, E: Opening + Drop>(
     requires some { 0 < capacity }
     requires limit { capacity ≤ greatest_capacity }
     ensures { IfOk result (λ dealt.
-        IsDealt E.joins E.places graph threads share.now capacity dealt) }
+        IsDealt E.joins E.slots graph threads share.now capacity dealt) }
 {
-    let (nodes, layout) = graph.take_apart();
-    let wires = wires_of(alloc, layout.edges(), share)?;
-    let ends = open_all(alloc, threads, &wires, capacity)?;
+    let (nodes, skeleton) = graph.take_apart();
+    let owners = owners_of(alloc, skeleton.edges(), share)?;
+    let ends = open_all(alloc, threads, &owners, capacity)?;
     let nodes = deal_nodes(alloc, nodes, threads, share)?;
     let shares = make_shares(alloc, nodes, ends)?;
     Ok(Dealt {
         shares,
-        wires,
-        layout,
+        owners,
+        skeleton,
     })
 }
 

@@ -3,14 +3,14 @@ ghost use Rattle.std.specs.Prelude.{◌≡◌, ◌<◌, length, IfOk};
 ghost use Rattle.flow_shares.specs.Deals.{lists_in, AreDealt};
 ghost use Rattle.flow_graph.specs.Places.{states_in};
 ghost use Rattle.flow_graph.specs.Graphs.{states_of, edges_of};
-ghost use Rattle.flow_graph.specs.Layouts.{edges_in};
+ghost use Rattle.flow_graph.specs.Skeletons.{edges_in};
 ghost use Rattle.flow_graph.specs.Shapes.{IsSameNetwork};
 ghost use Rattle.flow_meetings.specs.Joints.{AreStates};
 ghost use Rattle.flow_meetings.specs.Deals.{nodes_in, ends_in};
-ghost use Rattle.flow_meetings.specs.Settings.{Setting};
+ghost use Rattle.flow_meetings.specs.SharedNetworks.{SharedNetwork};
 
 use flow_base::Transducer;
-use flow_graph::{Graph, Layout, Placed};
+use flow_graph::{Graph, Placed, Skeleton};
 use flow_messages::Ends;
 use flow_shares::{Share, gather};
 use std::alloc::{AllocError, Global};
@@ -22,26 +22,26 @@ use std::alloc::{AllocError, Global};
 pub fn gather_graph<T: Transducer + Drop, E: Ends + Drop>(
     alloc: Global,
     shares: Vec<Share<T, E>>,
-    layout: Layout,
+    skeleton: Skeleton,
     count: usize,
     share: &[u8],
 ) -> Result<(Graph<T>, Vec<E>), AllocError>
-    ghost setting: { Setting ⟦<T as Transducer>⟧ }
+    ghost network: { SharedNetwork ⟦<T as Transducer>⟧ }
     requires some { 0 < length share.now }
-    requires count { count ≡ length setting.nodes }
-    requires share { share.now ≡ setting.share }
-    requires edges { edges_in layout ≡ setting.edges }
-    requires deals { AreDealt setting.share setting.nodes (nodes_in shares.items) }
+    requires count { count ≡ length network.nodes }
+    requires share { share.now ≡ network.share }
+    requires edges { edges_in skeleton ≡ network.edges }
+    requires deals { AreDealt network.share network.nodes (nodes_in shares.items) }
     ensures ends { IfOk result (λ made. made.1.items ≡ ends_in shares.items) }
     ensures network { IfOk result (λ made. IsSameNetwork T.behaviour
-        (states_in setting.nodes) setting.edges (states_of made.0) (edges_of made.0)) }
-    ensures states { IfOk result (λ made. (deals : AreDealt setting.share setting.nodes
-        (nodes_in shares.items)) → AreStates setting.share setting.nodes
+        (states_in network.nodes) network.edges (states_of made.0) (edges_of made.0)) }
+    ensures states { IfOk result (λ made. (deals : AreDealt network.share network.nodes
+        (nodes_in shares.items)) → AreStates network.share network.nodes
         (nodes_in shares.items) deals (states_of made.0)) }
 {
     let (lists, ends) = split(alloc, shares)?;
     let nodes = gather(alloc, lists, count, share)?;
-    Ok((layout.put_together(nodes), ends))
+    Ok((skeleton.put_together(nodes), ends))
 }
 
 // The nodes of each share, and its ends, in order.

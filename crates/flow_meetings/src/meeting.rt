@@ -13,7 +13,7 @@ pub trait Meeting: Ends {
     ghost joins: { Self → Self → ℕ → Type 0 };
 
     /// How many messages this edge holds at most, where its writer's end is here.
-    ghost places: { Self → ℕ → ℕ };
+    ghost slots: { Self → ℕ → ℕ };
 
     /// Before and after a meeting at this edge.
     ghost meets: { ℕ → Self → Self → Type 0 };
@@ -27,14 +27,14 @@ pub trait Meeting: Ends {
         ensures writer { meets edge self.old self.new }
         ensures reader { meets edge other.old other.new }
         ensures joined { joins self.new other.new edge }
-        ensures met { Met (Self.view self.new) (Self.view other.new) (places self.new edge) edge };
+        ensures met { Met (Self.view self.new) (Self.view other.new) (slots self.new edge) edge };
 
     /// Both ends of the edge, which are here, meet.
     fn meet_own(&mut self, edge: usize)
         requires { joins self.old self.old edge }
         ensures meets { meets edge self.old self.new }
         ensures joined { joins self.new self.new edge }
-        ensures met { Met (Self.view self.new) (Self.view self.new) (places self.new edge) edge };
+        ensures met { Met (Self.view self.new) (Self.view self.new) (slots self.new edge) edge };
 
     /// Ends that join are there.
     ghost join_ends: { (a b : Self) (e : ℕ) → joins a b e →
@@ -46,8 +46,8 @@ pub trait Meeting: Ends {
     /// A meeting sends and receives nothing, and loses no certainty.
     ghost meets_kept: { (e : ℕ) (a b : Self) → meets e a b → Kept (Self.view a) (Self.view b) };
 
-    /// A meeting changes no number of places.
-    ghost meets_places: { (e : ℕ) (a b : Self) → meets e a b → (k : ℕ) → places b k ≡ places a k };
+    /// A meeting changes no number of slots.
+    ghost meets_slots: { (e : ℕ) (a b : Self) → meets e a b → (k : ℕ) → slots b k ≡ slots a k };
 
     /// A meeting leaves the same ends.
     ghost meets_stays: { (e : ℕ) (a b : Self) → meets e a b → stays a b };
@@ -69,6 +69,6 @@ pub trait Meeting: Ends {
     ghost stay_joined: { (a a' b b' : Self) (e : ℕ) → joins a b e → Self.same a a' →
         Self.same b b' → joins a' b' e };
 
-    /// The number of places stays, whatever the share is called for between meetings.
-    ghost keep_places: { (a b : Self) → Self.same a b → (k : ℕ) → places b k ≡ places a k };
+    /// The number of slots stays, whatever the share is called for between meetings.
+    ghost keep_slots: { (a b : Self) → Self.same a b → (k : ℕ) → slots b k ≡ slots a k };
 }

@@ -3,11 +3,11 @@ use crate::meeting::Meeting;
 use flow_boxes::{Boxes, carry, carry_own};
 
 impl Meeting for Boxes {
-    ghost use Rattle.flow_meetings.specs.BoxMeetings.{BoxesJoin, box_places, BoxesMeet, BoxesStay, boxes_join_ends, boxes_meet_refl, boxes_meet_kept, boxes_meet_places, boxes_meet_same, boxes_same_stay, boxes_stay_trans, boxes_join_writer, boxes_join_reader, boxes_stay_joined, boxes_keep_places};
+    ghost use Rattle.flow_meetings.specs.BoxMeetings.{BoxesJoin, box_slots, BoxesMeet, BoxesStay, boxes_join_ends, boxes_meet_refl, boxes_meet_kept, boxes_meet_slots, boxes_meet_same, boxes_same_stay, boxes_stay_trans, boxes_join_writer, boxes_join_reader, boxes_stay_joined, boxes_keep_slots};
 
     ghost joins = { BoxesJoin };
 
-    ghost places = { box_places };
+    ghost slots = { box_slots };
 
     ghost meets = { BoxesMeet };
 
@@ -27,7 +27,7 @@ impl Meeting for Boxes {
 
     ghost meets_kept = { boxes_meet_kept };
 
-    ghost meets_places = { boxes_meet_places };
+    ghost meets_slots = { boxes_meet_slots };
 
     ghost meets_stays = { boxes_meet_same };
 
@@ -41,5 +41,5 @@ impl Meeting for Boxes {
 
     ghost stay_joined = { boxes_stay_joined };
 
-    ghost keep_places = { boxes_keep_places };
+    ghost keep_slots = { boxes_keep_slots };
 }

@@ -6,11 +6,11 @@ impl Meeting for Rings {
     ghost use Rattle.flow_rings.specs.Rings.{SameRings};
     ghost use Rattle.flow_rings.specs.SameEnds.{same_rings_trans};
     ghost use Rattle.flow_rings.proofs.Meetings.{joins-kept};
-    ghost use Rattle.flow_meetings.specs.RingMeetings.{RingsJoin, ring_places, RingsMeet, rings_join_ends, rings_meet_refl, rings_meet_kept, rings_meet_places, rings_meet_same, rings_same_stay, rings_join_writer, rings_join_reader, rings_keep_places};
+    ghost use Rattle.flow_meetings.specs.RingMeetings.{RingsJoin, ring_slots, RingsMeet, rings_join_ends, rings_meet_refl, rings_meet_kept, rings_meet_slots, rings_meet_same, rings_same_stay, rings_join_writer, rings_join_reader, rings_keep_slots};
 
     ghost joins = { RingsJoin };
 
-    ghost places = { ring_places };
+    ghost slots = { ring_slots };
 
     ghost meets = { RingsMeet };
 
@@ -30,7 +30,7 @@ impl Meeting for Rings {
 
     ghost meets_kept = { rings_meet_kept };
 
-    ghost meets_places = { rings_meet_places };
+    ghost meets_slots = { rings_meet_slots };
 
     ghost meets_stays = { rings_meet_same };
 
@@ -44,5 +44,5 @@ impl Meeting for Rings {
 
     ghost stay_joined = { joins-kept };
 
-    ghost keep_places = { rings_keep_places };
+    ghost keep_slots = { rings_keep_slots };
 }

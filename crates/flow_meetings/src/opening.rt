@@ -42,7 +42,7 @@ pub trait Opening: Meeting {
         ensures reader { OnOk result (opens edge other.old other.new ×
             OpensAt edge capacity false true (Self.view other.old) (Self.view other.new)) }
         ensures joined { OnOk result (Self.joins self.new other.new edge) }
-        ensures places { OnOk result (Self.places self.new edge ≡ capacity) };
+        ensures places { OnOk result (Self.slots self.new edge ≡ capacity) };
 
     /// Opens an edge, both ends here. It holds at most `capacity` messages.
     ///
@@ -56,7 +56,7 @@ pub trait Opening: Meeting {
         ensures both { OnOk result (opens edge self.old self.new ×
             OpensAt edge capacity true true (Self.view self.old) (Self.view self.new)) }
         ensures joined { OnOk result (Self.joins self.new self.new edge) }
-        ensures places { OnOk result (Self.places self.new edge ≡ capacity) };
+        ensures places { OnOk result (Self.slots self.new edge ≡ capacity) };
 
     /// Where no edge was opened, all is as after an opening.
     ghost opens_refl: { (e : ℕ) (a : Self) → opens e a a };
@@ -67,7 +67,7 @@ pub trait Opening: Meeting {
 
     /// An opening changes no number of places at another edge.
     ghost opens_places: { (e : ℕ) (a b : Self) → opens e a b →
-        (k : ℕ) → k ≢ e → Self.places b k ≡ Self.places a k };
+        (k : ℕ) → k ≢ e → Self.slots b k ≡ Self.slots a k };
 
     /// What joins stays so over an opening at another edge, in the writer's share.
     ghost open_join_writer: { (a a' b : Self) (e k : ℕ) → Self.joins a b k →

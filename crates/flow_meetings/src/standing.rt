@@ -1,6 +1,6 @@
 // Where shares stand: what their last pumps came to, and whether a node can step.
 ghost use Rattle.std.specs.Prelude.{◌↔◌, IsTrue};
-ghost use Rattle.flow_meetings.specs.Settings.{AreFed, AreCalm, NoneCanStep, AreLookedAt};
+ghost use Rattle.flow_meetings.specs.SharedNetworks.{AreFed, AreCalm, NoneCanStep, AreLookedAt};
 
 use flow_base::Transducer;
 use flow_messages::Ends;

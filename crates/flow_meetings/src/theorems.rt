@@ -7,7 +7,7 @@ ghost use Rattle.flow_boxes.specs.declared.boxes.Boxes.{Boxes as TheBoxes};
 ghost use Rattle.flow_boxes.specs.Contents.{contents, view_of};
 ghost use Rattle.flow_meetings.specs.Met.{Met};
 ghost use Rattle.flow_meetings.specs.RoundTheorems.{FreshSharesStart, MeetingIsSound, RoundIsARun, CalmRoundsRest, CalmRoundLeadsToRest, CarryingKeepsTheConfiguration};
-ghost use Rattle.flow_meetings.specs.JoinedTheorems.{OwnSharesAreSound, StuckSharesRest};
+ghost use Rattle.flow_meetings.specs.EndTheorems.{OwnSharesAreSound, StuckSharesRest};
 
 use crate::meeting::Meeting;
 use flow_base::Transducer;
@@ -28,10 +28,10 @@ pub fn met_is_in_order()
 /// what is not held is room.
 pub fn boxes_are_level()
     ensures arrived { (a b : TheBoxes) (e : ℕ) → ⟦<Boxes as Meeting>⟧.joins a b e →
-        Met (view_of a) (view_of b) (⟦<Boxes as Meeting>⟧.places a e) e →
+        Met (view_of a) (view_of b) (⟦<Boxes as Meeting>⟧.slots a e) e →
         (view_of b).received e ++ (view_of b).coming e ≡ (view_of a).sent e }
     ensures room { (a b : TheBoxes) (e : ℕ) → ⟦<Boxes as Meeting>⟧.joins a b e →
-        Met (view_of a) (view_of b) (⟦<Boxes as Meeting>⟧.places a e) e →
+        Met (view_of a) (view_of b) (⟦<Boxes as Meeting>⟧.slots a e) e →
         (view_of a).room e + length ((view_of b).coming e) ≡ (contents a).capacity }
 {}
 

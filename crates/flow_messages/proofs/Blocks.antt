@@ -9,7 +9,7 @@ use Rattle.flow_messages.specs.declared.message.Msg.{Msg}
 use Rattle.flow_messages.specs.declared.ends.Refused.{Refused}
 use Rattle.flow_messages.specs.declared.ends.Why.TheVariants.{Closed}
 use Rattle.flow_messages.specs.Signals.{Signal, signal_of, carry, stop, is_stop, ended}
-use Rattle.flow_messages.specs.Blocks.{units_said}
+use Rattle.flow_messages.specs.Blocks.{unit_signals}
 use Rattle.flow_messages.specs.Ends.{View, held, SameEnds, LookedForRoom, Put, Taken, TakenAll, PutAll}
 
 prefix_then : {X : Type 0} (xs ys zs : List X) → IsPrefix xs ys → IsPrefix ys zs → IsPrefix xs zs
@@ -136,7 +136,7 @@ unfolding ended
 items_go_on f item [] = refl
 items_go_on f item (x ∷ xs) = ap (λ b. b || ended (map f xs)) (item x) ∙ items_go_on f item xs
 
-pub units_go_on : (n : ℕ) → ended (units_said n) ≡ false
+pub units_go_on : (n : ℕ) → ended (unit_signals n) ≡ false
 unfolding ended
 units_go_on zero = refl
 units_go_on (suc n) = units_go_on n

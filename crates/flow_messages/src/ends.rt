@@ -26,7 +26,7 @@ pub trait Ends {
     ghost use mathlib.Core.List.{IsPrefix};
     ghost use Rattle.flow_messages.specs.Signals.{signal_of, ended};
     ghost use Rattle.flow_messages.specs.Ends.{View, held, LookedForRoom, LookedForMessages, Put, Taken, TakenAll, PutAll};
-    ghost use Rattle.flow_messages.specs.Blocks.{units_said, flags_said, ints_said};
+    ghost use Rattle.flow_messages.specs.Blocks.{unit_signals, flag_signals, int_signals};
     ghost use Rattle.flow_messages.specs.declared.ends.Why.TheVariants.{Full, Closed};
 
     /// What was put and taken on each edge, and what is certain.
@@ -105,7 +105,7 @@ pub trait Ends {
     /// How many units the next takes are certain to give, where these ends count them, or fewer.
     fn units(&self, edge: usize) -> usize
         requires { (view self.now).reads edge ≡ true }
-        ensures { IsPrefix (units_said result) ((view self.now).coming edge) }
+        ensures { IsPrefix (unit_signals result) ((view self.now).coming edge) }
     {
         let _ = edge;
         0
@@ -114,7 +114,7 @@ pub trait Ends {
     /// The truth values that the next takes are certain to give, where these ends show them, or the first of them.
     fn flags(&self, edge: usize) -> &[bool]
         requires { (view self.now).reads edge ≡ true }
-        ensures { IsPrefix (flags_said result.now) ((view self.now).coming edge) }
+        ensures { IsPrefix (flag_signals result.now) ((view self.now).coming edge) }
     {
         let _ = edge;
         &[]
@@ -123,7 +123,7 @@ pub trait Ends {
     /// The integers of 64 bits that the next takes are certain to give, where these ends show them, or the first of them.
     fn ints(&self, edge: usize) -> &[i64]
         requires { (view self.now).reads edge ≡ true }
-        ensures { IsPrefix (ints_said result.now) ((view self.now).coming edge) }
+        ensures { IsPrefix (int_signals result.now) ((view self.now).coming edge) }
     {
         let _ = edge;
         &[]
@@ -147,7 +147,7 @@ pub trait Ends {
         requires writes { (view self.old).writes edge ≡ true }
         requires certain { count ≤ (view self.old).room edge }
         ensures same { same self.old self.new }
-        ensures put { PutAll (view self.old) edge (units_said count) (view self.new) }
+        ensures put { PutAll (view self.old) edge (unit_signals count) (view self.new) }
     {
         for _ in 0..count {
             let _ = self.put(edge, Msg::Item(Item::Unit));
@@ -159,7 +159,7 @@ pub trait Ends {
         requires writes { (view self.old).writes edge ≡ true }
         requires certain { length flags.now ≤ (view self.old).room edge }
         ensures same { same self.old self.new }
-        ensures put { PutAll (view self.old) edge (flags_said flags.now) (view self.new) }
+        ensures put { PutAll (view self.old) edge (flag_signals flags.now) (view self.new) }
     {
         for flag in flags {
             let _ = self.put(edge, Msg::Item(Item::Bool(*flag)));
@@ -171,7 +171,7 @@ pub trait Ends {
         requires writes { (view self.old).writes edge ≡ true }
         requires certain { length ints.now ≤ (view self.old).room edge }
         ensures same { same self.old self.new }
-        ensures put { PutAll (view self.old) edge (ints_said ints.now) (view self.new) }
+        ensures put { PutAll (view self.old) edge (int_signals ints.now) (view self.new) }
     {
         for int in ints {
             let _ = self.put(edge, Msg::Item(Item::Int(*int as i128)));

@@ -6,11 +6,11 @@ use Rattle.snesl_data.specs.Types.{seq}
 use Rattle.snesl_data.specs.Values.{Value}
 use Rattle.snesl_operators.specs.Operators.{same_truth}
 use Rattle.flow_messages.specs.Cells.{Cell}
-use Rattle.flow_base.specs.Flags.{flags, joined, lengths}
+use Rattle.flow_base.specs.Flags.{flags, concatenation, lengths}
 use Rattle.flow_base.specs.Columns.{Columns}
 use Rattle.flow_rows.specs.Lists.{each, same_lists, cut}
 use Rattle.flow_rows.specs.Decoded.{numbers, truths, items, values}
-use Rattle.flow_rows.specs.Made.{one, laid, of_one}
+use Rattle.flow_rows.specs.Made.{one, columns_of_values, of_one}
 use Rattle.flow_rows.proofs.Options.{bind_gives, map_gives, only_if_gives, some_same}
 use Rattle.flow_rows.proofs.Edges.{laid_length}
 use Rattle.flow_plans.specs.Plans.{Operation, source, const, unary, binary, iota, units_of, scan_add, reduce, length_of, dist, pack, pack_groups, flag_of_bool, same_flags, concat_flags, part_flags, the_check, append_flags, interleave, interleave_groups, print, tab, seq_of, index, fork, sink, made_by}
@@ -48,7 +48,7 @@ written_length part_flags (g ∷ c ∷ f ∷ []) written e =
     let s2 = bind_gives (cut s1.0 c) _ s1.2 in
     let s3 = bind_gives (each numbers s2.0) _ s2.2 in
     let s4 = bind_gives (numbers f) _ s3.2 in
-    ap length (only_if_gives (same_lists ◌==◌ (map sum s3.0) s4.0) (flags (lengths s3.0) ∷ flags (joined s3.0) ∷ []) s4.2).1
+    ap length (only_if_gives (same_lists ◌==◌ (map sum s3.0) s4.0) (flags (lengths s3.0) ∷ flags (concatenation s3.0) ∷ []) s4.2).1
 written_length the_check (f ∷ []) written e =
     let s = bind_gives (numbers f) _ e in
     ap length (only_if_gives (same_lists ◌==◌ s.0 (replicate (length s.0) 1)) [] s.2).1
@@ -57,8 +57,8 @@ written_length (interleave kind) (f ∷ g ∷ a ∷ c ∷ []) written e = one_co
 written_length interleave_groups (f ∷ g ∷ p ∷ q ∷ []) written e = one_column _ _ written e
 written_length (print ty) all written e = let s = bind_gives (values ty all) of_one e in nothing_of_one s.0 written s.2
 written_length (tab ty) (f ∷ others) written e = one_column _ _ written e
-written_length (seq_of ty) (v ∷ []) written e = let g = map_gives (laid (seq ty)) _ e in ap length g.2 ∙ laid_length (seq ty) g.0
-written_length (index ty) (v ∷ i ∷ []) written e = let g = map_gives (laid ty) _ e in ap length g.2 ∙ laid_length ty g.0
+written_length (seq_of ty) (v ∷ []) written e = let g = map_gives (columns_of_values (seq ty)) _ e in ap length g.2 ∙ laid_length (seq ty) g.0
+written_length (index ty) (v ∷ i ∷ []) written e = let g = map_gives (columns_of_values ty) _ e in ap length g.2 ∙ laid_length ty g.0
 written_length (fork kind outputs) (a ∷ []) written e = let g = map_gives _ (items kind a) e in ap length g.2 ∙ length-replicate outputs g.0 ∙ sym (length-replicate outputs kind)
 written_length (sink kind) (a ∷ []) written e = let g = map_gives _ (items kind a) e in ap length g.2
 written_length _ _ written e = absurd (cc)

@@ -13,7 +13,7 @@ use Rattle.flow_rings.specs.declared.ring.EdgeReader.{EdgeReader}
 use Rattle.flow_rings.specs.declared.ring.Held.{Held}
 use Rattle.flow_rings.specs.declared.rings.Rings.{Rings}
 use Rattle.flow_rings.specs.Edge.{sent, received, certain_room, certain_held, edge_capacity, IsEdge, SameWriter, SameReader}
-use Rattle.flow_rings.specs.Rings.{sent_of, room_of, writes_of, received_of, coming_of, reads_of, capacity_of, ends_of, writer_at, reader_at, capacity_at, SameWriters, SameReaders, SameRings, Joins, Kept, Met}
+use Rattle.flow_rings.specs.Rings.{sent_of, room_of, writes_of, received_of, coming_of, reads_of, capacity_of, ends_of, writer_at, reader_at, capacity_at, SameWriters, SameReaders, SameRings, Joins, Kept, RingsHaveMet}
 use Rattle.flow_rings.proofs.RingLines.{signals-append}
 
 prefix-refl : (xs ys : List Signal) → ys ≡ xs → IsPrefix xs ys
@@ -65,7 +65,7 @@ joins-reader (Some w) (r ∷ rs) (suc e) h = omega (arith, joins-reader (Some w)
 pub met_here : (ws : List (Option EdgeWriter)) (rs : List (Option EdgeReader)) (a b : Rings) (e : ℕ) (w : EdgeWriter) (r : EdgeReader) (found : Held) → e < length ws → e < length rs
     → a.writers.items ≡ set ws e (Some w) → b.readers.items ≡ set rs e (Some r)
     → received r ++ certain_held r ≡ sent w → found.count ≡ length (certain_held r) → found.room ≤ certain_room w → found.count + found.room ≡ edge_capacity w
-    → Met a b e found
+    → RingsHaveMet a b e found
 met_here ws rs a b e w r found hw hr is-a is-b fifo count room whole =
     let coming : at_line coming_of b.readers.items e [] ≡ signals (certain_held r) = ap (λ (l : List (Option EdgeReader)). at_line coming_of l e []) is-b ∙ at_line-same coming_of rs e [] (Some r) hr in
     let taken : at_line received_of b.readers.items e [] ≡ signals (received r) = ap (λ (l : List (Option EdgeReader)). at_line received_of l e []) is-b ∙ at_line-same received_of rs e [] (Some r) hr in
@@ -97,10 +97,10 @@ writers_orderly (Some w ∷ ws) zero = w.orderly
 writers_orderly (w ∷ ws) (suc e) = writers_orderly ws e
 
 -- after a meeting what was taken begins what was put, and is all of it where a stop was taken
-pub met-begins : (a b : Rings) (e : ℕ) (found : Held) → Met a b e found → IsPrefix ((ends_of b).received e) ((ends_of a).sent e)
+pub met-begins : (a b : Rings) (e : ℕ) (found : Held) → RingsHaveMet a b e found → IsPrefix ((ends_of b).received e) ((ends_of a).sent e)
 met-begins a b e found m = ((ends_of b).coming e, m.in_order)
 
-pub met-stopped : (a b : Rings) (e : ℕ) (found : Held) → Met a b e found → ended ((ends_of b).received e) ≡ true → ((ends_of b).received e ≡ (ends_of a).sent e) × ((ends_of b).coming e ≡ [])
+pub met-stopped : (a b : Rings) (e : ℕ) (found : Held) → RingsHaveMet a b e found → ended ((ends_of b).received e) ≡ true → ((ends_of b).received e ≡ (ends_of a).sent e) × ((ends_of b).coming e ≡ [])
 met-stopped a b e found m stopped =
     let none : (ends_of b).coming e ≡ [] = nothing-left ((ends_of b).received e) ((ends_of b).coming e) (ap (λ (l : List Signal). orderly l) m.in_order ∙ writers_orderly a.writers.items e) stopped in
     (sym (append-nil ((ends_of b).received e)) ∙ ap (λ (l : List Signal). (ends_of b).received e ++ l) (sym none) ∙ m.in_order, none)

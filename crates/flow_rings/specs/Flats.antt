@@ -45,5 +45,5 @@ MayFollow k before x =
     (ended (signals (messages_of before)) ≡ false) × (fits k (signal_of (message_of x)) ≡ true)
 
 -- what was appended to a block
-abbrev pub appended : ArrayVec Flat → ArrayVec Flat → List Flat
-appended before after = drop (array_vec_len before) after.items
+abbrev pub flats_appended : ArrayVec Flat → ArrayVec Flat → List Flat
+flats_appended before after = drop (array_vec_len before) after.items

@@ -107,7 +107,7 @@ pub record Kept (a b : View) : Type 0 where
   pub room : (k : ℕ) → a.room k ≤ b.room k
 
 -- the writer of edge e among w and its reader among r have met, and found this
-pub record Met (w r : Rings) (e : ℕ) (found : Held) : Type 0 where
+pub record RingsHaveMet (w r : Rings) (e : ℕ) (found : Held) : Type 0 where
   pub in_order : (ends_of r).received e ++ (ends_of r).coming e ≡ (ends_of w).sent e
   pub count : found.count ≡ length ((ends_of r).coming e)
   pub room : found.room ≤ (ends_of w).room e

@@ -4,7 +4,7 @@ ghost use Rattle.std.specs.List.{All};
 ghost use Rattle.arrayvec.specs.ArrayVec.{array_vec_len};
 ghost use mathlib.Core.List.{IsPrefix};
 ghost use Rattle.flow_messages.specs.Signals.{signals, signal_of, ended, orderly};
-ghost use Rattle.flow_rings.specs.Flats.{message_of, messages_of, appended, FitsEdge};
+ghost use Rattle.flow_rings.specs.Flats.{message_of, messages_of, flats_appended, FitsEdge};
 ghost use Rattle.flow_rings.specs.Edge.{received, certain_held, reader_kind, SameReader, all_sent, IsMarkOf};
 
 use crate::flat::Block;
@@ -48,16 +48,16 @@ impl EdgeReader {
     pub fn take_block(&mut self, block: &mut Block, most: usize) -> usize
         requires scalar { IsSome (reader_kind self.old) }
         ensures same { SameReader self.old self.new }
-        ensures before { block.new.items ≡ block.old.items ++ appended block.old block.new }
+        ensures before { block.new.items ≡ block.old.items ++ flats_appended block.old block.new }
         ensures taken { received self.new ≡
-            received self.old ++ messages_of (appended block.old block.new) }
+            received self.old ++ messages_of (flats_appended block.old block.new) }
         ensures certain { IsPrefix (certain_held self.old)
-            (messages_of (appended block.old block.new) ++ certain_held self.new) }
+            (messages_of (flats_appended block.old block.new) ++ certain_held self.new) }
         ensures fit { All (λ x. FitsEdge (reader_kind self.old) (signal_of (message_of x)))
-            (appended block.old block.new) }
-        ensures last { orderly (signals (messages_of (appended block.old block.new))) ≡ true }
+            (flats_appended block.old block.new) }
+        ensures last { orderly (signals (messages_of (flats_appended block.old block.new))) ≡ true }
         ensures open { 0 < result → ended (signals (received self.old)) ≡ false }
-        ensures count { result ≡ length (appended block.old block.new) }
+        ensures count { result ≡ length (flats_appended block.old block.new) }
         ensures most { result ≤ most }
         ensures succeeds { 0 < length (certain_held self.old) → 0 < most →
             array_vec_len block.old < 64 → 0 < result }

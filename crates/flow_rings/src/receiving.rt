@@ -6,7 +6,7 @@ ghost use Rattle.arrayvec.specs.ArrayVec.{array_vec_len};
 ghost use Rattle.rtrb.specs.Ring as port;
 ghost use Rattle.rtrb.specs.Fifo.{Allowed};
 ghost use Rattle.flow_messages.specs.Signals.{signals, signal_of, ended, orderly};
-ghost use Rattle.flow_rings.specs.Flats.{message_of, messages_of, appended, FitsEdge};
+ghost use Rattle.flow_rings.specs.Flats.{message_of, messages_of, flats_appended, FitsEdge};
 ghost use Rattle.flow_rings.specs.Ring.{sent, received, known_free, known_items, all_sent, reader_kind, SameProducer, SameConsumer, IsPair, IsFinishedOf};
 ghost use Rattle.flow_rings.specs.declared.flat.Flat.{Flat as Scalar};
 
@@ -42,13 +42,14 @@ fn pop_into<P: Protocol<Flat>>(
     most: usize,
 ) -> usize
     ensures ring { port.SameConsumer ring.old ring.new }
-    ensures before { block.new.items ≡ block.old.items ++ appended block.old block.new }
+    ensures before { block.new.items ≡ block.old.items ++ flats_appended block.old block.new }
     ensures taken { port.received ring.new ≡
-        port.received ring.old ++ appended block.old block.new }
+        port.received ring.old ++ flats_appended block.old block.new }
     ensures known { IsPrefix (port.known_items ring.old)
-        (appended block.old block.new ++ port.known_items ring.new) }
-    ensures allowed { Allowed P.allows (port.received ring.old) (appended block.old block.new) }
-    ensures count { result ≡ length (appended block.old block.new) }
+        (flats_appended block.old block.new ++ port.known_items ring.new) }
+    ensures allowed { Allowed P.allows (port.received ring.old)
+        (flats_appended block.old block.new) }
+    ensures count { result ≡ length (flats_appended block.old block.new) }
     ensures most { result ≤ most }
     ensures succeeds { 0 < length (port.known_items ring.old) → 0 < most →
         array_vec_len block.old < 64 → 0 < result }
@@ -91,16 +92,16 @@ impl ReaderRing {
     pub(crate) fn pop_block(&mut self, block: &mut Block, most: usize) -> usize
         requires scalar { IsSome (reader_kind self.old) }
         ensures ring { SameConsumer self.old self.new }
-        ensures before { block.new.items ≡ block.old.items ++ appended block.old block.new }
+        ensures before { block.new.items ≡ block.old.items ++ flats_appended block.old block.new }
         ensures taken { received self.new ≡
-            received self.old ++ messages_of (appended block.old block.new) }
+            received self.old ++ messages_of (flats_appended block.old block.new) }
         ensures known { IsPrefix (known_items self.old)
-            (messages_of (appended block.old block.new) ++ known_items self.new) }
+            (messages_of (flats_appended block.old block.new) ++ known_items self.new) }
         ensures fit { All (λ x. FitsEdge (reader_kind self.old) (signal_of (message_of x)))
-            (appended block.old block.new) }
-        ensures last { orderly (signals (messages_of (appended block.old block.new))) ≡ true }
+            (flats_appended block.old block.new) }
+        ensures last { orderly (signals (messages_of (flats_appended block.old block.new))) ≡ true }
         ensures open { 0 < result → ended (signals (received self.old)) ≡ false }
-        ensures count { result ≡ length (appended block.old block.new) }
+        ensures count { result ≡ length (flats_appended block.old block.new) }
         ensures most { result ≤ most }
         ensures succeeds { 0 < length (known_items self.old) → 0 < most →
             array_vec_len block.old < 64 → 0 < result }

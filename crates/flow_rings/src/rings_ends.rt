@@ -1,7 +1,7 @@
 // What is called at the ring ends that a share of a network owns.
 ghost use Rattle.std.specs.Prelude.{◌≡◌, ◌<◌, ℕ, Some, None, length, slice_set, IfOk};
 ghost use Rattle.flow_rings.specs.Edge.{kind_of};
-ghost use Rattle.flow_rings.specs.Rings.{ends_of, writer_at, reader_at, SameRings, Joins, Kept, Met};
+ghost use Rattle.flow_rings.specs.Rings.{ends_of, writer_at, reader_at, SameRings, Joins, Kept, RingsHaveMet};
 
 use crate::making::meet;
 use crate::ring::{EdgeReader, EdgeWriter, Held};
@@ -146,7 +146,7 @@ impl Rings {
         ensures reader { SameRings other.old other.new }
         ensures writer_kept { Kept (ends_of self.old) (ends_of self.new) }
         ensures reader_kept { Kept (ends_of other.old) (ends_of other.new) }
-        ensures met { Met self.new other.new edge result }
+        ensures met { RingsHaveMet self.new other.new edge result }
         ensures joined { Joins (writer_at self.new edge) (reader_at other.new edge) }
     {
         match (&mut self.writers[edge], &mut other.readers[edge]) {
@@ -160,7 +160,7 @@ impl Rings {
         requires { Joins (writer_at self.old edge) (reader_at self.old edge) }
         ensures same { SameRings self.old self.new }
         ensures kept { Kept (ends_of self.old) (ends_of self.new) }
-        ensures met { Met self.new self.new edge result }
+        ensures met { RingsHaveMet self.new self.new edge result }
         ensures joined { Joins (writer_at self.new edge) (reader_at self.new edge) }
     {
         match (&mut self.writers[edge], &mut self.readers[edge]) {

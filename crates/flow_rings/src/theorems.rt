@@ -9,7 +9,7 @@ ghost use Rattle.flow_rings.specs.declared.ring.FinishedMark.{FinishedMark};
 ghost use Rattle.flow_rings.specs.Edge.{sent, received, certain_held, edge_capacity, kind_of, reader_kind, IsEdge, SameWriter, SameReader, all_sent, Finishes, IsMarkOf};
 ghost use Rattle.flow_rings.specs.declared.ring.Held.{Held};
 ghost use Rattle.flow_rings.specs.declared.rings.Rings.{Rings};
-ghost use Rattle.flow_rings.specs.Rings.{ends_of, writer_at, reader_at, capacity_at, SameRings, Joins, Met};
+ghost use Rattle.flow_rings.specs.Rings.{ends_of, writer_at, reader_at, capacity_at, SameRings, Joins, RingsHaveMet};
 
 /// The ends of an edge stay its ends, whatever either was called for since, in whichever thread, and
 /// are of one kind. A mark that the writer has left is then one of the reader's edge.
@@ -42,9 +42,9 @@ pub fn rings_stay_joined()
         ((ends_of a).writes e ≡ true) × ((ends_of b).reads e ≡ true) }
     ensures ends { (a b : Rings) → SameRings a b → SameEnds (ends_of a) (ends_of b) }
     ensures capacity { (a b : Rings) (e : ℕ) → SameRings a b → capacity_at b e ≡ capacity_at a e }
-    ensures begins { (a b : Rings) (e : ℕ) (found : Held) → Met a b e found →
+    ensures begins { (a b : Rings) (e : ℕ) (found : Held) → RingsHaveMet a b e found →
         IsPrefix ((ends_of b).received e) ((ends_of a).sent e) }
-    ensures stopped { (a b : Rings) (e : ℕ) (found : Held) → Met a b e found →
+    ensures stopped { (a b : Rings) (e : ℕ) (found : Held) → RingsHaveMet a b e found →
         ended ((ends_of b).received e) ≡ true → ((ends_of b).received e ≡ (ends_of a).sent e) ×
         ((ends_of b).coming e ≡ []) }
 {}

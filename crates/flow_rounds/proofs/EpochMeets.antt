@@ -8,19 +8,19 @@ use Rattle.flow_base.specs.declared.transducer.Transducer.{Ghosts}
 use Rattle.flow_graph.specs.Edges.{edge_at}
 use Rattle.flow_rings.specs.declared.rings.Rings.{Rings}
 use Rattle.flow_rings.specs.Rings.{Kept, ends_of, SameRings}
-use Rattle.flow_meetings.specs.declared.wires.Wire.{Wire}
+use Rattle.flow_meetings.specs.declared.owners.EdgeOwners.{EdgeOwners}
 use Rattle.flow_meetings.specs.Met.{Met}
-use Rattle.flow_meetings.specs.RingMeetings.{RingsJoin, ring_places}
+use Rattle.flow_meetings.specs.RingMeetings.{RingsJoin, ring_slots}
 use Rattle.flow_shares.specs.Deals.{share_of, AreDealt}
 use Rattle.flow_shares.specs.declared.share.Share.{Share}
-use Rattle.flow_shares.specs.Lending.{body_of}
+use Rattle.flow_shares.specs.Lending.{share_nodes}
 use Rattle.flow_meetings.proofs.Parts.{any_of}
 use Rattle.flow_meetings.proofs.Seats.{reader_inside, writer_inside}
-use Rattle.flow_meetings.specs.Open.{AreWires}
+use Rattle.flow_meetings.specs.Open.{AreOwners}
 use Rattle.flow_meetings.specs.Deals.{ends_in}
-use Rattle.flow_meetings.specs.Settings.{Setting, view_at}
+use Rattle.flow_meetings.specs.SharedNetworks.{SharedNetwork, view_at}
 use Rattle.flow_meetings.proofs.Lists.{all_zipped}
-use Rattle.flow_rounds.specs.Epochs.{writer_rings, AreOfOneGraph, HaveMetAll, AreMet}
+use Rattle.flow_rounds.specs.Epochs.{writer_rings, AreOfOneGraph, SharesHaveMet, HaveMetSince}
 use Rattle.flow_rounds.proofs.ShareLists.{count_dealt, count_ends, view_of_ends, same_count, same_nodes}
 
 -- what the ends are to those that they were, they are whatever those were part of
@@ -34,68 +34,68 @@ zip_parts {A} R own parts ends now is same holds = all_zipped _ parts now (same 
     each : (k : ℕ) (p : A) (b : Rings) → k < length parts → R (own (get_or parts k p)) (get_or now k b)
     each k p b l = subst (λ (a : Rings). R a (get_or now k b)) (ap (λ xs. get_or xs k b) is ∙ get_or-map own parts k p b l) (holds k b (omega (arith, l, long)))
 
-module _ {X : Type 0} {t : Ghosts X} {u : EndsGhosts Rings} (setting : Setting t) (shares : List (Share X Rings t u)) (graph : AreOfOneGraph setting shares) where
+module _ {X : Type 0} {t : Ghosts X} {u : EndsGhosts Rings} (network : SharedNetwork t) (shares : List (Share X Rings t u)) (graph : AreOfOneGraph network shares) where
   -- the shares of the writer and the reader of edge e
   abbrev pub writer : ℕ → ℕ
-  writer e = share_of setting.share (edge_at setting.edges e).writer
+  writer e = share_of network.share (edge_at network.edges e).writer
 
   abbrev pub reader : ℕ → ℕ
-  reader e = share_of setting.share (edge_at setting.edges e).reader
+  reader e = share_of network.share (edge_at network.edges e).reader
 
-  pub writer_is_share : (e : ℕ) → e < length setting.edges → writer e < length shares
-  writer_is_share e l = omega (arith, (graph.deals.inside (edge_at setting.edges e).writer (writer_inside setting.edges setting.nodes setting.fit e l)).0, count_dealt shares)
+  pub writer_is_share : (e : ℕ) → e < length network.edges → writer e < length shares
+  writer_is_share e l = omega (arith, (graph.deals.inside (edge_at network.edges e).writer (writer_inside network.edges network.nodes network.fit e l)).0, count_dealt shares)
 
-  pub reader_is_share : (e : ℕ) → e < length setting.edges → reader e < length shares
-  reader_is_share e l = omega (arith, (graph.deals.inside (edge_at setting.edges e).reader (reader_inside setting.edges setting.nodes setting.fit e l)).0, count_dealt shares)
+  pub reader_is_share : (e : ℕ) → e < length network.edges → reader e < length shares
+  reader_is_share e l = omega (arith, (graph.deals.inside (edge_at network.edges e).reader (reader_inside network.edges network.nodes network.fit e l)).0, count_dealt shares)
 
-  module _ (wires : List Wire) (are : AreWires setting.share setting.edges wires) (ends : List Rings) (taken : ends ≡ ends_in shares) where
-    inside : (e : ℕ) → e < length wires → e < length setting.edges
+  module _ (owners : List EdgeOwners) (are : AreOwners network.share network.edges owners) (ends : List Rings) (taken : ends ≡ ends_in shares) where
+    inside : (e : ℕ) → e < length owners → e < length network.edges
     inside e l = omega (arith, l, are.count)
 
     count : length ends ≡ length shares
     count = ap length taken ∙ count_ends shares
 
-    pub writers_inside : (e : ℕ) (w : Wire) → e < length wires → (get_or wires e w).writer < length ends
+    pub writers_inside : (e : ℕ) (w : EdgeOwners) → e < length owners → (get_or owners e w).writer < length ends
     writers_inside e w l = omega (arith, are.writers e w (inside e l), writer_is_share e (inside e l), count)
 
-    pub readers_inside : (e : ℕ) (w : Wire) → e < length wires → (get_or wires e w).reader < length ends
+    pub readers_inside : (e : ℕ) (w : EdgeOwners) → e < length owners → (get_or owners e w).reader < length ends
     readers_inside e w l = omega (arith, are.readers e w (inside e l), reader_is_share e (inside e l), count)
 
-    pub all_join : (e : ℕ) (w : Wire) (d : Rings) → e < length wires → RingsJoin (get_or ends (get_or wires e w).writer d) (get_or ends (get_or wires e w).reader d) e
+    pub all_join : (e : ℕ) (w : EdgeOwners) (d : Rings) → e < length owners → RingsJoin (get_or ends (get_or owners e w).writer d) (get_or ends (get_or owners e w).reader d) e
     all_join e w d l =
-        subst (λ es. RingsJoin (get_or es (get_or wires e w).writer d) (get_or es (get_or wires e w).reader d) e) (sym taken)
-        (subst (λ i. RingsJoin (get_or (ends_in shares) i d) (get_or (ends_in shares) (get_or wires e w).reader d) e) (sym (are.writers e w (inside e l)))
-        (subst (λ j. RingsJoin (writer_rings setting shares e d) (get_or (ends_in shares) j d) e) (sym (are.readers e w (inside e l))) (graph.joined e d (inside e l))))
+        subst (λ es. RingsJoin (get_or es (get_or owners e w).writer d) (get_or es (get_or owners e w).reader d) e) (sym taken)
+        (subst (λ i. RingsJoin (get_or (ends_in shares) i d) (get_or (ends_in shares) (get_or owners e w).reader d) e) (sym (are.writers e w (inside e l)))
+        (subst (λ j. RingsJoin (writer_rings network shares e d) (get_or (ends_in shares) j d) e) (sym (are.readers e w (inside e l))) (graph.joined e d (inside e l))))
 
     -- these are the ends after all have met
     module _ (now : List Rings) (same : length now ≡ length ends)
         (kept : (k : ℕ) (d : Rings) → k < length ends → Kept (ends_of (get_or ends k d)) (ends_of (get_or now k d)))
         (stay : (k : ℕ) (d : Rings) → k < length ends → SameRings (get_or ends k d) (get_or now k d))
-        (places : (k e : ℕ) (d : Rings) → k < length ends → ring_places (get_or now k d) e ≡ ring_places (get_or ends k d) e)
-        (joined : (e : ℕ) (w : Wire) (d : Rings) → e < length wires → RingsJoin (get_or now (get_or wires e w).writer d) (get_or now (get_or wires e w).reader d) e)
-        (met : (e : ℕ) (w : Wire) (d : Rings) → e < length wires → Met (ends_of (get_or now (get_or wires e w).writer d)) (ends_of (get_or now (get_or wires e w).reader d)) (ring_places (get_or now (get_or wires e w).writer d) e) e)
-        (sees : u.view ≡ ends_of) (after : List (Share X Rings t u)) (bodies : map body_of after ≡ map body_of shares) (put : ends_in after ≡ now) where
-      none : Wire
+        (places : (k e : ℕ) (d : Rings) → k < length ends → ring_slots (get_or now k d) e ≡ ring_slots (get_or ends k d) e)
+        (joined : (e : ℕ) (w : EdgeOwners) (d : Rings) → e < length owners → RingsJoin (get_or now (get_or owners e w).writer d) (get_or now (get_or owners e w).reader d) e)
+        (met : (e : ℕ) (w : EdgeOwners) (d : Rings) → e < length owners → Met (ends_of (get_or now (get_or owners e w).writer d)) (ends_of (get_or now (get_or owners e w).reader d)) (ring_slots (get_or now (get_or owners e w).writer d) e) e)
+        (sees : u.view ≡ ends_of) (after : List (Share X Rings t u)) (bodies : map share_nodes after ≡ map share_nodes shares) (put : ends_in after ≡ now) where
+      none : EdgeOwners
       none = record { writer = 0; reader = 0 }
 
-      wire : (e : ℕ) → e < length setting.edges → e < length wires
-      wire e l = omega (arith, l, are.count)
+      owner : (e : ℕ) → e < length network.edges → e < length owners
+      owner e l = omega (arith, l, are.count)
 
       -- some ends of share s
       some : (s : ℕ) → s < length shares → Rings
       some s l = any_of ends s (omega (arith, l, count))
 
-      capacity_at : (e : ℕ) (d : Rings) → e < length setting.edges → ring_places (get_or now (writer e) d) e ≡ setting.capacity
+      capacity_at : (e : ℕ) (d : Rings) → e < length network.edges → ring_slots (get_or now (writer e) d) e ≡ network.capacity
       capacity_at e d l =
           places (writer e) e d (omega (arith, writer_is_share e l, count))
-          ∙ ap (λ es. ring_places (get_or es (writer e) d) e) taken
+          ∙ ap (λ es. ring_slots (get_or es (writer e) d) e) taken
           ∙ graph.capacity e d l
 
-      -- what holds of the ends that the wire names holds of those of the edge
-      of_wire : (Q : Rings → Rings → Type 0) (e : ℕ) (d : Rings) → e < length setting.edges → Q (get_or now (get_or wires e none).writer d) (get_or now (get_or wires e none).reader d) → Q (get_or now (writer e) d) (get_or now (reader e) d)
-      of_wire Q e d l q =
+      -- what holds of the ends that the owner names holds of those of the edge
+      of_owner : (Q : Rings → Rings → Type 0) (e : ℕ) (d : Rings) → e < length network.edges → Q (get_or now (get_or owners e none).writer d) (get_or now (get_or owners e none).reader d) → Q (get_or now (writer e) d) (get_or now (reader e) d)
+      of_owner Q e d l q =
           subst (λ i. Q (get_or now i d) (get_or now (reader e) d)) (are.writers e none l)
-          (subst (λ j. Q (get_or now (get_or wires e none).writer d) (get_or now j d)) (are.readers e none l) q)
+          (subst (λ j. Q (get_or now (get_or owners e none).writer d) (get_or now j d)) (are.readers e none l) q)
 
       -- what share s sees now, and what it saw
       now_sees : (s : ℕ) (d : Rings) → s < length shares → view_at after s ≡ ends_of (get_or now s d)
@@ -110,14 +110,14 @@ module _ {X : Type 0} {t : Ghosts X} {u : EndsGhosts Rings} (setting : Setting t
           ∙ ap (λ (v : Rings → View). v (get_or (ends_in shares) s d)) sees
           ∙ ap (λ es. ends_of (get_or es s d)) (sym taken)
 
-      met_all : HaveMetAll setting after
+      met_all : SharesHaveMet network after
       met_all e l =
           let hw = writer_is_share e l in
           let d = some (writer e) hw in
-          subst (λ a. Met a (view_at after (reader e)) setting.capacity e) (sym (now_sees (writer e) d hw))
-          (subst (λ b. Met (ends_of (get_or now (writer e) d)) b setting.capacity e) (sym (now_sees (reader e) d (reader_is_share e l)))
+          subst (λ a. Met a (view_at after (reader e)) network.capacity e) (sym (now_sees (writer e) d hw))
+          (subst (λ b. Met (ends_of (get_or now (writer e) d)) b network.capacity e) (sym (now_sees (reader e) d (reader_is_share e l)))
           (subst (λ most. Met (ends_of (get_or now (writer e) d)) (ends_of (get_or now (reader e) d)) most e) (capacity_at e d l)
-          (of_wire (λ a b. Met (ends_of a) (ends_of b) (ring_places a e) e) e d l (met e none d (wire e l)))))
+          (of_owner (λ a b. Met (ends_of a) (ends_of b) (ring_slots a e) e) e d l (met e none d (owner e l)))))
 
       kept_at : (s : ℕ) → s < length shares → Kept (view_at shares s) (view_at after s)
       kept_at s l =
@@ -125,11 +125,11 @@ module _ {X : Type 0} {t : Ghosts X} {u : EndsGhosts Rings} (setting : Setting t
           subst (λ a. Kept a (view_at after s)) (sym (saw s d l))
           (subst (λ b. Kept (ends_of (get_or ends s d)) b) (sym (now_sees s d l)) (kept s d (omega (arith, l, count))))
 
-      met_graph : AreOfOneGraph setting after
+      met_graph : AreOfOneGraph network after
       met_graph = record {
-        deals = subst (AreDealt setting.share setting.nodes) (sym (same_nodes shares after bodies)) graph.deals;
-        joined = λ e d l. subst (λ es. RingsJoin (get_or es (writer e) d) (get_or es (reader e) d) e) (sym put) (of_wire (λ a b. RingsJoin a b e) e d l (joined e none d (wire e l)));
-        capacity = λ e d l. ap (λ es. ring_places (get_or es (writer e) d) e) put ∙ capacity_at e d l;
+        deals = subst (AreDealt network.share network.nodes) (sym (same_nodes shares after bodies)) graph.deals;
+        joined = λ e d l. subst (λ es. RingsJoin (get_or es (writer e) d) (get_or es (reader e) d) e) (sym put) (of_owner (λ a b. RingsJoin a b e) e d l (joined e none d (owner e l)));
+        capacity = λ e d l. ap (λ es. ring_slots (get_or es (writer e) d) e) put ∙ capacity_at e d l;
         only_writers = λ s e l there. (
             let h : s < length shares = omega (arith, l, same_count shares after bodies) in
             graph.only_writers s e h (sym ((kept_at s h).ends.writes e) ∙ there)
@@ -140,7 +140,7 @@ module _ {X : Type 0} {t : Ghosts X} {u : EndsGhosts Rings} (setting : Setting t
             );
       }
 
-      pub are_met : AreMet setting shares after
+      pub are_met : HaveMetSince network shares after
       are_met = record {
         bodies = bodies;
         ends = λ s d l.

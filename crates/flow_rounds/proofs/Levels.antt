@@ -10,14 +10,14 @@ use Rattle.flow_rings.specs.Rings.{Kept}
 use Rattle.flow_boxes.specs.declared.boxes.Boxes.{Boxes}
 use Rattle.flow_boxes.specs.Contents.{Contents, contents, view_of}
 use Rattle.flow_boxes.specs.Rounds.{IsLinked, IsCarried}
-use Rattle.flow_meetings.specs.declared.wires.Wire.{Wire}
+use Rattle.flow_meetings.specs.declared.owners.EdgeOwners.{EdgeOwners}
 use Rattle.flow_meetings.specs.Met.{Met}
 use Rattle.flow_meetings.specs.BoxMeetings.{BoxesJoin}
 use Rattle.flow_shares.specs.Deals.{share_of}
-use Rattle.flow_meetings.specs.Joints.{no_contents, boxes_at, writer_boxes, reader_boxes, HaveMet}
+use Rattle.flow_meetings.specs.Joints.{no_contents, boxes_at, writer_boxes, reader_boxes, BoxesHaveMet}
 use Rattle.flow_meetings.specs.RoundTheorems.{NothingMoved}
 use Rattle.flow_meetings.proofs.Parts.{any_of, no_length}
-use Rattle.flow_meetings.specs.Open.{AreWires}
+use Rattle.flow_meetings.specs.Open.{AreOwners}
 use Rattle.flow_rounds.specs.Standing.{seen, AreLinked}
 
 -- boxes that are linked and have met are carried
@@ -37,7 +37,7 @@ are_carried w r e linked met =
 pub seen_at : (boxes : List Boxes) (s : ℕ) (d : Boxes) → s < length boxes → boxes_at (seen boxes) s ≡ contents (get_or boxes s d)
 seen_at boxes s d l = get_or-map contents boxes s d no_contents l
 
-module _ (share : List ℕ) (edges : List Edge) (wires : List Wire) (are : AreWires share edges wires) (boxes : List Boxes) (capacity : ℕ) (linked : AreLinked share edges (seen boxes) capacity) where
+module _ (share : List ℕ) (edges : List Edge) (owners : List EdgeOwners) (are : AreOwners share edges owners) (boxes : List Boxes) (capacity : ℕ) (linked : AreLinked share edges (seen boxes) capacity) where
   long : length (seen boxes) ≡ length boxes
   long = length-map boxes contents
 
@@ -47,56 +47,56 @@ module _ (share : List ℕ) (edges : List Edge) (wires : List Wire) (are : AreWi
   abbrev reader : ℕ → ℕ
   reader e = share_of share (edge_at edges e).reader
 
-  inside : (e : ℕ) → e < length wires → e < length edges
+  inside : (e : ℕ) → e < length owners → e < length edges
   inside e l = omega (arith, l, are.count)
 
-  pub writers_inside : (e : ℕ) (w : Wire) → e < length wires → (get_or wires e w).writer < length boxes
+  pub writers_inside : (e : ℕ) (w : EdgeOwners) → e < length owners → (get_or owners e w).writer < length boxes
   writers_inside e w l = omega (arith, are.writers e w (inside e l), linked.writers e (inside e l), long)
 
-  pub readers_inside : (e : ℕ) (w : Wire) → e < length wires → (get_or wires e w).reader < length boxes
+  pub readers_inside : (e : ℕ) (w : EdgeOwners) → e < length owners → (get_or owners e w).reader < length boxes
   readers_inside e w l = omega (arith, are.readers e w (inside e l), linked.readers e (inside e l), long)
 
-  -- the boxes that the wire names are those of the edge
-  module _ (now : List Boxes) (same : length now ≡ length boxes) (e : ℕ) (w : Wire) (d : Boxes) (l : e < length wires) where
-    pub writer_is : writer_boxes share edges (seen now) e ≡ contents (get_or now (get_or wires e w).writer d)
+  -- the boxes that the owner names are those of the edge
+  module _ (now : List Boxes) (same : length now ≡ length boxes) (e : ℕ) (w : EdgeOwners) (d : Boxes) (l : e < length owners) where
+    pub writer_is : writer_boxes share edges (seen now) e ≡ contents (get_or now (get_or owners e w).writer d)
     writer_is = seen_at now (writer e) d (omega (arith, linked.writers e (inside e l), long, same)) ∙ ap (λ s. contents (get_or now s d)) (sym (are.writers e w (inside e l)))
 
-    pub reader_is : reader_boxes share edges (seen now) e ≡ contents (get_or now (get_or wires e w).reader d)
+    pub reader_is : reader_boxes share edges (seen now) e ≡ contents (get_or now (get_or owners e w).reader d)
     reader_is = seen_at now (reader e) d (omega (arith, linked.readers e (inside e l), long, same)) ∙ ap (λ s. contents (get_or now s d)) (sym (are.readers e w (inside e l)))
 
-  pub all_join : (e : ℕ) (w : Wire) (d : Boxes) → e < length wires → BoxesJoin (get_or boxes (get_or wires e w).writer d) (get_or boxes (get_or wires e w).reader d) e
+  pub all_join : (e : ℕ) (w : EdgeOwners) (d : Boxes) → e < length owners → BoxesJoin (get_or boxes (get_or owners e w).writer d) (get_or boxes (get_or owners e w).reader d) e
   all_join e w d l =
-      subst (λ a. IsLinked a (contents (get_or boxes (get_or wires e w).reader d)) e) (writer_is boxes refl e w d l)
+      subst (λ a. IsLinked a (contents (get_or boxes (get_or owners e w).reader d)) e) (writer_is boxes refl e w d l)
       (subst (λ b. IsLinked (writer_boxes share edges (seen boxes) e) b e) (reader_is boxes refl e w d l) (linked.linked e (inside e l)))
 
   module _ (now : List Boxes) (same : length now ≡ length boxes)
       (kept : (k : ℕ) (d : Boxes) → k < length boxes → Kept (view_of (get_or boxes k d)) (view_of (get_or now k d)))
       (places : (k e : ℕ) (d : Boxes) → k < length boxes → (contents (get_or now k d)).capacity ≡ (contents (get_or boxes k d)).capacity)
-      (joined : (e : ℕ) (w : Wire) (d : Boxes) → e < length wires → BoxesJoin (get_or now (get_or wires e w).writer d) (get_or now (get_or wires e w).reader d) e)
-      (met : (e : ℕ) (w : Wire) (d : Boxes) → e < length wires → Met (view_of (get_or now (get_or wires e w).writer d)) (view_of (get_or now (get_or wires e w).reader d)) (contents (get_or now (get_or wires e w).writer d)).capacity e) where
-    none : Wire
+      (joined : (e : ℕ) (w : EdgeOwners) (d : Boxes) → e < length owners → BoxesJoin (get_or now (get_or owners e w).writer d) (get_or now (get_or owners e w).reader d) e)
+      (met : (e : ℕ) (w : EdgeOwners) (d : Boxes) → e < length owners → Met (view_of (get_or now (get_or owners e w).writer d)) (view_of (get_or now (get_or owners e w).reader d)) (contents (get_or now (get_or owners e w).writer d)).capacity e) where
+    none : EdgeOwners
     none = record { writer = 0; reader = 0 }
 
-    wire : (e : ℕ) → e < length edges → e < length wires
-    wire e l = omega (arith, l, are.count)
+    owner : (e : ℕ) → e < length edges → e < length owners
+    owner e l = omega (arith, l, are.count)
 
     -- some boxes
     some : (e : ℕ) → e < length edges → Boxes
     some e l = any_of boxes (writer e) (omega (arith, linked.writers e l, long))
 
-    pub have_met : HaveMet share edges (seen now) capacity
+    pub have_met : BoxesHaveMet share edges (seen now) capacity
     have_met = record {
       linked = linked_at;
       carried = λ e l.
           let d = some e l in
-          let h = wire e l in
+          let h = owner e l in
           subst (λ a. IsCarried a (reader_boxes share edges (seen now) e) e) (sym (writer_is now same e none d h))
-          (subst (λ b. IsCarried (contents (get_or now (get_or wires e none).writer d)) b e) (sym (reader_is now same e none d h)) (are_carried _ _ e (joined e none d h) (met e none d h)));
+          (subst (λ b. IsCarried (contents (get_or now (get_or owners e none).writer d)) b e) (sym (reader_is now same e none d h)) (are_carried _ _ e (joined e none d h) (met e none d h)));
       capacity = λ e l.
           let d = some e l in
-          let h = wire e l in
+          let h = owner e l in
           ap (λ (b : Contents). b.capacity) (writer_is now same e none d h)
-          ∙ places (get_or wires e none).writer e d (writers_inside e none h)
+          ∙ places (get_or owners e none).writer e d (writers_inside e none h)
           ∙ ap (λ (b : Contents). b.capacity) (sym (writer_is boxes refl e none d h))
           ∙ linked.capacity e l;
     }
@@ -104,9 +104,9 @@ module _ (share : List ℕ) (edges : List Edge) (wires : List Wire) (are : AreWi
         linked_at : (e : ℕ) → e < length edges → IsLinked (writer_boxes share edges (seen now) e) (reader_boxes share edges (seen now) e) e
         linked_at e l =
             let d = some e l in
-            let h = wire e l in
+            let h = owner e l in
             subst (λ a. IsLinked a (reader_boxes share edges (seen now) e) e) (sym (writer_is now same e none d h))
-            (subst (λ b. IsLinked (contents (get_or now (get_or wires e none).writer d)) b e) (sym (reader_is now same e none d h)) (joined e none d h))
+            (subst (λ b. IsLinked (contents (get_or now (get_or owners e none).writer d)) b e) (sym (reader_is now same e none d h)) (joined e none d h))
 
     pub nothing_moved : NothingMoved (length (seen boxes)) (seen boxes) (seen now)
     nothing_moved s l =

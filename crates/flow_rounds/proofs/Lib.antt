@@ -17,4 +17,4 @@ pub mod Whole
 pub mod Few
 pub mod EpochBegins
 pub mod EpochGathers
-pub mod FirstWires
+pub mod FirstOwners

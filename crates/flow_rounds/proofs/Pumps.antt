@@ -7,29 +7,29 @@ use Rattle.flow_base.specs.Transducers.{BehaviourLaws}
 use Rattle.flow_base.specs.declared.transducer.Transducer.{Ghosts}
 use Rattle.flow_graph.specs.declared.placed.Placed.{Placed}
 use Rattle.flow_graph.specs.Places.{placed_state}
-use Rattle.flow_graph.specs.Layouts.{AreSamePlaces}
+use Rattle.flow_graph.specs.Skeletons.{AreSamePlaces}
 use Rattle.flow_rings.specs.declared.rings.Rings.{Rings}
 use Rattle.flow_rings.specs.Rings.{SameRings}
 use Rattle.flow_rings.proofs.Meetings.{joins-kept}
-use Rattle.flow_meetings.specs.RingMeetings.{rings_keep_places}
+use Rattle.flow_meetings.specs.RingMeetings.{rings_keep_slots}
 use Rattle.flow_shares.specs.declared.share.Share.{Share}
 use Rattle.flow_shares.specs.Shares.{inputs_of, outputs_of, Grows, HaveMoved}
 use Rattle.flow_shares.specs.Pumps.{IsPumped}
 use Rattle.flow_shares.proofs.Between.{moved_grows, lost_grows, find_node, begins_length, no_more}
 use Rattle.flow_shares.proofs.Busy.{quiet}
 use Rattle.flow_shares.specs.Deals.{AreDealt}
-use Rattle.flow_meetings.specs.Joints.{nodes_at, joined_view}
+use Rattle.flow_meetings.specs.Joints.{nodes_at, end_view}
 use Rattle.flow_meetings.proofs.Parts.{any_of}
 use Rattle.flow_meetings.proofs.Seats.{port_reads, port_writes, dealt_later}
 use Rattle.flow_meetings.proofs.Views.{sent_at, received_at}
 use Rattle.flow_meetings.specs.Deals.{nodes_in, ends_in}
-use Rattle.flow_meetings.specs.Settings.{Setting, view_at, AreFed, AreCalm, NoneCanStep}
+use Rattle.flow_meetings.specs.SharedNetworks.{SharedNetwork, view_at, AreFed, AreCalm, NoneCanStep}
 use Rattle.flow_rounds.specs.Epochs.{moved_in, AreOfOneGraph}
 use Rattle.flow_rounds.proofs.ShareLists.{parts_same, count_dealt, nodes_are, view_is, ends_are}
 use Rattle.flow_rounds.proofs.EpochMeets.{writer, reader, writer_is_share, reader_is_share}
 
-module _ {X : Type 0} {t : Ghosts X} {u : EndsGhosts Rings} (same_is : (a b : Rings) → u.same a b → SameRings a b) (setting : Setting t) (shares back : List (Share X Rings t u)) (count : length back ≡ length shares)
-    (each : (s : ℕ) (d : Share X Rings t u) → s < length shares → IsPumped (get_or shares s d) (get_or back s d)) (graph : AreOfOneGraph setting shares) where
+module _ {X : Type 0} {t : Ghosts X} {u : EndsGhosts Rings} (same_is : (a b : Rings) → u.same a b → SameRings a b) (network : SharedNetwork t) (shares back : List (Share X Rings t u)) (count : length back ≡ length shares)
+    (each : (s : ℕ) (d : Share X Rings t u) → s < length shares → IsPumped (get_or shares s d) (get_or back s d)) (graph : AreOfOneGraph network shares) where
   there : (s : ℕ) → s < length (nodes_in shares) → s < length shares
   there s l = omega (arith, l, count_dealt shares)
 
@@ -52,8 +52,8 @@ module _ {X : Type 0} {t : Ghosts X} {u : EndsGhosts Rings} (same_is : (a b : Ri
   count_both : length (nodes_in back) ≡ length (nodes_in shares)
   count_both = count_dealt back ∙ count ∙ sym (count_dealt shares)
 
-  pub pumped_deals : AreDealt setting.share setting.nodes (nodes_in back)
-  pumped_deals = dealt_later setting.share setting.nodes (nodes_in shares) (nodes_in back) graph.deals count_both pumped_places
+  pub pumped_deals : AreDealt network.share network.nodes (nodes_in back)
+  pumped_deals = dealt_later network.share network.nodes (nodes_in shares) (nodes_in back) graph.deals count_both pumped_places
 
   abbrev some : (s : ℕ) → s < length shares → Share X Rings t u
   some s l = any_of shares s l
@@ -67,13 +67,13 @@ module _ {X : Type 0} {t : Ghosts X} {u : EndsGhosts Rings} (same_is : (a b : Ri
   pumped_same : (s : ℕ) → s < length shares → SameEnds (view_at shares s) (view_at back s)
   pumped_same s l = of_views SameEnds s l (each s (some s l) l).ends
 
-  pub pumped_graph : AreOfOneGraph setting back
+  pub pumped_graph : AreOfOneGraph network back
   pumped_graph = record {
     deals = pumped_deals;
     joined = λ e b l.
-        joins-kept (get_or (ends_in shares) (writer setting shares graph e) b) (get_or (ends_in back) (writer setting shares graph e) b) (get_or (ends_in shares) (reader setting shares graph e) b) (get_or (ends_in back) (reader setting shares graph e) b) e
-        (graph.joined e b l) (pumped_ends _ b (writer_is_share setting shares graph e l)) (pumped_ends _ b (reader_is_share setting shares graph e l));
-    capacity = λ e b l. rings_keep_places _ _ (pumped_ends _ b (writer_is_share setting shares graph e l)) e ∙ graph.capacity e b l;
+        joins-kept (get_or (ends_in shares) (writer network shares graph e) b) (get_or (ends_in back) (writer network shares graph e) b) (get_or (ends_in shares) (reader network shares graph e) b) (get_or (ends_in back) (reader network shares graph e) b) e
+        (graph.joined e b l) (pumped_ends _ b (writer_is_share network shares graph e l)) (pumped_ends _ b (reader_is_share network shares graph e l));
+    capacity = λ e b l. rings_keep_slots _ _ (pumped_ends _ b (writer_is_share network shares graph e l)) e ∙ graph.capacity e b l;
     only_writers = λ s e l there. (
         let h : s < length shares = omega (arith, l, count) in
         graph.only_writers s e h (sym ((pumped_same s h).writes e) ∙ there)
@@ -108,40 +108,40 @@ module _ {X : Type 0} {t : Ghosts X} {u : EndsGhosts Rings} (same_is : (a b : Ri
 
     -- how many messages were sent and received on edge e
     abbrev moved_on : List (Share X Rings t u) → ℕ → ℕ
-    moved_on list e = let view = joined_view setting.share setting.edges (view_at list) in length (view.sent e) + length (view.received e)
+    moved_on list e = let view = end_view network.share network.edges (view_at list) in length (view.sent e) + length (view.received e)
 
-    sent_grows : (e : ℕ) → e < length setting.edges → length ((joined_view setting.share setting.edges (view_at shares)).sent e) ≤ length ((joined_view setting.share setting.edges (view_at back)).sent e)
+    sent_grows : (e : ℕ) → e < length network.edges → length ((end_view network.share network.edges (view_at shares)).sent e) ≤ length ((end_view network.share network.edges (view_at back)).sent e)
     sent_grows e l =
         omega (
           arith,
-          ap length (sent_at setting.share setting.edges (view_at shares) e l),
-          ap length (sent_at setting.share setting.edges (view_at back) e l),
-          begins_length _ _ ((grows (writer setting shares graph e) (writer_is_share setting shares graph e l)).sent e),
+          ap length (sent_at network.share network.edges (view_at shares) e l),
+          ap length (sent_at network.share network.edges (view_at back) e l),
+          begins_length _ _ ((grows (writer network shares graph e) (writer_is_share network shares graph e l)).sent e),
         )
 
-    received_grows : (e : ℕ) → e < length setting.edges → length ((joined_view setting.share setting.edges (view_at shares)).received e) ≤ length ((joined_view setting.share setting.edges (view_at back)).received e)
+    received_grows : (e : ℕ) → e < length network.edges → length ((end_view network.share network.edges (view_at shares)).received e) ≤ length ((end_view network.share network.edges (view_at back)).received e)
     received_grows e l =
         omega (
           arith,
-          ap length (received_at setting.share setting.edges (view_at shares) e l),
-          ap length (received_at setting.share setting.edges (view_at back) e l),
-          begins_length _ _ ((grows (reader setting shares graph e) (reader_is_share setting shares graph e l)).received e),
+          ap length (received_at network.share network.edges (view_at shares) e l),
+          ap length (received_at network.share network.edges (view_at back) e l),
+          begins_length _ _ ((grows (reader network shares graph e) (reader_is_share network shares graph e l)).received e),
         )
 
     -- Where no more messages were sent and received in all, none were in any share.
-    module _ (no_more_moved : moved_in setting back ≤ moved_in setting shares) where
-      no_more_on : (e : ℕ) → e < length setting.edges → moved_on back e ≤ moved_on shares e
-      no_more_on = parts_same (moved_on shares) (moved_on back) (length setting.edges) (λ e l. omega (arith, sent_grows e l, received_grows e l)) no_more_moved
+    module _ (no_more_moved : moved_in network back ≤ moved_in network shares) where
+      no_more_on : (e : ℕ) → e < length network.edges → moved_on back e ≤ moved_on shares e
+      no_more_on = parts_same (moved_on shares) (moved_on back) (length network.edges) (λ e l. omega (arith, sent_grows e l, received_grows e l)) no_more_moved
 
-      same_sent : (e : ℕ) → e < length setting.edges → (view_at back (writer setting shares graph e)).sent e ≡ (view_at shares (writer setting shares graph e)).sent e
+      same_sent : (e : ℕ) → e < length network.edges → (view_at back (writer network shares graph e)).sent e ≡ (view_at shares (writer network shares graph e)).sent e
       same_sent e l =
-          no_more _ _ ((grows (writer setting shares graph e) (writer_is_share setting shares graph e l)).sent e)
-          (omega (arith, ap length (sent_at setting.share setting.edges (view_at shares) e l), ap length (sent_at setting.share setting.edges (view_at back) e l), no_more_on e l, received_grows e l))
+          no_more _ _ ((grows (writer network shares graph e) (writer_is_share network shares graph e l)).sent e)
+          (omega (arith, ap length (sent_at network.share network.edges (view_at shares) e l), ap length (sent_at network.share network.edges (view_at back) e l), no_more_on e l, received_grows e l))
 
-      same_received : (e : ℕ) → e < length setting.edges → (view_at back (reader setting shares graph e)).received e ≡ (view_at shares (reader setting shares graph e)).received e
+      same_received : (e : ℕ) → e < length network.edges → (view_at back (reader network shares graph e)).received e ≡ (view_at shares (reader network shares graph e)).received e
       same_received e l =
-          no_more _ _ ((grows (reader setting shares graph e) (reader_is_share setting shares graph e l)).received e)
-          (omega (arith, ap length (received_at setting.share setting.edges (view_at shares) e l), ap length (received_at setting.share setting.edges (view_at back) e l), no_more_on e l, sent_grows e l))
+          no_more _ _ ((grows (reader network shares graph e) (reader_is_share network shares graph e l)).received e)
+          (omega (arith, ap length (received_at network.share network.edges (view_at shares) e l), ap length (received_at network.share network.edges (view_at back) e l), no_more_on e l, sent_grows e l))
 
       module _ (s : ℕ) (h : s < length (nodes_in shares)) where
         abbrev nodes : List (Placed X t)
@@ -161,11 +161,11 @@ module _ {X : Type 0} {t : Ghosts X} {u : EndsGhosts Rings} (same_is : (a b : Ri
           | inr (k, p, d, l, port, is) ↦ at_port (edge_of_is k p d l port is)
         ]
           where
-            edge_of_is : (k p : ℕ) (d : Placed X t) (l : k < length nodes) → p < length (inputs_of (get_or nodes k d)) → e ≡ get_or (inputs_of (get_or nodes k d)) p 0 → (e < length setting.edges) × (reader setting shares graph e ≡ s)
+            edge_of_is : (k p : ℕ) (d : Placed X t) (l : k < length nodes) → p < length (inputs_of (get_or nodes k d)) → e ≡ get_or (inputs_of (get_or nodes k d)) p 0 → (e < length network.edges) × (reader network shares graph e ≡ s)
             edge_of_is k p d l port is =
-                subst (λ f. (f < length setting.edges) × (reader setting shares graph f ≡ s)) (sym is) (port_reads setting.edges setting.nodes setting.fit setting.share (nodes_in shares) graph.deals s k d h l p port)
+                subst (λ f. (f < length network.edges) × (reader network shares graph f ≡ s)) (sym is) (port_reads network.edges network.nodes network.fit network.share (nodes_in shares) graph.deals s k d h l p port)
 
-            at_port : (e < length setting.edges) × (reader setting shares graph e ≡ s) → (view_at back s).received e ≡ (view_at shares s).received e
+            at_port : (e < length network.edges) × (reader network shares graph e ≡ s) → (view_at back s).received e ≡ (view_at shares s).received e
             at_port (inside, is) = subst (λ r. (view_at back r).received e ≡ (view_at shares r).received e) is (same_received e inside)
 
         sent_same : (e : ℕ) → (view_at back s).sent e ≡ (view_at shares s).sent e
@@ -174,11 +174,11 @@ module _ {X : Type 0} {t : Ghosts X} {u : EndsGhosts Rings} (same_is : (a b : Ri
           | inr (k, q, d, l, port, is) ↦ at_port (edge_of_is k q d l port is)
         ]
           where
-            edge_of_is : (k q : ℕ) (d : Placed X t) (l : k < length nodes) → q < length (outputs_of (get_or nodes k d)) → e ≡ get_or (outputs_of (get_or nodes k d)) q 0 → (e < length setting.edges) × (writer setting shares graph e ≡ s)
+            edge_of_is : (k q : ℕ) (d : Placed X t) (l : k < length nodes) → q < length (outputs_of (get_or nodes k d)) → e ≡ get_or (outputs_of (get_or nodes k d)) q 0 → (e < length network.edges) × (writer network shares graph e ≡ s)
             edge_of_is k q d l port is =
-                subst (λ f. (f < length setting.edges) × (writer setting shares graph f ≡ s)) (sym is) (port_writes setting.edges setting.nodes setting.fit setting.share (nodes_in shares) graph.deals s k d h l q port)
+                subst (λ f. (f < length network.edges) × (writer network shares graph f ≡ s)) (sym is) (port_writes network.edges network.nodes network.fit network.share (nodes_in shares) graph.deals s k d h l q port)
 
-            at_port : (e < length setting.edges) × (writer setting shares graph e ≡ s) → (view_at back s).sent e ≡ (view_at shares s).sent e
+            at_port : (e < length network.edges) × (writer network shares graph e ≡ s) → (view_at back s).sent e ≡ (view_at shares s).sent e
             at_port (inside, is) = subst (λ r. (view_at back r).sent e ≡ (view_at shares r).sent e) is (same_sent e inside)
 
       pub none_moved : (s : ℕ) → s < length shares → SameTraffic (view_at shares s) (view_at back s)

@@ -9,33 +9,33 @@ use Rattle.flow_graph.specs.declared.graph.Graph.{Graph}
 use Rattle.flow_graph.specs.declared.placed.Placed.{Placed}
 use Rattle.flow_graph.specs.Edges.{edge_at}
 use Rattle.flow_graph.specs.Graphs.{states_of, edges_of}
-use Rattle.flow_graph.specs.Layouts.{nodes_of, FitTogether}
+use Rattle.flow_graph.specs.Skeletons.{nodes_of, FitTogether}
 use Rattle.flow_graph.specs.Networks.{AreOpened}
 use Rattle.flow_graph.specs.Places.{placed_state, states_in}
 use Rattle.flow_boxes.specs.declared.boxes.Boxes.{Boxes}
 use Rattle.flow_boxes.specs.Contents.{Contents, contents, view_of}
 use Rattle.flow_boxes.specs.Rounds.{IsLinked}
-use Rattle.flow_meetings.specs.declared.wires.Wire.{Wire}
+use Rattle.flow_meetings.specs.declared.owners.EdgeOwners.{EdgeOwners}
 use Rattle.flow_meetings.specs.Met.{Met, kept_refl}
-use Rattle.flow_meetings.specs.BoxMeetings.{BoxesJoin, box_places}
+use Rattle.flow_meetings.specs.BoxMeetings.{BoxesJoin, box_slots}
 use Rattle.flow_shares.specs.Deals.{share_of, AreDealt}
 use Rattle.flow_shares.proofs.Stays.{as_given}
 use Rattle.flow_shares.specs.declared.share.Share.{Share}
 use Rattle.flow_meetings.specs.declared.dealt.Dealt.{Dealt}
 use Rattle.flow_meetings.specs.Deals.{nodes_in, ends_in, IsDealt}
-use Rattle.flow_meetings.specs.Joints.{views_of, writer_boxes, reader_boxes, HaveMet, AreStates}
+use Rattle.flow_meetings.specs.Joints.{views_of, writer_boxes, reader_boxes, BoxesHaveMet, AreStates}
 use Rattle.flow_meetings.proofs.Parts.{any_of}
 use Rattle.flow_meetings.proofs.Seats.{reader_inside, writer_inside}
 use Rattle.flow_meetings.proofs.Meetings.{fresh_shares_start}
 use Rattle.flow_meetings.proofs.Views.{sent_at, received_at}
-use Rattle.flow_meetings.specs.Settings.{setting_of, AreFed}
+use Rattle.flow_meetings.specs.SharedNetworks.{shared_network, AreFed}
 use Rattle.flow_meetings.proofs.Lists.{total_none}
 use Rattle.flow_rounds.specs.Standing.{seen, AreLinked, boxes_of, moved_in, StandBetweenRounds}
 use Rattle.flow_rounds.proofs.Levels.{seen_at, have_met}
 use Rattle.flow_rounds.proofs.RoundMeets.{seen_is}
 
 module _ {X : Type 0} {t : Ghosts X} {u : EndsGhosts Boxes} (sees : u.view ≡ view_of) (graph : Graph X t) (threads : ℕ) (share : List ℕ) (capacity : ℕ) (dealt : Dealt X Boxes t u)
-    (is : IsDealt BoxesJoin box_places graph threads share capacity dealt) where
+    (is : IsDealt BoxesJoin box_slots graph threads share capacity dealt) where
   abbrev nodes : List (Placed X t)
   nodes = nodes_of graph
 
@@ -48,8 +48,8 @@ module _ {X : Type 0} {t : Ghosts X} {u : EndsGhosts Boxes} (sees : u.view ≡ v
   abbrev boxes : List Boxes
   boxes = ends_in shares
 
-  abbrev wires : List Wire
-  wires = dealt.wires.items
+  abbrev owners : List EdgeOwners
+  owners = dealt.owners.items
 
   abbrev writer : ℕ → ℕ
   writer e = share_of share (edge_at edges e).writer
@@ -57,7 +57,7 @@ module _ {X : Type 0} {t : Ghosts X} {u : EndsGhosts Boxes} (sees : u.view ≡ v
   abbrev reader : ℕ → ℕ
   reader e = share_of share (edge_at edges e).reader
 
-  none : Wire
+  none : EdgeOwners
   none = record { writer = 0; reader = 0 }
 
   fit : FitTogether nodes edges
@@ -72,18 +72,18 @@ module _ {X : Type 0} {t : Ghosts X} {u : EndsGhosts Boxes} (sees : u.view ≡ v
   reads : (e : ℕ) → e < length edges → reader e < length boxes
   reads e l = omega (arith, (is.nodes.inside (edge_at edges e).reader (reader_inside edges nodes fit e l)).0, as_many)
 
-  wire : (e : ℕ) → e < length edges → e < length wires
-  wire e l = omega (arith, l, is.wires.count)
+  owner : (e : ℕ) → e < length edges → e < length owners
+  owner e l = omega (arith, l, is.owners.count)
 
   -- some boxes
   some : (e : ℕ) → e < length edges → Boxes
   some e l = any_of boxes (writer e) (writes e l)
 
-  -- what the wire names, the edge names too
-  of_edge : (e : ℕ) (l : e < length edges) (Q : Boxes → Boxes → Type 0) → Q (get_or boxes (get_or wires e none).writer (some e l)) (get_or boxes (get_or wires e none).reader (some e l)) → Q (get_or boxes (writer e) (some e l)) (get_or boxes (reader e) (some e l))
+  -- what the owner names, the edge names too
+  of_edge : (e : ℕ) (l : e < length edges) (Q : Boxes → Boxes → Type 0) → Q (get_or boxes (get_or owners e none).writer (some e l)) (get_or boxes (get_or owners e none).reader (some e l)) → Q (get_or boxes (writer e) (some e l)) (get_or boxes (reader e) (some e l))
   of_edge e l Q q =
-      subst (λ s. Q (get_or boxes s (some e l)) (get_or boxes (reader e) (some e l))) (is.wires.writers e none l)
-      (subst (λ s. Q (get_or boxes (get_or wires e none).writer (some e l)) (get_or boxes s (some e l))) (is.wires.readers e none l) q)
+      subst (λ s. Q (get_or boxes s (some e l)) (get_or boxes (reader e) (some e l))) (is.owners.writers e none l)
+      (subst (λ s. Q (get_or boxes (get_or owners e none).writer (some e l)) (get_or boxes s (some e l))) (is.owners.readers e none l) q)
 
   -- and what holds of these boxes holds of those that are seen at the edge
   of_seen : (e : ℕ) (l : e < length edges) (Q : Contents → Contents → Type 0) → Q (contents (get_or boxes (writer e) (some e l))) (contents (get_or boxes (reader e) (some e l))) → Q (writer_boxes share edges (seen boxes) e) (reader_boxes share edges (seen boxes) e)
@@ -95,19 +95,19 @@ module _ {X : Type 0} {t : Ghosts X} {u : EndsGhosts Boxes} (sees : u.view ≡ v
   linked = record {
     writers = λ e l. omega (arith, writes e l, length-map boxes contents);
     readers = λ e l. omega (arith, reads e l, length-map boxes contents);
-    linked = λ e l. of_seen e l (λ a b. IsLinked a b e) (of_edge e l (λ a b. IsLinked (contents a) (contents b) e) (is.ends.joined e none (some e l) (wire e l)));
-    capacity = λ e l. of_seen e l (λ a b. a.capacity ≡ capacity) (of_edge e l (λ a b. (contents a).capacity ≡ capacity) (is.ends.places e none (some e l) (wire e l)));
+    linked = λ e l. of_seen e l (λ a b. IsLinked a b e) (of_edge e l (λ a b. IsLinked (contents a) (contents b) e) (is.ends.joined e none (some e l) (owner e l)));
+    capacity = λ e l. of_seen e l (λ a b. a.capacity ≡ capacity) (of_edge e l (λ a b. (contents a).capacity ≡ capacity) (is.ends.places e none (some e l) (owner e l)));
   }
 
-  met_at : (e : ℕ) (w : Wire) (d : Boxes) → e < length wires → Met (view_of (get_or boxes (get_or wires e w).writer d)) (view_of (get_or boxes (get_or wires e w).reader d)) (contents (get_or boxes (get_or wires e w).writer d)).capacity e
+  met_at : (e : ℕ) (w : EdgeOwners) (d : Boxes) → e < length owners → Met (view_of (get_or boxes (get_or owners e w).writer d)) (view_of (get_or boxes (get_or owners e w).reader d)) (contents (get_or boxes (get_or owners e w).writer d)).capacity e
   met_at e w d l =
-      subst (λ (v : Boxes → View). Met (v (get_or boxes (get_or wires e w).writer d)) (v (get_or boxes (get_or wires e w).reader d)) (contents (get_or boxes (get_or wires e w).writer d)).capacity e) sees
-      (subst (λ n. Met (u.view (get_or boxes (get_or wires e w).writer d)) (u.view (get_or boxes (get_or wires e w).reader d)) n e) (sym (is.ends.places e w d l)) (is.ends.met e w d l))
+      subst (λ (v : Boxes → View). Met (v (get_or boxes (get_or owners e w).writer d)) (v (get_or boxes (get_or owners e w).reader d)) (contents (get_or boxes (get_or owners e w).writer d)).capacity e) sees
+      (subst (λ n. Met (u.view (get_or boxes (get_or owners e w).writer d)) (u.view (get_or boxes (get_or owners e w).reader d)) n e) (sym (is.ends.places e w d l)) (is.ends.met e w d l))
 
-  boxes_have_met : HaveMet share edges (boxes_of shares) capacity
+  boxes_have_met : BoxesHaveMet share edges (boxes_of shares) capacity
   boxes_have_met =
-      subst (λ b. HaveMet share edges b capacity) (seen_is shares boxes refl)
-      (have_met share edges wires is.wires boxes capacity linked boxes refl (λ k d l. kept_refl _) (λ k e d l. refl) is.ends.joined met_at)
+      subst (λ b. BoxesHaveMet share edges b capacity) (seen_is shares boxes refl)
+      (have_met share edges owners is.owners boxes capacity linked boxes refl (λ k d l. kept_refl _) (λ k e d l. refl) is.ends.joined met_at)
 
   deals : AreDealt share nodes (nodes_in shares)
   deals = as_given share nodes (nodes_in shares) is.nodes
@@ -139,13 +139,13 @@ module _ {X : Type 0} {t : Ghosts X} {u : EndsGhosts Boxes} (sees : u.view ≡ v
       )
 
   -- in all edges together
-  pub dealt_none : moved_in (setting_of graph share capacity) (boxes_of shares) ≡ 0
+  pub dealt_none : moved_in (shared_network graph share capacity) (boxes_of shares) ≡ 0
   dealt_none = total_none _ (length edges) (λ e l. omega (arith, ap length (sent_at share edges (views_of (boxes_of shares)) e l ∙ (empty e l).0), ap length (received_at share edges (views_of (boxes_of shares)) e l ∙ (empty e l).1)))
 
   fed : AreFed shares
   fed s d l = (is.new.each s d l).starved
 
-  pub dealt_stand : AreOpened t.behaviour (states_of graph) → StandBetweenRounds (setting_of graph share capacity) shares
+  pub dealt_stand : AreOpened t.behaviour (states_of graph) → StandBetweenRounds (shared_network graph share capacity) shares
   dealt_stand opened = record {
     deals = deals;
     fed = fed;

@@ -10,28 +10,28 @@ use Rattle.flow_boxes.specs.Contents.{Contents}
 use Rattle.flow_shares.specs.Deals.{AreDealt}
 use Rattle.flow_shares.specs.declared.share.Share.{Share}
 use Rattle.flow_meetings.specs.Deals.{nodes_in, ends_in}
-use Rattle.flow_meetings.specs.Settings.{Setting}
-use Rattle.flow_meetings.specs.Joints.{HaveMet, AreStates}
-use Rattle.flow_meetings.specs.RoundTheorems.{net_of, joint}
+use Rattle.flow_meetings.specs.SharedNetworks.{SharedNetwork}
+use Rattle.flow_meetings.specs.Joints.{BoxesHaveMet, AreStates}
+use Rattle.flow_meetings.specs.RoundTheorems.{net_of, box_configuration}
 use Rattle.flow_meetings.proofs.States.{states_are_one}
 use Rattle.flow_rounds.specs.Standing.{seen, boxes_of, RestBetweenRounds}
 use Rattle.flow_rounds.proofs.RoundMeets.{seen_is}
 
 -- A run of the network led to where the nodes have these states and the boxes say this, no node can step there, and all
 -- edges have met.
-pub record HaveComeToRest {X : Type 0} {t : Ghosts X} (setting : Setting t) (states : List t.State) (boxes : List Contents) : Type 0 where
-  pub met : HaveMet setting.share setting.edges boxes setting.capacity
-  pub reaches : Reaches t.behaviour.process (net_of setting.nodes setting.edges) (Some setting.capacity) (start (net_of setting.nodes setting.edges)) (joint t setting.share setting.edges states boxes)
-  pub rest : AtRest t.behaviour.process (net_of setting.nodes setting.edges) (Some setting.capacity) (joint t setting.share setting.edges states boxes)
+pub record HaveComeToRest {X : Type 0} {t : Ghosts X} (network : SharedNetwork t) (states : List t.State) (boxes : List Contents) : Type 0 where
+  pub met : BoxesHaveMet network.share network.edges boxes network.capacity
+  pub reaches : Reaches t.behaviour.process (net_of network.nodes network.edges) (Some network.capacity) (start (net_of network.nodes network.edges)) (box_configuration t network.share network.edges states boxes)
+  pub rest : AtRest t.behaviour.process (net_of network.nodes network.edges) (Some network.capacity) (box_configuration t network.share network.edges states boxes)
 
-module _ {X : Type 0} {t : Ghosts X} {u : EndsGhosts Boxes} (setting : Setting t) (shares : List (Share X Boxes t u)) (rest : RestBetweenRounds setting shares)
-    (states : List t.State) (are : (deals : AreDealt setting.share setting.nodes (nodes_in shares)) → AreStates setting.share setting.nodes (nodes_in shares) deals states) where
+module _ {X : Type 0} {t : Ghosts X} {u : EndsGhosts Boxes} (network : SharedNetwork t) (shares : List (Share X Boxes t u)) (rest : RestBetweenRounds network shares)
+    (states : List t.State) (are : (deals : AreDealt network.share network.nodes (nodes_in shares)) → AreStates network.share network.nodes (nodes_in shares) deals states) where
   -- they have the states in which the run ended
   are_the_states : rest.stand.states ≡ states
-  are_the_states = states_are_one setting.share setting.edges setting.nodes setting.fit (nodes_in shares) rest.stand.deals rest.stand.deals rest.stand.states states rest.stand.are_states (are rest.stand.deals)
+  are_the_states = states_are_one network.share network.edges network.nodes network.fit (nodes_in shares) rest.stand.deals rest.stand.deals rest.stand.states states rest.stand.are_states (are rest.stand.deals)
 
-  pub come_to_rest : (boxes : List Boxes) → boxes ≡ ends_in shares → HaveComeToRest setting states (seen boxes)
+  pub come_to_rest : (boxes : List Boxes) → boxes ≡ ends_in shares → HaveComeToRest network states (seen boxes)
   come_to_rest boxes taken =
-      subst (λ b. HaveComeToRest setting states b) (sym (seen_is shares boxes taken))
-      (subst (λ s. HaveComeToRest setting s (boxes_of shares)) are_the_states
+      subst (λ b. HaveComeToRest network states b) (sym (seen_is shares boxes taken))
+      (subst (λ s. HaveComeToRest network s (boxes_of shares)) are_the_states
       (record { met = rest.stand.met; reaches = rest.stand.reaches; rest = rest.rest }))

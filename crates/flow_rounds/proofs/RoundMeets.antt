@@ -7,17 +7,17 @@ use Rattle.flow_base.specs.declared.transducer.Transducer.{Ghosts}
 use Rattle.flow_rings.specs.Rings.{Kept}
 use Rattle.flow_boxes.specs.declared.boxes.Boxes.{Boxes}
 use Rattle.flow_boxes.specs.Contents.{contents, view_of}
-use Rattle.flow_meetings.specs.declared.wires.Wire.{Wire}
+use Rattle.flow_meetings.specs.declared.owners.EdgeOwners.{EdgeOwners}
 use Rattle.flow_meetings.specs.Met.{Met}
 use Rattle.flow_meetings.specs.BoxMeetings.{BoxesJoin}
 use Rattle.flow_shares.specs.declared.share.Share.{Share}
-use Rattle.flow_meetings.specs.Joints.{HaveMet}
+use Rattle.flow_meetings.specs.Joints.{BoxesHaveMet}
 use Rattle.flow_meetings.specs.RoundTheorems.{NothingMoved}
-use Rattle.flow_meetings.specs.Open.{AreWires}
+use Rattle.flow_meetings.specs.Open.{AreOwners}
 use Rattle.flow_meetings.specs.Deals.{nodes_in}
-use Rattle.flow_meetings.specs.Settings.{Setting, numbers_of, AreFed}
+use Rattle.flow_meetings.specs.SharedNetworks.{SharedNetwork, numbers_of, AreFed}
 use Rattle.flow_meetings.proofs.Lists.{mapped_twice, all_zipped}
-use Rattle.flow_rounds.specs.Standing.{seen, AreLinked, boxes_of, AreMet}
+use Rattle.flow_rounds.specs.Standing.{seen, AreLinked, boxes_of, HaveMetSince}
 use Rattle.flow_rounds.proofs.Levels.{have_met, nothing_moved}
 
 -- what lost no certainty did not, whatever the boxes were part of
@@ -36,17 +36,17 @@ module _ {X : Type 0} {t : Ghosts X} {u : EndsGhosts Boxes} where
   pub seen_is : (shares : List (Share X Boxes t u)) (boxes : List Boxes) → boxes ≡ map (λ share. share.ends) shares → seen boxes ≡ boxes_of shares
   seen_is shares boxes is = ap seen is ∙ mapped_twice contents (λ (share : Share X Boxes t u). share.ends) shares
 
-  module _ (setting : Setting t) (wires : List Wire) (are : AreWires setting.share setting.edges wires) (shares : List (Share X Boxes t u)) (linked : AreLinked setting.share setting.edges (boxes_of shares) setting.capacity)
+  module _ (network : SharedNetwork t) (owners : List EdgeOwners) (are : AreOwners network.share network.edges owners) (shares : List (Share X Boxes t u)) (linked : AreLinked network.share network.edges (boxes_of shares) network.capacity)
       (boxes : List Boxes) (taken : boxes ≡ map (λ share. share.ends) shares) where
-    pub their_links : AreLinked setting.share setting.edges (seen boxes) setting.capacity
-    their_links = subst (λ b. AreLinked setting.share setting.edges b setting.capacity) (sym (seen_is shares boxes taken)) linked
+    pub their_links : AreLinked network.share network.edges (seen boxes) network.capacity
+    their_links = subst (λ b. AreLinked network.share network.edges b network.capacity) (sym (seen_is shares boxes taken)) linked
 
     pub are_met : (now : List Boxes) (same : length now ≡ length boxes)
         → ((k : ℕ) (d : Boxes) → k < length boxes → Kept (view_of (get_or boxes k d)) (view_of (get_or now k d)))
         → ((k e : ℕ) (d : Boxes) → k < length boxes → (contents (get_or now k d)).capacity ≡ (contents (get_or boxes k d)).capacity)
-        → ((e : ℕ) (w : Wire) (d : Boxes) → e < length wires → BoxesJoin (get_or now (get_or wires e w).writer d) (get_or now (get_or wires e w).reader d) e)
-        → ((e : ℕ) (w : Wire) (d : Boxes) → e < length wires → Met (view_of (get_or now (get_or wires e w).writer d)) (view_of (get_or now (get_or wires e w).reader d)) (contents (get_or now (get_or wires e w).writer d)).capacity e)
-        → (after : List (Share X Boxes t u)) → numbers_of after ≡ numbers_of shares → nodes_in after ≡ nodes_in shares → map (λ share. share.ends) after ≡ now → AreFed after → AreMet setting shares after
+        → ((e : ℕ) (w : EdgeOwners) (d : Boxes) → e < length owners → BoxesJoin (get_or now (get_or owners e w).writer d) (get_or now (get_or owners e w).reader d) e)
+        → ((e : ℕ) (w : EdgeOwners) (d : Boxes) → e < length owners → Met (view_of (get_or now (get_or owners e w).writer d)) (view_of (get_or now (get_or owners e w).reader d)) (contents (get_or now (get_or owners e w).writer d)).capacity e)
+        → (after : List (Share X Boxes t u)) → numbers_of after ≡ numbers_of shares → nodes_in after ≡ nodes_in shares → map (λ share. share.ends) after ≡ now → AreFed after → HaveMetSince network shares after
     are_met now same kept places joined met after numbers nodes ends fed =
         let is : seen now ≡ boxes_of after = seen_is after now (sym ends) in
         record {
@@ -54,6 +54,6 @@ module _ {X : Type 0} {t : Ghosts X} {u : EndsGhosts Boxes} where
           nodes = nodes;
           fed = fed;
           traffic = subst (λ b. NothingMoved (length b) b (boxes_of after)) (seen_is shares boxes taken)
-              (subst (λ b. NothingMoved (length (seen boxes)) (seen boxes) b) is (nothing_moved setting.share setting.edges wires are boxes setting.capacity their_links now same kept places joined met));
-          met = subst (λ b. HaveMet setting.share setting.edges b setting.capacity) is (have_met setting.share setting.edges wires are boxes setting.capacity their_links now same kept places joined met);
+              (subst (λ b. NothingMoved (length (seen boxes)) (seen boxes) b) is (nothing_moved network.share network.edges owners are boxes network.capacity their_links now same kept places joined met));
+          met = subst (λ b. BoxesHaveMet network.share network.edges b network.capacity) is (have_met network.share network.edges owners are boxes network.capacity their_links now same kept places joined met);
         }

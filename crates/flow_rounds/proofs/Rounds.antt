@@ -18,60 +18,60 @@ use Rattle.flow_boxes.specs.Contents.{contents}
 use Rattle.flow_shares.specs.declared.share.Share.{Share}
 use Rattle.flow_shares.specs.Deals.{AreDealt}
 use Rattle.flow_meetings.specs.Joints.{AreStates}
-use Rattle.flow_meetings.specs.RoundTheorems.{NothingMoved, HaveGoneOn, AllStuck, net_of, joint}
+use Rattle.flow_meetings.specs.RoundTheorems.{NothingMoved, HaveGoneOn, AllStuck, net_of, box_configuration}
 use Rattle.flow_meetings.proofs.Seats.{dealt_later}
 use Rattle.flow_meetings.proofs.States.{states_of_shares, are_states}
 use Rattle.flow_meetings.proofs.Rounds.{a_round_is_a_run}
 use Rattle.flow_meetings.proofs.Carried.{carrying_keeps_the_configuration}
 use Rattle.flow_meetings.proofs.Calm.{calm_rounds_rest}
 use Rattle.flow_meetings.specs.Deals.{nodes_in}
-use Rattle.flow_meetings.specs.Settings.{Setting}
-use Rattle.flow_rounds.specs.Standing.{boxes_of, moved_in, joint_of, AreMet, StandBetweenRounds, RestBetweenRounds}
+use Rattle.flow_meetings.specs.SharedNetworks.{SharedNetwork}
+use Rattle.flow_rounds.specs.Standing.{boxes_of, moved_in, shares_configuration, HaveMetSince, StandBetweenRounds, RestBetweenRounds}
 
-module _ {X : Type 0} {t : Ghosts X} (laws : BehaviourLaws t.behaviour) (setting : Setting t) where
+module _ {X : Type 0} {t : Ghosts X} (laws : BehaviourLaws t.behaviour) (network : SharedNetwork t) where
   abbrev P : Process t.State Signal
   P = t.behaviour.process
 
   abbrev net : Network t.State
-  net = net_of setting.nodes setting.edges
+  net = net_of network.nodes network.edges
 
   abbrev first : Configuration t.State Signal
   first = start net
 
   -- so many messages at most are sent and received in all
   pub most_moved : ℕ
-  most_moved = most_events P net setting.fit.built.wired laws.settles first (λ e inside. ([], refl)) + moved net first
+  most_moved = most_events P net network.fit.built.wired laws.settles first (λ e inside. ([], refl)) + moved net first
 
   module _ {u : EndsGhosts Boxes} where
-    module _ (shares back new : List (Share X Boxes t u)) (stand : StandBetweenRounds setting shares) (went : HaveGoneOn (nodes_in shares) (nodes_in back) (boxes_of shares) (boxes_of back)) (met : AreMet setting back new) where
+    module _ (shares back new : List (Share X Boxes t u)) (stand : StandBetweenRounds network shares) (went : HaveGoneOn (nodes_in shares) (nodes_in back) (boxes_of shares) (boxes_of back)) (met : HaveMetSince network back new) where
       gone : HaveGoneOn (nodes_in shares) (nodes_in new) (boxes_of shares) (boxes_of back)
       gone = subst (λ later. HaveGoneOn (nodes_in shares) later (boxes_of shares) (boxes_of back)) (sym met.nodes) went
 
-      abbrev deals : AreDealt setting.share setting.nodes (nodes_in new)
-      deals = dealt_later setting.share setting.nodes (nodes_in shares) (nodes_in new) stand.deals gone.count gone.places
+      abbrev deals : AreDealt network.share network.nodes (nodes_in new)
+      deals = dealt_later network.share network.nodes (nodes_in shares) (nodes_in new) stand.deals gone.count gone.places
 
       abbrev states : List t.State
-      states = states_of_shares setting.share setting.edges setting.nodes setting.fit (nodes_in new) deals
+      states = states_of_shares network.share network.edges network.nodes network.fit (nodes_in new) deals
 
-      are : AreStates setting.share setting.nodes (nodes_in new) deals states
-      are = are_states setting.share setting.edges setting.nodes setting.fit (nodes_in new) deals
+      are : AreStates network.share network.nodes (nodes_in new) deals states
+      are = are_states network.share network.edges network.nodes network.fit (nodes_in new) deals
 
       -- where the network stood before the round, after the pumps, and now
       abbrev c : Configuration t.State Signal
-      c = joint_of setting stand.states shares
+      c = shares_configuration network stand.states shares
 
       abbrev d : Configuration t.State Signal
-      d = joint t setting.share setting.edges states (boxes_of back)
+      d = box_configuration t network.share network.edges states (boxes_of back)
 
       abbrev e : Configuration t.State Signal
-      e = joint_of setting states new
+      e = shares_configuration network states new
 
       sound : IsSound P net c
-      sound = sound_run P net setting.fit.built.wired (Some setting.capacity) stand.reaches.0 first c (sound_start P net) stand.reaches.1
+      sound = sound_run P net network.fit.built.wired (Some network.capacity) stand.reaches.0 first c (sound_start P net) stand.reaches.1
 
-      run : Reaches P net (Some setting.capacity) c d × ((NothingMoved (length (nodes_in shares)) (boxes_of shares) (boxes_of back) → ⊥) → moved net c < moved net d)
+      run : Reaches P net (Some network.capacity) c d × ((NothingMoved (length (nodes_in shares)) (boxes_of shares) (boxes_of back) → ⊥) → moved net c < moved net d)
       run =
-          a_round_is_a_run t laws setting.capacity setting.share setting.edges setting.nodes setting.fit (nodes_in shares) (nodes_in new) stand.deals deals stand.states states stand.are_states are
+          a_round_is_a_run t laws network.capacity network.share network.edges network.nodes network.fit (nodes_in shares) (nodes_in new) stand.deals deals stand.states states stand.are_states are
           (boxes_of shares) (boxes_of back) stand.met sound gone
 
       even : length (boxes_of new) ≡ length (boxes_of back)
@@ -80,36 +80,36 @@ module _ {X : Type 0} {t : Ghosts X} (laws : BehaviourLaws t.behaviour) (setting
           ∙ ap length met.numbers ∙ length-map back (λ (share : Share X Boxes t u). share.number) ∙ sym (length-map back (λ (share : Share X Boxes t u). contents share.ends))
 
       carried : e ≡ d
-      carried = carrying_keeps_the_configuration t setting.share setting.edges states (boxes_of back) (boxes_of new) even met.traffic
+      carried = carrying_keeps_the_configuration t network.share network.edges states (boxes_of back) (boxes_of new) even met.traffic
 
-      pub stands : StandBetweenRounds setting new
+      pub stands : StandBetweenRounds network new
       stands = record {
         deals = deals;
         fed = met.fed;
         met = met.met;
         states = states;
         are_states = are;
-        reaches = reaches_then P net (Some setting.capacity) first c e stand.reaches (subst (λ x. Reaches P net (Some setting.capacity) c x) (sym carried) run.0);
+        reaches = reaches_then P net (Some network.capacity) first c e stand.reaches (subst (λ x. Reaches P net (Some network.capacity) c x) (sym carried) run.0);
       }
 
-      pub moves : (NothingMoved (length (nodes_in shares)) (boxes_of shares) (boxes_of back) → ⊥) → moved_in setting (boxes_of shares) < moved_in setting (boxes_of new)
+      pub moves : (NothingMoved (length (nodes_in shares)) (boxes_of shares) (boxes_of back) → ⊥) → moved_in network (boxes_of shares) < moved_in network (boxes_of new)
       moves some = subst (λ x. moved net c < moved net x) (sym carried) (run.1 some)
 
     -- where no node can step by its boxes, none can at all
-    pub rests : (shares : List (Share X Boxes t u)) → StandBetweenRounds setting shares → AllStuck (nodes_in shares) (boxes_of shares) → RestBetweenRounds setting shares
+    pub rests : (shares : List (Share X Boxes t u)) → StandBetweenRounds network shares → AllStuck (nodes_in shares) (boxes_of shares) → RestBetweenRounds network shares
     rests shares stand stuck = record {
       stand = stand;
-      rest = calm_rounds_rest t setting.capacity setting.share setting.edges setting.nodes setting.fit (nodes_in shares) stand.deals stand.states stand.are_states (boxes_of shares) stand.met stuck;
+      rest = calm_rounds_rest t network.capacity network.share network.edges network.nodes network.fit (nodes_in shares) stand.deals stand.states stand.are_states (boxes_of shares) stand.met stuck;
     }
 
-    pub within_most : (shares : List (Share X Boxes t u)) → StandBetweenRounds setting shares → moved_in setting (boxes_of shares) < most_moved + 1
+    pub within_most : (shares : List (Share X Boxes t u)) → StandBetweenRounds network shares → moved_in network (boxes_of shares) < most_moved + 1
     unfolding most_moved
     within_most shares stand =
-        let c : Configuration t.State Signal = joint_of setting stand.states shares in
-        let most = run_most P net setting.fit.built.wired laws.settles (Some setting.capacity) stand.reaches.0 first c (λ e inside. ([], refl)) stand.reaches.1 in
-        let count : moved net c ≡ length stand.reaches.0 + moved net first = moved_run P net (Some setting.capacity) stand.reaches.0 first c stand.reaches.1 in
+        let c : Configuration t.State Signal = shares_configuration network stand.states shares in
+        let most = run_most P net network.fit.built.wired laws.settles (Some network.capacity) stand.reaches.0 first c (λ e inside. ([], refl)) stand.reaches.1 in
+        let count : moved net c ≡ length stand.reaches.0 + moved net first = moved_run P net (Some network.capacity) stand.reaches.0 first c stand.reaches.1 in
         omega (arith, most, count)
 
     -- a round that moves something leaves less to move
-    pub left_falls : (shares new : List (Share X Boxes t u)) → StandBetweenRounds setting new → moved_in setting (boxes_of shares) < moved_in setting (boxes_of new) → most_moved - moved_in setting (boxes_of new) < most_moved - moved_in setting (boxes_of shares)
+    pub left_falls : (shares new : List (Share X Boxes t u)) → StandBetweenRounds network new → moved_in network (boxes_of shares) < moved_in network (boxes_of new) → most_moved - moved_in network (boxes_of new) < most_moved - moved_in network (boxes_of shares)
     left_falls shares new stand more = omega (arith, more, within_most new stand)

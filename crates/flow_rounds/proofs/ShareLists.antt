@@ -8,13 +8,13 @@ use Rattle.kahn.proofs.Search.{total_less}
 use Rattle.flow_messages.specs.declared.ends.Ends.{Ghosts as EndsGhosts}
 use Rattle.flow_base.specs.declared.transducer.Transducer.{Ghosts}
 use Rattle.flow_shares.specs.declared.share.Share.{Share}
-use Rattle.flow_shares.specs.Lending.{Body, body_of}
+use Rattle.flow_shares.specs.Lending.{ShareNodes, share_nodes}
 use Rattle.flow_shares.specs.Shares.{AreStuck}
 use Rattle.flow_meetings.specs.Joints.{no_ends, nodes_at}
-use Rattle.flow_meetings.specs.JoinedTheorems.{AllAreStuck}
+use Rattle.flow_meetings.specs.EndTheorems.{AllAreStuck}
 use Rattle.flow_meetings.proofs.Parts.{any_of}
 use Rattle.flow_meetings.specs.Deals.{nodes_in, ends_in}
-use Rattle.flow_meetings.specs.Settings.{view_at, AreFed, NoneCanStep}
+use Rattle.flow_meetings.specs.SharedNetworks.{view_at, AreFed, NoneCanStep}
 use Rattle.flow_meetings.proofs.Lists.{mapped_twice}
 
 -- parts that are no less, and not more in all, are the same
@@ -65,25 +65,25 @@ module _ {X Y : Type 0} {t : Ghosts X} {u : EndsGhosts Y} (shares : List (Share 
       ∙ get_or-map u.view (ends_in shares) s b no_ends (omega (arith, l, count_ends))
 
   -- shares with the same bodies have the same nodes, and as many starved and moved
-  module _ (others : List (Share X Y t u)) (bodies : map body_of others ≡ map body_of shares) where
+  module _ (others : List (Share X Y t u)) (bodies : map share_nodes others ≡ map share_nodes shares) where
     pub same_count : length others ≡ length shares
-    same_count = sym (length-map others (λ (share : Share X Y t u). body_of share)) ∙ ap length bodies ∙ length-map shares (λ (share : Share X Y t u). body_of share)
+    same_count = sym (length-map others (λ (share : Share X Y t u). share_nodes share)) ∙ ap length bodies ∙ length-map shares (λ (share : Share X Y t u). share_nodes share)
 
-    pub same_of_bodies : {C : Type 0} (f : Body t → C) → map (λ share. f (body_of share)) others ≡ map (λ share. f (body_of share)) shares
+    pub same_of_bodies : {C : Type 0} (f : ShareNodes t → C) → map (λ share. f (share_nodes share)) others ≡ map (λ share. f (share_nodes share)) shares
     same_of_bodies f =
-        sym (mapped_twice f (λ (share : Share X Y t u). body_of share) others) ∙ ap (map f) bodies ∙ mapped_twice f (λ (share : Share X Y t u). body_of share) shares
+        sym (mapped_twice f (λ (share : Share X Y t u). share_nodes share) others) ∙ ap (map f) bodies ∙ mapped_twice f (λ (share : Share X Y t u). share_nodes share) shares
 
     pub same_nodes : nodes_in others ≡ nodes_in shares
-    same_nodes = same_of_bodies (λ (b : Body t). b.nodes)
+    same_nodes = same_of_bodies (λ (b : ShareNodes t). b.nodes)
 
-    pub same_body : (s : ℕ) (d : Share X Y t u) → s < length shares → body_of (get_or others s d) ≡ body_of (get_or shares s d)
+    pub same_body : (s : ℕ) (d : Share X Y t u) → s < length shares → share_nodes (get_or others s d) ≡ share_nodes (get_or shares s d)
     same_body s d l =
-        sym (get_or-map (λ (share : Share X Y t u). body_of share) others s d (body_of d) (omega (arith, l, same_count)))
-        ∙ ap (λ bs. get_or bs s (body_of d)) bodies
-        ∙ get_or-map (λ (share : Share X Y t u). body_of share) shares s d (body_of d) l
+        sym (get_or-map (λ (share : Share X Y t u). share_nodes share) others s d (share_nodes d) (omega (arith, l, same_count)))
+        ∙ ap (λ bs. get_or bs s (share_nodes d)) bodies
+        ∙ get_or-map (λ (share : Share X Y t u). share_nodes share) shares s d (share_nodes d) l
 
     -- memory was refused to none of them where it was to none of those
     pub fed_stay : AreFed shares → AreFed others
     fed_stay fed s d l =
         let h : s < length shares = omega (arith, l, same_count) in
-        ap (λ (b : Body t). b.starved) (same_body s d h) ∙ fed s d h
+        ap (λ (b : ShareNodes t). b.starved) (same_body s d h) ∙ fed s d h

@@ -7,7 +7,7 @@ use Rattle.flow_base.specs.declared.transducer.Transducer.{Ghosts}
 use Rattle.flow_graph.specs.declared.edge.Edge.{Edge}
 use Rattle.flow_graph.specs.declared.placed.Placed.{Placed}
 use Rattle.flow_graph.specs.Edges.{edge_at}
-use Rattle.flow_graph.specs.Layouts.{FitTogether, AreSamePlaces}
+use Rattle.flow_graph.specs.Skeletons.{FitTogether, AreSamePlaces}
 use Rattle.flow_boxes.specs.declared.boxes.Boxes.{Boxes}
 use Rattle.flow_boxes.specs.Contents.{Contents, contents, view_of}
 use Rattle.flow_boxes.specs.Rounds.{KeepsRound}
@@ -16,12 +16,12 @@ use Rattle.flow_shares.specs.declared.share.Share.{Share}
 use Rattle.flow_shares.specs.Shares.{HaveMoved, AreStuck}
 use Rattle.flow_shares.specs.Pumps.{IsPumped}
 use Rattle.flow_shares.specs.Deals.{share_of, AreDealt}
-use Rattle.flow_meetings.specs.Joints.{no_contents, nodes_at, boxes_at, writer_boxes, reader_boxes, HaveMet}
+use Rattle.flow_meetings.specs.Joints.{no_contents, nodes_at, boxes_at, writer_boxes, reader_boxes, BoxesHaveMet}
 use Rattle.flow_meetings.specs.RoundTheorems.{NothingMoved, HaveGoneOn, AllStuck}
 use Rattle.flow_meetings.proofs.Parts.{any_of}
 use Rattle.flow_meetings.proofs.Seats.{reader_inside, writer_inside}
 use Rattle.flow_meetings.specs.Deals.{nodes_in}
-use Rattle.flow_meetings.specs.Settings.{AreFed, NoneCanStep}
+use Rattle.flow_meetings.specs.SharedNetworks.{AreFed, NoneCanStep}
 use Rattle.flow_rounds.specs.Standing.{AreLinked, boxes_of}
 
 module _ {X : Type 0} {t : Ghosts X} {u : EndsGhosts Boxes} where
@@ -100,7 +100,7 @@ module _ {X : Type 0} {t : Ghosts X} {u : EndsGhosts Boxes} where
             (subst (λ (a : Contents). SameTraffic a.ends (boxes_at (boxes_of back) s).ends) (boxes_are shares s d l) (nothing s (omega (arith, l, length-map shares (λ (share : Share X Boxes t u). share.nodes.items))))))
 
     -- boxes that were linked still are
-    pub still_linked : (share : List ℕ) (edges : List Edge) (nodes : List (Placed X t)) (capacity : ℕ) → FitTogether nodes edges → AreDealt share nodes (nodes_in shares) → HaveMet share edges (boxes_of shares) capacity → AreLinked share edges (boxes_of back) capacity
+    pub still_linked : (share : List ℕ) (edges : List Edge) (nodes : List (Placed X t)) (capacity : ℕ) → FitTogether nodes edges → AreDealt share nodes (nodes_in shares) → BoxesHaveMet share edges (boxes_of shares) capacity → AreLinked share edges (boxes_of back) capacity
     still_linked share edges nodes capacity fit deals met = record {
       writers = λ e l. omega (arith, writes e l, long);
       readers = λ e l. omega (arith, reads e l, long);

@@ -15,7 +15,7 @@ use Rattle.flow_messages.specs.declared.ends.Ends.{Ghosts as EndsGhosts}
 use Rattle.flow_base.specs.Transducers.{BehaviourLaws}
 use Rattle.flow_base.specs.declared.transducer.Transducer.{Ghosts}
 use Rattle.flow_graph.specs.Places.{placed_state, states_in}
-use Rattle.flow_graph.specs.Layouts.{AreSamePlaces}
+use Rattle.flow_graph.specs.Skeletons.{AreSamePlaces}
 use Rattle.flow_graph.proofs.Nets.{lawful_net}
 use Rattle.flow_rings.specs.declared.rings.Rings.{Rings}
 use Rattle.flow_rings.specs.Rings.{SameRings}
@@ -23,20 +23,20 @@ use Rattle.flow_rings.specs.SameEnds.{same_rings_refl, same_rings_trans}
 use Rattle.flow_shares.specs.declared.share.Share.{Share}
 use Rattle.flow_shares.specs.Shares.{IsOwn, Grows, AreStuck}
 use Rattle.flow_shares.specs.Pumps.{IsPumped}
-use Rattle.flow_shares.specs.Lending.{Body}
+use Rattle.flow_shares.specs.Lending.{ShareNodes}
 use Rattle.flow_shares.proofs.Calm.{stuck_before}
 use Rattle.flow_shares.proofs.Later.{same_places_refl, same_places_then}
 use Rattle.flow_meetings.specs.Joints.{nodes_at, states_in_shares, AreStates}
 use Rattle.flow_meetings.specs.RoundTheorems.{net_of}
-use Rattle.flow_meetings.specs.JoinedTheorems.{joined}
+use Rattle.flow_meetings.specs.EndTheorems.{end_configuration}
 use Rattle.flow_meetings.proofs.Parts.{any_of}
 use Rattle.flow_meetings.proofs.States.{are_states, states_stay}
 use Rattle.flow_meetings.proofs.Carried.{same_joined}
 use Rattle.flow_meetings.proofs.Meetings.{own_shares_are_sound}
 use Rattle.flow_meetings.proofs.Calm.{stuck_shares_rest}
 use Rattle.flow_meetings.specs.Deals.{nodes_in, ends_in}
-use Rattle.flow_meetings.specs.Settings.{Setting, view_at, AreFed, AreCalm, NoneCanStep}
-use Rattle.flow_rounds.specs.Epochs.{moved_in, IsLater, AreLater, AreOfOneGraph, HaveMetAll, joint_of, StandSound, StandAtRest, StandAsBefore, AreMet, IsEpoch}
+use Rattle.flow_meetings.specs.SharedNetworks.{SharedNetwork, view_at, AreFed, AreCalm, NoneCanStep}
+use Rattle.flow_rounds.specs.Epochs.{moved_in, IsLater, AreLater, AreOfOneGraph, SharesHaveMet, shares_configuration, StandSound, StandAtRest, StandAsBefore, HaveMetSince, IsEpoch}
 use Rattle.flow_rounds.proofs.ShareLists.{count_dealt, nodes_are, view_is, ends_are, all_are_stuck, same_count, same_nodes, same_body}
 use Rattle.flow_rounds.proofs.EpochMeets.{writer_is_share, reader_is_share}
 use Rattle.flow_rounds.proofs.Pumps.{pumped_ends, pumped_places, grows, none_moved, none_says, calm_moves_none, none_could_step, states_stayed}
@@ -51,12 +51,12 @@ grows_between a b c d p g q = record {
   sent = λ e. subst (λ xs. Begins xs (d.sent e)) (p.sent e) (subst (λ ys. Begins (b.sent e) ys) (sym (q.sent e)) (g.sent e));
 }
 
-module _ {X : Type 0} {t : Ghosts X} {u : EndsGhosts Rings} (setting : Setting t) where
+module _ {X : Type 0} {t : Ghosts X} {u : EndsGhosts Rings} (network : SharedNetwork t) where
   -- shares whose ends have met are sound, where memory was refused to none
-  pub stands_sound : (shares : List (Share X Rings t u)) → HaveMetAll setting shares → AreFed shares → StandSound setting shares
+  pub stands_sound : (shares : List (Share X Rings t u)) → SharesHaveMet network shares → AreFed shares → StandSound network shares
   stands_sound shares met fed graph =
-      own_shares_are_sound t setting.share setting.edges setting.nodes setting.fit (nodes_in shares) graph.deals (states_in_shares setting.share setting.nodes (nodes_in shares) graph.deals)
-      (are_states setting.share setting.edges setting.nodes setting.fit (nodes_in shares) graph.deals) (view_at shares) (λ e l. (met e l).begins) own
+      own_shares_are_sound t network.share network.edges network.nodes network.fit (nodes_in shares) graph.deals (states_in_shares network.share network.nodes (nodes_in shares) graph.deals)
+      (are_states network.share network.edges network.nodes network.fit (nodes_in shares) graph.deals) (view_at shares) (λ e l. (met e l).begins) own
     where
       own : (s : ℕ) → s < length (nodes_in shares) → All (IsOwn (view_at shares s)) (nodes_at (nodes_in shares) s)
       own s h =
@@ -66,23 +66,23 @@ module _ {X : Type 0} {t : Ghosts X} {u : EndsGhosts Rings} (setting : Setting t
           (subst (λ v. All (IsOwn v) (get_or shares s d).nodes.items) (sym (view_is shares s d l)) ((get_or shares s d).own (fed s d l)))
 
   -- and where no node can step by the ends of its share, none can at all
-  pub stands_at_rest : (shares : List (Share X Rings t u)) → HaveMetAll setting shares → NoneCanStep shares → StandAtRest setting shares
+  pub stands_at_rest : (shares : List (Share X Rings t u)) → SharesHaveMet network shares → NoneCanStep shares → StandAtRest network shares
   stands_at_rest shares met none graph =
-      stuck_shares_rest t setting.capacity setting.share setting.edges setting.nodes setting.fit (nodes_in shares) graph.deals (states_in_shares setting.share setting.nodes (nodes_in shares) graph.deals)
-      (are_states setting.share setting.edges setting.nodes setting.fit (nodes_in shares) graph.deals) (view_at shares) met (all_are_stuck shares none)
+      stuck_shares_rest t network.capacity network.share network.edges network.nodes network.fit (nodes_in shares) graph.deals (states_in_shares network.share network.nodes (nodes_in shares) graph.deals)
+      (are_states network.share network.edges network.nodes network.fit (nodes_in shares) graph.deals) (view_at shares) met (all_are_stuck shares none)
 
   -- where nothing was sent or received, the configuration stays
-  module _ (shares later : List (Share X Rings t u)) (graph : AreOfOneGraph setting shares) (none : (s : ℕ) → s < length shares → SameTraffic (view_at shares s) (view_at later s)) where
-    stays : (states : List t.State) → joined t setting.share setting.edges states (view_at later) ≡ joined t setting.share setting.edges states (view_at shares)
+  module _ (shares later : List (Share X Rings t u)) (graph : AreOfOneGraph network shares) (none : (s : ℕ) → s < length shares → SameTraffic (view_at shares s) (view_at later s)) where
+    stays : (states : List t.State) → end_configuration t network.share network.edges states (view_at later) ≡ end_configuration t network.share network.edges states (view_at shares)
     stays states =
-        same_joined setting.share setting.edges (view_at shares) (view_at later)
-        (λ e l. none _ (writer_is_share setting shares graph e l)) (λ e l. none _ (reader_is_share setting shares graph e l)) t states
+        same_joined network.share network.edges (view_at shares) (view_at later)
+        (λ e l. none _ (writer_is_share network shares graph e l)) (λ e l. none _ (reader_is_share network shares graph e l)) t states
 
-    pub moved_same : moved_in setting later ≡ moved_in setting shares
-    moved_same = ap (λ (c : Configuration t.State Signal). total (λ e. length (c.sent e) + length (c.received e)) (length setting.edges)) (stays [])
+    pub moved_same : moved_in network later ≡ moved_in network shares
+    moved_same = ap (λ (c : Configuration t.State Signal). total (λ e. length (c.sent e) + length (c.received e)) (length network.edges)) (stays [])
 
   -- the ends of every edge have met since
-  module _ (shares after : List (Share X Rings t u)) (since : AreMet setting shares after) where
+  module _ (shares after : List (Share X Rings t u)) (since : HaveMetSince network shares after) where
     pub met_traffic : (s : ℕ) → s < length shares → SameTraffic (view_at shares s) (view_at after s)
     met_traffic s l = (since.kept s l).traffic
 
@@ -93,40 +93,40 @@ module _ {X : Type 0} {t : Ghosts X} {u : EndsGhosts Rings} (setting : Setting t
           let same = same_body shares after since.bodies s d l in
           let b = d.ends in
           record {
-            number = ap (λ (x : Body t). x.number) same;
-            places = subst (λ n. AreSamePlaces (get_or shares s d).nodes.items n) (sym (ap (λ (x : Body t). x.nodes) same)) (same_places_refl (get_or shares s d).nodes.items);
+            number = ap (λ (x : ShareNodes t). x.number) same;
+            places = subst (λ n. AreSamePlaces (get_or shares s d).nodes.items n) (sym (ap (λ (x : ShareNodes t). x.nodes) same)) (same_places_refl (get_or shares s d).nodes.items);
             ends = subst (λ r. SameRings r (get_or after s d).ends) (ends_are shares s d l b)
                 (subst (λ r. SameRings (get_or (ends_in shares) s b) r) (ends_are after s d (omega (arith, l, same_count shares after since.bodies)) b) (since.ends s b l));
           };
     }
 
     -- they stand where they stood
-    pub met_stood : StandAsBefore setting shares after
-    met_stood graph later = ap (λ states. joined t setting.share setting.edges states (view_at after)) same_states ∙ stays shares after graph met_traffic (states_in_shares setting.share setting.nodes (nodes_in shares) graph.deals)
+    pub met_stood : StandAsBefore network shares after
+    met_stood graph later = ap (λ states. end_configuration t network.share network.edges states (view_at after)) same_states ∙ stays shares after graph met_traffic (states_in_shares network.share network.nodes (nodes_in shares) graph.deals)
       where
         nodes : nodes_in after ≡ nodes_in shares
         nodes = same_nodes shares after since.bodies
 
-        same_states : states_in_shares setting.share setting.nodes (nodes_in after) later.deals ≡ states_in_shares setting.share setting.nodes (nodes_in shares) graph.deals
+        same_states : states_in_shares network.share network.nodes (nodes_in after) later.deals ≡ states_in_shares network.share network.nodes (nodes_in shares) graph.deals
         same_states =
-            states_stay setting.share setting.edges setting.nodes setting.fit (nodes_in shares) graph.deals (nodes_in after)
+            states_stay network.share network.edges network.nodes network.fit (nodes_in shares) graph.deals (nodes_in after)
             (λ s l. subst (λ ns. AreSamePlaces (nodes_at (nodes_in shares) s) (nodes_at ns s)) (sym nodes) (same_places_refl (nodes_at (nodes_in shares) s)))
             later.deals (λ s i d l low. ap (λ ns. placed_state (get_or (nodes_at ns s) i d)) nodes)
-            (states_in_shares setting.share setting.nodes (nodes_in shares) graph.deals) (states_in_shares setting.share setting.nodes (nodes_in after) later.deals)
-            (are_states setting.share setting.edges setting.nodes setting.fit (nodes_in shares) graph.deals) (are_states setting.share setting.edges setting.nodes setting.fit (nodes_in after) later.deals)
+            (states_in_shares network.share network.nodes (nodes_in shares) graph.deals) (states_in_shares network.share network.nodes (nodes_in after) later.deals)
+            (are_states network.share network.edges network.nodes network.fit (nodes_in shares) graph.deals) (are_states network.share network.edges network.nodes network.fit (nodes_in after) later.deals)
 
     -- a node that cannot step now could not before
     pub none_could : NoneCanStep after → NoneCanStep shares
     none_could none s d l k x inside =
         let h : s < length after = omega (arith, l, same_count shares after since.bodies) in
-        let nodes : (get_or after s d).nodes.items ≡ (get_or shares s d).nodes.items = ap (λ (b : Body t). b.nodes) (same_body shares after since.bodies s d l) in
+        let nodes : (get_or after s d).nodes.items ≡ (get_or shares s d).nodes.items = ap (λ (b : ShareNodes t). b.nodes) (same_body shares after since.bodies s d l) in
         let kept = since.kept s l in
         let stuck : AreStuck (view_at after s) (get_or shares s d).nodes.items = subst (λ ns. AreStuck (view_at after s) ns) nodes (subst (λ v. AreStuck v (get_or after s d).nodes.items) (sym (view_is after s d h)) (none s d h)) in
         subst (λ v. AreStuck v (get_or shares s d).nodes.items) (view_is shares s d l) (λ j y low. stuck_before (view_at shares s) (view_at after s) kept.coming kept.room _ _ _ (stuck j y low)) k x inside
 
   module _ (same_is : (a b : Rings) → u.same a b → SameRings a b) (laws : BehaviourLaws t.behaviour) (shares mid pumped back : List (Share X Rings t u))
-      (first : AreMet setting shares mid) (count : length pumped ≡ length mid) (each : (s : ℕ) (d : Share X Rings t u) → s < length mid → IsPumped (get_or mid s d) (get_or pumped s d)) (second : AreMet setting pumped back)
-      (graph : AreOfOneGraph setting shares) (pumped_graph : AreOfOneGraph setting pumped) where
+      (first : HaveMetSince network shares mid) (count : length pumped ≡ length mid) (each : (s : ℕ) (d : Share X Rings t u) → s < length mid → IsPumped (get_or mid s d) (get_or pumped s d)) (second : HaveMetSince network pumped back)
+      (graph : AreOfOneGraph network shares) (pumped_graph : AreOfOneGraph network pumped) where
     mid_count : length mid ≡ length shares
     mid_count = same_count shares mid first.bodies
 
@@ -143,11 +143,11 @@ module _ {X : Type 0} {t : Ghosts X} {u : EndsGhosts Rings} (setting : Setting t
         let went = each s d at_mid in
         let b = d.ends in
         record {
-          number = ap (λ (x : Body t). x.number) after ∙ went.number ∙ ap (λ (x : Body t). x.number) before;
-          places = subst (λ n. AreSamePlaces n (get_or back s d).nodes.items) (ap (λ (x : Body t). x.nodes) before) (subst (λ m. AreSamePlaces (get_or mid s d).nodes.items m) (sym (ap (λ (x : Body t). x.nodes) after)) went.places);
+          number = ap (λ (x : ShareNodes t). x.number) after ∙ went.number ∙ ap (λ (x : ShareNodes t). x.number) before;
+          places = subst (λ n. AreSamePlaces n (get_or back s d).nodes.items) (ap (λ (x : ShareNodes t). x.nodes) before) (subst (λ m. AreSamePlaces (get_or mid s d).nodes.items m) (sym (ap (λ (x : ShareNodes t). x.nodes) after)) went.places);
           ends = subst (λ r. SameRings r (get_or back s d).ends) (ends_are shares s d l b)
               (subst (λ r. SameRings (get_or (ends_in shares) s b) r) (ends_are back s d at_back b)
-              (same_rings_trans _ _ _ (first.ends s b l) (same_rings_trans _ _ _ (pumped_ends same_is setting mid pumped count each first.graph s b at_mid) (second.ends s b at_pumped))));
+              (same_rings_trans _ _ _ (first.ends s b l) (same_rings_trans _ _ _ (pumped_ends same_is network mid pumped count each first.graph s b at_mid) (second.ends s b at_pumped))));
         }
 
     later : AreLater shares back
@@ -157,80 +157,80 @@ module _ {X : Type 0} {t : Ghosts X} {u : EndsGhosts Rings} (setting : Setting t
     grown : (s : ℕ) → s < length shares → Grows (view_at shares s) (view_at back s)
     grown s l =
         let at_mid : s < length mid = omega (arith, l, mid_count) in
-        grows_between _ _ _ _ (met_traffic shares mid first s l) (grows same_is setting mid pumped count each first.graph s at_mid) (met_traffic pumped back second s (omega (arith, at_mid, count)))
+        grows_between _ _ _ _ (met_traffic shares mid first s l) (grows same_is network mid pumped count each first.graph s at_mid) (met_traffic pumped back second s (omega (arith, at_mid, count)))
 
     module _ (fed : AreFed back) where
       fed_pumped : AreFed pumped
-      fed_pumped s d l = sym (ap (λ (x : Body t). x.starved) (same_body pumped back second.bodies s d l)) ∙ fed s d (omega (arith, l, back_count))
+      fed_pumped s d l = sym (ap (λ (x : ShareNodes t). x.starved) (same_body pumped back second.bodies s d l)) ∙ fed s d (omega (arith, l, back_count))
 
       -- nothing was sent or received while the ends met
-      first_moved : moved_in setting mid ≡ moved_in setting shares
+      first_moved : moved_in network mid ≡ moved_in network shares
       first_moved = moved_same shares mid graph (met_traffic shares mid first)
 
-      second_moved : moved_in setting back ≡ moved_in setting pumped
+      second_moved : moved_in network back ≡ moved_in network pumped
       second_moved = moved_same pumped back pumped_graph (met_traffic pumped back second)
 
-      calm : AreCalm back → moved_in setting back ≡ moved_in setting shares
+      calm : AreCalm back → moved_in network back ≡ moved_in network shares
       calm still =
           second_moved
-          ∙ moved_same mid pumped first.graph (calm_moves_none same_is setting mid pumped count each first.graph fed_pumped (λ s d l. sym (ap (λ (x : Body t). x.moved) (same_body pumped back second.bodies s d l)) ∙ still s d (omega (arith, l, back_count))))
+          ∙ moved_same mid pumped first.graph (calm_moves_none same_is network mid pumped count each first.graph fed_pumped (λ s d l. sym (ap (λ (x : ShareNodes t). x.moved) (same_body pumped back second.bodies s d l)) ∙ still s d (omega (arith, l, back_count))))
           ∙ first_moved
 
-      no_more : moved_in setting back ≤ moved_in setting shares → moved_in setting pumped ≤ moved_in setting mid
+      no_more : moved_in network back ≤ moved_in network shares → moved_in network pumped ≤ moved_in network mid
       no_more most = omega (arith, most, first_moved, second_moved)
 
-      busy : (AreCalm back → ⊥) → moved_in setting shares < moved_in setting back
-      busy some = at (cases_lt (moved_in setting shares) (moved_in setting back))
+      busy : (AreCalm back → ⊥) → moved_in network shares < moved_in network back
+      busy some = at (cases_lt (moved_in network shares) (moved_in network back))
         where
-          at : ((moved_in setting shares < moved_in setting back) ⊎ (moved_in setting back ≤ moved_in setting shares)) → moved_in setting shares < moved_in setting back
+          at : ((moved_in network shares < moved_in network back) ⊎ (moved_in network back ≤ moved_in network shares)) → moved_in network shares < moved_in network back
           at (inl less) = less
           at (inr most) =
               absurd (some (λ s d l.
               let h : s < length pumped = omega (arith, l, back_count) in
-              ap (λ (x : Body t). x.moved) (same_body pumped back second.bodies s d h) ∙ none_says same_is setting mid pumped count each first.graph fed_pumped (no_more most) s d h))
+              ap (λ (x : ShareNodes t). x.moved) (same_body pumped back second.bodies s d h) ∙ none_says same_is network mid pumped count each first.graph fed_pumped (no_more most) s d h))
 
       -- where a node could step, a message moved
-      moves : (NoneCanStep shares → ⊥) → moved_in setting shares < moved_in setting back
-      moves some = at (cases_lt (moved_in setting shares) (moved_in setting back))
+      moves : (NoneCanStep shares → ⊥) → moved_in network shares < moved_in network back
+      moves some = at (cases_lt (moved_in network shares) (moved_in network back))
         where
-          at : ((moved_in setting shares < moved_in setting back) ⊎ (moved_in setting back ≤ moved_in setting shares)) → moved_in setting shares < moved_in setting back
+          at : ((moved_in network shares < moved_in network back) ⊎ (moved_in network back ≤ moved_in network shares)) → moved_in network shares < moved_in network back
           at (inl less) = less
           at (inr most) =
-              absurd (some (none_could shares mid first (none_could_step same_is setting mid pumped count each first.graph fed_pumped (none_moved same_is setting mid pumped count each first.graph fed_pumped (no_more most)))))
+              absurd (some (none_could shares mid first (none_could_step same_is network mid pumped count each first.graph fed_pumped (none_moved same_is network mid pumped count each first.graph fed_pumped (no_more most)))))
 
-      module _ (same : moved_in setting back ≡ moved_in setting shares) (back_graph : AreOfOneGraph setting back) where
+      module _ (same : moved_in network back ≡ moved_in network shares) (back_graph : AreOfOneGraph network back) where
         none : (s : ℕ) → s < length mid → SameTraffic (view_at mid s) (view_at pumped s)
-        none = none_moved same_is setting mid pumped count each first.graph fed_pumped (no_more (omega (arith, same)))
+        none = none_moved same_is network mid pumped count each first.graph fed_pumped (no_more (omega (arith, same)))
 
         none_at_all : (s : ℕ) → s < length mid → SameTraffic (view_at mid s) (view_at back s)
         none_at_all s l = same_then (view_at mid s) (view_at pumped s) (view_at back s) (none s l) (met_traffic pumped back second s (omega (arith, l, count)))
 
         abbrev mid_states : List t.State
-        mid_states = states_in_shares setting.share setting.nodes (nodes_in mid) first.graph.deals
+        mid_states = states_in_shares network.share network.nodes (nodes_in mid) first.graph.deals
 
-        mid_are : AreStates setting.share setting.nodes (nodes_in mid) first.graph.deals mid_states
-        mid_are = are_states setting.share setting.edges setting.nodes setting.fit (nodes_in mid) first.graph.deals
+        mid_are : AreStates network.share network.nodes (nodes_in mid) first.graph.deals mid_states
+        mid_are = are_states network.share network.edges network.nodes network.fit (nodes_in mid) first.graph.deals
 
         back_nodes : nodes_in back ≡ nodes_in pumped
         back_nodes = same_nodes pumped back second.bodies
 
-        same_states : states_in_shares setting.share setting.nodes (nodes_in back) back_graph.deals ≡ mid_states
+        same_states : states_in_shares network.share network.nodes (nodes_in back) back_graph.deals ≡ mid_states
         same_states =
-            states_stay setting.share setting.edges setting.nodes setting.fit (nodes_in mid) first.graph.deals (nodes_in back)
-            (λ s l. subst (λ later. AreSamePlaces (nodes_at (nodes_in mid) s) (nodes_at later s)) (sym back_nodes) (pumped_places same_is setting mid pumped count each first.graph s l))
+            states_stay network.share network.edges network.nodes network.fit (nodes_in mid) first.graph.deals (nodes_in back)
+            (λ s l. subst (λ later. AreSamePlaces (nodes_at (nodes_in mid) s) (nodes_at later s)) (sym back_nodes) (pumped_places same_is network mid pumped count each first.graph s l))
             back_graph.deals
-            (λ s i d l low. ap (λ later. placed_state (get_or (nodes_at later s) i d)) back_nodes ∙ states_stayed same_is setting mid pumped count each first.graph fed_pumped none laws s i d l low)
-            mid_states (states_in_shares setting.share setting.nodes (nodes_in back) back_graph.deals) mid_are (are_states setting.share setting.edges setting.nodes setting.fit (nodes_in back) back_graph.deals)
+            (λ s i d l low. ap (λ later. placed_state (get_or (nodes_at later s) i d)) back_nodes ∙ states_stayed same_is network mid pumped count each first.graph fed_pumped none laws s i d l low)
+            mid_states (states_in_shares network.share network.nodes (nodes_in back) back_graph.deals) mid_are (are_states network.share network.edges network.nodes network.fit (nodes_in back) back_graph.deals)
 
-        stood : joint_of setting back back_graph ≡ joint_of setting mid first.graph
-        stood = ap (λ states. joined t setting.share setting.edges states (view_at back)) same_states ∙ stays mid back first.graph none_at_all mid_states
+        stood : shares_configuration network back back_graph ≡ shares_configuration network mid first.graph
+        stood = ap (λ states. end_configuration t network.share network.edges states (view_at back)) same_states ∙ stays mid back first.graph none_at_all mid_states
 
-        rest : AtRest t.behaviour.process (net_of setting.nodes setting.edges) (Some setting.capacity) (joint_of setting back back_graph)
+        rest : AtRest t.behaviour.process (net_of network.nodes network.edges) (Some network.capacity) (shares_configuration network back back_graph)
         rest =
-            subst (AtRest t.behaviour.process (net_of setting.nodes setting.edges) (Some setting.capacity)) (sym stood)
-            (stands_at_rest mid first.met (none_could_step same_is setting mid pumped count each first.graph fed_pumped none) first.graph)
+            subst (AtRest t.behaviour.process (net_of network.nodes network.edges) (Some network.capacity)) (sym stood)
+            (stands_at_rest mid first.met (none_could_step same_is network mid pumped count each first.graph fed_pumped none) first.graph)
 
-    pub is_epoch : IsEpoch setting shares back
+    pub is_epoch : IsEpoch network shares back
     is_epoch = record {
       later = later;
       graph = second.graph;
@@ -244,21 +244,21 @@ module _ {X : Type 0} {t : Ghosts X} {u : EndsGhosts Rings} (setting : Setting t
       rest = rest;
     }
 
-module _ {X : Type 0} {t : Ghosts X} (laws : BehaviourLaws t.behaviour) (setting : Setting t) where
-  pub whole : WholeTraffic t.behaviour.process (net_of setting.nodes setting.edges)
-  whole = whole_traffic t.behaviour.process (net_of setting.nodes setting.edges) setting.fit.built.wired (lawful_net t.behaviour (states_in setting.nodes) setting.edges laws) laws.settles
+module _ {X : Type 0} {t : Ghosts X} (laws : BehaviourLaws t.behaviour) (network : SharedNetwork t) where
+  pub whole : WholeTraffic t.behaviour.process (net_of network.nodes network.edges)
+  whole = whole_traffic t.behaviour.process (net_of network.nodes network.edges) network.fit.built.wired (lawful_net t.behaviour (states_in network.nodes) network.edges laws) laws.settles
 
   -- so many messages at most are sent and received in all
   unfoldable pub most_moved : ℕ
-  most_moved = moved (net_of setting.nodes setting.edges) whole.end
+  most_moved = moved (net_of network.nodes network.edges) whole.end
 
   module _ {u : EndsGhosts Rings} where
-    within_most : (shares : List (Share X Rings t u)) → AreOfOneGraph setting shares → StandSound setting shares → moved_in setting shares ≤ most_moved
+    within_most : (shares : List (Share X Rings t u)) → AreOfOneGraph network shares → StandSound network shares → moved_in network shares ≤ most_moved
     unfolding most_moved
-    within_most shares graph sound = ∥∥₁_elim (sound graph) (λ x y. le_prop x y) (λ s. whole.most (joint_of setting shares graph) s)
+    within_most shares graph sound = ∥∥₁_elim (sound graph) (λ x y. le_prop x y) (λ s. whole.most (shares_configuration network shares graph) s)
 
     -- an epoch that moves something leaves less to move
-    pub left_falls : (shares back : List (Share X Rings t u)) → IsEpoch setting shares back → AreFed back → (NoneCanStep shares → ⊥) → most_moved - moved_in setting back < most_moved - moved_in setting shares
+    pub left_falls : (shares back : List (Share X Rings t u)) → IsEpoch network shares back → AreFed back → (NoneCanStep shares → ⊥) → most_moved - moved_in network back < most_moved - moved_in network shares
     left_falls shares back epoch fed some = omega (arith, epoch.moves fed some, within_most back epoch.graph (epoch.sound fed))
 
 -- shares later still

@@ -6,24 +6,24 @@ use Rattle.flow_messages.specs.Signals.{Signal}
 use Rattle.flow_messages.specs.declared.ends.Ends.{Ghosts as EndsGhosts}
 use Rattle.flow_base.specs.declared.transducer.Transducer.{Ghosts}
 use Rattle.flow_graph.specs.Edges.{edge_at}
-use Rattle.flow_graph.specs.Layouts.{AreSamePlaces}
+use Rattle.flow_graph.specs.Skeletons.{AreSamePlaces}
 use Rattle.flow_rings.specs.declared.rings.Rings.{Rings}
 use Rattle.flow_rings.specs.Rings.{SameRings, Kept}
-use Rattle.flow_meetings.specs.RingMeetings.{RingsJoin, ring_places}
+use Rattle.flow_meetings.specs.RingMeetings.{RingsJoin, ring_slots}
 use Rattle.flow_shares.specs.Deals.{share_of, AreDealt}
 use Rattle.flow_shares.specs.declared.share.Share.{Share}
-use Rattle.flow_shares.specs.Lending.{body_of}
+use Rattle.flow_shares.specs.Lending.{share_nodes}
 use Rattle.flow_shares.specs.Shares.{Grows}
 use Rattle.flow_meetings.specs.Joints.{states_in_shares}
 use Rattle.flow_meetings.specs.RoundTheorems.{net_of}
-use Rattle.flow_meetings.specs.JoinedTheorems.{AllMet, joined}
+use Rattle.flow_meetings.specs.EndTheorems.{EdgesHaveMet, end_configuration}
 use Rattle.flow_meetings.specs.Deals.{nodes_in, ends_in}
-use Rattle.flow_meetings.specs.Settings.{Setting, view_at, moved_by, AreFed, AreCalm, NoneCanStep}
+use Rattle.flow_meetings.specs.SharedNetworks.{SharedNetwork, view_at, moves_by, AreFed, AreCalm, NoneCanStep}
 
 module _ {X : Type 0} {t : Ghosts X} {u : EndsGhosts Rings} where
   -- how many messages were sent and received on all edges
-  abbrev pub moved_in : Setting t → List (Share X Rings t u) → ℕ
-  moved_in setting shares = moved_by setting (view_at shares)
+  abbrev pub moved_in : SharedNetwork t → List (Share X Rings t u) → ℕ
+  moved_in network shares = moves_by network (view_at shares)
 
   -- A share later: it has its number, its nodes in their places, and its ends.
   pub record IsLater (share later : Share X Rings t u) : Type 0 where
@@ -36,68 +36,68 @@ module _ {X : Type 0} {t : Ghosts X} {u : EndsGhosts Rings} where
     pub count : length later ≡ length shares
     pub each : (s : ℕ) (d : Share X Rings t u) → s < length shares → IsLater (slice_index_or shares s d) (slice_index_or later s d)
 
-  module _ (setting : Setting t) (shares : List (Share X Rings t u)) where
+  module _ (network : SharedNetwork t) (shares : List (Share X Rings t u)) where
     -- the ends of the share that writes edge e, and of the share that reads it; d where there is none
     abbrev pub writer_rings : ℕ → Rings → Rings
-    writer_rings e d = slice_index_or (ends_in shares) (share_of setting.share (edge_at setting.edges e).writer) d
+    writer_rings e d = slice_index_or (ends_in shares) (share_of network.share (edge_at network.edges e).writer) d
 
     abbrev pub reader_rings : ℕ → Rings → Rings
-    reader_rings e d = slice_index_or (ends_in shares) (share_of setting.share (edge_at setting.edges e).reader) d
+    reader_rings e d = slice_index_or (ends_in shares) (share_of network.share (edge_at network.edges e).reader) d
 
     -- All nodes are dealt out to these shares, with both ends of every edge, each of which holds at most the capacity.
     pub record AreOfOneGraph : Type 0 where
-      pub deals : AreDealt setting.share setting.nodes (nodes_in shares)
-      pub joined : (e : ℕ) (d : Rings) → e < length setting.edges → RingsJoin (writer_rings e d) (reader_rings e d) e
-      pub capacity : (e : ℕ) (d : Rings) → e < length setting.edges → ring_places (writer_rings e d) e ≡ setting.capacity
+      pub deals : AreDealt network.share network.nodes (nodes_in shares)
+      pub joined : (e : ℕ) (d : Rings) → e < length network.edges → RingsJoin (writer_rings e d) (reader_rings e d) e
+      pub capacity : (e : ℕ) (d : Rings) → e < length network.edges → ring_slots (writer_rings e d) e ≡ network.capacity
       -- and no share has an end but those of its own nodes' edges
       pub only_writers : (s e : ℕ) → s < length shares → (view_at shares s).writes e ≡ true
-          → (e < length setting.edges) × (s ≡ share_of setting.share (edge_at setting.edges e).writer)
+          → (e < length network.edges) × (s ≡ share_of network.share (edge_at network.edges e).writer)
       pub only_readers : (s e : ℕ) → s < length shares → (view_at shares s).reads e ≡ true
-          → (e < length setting.edges) × (s ≡ share_of setting.share (edge_at setting.edges e).reader)
+          → (e < length network.edges) × (s ≡ share_of network.share (edge_at network.edges e).reader)
 
     -- the ends of every edge have met
-    abbrev pub HaveMetAll : Type 0
-    HaveMetAll = AllMet setting.share setting.edges (view_at shares) setting.capacity
+    abbrev pub SharesHaveMet : Type 0
+    SharesHaveMet = EdgesHaveMet network.share network.edges (view_at shares) network.capacity
 
     -- where the nodes of these shares stand, with what their ends say
-    abbrev pub joint_of : AreOfOneGraph → Configuration t.State Signal
-    joint_of graph = joined t setting.share setting.edges (states_in_shares setting.share setting.nodes (nodes_in shares) graph.deals) (view_at shares)
+    abbrev pub shares_configuration : AreOfOneGraph → Configuration t.State Signal
+    shares_configuration graph = end_configuration t network.share network.edges (states_in_shares network.share network.nodes (nodes_in shares) graph.deals) (view_at shares)
 
     -- that is a sound configuration of the graph's network
     abbrev pub StandSound : Type 0
-    StandSound = (graph : AreOfOneGraph) → ∥ IsSound t.behaviour.process (net_of setting.nodes setting.edges) (joint_of graph) ∥₁
+    StandSound = (graph : AreOfOneGraph) → ∥ IsSound t.behaviour.process (net_of network.nodes network.edges) (shares_configuration graph) ∥₁
 
     -- there no node can step
     abbrev pub StandAtRest : Type 0
-    StandAtRest = (graph : AreOfOneGraph) → AtRest t.behaviour.process (net_of setting.nodes setting.edges) (Some setting.capacity) (joint_of graph)
+    StandAtRest = (graph : AreOfOneGraph) → AtRest t.behaviour.process (net_of network.nodes network.edges) (Some network.capacity) (shares_configuration graph)
 
-  module _ (setting : Setting t) (shares : List (Share X Rings t u)) where
+  module _ (network : SharedNetwork t) (shares : List (Share X Rings t u)) where
     -- those shares stand where these do
     abbrev pub StandAsBefore : List (Share X Rings t u) → Type 0
-    StandAsBefore back = (graph : AreOfOneGraph setting shares) (later : AreOfOneGraph setting back) → joint_of setting back later ≡ joint_of setting shares graph
+    StandAsBefore back = (graph : AreOfOneGraph network shares) (later : AreOfOneGraph network back) → shares_configuration network back later ≡ shares_configuration network shares graph
 
     -- The ends of every edge have met since: the shares are as they were, but that their ends may be certain of more.
-    pub record AreMet (after : List (Share X Rings t u)) : Type 0 where
-      pub bodies : map body_of after ≡ map body_of shares
+    pub record HaveMetSince (after : List (Share X Rings t u)) : Type 0 where
+      pub bodies : map share_nodes after ≡ map share_nodes shares
       pub ends : (s : ℕ) (d : Rings) → s < length shares → SameRings (slice_index_or (ends_in shares) s d) (slice_index_or (ends_in after) s d)
       pub kept : (s : ℕ) → s < length shares → Kept (view_at shares s) (view_at after s)
-      pub graph : AreOfOneGraph setting after
-      pub met : HaveMetAll setting after
+      pub graph : AreOfOneGraph network after
+      pub met : SharesHaveMet network after
 
     -- An epoch gives the same shares back, later, with the ends of every edge met.
     pub record IsEpoch (back : List (Share X Rings t u)) : Type 0 where
       pub later : AreLater shares back
-      pub graph : AreOfOneGraph setting back
-      pub met : HaveMetAll setting back
+      pub graph : AreOfOneGraph network back
+      pub met : SharesHaveMet network back
       -- what each share sent and received is what it had, and what came behind
       pub grown : (s : ℕ) → s < length shares → Grows (view_at shares s) (view_at back s)
       -- where memory was refused to none, they stand sound
-      pub sound : AreFed back → StandSound setting back
+      pub sound : AreFed back → StandSound network back
       -- and the pumps tell whether a message was sent or received
-      pub calm : AreFed back → AreCalm back → moved_in setting back ≡ moved_in setting shares
-      pub busy : AreFed back → (AreCalm back → ⊥) → moved_in setting shares < moved_in setting back
+      pub calm : AreFed back → AreCalm back → moved_in network back ≡ moved_in network shares
+      pub busy : AreFed back → (AreCalm back → ⊥) → moved_in network shares < moved_in network back
       -- one was where a node could step by what the ends of its share were certain of
-      pub moves : AreFed back → (NoneCanStep shares → ⊥) → moved_in setting shares < moved_in setting back
+      pub moves : AreFed back → (NoneCanStep shares → ⊥) → moved_in network shares < moved_in network back
       -- where none was, they stand where they stood, and no node can step
-      pub stood : AreFed back → moved_in setting back ≡ moved_in setting shares → StandAsBefore back
-      pub rest : AreFed back → moved_in setting back ≡ moved_in setting shares → StandAtRest setting back
+      pub stood : AreFed back → moved_in network back ≡ moved_in network shares → StandAsBefore back
+      pub rest : AreFed back → moved_in network back ≡ moved_in network shares → StandAtRest network back

@@ -7,19 +7,19 @@ use Rattle.flow_base.specs.declared.transducer.Transducer.{Ghosts}
 use Rattle.flow_rings.specs.declared.rings.Rings.{Rings}
 use Rattle.flow_shares.specs.declared.share.Share.{Share}
 use Rattle.flow_meetings.specs.RoundTheorems.{net_of}
-use Rattle.flow_meetings.specs.Settings.{Setting, AreFed, NoneCanStep}
+use Rattle.flow_meetings.specs.SharedNetworks.{SharedNetwork, AreFed, NoneCanStep}
 use Rattle.flow_rounds.specs.Epochs.{IsEpoch}
 
-module _ {X : Type 0} (t : Ghosts X) (u : EndsGhosts Rings) (setting : Setting t) where
+module _ {X : Type 0} (t : Ghosts X) (u : EndsGhosts Rings) (network : SharedNetwork t) where
   -- An epoch of the shares, and of those that came back, and so on, gave these. A node could step before each, and memory
   -- was refused to none.
   abbrev pub Follow : List (Share X Rings t u) → List (List (Share X Rings t u)) → Type 0
   Follow shares [] = Unit {0}
-  Follow shares (back ∷ more) = (NoneCanStep shares → ⊥) × IsEpoch setting shares back × AreFed back × Follow back more
+  Follow shares (back ∷ more) = (NoneCanStep shares → ⊥) × IsEpoch network shares back × AreFed back × Follow back more
 
 -- there are at most twice as many as messages that are sent in the whole traffic of the network
 abbrev pub EpochsAreFew : {X : Type 0} → Ghosts X → EndsGhosts Rings → Type 0
 EpochsAreFew {X} t u =
-    (setting : Setting t) (shares : List (Share X Rings t u)) (backs : List (List (Share X Rings t u))) (whole : WholeTraffic t.behaviour.process (net_of setting.nodes setting.edges))
-    → Follow t u setting shares backs
-    → length backs ≤ 2 * total (λ e. length (whole.end.sent e)) (length setting.edges)
+    (network : SharedNetwork t) (shares : List (Share X Rings t u)) (backs : List (List (Share X Rings t u))) (whole : WholeTraffic t.behaviour.process (net_of network.nodes network.edges))
+    → Follow t u network shares backs
+    → length backs ≤ 2 * total (λ e. length (whole.end.sent e)) (length network.edges)

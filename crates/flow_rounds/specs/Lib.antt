@@ -1,4 +1,4 @@
 pub mod Standing
 pub mod Epochs
 pub mod Few
-pub mod Wires
+pub mod Owners

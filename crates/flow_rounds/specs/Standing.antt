@@ -12,10 +12,10 @@ use Rattle.flow_boxes.specs.Rounds.{IsLinked}
 use Rattle.flow_boxes.specs.declared.boxes.Boxes.{Boxes}
 use Rattle.flow_shares.specs.Deals.{share_of, AreDealt}
 use Rattle.flow_shares.specs.declared.share.Share.{Share}
-use Rattle.flow_meetings.specs.Joints.{views_of, writer_boxes, reader_boxes, HaveMet, AreStates}
-use Rattle.flow_meetings.specs.RoundTheorems.{NothingMoved, net_of, joint}
+use Rattle.flow_meetings.specs.Joints.{views_of, writer_boxes, reader_boxes, BoxesHaveMet, AreStates}
+use Rattle.flow_meetings.specs.RoundTheorems.{NothingMoved, net_of, box_configuration}
 use Rattle.flow_meetings.specs.Deals.{nodes_in}
-use Rattle.flow_meetings.specs.Settings.{Setting, moved_by, numbers_of, AreFed}
+use Rattle.flow_meetings.specs.SharedNetworks.{SharedNetwork, moves_by, numbers_of, AreFed}
 
 -- The two boxes of each edge are among these, and hold at most so many messages.
 pub record AreLinked (share : List ℕ) (edges : List Edge) (boxes : List Contents) (most : ℕ) : Type 0 where
@@ -34,32 +34,32 @@ module _ {X : Type 0} {t : Ghosts X} {u : EndsGhosts Boxes} where
   boxes_of shares = map (λ share. contents share.ends) shares
 
 -- how many messages were sent and received on all edges
-abbrev pub moved_in : {X : Type 0} {t : Ghosts X} → Setting t → List Contents → ℕ
-moved_in setting boxes = moved_by setting (views_of boxes)
+abbrev pub moved_in : {X : Type 0} {t : Ghosts X} → SharedNetwork t → List Contents → ℕ
+moved_in network boxes = moves_by network (views_of boxes)
 
-module _ {X : Type 0} {t : Ghosts X} {u : EndsGhosts Boxes} (setting : Setting t) where
+module _ {X : Type 0} {t : Ghosts X} {u : EndsGhosts Boxes} (network : SharedNetwork t) where
   -- where the nodes of these shares stand, with what their boxes say
-  abbrev pub joint_of : List t.State → List (Share X Boxes t u) → Configuration t.State Signal
-  joint_of states shares = joint t setting.share setting.edges states (boxes_of shares)
+  abbrev pub shares_configuration : List t.State → List (Share X Boxes t u) → Configuration t.State Signal
+  shares_configuration states shares = box_configuration t network.share network.edges states (boxes_of shares)
 
   -- All edges have met since: nothing was sent or received, and the shares have the same nodes.
-  pub record AreMet (shares after : List (Share X Boxes t u)) : Type 0 where
+  pub record HaveMetSince (shares after : List (Share X Boxes t u)) : Type 0 where
     pub numbers : numbers_of after ≡ numbers_of shares
     pub nodes : nodes_in after ≡ nodes_in shares
     pub fed : AreFed after
     pub traffic : NothingMoved (length (boxes_of shares)) (boxes_of shares) (boxes_of after)
-    pub met : HaveMet setting.share setting.edges (boxes_of after) setting.capacity
+    pub met : BoxesHaveMet network.share network.edges (boxes_of after) network.capacity
 
   -- The shares of the graph, with all its nodes and over boxes that have met, stand where a run of its network led.
   pub record StandBetweenRounds (shares : List (Share X Boxes t u)) : Type 0 where
-    pub deals : AreDealt setting.share setting.nodes (nodes_in shares)
+    pub deals : AreDealt network.share network.nodes (nodes_in shares)
     pub fed : AreFed shares
-    pub met : HaveMet setting.share setting.edges (boxes_of shares) setting.capacity
+    pub met : BoxesHaveMet network.share network.edges (boxes_of shares) network.capacity
     pub states : List t.State
-    pub are_states : AreStates setting.share setting.nodes (nodes_in shares) deals states
-    pub reaches : Reaches t.behaviour.process (net_of setting.nodes setting.edges) (Some setting.capacity) (start (net_of setting.nodes setting.edges)) (joint_of states shares)
+    pub are_states : AreStates network.share network.nodes (nodes_in shares) deals states
+    pub reaches : Reaches t.behaviour.process (net_of network.nodes network.edges) (Some network.capacity) (start (net_of network.nodes network.edges)) (shares_configuration states shares)
 
   -- And no node can step.
   pub record RestBetweenRounds (shares : List (Share X Boxes t u)) : Type 0 where
     pub stand : StandBetweenRounds shares
-    pub rest : AtRest t.behaviour.process (net_of setting.nodes setting.edges) (Some setting.capacity) (joint_of stand.states shares)
+    pub rest : AtRest t.behaviour.process (net_of network.nodes network.edges) (Some network.capacity) (shares_configuration stand.states shares)

@@ -2,7 +2,7 @@
 ghost use Rattle.std.specs.Prelude.{◌≡◌, map, IfOk};
 ghost use Rattle.std.specs.List.{AllZip};
 ghost use Rattle.flow_rings.specs.Rings.{Kept, SameRings, ends_of};
-ghost use Rattle.flow_shares.specs.Lending.{body_of};
+ghost use Rattle.flow_shares.specs.Lending.{share_nodes};
 ghost use Rattle.flow_meetings.specs.Deals.{ends_in};
 
 use flow_base::Transducer;
@@ -39,8 +39,8 @@ pub(crate) fn put_together<T: Transducer + Drop>(
         SameRings lender.share.value.ends own) lenders.items ends.items }
     requires kept { AllZip (λ lender own. Kept (ends_of lender.share.value.ends)
         (ends_of own)) lenders.items ends.items }
-    ensures bodies { IfOk result (λ shares. map (λ share. body_of share) shares.items ≡
-        map (λ lender. body_of lender.share.value) lenders.items) }
+    ensures bodies { IfOk result (λ shares. map (λ share. share_nodes share) shares.items ≡
+        map (λ lender. share_nodes lender.share.value) lenders.items) }
     ensures ends { IfOk result (λ shares. ends_in shares.items ≡ ends.items) }
 {
     let mut shares = Vec::with_capacity(alloc, lenders.len())?;

@@ -1,13 +1,13 @@
 // Epochs.
 ghost use Rattle.std.specs.Prelude.{◌≡◌, ◌+◌, ◌<◌, ◌≤◌, ◌⊎◌, IfOk};
 ghost use Rattle.flow_shares.specs.declared.error.WorkError.TheVariants.{NoThread};
-ghost use Rattle.flow_meetings.specs.Open.{AreWires};
-ghost use Rattle.flow_meetings.specs.Settings.{Setting, AreFed};
-ghost use Rattle.flow_rounds.specs.Epochs.{moved_in, AreLater, AreOfOneGraph, HaveMetAll, StandSound, StandAtRest, IsEpoch};
+ghost use Rattle.flow_meetings.specs.Open.{AreOwners};
+ghost use Rattle.flow_meetings.specs.SharedNetworks.{SharedNetwork, AreFed};
+ghost use Rattle.flow_rounds.specs.Epochs.{moved_in, AreLater, AreOfOneGraph, SharesHaveMet, StandSound, StandAtRest, IsEpoch};
 
 use crate::epoch_meeting::meet;
 use flow_base::Transducer;
-use flow_meetings::{Wire, are_fed, are_stuck};
+use flow_meetings::{EdgeOwners, are_fed, are_stuck};
 use flow_rings::Rings;
 use flow_shares::{Gate, Share, Start, WorkError, run_all};
 use std::alloc::Global;
@@ -27,24 +27,24 @@ pub fn epoch<
     rt: &R,
     alloc: Global,
     shares: Vec<Share<T, Rings>>,
-    wires: &[Wire],
+    owners: &[EdgeOwners],
     chunk: usize,
     idle_turns: usize,
     gate: &Arc<G, Global>,
     start: &mut S,
 ) -> Result<Vec<Share<T, Rings>>, WorkError>
-    ghost setting: { Setting ⟦<T as Transducer>⟧ }
+    ghost network: { SharedNetwork ⟦<T as Transducer>⟧ }
     requires some { 0 < chunk }
     requires idle { 0 < idle_turns }
-    requires wires { AreWires setting.share setting.edges wires.now }
-    requires graph { AreOfOneGraph setting shares.items }
+    requires owners { AreOwners network.share network.edges owners.now }
+    requires graph { AreOfOneGraph network shares.items }
     requires fed { AreFed shares.items }
-    ensures epoch { IfOk result (λ back. IsEpoch setting shares.items back.items) }
+    ensures epoch { IfOk result (λ back. IsEpoch network shares.items back.items) }
     ensures refused { S.refused start.new → S.refused start.old ⊎ (result ≡ Err NoThread) }
 {
-    let met = meet(alloc, shares, wires)?;
+    let met = meet(alloc, shares, owners)?;
     let back = run_all(rt, alloc, met, chunk, idle_turns, gate, start)?;
-    let back = meet(alloc, back, wires)?;
+    let back = meet(alloc, back, owners)?;
     Ok(back)
 }
 
@@ -62,37 +62,37 @@ pub fn run_epochs<
     rt: &R,
     alloc: Global,
     shares: Vec<Share<T, Rings>>,
-    wires: &[Wire],
+    owners: &[EdgeOwners],
     chunk: usize,
     idle_turns: usize,
     gate: &Arc<G, Global>,
     start: &mut S,
 ) -> Result<(Vec<Share<T, Rings>>, u64), WorkError>
-    ghost setting: { Setting ⟦<T as Transducer>⟧ }
+    ghost network: { SharedNetwork ⟦<T as Transducer>⟧ }
     requires some { 0 < chunk }
     requires idle { 0 < idle_turns }
-    requires wires { AreWires setting.share setting.edges wires.now }
-    requires graph { AreOfOneGraph setting shares.items }
+    requires owners { AreOwners network.share network.edges owners.now }
+    requires graph { AreOfOneGraph network shares.items }
     requires fed { AreFed shares.items }
     ensures later { IfOk result (λ made. AreLater shares.items made.0.items) }
-    ensures graph { IfOk result (λ made. AreOfOneGraph setting made.0.items) }
-    ensures met { IfOk result (λ made. HaveMetAll setting made.0.items) }
+    ensures graph { IfOk result (λ made. AreOfOneGraph network made.0.items) }
+    ensures met { IfOk result (λ made. SharesHaveMet network made.0.items) }
     ensures fed { IfOk result (λ made. AreFed made.0.items) }
-    ensures sound { IfOk result (λ made. StandSound setting made.0.items) }
-    ensures rest { IfOk result (λ made. StandAtRest setting made.0.items) }
-    ensures least { IfOk result (λ made. moved_in setting shares.items <
-        moved_in setting made.0.items → 0 < made.1) }
-    ensures most { IfOk result (λ made. made.1 + moved_in setting shares.items ≤
-        moved_in setting made.0.items) }
+    ensures sound { IfOk result (λ made. StandSound network made.0.items) }
+    ensures rest { IfOk result (λ made. StandAtRest network made.0.items) }
+    ensures least { IfOk result (λ made. moved_in network shares.items <
+        moved_in network made.0.items → 0 < made.1) }
+    ensures most { IfOk result (λ made. made.1 + moved_in network shares.items ≤
+        moved_in network made.0.items) }
     ensures refused { S.refused start.new → S.refused start.old ⊎ (result ≡ Err NoThread) }
 {
-    let mut shares = meet(alloc, shares, wires)?;
+    let mut shares = meet(alloc, shares, owners)?;
     let mut count: u64 = 0;
     'epochs: loop {
         if are_stuck(&mut shares) {
             return Ok((shares, count));
         }
-        let back = epoch(rt, alloc, shares, wires, chunk, idle_turns, gate, start)?;
+        let back = epoch(rt, alloc, shares, owners, chunk, idle_turns, gate, start)?;
         if !are_fed(&back) {
             return Err(WorkError::NoMemory);
         }

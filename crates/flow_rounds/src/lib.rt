@@ -16,13 +16,13 @@
 mod epoch_meeting;
 mod epoch_parts;
 mod epochs;
+mod owners;
 mod round;
 mod round_meeting;
 mod round_parts;
 mod theorems;
-mod wires;
 
 pub use epochs::{epoch, run_epochs};
+pub use owners::owners_of_shares;
 pub use round::run_rounds;
 pub use theorems::epochs_are_few;
-pub use wires::wires_of_shares;

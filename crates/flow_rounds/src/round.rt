@@ -1,14 +1,14 @@
 // Rounds.
 ghost use Rattle.std.specs.Prelude.{◌≡◌, ◌+◌, ◌<◌, ◌≤◌, ◌⊎◌, length, IfOk};
 ghost use Rattle.flow_shares.specs.declared.error.WorkError.TheVariants.{NoThread};
-ghost use Rattle.flow_meetings.specs.Open.{AreWires};
-ghost use Rattle.flow_meetings.specs.Settings.{Setting, NoneCanStep};
+ghost use Rattle.flow_meetings.specs.Open.{AreOwners};
+ghost use Rattle.flow_meetings.specs.SharedNetworks.{SharedNetwork, NoneCanStep};
 ghost use Rattle.flow_rounds.specs.Standing.{boxes_of, moved_in, StandBetweenRounds, RestBetweenRounds};
 
 use crate::round_meeting::meet;
 use flow_base::Transducer;
 use flow_boxes::Boxes;
-use flow_meetings::{Wire, are_fed, are_stuck};
+use flow_meetings::{EdgeOwners, are_fed, are_stuck};
 use flow_shares::{Gate, Share, Start, WorkError, run_all};
 use std::alloc::Global;
 use std::sync::Arc;
@@ -28,23 +28,23 @@ pub fn run_rounds<
     rt: &R,
     alloc: Global,
     shares: Vec<Share<T, Boxes>>,
-    wires: &[Wire],
+    owners: &[EdgeOwners],
     chunk: usize,
     idle_turns: usize,
     gate: &Arc<G, Global>,
     start: &mut S,
 ) -> Result<(Vec<Share<T, Boxes>>, u64), WorkError>
-    ghost setting: { Setting ⟦<T as Transducer>⟧ }
+    ghost network: { SharedNetwork ⟦<T as Transducer>⟧ }
     requires some { 0 < chunk }
     requires idle { 0 < idle_turns }
-    requires wires { AreWires setting.share setting.edges wires.now }
-    requires stand { StandBetweenRounds setting shares.items }
-    ensures rest { IfOk result (λ made. RestBetweenRounds setting made.0.items) }
+    requires owners { AreOwners network.share network.edges owners.now }
+    requires stand { StandBetweenRounds network shares.items }
+    ensures rest { IfOk result (λ made. RestBetweenRounds network made.0.items) }
     ensures count { IfOk result (λ made. length made.0.items ≡ length shares.items) }
-    ensures least { IfOk result (λ made. moved_in setting (boxes_of shares.items) <
-        moved_in setting (boxes_of made.0.items) → 0 < made.1) }
-    ensures most { IfOk result (λ made. made.1 + moved_in setting (boxes_of shares.items) ≤
-        moved_in setting (boxes_of made.0.items)) }
+    ensures least { IfOk result (λ made. moved_in network (boxes_of shares.items) <
+        moved_in network (boxes_of made.0.items) → 0 < made.1) }
+    ensures most { IfOk result (λ made. made.1 + moved_in network (boxes_of shares.items) ≤
+        moved_in network (boxes_of made.0.items)) }
     ensures refused { S.refused start.new → S.refused start.old ⊎ (result ≡ Err NoThread) }
 {
     let mut shares = shares;
@@ -53,7 +53,7 @@ pub fn run_rounds<
         if are_stuck(&mut shares) {
             return Ok((shares, count));
         }
-        shares = round(rt, alloc, shares, wires, chunk, idle_turns, gate, start)?;
+        shares = round(rt, alloc, shares, owners, chunk, idle_turns, gate, start)?;
         count = count.saturating_add(1);
     }
 }
@@ -68,20 +68,20 @@ fn round<
     rt: &R,
     alloc: Global,
     shares: Vec<Share<T, Boxes>>,
-    wires: &[Wire],
+    owners: &[EdgeOwners],
     chunk: usize,
     idle_turns: usize,
     gate: &Arc<G, Global>,
     start: &mut S,
 ) -> Result<Vec<Share<T, Boxes>>, WorkError>
-    ghost setting: { Setting ⟦<T as Transducer>⟧ }
+    ghost network: { SharedNetwork ⟦<T as Transducer>⟧ }
     requires some { 0 < chunk }
     requires idle { 0 < idle_turns }
-    requires wires { AreWires setting.share setting.edges wires.now }
-    requires stand { StandBetweenRounds setting shares.items }
-    ensures stand { IfOk result (λ made. StandBetweenRounds setting made.items) }
+    requires owners { AreOwners network.share network.edges owners.now }
+    requires stand { StandBetweenRounds network shares.items }
+    ensures stand { IfOk result (λ made. StandBetweenRounds network made.items) }
     ensures moves { IfOk result (λ made. (NoneCanStep shares.items → ⊥) →
-        moved_in setting (boxes_of shares.items) < moved_in setting (boxes_of made.items)) }
+        moved_in network (boxes_of shares.items) < moved_in network (boxes_of made.items)) }
     ensures count { IfOk result (λ made. length made.items ≡ length shares.items) }
     ensures refused { S.refused start.new → S.refused start.old ⊎ (result ≡ Err NoThread) }
 {
@@ -89,6 +89,6 @@ fn round<
     if !are_fed(&back) {
         return Err(WorkError::NoMemory);
     }
-    let met = meet(alloc, back, wires)?;
+    let met = meet(alloc, back, owners)?;
     Ok(met)
 }

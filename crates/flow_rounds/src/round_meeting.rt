@@ -1,13 +1,13 @@
 // Between two rounds.
 ghost use Rattle.std.specs.Prelude.{◌≡◌, IfOk};
-ghost use Rattle.flow_meetings.specs.Open.{AreWires};
-ghost use Rattle.flow_meetings.specs.Settings.{Setting, AreFed};
-ghost use Rattle.flow_rounds.specs.Standing.{AreLinked, boxes_of, AreMet};
+ghost use Rattle.flow_meetings.specs.Open.{AreOwners};
+ghost use Rattle.flow_meetings.specs.SharedNetworks.{SharedNetwork, AreFed};
+ghost use Rattle.flow_rounds.specs.Standing.{AreLinked, boxes_of, HaveMetSince};
 
 use crate::round_parts::{put_together, take_apart};
 use flow_base::Transducer;
 use flow_boxes::Boxes;
-use flow_meetings::{Wire, meet_all};
+use flow_meetings::{EdgeOwners, meet_all};
 use flow_shares::Share;
 use std::alloc::{AllocError, Global};
 
@@ -15,16 +15,16 @@ use std::alloc::{AllocError, Global};
 pub(crate) fn meet<T: Transducer + Drop>(
     alloc: Global,
     shares: Vec<Share<T, Boxes>>,
-    wires: &[Wire],
+    owners: &[EdgeOwners],
 ) -> Result<Vec<Share<T, Boxes>>, AllocError>
-    ghost setting: { Setting ⟦<T as Transducer>⟧ }
-    requires wires { AreWires setting.share setting.edges wires.now }
-    requires linked { AreLinked setting.share setting.edges
-        (boxes_of shares.items) setting.capacity }
+    ghost network: { SharedNetwork ⟦<T as Transducer>⟧ }
+    requires owners { AreOwners network.share network.edges owners.now }
+    requires linked { AreLinked network.share network.edges
+        (boxes_of shares.items) network.capacity }
     requires fed { AreFed shares.items }
-    ensures { IfOk result (λ met. AreMet setting shares.items met.items) }
+    ensures { IfOk result (λ met. HaveMetSince network shares.items met.items) }
 {
     let (parts, mut boxes) = take_apart(alloc, shares)?;
-    meet_all(&mut boxes, wires);
+    meet_all(&mut boxes, owners);
     put_together(alloc, parts, boxes)
 }

@@ -8,13 +8,13 @@ use Rattle.snesl_data.specs.Values.{Value}
 use Rattle.flow_messages.specs.Cells.{Cell}
 use Rattle.flow_base.specs.Lists.{Lists}
 use Rattle.flow_base.specs.Ports.{ports, each_port}
-use Rattle.flow_base.specs.Flags.{flags, joined, lengths}
+use Rattle.flow_base.specs.Flags.{flags, concatenation, lengths}
 use Rattle.flow_base.specs.Columns.{columns, columns_same, column_is}
 use Rattle.flow_values.specs.Shapes.{kinds_of, cell_for, first_of, second_of, elements_of}
 use Rattle.flow_values.specs.Flats.{only_at, width, flat, Outputs}
 use Rattle.flow_values.specs.laws.Flats.{flat_each}
 use Rattle.flow_values.specs.laws.Sides.{only_here, only_there, spread_above, all_below, all_none}
-use Rattle.flow_rows.specs.Made.{laid}
+use Rattle.flow_rows.specs.Made.{columns_of_values}
 
 -- the columns of two numbers of ports
 columns_add : (m n : ℕ) (i : Lists Cell) → columns (m + n) i ≡ columns m i ++ columns n (λ q. i (m + q))
@@ -46,7 +46,7 @@ flat_shift (pair first second) k p q vs =
     ap₂ (λ a b. a ++ b) (flat_shift first k p q (map first_of vs)) (ap (λ r. flat second r (map second_of vs) (k + q)) e ∙ flat_shift second k (p + width first) q (map second_of vs))
 flat_shift (seq item) k p q vs =
     let e : k + p + 1 ≡ k + (p + 1) = omega arith in
-    ap₂ (λ a b. a ++ b) (only_shift k p q (flags (lengths (map elements_of vs)))) (ap (λ r. flat item r (joined (map elements_of vs)) (k + q)) e ∙ flat_shift item k (p + 1) q (joined (map elements_of vs)))
+    ap₂ (λ a b. a ++ b) (only_shift k p q (flags (lengths (map elements_of vs)))) (ap (λ r. flat item r (concatenation (map elements_of vs)) (k + q)) e ∙ flat_shift item k (p + 1) q (concatenation (map elements_of vs)))
 
 flat_below : (ty : Ty) (p q : ℕ) (vs : List Value) → q < p → flat ty p vs q ≡ []
 flat_below ty p q vs lt = ap (λ l. l q) (flat_each ty p vs) ∙ all_below ty p vs q lt
@@ -60,7 +60,7 @@ append_left xs ys e = ap (λ l. xs ++ l) e ∙ append-nil xs
 append_right : (xs ys : List Cell) → xs ≡ [] → xs ++ ys ≡ ys
 append_right xs ys e = ap (λ l. l ++ ys) e
 
-pub laid_pair : (first second : Ty) (vs : List Value) → laid (pair first second) vs ≡ laid first (map first_of vs) ++ laid second (map second_of vs)
+pub laid_pair : (first second : Ty) (vs : List Value) → columns_of_values (pair first second) vs ≡ columns_of_values first (map first_of vs) ++ columns_of_values second (map second_of vs)
 laid_pair first second vs =
     let m = width first in
     let n = width second in
@@ -74,11 +74,11 @@ laid_pair first second vs =
     append_right (l (m + q)) (r (m + q)) (flat_above first 0 (m + q) (map first_of vs) (omega arith)) ∙ ap (λ p. flat second p (map second_of vs) (m + q)) e ∙ flat_shift second m 0 q (map second_of vs)) in
     ap (λ k. columns k all) (length-append (kinds_of first) (kinds_of second)) ∙ columns_add m n all ∙ ap₂ (λ a b. a ++ b) left right
 
-pub laid_seq : (item : Ty) (vs : List Value) → laid (seq item) vs ≡ flags (lengths (map elements_of vs)) ∷ laid item (joined (map elements_of vs))
+pub laid_seq : (item : Ty) (vs : List Value) → columns_of_values (seq item) vs ≡ flags (lengths (map elements_of vs)) ∷ columns_of_values item (concatenation (map elements_of vs))
 laid_seq item vs =
     let n = width item in
     let f = flags (lengths (map elements_of vs)) in
-    let others = joined (map elements_of vs) in
+    let others = concatenation (map elements_of vs) in
     let all = flat (seq item) 0 vs in
     let first : all 0 ≡ f = append_left (only_at 0 f 0) (flat item (0 + 1) others 0) (flat_below item (0 + 1) 0 others (omega arith)) ∙ only_here 0 f in
     let behind : columns n (λ q. all (suc q)) ≡ columns n (flat item 0 others) =
@@ -88,11 +88,11 @@ laid_seq item vs =
     append_right (only_at 0 f (suc q)) (flat item (0 + 1) others (suc q)) (only_there 0 (suc q) f other) ∙ ap (flat item (0 + 1) others) e ∙ flat_shift item 1 0 q others) in
     ap₂ (λ l cs. l ∷ cs) first behind
 
-pub laid_length : (ty : Ty) (vs : List Value) → length (laid ty vs) ≡ width ty
+pub laid_length : (ty : Ty) (vs : List Value) → length (columns_of_values ty vs) ≡ width ty
 laid_length ty vs = columns_length (width ty) (flat ty 0 vs)
 
 -- lists at so many ports are values where their columns are
-pub laid_is : (ty : Ty) (o : Lists Cell) (vs : List Value) → Outputs (width ty) o (flat ty 0 vs) ↔ (columns (width ty) o ≡ laid ty vs)
+pub laid_is : (ty : Ty) (o : Lists Cell) (vs : List Value) → Outputs (width ty) o (flat ty 0 vs) ↔ (columns (width ty) o ≡ columns_of_values ty vs)
 laid_is ty o vs = (
   λ h. columns_same (width ty) o (flat ty 0 vs) h,
   λ e q lt. sym (column_is (width ty) o q lt) ∙ ap (λ cs. each_port cs q) e ∙ column_is (width ty) (flat ty 0 vs) q lt,

@@ -7,14 +7,14 @@ use Rattle.snesl_data.specs.declared.dialect.Dialect.{Dialect}
 use Rattle.snesl_data.specs.Types.{Ty, vec, seq}
 use Rattle.snesl_data.specs.Values.{Value}
 use Rattle.snesl_operators.specs.Operators.{ranged, unary_value, binary_value}
-use Rattle.snesl_operators.specs.Reductions.{reduced, scanned}
+use Rattle.snesl_operators.specs.Reductions.{reduction_of, scan_of}
 use Rattle.snesl_operators.specs.declared.scalar.Scalar.{Scalar}
 use Rattle.snesl_operators.specs.declared.operator.UnaryOperator.{UnaryOperator}
 use Rattle.snesl_operators.specs.declared.operator.BinaryOperator.{BinaryOperator}
 use Rattle.snesl_operators.specs.declared.operator.Reduction.{Reduction}
 use Rattle.flow_messages.specs.Cells.{Cell, unit, flag, datum}
 use Rattle.flow_messages.specs.declared.message.Kind.{Kind}
-use Rattle.flow_base.specs.Flags.{F, T, elements, flags, joined, lengths}
+use Rattle.flow_base.specs.Flags.{F, T, elements, flags, concatenation, lengths}
 use Rattle.flow_base.specs.Ranges.{AllOf}
 use Rattle.flow_folds.specs.Scalars.{cell_of_scalar}
 use Rattle.flow_scalar.specs.Rows.{numbers_below, units_for}
@@ -22,7 +22,7 @@ use Rattle.flow_segment.specs.Rows.{one_if}
 use Rattle.flow_values.specs.Shapes.{is_a}
 use Rattle.flow_rows.specs.Lists.{bind, each, paired, cut, dist, pack, interleave, concat_flags, append_flags}
 use Rattle.flow_rows.specs.Decoded.{a_seq_of}
-use Rattle.flow_rows.specs.Made.{one, scalar_cells, integer_cells, laid, source_made, const_made, unary_made, binary_made, fork_made, sink_made, iota_made, units_of_made, scan_add_made, reduce_made, length_made, dist_made, pack_made, pack_groups_made, flag_of_bool_made, same_flags_made, concat_flags_made, part_flags_made, the_check_made, append_flags_made, interleave_made, interleave_groups_made, of_one, print_made, tab_of, tab_made, seq_made, picked, index_made}
+use Rattle.flow_rows.specs.Made.{one, scalar_cells, integer_cells, columns_of_values, source_made, const_made, unary_made, binary_made, fork_made, sink_made, iota_made, units_of_made, scan_add_made, reduce_made, length_made, dist_made, pack_made, pack_groups_made, flag_of_bool_made, same_flags_made, concat_flags_made, part_flags_made, the_check_made, append_flags_made, interleave_made, interleave_groups_made, of_one, print_made, tab_of, tab_made, seq_made, picked, index_made}
 use Rattle.flow_rows.proofs.Decoding.{numbers_forth, truths_forth, integers_forth, scalars_forth, units_forth, items_forth}
 use Rattle.flow_rows.proofs.FlagRows.{same_flags_forth, part_flags_forth, the_check_forth}
 use Rattle.flow_rows.proofs.ScalarRows.{each_natural}
@@ -50,7 +50,7 @@ fork_makes kind outputs a h = rw (items_forth kind a h) refl
 pub sink_makes : (kind : Kind) (a : List Cell) → AllOf kind a → sink_made kind (a ∷ []) ≡ Some []
 sink_makes kind a h = rw (items_forth kind a h) refl
 
-pub iota_makes : (ns : List ℕ) → iota_made (integer_cells (map pos ns) ∷ []) ≡ Some (flags ns ∷ joined (map numbers_below ns) ∷ [])
+pub iota_makes : (ns : List ℕ) → iota_made (integer_cells (map pos ns) ∷ []) ≡ Some (flags ns ∷ concatenation (map numbers_below ns) ∷ [])
 iota_makes ns = rw (integers_forth (map pos ns), each_natural ns) refl
 
 copies_more : (n k : ℕ) → replicate n unit ++ replicate k unit ≡ replicate (n + k) unit
@@ -73,11 +73,11 @@ pub units_of_makes : (ns : List ℕ) → units_of_made (flags ns ∷ []) ≡ Som
 units_of_makes ns = let g = flags_are_truths ns in ap (λ f. units_of_made (f ∷ [])) g.1 ∙ rw (truths_forth g.0) (ap (λ l. Some (l ∷ [])) g.2)
 
 pub scan_add_makes : (dialect : Dialect) (ns : List ℕ) (xs : List ℤ) →
-    scan_add_made dialect (flags ns ∷ integer_cells xs ∷ []) ≡ one (λ sums. joined (map integer_cells sums)) (bind (cut ns xs) (each (λ group. result_ok (scanned dialect group))))
+    scan_add_made dialect (flags ns ∷ integer_cells xs ∷ []) ≡ one (λ sums. concatenation (map integer_cells sums)) (bind (cut ns xs) (each (λ group. result_ok (scan_of dialect group))))
 scan_add_makes dialect ns xs = rw (numbers_forth ns, integers_forth xs) refl
 
 pub reduce_makes : (dialect : Dialect) (reduction : Reduction) (ns : List ℕ) (xs : List Scalar) →
-    reduce_made dialect reduction (flags ns ∷ scalar_cells xs ∷ []) ≡ one scalar_cells (bind (cut ns xs) (each (λ group. result_ok (reduced dialect reduction group))))
+    reduce_made dialect reduction (flags ns ∷ scalar_cells xs ∷ []) ≡ one scalar_cells (bind (cut ns xs) (each (λ group. result_ok (reduction_of dialect reduction group))))
 reduce_makes dialect reduction ns xs = rw (numbers_forth ns, scalars_forth xs) refl
 
 pub length_makes : (dialect : Dialect) (ns : List ℕ) → length_made dialect (flags ns ∷ []) ≡ one integer_cells (each (λ n. result_ok (ranged dialect (pos n))) ns)
@@ -103,7 +103,7 @@ same_flags_makes ns = let g = flags_are_truths ns in ap (λ f. same_flags_made (
 pub concat_flags_makes : (ns ms : List ℕ) → concat_flags_made (flags ns ∷ flags ms ∷ []) ≡ one flags (concat_flags ns ms)
 concat_flags_makes ns ms = rw (numbers_forth ns, numbers_forth ms) refl
 
-pub part_flags_makes : (groups : List (List ℕ)) → part_flags_made (flags (map (sum_by suc) groups) ∷ flags (joined groups) ∷ flags (map sum groups) ∷ []) ≡ Some (flags (lengths groups) ∷ flags (joined groups) ∷ [])
+pub part_flags_makes : (groups : List (List ℕ)) → part_flags_made (flags (map (sum_by suc) groups) ∷ flags (concatenation groups) ∷ flags (map sum groups) ∷ []) ≡ Some (flags (lengths groups) ∷ flags (concatenation groups) ∷ [])
 part_flags_makes groups = part_flags_forth groups
 
 pub the_check_makes : (n : ℕ) → the_check_made (flags (replicate n 1) ∷ []) ≡ Some []
@@ -120,16 +120,16 @@ interleave_groups_makes ns ms ks ls = rw (numbers_forth ns, numbers_forth ms, nu
 
 -- Values of a type
 
-pub print_makes : (ty : Ty) (v : Value) → is_a ty v ≡ true → print_made ty (laid ty (v ∷ [])) ≡ Some []
+pub print_makes : (ty : Ty) (v : Value) → is_a ty v ≡ true → print_made ty (columns_of_values ty (v ∷ [])) ≡ Some []
 print_makes ty v is = ap (λ o. bind o of_one) (values_forth ty (v ∷ []) (all_cons ty v [] is refl))
 
-pub tab_makes : (ty : Ty) (gs : List (List Value)) → AllAre ty (joined gs) → tab_made ty (laid (seq ty) (map a_seq_of gs)) ≡ one (map datum) (each (tab_of ty) gs)
+pub tab_makes : (ty : Ty) (gs : List (List Value)) → AllAre ty (concatenation gs) → tab_made ty (columns_of_values (seq ty) (map a_seq_of gs)) ≡ one (map datum) (each (tab_of ty) gs)
 tab_makes ty gs are =
-    ap (tab_made ty) (laid_seq ty (map a_seq_of gs) ∙ ap (λ gs. flags (lengths gs) ∷ laid ty (joined gs)) (elements_made gs))
-    ∙ rw (grouped_forth ty gs (values_forth ty (joined gs) are)) refl
+    ap (tab_made ty) (laid_seq ty (map a_seq_of gs) ∙ ap (λ gs. flags (lengths gs) ∷ columns_of_values ty (concatenation gs)) (elements_made gs))
+    ∙ rw (grouped_forth ty gs (values_forth ty (concatenation gs) are)) refl
 
-pub seq_makes : (item : Ty) (vs : List Value) → AllAre (vec item) vs → seq_made item (map datum vs ∷ []) ≡ Some (laid (seq item) vs)
-seq_makes item vs are = ap (option_map (laid (seq item))) (data_vectors_forth item vs are)
+pub seq_makes : (item : Ty) (vs : List Value) → AllAre (vec item) vs → seq_made item (map datum vs ∷ []) ≡ Some (columns_of_values (seq item) vs)
+seq_makes item vs are = ap (option_map (columns_of_values (seq item))) (data_vectors_forth item vs are)
 
-pub index_makes : (item : Ty) (vs : List Value) (ns : List ℤ) → AllAre (vec item) vs → index_made item (map datum vs ∷ integer_cells ns ∷ []) ≡ option_map (laid item) (bind (paired vs ns) (each picked))
+pub index_makes : (item : Ty) (vs : List Value) (ns : List ℤ) → AllAre (vec item) vs → index_made item (map datum vs ∷ integer_cells ns ∷ []) ≡ option_map (columns_of_values item) (bind (paired vs ns) (each picked))
 index_makes item vs ns are = rw (data_vectors_forth item vs are, integers_forth ns) refl

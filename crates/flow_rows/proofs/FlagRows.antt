@@ -6,7 +6,7 @@ use Rattle.std.proofs.lemmas.List.Sums.{sum_by-cons}
 use Rattle.std.proofs.lemmas.Bool.{eqb-true, eq-eqb}
 use Rattle.flow_messages.specs.Cells.{Cell, flag}
 use Rattle.flow_base.specs.Lists.{Lists}
-use Rattle.flow_base.specs.Flags.{F, T, elements, flags, joined, lengths}
+use Rattle.flow_base.specs.Flags.{F, T, elements, flags, concatenation, lengths}
 use Rattle.flow_base.specs.Columns.{Columns, columns, RowOf}
 use Rattle.snesl_operators.specs.Operators.{same_truth}
 use Rattle.flow_segment.specs.Rows.{Sides, lefts, rights, alternated, kept_flags, pack_groups_reads, pack_groups_writes, PackGroupsRow, flag_of_bool_reads, flag_of_bool_writes, FlagOfBoolRow, same_flags_reads, SameFlagsRow, concat_flags_reads, concat_flags_writes, ConcatFlagsRow, part_flags_reads, part_flags_writes, PartFlagsRow, the_check_reads, TheCheckRow, append_flags_reads, append_flags_writes, AppendFlagsRow, interleave_groups_reads, InterleaveGroupsRow}
@@ -45,9 +45,9 @@ flags_append : (ns ms : List ℕ) → flags (ns ++ ms) ≡ flags ns ++ flags ms
 flags_append [] ms = refl
 flags_append (n ∷ ns) ms = ap (λ l. elements n (T ∷ l)) (flags_append ns ms) ∙ sym (elements_append n (flags ns) (flags ms))
 
-pub flags_joined : (groups : List (List ℕ)) → flags (joined groups) ≡ joined (map flags groups)
+pub flags_joined : (groups : List (List ℕ)) → flags (concatenation groups) ≡ concatenation (map flags groups)
 flags_joined [] = refl
-flags_joined (ns ∷ groups) = flags_append ns (joined groups) ∙ ap (λ l. flags ns ++ l) (flags_joined groups)
+flags_joined (ns ∷ groups) = flags_append ns (concatenation groups) ∙ ap (λ l. flags ns ++ l) (flags_joined groups)
 
 -- PartFlags
 
@@ -55,7 +55,7 @@ segments_lengths : (groups : List (List ℕ)) → lengths (map flags groups) ≡
 segments_lengths [] = refl
 segments_lengths (ns ∷ groups) = ap₂ (λ n ns. n ∷ ns) (flags_length ns) (segments_lengths groups)
 
-segments_cut : (groups : List (List ℕ)) → cut (map (sum_by suc) groups) (flags (joined groups)) ≡ Some (map flags groups)
+segments_cut : (groups : List (List ℕ)) → cut (map (sum_by suc) groups) (flags (concatenation groups)) ≡ Some (map flags groups)
 segments_cut groups = ap₂ cut (sym (segments_lengths groups)) (flags_joined groups) ∙ cut_forth (map flags groups)
 
 each_numbers : (groups : List (List ℕ)) → each numbers (map flags groups) ≡ Some groups
@@ -84,7 +84,7 @@ part_flags_back g b f o e =
     let segments = each_numbers_back s2.0 parts s3.1 in
     let c = cut_back s1.0 b s2.0 s2.1 in
     let g_is = numbers_back g s1.0 s1.1 ∙ ap flags (c.0 ∙ ap lengths segments ∙ segments_lengths parts) in
-    let b_is = c.1 ∙ ap joined segments ∙ sym (flags_joined parts) in
+    let b_is = c.1 ∙ ap concatenation segments ∙ sym (flags_joined parts) in
     let f_is = numbers_back f s4.0 s4.1 ∙ ap flags (sym (same_numbers_back (map sum parts) s4.0 s5.0)) in
     (parts, ap₂ (λ g l. g ∷ l) g_is (ap₂ (λ b f. b ∷ f ∷ []) b_is f_is), s5.1)
 
@@ -154,7 +154,7 @@ same_flags_row = function_of same_flags_reads (λ _. []) same_flags_made 2 0 sam
 -- ConcatFlags
 
 concat_flags_forth : (groups : List (List ℕ)) → concat_flags_made (concat_flags_reads groups) ≡ Some (concat_flags_writes groups)
-concat_flags_forth groups = rw (numbers_forth (lengths groups), numbers_forth (joined groups), cut_forth groups) refl
+concat_flags_forth groups = rw (numbers_forth (lengths groups), numbers_forth (concatenation groups), cut_forth groups) refl
 
 concat_flags_back : (f g : List Cell) (o : Columns) → concat_flags_made (f ∷ g ∷ []) ≡ Some o → (groups : List (List ℕ)) × (f ∷ g ∷ [] ≡ concat_flags_reads groups) × (o ≡ concat_flags_writes groups)
 concat_flags_back f g o e =
@@ -207,7 +207,7 @@ append_flags_row = function_of append_flags_reads append_flags_writes append_fla
 -- InterleaveGroups
 
 interleave_groups_forth : (xs : Sides ℕ) → interleave_groups_made (interleave_groups_reads xs) ≡ Some (flags (alternated xs) ∷ [])
-interleave_groups_forth xs = rw (numbers_forth (lengths (lefts xs)), numbers_forth (lengths (rights xs)), numbers_forth (joined (lefts xs)), numbers_forth (joined (rights xs)), interleave_forth xs) refl
+interleave_groups_forth xs = rw (numbers_forth (lengths (lefts xs)), numbers_forth (lengths (rights xs)), numbers_forth (concatenation (lefts xs)), numbers_forth (concatenation (rights xs)), interleave_forth xs) refl
 
 interleave_groups_back : (f g p q : List Cell) (o : Columns) → interleave_groups_made (f ∷ g ∷ p ∷ q ∷ []) ≡ Some o → (xs : Sides ℕ) × (f ∷ g ∷ p ∷ q ∷ [] ≡ interleave_groups_reads xs) × (o ≡ flags (alternated xs) ∷ [])
 interleave_groups_back f g p q o e =

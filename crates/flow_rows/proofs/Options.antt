@@ -3,7 +3,7 @@ use Rattle.std.specs.Prelude.{◌≡◌, ℕ, zero, suc, Bool, true, false, List
 use Rattle.std.specs.Result.{result_ok}
 use Rattle.std.proofs.Common.{sym, ◌∙◌, ap}
 use Rattle.std.proofs.Math.Path.{ap₂}
-use Rattle.flow_base.specs.Flags.{joined, lengths}
+use Rattle.flow_base.specs.Flags.{concatenation, lengths}
 use Rattle.flow_segment.specs.Rows.{Sides, lefts, rights, alternated}
 use Rattle.flow_values.specs.laws.Kinds.{both_true}
 use Rattle.flow_rows.specs.Lists.{bind, only_if, each, same_lists, paired, front, cut, interleave}
@@ -81,19 +81,19 @@ front_back (suc n) (x ∷ xs) p e =
     let others = front_back n xs g.0 g.1 in
     (ap suc others.0 ∙ ap (λ p. length p.0) (sym g.2), ap (λ l. x ∷ l) others.1 ∙ ap (λ p. p.0 ++ p.1) (sym g.2))
 
-pub cut_forth : {A : Type 0} (groups : List (List A)) → cut (lengths groups) (joined groups) ≡ Some groups
+pub cut_forth : {A : Type 0} (groups : List (List A)) → cut (lengths groups) (concatenation groups) ≡ Some groups
 cut_forth [] = refl
-cut_forth (l ∷ groups) = rw (front_forth l (joined groups), cut_forth groups) refl
+cut_forth (l ∷ groups) = rw (front_forth l (concatenation groups), cut_forth groups) refl
 
-pub cut_back : {A : Type 0} (ns : List ℕ) (xs : List A) (groups : List (List A)) → cut ns xs ≡ Some groups → (ns ≡ lengths groups) × (xs ≡ joined groups)
-cut_back [] [] groups e = let same : [] ≡ groups = cc in (ap lengths same, ap joined same)
+pub cut_back : {A : Type 0} (ns : List ℕ) (xs : List A) (groups : List (List A)) → cut ns xs ≡ Some groups → (ns ≡ lengths groups) × (xs ≡ concatenation groups)
+cut_back [] [] groups e = let same : [] ≡ groups = cc in (ap lengths same, ap concatenation same)
 cut_back [] (x ∷ xs) groups e = absurd (cc)
 cut_back (n ∷ ns) xs groups e =
     let g = bind_gives (front n xs) (λ p. option_map (λ groups. p.0 ∷ groups) (cut ns p.1)) e in
     let k = map_gives (λ groups. g.0.0 ∷ groups) (cut ns g.0.1) g.2 in
     let first = front_back n xs g.0 g.1 in
     let others = cut_back ns g.0.1 k.0 k.1 in
-    (ap₂ (λ n ns. n ∷ ns) first.0 others.0 ∙ ap lengths (sym k.2), first.1 ∙ ap (λ l. g.0.0 ++ l) others.1 ∙ ap joined (sym k.2))
+    (ap₂ (λ n ns. n ∷ ns) first.0 others.0 ∙ ap lengths (sym k.2), first.1 ∙ ap (λ l. g.0.0 ++ l) others.1 ∙ ap concatenation (sym k.2))
 
 pub lengths_map : {A Z : Type 0} (f : Z → List A) (zs : List Z) → lengths (map f zs) ≡ map (λ z. length (f z)) zs
 lengths_map f [] = refl
@@ -107,20 +107,20 @@ pub map_append : {A B : Type 0} (f : A → B) (xs ys : List A) → map f (xs ++ 
 map_append f [] ys = refl
 map_append f (x ∷ xs) ys = ap (λ l. f x ∷ l) (map_append f xs ys)
 
-pub map_joined : {A B : Type 0} (f : A → B) (ls : List (List A)) → map f (joined ls) ≡ joined (map (map f) ls)
+pub map_joined : {A B : Type 0} (f : A → B) (ls : List (List A)) → map f (concatenation ls) ≡ concatenation (map (map f) ls)
 map_joined f [] = refl
-map_joined f (l ∷ ls) = map_append f l (joined ls) ∙ ap (λ m. map f l ++ m) (map_joined f ls)
+map_joined f (l ∷ ls) = map_append f l (concatenation ls) ∙ ap (λ m. map f l ++ m) (map_joined f ls)
 
 -- what is taken alternately are the groups of both sides
-pub interleave_forth : {A : Type 0} (xs : Sides A) → interleave (lengths (lefts xs)) (lengths (rights xs)) (joined (lefts xs)) (joined (rights xs)) ≡ Some (alternated xs)
+pub interleave_forth : {A : Type 0} (xs : Sides A) → interleave (lengths (lefts xs)) (lengths (rights xs)) (concatenation (lefts xs)) (concatenation (rights xs)) ≡ Some (alternated xs)
 interleave_forth xs = rw (cut_forth (lefts xs), cut_forth (rights xs), paired_forth xs) refl
 
 pub record Interleaved {A : Type 0} (ns ms : List ℕ) (us vs r : List A) : Type 0 where
   pub sides : Sides A
   pub ns_are : ns ≡ lengths (lefts sides)
   pub ms_are : ms ≡ lengths (rights sides)
-  pub us_are : us ≡ joined (lefts sides)
-  pub vs_are : vs ≡ joined (rights sides)
+  pub us_are : us ≡ concatenation (lefts sides)
+  pub vs_are : vs ≡ concatenation (rights sides)
   pub r_is : r ≡ alternated sides
 
 pub interleave_back : {A : Type 0} (ns ms : List ℕ) (us vs r : List A) → interleave ns ms us vs ≡ Some r → Interleaved ns ms us vs r
@@ -131,7 +131,7 @@ interleave_back ns ms us vs r e =
     let both = paired_back s1.0 s2.0 s3.0 s3.1 in
     let c = cut_back ns us s1.0 s1.1 in
     let d = cut_back ms vs s2.0 s2.1 in
-    record { sides = s3.0; ns_are = c.0 ∙ ap lengths both.0; ms_are = d.0 ∙ ap lengths both.1; us_are = c.1 ∙ ap joined both.0; vs_are = d.1 ∙ ap joined both.1; r_is = s3.2 }
+    record { sides = s3.0; ns_are = c.0 ∙ ap lengths both.0; ms_are = d.0 ∙ ap lengths both.1; us_are = c.1 ∙ ap concatenation both.0; vs_are = d.1 ∙ ap concatenation both.1; r_is = s3.2 }
 
 -- the same lists
 

@@ -10,7 +10,7 @@ use Rattle.snesl_data.specs.declared.fault.FaultKind.{FaultKind}
 use Rattle.snesl_data.specs.declared.fault.FaultKind.TheVariants.{Overflow}
 use Rattle.snesl_data.specs.Integers.{is_integer, IsInteger}
 use Rattle.snesl_operators.specs.Operators.{ranged, unary_value, binary_value}
-use Rattle.snesl_operators.specs.Reductions.{reduced, scanned}
+use Rattle.snesl_operators.specs.Reductions.{reduction_of, scan_of}
 use Rattle.snesl_operators.specs.declared.scalar.Scalar.{Scalar}
 use Rattle.snesl_operators.specs.declared.operator.UnaryOperator.{UnaryOperator}
 use Rattle.snesl_operators.specs.declared.operator.BinaryOperator.{BinaryOperator}
@@ -18,7 +18,7 @@ use Rattle.snesl_operators.specs.declared.operator.Reduction.{Reduction}
 use Rattle.flow_messages.specs.Cells.{Cell, int}
 use Rattle.flow_messages.specs.declared.message.Kind.{Kind}
 use Rattle.flow_base.specs.Ports.{each_port}
-use Rattle.flow_base.specs.Flags.{flags, joined, lengths}
+use Rattle.flow_base.specs.Flags.{flags, concatenation, lengths}
 use Rattle.flow_base.specs.Ranges.{AllOf}
 use Rattle.flow_base.specs.Columns.{Columns, columns, columns_same, column_is}
 use Rattle.flow_folds.specs.Scalars.{cell_of_scalar, scalar_in}
@@ -159,20 +159,20 @@ units_of_row = function_of units_of_reads units_of_writes units_of_made 1 1 unit
 
 -- groups of what is encoded cell by cell
 
-encoded_groups : {A Z : Type 0} (encode : A → Cell) (l : Z → List A) (zs : List Z) → joined (map (λ z. map encode (l z)) zs) ≡ map encode (joined (map l zs))
-encoded_groups encode l zs = ap joined (sym (map_map (map encode) l zs)) ∙ sym (map_joined encode (map l zs))
+encoded_groups : {A Z : Type 0} (encode : A → Cell) (l : Z → List A) (zs : List Z) → concatenation (map (λ z. map encode (l z)) zs) ≡ map encode (concatenation (map l zs))
+encoded_groups encode l zs = ap concatenation (sym (map_map (map encode) l zs)) ∙ sym (map_joined encode (map l zs))
 
-cut_groups : {A Z : Type 0} (l : Z → List A) (zs : List Z) → cut (map (λ z. length (l z)) zs) (joined (map l zs)) ≡ Some (map l zs)
-cut_groups l zs = ap (λ ns. cut ns (joined (map l zs))) (sym (lengths_map l zs)) ∙ cut_forth (map l zs)
+cut_groups : {A Z : Type 0} (l : Z → List A) (zs : List Z) → cut (map (λ z. length (l z)) zs) (concatenation (map l zs)) ≡ Some (map l zs)
+cut_groups l zs = ap (λ ns. cut ns (concatenation (map l zs))) (sym (lengths_map l zs)) ∙ cut_forth (map l zs)
 
 -- ScanAdd
 
 module _ (dialect : Dialect) where
   abbrev scan_at : List ℤ → Option (List ℤ)
-  scan_at group = result_ok (scanned dialect group)
+  scan_at group = result_ok (scan_of dialect group)
 
   scan_add_forth : (gs : List (Scanned dialect)) → scan_add_made dialect (scan_add_reads dialect gs) ≡ Some (scan_add_writes dialect gs)
-  scan_add_forth gs = rw (encoded_groups int (λ g. g.0) gs, numbers_forth (map (λ g. length g.0) gs), integers_forth (joined (map (λ g. g.0) gs)), cut_groups (λ g. g.0) gs, each_forth scan_at (λ g. g.0) (λ g. g.1) (λ g. ap result_ok g.2) gs) (ap (λ ls. Some (joined ls ∷ [])) (map_map integer_cells (λ g. g.1) gs))
+  scan_add_forth gs = rw (encoded_groups int (λ g. g.0) gs, numbers_forth (map (λ g. length g.0) gs), integers_forth (concatenation (map (λ g. g.0) gs)), cut_groups (λ g. g.0) gs, each_forth scan_at (λ g. g.0) (λ g. g.1) (λ g. ap result_ok g.2) gs) (ap (λ ls. Some (concatenation ls ∷ [])) (map_map integer_cells (λ g. g.1) gs))
 
   scan_add_back : (f a : List Cell) (o : Columns) → scan_add_made dialect (f ∷ a ∷ []) ≡ Some o → (gs : List (Scanned dialect)) × (f ∷ a ∷ [] ≡ scan_add_reads dialect gs) × (o ≡ scan_add_writes dialect gs)
   scan_add_back f a o e =
@@ -181,10 +181,10 @@ module _ (dialect : Dialect) where
       let s2 = bind_gives (integers a) _ s1.2 in
       let s3 = bind_gives (cut s1.0 s2.0) _ s2.2 in
       let c = cut_back s1.0 s2.0 s3.0 s3.1 in
-      let g = each_back {Z = Scanned dialect} scan_at (λ g. g.0) (λ g. g.1) (λ xs sums e. ((xs, sums, ok_gives (scanned dialect xs) e), refl, refl)) s3.0 s0.0 s3.2 in (
+      let g = each_back {Z = Scanned dialect} scan_at (λ g. g.0) (λ g. g.1) (λ xs sums e. ((xs, sums, ok_gives (scan_of dialect xs) e), refl, refl)) s3.0 s0.0 s3.2 in (
         g.0,
-        ap₂ (λ f a. f ∷ a ∷ []) (numbers_back f s1.0 s1.1 ∙ ap flags (c.0 ∙ ap lengths g.1 ∙ lengths_map (λ g. g.0) g.0)) (integers_back a s2.0 s2.1 ∙ ap integer_cells (c.1 ∙ ap joined g.1) ∙ sym (encoded_groups int (λ g. g.0) g.0)),
-        s0.2 ∙ ap (λ ls. joined ls ∷ []) (ap (map integer_cells) g.2 ∙ map_map integer_cells (λ g. g.1) g.0),
+        ap₂ (λ f a. f ∷ a ∷ []) (numbers_back f s1.0 s1.1 ∙ ap flags (c.0 ∙ ap lengths g.1 ∙ lengths_map (λ g. g.0) g.0)) (integers_back a s2.0 s2.1 ∙ ap integer_cells (c.1 ∙ ap concatenation g.1) ∙ sym (encoded_groups int (λ g. g.0) g.0)),
+        s0.2 ∙ ap (λ ls. concatenation ls ∷ []) (ap (map integer_cells) g.2 ∙ map_map integer_cells (λ g. g.1) g.0),
       )
 
   pub scan_add_row : IsFunction (ScanAddRow dialect) (scan_add_made dialect) 2 1
@@ -194,10 +194,10 @@ module _ (dialect : Dialect) where
 
 module _ (dialect : Dialect) (reduction : Reduction) where
   abbrev reduce_at : List Scalar → Option Scalar
-  reduce_at group = result_ok (reduced dialect reduction group)
+  reduce_at group = result_ok (reduction_of dialect reduction group)
 
   reduce_forth : (gs : List (Reduced dialect reduction)) → reduce_made dialect reduction (reduce_reads dialect reduction gs) ≡ Some (reduce_writes dialect reduction gs)
-  reduce_forth gs = rw (encoded_groups cell_of_scalar (λ g. g.0) gs, numbers_forth (map (λ g. length g.0) gs), scalars_forth (joined (map (λ g. g.0) gs)), cut_groups (λ g. g.0) gs, each_forth reduce_at (λ g. g.0) (λ g. g.1) (λ g. ap result_ok g.2) gs) (ap (λ l. Some (l ∷ [])) (map_map cell_of_scalar (λ g. g.1) gs))
+  reduce_forth gs = rw (encoded_groups cell_of_scalar (λ g. g.0) gs, numbers_forth (map (λ g. length g.0) gs), scalars_forth (concatenation (map (λ g. g.0) gs)), cut_groups (λ g. g.0) gs, each_forth reduce_at (λ g. g.0) (λ g. g.1) (λ g. ap result_ok g.2) gs) (ap (λ l. Some (l ∷ [])) (map_map cell_of_scalar (λ g. g.1) gs))
 
   reduce_back : (f a : List Cell) (o : Columns) → reduce_made dialect reduction (f ∷ a ∷ []) ≡ Some o → (gs : List (Reduced dialect reduction)) × (f ∷ a ∷ [] ≡ reduce_reads dialect reduction gs) × (o ≡ reduce_writes dialect reduction gs)
   reduce_back f a o e =
@@ -206,9 +206,9 @@ module _ (dialect : Dialect) (reduction : Reduction) where
       let s2 = bind_gives (scalars a) _ s1.2 in
       let s3 = bind_gives (cut s1.0 s2.0) _ s2.2 in
       let c = cut_back s1.0 s2.0 s3.0 s3.1 in
-      let g = each_back {Z = Reduced dialect reduction} reduce_at (λ g. g.0) (λ g. g.1) (λ xs k e. ((xs, k, ok_gives (reduced dialect reduction xs) e), refl, refl)) s3.0 s0.0 s3.2 in (
+      let g = each_back {Z = Reduced dialect reduction} reduce_at (λ g. g.0) (λ g. g.1) (λ xs k e. ((xs, k, ok_gives (reduction_of dialect reduction xs) e), refl, refl)) s3.0 s0.0 s3.2 in (
         g.0,
-        ap₂ (λ f a. f ∷ a ∷ []) (numbers_back f s1.0 s1.1 ∙ ap flags (c.0 ∙ ap lengths g.1 ∙ lengths_map (λ g. g.0) g.0)) (scalars_back a s2.0 s2.1 ∙ ap scalar_cells (c.1 ∙ ap joined g.1) ∙ sym (encoded_groups cell_of_scalar (λ g. g.0) g.0)),
+        ap₂ (λ f a. f ∷ a ∷ []) (numbers_back f s1.0 s1.1 ∙ ap flags (c.0 ∙ ap lengths g.1 ∙ lengths_map (λ g. g.0) g.0)) (scalars_back a s2.0 s2.1 ∙ ap scalar_cells (c.1 ∙ ap concatenation g.1) ∙ sym (encoded_groups cell_of_scalar (λ g. g.0) g.0)),
         s0.2 ∙ ap (λ l. l ∷ []) (ap scalar_cells g.2 ∙ map_map cell_of_scalar (λ g. g.1) g.0),
       )
 

@@ -5,7 +5,7 @@ use Rattle.std.proofs.Math.Path.{ap₂}
 use Rattle.std.proofs.lemmas.List.{length-map}
 use Rattle.flow_messages.specs.Cells.{Cell, flag}
 use Rattle.flow_messages.specs.declared.message.Kind.{Kind}
-use Rattle.flow_base.specs.Flags.{flags, joined, lengths}
+use Rattle.flow_base.specs.Flags.{flags, concatenation, lengths}
 use Rattle.flow_base.specs.Ranges.{AllOf}
 use Rattle.flow_base.specs.Columns.{Columns}
 use Rattle.flow_segment.specs.Rows.{repeated, DistRow, Pairs, pair_items, pack_reads, items_kept, PackRow, Sides, lefts, rights, alternated, AllOfSides, interleave_reads, InterleaveRow}
@@ -104,19 +104,19 @@ all_append : (kind : Kind) (xs ys : List Cell) → AllOf kind xs → AllOf kind 
 all_append kind [] ys h g = g
 all_append kind (x ∷ xs) ys h g = (h.0, all_append kind xs ys h.1 g)
 
-all_left : (kind : Kind) (xs : Sides Cell) → AllOfSides kind xs → AllOf kind (joined (lefts xs))
+all_left : (kind : Kind) (xs : Sides Cell) → AllOfSides kind xs → AllOf kind (concatenation (lefts xs))
 all_left kind [] h = tt
-all_left kind ((u, v) ∷ xs) h = all_append kind u (joined (lefts xs)) h.0 (all_left kind xs h.2)
+all_left kind ((u, v) ∷ xs) h = all_append kind u (concatenation (lefts xs)) h.0 (all_left kind xs h.2)
 
-all_right : (kind : Kind) (xs : Sides Cell) → AllOfSides kind xs → AllOf kind (joined (rights xs))
+all_right : (kind : Kind) (xs : Sides Cell) → AllOfSides kind xs → AllOf kind (concatenation (rights xs))
 all_right kind [] h = tt
-all_right kind ((u, v) ∷ xs) h = all_append kind v (joined (rights xs)) h.1 (all_right kind xs h.2)
+all_right kind ((u, v) ∷ xs) h = all_append kind v (concatenation (rights xs)) h.1 (all_right kind xs h.2)
 
-all_sides : (kind : Kind) (xs : Sides Cell) → AllOf kind (joined (lefts xs)) → AllOf kind (joined (rights xs)) → AllOfSides kind xs
+all_sides : (kind : Kind) (xs : Sides Cell) → AllOf kind (concatenation (lefts xs)) → AllOf kind (concatenation (rights xs)) → AllOfSides kind xs
 all_sides kind [] h g = tt
 all_sides kind ((u, v) ∷ xs) h g =
-    let l = all_parts kind u (joined (lefts xs)) h in
-    let r = all_parts kind v (joined (rights xs)) g in
+    let l = all_parts kind u (concatenation (lefts xs)) h in
+    let r = all_parts kind v (concatenation (rights xs)) g in
     (l.0, r.0, all_sides kind xs l.1 r.1)
 
 abbrev InterleaveCase : Kind → Type 0
@@ -125,7 +125,7 @@ InterleaveCase kind = (xs : Sides Cell) × AllOfSides kind xs
 interleave_row_forth : (kind : Kind) (x : InterleaveCase kind) → interleave_made kind (interleave_reads x.0) ≡ Some (alternated x.0 ∷ [])
 interleave_row_forth kind x =
     let xs = x.0 in
-    rw (numbers_forth (lengths (lefts xs)), numbers_forth (lengths (rights xs)), items_forth kind (joined (lefts xs)) (all_left kind xs x.1), items_forth kind (joined (rights xs)) (all_right kind xs x.1), interleave_forth xs) refl
+    rw (numbers_forth (lengths (lefts xs)), numbers_forth (lengths (rights xs)), items_forth kind (concatenation (lefts xs)) (all_left kind xs x.1), items_forth kind (concatenation (rights xs)) (all_right kind xs x.1), interleave_forth xs) refl
 
 interleave_row_back : (kind : Kind) (f g a b : List Cell) (o : Columns) → interleave_made kind (f ∷ g ∷ a ∷ b ∷ []) ≡ Some o → (x : InterleaveCase kind) × (f ∷ g ∷ a ∷ b ∷ [] ≡ interleave_reads x.0) × (o ≡ alternated x.0 ∷ [])
 interleave_row_back kind f g a b o e =

@@ -7,14 +7,14 @@ use Rattle.std.proofs.Math.Seq.{take-append_seam}
 use Rattle.snesl_data.specs.Types.{Ty, int, bool, pair, vec, seq}
 use Rattle.snesl_data.specs.Values.{Value, Values, an_int, a_bool, a_pair, a_vec, a_seq, no_values, more_values, list_of, values_of}
 use Rattle.flow_messages.specs.Cells.{Cell, datum}
-use Rattle.flow_base.specs.Flags.{flags, joined, lengths}
+use Rattle.flow_base.specs.Flags.{flags, concatenation, lengths}
 use Rattle.flow_base.specs.Columns.{Columns}
 use Rattle.flow_values.specs.Shapes.{is_a, all_are, cell_for, first_of, second_of, elements_of}
 use Rattle.flow_values.specs.Flats.{width}
 use Rattle.flow_values.specs.laws.Kinds.{both_true, and_true}
 use Rattle.flow_rows.specs.Lists.{each, paired}
 use Rattle.flow_rows.specs.Decoded.{numbers, truths, integers, value_in, of_type, grouped, a_pair_of, a_seq_of, values}
-use Rattle.flow_rows.specs.Made.{laid}
+use Rattle.flow_rows.specs.Made.{columns_of_values}
 use Rattle.flow_rows.proofs.Options.{bind_gives, map_gives, only_if_gives, only_if_true, some_same, paired_forth, paired_back, cut_forth, cut_back, map_map}
 use Rattle.flow_rows.proofs.Decoding.{numbers_forth, numbers_back, truths_forth, truths_back, integers_forth, integers_back, data_forth, data_back}
 use Rattle.flow_rows.proofs.Edges.{laid_pair, laid_seq, laid_length}
@@ -109,24 +109,24 @@ pub elements_made : (gs : List (List Value)) → map elements_of (map a_seq_of g
 elements_made [] = refl
 elements_made (g ∷ gs) = ap₂ (λ g gs. g ∷ gs) (list_values g) (elements_made gs)
 
-pub groups_apart : (item : Ty) (gs : List (List Value)) → AllAre (seq item) (map a_seq_of gs) → AllAre item (joined gs)
+pub groups_apart : (item : Ty) (gs : List (List Value)) → AllAre (seq item) (map a_seq_of gs) → AllAre item (concatenation gs)
 groups_apart item [] are = refl
 groups_apart item (g ∷ gs) are =
     let s = all_split (seq item) (a_seq_of g) (map a_seq_of gs) are in
-    all_joined item g (joined gs) s.0 (groups_apart item gs s.1)
+    all_joined item g (concatenation gs) s.0 (groups_apart item gs s.1)
 
-pub groups_made : (item : Ty) (gs : List (List Value)) → AllAre item (joined gs) → AllAre (seq item) (map a_seq_of gs)
+pub groups_made : (item : Ty) (gs : List (List Value)) → AllAre item (concatenation gs) → AllAre (seq item) (map a_seq_of gs)
 groups_made item [] are = refl
 groups_made item (g ∷ gs) are =
-    let s = all_apart item g (joined gs) are in
+    let s = all_apart item g (concatenation gs) are in
     all_cons (seq item) (a_seq_of g) (map a_seq_of gs) s.0 (groups_made item gs s.1)
 
 -- groups of values
 
-pub grouped_forth : (item : Ty) (gs : List (List Value)) → values item (laid item (joined gs)) ≡ Some (joined gs) → grouped (flags (lengths gs)) (values item (laid item (joined gs))) ≡ Some gs
+pub grouped_forth : (item : Ty) (gs : List (List Value)) → values item (columns_of_values item (concatenation gs)) ≡ Some (concatenation gs) → grouped (flags (lengths gs)) (values item (columns_of_values item (concatenation gs))) ≡ Some gs
 grouped_forth item gs e = rw (numbers_forth (lengths gs), e) (cut_forth gs)
 
-pub grouped_back : (f : List Cell) (o : Option (List Value)) (gs : List (List Value)) → grouped f o ≡ Some gs → (f ≡ flags (lengths gs)) × (o ≡ Some (joined gs))
+pub grouped_back : (f : List Cell) (o : Option (List Value)) (gs : List (List Value)) → grouped f o ≡ Some gs → (f ≡ flags (lengths gs)) × (o ≡ Some (concatenation gs))
 grouped_back f o gs e =
     let s1 = bind_gives (numbers f) _ e in
     let s2 = bind_gives o _ s1.2 in
@@ -179,15 +179,15 @@ behind_columns n xs ys e = ap (λ k. drop k (xs ++ ys)) (sym e) ∙ go xs
 
 -- values
 
-pub values_forth : (ty : Ty) (vs : List Value) → AllAre ty vs → values ty (laid ty vs) ≡ Some vs
+pub values_forth : (ty : Ty) (vs : List Value) → AllAre ty vs → values ty (columns_of_values ty vs) ≡ Some vs
 values_forth int vs are =
     let g = all_map int an_int int_is vs are in
-    ap (λ vs. values int (laid int vs)) g.1
+    ap (λ vs. values int (columns_of_values int vs)) g.1
     ∙ ap (λ xs. option_map (map an_int) (integers xs)) (map_map cell_for an_int g.0)
     ∙ ap (option_map (map an_int)) (integers_forth g.0) ∙ ap Some (sym g.1)
 values_forth bool vs are =
     let g = all_map bool a_bool bool_is vs are in
-    ap (λ vs. values bool (laid bool vs)) g.1
+    ap (λ vs. values bool (columns_of_values bool vs)) g.1
     ∙ ap (λ xs. option_map (map a_bool) (truths xs)) (map_map cell_for a_bool g.0)
     ∙ ap (option_map (map a_bool)) (truths_forth g.0) ∙ ap Some (sym g.1)
 values_forth (vec item) vs are = ap (λ xs. values (vec item) (xs ∷ [])) (vector_cells item vs are) ∙ data_vectors_forth item vs are
@@ -197,26 +197,26 @@ values_forth (pair first second) vs are =
     let l = map (λ p. p.0) ps in
     let r = map (λ p. p.1) ps in
     let apart = pairs_apart first second ps (subst (AllAre (pair first second)) g.1 are) in
-    let laid_are : laid (pair first second) vs ≡ laid first l ++ laid second r = ap (laid (pair first second)) g.1 ∙ laid_pair first second (map a_pair_of ps) ∙ ap₂ (λ a b. laid first a ++ laid second b) (lefts_of ps) (rights_of ps) in
-    let left : values first (take (width first) (laid first l ++ laid second r)) ≡ Some l = ap (values first) (front_columns (width first) (laid first l) (laid second r) (laid_length first l)) ∙ values_forth first l apart.0 in
-    let right : values second (drop (width first) (laid first l ++ laid second r)) ≡ Some r = ap (values second) (behind_columns (width first) (laid first l) (laid second r) (laid_length first l)) ∙ values_forth second r apart.1 in
+    let laid_are : columns_of_values (pair first second) vs ≡ columns_of_values first l ++ columns_of_values second r = ap (columns_of_values (pair first second)) g.1 ∙ laid_pair first second (map a_pair_of ps) ∙ ap₂ (λ a b. columns_of_values first a ++ columns_of_values second b) (lefts_of ps) (rights_of ps) in
+    let left : values first (take (width first) (columns_of_values first l ++ columns_of_values second r)) ≡ Some l = ap (values first) (front_columns (width first) (columns_of_values first l) (columns_of_values second r) (laid_length first l)) ∙ values_forth first l apart.0 in
+    let right : values second (drop (width first) (columns_of_values first l ++ columns_of_values second r)) ≡ Some r = ap (values second) (behind_columns (width first) (columns_of_values first l) (columns_of_values second r) (laid_length first l)) ∙ values_forth second r apart.1 in
     ap (values (pair first second)) laid_are ∙ rw (left, right, paired_forth ps) (ap Some (sym g.1))
 values_forth (seq item) vs are =
     let g = all_map (seq item) a_seq_of (seq_is item) vs are in
     let gs = g.0 in
     let items_are = groups_apart item gs (subst (AllAre (seq item)) g.1 are) in
-    let laid_are : laid (seq item) vs ≡ flags (lengths gs) ∷ laid item (joined gs) = ap (laid (seq item)) g.1 ∙ laid_seq item (map a_seq_of gs) ∙ ap (λ gs. flags (lengths gs) ∷ laid item (joined gs)) (elements_made gs) in
-    ap (values (seq item)) laid_are ∙ ap (option_map (map a_seq_of)) (grouped_forth item gs (values_forth item (joined gs) items_are)) ∙ ap Some (sym g.1)
+    let laid_are : columns_of_values (seq item) vs ≡ flags (lengths gs) ∷ columns_of_values item (concatenation gs) = ap (columns_of_values (seq item)) g.1 ∙ laid_seq item (map a_seq_of gs) ∙ ap (λ gs. flags (lengths gs) ∷ columns_of_values item (concatenation gs)) (elements_made gs) in
+    ap (values (seq item)) laid_are ∙ ap (option_map (map a_seq_of)) (grouped_forth item gs (values_forth item (concatenation gs) items_are)) ∙ ap Some (sym g.1)
 
-pub values_back : (ty : Ty) (all : Columns) (vs : List Value) → values ty all ≡ Some vs → (all ≡ laid ty vs) × AllAre ty vs
+pub values_back : (ty : Ty) (all : Columns) (vs : List Value) → values ty all ≡ Some vs → (all ≡ columns_of_values ty vs) × AllAre ty vs
 values_back int (xs ∷ []) vs e =
     let s = map_gives (map an_int) (integers xs) e in
-    (ap (λ l. l ∷ []) (integers_back xs s.0 s.1 ∙ sym (map_map cell_for an_int s.0)) ∙ ap (laid int) (sym s.2), subst (AllAre int) (sym s.2) (all_made int an_int (λ n. refl) s.0))
+    (ap (λ l. l ∷ []) (integers_back xs s.0 s.1 ∙ sym (map_map cell_for an_int s.0)) ∙ ap (columns_of_values int) (sym s.2), subst (AllAre int) (sym s.2) (all_made int an_int (λ n. refl) s.0))
 values_back int [] vs e = absurd (cc)
 values_back int (xs ∷ ys ∷ all) vs e = absurd (cc)
 values_back bool (xs ∷ []) vs e =
     let s = map_gives (map a_bool) (truths xs) e in
-    (ap (λ l. l ∷ []) (truths_back xs s.0 s.1 ∙ sym (map_map cell_for a_bool s.0)) ∙ ap (laid bool) (sym s.2), subst (AllAre bool) (sym s.2) (all_made bool a_bool (λ b. refl) s.0))
+    (ap (λ l. l ∷ []) (truths_back xs s.0 s.1 ∙ sym (map_map cell_for a_bool s.0)) ∙ ap (columns_of_values bool) (sym s.2), subst (AllAre bool) (sym s.2) (all_made bool a_bool (λ b. refl) s.0))
 values_back bool [] vs e = absurd (cc)
 values_back bool (xs ∷ ys ∷ all) vs e = absurd (cc)
 values_back (vec item) (xs ∷ []) vs e =
@@ -232,17 +232,17 @@ values_back (pair first second) all vs e =
     let p = paired_back s1.0 s2.0 ps s3.1 in
     let l = values_back first (take (width first) all) s1.0 s1.1 in
     let r = values_back second (drop (width first) all) s2.0 s2.1 in
-    let laid_are : laid (pair first second) vs ≡ laid first s1.0 ++ laid second s2.0 = ap (laid (pair first second)) s3.2 ∙ laid_pair first second (map a_pair_of ps) ∙ ap₂ (λ a b. laid first a ++ laid second b) (lefts_of ps ∙ sym p.0) (rights_of ps ∙ sym p.1) in
+    let laid_are : columns_of_values (pair first second) vs ≡ columns_of_values first s1.0 ++ columns_of_values second s2.0 = ap (columns_of_values (pair first second)) s3.2 ∙ laid_pair first second (map a_pair_of ps) ∙ ap₂ (λ a b. columns_of_values first a ++ columns_of_values second b) (lefts_of ps ∙ sym p.0) (rights_of ps ∙ sym p.1) in
     (sym (take-append-drop (width first) all) ∙ ap₂ (λ a b. a ++ b) l.0 r.0 ∙ sym laid_are, subst (AllAre (pair first second)) (sym s3.2) (pairs_made first second ps (subst (AllAre first) p.0 l.1) (subst (AllAre second) p.1 r.1)))
 values_back (seq item) (f ∷ others) vs e =
     let s = map_gives (map a_seq_of) (grouped f (values item others)) e in
     let gs = s.0 in
     let g = grouped_back f (values item others) gs s.1 in
-    let ih = values_back item others (joined gs) g.1 in
-    let laid_are : laid (seq item) vs ≡ flags (lengths gs) ∷ laid item (joined gs) = ap (laid (seq item)) s.2 ∙ laid_seq item (map a_seq_of gs) ∙ ap (λ gs. flags (lengths gs) ∷ laid item (joined gs)) (elements_made gs) in
+    let ih = values_back item others (concatenation gs) g.1 in
+    let laid_are : columns_of_values (seq item) vs ≡ flags (lengths gs) ∷ columns_of_values item (concatenation gs) = ap (columns_of_values (seq item)) s.2 ∙ laid_seq item (map a_seq_of gs) ∙ ap (λ gs. flags (lengths gs) ∷ columns_of_values item (concatenation gs)) (elements_made gs) in
     (ap₂ (λ f cs. f ∷ cs) g.0 ih.0 ∙ sym laid_are, subst (AllAre (seq item)) (sym s.2) (groups_made item gs ih.1))
 values_back (seq item) [] vs e = absurd (cc)
 
 -- no two lists of values of one type are laid out alike
-pub laid_injective : (ty : Ty) (vs ws : List Value) → AllAre ty vs → AllAre ty ws → laid ty vs ≡ laid ty ws → vs ≡ ws
+pub laid_injective : (ty : Ty) (vs ws : List Value) → AllAre ty vs → AllAre ty ws → columns_of_values ty vs ≡ columns_of_values ty ws → vs ≡ ws
 laid_injective ty vs ws h g e = some_same vs ws (sym (values_forth ty vs h) ∙ ap (values ty) e ∙ values_forth ty ws g)

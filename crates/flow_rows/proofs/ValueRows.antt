@@ -6,14 +6,14 @@ use Rattle.snesl_data.specs.Types.{Ty, vec, seq, is_concrete}
 use Rattle.snesl_data.specs.Values.{Value, an_int, a_bool, a_pair, a_vec, a_seq, list_of, values_of}
 use Rattle.flow_messages.specs.Cells.{Cell, int, datum}
 use Rattle.flow_base.specs.Lists.{Lists}
-use Rattle.flow_base.specs.Flags.{flags, joined, lengths}
+use Rattle.flow_base.specs.Flags.{flags, concatenation, lengths}
 use Rattle.flow_base.specs.Columns.{columns}
 use Rattle.flow_values.specs.Shapes.{is_a, all_are, elements_of}
 use Rattle.flow_values.specs.Flats.{width}
 use Rattle.flow_values.specs.Rows.{PrintRow, AreTabs, TabRow, SeqRow, element_at, Picked, IndexRow}
 use Rattle.flow_rows.specs.Lists.{bind, each, paired}
 use Rattle.flow_rows.specs.Decoded.{integer_in, integers, grouped, values}
-use Rattle.flow_rows.specs.Made.{laid, of_one, print_made, tab_of, tab_made, seq_made, picked, index_made}
+use Rattle.flow_rows.specs.Made.{columns_of_values, of_one, print_made, tab_of, tab_made, seq_made, picked, index_made}
 use Rattle.flow_rows.specs.RowsAreFunctions.{IsFunction}
 use Rattle.flow_rows.proofs.Options.{bind_gives, map_gives, only_if_gives, only_if_true, each_forth, paired_map, paired_back, map_map}
 use Rattle.flow_rows.proofs.Decoding.{integers_back}
@@ -41,7 +41,7 @@ print_to ty i e =
     record {
       value = one.0;
       is_one = (all_split ty one.0 [] (subst (AllAre ty) one.1 b.1)).0;
-      edges_are = (laid_is ty i (one.0 ∷ [])).1 (b.0 ∙ ap (laid ty) one.1);
+      edges_are = (laid_is ty i (one.0 ∷ [])).1 (b.0 ∙ ap (columns_of_values ty) one.1);
     }
 
 pub print_row : (ty : Ty) → IsFunction (λ i _. PrintRow ty i) (print_made ty) (width ty) 0
@@ -49,9 +49,9 @@ print_row ty i o = (print_from ty i, print_to ty i)
 
 -- Tab
 
-tabs_apart : (ty : Ty) (vs : List Value) → AreTabs ty vs → AllAre ty (joined (map elements_of vs))
+tabs_apart : (ty : Ty) (vs : List Value) → AreTabs ty vs → AllAre ty (concatenation (map elements_of vs))
 tabs_apart ty [] h = refl
-tabs_apart ty (a_vec vs ∷ others) h = all_joined ty (list_of vs) (joined (map elements_of others)) (ap (all_are ty) (values_list vs) ∙ h.1) (tabs_apart ty others h.2)
+tabs_apart ty (a_vec vs ∷ others) h = all_joined ty (list_of vs) (concatenation (map elements_of others)) (ap (all_are ty) (values_list vs) ∙ h.1) (tabs_apart ty others h.2)
 tabs_apart ty (an_int n ∷ others) h = let no = h.1 in absurd (cc)
 tabs_apart ty (a_bool b ∷ others) h = let no = h.1 in absurd (cc)
 tabs_apart ty (a_pair a b ∷ others) h = let no = h.1 in absurd (cc)
@@ -67,12 +67,12 @@ tabs_forth ty (a_bool b ∷ others) h = let no = h.1 in absurd (cc)
 tabs_forth ty (a_pair a b ∷ others) h = let no = h.1 in absurd (cc)
 tabs_forth ty (a_seq vs ∷ others) h = let no = h.1 in absurd (cc)
 
-tabs_back : (ty : Ty) (gs : List (List Value)) (vs : List Value) → AllAre ty (joined gs) → each (tab_of ty) gs ≡ Some vs → AreTabs ty vs × (map elements_of vs ≡ gs)
+tabs_back : (ty : Ty) (gs : List (List Value)) (vs : List Value) → AllAre ty (concatenation gs) → each (tab_of ty) gs ≡ Some vs → AreTabs ty vs × (map elements_of vs ≡ gs)
 tabs_back ty [] vs are e = let same : [] ≡ vs = cc in (subst (AreTabs ty) same tt, ap (map elements_of) (sym same))
 tabs_back ty (g ∷ gs) vs are e =
     let s1 = bind_gives (tab_of ty g) _ e in
     let s2 = map_gives _ (each (tab_of ty) gs) s1.2 in
-    let apart = all_apart ty g (joined gs) are in
+    let apart = all_apart ty g (concatenation gs) are in
     let one = only_if_gives (is_concrete ty) (a_vec (values_of g)) s1.1 in
     let others = tabs_back ty gs s2.0 apart.1 s2.1 in
     let all : vs ≡ a_vec (values_of g) ∷ s2.0 = s2.2 ∙ ap (λ v. v ∷ s2.0) one.1 in
@@ -84,7 +84,7 @@ tab_from ty i v row =
     let vs = row.vectors in
     let gs = map elements_of vs in
     ap (tab_made ty) ((laid_is (seq ty) i vs).0 row.edges_are ∙ laid_seq ty vs)
-    ∙ rw (grouped_forth ty gs (values_forth ty (joined gs) (tabs_apart ty vs row.of_type)), tabs_forth ty vs row.of_type) (ap (λ v. Some (v ∷ [])) (sym row.v_is))
+    ∙ rw (grouped_forth ty gs (values_forth ty (concatenation gs) (tabs_apart ty vs row.of_type)), tabs_forth ty vs row.of_type) (ap (λ v. Some (v ∷ [])) (sym row.v_is))
 
 tab_to : (ty : Ty) (i : Lists Cell) (v : List Cell) → tab_made ty (columns (width (seq ty)) i) ≡ Some (v ∷ []) → TabRow ty i v
 tab_to ty i v e =
@@ -93,13 +93,13 @@ tab_to ty i v e =
     let s0 = map_gives _ _ e in
     let s1 = bind_gives (grouped f (values ty others)) _ s0.1 in
     let g = grouped_back f (values ty others) s1.0 s1.1 in
-    let b = values_back ty others (joined s1.0) g.1 in
+    let b = values_back ty others (concatenation s1.0) g.1 in
     let t = tabs_back ty s1.0 s0.0 b.1 s1.2 in
     record {
       vectors = s0.0;
       v_is = same_column v (map datum s0.0) s0.2;
       of_type = t.0;
-      edges_are = (laid_is (seq ty) i s0.0).1 (ap₂ (λ f cs. f ∷ cs) g.0 b.0 ∙ ap (λ gs. flags (lengths gs) ∷ laid ty (joined gs)) (sym t.1) ∙ sym (laid_seq ty s0.0));
+      edges_are = (laid_is (seq ty) i s0.0).1 (ap₂ (λ f cs. f ∷ cs) g.0 b.0 ∙ ap (λ gs. flags (lengths gs) ∷ columns_of_values ty (concatenation gs)) (sym t.1) ∙ sym (laid_seq ty s0.0));
     }
 
 pub tab_row : (ty : Ty) → IsFunction (λ i o. TabRow ty i (o 0)) (tab_made ty) (width (seq ty)) 1
@@ -110,11 +110,11 @@ tab_row ty i o = (tab_from ty i (o 0), tab_to ty i (o 0))
 seq_from : (item : Ty) (v : List Cell) (o : Lists Cell) → SeqRow item v o → seq_made item (v ∷ []) ≡ Some (columns (width (seq item)) o)
 seq_from item v o row =
     ap (λ v. seq_made item (v ∷ [])) row.v_is
-    ∙ ap (option_map (laid (seq item))) (data_vectors_forth item row.vectors row.of_type) ∙ ap Some (sym ((laid_is (seq item) o row.vectors).0 row.edges_are))
+    ∙ ap (option_map (columns_of_values (seq item))) (data_vectors_forth item row.vectors row.of_type) ∙ ap Some (sym ((laid_is (seq item) o row.vectors).0 row.edges_are))
 
 seq_to : (item : Ty) (v : List Cell) (o : Lists Cell) → seq_made item (v ∷ []) ≡ Some (columns (width (seq item)) o) → SeqRow item v o
 seq_to item v o e =
-    let s = map_gives (laid (seq item)) (values (vec item) (v ∷ [])) e in
+    let s = map_gives (columns_of_values (seq item)) (values (vec item) (v ∷ [])) e in
     let d = data_vectors_back item v s.0 s.1 in
     record { vectors = s.0; v_is = d.0; of_type = d.1; edges_are = (laid_is (seq item) o s.0).1 s.2 }
 
@@ -155,7 +155,7 @@ picked_back item ((a_seq vs, n) ∷ ps) es are e = absurd (cc)
 
 index_to : (item : Ty) (v i : List Cell) (o : Lists Cell) → index_made item (v ∷ i ∷ []) ≡ Some (columns (width item) o) → IndexRow item v i o
 index_to item v i o e =
-    let s0 = map_gives (laid item) _ e in
+    let s0 = map_gives (columns_of_values item) _ e in
     let s1 = bind_gives (values (vec item) (v ∷ [])) _ s0.1 in
     let s2 = bind_gives (integers i) _ s1.2 in
     let s3 = bind_gives (paired s1.0 s2.0) _ s2.2 in
@@ -166,7 +166,7 @@ index_to item v i o e =
       all = g.0;
       v_is = d.0 ∙ ap (map datum) (p.0 ∙ g.1) ∙ map_map datum (λ x. a_vec x.vector) g.0;
       i_is = integers_back i s2.0 s2.1 ∙ ap (map int) (p.1 ∙ g.2) ∙ map_map int (λ x. x.index) g.0;
-      edges_are = (laid_is item o (map (λ x. x.element) g.0)).1 (s0.2 ∙ ap (laid item) g.3);
+      edges_are = (laid_is item o (map (λ x. x.element) g.0)).1 (s0.2 ∙ ap (columns_of_values item) g.3);
     }
 
 pub index_row : (item : Ty) → IsFunction (λ i o. IndexRow item (i 0) (i 1) o) (index_made item) 2 (width item)

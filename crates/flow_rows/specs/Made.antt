@@ -6,14 +6,14 @@ use Rattle.snesl_data.specs.declared.dialect.Dialect.{Dialect}
 use Rattle.snesl_data.specs.Types.{Ty, vec, seq, is_concrete}
 use Rattle.snesl_data.specs.Values.{Value, a_vec, values_of}
 use Rattle.snesl_operators.specs.Operators.{ranged, unary_value, binary_value, same_truth}
-use Rattle.snesl_operators.specs.Reductions.{reduced, scanned}
+use Rattle.snesl_operators.specs.Reductions.{reduction_of, scan_of}
 use Rattle.snesl_operators.specs.declared.scalar.Scalar.{Scalar}
 use Rattle.snesl_operators.specs.declared.operator.UnaryOperator.{UnaryOperator}
 use Rattle.snesl_operators.specs.declared.operator.BinaryOperator.{BinaryOperator}
 use Rattle.snesl_operators.specs.declared.operator.Reduction.{Reduction}
 use Rattle.flow_messages.specs.Cells.{Cell, int, datum}
 use Rattle.flow_messages.specs.declared.message.Kind.{Kind}
-use Rattle.flow_base.specs.Flags.{flags, joined, lengths}
+use Rattle.flow_base.specs.Flags.{flags, concatenation, lengths}
 use Rattle.flow_base.specs.Columns.{Columns, columns}
 use Rattle.flow_folds.specs.Scalars.{cell_of_scalar}
 use Rattle.flow_scalar.specs.Rows.{numbers_below, units_for}
@@ -35,8 +35,8 @@ abbrev pub integer_cells : List ℤ → List Cell
 integer_cells ns = map int ns
 
 -- the columns that values of the type put on its edges
-abbrev pub laid : Ty → List Value → Columns
-laid ty vs = columns (width ty) (flat ty zero vs)
+abbrev pub columns_of_values : Ty → List Value → Columns
+columns_of_values ty vs = columns (width ty) (flat ty zero vs)
 
 -- Scalars
 
@@ -78,7 +78,7 @@ natural (negsuc n) = None
 
 -- flags of the integers, none of which is negative, and for each n the numbers 0 to n - 1
 abbrev pub iota_made : Columns → Option Columns
-iota_made (a ∷ []) = option_map (λ ns. flags ns ∷ joined (map numbers_below ns) ∷ []) (bind (integers a) (each natural))
+iota_made (a ∷ []) = option_map (λ ns. flags ns ∷ concatenation (map numbers_below ns) ∷ []) (bind (integers a) (each natural))
 iota_made _ = None
 
 -- a Unit for each false
@@ -89,13 +89,13 @@ units_of_made _ = None
 -- the running sums of each group, where none is a fault
 abbrev pub scan_add_made : Dialect → Columns → Option Columns
 scan_add_made dialect (f ∷ a ∷ []) =
-    one (λ sums. joined (map integer_cells sums)) (bind (numbers f) (λ ns. bind (integers a) (λ xs. bind (cut ns xs) (each (λ group. result_ok (scanned dialect group))))))
+    one (λ sums. concatenation (map integer_cells sums)) (bind (numbers f) (λ ns. bind (integers a) (λ xs. bind (cut ns xs) (each (λ group. result_ok (scan_of dialect group))))))
 scan_add_made dialect _ = None
 
 -- the value to which each group reduces, where none is a fault
 abbrev pub reduce_made : Dialect → Reduction → Columns → Option Columns
 reduce_made dialect reduction (f ∷ a ∷ []) =
-    one scalar_cells (bind (numbers f) (λ ns. bind (scalars a) (λ xs. bind (cut ns xs) (each (λ group. result_ok (reduced dialect reduction group))))))
+    one scalar_cells (bind (numbers f) (λ ns. bind (scalars a) (λ xs. bind (cut ns xs) (each (λ group. result_ok (reduction_of dialect reduction group))))))
 reduce_made dialect reduction _ = None
 
 -- the numbers, where all lie in the range
@@ -141,7 +141,7 @@ concat_flags_made _ = None
 abbrev pub part_flags_made : Columns → Option Columns
 part_flags_made (g ∷ b ∷ f ∷ []) =
     bind (numbers g) (λ ns. bind (cut ns b) (λ segments. bind (each numbers segments) (λ parts. bind (numbers f) (λ ms.
-    only_if (same_lists ◌==◌ (map sum parts) ms) (flags (lengths parts) ∷ flags (joined parts) ∷ [])))))
+    only_if (same_lists ◌==◌ (map sum parts) ms) (flags (lengths parts) ∷ flags (concatenation parts) ∷ [])))))
 part_flags_made _ = None
 
 -- nothing, where each segment has one element
@@ -187,7 +187,7 @@ tab_made ty _ = None
 
 -- sequences of the elements of vectors of such items
 abbrev pub seq_made : Ty → Columns → Option Columns
-seq_made item (v ∷ []) = option_map (laid (seq item)) (values (vec item) (v ∷ []))
+seq_made item (v ∷ []) = option_map (columns_of_values (seq item)) (values (vec item) (v ∷ []))
 seq_made item _ = None
 
 -- the element of the vector at this index
@@ -197,5 +197,5 @@ picked _ = None
 
 -- the elements at the indices, one of each vector
 abbrev pub index_made : Ty → Columns → Option Columns
-index_made item (v ∷ i ∷ []) = option_map (laid item) (bind (values (vec item) (v ∷ [])) (λ vs. bind (integers i) (λ ns. bind (paired vs ns) (each picked))))
+index_made item (v ∷ i ∷ []) = option_map (columns_of_values item) (bind (values (vec item) (v ∷ [])) (λ vs. bind (integers i) (λ ns. bind (paired vs ns) (each picked))))
 index_made item _ = None

@@ -12,8 +12,8 @@ use Rattle.snesl_operators.specs.declared.operator.BinaryOperator.TheVariants.{A
 use Rattle.flow_messages.specs.Cells.{int}
 use Rattle.flow_messages.specs.Signals.{Signal, carry}
 use Rattle.flow_messages.specs.Ends.{View, LookedForRoom, TakenAll, PutAll}
-use Rattle.flow_messages.specs.Blocks.{ints_said}
-use Rattle.flow_base.specs.Machines.{taken}
+use Rattle.flow_messages.specs.Blocks.{int_signals}
+use Rattle.flow_base.specs.Machines.{state_after_item}
 use Rattle.flow_base.specs.Nodes.{NodeState, behaviour_of, node_state}
 use Rattle.flow_base.specs.Visits.{edge_of, Went}
 use Rattle.flow_base.specs.declared.node.Phase.TheVariants.{Working}
@@ -44,7 +44,7 @@ takes_ints dialect And x y v e = absurd (cc)
 takes_ints dialect Or x y v e = absurd (cc)
 
 -- two blocks of nothing
-no_blocks : (b c : Bool) → ints_said [] ≡ cond b (ints_said []) [] ++ cond c (ints_said []) []
+no_blocks : (b c : Bool) → int_signals [] ≡ cond b (int_signals []) [] ++ cond c (int_signals []) []
 no_blocks true true = refl
 no_blocks true false = refl
 no_blocks false true = refl
@@ -68,8 +68,8 @@ module _ (dialect : Dialect) (op : BinaryOperator) (inputs outputs : List ℕ) (
       let second : operand_in type (int y) ≡ Ok (Int y) = ap (λ t. operand_in t (int y)) is in
       let begin = on_operand type (λ k. Ok (Left k)) in
       let next = on_operand type (binary_next dialect op (Int x)) in
-      let to_left : taken begin (int x) ≡ Ok (Left (Int x)) = operand_taken type (λ k. Ok (Left k)) (int x) (Int x) first in
-      let to_value : taken next (int y) ≡ Ok (Value v) = operand_taken type (binary_next dialect op (Int x)) (int y) (Int y) second ∙ ap (λ r. and_then r (λ v. Ok (Value v))) e in
+      let to_left : state_after_item begin (int x) ≡ Ok (Left (Int x)) = operand_taken type (λ k. Ok (Left k)) (int x) (Int x) first in
+      let to_value : state_after_item next (int y) ≡ Ok (Value v) = operand_taken type (binary_next dialect op (Int x)) (int y) (Int y) second ∙ ap (λ r. and_then r (λ v. Ok (Value v))) e in
       let one = batch_read inputs outputs b (batch_none inputs outputs b (on Start)) 0 (carry (int x)) (on (Left (Int x))) refl (leads_on binary_machine (dialect, op) Start (Left (Int x)) at begin (carry (int x)) (λ y. refl) to_left) in
       let two = batch_read inputs outputs b one 1 (carry (int y)) (on (Value v)) refl (leads_on binary_machine (dialect, op) (Left (Int x)) (Value v) at next (carry (int y)) (λ y. refl) to_value) in
       batch_as inputs outputs b (batch_write inputs outputs b two 0 (cell_of_scalar v) (on Start) refl refl refl) _ _ (λ e. refl) (λ e. refl)
@@ -80,7 +80,7 @@ module _ (dialect : Dialect) (op : BinaryOperator) (inputs outputs : List ℕ) (
     ValuesAt xs ys zs n = (k : ℕ) → k < n → binary_value dialect op (Int (get_or xs k (pos 0))) (Int (get_or ys k (pos 0))) ≡ Ok (said (get_or zs k none))
 
     abbrev Block : List ℤ → List ℤ → List A → ℕ → Type 0
-    Block xs ys zs n = Pairs (ints_said (take n xs)) (ints_said (take n ys)) (values_said said (take n zs)) (3 * n)
+    Block xs ys zs n = Pairs (int_signals (take n xs)) (int_signals (take n ys)) (values_said said (take n zs)) (3 * n)
 
     block_more : (xs ys : List ℤ) (zs : List A) (n : ℕ) → n < length xs → n < length ys → n < length zs → binary_value dialect op (Int (get_or xs n (pos 0))) (Int (get_or ys n (pos 0))) ≡ Ok (said (get_or zs n none)) → Block xs ys zs n → Block xs ys zs (n + 1)
     block_more xs ys zs n in_xs in_ys in_zs value made =
@@ -97,7 +97,7 @@ module _ (dialect : Dialect) (op : BinaryOperator) (inputs outputs : List ℕ) (
         let rights = one_more say ys n (pos 0) in_ys in
         let values = one_more tell zs n none in_zs in
         let count : 3 * n + 3 ≡ 3 * (n + 1) = omega arith in
-        subst (Pairs (ints_said (take (n + 1) xs)) (ints_said (take (n + 1) ys)) (values_said said (take (n + 1) zs))) count (batch_as inputs outputs b (batch_then inputs outputs b made (pair x y (said z) value)) _ _ (λ e. blocks_then e l r (ints_said (take n xs)) (ints_said (take n ys)) (say x ∷ []) (say y ∷ []) apart ∙ ap (λ k. cond (eqb e l) k [] ++ cond (eqb e r) (ints_said (take n ys) ++ say y ∷ []) []) lefts ∙ ap (λ k. cond (eqb e l) (ints_said (take (n + 1) xs)) [] ++ cond (eqb e r) k []) rights) (λ e. block_then (eqb e o) (values_said said (take n zs)) (tell z ∷ []) ∙ ap (λ k. cond (eqb e o) k []) values))
+        subst (Pairs (int_signals (take (n + 1) xs)) (int_signals (take (n + 1) ys)) (values_said said (take (n + 1) zs))) count (batch_as inputs outputs b (batch_then inputs outputs b made (pair x y (said z) value)) _ _ (λ e. blocks_then e l r (int_signals (take n xs)) (int_signals (take n ys)) (say x ∷ []) (say y ∷ []) apart ∙ ap (λ k. cond (eqb e l) k [] ++ cond (eqb e r) (int_signals (take n ys) ++ say y ∷ []) []) lefts ∙ ap (λ k. cond (eqb e l) (int_signals (take (n + 1) xs)) [] ++ cond (eqb e r) k []) rights) (λ e. block_then (eqb e o) (values_said said (take n zs)) (tell z ∷ []) ∙ ap (λ k. cond (eqb e o) k []) values))
 
     -- pairs at which there are values are rounds
     pub block : (xs ys : List ℤ) (zs : List A) (n : ℕ) → n ≤ length xs → n ≤ length ys → n ≤ length zs → ValuesAt xs ys zs n → Block xs ys zs n
@@ -108,7 +108,7 @@ module _ (dialect : Dialect) (op : BinaryOperator) (inputs outputs : List ℕ) (
 
     -- a block over blocks of the ends is steps
     pub block_went : {a v : View} {made : ℕ} (u : View) (xs ys : List ℤ) (zs : List A) (n : ℕ) (w1 w2 w : View) → 1 < length inputs → 0 < length outputs → Went inputs outputs (behaviour_of binary_machine) (on Start) a (on Start) v made → LookedForRoom v (edge_of outputs 0) u →
-        0 < n → n ≤ length xs → n ≤ length ys → n ≤ length zs → ValuesAt xs ys zs n → IsPrefix (ints_said xs) (u.coming (edge_of inputs 0)) → IsPrefix (ints_said ys) (u.coming (edge_of inputs 1)) →
+        0 < n → n ≤ length xs → n ≤ length ys → n ≤ length zs → ValuesAt xs ys zs n → IsPrefix (int_signals xs) (u.coming (edge_of inputs 0)) → IsPrefix (int_signals ys) (u.coming (edge_of inputs 1)) →
         TakenAll u (edge_of inputs 0) (take n (u.coming (edge_of inputs 0))) w1 → TakenAll w1 (edge_of inputs 1) (take n (w1.coming (edge_of inputs 1))) w2 → PutAll w2 (edge_of outputs 0) (values_said said (take n zs)) w →
         Went inputs outputs (behaviour_of binary_machine) (on Start) a (on Start) w (made + 3 * n)
     block_went u xs ys zs n w1 w2 w two one went looked some in_xs in_ys in_zs values shows_left shows_right t1 t2 p =
@@ -116,9 +116,9 @@ module _ (dialect : Dialect) (op : BinaryOperator) (inputs outputs : List ℕ) (
         let l = edge_of inputs 0 in
         let r = edge_of inputs 1 in
         let other : r ≢ l = λ e. apart (sym e) in
-        let left : take n (u.coming l) ≡ ints_said (take n xs) = shown (ints_said xs) (u.coming l) n shows_left (omega (arith, length_ints xs)) ∙ take_ints n xs in
-        let right : take n (w1.coming r) ≡ ints_said (take n ys) = ap (take n) (t1.coming r other) ∙ shown (ints_said ys) (u.coming r) n shows_right (omega (arith, length_ints ys)) ∙ take_ints n ys in
+        let left : take n (u.coming l) ≡ int_signals (take n xs) = shown (int_signals xs) (u.coming l) n shows_left (omega (arith, length_ints xs)) ∙ take_ints n xs in
+        let right : take n (w1.coming r) ≡ int_signals (take n ys) = ap (take n) (t1.coming r other) ∙ shown (int_signals ys) (u.coming r) n shows_right (omega (arith, length_ints ys)) ∙ take_ints n ys in
         let first = subst (λ k. TakenAll u l k w1) left t1 in
         let second = subst (λ k. TakenAll w1 r k w2) right t2 in
         let here = went_looked b inputs outputs went 0 u one looked in
-        went_batch inputs outputs b here (block xs ys zs n in_xs in_ys in_zs values) (omega arith) w (shifted_put inputs outputs (shifted_skip inputs outputs (shifted_skip inputs outputs (shifted_none inputs outputs u) 0 (ints_said (take n xs)) w1 (omega arith) first) 1 (ints_said (take n ys)) w2 two second) 0 (values_said said (take n zs)) w one (ended_values said (take n zs)) p)
+        went_batch inputs outputs b here (block xs ys zs n in_xs in_ys in_zs values) (omega arith) w (shifted_put inputs outputs (shifted_skip inputs outputs (shifted_skip inputs outputs (shifted_none inputs outputs u) 0 (int_signals (take n xs)) w1 (omega arith) first) 1 (int_signals (take n ys)) w2 two second) 0 (values_said said (take n zs)) w one (ended_values said (take n zs)) p)

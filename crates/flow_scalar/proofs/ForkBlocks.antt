@@ -8,10 +8,10 @@ use Rattle.kahn.specs.declared.want.Want.TheVariants.{Write}
 use Rattle.snesl_data.specs.declared.fault.FaultKind.TheVariants.{Shape}
 use Rattle.flow_messages.specs.Cells.{Cell, unit, flag, int, is_of}
 use Rattle.flow_messages.specs.Ends.{View, LookedForRoom, TakenAll, PutAll}
-use Rattle.flow_messages.specs.Blocks.{units_said, flags_said, ints_said}
+use Rattle.flow_messages.specs.Blocks.{unit_signals, flag_signals, int_signals}
 use Rattle.flow_messages.specs.declared.message.Kind.{Kind}
 use Rattle.flow_messages.specs.Signals.{Signal, carry, ended}
-use Rattle.flow_base.specs.Machines.{Move, gives, on_kind, ask_of, told_of, after_of}
+use Rattle.flow_base.specs.Machines.{Move, gives, on_kind, ask_of, written_cell, state_after_write}
 use Rattle.flow_base.specs.Nodes.{NodeState, behaviour_of, node_state, want_for}
 use Rattle.flow_base.specs.Visits.{edge_of, Went, Wrote}
 use Rattle.flow_base.specs.declared.node.Phase.TheVariants.{Working}
@@ -19,13 +19,13 @@ use Rattle.flow_base.proofs.Carried.{same_ends_refl, same_ends_then, prefix_same
 use Rattle.flow_base.proofs.Kernels.{leads_on, went_none, went_write, went_looked}
 use Rattle.flow_base.proofs.Batches.{Batch, Shifted, block_then, batch_none, batch_read, batch_write, batch_then, batch_as, shifted_none, shifted_skip, shifted_put, batch_went, ended_block}
 use Rattle.flow_scalar.specs.ForkCopies.{is_among, PutOnEach, CopiedOn}
-use Rattle.flow_scalar.specs.ForkMachine.{ForkPorts, Step, fork_ports, step_of, idle, holding, fork_move, fork_machine}
+use Rattle.flow_scalar.specs.ForkMachine.{ForkPorts, ForkState, fork_ports, fork_state, idle, holding, fork_move, fork_machine}
 use Rattle.flow_scalar.specs.declared.fork.Fork.{Fork}
 use Rattle.flow_folds.proofs.SingleBlocks.{block_none}
 
 -- what the machine sees of a fork
-abbrev pub fork_view : Fork → ForkPorts × Step
-fork_view n = (fork_ports n.kind n.outputs, step_of n.outputs n.next n.held)
+abbrev pub fork_view : Fork → ForkPorts × ForkState
+fork_view n = (fork_ports n.kind n.outputs, fork_state n.outputs n.next n.held)
 
 -- what a buffer starts with is what was copied there
 pub filled : {X : Type 0} (count : ℕ) (shown old new : List X) → count ≤ length shown → new ≡ take count shown → take count (new ++ old) ≡ take count shown
@@ -60,7 +60,7 @@ one_more : (edges : List ℕ) → Rises edges → (n : ℕ) → n < length edges
 one_more edges rises n there block e = joined (is_among edges n e) (eqb e (edge_of edges n)) block (next_among edges rises n there e)
 
 -- so many outputs are to get the item
-abbrev pub owing : Cell → ℕ → Step
+abbrev pub owing : Cell → ℕ → ForkState
 owing x zero = idle
 owing x (suc left) = holding x left
 
@@ -69,7 +69,7 @@ gives_next p x zero = refl
 gives_next p x (suc left) = refl
 
 module _ (inputs outputs : List ℕ) (p : ForkPorts) (at : ℕ) where
-  abbrev pub on : Step → NodeState (ForkPorts × Step)
+  abbrev pub on : ForkState → NodeState (ForkPorts × ForkState)
   on s = node_state (p, s) Working at
 
   -- the item is written to so many outputs
@@ -93,11 +93,11 @@ module _ (inputs outputs : List ℕ) (p : ForkPorts) (at : ℕ) where
         let there : q < length outputs = omega (arith, within) in
         let now : length outputs - q ≡ suc left = omega (arith, within) in
         let is : q ≡ p.others - left = omega (arith, within, counts) in
-        let state : Move Step → NodeState (ForkPorts × Step) = λ m. on (after_of (holding x left) m) in
+        let state : Move ForkState → NodeState (ForkPorts × ForkState) = λ m. on (state_after_write (holding x left) m) in
         let move = gives_next p x left in
         let before = part x fits q (omega (arith, within)) in
         let so_far = subst (λ l. Batch inputs outputs b (on idle) (on (owing x l)) (λ e. cond (eqb e (edge_of inputs 0)) (carry x ∷ []) []) (λ e. cond (is_among outputs q e) (carry x ∷ []) []) (q + 1)) now before in
-        let wrote = batch_write inputs outputs b so_far q x (on (owing x left)) (ap (λ m. want_for (ask_of m)) move ∙ ap Write (sym is)) (sym (ap (λ m. carry (told_of m)) move)) (sym (ap state move)) in
+        let wrote = batch_write inputs outputs b so_far q x (on (owing x left)) (ap (λ m. want_for (ask_of m)) move ∙ ap Write (sym is)) (sym (ap (λ m. carry (written_cell m)) move)) (sym (ap state move)) in
         let same = batch_as inputs outputs b wrote _ _ (λ e. refl) (one_more outputs rises q there (carry x ∷ [])) in
         let steps : (q + 1) + 1 ≡ suc q + 1 = omega arith in
         subst (Part x (suc q)) steps same
@@ -119,17 +119,17 @@ module _ (inputs outputs : List ℕ) (p : ForkPorts) (at : ℕ) where
         let steps : (length outputs + 1) + (length outputs + 1) * n ≡ (length outputs + 1) * suc n = grind arith in
         subst (Copies (carry x ∷ block)) steps (batch_as inputs outputs b (batch_then inputs outputs b (one x fits) next) _ _ (λ e. block_then (eqb e (edge_of inputs 0)) (carry x ∷ []) block) (λ e. block_then (is_among outputs (length outputs) e) (carry x ∷ []) block))
 
-    pub copies_units : is_of p.kind unit ≡ true → (n : ℕ) → Copies (units_said n) ((length outputs + 1) * n)
+    pub copies_units : is_of p.kind unit ≡ true → (n : ℕ) → Copies (unit_signals n) ((length outputs + 1) * n)
     copies_units fits zero = copies_none
-    copies_units fits (suc n) = copies_more unit fits (units_said n) n (copies_units fits n)
+    copies_units fits (suc n) = copies_more unit fits (unit_signals n) n (copies_units fits n)
 
-    pub copies_flags : ((b : Bool) → is_of p.kind (flag b) ≡ true) → (bs : List Bool) → Copies (flags_said bs) ((length outputs + 1) * length bs)
+    pub copies_flags : ((b : Bool) → is_of p.kind (flag b) ≡ true) → (bs : List Bool) → Copies (flag_signals bs) ((length outputs + 1) * length bs)
     copies_flags fits [] = copies_none
-    copies_flags fits (b ∷ bs) = copies_more (flag b) (fits b) (flags_said bs) (length bs) (copies_flags fits bs)
+    copies_flags fits (b ∷ bs) = copies_more (flag b) (fits b) (flag_signals bs) (length bs) (copies_flags fits bs)
 
-    pub copies_ints : ((n : ℤ) → is_of p.kind (int n) ≡ true) → (ns : List ℤ) → Copies (ints_said ns) ((length outputs + 1) * length ns)
+    pub copies_ints : ((n : ℤ) → is_of p.kind (int n) ≡ true) → (ns : List ℤ) → Copies (int_signals ns) ((length outputs + 1) * length ns)
     copies_ints fits [] = copies_none
-    copies_ints fits (n ∷ ns) = copies_more (int n) (fits n) (ints_said ns) (length ns) (copies_ints fits ns)
+    copies_ints fits (n ∷ ns) = copies_more (int n) (fits n) (int_signals ns) (length ns) (copies_ints fits ns)
 
 -- who takes loses no room
 pub taken_room : (v w : View) (f e : ℕ) (ms : List Signal) → TakenAll v f ms w → v.room e ≤ w.room e
@@ -212,13 +212,13 @@ copied_none kind from outputs a = λ inputs there is p of_kind counts at.
     subst (Went inputs outputs b s a s a) none (went_none b inputs outputs s a)
 
 -- what is shown begins with its first item
-pub first_flag : (bs : List Bool) (c : List Signal) → IsPrefix (flags_said bs) c → 0 < length bs → IsPrefix (carry (flag (slice_index_or bs 0 false)) ∷ []) c
+pub first_flag : (bs : List Bool) (c : List Signal) → IsPrefix (flag_signals bs) c → 0 < length bs → IsPrefix (carry (flag (slice_index_or bs 0 false)) ∷ []) c
 first_flag [] c seen some = absurd (omega (arith, some))
-first_flag (b ∷ bs) c (more, is) some = (flags_said bs ++ more, is)
+first_flag (b ∷ bs) c (more, is) some = (flag_signals bs ++ more, is)
 
-pub first_int : (ns : List ℤ) (c : List Signal) → IsPrefix (ints_said ns) c → 0 < length ns → IsPrefix (carry (int (slice_index_or ns 0 (pos 0))) ∷ []) c
+pub first_int : (ns : List ℤ) (c : List Signal) → IsPrefix (int_signals ns) c → 0 < length ns → IsPrefix (carry (int (slice_index_or ns 0 (pos 0))) ∷ []) c
 first_int [] c seen some = absurd (omega (arith, some))
-first_int (n ∷ ns) c (more, is) some = (ints_said ns ++ more, is)
+first_int (n ∷ ns) c (more, is) some = (int_signals ns ++ more, is)
 
 -- a block of one item is that item
 pub one_put : (v w : View) (f : ℕ) (x : Cell) → PutAll v f (carry x ∷ []) w → Wrote v f (carry x) w
@@ -239,15 +239,15 @@ one_put v w f x put =
     }
 
 -- a fork writes the item to its next output
-pub one_copy_more : (inputs outputs : List ℕ) (p : ForkPorts) (x : Cell) (left q at : ℕ) {s : NodeState (ForkPorts × Step)} {a v w : View} {n : ℕ} → q < length outputs → q ≡ p.others - left →
+pub one_copy_more : (inputs outputs : List ℕ) (p : ForkPorts) (x : Cell) (left q at : ℕ) {s : NodeState (ForkPorts × ForkState)} {a v w : View} {n : ℕ} → q < length outputs → q ≡ p.others - left →
     Went inputs outputs (behaviour_of fork_machine) s a (node_state (p, holding x left) Working at) v n → Wrote v (edge_of outputs q) (carry x) w → Went inputs outputs (behaviour_of fork_machine) s a (node_state (p, owing x left) Working at) w (n + 1)
 one_copy_more inputs outputs p x left q at {s} {a} {v} {w} {n} there is went wrote =
     let move = gives_next p x left in
-    let state : Move Step → NodeState (ForkPorts × Step) = λ m. node_state (p, after_of (holding x left) m) Working at in
-    went_write (behaviour_of fork_machine) inputs outputs went q (carry x) (node_state (p, owing x left) Working at) w there (ap (λ m. want_for (ask_of m)) move ∙ ap Write (sym is)) (sym (ap (λ m. carry (told_of m)) move)) wrote (sym (ap state move))
+    let state : Move ForkState → NodeState (ForkPorts × ForkState) = λ m. node_state (p, state_after_write (holding x left) m) Working at in
+    went_write (behaviour_of fork_machine) inputs outputs went q (carry x) (node_state (p, owing x left) Working at) w there (ap (λ m. want_for (ask_of m)) move ∙ ap Write (sym is)) (sym (ap (λ m. carry (written_cell m)) move)) wrote (sym (ap state move))
 
 -- it looks for room at its next output, and gives the item there
-pub gave : (inputs outputs : List ℕ) (kind : Kind) (n next : ℕ) (x : Cell) (at : ℕ) {s : NodeState (ForkPorts × Step)} {a v u w : View} {k : ℕ} → n ≡ length outputs → next < n →
+pub gave : (inputs outputs : List ℕ) (kind : Kind) (n next : ℕ) (x : Cell) (at : ℕ) {s : NodeState (ForkPorts × ForkState)} {a v u w : View} {k : ℕ} → n ≡ length outputs → next < n →
     Went inputs outputs (behaviour_of fork_machine) s a (node_state (fork_ports kind n, holding x (n - (next + 1))) Working at) v k → LookedForRoom v (edge_of outputs next) u → Wrote u (edge_of outputs next) (carry x) w →
     Went inputs outputs (behaviour_of fork_machine) s a (node_state (fork_ports kind n, owing x (n - (next + 1))) Working at) w (k + 1)
 gave inputs outputs kind n next x at counts below went looked wrote =

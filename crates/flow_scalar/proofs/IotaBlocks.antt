@@ -5,7 +5,7 @@ use Rattle.std.proofs.lemmas.Int.{ints}
 use mathlib.Core.List.{IsPrefix}
 use Rattle.flow_messages.specs.Cells.{flag, int}
 use Rattle.flow_messages.specs.Ends.{View, TakenAll, PutAll}
-use Rattle.flow_messages.specs.Blocks.{flags_said, ints_said}
+use Rattle.flow_messages.specs.Blocks.{flag_signals, int_signals}
 use Rattle.flow_messages.specs.Signals.{Signal, carry}
 use Rattle.flow_base.specs.Machines.{on_int}
 use Rattle.flow_base.specs.Nodes.{NodeState, behaviour_of, node_state}
@@ -44,9 +44,9 @@ starts (pos n) h = refl
 starts (negsuc n) h = absurd (omega (arith, ints))
 
 -- the first integer that is shown is the next that comes
-pub first_shown : (xs : List ℤ) (c : List Signal) → 0 < length xs → IsPrefix (ints_said xs) c → take 1 c ≡ carry (int (get_or xs 0 (pos 0))) ∷ []
+pub first_shown : (xs : List ℤ) (c : List Signal) → 0 < length xs → IsPrefix (int_signals xs) c → take 1 c ≡ carry (int (get_or xs 0 (pos 0))) ∷ []
 first_shown [] c some seen = absurd (omega arith)
-first_shown (x ∷ xs) c some seen = shown (ints_said (x ∷ xs)) c 1 seen (omega arith)
+first_shown (x ∷ xs) c some seen = shown (int_signals (x ∷ xs)) c 1 seen (omega arith)
 
 -- blocks of nothing
 no_blocks : (b c : Bool) → ◌≡◌ {A = List Signal} [] (cond b [] [] ++ cond c [] [])
@@ -61,11 +61,11 @@ on at s = node_state (tt, s) Working at
 module _ (ins outs : List ℕ) where
   -- a flag and a number for each number that is left, in so many rounds
   pub numbers_rounds : edge_of outs 0 ≢ edge_of outs 1 → (at : ℕ) (end : ℤ) (n : ℕ) (next : ℤ) → (next +ℤ pos n) ≤ℤ end →
-      Batch ins outs (behaviour_of iota_machine) (on at (Flag next end)) (on at (Flag (next +ℤ pos n) end)) (λ e. []) (λ e. cond (eqb e (edge_of outs 0)) (flags_said (elements_block n)) [] ++ cond (eqb e (edge_of outs 1)) (ints_said (numbers_block next n)) []) (2 * n)
+      Batch ins outs (behaviour_of iota_machine) (on at (Flag next end)) (on at (Flag (next +ℤ pos n) end)) (λ e. []) (λ e. cond (eqb e (edge_of outs 0)) (flag_signals (elements_block n)) [] ++ cond (eqb e (edge_of outs 1)) (int_signals (numbers_block next n)) []) (2 * n)
   numbers_rounds apart at end zero next below =
       let b = behaviour_of iota_machine in
       let same : next ≡ next +ℤ pos 0 = omega (arith, ints) in
-      let writes = λ (e : ℕ). cond (eqb e (edge_of outs 0)) (flags_said (elements_block 0)) [] ++ cond (eqb e (edge_of outs 1)) (ints_said (numbers_block next 0)) [] in
+      let writes = λ (e : ℕ). cond (eqb e (edge_of outs 0)) (flag_signals (elements_block 0)) [] ++ cond (eqb e (edge_of outs 1)) (int_signals (numbers_block next 0)) [] in
       subst (λ k. Batch ins outs b (on at (Flag next end)) (on at (Flag k end)) (λ e. []) writes 0) same (batch_as ins outs b (batch_none ins outs b (on at (Flag next end))) _ _ (λ e. refl) (λ e. no_blocks (eqb e (edge_of outs 0)) (eqb e (edge_of outs 1))))
   numbers_rounds apart at end (suc n) next below =
       let b = behaviour_of iota_machine in
@@ -73,8 +73,8 @@ module _ (ins outs : List ℕ) where
       let one = batch_write ins outs b (batch_none ins outs b (on at (Flag next end))) 0 (flag false) (on at (Number next end)) refl (ap (λ t. carry (flag (not t))) (sym test)) (ap (λ t. on at (cond t (Number next end) Between)) (sym test)) in
       let two = batch_write ins outs b one 1 (int next) (on at (Flag (next +ℤ pos 1) end)) refl refl (ap (λ t. on at (Flag (cond t (next +ℤ pos 1) end) end)) (sym test)) in
       let rest = numbers_rounds apart at end n (next +ℤ pos 1) (omega (arith, ints)) in
-      let writes = λ (e : ℕ). cond (eqb e (edge_of outs 0)) (flags_said (elements_block (suc n))) [] ++ cond (eqb e (edge_of outs 1)) (ints_said (numbers_block next (suc n))) [] in
-      let all = batch_as ins outs b (batch_then ins outs b two rest) (λ e. []) writes (λ e. refl) (λ e. blocks_then e (edge_of outs 0) (edge_of outs 1) (carry (flag false) ∷ []) (carry (int next) ∷ []) (flags_said (elements_block n)) (ints_said (numbers_block (next +ℤ pos 1) n)) apart) in
+      let writes = λ (e : ℕ). cond (eqb e (edge_of outs 0)) (flag_signals (elements_block (suc n))) [] ++ cond (eqb e (edge_of outs 1)) (int_signals (numbers_block next (suc n))) [] in
+      let all = batch_as ins outs b (batch_then ins outs b two rest) (λ e. []) writes (λ e. refl) (λ e. blocks_then e (edge_of outs 0) (edge_of outs 1) (carry (flag false) ∷ []) (carry (int next) ∷ []) (flag_signals (elements_block n)) (int_signals (numbers_block (next +ℤ pos 1) n)) apart) in
       let count : 2 + 2 * n ≡ 2 * suc n = omega arith in
       let same : (next +ℤ pos 1) +ℤ pos n ≡ next +ℤ pos (suc n) = omega (arith, ints) in
       subst (λ k. Batch ins outs b (on at (Flag next end)) (on at (Flag k end)) (λ e. []) writes (2 * suc n)) same (subst (Batch ins outs b (on at (Flag next end)) (on at (Flag ((next +ℤ pos 1) +ℤ pos n) end)) (λ e. []) writes) count all)
@@ -90,11 +90,11 @@ module _ (ins outs : List ℕ) where
 
   -- blocks that are put are those rounds
   pub numbers_went : edge_of outs 0 ≢ edge_of outs 1 → 1 < length outs → (at : ℕ) (end : ℤ) (n : ℕ) (next : ℤ) → (next +ℤ pos n) ≤ℤ end → 0 < n → (a v u w : View) → Went ins outs (behaviour_of iota_machine) (on at (Flag next end)) a (on at (Flag next end)) v 0 →
-      PutAll v (edge_of outs 0) (flags_said (elements_block n)) u → PutAll u (edge_of outs 1) (ints_said (numbers_block next n)) w → Went ins outs (behaviour_of iota_machine) (on at (Flag next end)) a (on at (Flag (next +ℤ pos n) end)) w (2 * n)
+      PutAll v (edge_of outs 0) (flag_signals (elements_block n)) u → PutAll u (edge_of outs 1) (int_signals (numbers_block next n)) w → Went ins outs (behaviour_of iota_machine) (on at (Flag next end)) a (on at (Flag (next +ℤ pos n) end)) w (2 * n)
   numbers_went apart there at end n next below some a v u w went flagged numbered =
       let b = behaviour_of iota_machine in
-      let one = shifted_put ins outs (shifted_none ins outs v) 0 (flags_said (elements_block n)) u (omega arith) (ended_flags (elements_block n)) flagged in
-      let two = shifted_put ins outs one 1 (ints_said (numbers_block next n)) w there (ended_ints (numbers_block next n)) numbered in
+      let one = shifted_put ins outs (shifted_none ins outs v) 0 (flag_signals (elements_block n)) u (omega arith) (ended_flags (elements_block n)) flagged in
+      let two = shifted_put ins outs one 1 (int_signals (numbers_block next n)) w there (ended_ints (numbers_block next n)) numbered in
       let all = went_batch ins outs b went (numbers_rounds apart at end n next below) (omega arith) w two in
       let count : 0 + 2 * n ≡ 2 * n = omega arith in
       subst (Went ins outs b (on at (Flag next end)) a (on at (Flag (next +ℤ pos n) end)) w) count all

@@ -7,11 +7,11 @@ use Rattle.snesl_operators.specs.declared.scalar.Scalar.TheVariants.{Int, Bool a
 use Rattle.snesl_operators.specs.declared.scalar.ScalarType.{ScalarType}
 use Rattle.snesl_operators.specs.declared.scalar.ScalarType.TheVariants.{Int as IntType, Bool as BoolType}
 use Rattle.flow_messages.specs.Cells.{Cell, unit, int, flag, datum}
-use Rattle.flow_base.specs.Machines.{taken}
+use Rattle.flow_base.specs.Machines.{state_after_item}
 use Rattle.flow_scalar.specs.Operands.{operand_in, on_operand}
 
 -- an operand leads where its scalar does
-pub operand_taken : {S : Type 0} (type : ScalarType) (next : Scalar → Result S FaultKind) (x : Cell) (k : Scalar) → operand_in type x ≡ Ok k → taken (on_operand type next) x ≡ next k
+pub operand_taken : {S : Type 0} (type : ScalarType) (next : Scalar → Result S FaultKind) (x : Cell) (k : Scalar) → operand_in type x ≡ Ok k → state_after_item (on_operand type next) x ≡ next k
 operand_taken IntType next (int n) k e = let same : Int n ≡ k = cc in ap next same
 operand_taken IntType next unit k e = absurd (cc)
 operand_taken IntType next (flag b) k e = absurd (cc)

@@ -3,7 +3,7 @@ use Rattle.std.proofs.Common.{◌≡◌, ℕ, ℤ, zero, suc, ◌+◌, ◌<◌, 
 use Rattle.std.proofs.lemmas.List.{length-take-le}
 use Rattle.flow_messages.specs.Ends.{View, TakenAll}
 use Rattle.flow_messages.specs.Signals.{Signal}
-use Rattle.flow_messages.specs.Blocks.{units_said, flags_said, ints_said}
+use Rattle.flow_messages.specs.Blocks.{unit_signals, flag_signals, int_signals}
 use Rattle.flow_messages.specs.declared.message.Kind.{Kind}
 use Rattle.flow_messages.specs.declared.message.Kind.TheVariants.{Unit as UnitKind, Bool as BoolKind, Int as IntKind}
 use Rattle.flow_base.specs.Machines.{on_kind}
@@ -17,15 +17,15 @@ use Rattle.flow_folds.proofs.SingleBlocks.{Swallows, swallows_none, swallows_one
 use Rattle.flow_base.proofs.Batches.{skipped}
 
 -- items of one kind fit
-pub fit_units : (n : ℕ) → EachFits UnitKind (units_said n)
+pub fit_units : (n : ℕ) → EachFits UnitKind (unit_signals n)
 fit_units zero = tt
 fit_units (suc n) = (refl, fit_units n)
 
-pub fit_flags : (bs : List Bool) → EachFits BoolKind (flags_said bs)
+pub fit_flags : (bs : List Bool) → EachFits BoolKind (flag_signals bs)
 fit_flags [] = tt
 fit_flags (b ∷ bs) = (refl, fit_flags bs)
 
-pub fit_ints : (ns : List ℤ) → EachFits IntKind (ints_said ns)
+pub fit_ints : (ns : List ℤ) → EachFits IntKind (int_signals ns)
 fit_ints [] = tt
 fit_ints (n ∷ ns) = (refl, fit_ints ns)
 

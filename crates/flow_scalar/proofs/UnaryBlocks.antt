@@ -11,7 +11,7 @@ use Rattle.snesl_operators.specs.declared.operator.UnaryOperator.{UnaryOperator}
 use Rattle.snesl_operators.specs.declared.operator.UnaryOperator.TheVariants.{Negate, Not}
 use Rattle.flow_messages.specs.Signals.{Signal, carry}
 use Rattle.flow_messages.specs.Ends.{View, LookedForRoom, TakenAll, PutAll}
-use Rattle.flow_base.specs.Machines.{taken}
+use Rattle.flow_base.specs.Machines.{state_after_item}
 use Rattle.flow_base.specs.Nodes.{NodeState, behaviour_of, node_state}
 use Rattle.flow_base.specs.Visits.{edge_of, Went}
 use Rattle.flow_base.specs.declared.node.Phase.TheVariants.{Working}
@@ -44,7 +44,7 @@ module _ (dialect : Dialect) (op : UnaryOperator) (inputs outputs : List ℕ) (a
       let b = behaviour_of unary_machine in
       let type = unary_operand op in
       let begin = on_operand type (unary_next dialect op) in
-      let leads : taken begin (cell_of_scalar x) ≡ Ok (Some v) = operand_taken type (unary_next dialect op) (cell_of_scalar x) x (takes_it dialect op x v e) ∙ ap (λ r. and_then r (λ k. Ok (Some k))) e in
+      let leads : state_after_item begin (cell_of_scalar x) ≡ Ok (Some v) = operand_taken type (unary_next dialect op) (cell_of_scalar x) x (takes_it dialect op x v e) ∙ ap (λ r. and_then r (λ k. Ok (Some k))) e in
       let one = batch_read inputs outputs b (batch_none inputs outputs b (on None)) 0 (carry (cell_of_scalar x)) (on (Some v)) refl (leads_on unary_machine (dialect, op) None (Some v) at begin (carry (cell_of_scalar x)) (λ y. refl) leads) in
       batch_as inputs outputs b (batch_write inputs outputs b one 0 (cell_of_scalar v) (on None) refl refl refl) _ _ (λ e. refl) (λ e. refl)
 

@@ -4,7 +4,7 @@ use Rattle.std.specs.List.{count_by}
 use Rattle.std.proofs.lemmas.List.Recursion.{is_count_by}
 use Rattle.flow_messages.specs.Cells.{unit, flag}
 use Rattle.flow_messages.specs.Signals.{carry}
-use Rattle.flow_messages.specs.Blocks.{units_said, flags_said}
+use Rattle.flow_messages.specs.Blocks.{unit_signals, flag_signals}
 use Rattle.flow_base.specs.Nodes.{NodeState, behaviour_of, node_state}
 use Rattle.flow_base.specs.declared.node.Phase.TheVariants.{Working}
 use Rattle.flow_scalar.specs.UnitsOfMachine.{units_of_machine}
@@ -29,15 +29,15 @@ module _ (inputs outputs : List ℕ) (at : ℕ) where
   on due = node_state (tt, due) Working at
 
   -- a flag is one step, and the unit of an element one more
-  pub units_of_rounds : (flags : List Bool) → Singles inputs outputs (behaviour_of units_of_machine) (on false) (on false) (flags_said flags) (units_said (elements flags)) (length flags + elements flags)
+  pub units_of_rounds : (flags : List Bool) → Singles inputs outputs (behaviour_of units_of_machine) (on false) (on false) (flag_signals flags) (unit_signals (elements flags)) (length flags + elements flags)
   units_of_rounds [] = singles_none inputs outputs (behaviour_of units_of_machine) (on false)
   units_of_rounds (false ∷ flags) =
       let b = behaviour_of units_of_machine in
       let one = singles_one inputs outputs b (on false) (on true) (on false) (carry (flag false)) unit refl refl refl refl refl in
       let steps : 2 + (length flags + elements flags) ≡ length (false ∷ flags) + elements (false ∷ flags) = omega arith in
-      subst (Singles inputs outputs b (on false) (on false) (flags_said (false ∷ flags)) (units_said (elements (false ∷ flags)))) steps (singles_more inputs outputs b (carry (flag false) ∷ []) (carry unit ∷ []) (flags_said flags) (units_said (elements flags)) one (units_of_rounds flags))
+      subst (Singles inputs outputs b (on false) (on false) (flag_signals (false ∷ flags)) (unit_signals (elements (false ∷ flags)))) steps (singles_more inputs outputs b (carry (flag false) ∷ []) (carry unit ∷ []) (flag_signals flags) (unit_signals (elements flags)) one (units_of_rounds flags))
   units_of_rounds (true ∷ flags) =
       let b = behaviour_of units_of_machine in
       let one = singles_read inputs outputs b (on false) (on false) (carry (flag true)) refl refl in
       let steps : 1 + (length flags + elements flags) ≡ length (true ∷ flags) + elements (true ∷ flags) = omega arith in
-      subst (Singles inputs outputs b (on false) (on false) (flags_said (true ∷ flags)) (units_said (elements (true ∷ flags)))) steps (singles_more inputs outputs b (carry (flag true) ∷ []) [] (flags_said flags) (units_said (elements flags)) one (units_of_rounds flags))
+      subst (Singles inputs outputs b (on false) (on false) (flag_signals (true ∷ flags)) (unit_signals (elements (true ∷ flags)))) steps (singles_more inputs outputs b (carry (flag true) ∷ []) [] (flag_signals flags) (unit_signals (elements flags)) one (units_of_rounds flags))

@@ -3,7 +3,7 @@ use Rattle.std.proofs.Common.{◌≡◌, ℕ, ◌+◌, ◌<◌, Bool, true, fals
 use Rattle.std.proofs.lemmas.List.{take_more, map-append}
 use Rattle.snesl_operators.specs.declared.scalar.Scalar.{Scalar}
 use Rattle.flow_messages.specs.Signals.{Signal, carry, ended}
-use Rattle.flow_messages.specs.Blocks.{ints_said}
+use Rattle.flow_messages.specs.Blocks.{int_signals}
 use Rattle.flow_folds.specs.Scalars.{cell_of_scalar}
 
 -- what these values say
@@ -21,6 +21,6 @@ ended_values said [] = refl
 ended_values said (z ∷ zs) = ended_values said zs
 
 -- a block of nothing
-pub no_block : (b : Bool) → ints_said [] ≡ cond b (ints_said []) []
+pub no_block : (b : Bool) → int_signals [] ≡ cond b (int_signals []) []
 no_block true = refl
 no_block false = refl

@@ -19,43 +19,43 @@ abbrev pub fork_ports : Kind → ℕ → ForkPorts
 fork_ports kind outputs = record { kind = kind; others = outputs - 1 }
 
 -- it holds no item, or an item that so many outputs are to get after the next one
-pub data Step : Type 0 where
-  idle : Step
-  holding : Cell → ℕ → Step
+pub data ForkState : Type 0 where
+  idle : ForkState
+  holding : Cell → ℕ → ForkState
 
 -- how far a fork is with so many outputs, of which the next one is this
-abbrev pub step_of : ℕ → ℕ → Option Item → Step
-step_of outputs next None = idle
-step_of outputs next (Some item) = holding (cell_of item) (outputs - (next + 1))
+abbrev pub fork_state : ℕ → ℕ → Option Item → ForkState
+fork_state outputs next None = idle
+fork_state outputs next (Some item) = holding (cell_of item) (outputs - (next + 1))
 
 -- an item of the kind is held for all outputs, and written to one after another
-abbrev pub fork_move : ForkPorts → Step → Move Step
+abbrev pub fork_move : ForkPorts → ForkState → Move ForkState
 fork_move p idle = begins (on_kind p.kind (λ x. Ok (holding x p.others)))
 fork_move p (holding x zero) = gives (p.others - 0) x idle
 fork_move p (holding x (suc left)) = gives (p.others - suc left) x (holding x left)
 
 -- a write to each output that is left
-abbrev pub fork_debt : Step → ℕ
+abbrev pub fork_debt : ForkState → ℕ
 fork_debt idle = 0
 fork_debt (holding x left) = left + 1
 
 -- the item that it holds is of the kind
-abbrev pub fork_of_kind : ForkPorts → Step → Type 0
+abbrev pub fork_of_kind : ForkPorts → ForkState → Type 0
 fork_of_kind p idle = Unit {0}
 fork_of_kind p (holding x left) = is_of p.kind x ≡ true
 
 -- and its integers lie in the range of the dialect
-abbrev pub fork_in_range : Dialect → Step → Type 0
+abbrev pub fork_in_range : Dialect → ForkState → Type 0
 fork_in_range dialect idle = Unit {0}
 fork_in_range dialect (holding x left) = CellInRange dialect x
 
 -- the copy of a vector may take memory; the last output gets the item itself
-abbrev pub fork_takes_memory : Step → Bool
+abbrev pub fork_takes_memory : ForkState → Bool
 fork_takes_memory (holding x (suc left)) = is_of VecKind x
 fork_takes_memory _ = false
 
 -- the machine, with its ports as parameters
-abbrev pub fork_machine : Machine ForkPorts Step
+abbrev pub fork_machine : Machine ForkPorts ForkState
 fork_machine = record {
   sample = fork_ports UnitKind 1;
   move = fork_move;

@@ -10,19 +10,19 @@ use Rattle.snesl_operators.specs.declared.scalar.Scalar.TheVariants.{Int, Bool a
 use Rattle.snesl_operators.specs.declared.scalar.ScalarType.{ScalarType}
 use Rattle.snesl_operators.specs.declared.scalar.ScalarType.TheVariants.{Int as IntType, Bool as BoolType}
 use Rattle.flow_messages.specs.Cells.{Cell, int, flag}
-use Rattle.flow_base.specs.Machines.{taken, OnNext, OfNext, OfKind, OfRange}
+use Rattle.flow_base.specs.Machines.{state_after_item, OnNext, OfNext, OfKind, OfRange}
 use Rattle.flow_folds.specs.Scalars.{cell_of_scalar}
 use Rattle.flow_scalar.specs.Operands.{on_operand}
 
 -- an item that carries an operand leads where the operand does
-pub operand_leads : {S : Type 0} (type : ScalarType) (next : Scalar → Result S FaultKind) (k : Scalar) (P : S → Type 0) → type_of k ≡ type → OnNext (next k) P → OnNext (taken (on_operand type next) (cell_of_scalar k)) P
+pub operand_leads : {S : Type 0} (type : ScalarType) (next : Scalar → Result S FaultKind) (k : Scalar) (P : S → Type 0) → type_of k ≡ type → OnNext (next k) P → OnNext (state_after_item (on_operand type next) (cell_of_scalar k)) P
 operand_leads IntType next (Int n) P e h = h
 operand_leads BoolType next (Truth b) P e h = h
 operand_leads IntType next (Truth b) P e h = absurd (cc)
 operand_leads BoolType next (Int n) P e h = absurd (cc)
 
 -- and no other leads on
-pub operand_led : {S : Type 0} (type : ScalarType) (next : Scalar → Result S FaultKind) (x : Cell) (P : S → Type 0) → OnNext (taken (on_operand type next) x) P → (k : Scalar) × (x ≡ cell_of_scalar k) × OnNext (next k) P
+pub operand_led : {S : Type 0} (type : ScalarType) (next : Scalar → Result S FaultKind) (x : Cell) (P : S → Type 0) → OnNext (state_after_item (on_operand type next) x) P → (k : Scalar) × (x ≡ cell_of_scalar k) × OnNext (next k) P
 operand_led IntType next (int n) P h = (Int n, refl, h)
 operand_led BoolType next (flag b) P h = (Truth b, refl, h)
 operand_led IntType next _ P h = absurd h

@@ -8,7 +8,7 @@ use Rattle.snesl_operators.specs.declared.operator.BinaryOperator.{BinaryOperato
 use Rattle.flow_messages.specs.Cells.{Cell, unit, flag, int}
 use Rattle.flow_messages.specs.declared.message.Kind.{Kind}
 use Rattle.flow_base.specs.Lists.{Lists}
-use Rattle.flow_base.specs.Flags.{flags, joined}
+use Rattle.flow_base.specs.Flags.{flags, concatenation}
 use Rattle.flow_base.specs.Ranges.{AllOf}
 use Rattle.flow_base.specs.Columns.{Columns, RowOf}
 use Rattle.flow_folds.specs.Scalars.{cell_of_scalar}
@@ -100,7 +100,7 @@ iota_reads ns = map (λ n. int (pos n)) ns ∷ []
 
 -- what they write: the flags of these numbers, and 0 to n - 1 for each number n, joined
 abbrev pub iota_writes : List ℕ → Columns
-iota_writes ns = flags ns ∷ joined (map numbers_below ns) ∷ []
+iota_writes ns = flags ns ∷ concatenation (map numbers_below ns) ∷ []
 
 -- the row: a list of numbers, as it is read and written
 abbrev pub IotaRow : Lists Cell → Lists Cell → Type 0

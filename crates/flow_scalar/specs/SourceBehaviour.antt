@@ -25,8 +25,8 @@ source_state stream written false = sending (items_of stream) written
 source_state stream written true = finished (items_of stream)
 
 -- a source that has written nothing
-abbrev pub source_opened : Items → SourceState
-source_opened items = sending items 0
+abbrev pub source_opening : Items → SourceState
+source_opening items = sending items 0
 
 -- all items of the stream
 abbrev pub source_items : SourceState → Items
@@ -47,13 +47,13 @@ abbrev pub next_state : Items → ℕ → Option Cell → SourceState
 next_state items written (Some x) = sending items (written + 1)
 next_state items written None = finished items
 
-abbrev pub source_written : SourceState → Signal
-source_written (sending items written) = next_signal (slice_get items.cells written)
-source_written (finished items) = stop
+abbrev pub source_signal : SourceState → Signal
+source_signal (sending items written) = next_signal (slice_get items.cells written)
+source_signal (finished items) = stop
 
-abbrev pub source_wrote : SourceState → SourceState
-source_wrote (sending items written) = next_state items written (slice_get items.cells written)
-source_wrote (finished items) = finished items
+abbrev pub source_after_write : SourceState → SourceState
+source_after_write (sending items written) = next_state items written (slice_get items.cells written)
+source_after_write (finished items) = finished items
 
 abbrev pub source_debt : SourceState → ℕ
 source_debt (sending items written) = length items.cells - written + 1
@@ -72,16 +72,16 @@ source_takes_memory (finished items) = false
 -- what it does; it has no faults, and so no place that they name; that its items are of its kind, the state says
 abbrev pub source_behaviour : Behaviour SourceState
 source_behaviour = record {
-  sample = source_opened (record { kind = UnitKind; cells = []; all_of = tt });
+  sample = source_opening (record { kind = UnitKind; cells = []; all_of = tt });
   process = record {
     want = source_want;
     read = λ s _. s;
-    written = source_written;
-    wrote = source_wrote;
+    written = source_signal;
+    wrote = source_after_write;
     debt = source_debt;
     end = stop;
   };
-  opening = λ s. source_opened (source_items s);
+  opening = λ s. source_opening (source_items s);
   inputs = λ _. 0;
   outputs = λ _. 1;
   kind_in = λ s _. (source_items s).kind;

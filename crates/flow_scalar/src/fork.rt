@@ -6,13 +6,13 @@ ghost use Rattle.std.specs.List.{All};
 ghost use Rattle.flow_messages.specs.Cells.{cell_of, is_of};
 ghost use Rattle.flow_messages.specs.Ends.{View, SameEnds};
 ghost use Rattle.flow_messages.specs.Signals.{carry, signal_of};
-ghost use Rattle.flow_messages.specs.Blocks.{units_said, flags_said, ints_said};
+ghost use Rattle.flow_messages.specs.Blocks.{unit_signals, flag_signals, int_signals};
 ghost use Rattle.flow_base.specs.Machines.{Leads, on_kind};
 ghost use Rattle.flow_base.specs.Nodes.{NodeState, behaviour_of, node_state};
 ghost use Rattle.flow_base.specs.Visits.{edge_of, IsWired, Went, Wrote};
 ghost use Rattle.flow_base.specs.declared.node.Phase.TheVariants.{Working};
 ghost use Rattle.flow_scalar.specs.ForkCopies.{PutOnEach, CopiedOn};
-ghost use Rattle.flow_scalar.specs.ForkMachine.{ForkPorts, Step, fork_ports, fork_machine, idle, holding};
+ghost use Rattle.flow_scalar.specs.ForkMachine.{ForkPorts, ForkState, fork_ports, fork_machine, idle, holding};
 
 use flow_base::{Ask, BLOCK, SHORT_BLOCK, Stop, Worker, put_in_space, take_front};
 use flow_messages::{Ends, Item, Kind, Msg};
@@ -248,7 +248,7 @@ fn least_space<E: Ends>(ends: &mut E, outputs: &[usize]) -> usize
     ensures ends { SameEnds (E.view ends.old) (E.view ends.new) }
     ensures room { (q : ℕ) → q < length outputs.now →
         result ≤ (E.view ends.new).room (edge_of outputs.now q) }
-    ensures went { (inputs : List ℕ) → (s : NodeState (ForkPorts × Step)) →
+    ensures went { (inputs : List ℕ) → (s : NodeState (ForkPorts × ForkState)) →
         Went inputs outputs.now (behaviour_of fork_machine) s (E.view ends.old) s
         (E.view ends.new) 0 }
 {
@@ -308,7 +308,7 @@ fn put_on_each<E: Ends>(ends: &mut E, outputs: &[usize], item: &Item)
         (E.view ends.old).room (edge_of outputs.now q) ≤
         (E.view ends.new).room (edge_of outputs.now q) + 1 }
     ensures went { (inputs : List ℕ) → (p : ForkPorts) → suc p.others ≡ length outputs.now →
-        (at : ℕ) → (s : NodeState (ForkPorts × Step)) → (a : View) → (n : ℕ) →
+        (at : ℕ) → (s : NodeState (ForkPorts × ForkState)) → (a : View) → (n : ℕ) →
         Went inputs outputs.now (behaviour_of fork_machine) s a
         (node_state (p, holding (cell_of item.now) p.others) Working at) (E.view ends.old) n →
         Went inputs outputs.now (behaviour_of fork_machine) s a
@@ -328,7 +328,7 @@ fn put_units_on_each<E: Ends>(ends: &mut E, outputs: &[usize], count: usize)
     requires room { (q : ℕ) → q < length outputs.now →
         count ≤ (E.view ends.old).room (edge_of outputs.now q) }
     ensures same { E.same ends.old ends.new }
-    ensures put { PutOnEach outputs.now (length outputs.now) (units_said count)
+    ensures put { PutOnEach outputs.now (length outputs.now) (unit_signals count)
         (E.view ends.old) (E.view ends.new) }
 {
     for port in 0..outputs.len() {
@@ -345,7 +345,7 @@ fn put_flags_on_each<E: Ends>(ends: &mut E, outputs: &[usize], flags: &[bool])
     requires room { (q : ℕ) → q < length outputs.now →
         length flags.now ≤ (E.view ends.old).room (edge_of outputs.now q) }
     ensures same { E.same ends.old ends.new }
-    ensures put { PutOnEach outputs.now (length outputs.now) (flags_said flags.now)
+    ensures put { PutOnEach outputs.now (length outputs.now) (flag_signals flags.now)
         (E.view ends.old) (E.view ends.new) }
 {
     for port in 0..outputs.len() {
@@ -362,7 +362,7 @@ fn put_ints_on_each<E: Ends>(ends: &mut E, outputs: &[usize], ints: &[i64])
     requires room { (q : ℕ) → q < length outputs.now →
         length ints.now ≤ (E.view ends.old).room (edge_of outputs.now q) }
     ensures same { E.same ends.old ends.new }
-    ensures put { PutOnEach outputs.now (length outputs.now) (ints_said ints.now)
+    ensures put { PutOnEach outputs.now (length outputs.now) (int_signals ints.now)
         (E.view ends.old) (E.view ends.new) }
 {
     for port in 0..outputs.len() {
@@ -551,14 +551,14 @@ fn item_shown<E: Ends>(ends: &E, edge: usize, kind: Kind) -> Option<Item>
 }
 
 impl Worker for Fork {
-    ghost use Rattle.flow_scalar.specs.ForkMachine.{ForkPorts, fork_ports, Step, step_of, fork_machine};
+    ghost use Rattle.flow_scalar.specs.ForkMachine.{ForkPorts, fork_ports, ForkState, fork_state, fork_machine};
     ghost use Rattle.flow_scalar.specs.laws.Fork.{fork_laws};
 
     ghost Parameters = { ForkPorts };
 
-    ghost State = { Step };
+    ghost State = { ForkState };
 
-    ghost state = { λ n. (fork_ports n.kind n.outputs, step_of n.outputs n.next n.held) };
+    ghost state = { λ n. (fork_ports n.kind n.outputs, fork_state n.outputs n.next n.held) };
 
     ghost machine = { fork_machine };
 

@@ -55,7 +55,7 @@ impl Sink {
 impl Worker for Sink {
     ghost use Rattle.flow_messages.specs.Cells.{cell_of};
     ghost use Rattle.flow_messages.specs.declared.message.Kind.{Kind};
-    ghost use Rattle.flow_base.specs.Machines.{told_of, after_of};
+    ghost use Rattle.flow_base.specs.Machines.{written_cell, state_after_write};
     ghost use Rattle.flow_scalar.specs.SinkMachine.{sink_machine, sink_view};
     ghost use Rattle.flow_scalar.specs.laws.Sink.{sink_laws};
 
@@ -101,7 +101,7 @@ impl Worker for Sink {
     // It has no output, so that nobody asks for this.
     fn give(&mut self) -> Result<Item, AllocError>
         ensures ok { IfOk result (λ item. (cell_of item ≡
-            told_of (sink_machine.move self.old.kind tt)) × (self.new ≡ self.old)) }
+            written_cell (sink_machine.move self.old.kind tt)) × (self.new ≡ self.old)) }
         ensures err { OnErr result (self.new ≡ self.old) }
         ensures sure { sink_machine.takes_memory tt ≡ false → IsOk result }
     {

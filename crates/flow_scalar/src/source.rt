@@ -8,7 +8,7 @@ ghost use Rattle.flow_messages.specs.Signals.{signal_of};
 ghost use Rattle.flow_base.specs.Ranges.{AllOf, SignalsInRange};
 ghost use Rattle.flow_base.specs.Transducers.{closed};
 ghost use Rattle.flow_scalar.specs.Streams.{stream_kind, stream_cells, items_of};
-ghost use Rattle.flow_scalar.specs.SourceBehaviour.{is_vector, source_opened, source_behaviour};
+ghost use Rattle.flow_scalar.specs.SourceBehaviour.{is_vector, source_opening, source_behaviour};
 
 use flow_base::{Port, Side, Transducer};
 use flow_messages::{Item, Kind, Msg};
@@ -91,11 +91,11 @@ impl Source {
     /// dialect where the integers of its stream do.
     #[tactic(auto, using(crate::specs::Streams::stream_all_of))]
     pub fn new(alloc: Global, stream: Stream) -> Source
-        ensures state { ⟦<Source as Transducer>⟧.state result ≡ source_opened (items_of stream) }
+        ensures state { ⟦<Source as Transducer>⟧.state result ≡ source_opening (items_of stream) }
         ensures of_kind { AllOf (stream_kind stream) (stream_cells stream) }
         ensures in_range { (dialect : Dialect) → SignalsInRange dialect
             (closed (stream_cells stream)) →
-            source_behaviour.in_range dialect (source_opened (items_of stream)) }
+            source_behaviour.in_range dialect (source_opening (items_of stream)) }
     {
         Source {
             alloc,

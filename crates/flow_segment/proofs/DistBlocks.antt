@@ -4,7 +4,7 @@ use Rattle.std.specs.Prelude.{replicate}
 use mathlib.Core.List.{IsPrefix}
 use Rattle.flow_messages.specs.Cells.{Cell, cell_of, is_of, unit, flag, int}
 use Rattle.flow_messages.specs.Ends.{View, LookedForRoom, TakenAll, PutAll}
-use Rattle.flow_messages.specs.Blocks.{units_said, flags_said, ints_said}
+use Rattle.flow_messages.specs.Blocks.{unit_signals, flag_signals, int_signals}
 use Rattle.flow_messages.specs.Signals.{Signal, carry, ended}
 use Rattle.flow_messages.specs.declared.message.Item.{Item}
 use Rattle.flow_messages.specs.declared.message.Kind.{Kind}
@@ -14,16 +14,16 @@ use Rattle.flow_base.specs.Visits.{edge_of, Went}
 use Rattle.flow_base.specs.declared.node.Phase.TheVariants.{Working}
 use Rattle.flow_base.proofs.Kernels.{went_none, went_looked, leads_on}
 use Rattle.flow_base.proofs.Batches.{Batch, block_then, batch_none, batch_read, batch_write, batch_then, batch_as, shifted_none, shifted_skip, shifted_put, went_batch, shown}
-use Rattle.flow_segment.specs.DistMachine.{Step, at_start, at_flag, at_copy, step_of, dist_machine}
+use Rattle.flow_segment.specs.DistMachine.{DistState, at_start, at_flag, at_copy, dist_state, dist_machine}
 use Rattle.flow_segment.proofs.Leading.{item_leads}
 use Rattle.flow_segment.proofs.Blocks.{no_block}
 
 -- how far a worker is that holds nothing, and one that holds this item
-pub empty_at : (held : Option Item) (copies : Bool) → held ≡ None → step_of held copies ≡ at_start
-empty_at held copies none = ap (λ o. step_of o copies) none
+pub empty_at : (held : Option Item) (copies : Bool) → held ≡ None → dist_state held copies ≡ at_start
+empty_at held copies none = ap (λ o. dist_state o copies) none
 
-pub held_at : (held : Option Item) (copies : Bool) (item : Item) → held ≡ Some item → copies ≡ false → step_of held copies ≡ at_flag (cell_of item)
-held_at held copies item some idle = ap (λ o. step_of o copies) some ∙ ap (step_of (Some item)) idle
+pub held_at : (held : Option Item) (copies : Bool) (item : Item) → held ≡ Some item → copies ≡ false → dist_state held copies ≡ at_flag (cell_of item)
+held_at held copies item some idle = ap (λ o. dist_state o copies) some ∙ ap (dist_state (Some item)) idle
 
 -- places that all hold one value
 pub same_block : {A : Type 0} (x d : A) (n : ℕ) (xs : List A) → n ≤ length xs → ((k : ℕ) → k < n → get_or xs k d ≡ x) → take n xs ≡ replicate n x
@@ -35,20 +35,20 @@ same_block x d (suc n) (y ∷ xs) within same =
     ap (λ z. z ∷ take n xs) first ∙ ap (λ l. x ∷ l) rest
 
 -- the flags of elements, and the flag that ends their segment
-pub segment_block : (n : ℕ) (xs : List Bool) → n < length xs → ((k : ℕ) → k < n → get_or xs k true ≡ false) → get_or xs n false ≡ true → flags_said (take (suc n) xs) ≡ flags_said (replicate n false) ++ carry (flag true) ∷ []
+pub segment_block : (n : ℕ) (xs : List Bool) → n < length xs → ((k : ℕ) → k < n → get_or xs k true ≡ false) → get_or xs n false ≡ true → flag_signals (take (suc n) xs) ≡ flag_signals (replicate n false) ++ carry (flag true) ∷ []
 segment_block n [] within same last = absurd (omega arith)
 segment_block zero (y ∷ xs) within same last = ap (λ z. carry (flag z) ∷ []) last
 segment_block (suc n) (y ∷ xs) within same last =
     let first : y ≡ false = same 0 (omega arith) in
     let rest = segment_block n xs (omega arith) (λ k h. same (suc k) (omega arith)) last in
-    ap (λ z. carry (flag z) ∷ flags_said (take (suc n) xs)) first ∙ ap (λ l. carry (flag false) ∷ l) rest
+    ap (λ z. carry (flag z) ∷ flag_signals (take (suc n) xs)) first ∙ ap (λ l. carry (flag false) ∷ l) rest
 
 -- blocks of one value
-pub flags_same : (n : ℕ) (b : Bool) → flags_said (replicate n b) ≡ replicate n (carry (flag b))
+pub flags_same : (n : ℕ) (b : Bool) → flag_signals (replicate n b) ≡ replicate n (carry (flag b))
 flags_same zero b = refl
 flags_same (suc n) b = ap (λ l. carry (flag b) ∷ l) (flags_same n b)
 
-pub ints_same : (n : ℕ) (v : ℤ) → ints_said (replicate n v) ≡ replicate n (carry (int v))
+pub ints_same : (n : ℕ) (v : ℤ) → int_signals (replicate n v) ≡ replicate n (carry (int v))
 ints_same zero v = refl
 ints_same (suc n) v = ap (λ l. carry (int v) ∷ l) (ints_same n v)
 
@@ -59,52 +59,52 @@ ended_copies zero x = refl
 ended_copies (suc n) x = ended_copies n x
 
 -- the first that is shown is the next that comes
-pub first_int : (xs : List ℤ) (c : List Signal) → 0 < length xs → IsPrefix (ints_said xs) c → take 1 c ≡ carry (int (get_or xs 0 (pos 0))) ∷ []
+pub first_int : (xs : List ℤ) (c : List Signal) → 0 < length xs → IsPrefix (int_signals xs) c → take 1 c ≡ carry (int (get_or xs 0 (pos 0))) ∷ []
 first_int [] c some seen = absurd (omega arith)
-first_int (x ∷ xs) c some seen = shown (ints_said (x ∷ xs)) c 1 seen (omega arith)
+first_int (x ∷ xs) c some seen = shown (int_signals (x ∷ xs)) c 1 seen (omega arith)
 
-pub first_flag : (xs : List Bool) (c : List Signal) → 0 < length xs → IsPrefix (flags_said xs) c → take 1 c ≡ carry (flag (get_or xs 0 false)) ∷ []
+pub first_flag : (xs : List Bool) (c : List Signal) → 0 < length xs → IsPrefix (flag_signals xs) c → take 1 c ≡ carry (flag (get_or xs 0 false)) ∷ []
 first_flag [] c some seen = absurd (omega arith)
-first_flag (x ∷ xs) c some seen = shown (flags_said (x ∷ xs)) c 1 seen (omega arith)
+first_flag (x ∷ xs) c some seen = shown (flag_signals (x ∷ xs)) c 1 seen (omega arith)
 
-pub first_unit : (n : ℕ) (c : List Signal) → (n ≡ 0 → ⊥) → IsPrefix (units_said n) c → take 1 c ≡ carry unit ∷ []
+pub first_unit : (n : ℕ) (c : List Signal) → (n ≡ 0 → ⊥) → IsPrefix (unit_signals n) c → take 1 c ≡ carry unit ∷ []
 first_unit zero c some seen = absurd (some refl)
-first_unit (suc n) c some seen = shown (units_said (suc n)) c 1 seen (omega arith)
+first_unit (suc n) c some seen = shown (unit_signals (suc n)) c 1 seen (omega arith)
 
 module _ (ins outs : List ℕ) (kind : Kind) (at : ℕ) where
-  abbrev on : Step → NodeState (Kind × Step)
+  abbrev on : DistState → NodeState (Kind × DistState)
   on s = node_state (kind, s) Working at
 
   -- rounds from a block of flags to a block of copies
-  abbrev Copies : Step → Step → List Signal → List Signal → ℕ → Type 0
+  abbrev Copies : DistState → DistState → List Signal → List Signal → ℕ → Type 0
   Copies s t xs zs n = Batch ins outs (behaviour_of dist_machine) (on s) (on t) (λ e. cond (eqb e (edge_of ins 1)) xs []) (λ e. cond (eqb e (edge_of outs 0)) zs []) n
 
   -- a copy for the flag of each element
-  pub copies_rounds : (x : Cell) (n : ℕ) → Copies (at_flag x) (at_flag x) (flags_said (replicate n false)) (replicate n (carry x)) (2 * n)
+  pub copies_rounds : (x : Cell) (n : ℕ) → Copies (at_flag x) (at_flag x) (flag_signals (replicate n false)) (replicate n (carry x)) (2 * n)
   copies_rounds x zero =
       let b = behaviour_of dist_machine in
       batch_as ins outs b (batch_none ins outs b (on (at_flag x))) (λ e. cond (eqb e (edge_of ins 1)) [] []) (λ e. cond (eqb e (edge_of outs 0)) [] []) (λ e. no_block (eqb e (edge_of ins 1))) (λ e. no_block (eqb e (edge_of outs 0)))
   copies_rounds x (suc n) =
       let b = behaviour_of dist_machine in
-      let reads = λ (e : ℕ). cond (eqb e (edge_of ins 1)) (flags_said (replicate (suc n) false)) [] in
+      let reads = λ (e : ℕ). cond (eqb e (edge_of ins 1)) (flag_signals (replicate (suc n) false)) [] in
       let writes = λ (e : ℕ). cond (eqb e (edge_of outs 0)) (replicate (suc n) (carry x)) [] in
       let one = batch_read ins outs b (batch_none ins outs b (on (at_flag x))) 1 (carry (flag false)) (on (at_copy x)) refl refl in
       let two = batch_write ins outs b one 0 x (on (at_flag x)) refl refl refl in
-      let all = batch_as ins outs b (batch_then ins outs b two (copies_rounds x n)) reads writes (λ e. block_then (eqb e (edge_of ins 1)) (carry (flag false) ∷ []) (flags_said (replicate n false))) (λ e. block_then (eqb e (edge_of outs 0)) (carry x ∷ []) (replicate n (carry x))) in
+      let all = batch_as ins outs b (batch_then ins outs b two (copies_rounds x n)) reads writes (λ e. block_then (eqb e (edge_of ins 1)) (carry (flag false) ∷ []) (flag_signals (replicate n false))) (λ e. block_then (eqb e (edge_of outs 0)) (carry x ∷ []) (replicate n (carry x))) in
       let steps : 2 + 2 * n ≡ 2 * suc n = omega arith in
       subst (Batch ins outs b (on (at_flag x)) (on (at_flag x)) reads writes) steps all
 
   -- and then the flag that ends the segment
-  pub segment_rounds : (x : Cell) (n : ℕ) → Copies (at_flag x) at_start (flags_said (replicate n false) ++ carry (flag true) ∷ []) (replicate n (carry x)) (2 * n + 1)
+  pub segment_rounds : (x : Cell) (n : ℕ) → Copies (at_flag x) at_start (flag_signals (replicate n false) ++ carry (flag true) ∷ []) (replicate n (carry x)) (2 * n + 1)
   segment_rounds x n =
       let b = behaviour_of dist_machine in
-      let reads = λ (e : ℕ). cond (eqb e (edge_of ins 1)) (flags_said (replicate n false) ++ carry (flag true) ∷ []) [] in
+      let reads = λ (e : ℕ). cond (eqb e (edge_of ins 1)) (flag_signals (replicate n false) ++ carry (flag true) ∷ []) [] in
       let writes = λ (e : ℕ). cond (eqb e (edge_of outs 0)) (replicate n (carry x)) [] in
       let all = batch_read ins outs b (copies_rounds x n) 1 (carry (flag true)) (on at_start) refl refl in
-      batch_as ins outs b all reads writes (λ e. block_then (eqb e (edge_of ins 1)) (flags_said (replicate n false)) (carry (flag true) ∷ [])) (λ e. refl)
+      batch_as ins outs b all reads writes (λ e. block_then (eqb e (edge_of ins 1)) (flag_signals (replicate n false)) (carry (flag true) ∷ [])) (λ e. refl)
 
   -- blocks that are taken and put are those rounds
-  pub copies_went : {t : Step} {k : ℕ} (x : Cell) (xs : List Signal) (n : ℕ) → 1 < length ins → 0 < length outs → (a v w z : View) → LookedForRoom a (edge_of outs 0) v → Copies (at_flag x) t xs (replicate n (carry x)) k → 0 < k →
+  pub copies_went : {t : DistState} {k : ℕ} (x : Cell) (xs : List Signal) (n : ℕ) → 1 < length ins → 0 < length outs → (a v w z : View) → LookedForRoom a (edge_of outs 0) v → Copies (at_flag x) t xs (replicate n (carry x)) k → 0 < k →
       TakenAll v (edge_of ins 1) xs w → PutAll w (edge_of outs 0) (replicate n (carry x)) z → Went ins outs (behaviour_of dist_machine) (on (at_flag x)) a (on t) z k
   copies_went {t} {k} x xs n reads writes a v w z looked rounds some taken put =
       let b = behaviour_of dist_machine in

@@ -4,7 +4,7 @@ use Rattle.std.proofs.lemmas.List.{take-set, take_more_set, take-map, length-map
 use mathlib.Core.List.{IsPrefix}
 use Rattle.flow_messages.specs.Cells.{Cell, is_of, flag, unit}
 use Rattle.flow_messages.specs.Ends.{View, LookedForRoom, TakenAll, PutAll}
-use Rattle.flow_messages.specs.Blocks.{units_said, flags_said}
+use Rattle.flow_messages.specs.Blocks.{unit_signals, flag_signals}
 use Rattle.flow_messages.specs.Signals.{Signal, carry, ended}
 use Rattle.flow_messages.specs.declared.message.Kind.{Kind}
 use Rattle.flow_base.specs.Machines.{on_kind}
@@ -13,7 +13,7 @@ use Rattle.flow_base.specs.Visits.{edge_of, Went}
 use Rattle.flow_base.specs.declared.node.Phase.TheVariants.{Working}
 use Rattle.flow_base.proofs.Kernels.{went_none, went_looked, leads_on}
 use Rattle.flow_base.proofs.Batches.{Batch, block_then, blocks_then, batch_none, batch_read, batch_write, batch_then, batch_as, shifted_none, shifted_skip, shifted_put, went_batch, shown, take_flags, length_flags}
-use Rattle.flow_segment.specs.PackMachine.{Step, at_start, at_item, at_copy, kept, trues, pack_machine}
+use Rattle.flow_segment.specs.PackMachine.{PackState, at_start, at_item, at_copy, kept, trues, pack_machine}
 use Rattle.flow_segment.proofs.Leading.{item_leads}
 use Rattle.flow_segment.proofs.Blocks.{no_block, no_blocks}
 
@@ -66,12 +66,12 @@ fewer_kept (true ∷ bs) (x ∷ xs) = let rest = fewer_kept bs xs in omega (arit
 fewer_kept (false ∷ bs) (x ∷ xs) = let rest = fewer_kept bs xs in omega (arith, rest)
 
 -- units, one by one
-pub units_one_by_one : (zs : List (Unit {0})) → map (λ _. carry unit) zs ≡ units_said (length zs)
+pub units_one_by_one : (zs : List (Unit {0})) → map (λ _. carry unit) zs ≡ unit_signals (length zs)
 units_one_by_one [] = refl
 units_one_by_one (z ∷ zs) = ap (λ l. carry unit ∷ l) (units_one_by_one zs)
 
 module _ (ins outs : List ℕ) (kind : Kind) (at : ℕ) where
-  abbrev on : Step → NodeState (Kind × Step)
+  abbrev on : PackState → NodeState (Kind × PackState)
   on s = node_state (kind, s) Working at
 
   module _ {A : Type 0} (said : A → Cell) (fits : (x : A) → is_of kind (said x) ≡ true) (apart : edge_of ins 0 ≢ edge_of ins 1) where
@@ -86,7 +86,7 @@ module _ (ins outs : List ℕ) (kind : Kind) (at : ℕ) where
 
     -- pairs from a block of truth values and one of items to a block of items
     abbrev Pairs : List Bool → List A → List A → ℕ → Type 0
-    Pairs bs xs zs n = Batch ins outs (behaviour_of pack_machine) (on at_start) (on at_start) (λ e. cond (eqb e (edge_of ins 0)) (flags_said bs) [] ++ cond (eqb e (edge_of ins 1)) (items_said xs) []) (λ e. cond (eqb e (edge_of outs 0)) (items_said zs) []) n
+    Pairs bs xs zs n = Batch ins outs (behaviour_of pack_machine) (on at_start) (on at_start) (λ e. cond (eqb e (edge_of ins 0)) (flag_signals bs) [] ++ cond (eqb e (edge_of ins 1)) (items_said xs) []) (λ e. cond (eqb e (edge_of outs 0)) (items_said zs) []) n
 
     pair_kept : (x : A) → Pairs (true ∷ []) (x ∷ []) (x ∷ []) 3
     pair_kept x =
@@ -113,7 +113,7 @@ module _ (ins outs : List ℕ) (kind : Kind) (at : ℕ) where
         let l = edge_of ins 0 in
         let r = edge_of ins 1 in
         let o = edge_of outs 0 in
-        batch_as ins outs p (batch_then ins outs p first rest) _ _ (λ e. blocks_then e l r (carry (flag b) ∷ []) (carry (said x) ∷ []) (flags_said bs) (items_said xs) apart) (λ e. block_then (eqb e o) (items_said ys) (items_said zs) ∙ ap (λ m. cond (eqb e o) m []) (sym (map-append (λ z. carry (said z)) ys zs)))
+        batch_as ins outs p (batch_then ins outs p first rest) _ _ (λ e. blocks_then e l r (carry (flag b) ∷ []) (carry (said x) ∷ []) (flag_signals bs) (items_said xs) apart) (λ e. block_then (eqb e o) (items_said ys) (items_said zs) ∙ ap (λ m. cond (eqb e o) m []) (sym (map-append (λ z. carry (said z)) ys zs)))
 
     pairs : (bs : List Bool) (xs : List A) → length xs ≡ length bs → Pairs bs xs (kept bs xs) (2 * length bs + length (kept bs xs))
     pairs [] [] long =
@@ -132,7 +132,7 @@ module _ (ins outs : List ℕ) (kind : Kind) (at : ℕ) where
 
     -- blocks that are taken and put are pairs
     pub pairs_went : (bs : List Bool) (xs : List A) (n count : ℕ) (a u w1 w2 w : View) → 1 < length ins → 0 < length outs → LookedForRoom a (edge_of outs 0) u → 0 < n → n ≤ length bs → n ≤ length xs → count ≡ length (kept (take n bs) (take n xs)) →
-        IsPrefix (flags_said bs) (u.coming (edge_of ins 0)) → IsPrefix (items_said xs) (u.coming (edge_of ins 1)) →
+        IsPrefix (flag_signals bs) (u.coming (edge_of ins 0)) → IsPrefix (items_said xs) (u.coming (edge_of ins 1)) →
         TakenAll u (edge_of ins 0) (take n (u.coming (edge_of ins 0))) w1 → TakenAll w1 (edge_of ins 1) (take n (w1.coming (edge_of ins 1))) w2 → PutAll w2 (edge_of outs 0) (items_said (kept (take n bs) (take n xs))) w →
         Went ins outs (behaviour_of pack_machine) (on at_start) a (on at_start) w (2 * n + count)
     pairs_went bs xs n count a u w1 w2 w two one looked some in_bs in_xs counts shows_truths shows_items t1 t2 put =
@@ -143,12 +143,12 @@ module _ (ins outs : List ℕ) (kind : Kind) (at : ℕ) where
         let items = take n xs in
         let zs = kept truths items in
         let other : r ≢ l = λ e. apart (sym e) in
-        let left : take n (u.coming l) ≡ flags_said truths = shown (flags_said bs) (u.coming l) n shows_truths (omega (arith, length_flags bs)) ∙ take_flags n bs in
+        let left : take n (u.coming l) ≡ flag_signals truths = shown (flag_signals bs) (u.coming l) n shows_truths (omega (arith, length_flags bs)) ∙ take_flags n bs in
         let right : take n (w1.coming r) ≡ items_said items = ap (take n) (t1.coming r other) ∙ shown (items_said xs) (u.coming r) n shows_items (omega (arith, length-map xs (λ x. carry (said x)))) ∙ take-map (λ x. carry (said x)) n xs in
         let first = subst (λ k. TakenAll u l k w1) left t1 in
         let second = subst (λ k. TakenAll w1 r k w2) right t2 in
         let began = went_looked p ins outs (went_none p ins outs (on at_start) a) 0 u one looked in
         let as_long : length items ≡ length truths = length-take-le n xs in_xs ∙ sym (length-take-le n bs in_bs) in
         let steps : 0 + (2 * length truths + length zs) ≡ 2 * n + count = omega (arith, counts, length-take-le n bs in_bs) in
-        let went = went_batch ins outs p began (pairs truths items as_long) (omega (arith, length-take-le n bs in_bs)) w (shifted_put ins outs (shifted_skip ins outs (shifted_skip ins outs (shifted_none ins outs u) 0 (flags_said truths) w1 (omega arith) first) 1 (items_said items) w2 two second) 0 (items_said zs) w one (ended_items zs) put) in
+        let went = went_batch ins outs p began (pairs truths items as_long) (omega (arith, length-take-le n bs in_bs)) w (shifted_put ins outs (shifted_skip ins outs (shifted_skip ins outs (shifted_none ins outs u) 0 (flag_signals truths) w1 (omega arith) first) 1 (items_said items) w2 two second) 0 (items_said zs) w one (ended_items zs) put) in
         subst (Went ins outs p (on at_start) a (on at_start) w) steps went

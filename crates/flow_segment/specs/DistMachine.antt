@@ -11,19 +11,19 @@ use Rattle.flow_segment.specs.Rows.{DistRow}
 use Rattle.flow_segment.specs.declared.dist.Dist.{Dist}
 
 -- how far an item and its segment are, and what the item carries: before the item, before a flag, or before a copy
-pub data Step : Type 0 where
-  at_start : Step
-  at_flag : Cell → Step
-  at_copy : Cell → Step
+pub data DistState : Type 0 where
+  at_start : DistState
+  at_flag : Cell → DistState
+  at_copy : Cell → DistState
 
 -- how far a worker is that holds this item, with a copy to be written or not
-abbrev pub step_of : Option Item → Bool → Step
-step_of None _ = at_start
-step_of (Some item) false = at_flag (cell_of item)
-step_of (Some item) true = at_copy (cell_of item)
+abbrev pub dist_state : Option Item → Bool → DistState
+dist_state None _ = at_start
+dist_state (Some item) false = at_flag (cell_of item)
+dist_state (Some item) true = at_copy (cell_of item)
 
 -- an item begins an instance, then flags are due, each F with a copy of the item
-abbrev pub dist_move : Kind → Step → Move Step
+abbrev pub dist_move : Kind → DistState → Move DistState
 dist_move kind at_start = begins (on_kind kind (λ x. Ok (at_flag x)))
 dist_move kind (at_flag x) = takes 1 (on_flag (Ok (at_copy x)) (Ok at_start))
 dist_move kind (at_copy x) = gives 0 x (at_flag x)
@@ -34,24 +34,24 @@ dist_kind_in kind zero = kind
 dist_kind_in kind _ = BoolKind
 
 -- what is held is of the kind
-abbrev pub dist_of_kind : Kind → Step → Type 0
+abbrev pub dist_of_kind : Kind → DistState → Type 0
 dist_of_kind kind at_start = Unit {0}
 dist_of_kind kind (at_flag x) = is_of kind x ≡ true
 dist_of_kind kind (at_copy x) = is_of kind x ≡ true
 
 -- what is held is in the range of the dialect
-abbrev pub dist_in_range : Dialect → Step → Type 0
+abbrev pub dist_in_range : Dialect → DistState → Type 0
 dist_in_range dialect at_start = Unit {0}
 dist_in_range dialect (at_flag x) = CellInRange dialect x
 dist_in_range dialect (at_copy x) = CellInRange dialect x
 
 -- a copy of a vector may take memory
-abbrev pub dist_takes_memory : Step → Bool
+abbrev pub dist_takes_memory : DistState → Bool
 dist_takes_memory (at_copy x) = is_of VecKind x
 dist_takes_memory _ = false
 
 -- what the worker does
-abbrev pub dist_machine : Machine Kind Step
+abbrev pub dist_machine : Machine Kind DistState
 dist_machine = record {
   sample = UnitKind;
   move = dist_move;
@@ -68,5 +68,5 @@ dist_machine = record {
 }
 
 -- what the machine sees of a worker
-abbrev pub dist_view : Dist → Kind × Step
-dist_view n = (n.kind, step_of n.held n.copies)
+abbrev pub dist_view : Dist → Kind × DistState
+dist_view n = (n.kind, dist_state n.held n.copies)

@@ -1,6 +1,6 @@
 -- What a table over flags makes of blocks of flags.
 use Rattle.std.specs.Prelude.{◌≡◌, ℕ, ◌+◌, Bool, cond, eqb, List, [], ◌++◌, length}
-use Rattle.flow_messages.specs.Blocks.{flags_said}
+use Rattle.flow_messages.specs.Blocks.{flag_signals}
 use Rattle.flow_messages.specs.Signals.{Signal}
 use Rattle.flow_base.specs.Nodes.{behaviour_of, node_state}
 use Rattle.flow_base.specs.Visits.{edge_of}
@@ -10,11 +10,11 @@ use Rattle.flow_segment.specs.FlagTables.{FlagTable, over_flags}
 
 -- these flags at the edge of port 0, and those at the edge of port 1
 abbrev pub two_blocks : List ℕ → List Bool → List Bool → ℕ → List Signal
-two_blocks edges xs ys e = cond (eqb e (edge_of edges 0)) (flags_said xs) [] ++ cond (eqb e (edge_of edges 1)) (flags_said ys) []
+two_blocks edges xs ys e = cond (eqb e (edge_of edges 0)) (flag_signals xs) [] ++ cond (eqb e (edge_of edges 1)) (flag_signals ys) []
 
 -- these flags at the edge of port 0
 abbrev pub one_block : List ℕ → List Bool → ℕ → List Signal
-one_block edges zs e = cond (eqb e (edge_of edges 0)) (flags_said zs) []
+one_block edges zs e = cond (eqb e (edge_of edges 0)) (flag_signals zs) []
 
 -- nothing is read of a second input that has the edge of the first
 abbrev pub Apart : List ℕ → List Bool → Type 0

@@ -5,8 +5,8 @@ use Rattle.flow_messages.specs.declared.message.Kind.TheVariants.{Bool as BoolKi
 use Rattle.flow_base.specs.Lists.{Lists}
 use Rattle.flow_base.specs.Machines.{on_flag, Move, begins, takes, gives, Machine}
 use Rattle.flow_segment.specs.declared.over_flags.OverFlags.{OverFlags}
-use Rattle.flow_segment.specs.declared.over_flags.Step.{Step}
-use Rattle.flow_segment.specs.declared.over_flags.Step.TheVariants.{Begin, Take, Give}
+use Rattle.flow_segment.specs.declared.over_flags.StageMove.{StageMove}
+use Rattle.flow_segment.specs.declared.over_flags.StageMove.TheVariants.{Begin, Take, Give}
 
 -- what a worker over flags does, with its row and the number of its ports
 pub record FlagTable (S : Type 0) : Type 1 where
@@ -41,7 +41,7 @@ abbrev pub stage_view : {S : Type 0} → OverFlags S → Unit {0} × S
 stage_view w = (tt, w.stage)
 
 -- a step as a move
-abbrev pub move_of_step : {S : Type 0} → Step S → Move S
-move_of_step (Begin at_f at_t) = begins (on_flag at_f at_t)
-move_of_step (Take port at_f at_t) = takes port (on_flag at_f at_t)
-move_of_step (Give port b next) = gives port (flag b) next
+abbrev pub move_of_stage : {S : Type 0} → StageMove S → Move S
+move_of_stage (Begin at_f at_t) = begins (on_flag at_f at_t)
+move_of_stage (Take port at_f at_t) = takes port (on_flag at_f at_t)
+move_of_stage (Give port b next) = gives port (flag b) next

@@ -14,31 +14,31 @@ use Rattle.flow_segment.specs.declared.interleave.Turn.TheVariants.{Start, Flag,
 use Rattle.flow_segment.specs.declared.interleave.Interleave.{Interleave}
 
 -- how far a pair of segments is, and what the item carries that is to be written
-pub data Step : Type 0 where
-  at_start : Step
-  at_flag : Side → Step
-  at_item : Side → Step
-  at_copy : Side → Cell → Step
+pub data InterleaveState : Type 0 where
+  at_start : InterleaveState
+  at_flag : Side → InterleaveState
+  at_item : Side → InterleaveState
+  at_copy : Side → Cell → InterleaveState
 
 -- how far this turn is
-abbrev pub step_of : Turn → Step
-step_of Start = at_start
-step_of (Flag side) = at_flag side
-step_of (AtItem side) = at_item side
-step_of (Copy side item) = at_copy side (cell_of item)
+abbrev pub interleave_state : Turn → InterleaveState
+interleave_state Start = at_start
+interleave_state (Flag side) = at_flag side
+interleave_state (AtItem side) = at_item side
+interleave_state (Copy side item) = at_copy side (cell_of item)
 
 -- F leads to an item of its side, T of the left to the right, and T of the right ends the pair
-abbrev pub after_flag : Side → Bool → Step
+abbrev pub after_flag : Side → Bool → InterleaveState
 after_flag side false = at_item side
 after_flag Left true = at_flag Right
 after_flag Right true = at_start
 
 -- where a flag of the side leads
-abbrev pub flag_of : Side → Taking Step
+abbrev pub flag_of : Side → Taking InterleaveState
 flag_of side = on_flag (Ok (after_flag side false)) (Ok (after_flag side true))
 
 -- a flag of the left begins an instance; each side has a port for its flags and one for its items, which are copied
-abbrev pub interleave_move : Kind → Step → Move Step
+abbrev pub interleave_move : Kind → InterleaveState → Move InterleaveState
 interleave_move kind at_start = begins (flag_of Left)
 interleave_move kind (at_flag Left) = takes 0 (flag_of Left)
 interleave_move kind (at_flag Right) = takes 1 (flag_of Right)
@@ -53,17 +53,17 @@ interleave_kind_in kind (suc zero) = BoolKind
 interleave_kind_in kind _ = kind
 
 -- what is to be written is of the kind
-abbrev pub interleave_of_kind : Kind → Step → Type 0
+abbrev pub interleave_of_kind : Kind → InterleaveState → Type 0
 interleave_of_kind kind (at_copy side x) = is_of kind x ≡ true
 interleave_of_kind kind _ = Unit {0}
 
 -- what is to be written is in the range of the dialect
-abbrev pub interleave_in_range : Dialect → Kind → Step → Type 0
+abbrev pub interleave_in_range : Dialect → Kind → InterleaveState → Type 0
 interleave_in_range dialect kind (at_copy side x) = CellInRange dialect x
 interleave_in_range dialect kind _ = Unit {0}
 
 -- what the worker does
-abbrev pub interleave_machine : Machine Kind Step
+abbrev pub interleave_machine : Machine Kind InterleaveState
 interleave_machine = record {
   sample = UnitKind;
   move = interleave_move;
@@ -80,5 +80,5 @@ interleave_machine = record {
 }
 
 -- what the machine sees of a worker
-abbrev pub interleave_view : Interleave → Kind × Step
-interleave_view n = (n.kind, step_of n.turn)
+abbrev pub interleave_view : Interleave → Kind × InterleaveState
+interleave_view n = (n.kind, interleave_state n.turn)

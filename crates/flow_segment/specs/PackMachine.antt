@@ -12,19 +12,19 @@ use Rattle.flow_segment.specs.declared.pack.Pair.TheVariants.{Start, Item as AtI
 use Rattle.flow_segment.specs.declared.pack.Pack.{Pack}
 
 -- how far a truth value and its item are, and what the item carries that is to be written
-pub data Step : Type 0 where
-  at_start : Step
-  at_item : Bool → Step
-  at_copy : Cell → Step
+pub data PackState : Type 0 where
+  at_start : PackState
+  at_item : Bool → PackState
+  at_copy : Cell → PackState
 
 -- how far this pair is
-abbrev pub step_of : Pair → Step
-step_of Start = at_start
-step_of (AtItem keep) = at_item keep
-step_of (Copy item) = at_copy (cell_of item)
+abbrev pub pack_state : Pair → PackState
+pack_state Start = at_start
+pack_state (AtItem keep) = at_item keep
+pack_state (Copy item) = at_copy (cell_of item)
 
 -- a truth value begins an instance, then an item is due, and then its copy where it is to be kept
-abbrev pub pack_move : Kind → Step → Move Step
+abbrev pub pack_move : Kind → PackState → Move PackState
 pack_move kind at_start = begins (on_flag (Ok (at_item false)) (Ok (at_item true)))
 pack_move kind (at_item true) = takes 1 (on_kind kind (λ x. Ok (at_copy x)))
 pack_move kind (at_item false) = takes 1 (on_kind kind (λ _. Ok at_start))
@@ -36,17 +36,17 @@ pack_kind_in kind zero = BoolKind
 pack_kind_in kind _ = kind
 
 -- what is to be written is of the kind
-abbrev pub pack_of_kind : Kind → Step → Type 0
+abbrev pub pack_of_kind : Kind → PackState → Type 0
 pack_of_kind kind (at_copy x) = is_of kind x ≡ true
 pack_of_kind kind _ = Unit {0}
 
 -- what is to be written is in the range of the dialect
-abbrev pub pack_in_range : Dialect → Kind → Step → Type 0
+abbrev pub pack_in_range : Dialect → Kind → PackState → Type 0
 pack_in_range dialect kind (at_copy x) = CellInRange dialect x
 pack_in_range dialect kind _ = Unit {0}
 
 -- what the worker does
-abbrev pub pack_machine : Machine Kind Step
+abbrev pub pack_machine : Machine Kind PackState
 pack_machine = record {
   sample = UnitKind;
   move = pack_move;
@@ -63,8 +63,8 @@ pack_machine = record {
 }
 
 -- what the machine sees of a worker
-abbrev pub pack_view : Pack → Kind × Step
-pack_view n = (n.kind, step_of n.pair)
+abbrev pub pack_view : Pack → Kind × PackState
+pack_view n = (n.kind, pack_state n.pair)
 
 -- the items whose truth values are true
 abbrev pub kept : {A : Type 0} → List Bool → List A → List A

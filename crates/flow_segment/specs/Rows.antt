@@ -3,7 +3,7 @@ use Rattle.std.specs.Prelude.{ℕ, ◌≡◌, ◌+◌, true, false, Bool, List, 
 use Rattle.flow_messages.specs.Cells.{Cell, flag}
 use Rattle.flow_messages.specs.declared.message.Kind.{Kind}
 use Rattle.flow_base.specs.Lists.{Lists}
-use Rattle.flow_base.specs.Flags.{T, elements, flags, joined, lengths}
+use Rattle.flow_base.specs.Flags.{T, elements, flags, concatenation, lengths}
 use Rattle.flow_base.specs.Ranges.{AllOf}
 use Rattle.flow_base.specs.Columns.{Columns, RowOf}
 
@@ -99,7 +99,7 @@ SameFlagsRow i o = RowOf same_flags_reads (λ _. []) 2 0 i o
 
 -- the flags of outer segments, and those of the inner ones, as many as the outer ones have elements
 abbrev pub concat_flags_reads : List (List ℕ) → Columns
-concat_flags_reads groups = flags (lengths groups) ∷ flags (joined groups) ∷ []
+concat_flags_reads groups = flags (lengths groups) ∷ flags (concatenation groups) ∷ []
 
 -- for each outer segment the flags of all elements of its inner ones
 abbrev pub concat_flags_writes : List (List ℕ) → Columns
@@ -115,11 +115,11 @@ ConcatFlagsRow i o = RowOf concat_flags_reads concat_flags_writes 2 1 i o
 -- flags of the number. What segments read: flags of how many truth values each has, these, and flags of how many are
 -- false.
 abbrev pub part_flags_reads : List (List ℕ) → Columns
-part_flags_reads groups = flags (map (sum_by suc) groups) ∷ flags (joined groups) ∷ flags (map sum groups) ∷ []
+part_flags_reads groups = flags (map (sum_by suc) groups) ∷ flags (concatenation groups) ∷ flags (map sum groups) ∷ []
 
 -- what they write: flags of how many are true, and those of the numbers of false before each true
 abbrev pub part_flags_writes : List (List ℕ) → Columns
-part_flags_writes groups = flags (lengths groups) ∷ flags (joined groups) ∷ []
+part_flags_writes groups = flags (lengths groups) ∷ flags (concatenation groups) ∷ []
 
 -- segments are read that are empty or end in a true, and their parts are written
 abbrev pub PartFlagsRow : Lists Cell → Lists Cell → Type 0
@@ -175,7 +175,7 @@ AllOfSides kind ((u, v) ∷ xs) = AllOf kind u × AllOf kind v × AllOfSides kin
 
 -- what pairs of lists of items read: the flags of both sides, and the items of both
 abbrev pub interleave_reads : Sides Cell → Columns
-interleave_reads xs = flags (lengths (lefts xs)) ∷ flags (lengths (rights xs)) ∷ joined (lefts xs) ∷ joined (rights xs) ∷ []
+interleave_reads xs = flags (lengths (lefts xs)) ∷ flags (lengths (rights xs)) ∷ concatenation (lefts xs) ∷ concatenation (rights xs) ∷ []
 
 -- pairs of lists of items of the kind are read, and their lists are written alternately
 abbrev pub InterleaveRow : Kind → Lists Cell → Lists Cell → Type 0
@@ -185,7 +185,7 @@ InterleaveRow kind i o = RowOf {X = (xs : Sides Cell) × AllOfSides kind xs} (λ
 
 -- what pairs of lists of numbers read: the flags of both sides, and those of the numbers of both
 abbrev pub interleave_groups_reads : Sides ℕ → Columns
-interleave_groups_reads xs = flags (lengths (lefts xs)) ∷ flags (lengths (rights xs)) ∷ flags (joined (lefts xs)) ∷ flags (joined (rights xs)) ∷ []
+interleave_groups_reads xs = flags (lengths (lefts xs)) ∷ flags (lengths (rights xs)) ∷ flags (concatenation (lefts xs)) ∷ flags (concatenation (rights xs)) ∷ []
 
 -- pairs of lists of numbers are read, and the flags of their lists are written alternately
 abbrev pub InterleaveGroupsRow : Lists Cell → Lists Cell → Type 0

@@ -1,6 +1,6 @@
 // Segments joined to segments, place by place.
 
-use crate::over_flags::{OverFlags, Stage, Step};
+use crate::over_flags::{OverFlags, Stage, StageMove};
 
 /// Reads pairs of segments, and writes for each one segment: the elements of the first, then those of the second. A
 /// pair of segments is an instance.
@@ -41,14 +41,14 @@ impl Stage for AppendFlagsStage {
     }
 
     #[inline(always)]
-    fn step(self) -> Step<AppendFlagsStage> {
+    fn step(self) -> StageMove<AppendFlagsStage> {
         match self {
-            Self::Start => Step::Begin(Ok(Self::FirstElement), Ok(Self::Second)),
-            Self::First => Step::Take(0, Ok(Self::FirstElement), Ok(Self::Second)),
-            Self::Second => Step::Take(1, Ok(Self::SecondElement), Ok(Self::End)),
-            Self::FirstElement => Step::Give(0, false, Self::First),
-            Self::SecondElement => Step::Give(0, false, Self::Second),
-            Self::End => Step::Give(0, true, Self::Start),
+            Self::Start => StageMove::Begin(Ok(Self::FirstElement), Ok(Self::Second)),
+            Self::First => StageMove::Take(0, Ok(Self::FirstElement), Ok(Self::Second)),
+            Self::Second => StageMove::Take(1, Ok(Self::SecondElement), Ok(Self::End)),
+            Self::FirstElement => StageMove::Give(0, false, Self::First),
+            Self::SecondElement => StageMove::Give(0, false, Self::Second),
+            Self::End => StageMove::Give(0, true, Self::Start),
         }
     }
 

@@ -1,6 +1,6 @@
 // Segments of segments, joined.
 
-use crate::over_flags::{OverFlags, Stage, Step};
+use crate::over_flags::{OverFlags, Stage, StageMove};
 
 /// Reads segments of segments, and writes for each of the outer segments one segment of all elements of its inner
 /// ones. An outer segment is an instance.
@@ -39,13 +39,13 @@ impl Stage for ConcatFlagsStage {
     }
 
     #[inline(always)]
-    fn step(self) -> Step<ConcatFlagsStage> {
+    fn step(self) -> StageMove<ConcatFlagsStage> {
         match self {
-            Self::Start => Step::Begin(Ok(Self::Inner), Ok(Self::End)),
-            Self::Outer => Step::Take(0, Ok(Self::Inner), Ok(Self::End)),
-            Self::Inner => Step::Take(1, Ok(Self::Element), Ok(Self::Outer)),
-            Self::Element => Step::Give(0, false, Self::Inner),
-            Self::End => Step::Give(0, true, Self::Start),
+            Self::Start => StageMove::Begin(Ok(Self::Inner), Ok(Self::End)),
+            Self::Outer => StageMove::Take(0, Ok(Self::Inner), Ok(Self::End)),
+            Self::Inner => StageMove::Take(1, Ok(Self::Element), Ok(Self::Outer)),
+            Self::Element => StageMove::Give(0, false, Self::Inner),
+            Self::End => StageMove::Give(0, true, Self::Start),
         }
     }
 

@@ -278,12 +278,12 @@ impl Dist {
 
 impl Worker for Dist {
     ghost use Rattle.flow_messages.specs.declared.message.Kind.{Kind};
-    ghost use Rattle.flow_segment.specs.DistMachine.{Step, dist_machine, dist_view};
+    ghost use Rattle.flow_segment.specs.DistMachine.{DistState, dist_machine, dist_view};
     ghost use Rattle.flow_segment.specs.laws.Dist.{dist_laws};
 
     ghost Parameters = { Kind };
 
-    ghost State = { Step };
+    ghost State = { DistState };
 
     ghost state = { dist_view };
 

@@ -1,6 +1,6 @@
 // Truth values as segments.
 
-use crate::over_flags::{OverFlags, Stage, Step};
+use crate::over_flags::{OverFlags, Stage, StageMove};
 
 /// Reads truth values, and writes a segment of one element for true, and an empty one for false. Each truth value is
 /// an instance.
@@ -34,11 +34,11 @@ impl Stage for FlagOfBoolStage {
     }
 
     #[inline(always)]
-    fn step(self) -> Step<FlagOfBoolStage> {
+    fn step(self) -> StageMove<FlagOfBoolStage> {
         match self {
-            Self::Start => Step::Begin(Ok(Self::End), Ok(Self::Element)),
-            Self::Element => Step::Give(0, false, Self::End),
-            Self::End => Step::Give(0, true, Self::Start),
+            Self::Start => StageMove::Begin(Ok(Self::End), Ok(Self::Element)),
+            Self::Element => StageMove::Give(0, false, Self::End),
+            Self::End => StageMove::Give(0, true, Self::Start),
         }
     }
 

@@ -29,11 +29,11 @@ enum Turn {
 }
 
 impl Turn {
-    ghost use Rattle.flow_segment.specs.InterleaveMachine.{step_of, after_flag};
+    ghost use Rattle.flow_segment.specs.InterleaveMachine.{interleave_state, after_flag};
 
     // After a flag of this side, which ends its segment or not.
     fn after_flag(side: Side, ends: bool) -> Turn
-        ensures { step_of result ≡ after_flag side ends }
+        ensures { interleave_state result ≡ after_flag side ends }
     {
         match (side, ends) {
             (_, false) => Turn::Item(side),
@@ -71,12 +71,12 @@ impl Interleave {
 
 impl Worker for Interleave {
     ghost use Rattle.flow_messages.specs.declared.message.Kind.{Kind};
-    ghost use Rattle.flow_segment.specs.InterleaveMachine.{Step, interleave_machine, interleave_view};
+    ghost use Rattle.flow_segment.specs.InterleaveMachine.{InterleaveState, interleave_machine, interleave_view};
     ghost use Rattle.flow_segment.specs.laws.Interleave.{interleave_laws};
 
     ghost Parameters = { Kind };
 
-    ghost State = { Step };
+    ghost State = { InterleaveState };
 
     ghost state = { interleave_view };
 

@@ -1,6 +1,6 @@
 // Two sequences of segments of segments, joined place by place.
 
-use crate::over_flags::{OverFlags, Stage, Step};
+use crate::over_flags::{OverFlags, Stage, StageMove};
 
 /// Reads pairs of segments, with a segment more for each element of either, its group, and writes the groups of the
 /// left one and then those of the right one. A pair of segments is an instance.
@@ -46,17 +46,17 @@ impl Stage for InterleaveGroupsStage {
     }
 
     #[inline(always)]
-    fn step(self) -> Step<InterleaveGroupsStage> {
+    fn step(self) -> StageMove<InterleaveGroupsStage> {
         match self {
-            Self::Start => Step::Begin(Ok(Self::LeftGroup), Ok(Self::Right)),
-            Self::Left => Step::Take(0, Ok(Self::LeftGroup), Ok(Self::Right)),
-            Self::LeftGroup => Step::Take(2, Ok(Self::LeftElement), Ok(Self::LeftEnd)),
-            Self::LeftElement => Step::Give(0, false, Self::LeftGroup),
-            Self::LeftEnd => Step::Give(0, true, Self::Left),
-            Self::Right => Step::Take(1, Ok(Self::RightGroup), Ok(Self::Start)),
-            Self::RightGroup => Step::Take(3, Ok(Self::RightElement), Ok(Self::RightEnd)),
-            Self::RightElement => Step::Give(0, false, Self::RightGroup),
-            Self::RightEnd => Step::Give(0, true, Self::Right),
+            Self::Start => StageMove::Begin(Ok(Self::LeftGroup), Ok(Self::Right)),
+            Self::Left => StageMove::Take(0, Ok(Self::LeftGroup), Ok(Self::Right)),
+            Self::LeftGroup => StageMove::Take(2, Ok(Self::LeftElement), Ok(Self::LeftEnd)),
+            Self::LeftElement => StageMove::Give(0, false, Self::LeftGroup),
+            Self::LeftEnd => StageMove::Give(0, true, Self::Left),
+            Self::Right => StageMove::Take(1, Ok(Self::RightGroup), Ok(Self::Start)),
+            Self::RightGroup => StageMove::Take(3, Ok(Self::RightElement), Ok(Self::RightEnd)),
+            Self::RightElement => StageMove::Give(0, false, Self::RightGroup),
+            Self::RightEnd => StageMove::Give(0, true, Self::Right),
         }
     }
 

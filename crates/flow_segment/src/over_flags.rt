@@ -19,7 +19,7 @@ use std::alloc::AllocError;
 
 /// What a worker over flags does in a stage.
 #[derive(Clone, Copy)]
-pub enum Step<S> {
+pub enum StageMove<S> {
     /// A flag of port 0 begins an instance, and leads here where it is F, and there where it is T.
     Begin(Result<S, FaultKind>, Result<S, FaultKind>),
     /// A flag of this port leads here where it is F, and there where it is T.
@@ -31,7 +31,7 @@ pub enum Step<S> {
 /// The stages of a worker over flags alone.
 pub trait Stage: Copy {
     ghost use Rattle.flow_base.specs.Machines.{MachineLaws};
-    ghost use Rattle.flow_segment.specs.FlagTables.{FlagTable, over_flags, move_of_step};
+    ghost use Rattle.flow_segment.specs.FlagTables.{FlagTable, over_flags, move_of_stage};
 
     /// What it does.
     ghost table: { FlagTable Self };
@@ -44,8 +44,8 @@ pub trait Stage: Copy {
         ensures { result ≡ table.start };
 
     /// What it does in this stage.
-    fn step(self) -> Step<Self>
-        ensures { move_of_step result ≡ table.move self };
+    fn step(self) -> StageMove<Self>
+        ensures { move_of_stage result ≡ table.move self };
 
     /// The number of its input ports.
     fn inputs() -> usize
@@ -175,28 +175,28 @@ fn run_over<S: Stage>(
     };
     for _ in 0..most {
         match ran.stage.step() {
-            Step::Begin(at_f, at_t) => {
+            StageMove::Begin(at_f, at_t) => {
                 let Some(next) = stage_after(at_f, at_t, firsts, ran.first) else {
                     return ran;
                 };
                 ran.stage = next;
                 ran.first += 1;
             }
-            Step::Take(0, at_f, at_t) => {
+            StageMove::Take(0, at_f, at_t) => {
                 let Some(next) = stage_after(at_f, at_t, firsts, ran.first) else {
                     return ran;
                 };
                 ran.stage = next;
                 ran.first += 1;
             }
-            Step::Take(1, at_f, at_t) => {
+            StageMove::Take(1, at_f, at_t) => {
                 let Some(next) = stage_after(at_f, at_t, seconds, ran.second) else {
                     return ran;
                 };
                 ran.stage = next;
                 ran.second += 1;
             }
-            Step::Give(0, flag, next) => {
+            StageMove::Give(0, flag, next) => {
                 if ran.written == room {
                     return ran;
                 }
@@ -245,9 +245,9 @@ impl<S: Stage> Worker for OverFlags<S> {
     #[inline(always)]
     fn ask(&self) -> Ask {
         match self.stage.step() {
-            Step::Begin(_, _) => Ask::Begin,
-            Step::Take(port, _, _) => Ask::Take(port),
-            Step::Give(port, _, _) => Ask::Give(port),
+            StageMove::Begin(_, _) => Ask::Begin,
+            StageMove::Take(port, _, _) => Ask::Take(port),
+            StageMove::Give(port, _, _) => Ask::Give(port),
         }
     }
 
@@ -270,8 +270,8 @@ impl<S: Stage> Worker for OverFlags<S> {
     #[inline(always)]
     fn take(&mut self, item: Item) -> Result<(), Stop> {
         self.stage = match (self.stage.step(), item) {
-            (Step::Begin(next, _) | Step::Take(_, next, _), Item::Bool(false)) => next?,
-            (Step::Begin(_, next) | Step::Take(_, _, next), Item::Bool(true)) => next?,
+            (StageMove::Begin(next, _) | StageMove::Take(_, next, _), Item::Bool(false)) => next?,
+            (StageMove::Begin(_, next) | StageMove::Take(_, _, next), Item::Bool(true)) => next?,
             _ => return Err(Stop::Faulted(FaultKind::Shape)),
         };
         Ok(())
@@ -280,7 +280,7 @@ impl<S: Stage> Worker for OverFlags<S> {
     #[inline(always)]
     fn give(&mut self) -> Result<Item, AllocError> {
         match self.stage.step() {
-            Step::Give(_, flag, next) => {
+            StageMove::Give(_, flag, next) => {
                 self.stage = next;
                 Ok(Item::Bool(flag))
             }
@@ -325,7 +325,7 @@ impl<S: Stage> Worker for OverFlags<S> {
     ) -> usize {
         for made in 0..most {
             match self.stage.step() {
-                Step::Begin(at_f, at_t) => {
+                StageMove::Begin(at_f, at_t) => {
                     let from = inputs[0];
                     let Some(next) = stage_at(at_f, at_t, ends, from) else {
                         return made;
@@ -333,7 +333,7 @@ impl<S: Stage> Worker for OverFlags<S> {
                     take_front(ends, from);
                     self.stage = next;
                 }
-                Step::Take(port, at_f, at_t) => {
+                StageMove::Take(port, at_f, at_t) => {
                     let from = inputs[port];
                     let Some(next) = stage_at(at_f, at_t, ends, from) else {
                         return made;
@@ -341,7 +341,7 @@ impl<S: Stage> Worker for OverFlags<S> {
                     take_front(ends, from);
                     self.stage = next;
                 }
-                Step::Give(port, flag, next) => {
+                StageMove::Give(port, flag, next) => {
                     let to = outputs[port];
                     if ends.space(to) == 0 {
                         return made;

@@ -177,12 +177,12 @@ impl Pack {
 
 impl Worker for Pack {
     ghost use Rattle.flow_messages.specs.declared.message.Kind.{Kind};
-    ghost use Rattle.flow_segment.specs.PackMachine.{Step, pack_machine, pack_view};
+    ghost use Rattle.flow_segment.specs.PackMachine.{PackState, pack_machine, pack_view};
     ghost use Rattle.flow_segment.specs.laws.Pack.{pack_laws};
 
     ghost Parameters = { Kind };
 
-    ghost State = { Step };
+    ghost State = { PackState };
 
     ghost state = { pack_view };
 

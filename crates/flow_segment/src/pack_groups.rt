@@ -1,6 +1,6 @@
 // The segments that are to be kept.
 
-use crate::over_flags::{OverFlags, Stage, Step};
+use crate::over_flags::{OverFlags, Stage, StageMove};
 
 /// Reads a truth value and a segment, and writes the segment, its end included, where the truth value is true. Each
 /// such pair is an instance.
@@ -36,13 +36,13 @@ impl Stage for PackGroupsStage {
     }
 
     #[inline(always)]
-    fn step(self) -> Step<PackGroupsStage> {
+    fn step(self) -> StageMove<PackGroupsStage> {
         match self {
-            Self::Start => Step::Begin(Ok(Self::Flag(false)), Ok(Self::Flag(true))),
-            Self::Flag(true) => Step::Take(1, Ok(Self::Element), Ok(Self::End)),
-            Self::Flag(false) => Step::Take(1, Ok(Self::Flag(false)), Ok(Self::Start)),
-            Self::Element => Step::Give(0, false, Self::Flag(true)),
-            Self::End => Step::Give(0, true, Self::Start),
+            Self::Start => StageMove::Begin(Ok(Self::Flag(false)), Ok(Self::Flag(true))),
+            Self::Flag(true) => StageMove::Take(1, Ok(Self::Element), Ok(Self::End)),
+            Self::Flag(false) => StageMove::Take(1, Ok(Self::Flag(false)), Ok(Self::Start)),
+            Self::Element => StageMove::Give(0, false, Self::Flag(true)),
+            Self::End => StageMove::Give(0, true, Self::Start),
         }
     }
 

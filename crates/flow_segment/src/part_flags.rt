@@ -1,6 +1,6 @@
 // Segments, parted at truth values.
 
-use crate::over_flags::{OverFlags, Stage, Step};
+use crate::over_flags::{OverFlags, Stage, StageMove};
 use snesl_data::FaultKind;
 
 /// Reads segments with a truth value for each element, and parts them: a false stands for an element of a part, and a
@@ -50,18 +50,18 @@ impl Stage for PartFlagsStage {
     }
 
     #[inline(always)]
-    fn step(self) -> Step<PartFlagsStage> {
+    fn step(self) -> StageMove<PartFlagsStage> {
         match self {
-            Self::Start => Step::Begin(Ok(Self::Test), Ok(Self::Last)),
-            Self::Parted => Step::Take(0, Ok(Self::Test), Ok(Self::Last)),
-            Self::Open => Step::Take(0, Ok(Self::Test), Err(FaultKind::Part)),
-            Self::Test => Step::Take(1, Ok(Self::Element), Ok(Self::Part)),
-            Self::Element => Step::Take(2, Ok(Self::PartElement), Err(FaultKind::Part)),
-            Self::PartElement => Step::Give(1, false, Self::Open),
-            Self::Part => Step::Give(0, false, Self::PartEnd),
-            Self::PartEnd => Step::Give(1, true, Self::Parted),
-            Self::Last => Step::Take(2, Err(FaultKind::Part), Ok(Self::End)),
-            Self::End => Step::Give(0, true, Self::Start),
+            Self::Start => StageMove::Begin(Ok(Self::Test), Ok(Self::Last)),
+            Self::Parted => StageMove::Take(0, Ok(Self::Test), Ok(Self::Last)),
+            Self::Open => StageMove::Take(0, Ok(Self::Test), Err(FaultKind::Part)),
+            Self::Test => StageMove::Take(1, Ok(Self::Element), Ok(Self::Part)),
+            Self::Element => StageMove::Take(2, Ok(Self::PartElement), Err(FaultKind::Part)),
+            Self::PartElement => StageMove::Give(1, false, Self::Open),
+            Self::Part => StageMove::Give(0, false, Self::PartEnd),
+            Self::PartEnd => StageMove::Give(1, true, Self::Parted),
+            Self::Last => StageMove::Take(2, Err(FaultKind::Part), Ok(Self::End)),
+            Self::End => StageMove::Give(0, true, Self::Start),
         }
     }
 

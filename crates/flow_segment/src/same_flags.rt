@@ -1,6 +1,6 @@
 // Two streams of the same flags.
 
-use crate::over_flags::{OverFlags, Stage, Step};
+use crate::over_flags::{OverFlags, Stage, StageMove};
 use snesl_data::FaultKind;
 
 /// Reads a flag of the first stream and the same flag of the second, and writes nothing. Each pair of flags is an
@@ -33,11 +33,11 @@ impl Stage for SameFlagsStage {
     }
 
     #[inline(always)]
-    fn step(self) -> Step<SameFlagsStage> {
+    fn step(self) -> StageMove<SameFlagsStage> {
         match self {
-            Self::Start => Step::Begin(Ok(Self::Second(false)), Ok(Self::Second(true))),
-            Self::Second(false) => Step::Take(1, Ok(Self::Start), Err(FaultKind::Length)),
-            Self::Second(true) => Step::Take(1, Err(FaultKind::Length), Ok(Self::Start)),
+            Self::Start => StageMove::Begin(Ok(Self::Second(false)), Ok(Self::Second(true))),
+            Self::Second(false) => StageMove::Take(1, Ok(Self::Start), Err(FaultKind::Length)),
+            Self::Second(true) => StageMove::Take(1, Err(FaultKind::Length), Ok(Self::Start)),
         }
     }
 

@@ -1,6 +1,6 @@
 // Segments of one element.
 
-use crate::over_flags::{OverFlags, Stage, Step};
+use crate::over_flags::{OverFlags, Stage, StageMove};
 use snesl_data::FaultKind;
 
 /// Reads segments of exactly one element each, and writes nothing. Each segment is an instance.
@@ -33,10 +33,10 @@ impl Stage for TheCheckStage {
     }
 
     #[inline(always)]
-    fn step(self) -> Step<TheCheckStage> {
+    fn step(self) -> StageMove<TheCheckStage> {
         match self {
-            Self::Start => Step::Begin(Ok(Self::Element), Err(FaultKind::The)),
-            Self::Element => Step::Take(0, Err(FaultKind::The), Ok(Self::Start)),
+            Self::Start => StageMove::Begin(Ok(Self::Element), Err(FaultKind::The)),
+            Self::Element => StageMove::Take(0, Err(FaultKind::The), Ok(Self::Start)),
         }
     }
 

@@ -8,7 +8,7 @@ use Rattle.flow_messages.specs.Ends.{View, SameEnds}
 use Rattle.flow_base.specs.declared.transducer.Transducer.{Ghosts}
 use Rattle.flow_graph.specs.declared.placed.Placed.{Placed}
 use Rattle.flow_graph.specs.Places.{IsSamePlace}
-use Rattle.flow_graph.specs.Layouts.{AreSamePlaces}
+use Rattle.flow_graph.specs.Skeletons.{AreSamePlaces}
 use Rattle.flow_shares.specs.Shares.{StandOnce, inputs_of, outputs_of, HasItsEnds, AreApart}
 
 -- lists that f does not tell apart

@@ -4,7 +4,7 @@ use Rattle.std.specs.declared.vec.Vec.{Vec}
 use Rattle.flow_base.specs.declared.transducer.Transducer.{Ghosts}
 use Rattle.flow_graph.specs.declared.placed.Placed.{Placed}
 use Rattle.flow_graph.specs.Places.{numbers_in, IsSamePlace}
-use Rattle.flow_graph.specs.Layouts.{AreSamePlaces}
+use Rattle.flow_graph.specs.Skeletons.{AreSamePlaces}
 
 -- the share that has node k: the list's entry at k, modulo its length
 abbrev pub share_of : List ℕ → ℕ → ℕ

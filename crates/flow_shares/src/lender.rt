@@ -1,7 +1,7 @@
 // A share while its ends are elsewhere.
 ghost use Rattle.std.specs.Prelude.{◌≡◌};
 ghost use Rattle.flow_messages.specs.Ends.{SameEnds, SameTraffic};
-ghost use Rattle.flow_shares.specs.Lending.{body_of};
+ghost use Rattle.flow_shares.specs.Lending.{share_nodes};
 
 use crate::share::Share;
 use flow_base::Transducer;
@@ -58,7 +58,7 @@ impl<T: Transducer, E: Ends> Lender<T, E> {
         requires same { E.same self.share.value.ends ends }
         requires ends { SameEnds (E.view self.share.value.ends) (E.view ends) }
         requires traffic { SameTraffic (E.view self.share.value.ends) (E.view ends) }
-        ensures body { body_of result ≡ body_of self.share.value }
+        ensures body { share_nodes result ≡ share_nodes self.share.value }
         ensures ends { result.ends ≡ ends }
     {
         Share {

@@ -2,7 +2,7 @@
 ghost use Rattle.std.specs.Prelude.{◌≡◌, ◌<◌, true, false, [], ◌∷◌, ◌++◌, length, IfOk, OnErr};
 ghost use Rattle.std.specs.List.{All};
 ghost use Rattle.flow_messages.specs.Ends.{SameEnds, SameTraffic};
-ghost use Rattle.flow_graph.specs.Layouts.{AreSamePlaces};
+ghost use Rattle.flow_graph.specs.Skeletons.{AreSamePlaces};
 ghost use Rattle.flow_shares.specs.Pumps.{IsPumped};
 ghost use Rattle.flow_shares.specs.Shares.{most_turns, HasItsEnds, AreApart, IsOwn, AreStuck, TakesMemory, HaveMoved, HaveMovedForTurns, HaveMovedAndLost, SpareOthers};
 

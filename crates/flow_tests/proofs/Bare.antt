@@ -4,12 +4,12 @@ use Rattle.std.specs.List.{All}
 use Rattle.flow_messages.specs.Ends.{View}
 use Rattle.flow_messages.specs.declared.ends.Ends.{Ghosts as EndsGhosts}
 use Rattle.flow_base.specs.declared.transducer.Transducer.{Ghosts}
-use Rattle.flow_graph.specs.Layouts.{FitTogether}
+use Rattle.flow_graph.specs.Skeletons.{FitTogether}
 use Rattle.flow_rings.specs.declared.rings.Rings.{Rings}
 use Rattle.flow_shares.specs.declared.share.Share.{Share}
 use Rattle.flow_meetings.proofs.Parts.{any_of}
-use Rattle.flow_meetings.specs.Open.{AreWires}
-use Rattle.flow_meetings.specs.Settings.{Setting}
+use Rattle.flow_meetings.specs.Open.{AreOwners}
+use Rattle.flow_meetings.specs.SharedNetworks.{SharedNetwork}
 use Rattle.flow_rounds.specs.Epochs.{AreOfOneGraph}
 use Rattle.flow_rounds.proofs.ShareLists.{count_dealt, nodes_are, view_is}
 use Rattle.flow_tests.specs.NoEnds.{HasNoEnds}
@@ -37,14 +37,14 @@ none_fit t = record {
   };
 }
 
-abbrev pub bare_setting : {X : Type 0} (t : Ghosts X) → Setting t
-bare_setting t = record { nodes = []; edges = []; fit = none_fit t; share = []; capacity = 0 }
+abbrev pub bare_network : {X : Type 0} (t : Ghosts X) → SharedNetwork t
+bare_network t = record { nodes = []; edges = []; fit = none_fit t; share = []; capacity = 0 }
 
-pub no_wires : AreWires [] [] []
-no_wires = record { count = refl; writers = λ e w l. absurd (omega (arith, l)); readers = λ e w l. absurd (omega (arith, l)) }
+pub no_owners : AreOwners [] [] []
+no_owners = record { count = refl; writers = λ e w l. absurd (omega (arith, l)); readers = λ e w l. absurd (omega (arith, l)) }
 
 pub bare_graph : {X : Type 0} {t : Ghosts X} {u : EndsGhosts Rings} (shares : List (Share X Rings t u)) → All (λ share. length share.nodes.items ≡ 0) shares → All (λ share. HasNoEnds (u.view share.ends)) shares
-    → AreOfOneGraph (bare_setting t) shares
+    → AreOfOneGraph (bare_network t) shares
 bare_graph {X} {t} {u} shares bare none = record {
   deals = record {
     place = λ k. 0;

@@ -17,7 +17,7 @@ use Rattle.flow_base.specs.Transducers.{closed}
 use Rattle.flow_base.specs.Sums.{sum_does}
 use Rattle.flow_values.specs.Shapes.{is_a}
 use Rattle.flow_values.specs.Flats.{width, flat}
-use Rattle.flow_values.specs.PrintMachine.{print_opened, print_behaviour}
+use Rattle.flow_values.specs.PrintMachine.{print_opening, print_behaviour}
 use Rattle.flow_values.specs.laws.Print.{Printed, prints_text}
 use Rattle.flow_rows.proofs.ValueDecoding.{all_cons, laid_injective}
 use Rattle.flow_nodes.specs.StreamNodes.{a_source, a_print, member, node_behaviour, text_in}
@@ -57,14 +57,14 @@ module _ (states : List NodeState) (edges : List Edge) (is_net : IsNetwork node_
       came : (p : ℕ) → p < width ty → c.received (in_edge edges k p) ≡ closed (flat ty 0 (value ∷ []) p)
       text_is : text_in (state_at node_behaviour states' k) ≡ Some (text_of_value value)
 
-    has_printed : (ty : Ty) (at k : ℕ) → k < length states → state_at node_behaviour states k ≡ (a_print, print_opened ty at) → HasPrinted ty k
+    has_printed : (ty : Ty) (at k : ℕ) → k < length states → state_at node_behaviour states k ≡ (a_print, print_opening ty at) → HasPrinted ty k
     has_printed ty at k l is =
         let r : IsReached node_behaviour.process net c k = all.sound.reached k l in
-        let does : Does node_behaviour.process (a_print, print_opened ty at) r.history (c.state k) =
+        let does : Does node_behaviour.process (a_print, print_opening ty at) r.history (c.state k) =
         subst (λ s. Does node_behaviour.process s r.history (c.state k)) (opening_is k l ∙ is) r.does in
-        let d = sum_does a_source (λ t. (member t).behaviour) a_print r.history (print_opened ty at) (c.state k) does in
+        let d = sum_does a_source (λ t. (member t).behaviour) a_print r.history (print_opening ty at) (c.state k) does in
         let ended : print_behaviour.process.want d.0 ≡ Ended = subst (λ s. node_behaviour.process.want s ≡ Ended) d.1 (all.ended k l) in
-        let printed : Printed ty (λ p. reads p r.history) d.0.text = prints_text (print_opened ty at) refl r.history d.0 d.2 ended in
+        let printed : Printed ty (λ p. reads p r.history) d.0.text = prints_text (print_opening ty at) refl r.history d.0 d.2 ended in
         let ports : inputs_at node_behaviour states k ≡ width ty = get_or-map node_behaviour.inputs states k node_behaviour.sample 0 l ∙ ap node_behaviour.inputs is in
         record {
           value = printed.value;

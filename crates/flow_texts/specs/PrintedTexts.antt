@@ -8,7 +8,7 @@ use Rattle.flow_messages.specs.Cells.{Cell}
 use Rattle.flow_messages.specs.Ends.{View}
 use Rattle.flow_values.specs.Shapes.{is_a}
 use Rattle.flow_values.specs.Flats.{width, flat}
-use Rattle.flow_values.specs.PrintMachine.{print_opened}
+use Rattle.flow_values.specs.PrintMachine.{print_opening}
 use Rattle.flow_nodes.specs.StreamNodes.{NodeKind, a_print, member, node_behaviour, text_in}
 use Rattle.flow_graph.specs.declared.edge.Edge.{Edge}
 use Rattle.flow_graph.specs.Edges.{in_edge}
@@ -21,7 +21,7 @@ NodeState = (t : NodeKind) × (member t).State
 
 -- the last node is a Print of values of the type
 abbrev pub PrintsAtTheEnd : Ty → ℕ → List NodeState → Type 0
-PrintsAtTheEnd ty at states = (k : ℕ) × (suc k ≡ length states) × (state_at node_behaviour states k ≡ (a_print, print_opened ty at))
+PrintsAtTheEnd ty at states = (k : ℕ) × (suc k ≡ length states) × (state_at node_behaviour states k ≡ (a_print, print_opening ty at))
 
 -- Of opened nodes, the last of which is a Print: once all have ended, the text is that of the value of the type whose items
 -- came to it over its edges.

@@ -20,8 +20,8 @@ use Rattle.flow_values.specs.Shapes.{kinds_of, kind_at}
 use Rattle.flow_values.specs.Flats.{width}
 use Rattle.flow_values.specs.Parts.{built, and_then, with_first, part_fits, PartsFit}
 use Rattle.flow_values.specs.laws.PartFits.{part_kind, in_first, in_second, get_left, get_right}
-use Rattle.flow_base.specs.Machines.{given_of, with_parameters}
-use Rattle.flow_values.specs.TabMachine.{Step, Makes, at_flag, at_item, closed, grown, item_given, item_port, tab_move}
+use Rattle.flow_base.specs.Machines.{state_after_read, with_parameters}
+use Rattle.flow_values.specs.TabMachine.{TabState, Makes, at_flag, at_item, closed, grown, item_given, item_port, tab_move}
 
 -- one more item that fits behind those that do
 pub parts_more : (ty : Ty) (got : List Cell) (x : Cell) → PartsFit ty got → part_fits ty (length got) x ≡ true → PartsFit ty (got ++ x ∷ [])
@@ -122,7 +122,7 @@ parts_made ty got fit le =
     (h.0, ap (built ty) (sym (append-nil got)) ∙ h.1)
 
 -- so nothing but memory is missing there
-module _ (ty : Ty) (es : List Value) (got : List Cell) (fit : PartsFit ty got) (le : width ty ≤ length got) (old new : Ty × Step) (same : new ≡ old) where
+module _ (ty : Ty) (es : List Value) (got : List Cell) (fit : PartsFit ty got) (le : width ty ≤ length got) (old new : Ty × TabState) (same : new ≡ old) where
   grows : (v : Value) × (grown ty es got ≡ Ok (at_flag (es ++ v ∷ [])))
   grows =
       let outside : nat_lt (length got) (width ty) ≡ false = grind (arith, nat_tests, le) in
@@ -155,7 +155,7 @@ all_there ty items kinds i k items_are kinds_are same le =
     omega (arith, le, size, edges, items_are, kinds_are)
 
 -- where the next item fits as well, it leads on, with the memory for it
-pub refused_item : (ty : Ty) (es : List Value) (got : List Cell) (x : Cell) → PartsFit ty got → part_fits ty (length got) x ≡ true → (old new : Ty × Step) → new ≡ old → Takes (with_parameters ty (item_given ty es got x)) old (Err OutOfMemory) new
+pub refused_item : (ty : Ty) (es : List Value) (got : List Cell) (x : Cell) → PartsFit ty got → part_fits ty (length got) x ≡ true → (old new : Ty × TabState) → new ≡ old → Takes (with_parameters ty (item_given ty es got x)) old (Err OutOfMemory) new
 refused_item ty es got x fit next old new same =
     let lt = fits_within ty (length got) x next in
     let inside : nat_lt (length got) (width ty) ≡ true = grind (arith, nat_tests, lt) in
@@ -175,7 +175,7 @@ refused : (ty : Ty) (es : List Value) (got : List Cell) (x : Cell) (inside : Boo
 refused ty es got x true e = ap (λ b. cond b (grown ty es (got ++ x ∷ [])) (Err Shape)) (part_kind ty (length got) x e)
 refused ty es got x false e = refl
 
-pub item_taken : (ty : Ty) (es : List Value) (got : List Cell) (x : Cell) → item_given ty es got x ≡ given_of (tab_move ty (at_item es got)) x
+pub item_taken : (ty : Ty) (es : List Value) (got : List Cell) (x : Cell) → item_given ty es got x ≡ state_after_read (tab_move ty (at_item es got)) x
 item_taken ty es got x = go (is_of (kind_at (kinds_of (seq ty)) (item_port ty got)) x) refl
   where
     go : (b : Bool) → is_of (kind_at (kinds_of (seq ty)) (item_port ty got)) x ≡ b → item_given ty es got x ≡ cond b (item_given ty es got x) (Err Shape)

@@ -13,8 +13,8 @@ use Rattle.flow_base.specs.declared.worker.Stop.TheVariants.{Faulted as Stopped,
 use Rattle.flow_values.specs.Shapes.{kinds_of, is_a, kind_at}
 use Rattle.flow_values.specs.Flats.{width}
 use Rattle.flow_values.specs.Places.{Fits}
-use Rattle.flow_values.specs.PrintMachine.{closes, Pending, whole, Reading, reading, entered, next, checked, port_of, step_of, print_state, want_at, read_at, memory_at, print_behaviour}
-use Rattle.flow_values.specs.Aheads.{pending_of, stack, Leads, Finds, Reaches, found, step_in, state_in}
+use Rattle.flow_values.specs.PrintMachine.{closes, Pending, whole, Reading, reading, entered, next, checked, port_of, print_stage, print_state, want_at, read_at, memory_at, print_behaviour}
+use Rattle.flow_values.specs.Aheads.{pending_of, stack, Leads, Finds, Reaches, found, stage_in, state_in}
 use Rattle.flow_values.specs.declared.pending.Pending.{Pending as PendingInMemory}
 use Rattle.flow_values.specs.declared.ahead.Ahead.{Ahead}
 
@@ -134,22 +134,22 @@ all_but_last all rest x e =
     let n : length all - 1 ≡ length rest = omega (arith, size) in
     ap₂ (λ k l. take k l) n e ∙ take-front rest x
 
-step_free : (l : List Pending) → step_in false 0 l ≡ step_of l
+step_free : (l : List Pending) → stage_in false 0 l ≡ print_stage l
 step_free [] = refl
 step_free (x ∷ xs) = refl
 
 -- the state where the last was taken and this was put in its place
 pub advanced : (ty : Ty) (text said new_text : List ℕ) (at : ℕ) (stuck : Bool) (old popped new more : List PendingInMemory) → stuck ≡ false → popped ≡ take (length old - 1) old → new ≡ popped ++ more → new_text ≡ text ++ said →
-    (rest : List PendingInMemory) (first : PendingInMemory) → old ≡ rest ++ first ∷ [] → state_in ty new new_text 0 stuck at ≡ print_state ty (step_of (stack more (stack rest []))) (text ++ said) at
+    (rest : List PendingInMemory) (first : PendingInMemory) → old ≡ rest ++ first ∷ [] → state_in ty new new_text 0 stuck at ≡ print_state ty (print_stage (stack more (stack rest []))) (text ++ said) at
 advanced ty text said new_text at stuck old popped new more free pop put is rest first e =
     let there : stack new [] ≡ stack more (stack rest []) = ap (λ l. stack l []) (put ∙ ap (λ l. l ++ more) (pop ∙ all_but_last old rest first e)) ∙ stack-append rest more [] in
-    ap₂ (λ s t. print_state ty s t at) (ap₂ (λ b l. step_in b 0 l) free there ∙ step_free (stack more (stack rest []))) is
+    ap₂ (λ s t. print_state ty s t at) (ap₂ (λ b l. stage_in b 0 l) free there ∙ step_free (stack more (stack rest []))) is
 
 -- what the state wants where something is still to be read, and where nothing is
 pub wants_last : (ty : Ty) (pending : List PendingInMemory) (text : List ℕ) (port : ℕ) (stuck : Bool) (at : ℕ) (x : PendingInMemory) → stuck ≡ false → slice_get pending (length pending - 1) ≡ Some x →
     print_behaviour.process.want (state_in ty pending text port stuck at) ≡ cond (nat_lt (port_of (pending_of x)) (width ty)) (Read (port_of (pending_of x))) (Faulted (record { kind = Shape; at = at }))
 wants_last ty pending text port stuck at x free e =
-    ap₂ (λ b l. want_at (step_in b port l) (print_state ty (step_in b port l) text at)) free (stack_last pending x e)
+    ap₂ (λ b l. want_at (stage_in b port l) (print_state ty (stage_in b port l) text at)) free (stack_last pending x e)
 
 pub wants_read : (ty : Ty) (pending : List PendingInMemory) (text : List ℕ) (port : ℕ) (stuck : Bool) (at : ℕ) (x : PendingInMemory) (n p : ℕ) → stuck ≡ false → slice_get pending (length pending - 1) ≡ Some x → n ≡ width ty → p ≡ port_of (pending_of x) → p < n →
     Read p ≡ print_behaviour.process.want (state_in ty pending text port stuck at)
@@ -165,13 +165,13 @@ wants_fault ty pending text port stuck at x n p free e size is le =
 
 -- where an item leads that is given to the last
 pub found_last : (ty : Ty) (pending : List PendingInMemory) (text : List ℕ) (port : ℕ) (stuck : Bool) (at : ℕ) (x : PendingInMemory) (free : stuck ≡ false) (e : slice_get pending (length pending - 1) ≡ Some x) (c : Cell) →
-    found (step_in stuck port (stack pending [])) (state_in ty pending text port stuck at) c ≡ checked (is_of (kind_at (kinds_of ty) (port_of (pending_of x))) c) (next (pending_of x) c (stack (last_of pending x e).0 []) text)
+    found (stage_in stuck port (stack pending [])) (state_in ty pending text port stuck at) c ≡ checked (is_of (kind_at (kinds_of ty) (port_of (pending_of x))) c) (next (pending_of x) c (stack (last_of pending x e).0 []) text)
 found_last ty pending text port stuck at x free e c =
-    ap₂ (λ b l. found (step_in b port l) (print_state ty (step_in b port l) text at) c) free (stack_last pending x e)
+    ap₂ (λ b l. found (stage_in b port l) (print_state ty (stage_in b port l) text at) c) free (stack_last pending x e)
 
 -- an item of another kind than the port's leads nowhere
 pub found_none : (ty : Ty) (pending : List PendingInMemory) (text : List ℕ) (port : ℕ) (stuck : Bool) (at : ℕ) (x : PendingInMemory) → stuck ≡ false → slice_get pending (length pending - 1) ≡ Some x → (c : Cell) →
-    is_of (kind_at (kinds_of ty) (port_of (pending_of x))) c ≡ false → found (step_in stuck port (stack pending [])) (state_in ty pending text port stuck at) c ≡ None
+    is_of (kind_at (kinds_of ty) (port_of (pending_of x))) c ≡ false → found (stage_in stuck port (stack pending [])) (state_in ty pending text port stuck at) c ≡ None
 found_none ty pending text port stuck at x free e c other = found_last ty pending text port stuck at x free e c ∙ ap (λ b. checked b (next (pending_of x) c (stack (last_of pending x e).0 []) text)) other
 
 not_empty : {A : Type 0} (xs rest : List A) (x : A) → xs ≡ rest ++ x ∷ [] → xs ≡ [] → ⊥
@@ -183,16 +183,16 @@ not_empty xs rest x e none = go rest (sym none ∙ e)
 
 -- what was found ahead of the last is where the item leads
 pub found_ahead : (ty : Ty) (pending : List PendingInMemory) (text : List ℕ) (port : ℕ) (stuck : Bool) (at : ℕ) (x : PendingInMemory) → stuck ≡ false → slice_get pending (length pending - 1) ≡ Some x → (c : Cell) →
-    is_of (kind_at (kinds_of ty) (port_of (pending_of x))) c ≡ true → (result : Result Ahead Stop) → Finds (next (pending_of x) c) result → Reaches (found (step_in stuck port (stack pending [])) (state_in ty pending text port stuck at) c) pending text result
+    is_of (kind_at (kinds_of ty) (port_of (pending_of x))) c ≡ true → (result : Result Ahead Stop) → Finds (next (pending_of x) c) result → Reaches (found (stage_in stuck port (stack pending [])) (state_in ty pending text port stuck at) c) pending text result
 found_ahead ty pending text port stuck at x free e c fits result finds = go result finds
   where
     rest : List PendingInMemory
     rest = (last_of pending x e).0
 
-    there : found (step_in stuck port (stack pending [])) (state_in ty pending text port stuck at) c ≡ next (pending_of x) c (stack (last_of pending x e).0 []) text
+    there : found (stage_in stuck port (stack pending [])) (state_in ty pending text port stuck at) c ≡ next (pending_of x) c (stack (last_of pending x e).0 []) text
     there = found_last ty pending text port stuck at x free e c ∙ ap (λ b. checked b (next (pending_of x) c (stack (last_of pending x e).0 []) text)) fits
 
-    go : (result : Result Ahead Stop) → Finds (next (pending_of x) c) result → Reaches (found (step_in stuck port (stack pending [])) (state_in ty pending text port stuck at) c) pending text result
+    go : (result : Result Ahead Stop) → Finds (next (pending_of x) c) result → Reaches (found (stage_in stuck port (stack pending [])) (state_in ty pending text port stuck at) c) pending text result
     go (Ok ahead) h = ((last_of pending x e).0, x, (last_of pending x e).1, there ∙ h (stack (last_of pending x e).0 []) text)
     go (Err (Stopped kind)) h = there ∙ h.1 (stack (last_of pending x e).0 []) text
     go (Err OutOfMemory) h = not_empty pending (last_of pending x e).0 x (last_of pending x e).1
@@ -207,19 +207,19 @@ stack_full [] a after = (a, after, refl)
 stack_full (x ∷ xs) a after = stack_full xs (pending_of x) (a ∷ after)
 
 -- an end inside the value
-pub end_inside : (ty : Ty) (pending : List PendingInMemory) (text : List ℕ) (port : ℕ) (stuck : Bool) (at : ℕ) → (pending ≡ [] → ⊥) → state_in ty pending text port true at ≡ read_at (step_in stuck port (stack pending [])) (state_in ty pending text port stuck at) stop
+pub end_inside : (ty : Ty) (pending : List PendingInMemory) (text : List ℕ) (port : ℕ) (stuck : Bool) (at : ℕ) → (pending ≡ [] → ⊥) → state_in ty pending text port true at ≡ read_at (stage_in stuck port (stack pending [])) (state_in ty pending text port stuck at) stop
 end_inside ty [] text port stuck at some = absurd (some refl)
 end_inside ty (x ∷ pending) text port true at some = refl
 end_inside ty (x ∷ pending) text port false at some =
     let s = stack_full pending (pending_of x) [] in
-    sym (ap (λ l. read_at (step_in false port l) (print_state ty (step_in false port l) text at) stop) s.2)
+    sym (ap (λ l. read_at (stage_in false port l) (print_state ty (stage_in false port l) text at) stop) s.2)
 
 -- where memory is not needed, nothing is still to be read
-pub none_ahead : (pending : List PendingInMemory) (port : ℕ) (stuck : Bool) → stuck ≡ false → memory_at (step_in stuck port (stack pending [])) ≡ false → pending ≡ []
+pub none_ahead : (pending : List PendingInMemory) (port : ℕ) (stuck : Bool) → stuck ≡ false → memory_at (stage_in stuck port (stack pending [])) ≡ false → pending ≡ []
 none_ahead [] port stuck free e = refl
 none_ahead (x ∷ pending) port stuck free e =
     let s = stack_full pending (pending_of x) [] in
-    let never : true ≡ false = sym (ap₂ (λ b l. memory_at (step_in b port l)) free s.2) ∙ e in
+    let never : true ≡ false = sym (ap₂ (λ b l. memory_at (stage_in b port l)) free s.2) ∙ e in
     absurd (cc)
 
 -- where all inputs have ended, nothing is read
@@ -227,7 +227,7 @@ pub no_more_ends : (ty : Ty) (pending : List PendingInMemory) (text : List ℕ) 
 no_more_ends ty pending text port stuck at n p none size le e =
     let outside : nat_lt port (width ty) ≡ false = grind (arith, nat_tests) in
     let free = not_stuck ty pending text port stuck at p e in
-    let never : Ended ≡ Read p = sym (ap₂ (λ b l. want_at (step_in b port (stack l [])) (print_state ty (step_in b port (stack l [])) text at)) free none ∙ ap (λ b. cond b (Read port) Ended) outside) ∙ e in
+    let never : Ended ≡ Read p = sym (ap₂ (λ b l. want_at (stage_in b port (stack l [])) (print_state ty (stage_in b port (stack l [])) text at)) free none ∙ ap (λ b. cond b (Read port) Ended) outside) ∙ e in
     absurd (cc)
 
 -- memory is refused only where something is still to be read

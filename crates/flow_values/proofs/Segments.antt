@@ -5,7 +5,7 @@ use Rattle.snesl_data.specs.Types.{Ty, pair, seq}
 use Rattle.snesl_data.specs.Values.{value_of, values_of}
 use Rattle.snesl_data.proofs.Data.{value_of-Seq, list_values}
 use Rattle.flow_base.specs.Flags.{F}
-use Rattle.flow_base.specs.Segments.{joined_by}
+use Rattle.flow_base.specs.Segments.{concatenation_by}
 use Rattle.flow_values.specs.Shapes.{is_a, all_are, kinds_of}
 use Rattle.flow_values.specs.Flats.{width}
 use Rattle.flow_values.specs.laws.Dues.{has_edge}
@@ -28,7 +28,7 @@ member_is item (x ∷ ds) (suc i) d lt at h = member_is item ds i d (omega arith
 
 -- what is due for each of the first i elements
 abbrev before : Ty → ℕ → List Datum → ℕ → List DueCell
-before item p ds i = joined_by (element_dues p (λ e. dues_of item (p + 1) e)) (map value_of (take i ds))
+before item p ds i = concatenation_by (element_dues p (λ e. dues_of item (p + 1) e)) (map value_of (take i ds))
 
 one_more : (item : Ty) (p : ℕ) (ds : List Datum) (i : ℕ) (d : Datum) → i < length ds → d ≡ get_or ds i d → before item p ds (i + 1) ≡ before item p ds i ++ (due p F ∷ dues_of item (p + 1) (value_of d))
 one_more item p [] i d lt at = absurd (omega arith)

@@ -15,7 +15,7 @@ use Rattle.flow_messages.specs.Cells.{Cell, unit, flag, int, datum}
 use Rattle.flow_base.specs.Workers.{IsReading}
 use Rattle.flow_values.specs.Shapes.{is_a, all_are}
 use Rattle.flow_values.specs.Dues.{DueCell, dues_of, segment_dues}
-use Rattle.flow_base.specs.Machines.{ask_of, given_of, with_parameters}
+use Rattle.flow_base.specs.Machines.{ask_of, state_after_read, with_parameters}
 use Rattle.flow_values.specs.SeqMachine.{seq_move}
 use Rattle.flow_values.specs.Rows.{element_at}
 use Rattle.flow_values.specs.IndexMachine.{index_move, held, writing}
@@ -26,7 +26,7 @@ abbrev pub NoVector : Ty → Cell → Type 0
 NoVector item x = (vs : Values) → x ≡ datum (a_vec vs) → all_are item vs ≡ false
 
 -- anything else is refused
-pub seq_refuses : (item : Ty) (dues : List DueCell) (x : Cell) → NoVector item x → with_parameters item (given_of (seq_move item dues) x) ≡ Err Shape
+pub seq_refuses : (item : Ty) (dues : List DueCell) (x : Cell) → NoVector item x → with_parameters item (state_after_read (seq_move item dues) x) ≡ Err Shape
 seq_refuses item [] (datum (a_vec vs)) none = ap (λ b. with_parameters item (cond b (Ok (dues_of (seq item) 0 (a_vec vs))) (Err Shape))) (none vs refl)
 seq_refuses item [] (datum _) none = refl
 seq_refuses item [] unit none = refl
@@ -34,7 +34,7 @@ seq_refuses item [] (flag b) none = refl
 seq_refuses item [] (int n) none = refl
 seq_refuses item (d ∷ ds) x none = refl
 
-pub index_refuses : (item : Ty) (dues : List DueCell) (x : Cell) → NoVector item x → with_parameters item (given_of (index_move item (writing dues)) x) ≡ Err Shape
+pub index_refuses : (item : Ty) (dues : List DueCell) (x : Cell) → NoVector item x → with_parameters item (state_after_read (index_move item (writing dues)) x) ≡ Err Shape
 index_refuses item [] (datum (a_vec vs)) none = ap (λ b. with_parameters item (cond b (Ok (held vs)) (Err Shape))) (none vs refl)
 index_refuses item [] (datum _) none = refl
 index_refuses item [] unit none = refl
@@ -44,15 +44,15 @@ index_refuses item (d ∷ ds) x none = refl
 
 -- a vector of such elements is taken where one may begin
 pub seq_takes : (item : Ty) (dues : List DueCell) (x : Cell) (values : List Value) → IsReading (ask_of (seq_move item dues)) → x ≡ datum (a_vec (values_of values)) → all_are item (values_of values) ≡ true →
-    with_parameters item (given_of (seq_move item dues) x) ≡ Ok (item, segment_dues item 0 values)
+    with_parameters item (state_after_read (seq_move item dues) x) ≡ Ok (item, segment_dues item 0 values)
 seq_takes item [] x values reading is e =
-    ap (λ x. with_parameters item (given_of (seq_move item []) x)) is
+    ap (λ x. with_parameters item (state_after_read (seq_move item []) x)) is
     ∙ ap (λ b. with_parameters item (cond b (Ok (dues_of (seq item) 0 (a_vec (values_of values)))) (Err Shape))) e ∙ ap (λ l. Ok (item, segment_dues item 0 l)) (list_values values)
 seq_takes item (d ∷ ds) x values reading is e = absurd reading
 
 pub index_takes : (item : Ty) (dues : List DueCell) (x : Cell) (vs : Values) → IsReading (ask_of (index_move item (writing dues))) → x ≡ datum (a_vec vs) → all_are item vs ≡ true →
-    with_parameters item (given_of (index_move item (writing dues)) x) ≡ Ok (item, held vs)
-index_takes item [] x vs reading is e = ap (λ x. with_parameters item (given_of (index_move item (writing [])) x)) is ∙ ap (λ b. with_parameters item (cond b (Ok (held vs)) (Err Shape))) e
+    with_parameters item (state_after_read (index_move item (writing dues)) x) ≡ Ok (item, held vs)
+index_takes item [] x vs reading is e = ap (λ x. with_parameters item (state_after_read (index_move item (writing [])) x)) is ∙ ap (λ b. with_parameters item (cond b (Ok (held vs)) (Err Shape))) e
 index_takes item (d ∷ ds) x vs reading is e = absurd reading
 
 -- the same vector is as much of the type

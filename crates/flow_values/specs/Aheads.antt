@@ -4,7 +4,7 @@ use Rattle.snesl_data.specs.Types.{ty_of}
 use Rattle.snesl_data.specs.declared.fault.FaultKind.TheVariants.{Shape}
 use Rattle.flow_base.specs.declared.worker.Stop.{Stop}
 use Rattle.flow_base.specs.declared.worker.Stop.TheVariants.{Faulted, OutOfMemory}
-use Rattle.flow_values.specs.PrintMachine.{Pending, whole, further, Reading, reading, next, checked, port_of, Step, within, closing, stuck, PrintState, print_state}
+use Rattle.flow_values.specs.PrintMachine.{Pending, whole, further, Reading, reading, next, checked, port_of, PrintStage, within, closing, stuck, PrintState, print_state}
 use Rattle.flow_values.specs.Shapes.{kind_at, kinds_of}
 use Rattle.flow_messages.specs.Cells.{Cell, is_of}
 use Rattle.snesl_data.specs.Types.{Ty}
@@ -35,16 +35,16 @@ Finds there (Err (Faulted kind)) = (kind ≡ Shape) × ((after : List Pending) (
 Finds there (Err OutOfMemory) = Unit {0}
 
 -- how far a transducer is that is stuck or not, with this still to be read, and this end to come next where nothing is
-abbrev pub step_in : Bool → ℕ → List Pending → Step
-step_in true port pending = stuck
-step_in false port [] = closing port
-step_in false port (first ∷ others) = within first others
+abbrev pub stage_in : Bool → ℕ → List Pending → PrintStage
+stage_in true port pending = stuck
+stage_in false port [] = closing port
+stage_in false port (first ∷ others) = within first others
 
 abbrev pub state_in : Ty → List PendingInMemory → List ℕ → ℕ → Bool → ℕ → PrintState
-state_in ty pending text port is_stuck at = print_state ty (step_in is_stuck port (stack pending [])) text at
+state_in ty pending text port is_stuck at = print_state ty (stage_in is_stuck port (stack pending [])) text at
 
 -- where an item leads from this step
-abbrev pub found : Step → PrintState → Cell → Option Reading
+abbrev pub found : PrintStage → PrintState → Cell → Option Reading
 found (within first others) s x = checked (is_of (kind_at (kinds_of s.ty) (port_of first)) x) (next first x others s.text)
 found _ s x = None
 

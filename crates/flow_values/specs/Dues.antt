@@ -8,7 +8,7 @@ use Rattle.flow_messages.specs.declared.message.Kind.{Kind}
 use Rattle.flow_base.specs.Lists.{Lists, push}
 use Rattle.flow_base.specs.Flags.{F, T}
 use Rattle.flow_base.specs.Ranges.{CellInRange}
-use Rattle.flow_base.specs.Segments.{joined_by}
+use Rattle.flow_base.specs.Segments.{concatenation_by}
 use Rattle.flow_values.specs.Shapes.{cell_for, first_of, second_of, elements_of, kind_at}
 use Rattle.flow_values.specs.Flats.{nothing, width}
 use Rattle.flow_values.specs.declared.dues.Due.{Due}
@@ -32,12 +32,12 @@ element_dues p dues e = due p F ∷ dues e
 -- pair the first part and then the second, and of a sequence each element behind its flag, and then the last flag.
 abbrev pub dues_of : Ty → ℕ → Value → List DueCell
 dues_of (pair first second) p v = dues_of first p (first_of v) ++ dues_of second (p + width first) (second_of v)
-dues_of (seq item) p v = joined_by (element_dues p (λ e. dues_of item (p + 1) e)) (elements_of v) ++ (due p T ∷ [])
+dues_of (seq item) p v = concatenation_by (element_dues p (λ e. dues_of item (p + 1) e)) (elements_of v) ++ (due p T ∷ [])
 dues_of _ p v = due p (cell_for v) ∷ []
 
 -- the same of a sequence of these elements
 abbrev pub segment_dues : Ty → ℕ → List Value → List DueCell
-segment_dues item p es = joined_by (element_dues p (λ e. dues_of item (p + 1) e)) es ++ (due p T ∷ [])
+segment_dues item p es = concatenation_by (element_dues p (λ e. dues_of item (p + 1) e)) es ++ (due p T ∷ [])
 
 -- the output of this number, and the first where there are not so many
 abbrev pub output_of : ℕ → ℕ → ℕ

@@ -18,14 +18,14 @@ use Rattle.flow_values.specs.declared.index.Stage.{Stage}
 use Rattle.flow_values.specs.declared.index.Stage.TheVariants.{Held, Writing}
 
 -- how far an instance is: a vector was read, or these items are due, and with none of them the next instance may begin
-pub data Step : Type 0 where
-  held : Values → Step
-  writing : List DueCell → Step
+pub data IndexState : Type 0 where
+  held : Values → IndexState
+  writing : List DueCell → IndexState
 
 -- what the laws see of a stage
-abbrev pub step_of : Stage → Step
-step_of (Held all) = held (values_of (map value_of all.items))
-step_of (Writing dues) = writing (map due_cell dues.items)
+abbrev pub index_state : Stage → IndexState
+index_state (Held all) = held (values_of (map value_of all.items))
+index_state (Writing dues) = writing (map due_cell dues.items)
 
 -- whether a vector that is held is of elements of the type
 abbrev pub holds_such : Ty → Stage → Bool
@@ -33,17 +33,17 @@ holds_such item (Held all) = all_are item (values_of (map value_of all.items))
 holds_such item (Writing dues) = true
 
 -- a vector of such items is held
-abbrev pub vector_given : Ty → Cell → Result Step FaultKind
+abbrev pub vector_given : Ty → Cell → Result IndexState FaultKind
 vector_given item (datum (a_vec vs)) = cond (all_are item vs) (Ok (held vs)) (Err Shape)
 vector_given item _ = Err Shape
 
 -- where an element leads, if there is one: to its items
-abbrev pub element_given : Ty → Option Value → Result Step FaultKind
+abbrev pub element_given : Ty → Option Value → Result IndexState FaultKind
 element_given item (Some e) = Ok (writing (dues_of item 0 e))
 element_given item None = Err Index
 
 -- a vector begins an instance, then its index is due, and then the element is written
-abbrev pub index_move : Ty → Step → Move Step
+abbrev pub index_move : Ty → IndexState → Move IndexState
 index_move item (writing []) = begins (on_kind VecKind (vector_given item))
 index_move item (held vs) = takes 1 (on_int (λ n. element_given item (element_at vs n)))
 index_move item (writing (d ∷ ds)) = gives (output_of (width item) d.port) d.cell (writing ds)
@@ -54,26 +54,26 @@ index_kind_in zero = VecKind
 index_kind_in _ = IntKind
 
 -- as many writes as items are due
-abbrev pub index_debt : Step → ℕ
+abbrev pub index_debt : IndexState → ℕ
 index_debt (held vs) = 0
 index_debt (writing ds) = length ds
 
 -- the vector is of such items; what is due is of the kinds of the edges
-abbrev pub index_of_kind : Ty → Step → Type 0
+abbrev pub index_of_kind : Ty → IndexState → Type 0
 index_of_kind item (held vs) = all_are item vs ≡ true
 index_of_kind item (writing ds) = DuesOfKind (kinds_of item) ds
 
 -- the integers of what is held or due lie in the range of the dialect
-abbrev pub index_in_range : Dialect → Step → Type 0
+abbrev pub index_in_range : Dialect → IndexState → Type 0
 index_in_range dialect (held vs) = AllInRange dialect vs
 index_in_range dialect (writing ds) = DuesInRange dialect ds
 
 -- the items of an element are laid out in memory when its index is taken
-abbrev pub index_takes_memory : Step → Bool
+abbrev pub index_takes_memory : IndexState → Bool
 index_takes_memory (held vs) = true
 index_takes_memory (writing ds) = false
 
-abbrev pub index_machine : Machine Ty Step
+abbrev pub index_machine : Machine Ty IndexState
 index_machine = record {
   sample = bool;
   move = index_move;

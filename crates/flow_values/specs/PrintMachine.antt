@@ -68,40 +68,40 @@ next (further item p c) x after before = continued item p c x after before
 
 -- how far it is: some of the value is to be read, or the end of this input comes next, if there is such an input, or it
 -- met what it cannot go on from
-pub data Step : Type 0 where
-  within : Pending → List Pending → Step
-  closing : ℕ → Step
-  stuck : Step
+pub data PrintStage : Type 0 where
+  within : Pending → List Pending → PrintStage
+  closing : ℕ → PrintStage
+  stuck : PrintStage
 
 -- The type of the value, how far it is, the text so far, and the offset that its faults name.
 pub record PrintState : Type 0 where
   pub ty : Ty
-  pub step : Step
+  pub step : PrintStage
   pub text : List ℕ
   pub at : ℕ
 
-abbrev pub print_state : Ty → Step → List ℕ → ℕ → PrintState
+abbrev pub print_state : Ty → PrintStage → List ℕ → ℕ → PrintState
 print_state ty step text at = record { ty = ty; step = step; text = text; at = at }
 
 -- before the value
-abbrev pub print_opened : Ty → ℕ → PrintState
-print_opened ty at = print_state ty (within (whole false ty 0 0) []) [] at
+abbrev pub print_opening : Ty → ℕ → PrintState
+print_opening ty at = print_state ty (within (whole false ty 0 0) []) [] at
 
 -- where nothing is left to be read, the ends are due
-abbrev pub step_of : List Pending → Step
-step_of [] = closing 0
-step_of (first ∷ others) = within first others
+abbrev pub print_stage : List Pending → PrintStage
+print_stage [] = closing 0
+print_stage (first ∷ others) = within first others
 
 abbrev pub print_fault : PrintState → Want
 print_fault s = Faulted (record { kind = Shape; at = s.at })
 
-abbrev pub want_at : Step → PrintState → Want
+abbrev pub want_at : PrintStage → PrintState → Want
 want_at (within first others) s = cond (nat_lt (port_of first) (width s.ty)) (Read (port_of first)) (print_fault s)
 want_at (closing p) s = cond (nat_lt p (width s.ty)) (Read p) Ended
 want_at stuck s = print_fault s
 
 abbrev pub moved : PrintState → Option Reading → PrintState
-moved s (Some r) = record s { step = step_of r.pending; text = r.text }
+moved s (Some r) = record s { step = print_stage r.pending; text = r.text }
 moved s None = record s { step = stuck }
 
 -- an item of another kind than the port's leads nowhere
@@ -109,18 +109,18 @@ abbrev pub checked : Bool → Option Reading → Option Reading
 checked true r = r
 checked false r = None
 
-abbrev pub read_at : Step → PrintState → Signal → PrintState
+abbrev pub read_at : PrintStage → PrintState → Signal → PrintState
 read_at (within first others) s (carry x) = moved s (checked (is_of (kind_at (kinds_of s.ty) (port_of first)) x) (next first x others s.text))
 read_at (closing p) s stop = record s { step = closing (p + 1) }
 read_at _ s _ = record s { step = stuck }
 
-abbrev pub memory_at : Step → Bool
+abbrev pub memory_at : PrintStage → Bool
 memory_at (within first others) = true
 memory_at _ = false
 
 abbrev pub print_behaviour : Behaviour PrintState
 print_behaviour = record {
-  sample = print_opened bool 0;
+  sample = print_opening bool 0;
   process = record {
     want = λ s. want_at s.step s;
     read = λ s message. read_at s.step s message;
@@ -129,7 +129,7 @@ print_behaviour = record {
     debt = λ _. 0;
     end = stop;
   };
-  opening = λ s. print_opened s.ty s.at;
+  opening = λ s. print_opening s.ty s.at;
   inputs = λ s. width s.ty;
   outputs = λ _. 0;
   kind_in = λ s p. kind_at (kinds_of s.ty) p;

@@ -22,30 +22,30 @@ use Rattle.flow_values.specs.declared.tab.Stage.TheVariants.{Start, Flag, Item a
 
 -- how far an instance is: it begins; or, behind these elements, a flag is due, or an item of the next element behind
 -- these of its items; or a vector of these elements is to be written
-pub data Step : Type 0 where
-  start : Step
-  at_flag : List Value → Step
-  at_item : List Value → List Cell → Step
-  at_end : List Value → Step
+pub data TabState : Type 0 where
+  start : TabState
+  at_flag : List Value → TabState
+  at_item : List Value → List Cell → TabState
+  at_end : List Value → TabState
 
 -- what the laws see of a stage, of the elements so far and of the items of the next one
-abbrev pub step_in : Stage → List Value → List Cell → Step
-step_in Start es got = start
-step_in Flag es got = at_flag es
-step_in ItemStage es got = at_item es got
-step_in End es got = at_end es
+abbrev pub tab_state : Stage → List Value → List Cell → TabState
+tab_state Start es got = start
+tab_state Flag es got = at_flag es
+tab_state ItemStage es got = at_item es got
+tab_state End es got = at_end es
 
 -- the same of where a flag leads, before the items of an element
-abbrev pub staged : List Value → Result Stage FaultKind → Result Step FaultKind
-staged es (Ok stage) = Ok (step_in stage es [])
+abbrev pub staged : List Value → Result Stage FaultKind → Result TabState FaultKind
+staged es (Ok stage) = Ok (tab_state stage es [])
 staged es (Err kind) = Err kind
 
 -- where a flag leads, behind these elements
-abbrev pub flag_taking : Ty → List Value → Taking Step
+abbrev pub flag_taking : Ty → List Value → Taking TabState
 flag_taking ty es = on_flag (cond (is_concrete ty) (Ok (at_item es [])) (Err Shape)) (cond (is_concrete ty) (Ok (at_end es)) (Err Shape))
 
 -- an element that its items make, and no others, is added
-abbrev pub closed : List Value → Built → Result Step FaultKind
+abbrev pub closed : List Value → Built → Result TabState FaultKind
 closed es (Some (e, [])) = Ok (at_flag (es ++ e ∷ []))
 closed es _ = Err Shape
 
@@ -58,11 +58,11 @@ Makes None (Err (Faulted kind)) items = kind ≡ Shape
 Makes made (Err OutOfMemory) items = Unit {0}
 
 -- where these items of an element lead: to the next, or they make the element
-abbrev pub grown : Ty → List Value → List Cell → Result Step FaultKind
+abbrev pub grown : Ty → List Value → List Cell → Result TabState FaultKind
 grown ty es got = cond (nat_lt (length got) (width ty)) (Ok (at_item es got)) (closed es (built ty got))
 
 -- where the next item of an element leads: it is of the kind and the type of its edge
-abbrev pub item_given : Ty → List Value → List Cell → Cell → Result Step FaultKind
+abbrev pub item_given : Ty → List Value → List Cell → Cell → Result TabState FaultKind
 item_given ty es got x = cond (nat_lt (length got) (width ty)) (cond (part_fits ty (length got) x) (grown ty es (got ++ x ∷ [])) (Err Shape)) (Err Shape)
 
 -- the edge of the next item of an element, and the first where there is none
@@ -74,7 +74,7 @@ abbrev pub vector_cell : List Value → Cell
 vector_cell es = datum (a_vec (values_of es))
 
 -- flags are due, behind each F the items of an element, and behind T the vector is written
-abbrev pub tab_move : Ty → Step → Move Step
+abbrev pub tab_move : Ty → TabState → Move TabState
 tab_move ty start = begins (flag_taking ty [])
 tab_move ty (at_flag es) = takes 0 (flag_taking ty es)
 tab_move ty (at_item es got) = takes (item_port ty got) (on_kind (kind_at (kinds_of (seq ty)) (item_port ty got)) (item_given ty es got))
@@ -86,19 +86,19 @@ CellsInRange dialect [] = Unit {0}
 CellsInRange dialect (x ∷ xs) = CellInRange dialect x × CellsInRange dialect xs
 
 -- the integers of the elements and of the items lie in the range of the dialect
-abbrev pub tab_in_range : Dialect → Step → Type 0
+abbrev pub tab_in_range : Dialect → TabState → Type 0
 tab_in_range dialect start = Unit {0}
 tab_in_range dialect (at_flag es) = AllInRange dialect (values_of es)
 tab_in_range dialect (at_item es got) = AllInRange dialect (values_of es) × CellsInRange dialect got
 tab_in_range dialect (at_end es) = AllInRange dialect (values_of es)
 
 -- the items of an element are kept in memory, and its value; the vector lies in a box
-abbrev pub tab_takes_memory : Step → Bool
+abbrev pub tab_takes_memory : TabState → Bool
 tab_takes_memory (at_item es got) = true
 tab_takes_memory (at_end es) = true
 tab_takes_memory _ = false
 
-abbrev pub tab_machine : Machine Ty Step
+abbrev pub tab_machine : Machine Ty TabState
 tab_machine = record {
   sample = bool;
   move = tab_move;

@@ -74,14 +74,14 @@ fn element_at(all: &[Datum], index: i128) -> Option<&Datum>
 }
 
 impl Worker for Index {
-    ghost use Rattle.flow_values.specs.IndexMachine.{Step, step_of, index_machine};
+    ghost use Rattle.flow_values.specs.IndexMachine.{IndexState, index_state, index_machine};
     ghost use Rattle.flow_values.specs.laws.Index.{index_laws};
 
     ghost Parameters = { ElementType };
 
-    ghost State = { Step };
+    ghost State = { IndexState };
 
-    ghost state = { λ n. (ty_of n.element, step_of n.stage) };
+    ghost state = { λ n. (ty_of n.element, index_state n.stage) };
 
     ghost machine = { index_machine };
 

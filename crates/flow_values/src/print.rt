@@ -5,7 +5,7 @@ ghost use Rattle.snesl_data.specs.Types.{ty_of};
 ghost use Rattle.flow_messages.specs.Cells.{cell_of};
 ghost use Rattle.flow_messages.specs.Signals.{signal_of};
 ghost use Rattle.flow_values.specs.Shapes.{kinds_of};
-ghost use Rattle.flow_values.specs.PrintMachine.{print_opened, print_behaviour, reading, moved};
+ghost use Rattle.flow_values.specs.PrintMachine.{print_opening, print_behaviour, reading, moved};
 ghost use Rattle.flow_values.specs.Aheads.{stack, found, Reaches};
 ghost use Rattle.flow_values.specs.laws.Print.{PrintsText};
 
@@ -47,7 +47,7 @@ impl Print {
     /// was refused.
     pub fn new(alloc: Global, ty: Ty, at: usize) -> Result<Print, AllocError>
         ensures { IfOk result (λ print. ⟦<Print as Transducer>⟧.state print ≡
-            print_opened (ty_of ty) at) }
+            print_opening (ty_of ty) at) }
     {
         let kinds = kinds(alloc, &ty)?;
         let mut pending = Vec::new(alloc);

@@ -7,8 +7,8 @@ ghost use Rattle.flow_messages.specs.Cells.{cell_of};
 ghost use Rattle.flow_base.specs.Workers.{Takes};
 ghost use Rattle.flow_values.specs.Shapes.{kinds_of};
 ghost use Rattle.flow_values.specs.Parts.{built, PartsFit};
-ghost use Rattle.flow_base.specs.Machines.{taken, with_parameters};
-ghost use Rattle.flow_values.specs.TabMachine.{Step, start, step_in, staged, flag_taking, grown, item_given, item_port, Makes};
+ghost use Rattle.flow_base.specs.Machines.{state_after_item, with_parameters};
+ghost use Rattle.flow_values.specs.TabMachine.{TabState, start, tab_state, staged, flag_taking, grown, item_given, item_port, Makes};
 
 use crate::shapes::{add_kinds, is_value, kind_at, part_fits};
 use flow_base::{Ask, Stop, Worker};
@@ -86,7 +86,7 @@ impl Tab {
     // Where a flag leads.
     fn at_flag(&self, item: &Item) -> Result<Stage, FaultKind>
         ensures { (es : List Value) → staged es result ≡
-            taken (flag_taking (ty_of self.now.element) es) (cell_of item.now) }
+            state_after_item (flag_taking (ty_of self.now.element) es) (cell_of item.now) }
     {
         let Item::Bool(end) = item else {
             return Err(FaultKind::Shape);
@@ -204,11 +204,11 @@ impl Worker for Tab {
 
     ghost Parameters = { ElementType };
 
-    ghost State = { Step };
+    ghost State = { TabState };
 
     ghost state = { λ n. (
       ty_of n.element,
-      step_in n.stage (map value_of n.elements.items) (map cell_of n.items.items),
+      tab_state n.stage (map value_of n.elements.items) (map cell_of n.items.items),
     ) };
 
     ghost machine = { tab_machine };

@@ -11,7 +11,7 @@ use Rattle.snesl_console.specs.declared.job.JobError.TheVariants.{Read, NoMemory
 use Rattle.snesl_console.specs.Job.{EndsLine, NoSeparatorBefore}
 use Rattle.snesl_console.specs.Parts.{AreParts, AreNeeded}
 use Rattle.snesl_console.specs.Beginnings.{IsParted, IsScanned, IsUndecided}
-use Rattle.snesl_console.specs.Streams.{Given, given}
+use Rattle.snesl_console.specs.Streams.{ReadEffect, read_effect}
 use Rattle.snesl_console.specs.Reads.{IsRead, HasSplit, HasReadMore, HasReadInput}
 use Rattle.snesl_console.proofs.Streaming.{consumes_more, failed_once}
 use Rattle.snesl_console.proofs.Parts.{read_is_needed, input_is_needed, input_is_open, input_parts, input_parts_on}
@@ -21,13 +21,13 @@ abbrev pub Parts : Type 0
 Parts = Vec ℕ Global × Vec ℕ Global
 
 -- memory was refused behind what was read
-pub memory_refused : (reader : Given) (read : List ℕ) (result : Result Parts JobError) → IsErrAnd result (λ e. e ≡ NoMemory) → IsRead reader read
+pub memory_refused : (reader : ReadEffect) (read : List ℕ) (result : Result Parts JobError) → IsErrAnd result (λ e. e ≡ NoMemory) → IsRead reader read
     → HasSplit reader result
 memory_refused reader read (Ok parts) is h = absurd is
 memory_refused reader read (Err e) is h = subst (λ error. HasSplit reader (Err error)) (sym is) (read, h)
 
 -- an error that is passed on
-pub passed_on : (reader : Given) (result : Result Parts JobError) (error : JobError) → IsErrAnd result (λ e. e ≡ error) → HasSplit reader (Err error)
+pub passed_on : (reader : ReadEffect) (result : Result Parts JobError) (error : JobError) → IsErrAnd result (λ e. e ≡ error) → HasSplit reader (Err error)
     → HasSplit reader result
 passed_on reader (Ok parts) error is h = absurd is
 passed_on reader (Err e) error is h = subst (λ other. HasSplit reader (Err other)) (sym is) h
@@ -47,17 +47,17 @@ scanned_on bytes more line scanned =
 -- behind the bytes that were read so far
 module _ {R : Type 0} (remaining : R → Option (List ℕ)) (first now : Counted R) (bytes : List ℕ)
     (taken : Consumes (remaining (counted_inner first)) (remaining (counted_inner now)) bytes) (worked : failures_of now ≡ failures_of first) where
-  these_on : (last : Counted R) (more : List ℕ) → (given remaining now last).these more → (given remaining first last).these (bytes ++ more)
+  these_on : (last : Counted R) (more : List ℕ) → (read_effect remaining now last).these more → (read_effect remaining first last).these (bytes ++ more)
   these_on last more p =
       consumes_more (remaining (counted_inner first)) (remaining (counted_inner now)) (remaining (counted_inner last)) bytes more taken p
 
-  these_none : (last : Counted R) → (given remaining now last).these [] → (given remaining first last).these bytes
-  these_none last p = subst (given remaining first last).these (append-nil bytes) (these_on last [] p)
+  these_none : (last : Counted R) → (read_effect remaining now last).these [] → (read_effect remaining first last).these bytes
+  these_none last p = subst (read_effect remaining first last).these (append-nil bytes) (these_on last [] p)
 
-  worked_on : (last : Counted R) → (given remaining now last).worked → (given remaining first last).worked
+  worked_on : (last : Counted R) → (read_effect remaining now last).worked → (read_effect remaining first last).worked
   worked_on last e = e ∙ worked
 
-  failed_on : (last : Counted R) → (given remaining now last).failed → (given remaining first last).failed
+  failed_on : (last : Counted R) → (read_effect remaining now last).failed → (read_effect remaining first last).failed
   failed_on last e = failed_once (failures_of first) (failures_of now) (failures_of last) worked e
 
   -- the input text of a job whose separator was read
@@ -71,16 +71,16 @@ module _ {R : Type 0} (remaining : R → Option (List ℕ)) (first now : Counted
     text_size : length text ≤ 16777216
     text_size = omega (arith, length-drop input bytes, few)
 
-    input_lost : (more : List ℕ) → (given remaining now last).these more → (given remaining now last).worked → length (text ++ more) ≤ 16777217
-        → IsRead (given remaining first last) (bytes ++ more)
+    input_lost : (more : List ℕ) → (read_effect remaining now last).these more → (read_effect remaining now last).worked → length (text ++ more) ≤ 16777217
+        → IsRead (read_effect remaining first last) (bytes ++ more)
     input_lost more these works fits = (
       these_on last more these,
       input_is_needed bytes more (take program bytes) text parted.job program_size text_size fits,
       worked_on last works,
     )
 
-    pub input_broken : (T : Type 0) (old new : List ℕ) (error : JobError) → old ≡ text → HasReadInput {T = T} (given remaining now last) old new (Err error)
-        → HasSplit (given remaining first last) (Err error)
+    pub input_broken : (T : Type 0) (old new : List ℕ) (error : JobError) → old ≡ text → HasReadInput {T = T} (read_effect remaining now last) old new (Err error)
+        → HasSplit (read_effect remaining first last) (Err error)
     input_broken T old new Read same (more, these, failed, short) = (
       bytes ++ more,
       (
@@ -93,7 +93,7 @@ module _ {R : Type 0} (remaining : R → Option (List ℕ)) (first now : Counted
         (bytes ++ more, input_lost more these works (subst (λ l. length (l ++ more) ≤ 16777217) same fits))
 
     pub input_read : (T : Type 0) (old : List ℕ) (parts : Parts) (done : T) → old ≡ text → parts.0.items ≡ take program bytes
-        → HasReadInput {T = T} (given remaining now last) old parts.1.items (Ok done) → HasSplit (given remaining first last) (Ok parts)
+        → HasReadInput {T = T} (read_effect remaining now last) old parts.1.items (Ok done) → HasSplit (read_effect remaining first last) (Ok parts)
     input_read T old parts done same cut (more, these, works, is, read) =
         let whole : parts.1.items ≡ text ++ more = is ∙ ap (λ l. l ++ more) same in
         let fits : length (text ++ more) ≤ 16777217 = subst (λ l. length l ≤ 16777217) whole read.0 in (
@@ -106,8 +106,8 @@ module _ {R : Type 0} (remaining : R → Option (List ℕ)) (first now : Counted
         as_parts whole job p = subst (λ l. AreParts job l parts.1.items) (sym cut) (subst (AreParts job (take program bytes)) (sym whole) p)
 
         by_end : (whole : parts.1.items ≡ text ++ more) → length (text ++ more) ≤ 16777217
-            → (given remaining now last).ended ⊎ (length parts.1.items ≡ 16777217)
-            → ((given remaining first last).ended × AreParts (bytes ++ more) parts.0.items parts.1.items)
+            → (read_effect remaining now last).ended ⊎ (length parts.1.items ≡ 16777217)
+            → ((read_effect remaining first last).ended × AreParts (bytes ++ more) parts.0.items parts.1.items)
             ⊎ ((rest : List ℕ) → AreParts ((bytes ++ more) ++ rest) parts.0.items parts.1.items)
         by_end whole fits (inl ended) = inl (
           ended,
@@ -119,7 +119,7 @@ module _ {R : Type 0} (remaining : R → Option (List ℕ)) (first now : Counted
 
   -- a job whose program is too long
   pub cut_off : (parts : Parts) → AreNeeded bytes → parts.0.items ≡ take 65537 bytes → parts.1.items ≡ []
-      → ((rest : List ℕ) → AreParts (bytes ++ rest) (take 65537 bytes) []) → HasSplit (given remaining first now) (Ok parts)
+      → ((rest : List ℕ) → AreParts (bytes ++ rest) (take 65537 bytes) []) → HasSplit (read_effect remaining first now) (Ok parts)
   cut_off parts needed cut none long = (
     bytes,
     (taken, needed, worked),
@@ -129,30 +129,30 @@ module _ {R : Type 0} (remaining : R → Option (List ℕ)) (first now : Counted
 
   -- one more call of the reader
   module _ (last : Counted R) (line room : ℕ) (open_so_far : IsUndecided bytes line) (size : room ≡ (65536 - length bytes) + 1) where
-    pub call_failed : (new : List ℕ) (error : JobError) → HasReadMore (given remaining now last) room bytes new (Err error)
-        → HasSplit (given remaining first last) (Err error)
+    pub call_failed : (new : List ℕ) (error : JobError) → HasReadMore (read_effect remaining now last) room bytes new (Err error)
+        → HasSplit (read_effect remaining first last) (Err error)
     call_failed new Read (these, failed) = (bytes, (these_none last these, open_so_far.undecided, failed_on last failed))
     call_failed new NoMemory (more, gives) = (
       bytes ++ more,
       (these_on last more gives.0, read_is_needed bytes more room open_so_far.undecided size gives.1, worked_on last gives.2),
     )
 
-    pub ended_there : (new : List ℕ) (n : ℕ) (parts : Parts) → AreNeeded bytes → n ≡ 0 → HasReadMore (given remaining now last) room bytes new (Ok n)
-        → (new ≡ bytes → AreParts new parts.0.items parts.1.items) → HasSplit (given remaining first last) (Ok parts)
+    pub ended_there : (new : List ℕ) (n : ℕ) (parts : Parts) → AreNeeded bytes → n ≡ 0 → HasReadMore (read_effect remaining now last) room bytes new (Ok n)
+        → (new ≡ bytes → AreParts new parts.0.items parts.1.items) → HasSplit (read_effect remaining first last) (Ok parts)
     ended_there new n parts needed zero (more, gives, is, count, at_end) split =
         let none : more ≡ [] = nil_from_length more (count ∙ zero) in
         let same : new ≡ bytes = is ∙ ap (λ l. bytes ++ l) none ∙ append-nil bytes in (
           bytes,
-          (these_none last (subst (given remaining now last).these none gives.0), needed, worked_on last gives.2),
+          (these_none last (subst (read_effect remaining now last).these none gives.0), needed, worked_on last gives.2),
           inl (at_end zero, subst (λ l. AreParts l parts.0.items parts.1.items) same (split same)),
         )
 
     -- where it gave something, all holds as before
-    pub goes_on : (new : List ℕ) (n : ℕ) → HasReadMore (given remaining now last) room bytes new (Ok n)
-        → (given remaining first last).these new × (failures_of last ≡ failures_of first) × (length new ≤ 65542) × (length new ≡ length bytes + n)
+    pub goes_on : (new : List ℕ) (n : ℕ) → HasReadMore (read_effect remaining now last) room bytes new (Ok n)
+        → (read_effect remaining first last).these new × (failures_of last ≡ failures_of first) × (length new ≤ 65542) × (length new ≡ length bytes + n)
         × AreNeeded new × IsScanned new line (length bytes)
     goes_on new n (more, gives, is, count, at_end) = (
-      subst (given remaining first last).these (sym is) (these_on last more gives.0),
+      subst (read_effect remaining first last).these (sym is) (these_on last more gives.0),
       worked_on last gives.2,
       omega (arith, ap length is, length-append bytes more, gives.1, size, open_so_far.few),
       omega (arith, ap length is, length-append bytes more, count),
@@ -164,14 +164,14 @@ module _ {R : Type 0} (remaining : R → Option (List ℕ)) (first now : Counted
 pub input_stopped : {R T : Type 0} (remaining : R → Option (List ℕ)) (first now last : Counted R) (old text new : List ℕ)
     → (more : List ℕ) × Consumes (remaining (counted_inner first)) (remaining (counted_inner now)) more × (text ≡ old ++ more)
     → failures_of now ≡ failures_of first → length text ≤ 16777216 → (room : ℕ) → length text + room ≤ 16777217
-    → (result : Result T JobError) (error : JobError) → IsErrAnd result (λ e. e ≡ error) → HasReadMore (given remaining now last) room text new (Err error)
-    → HasReadInput (given remaining first last) old new result
+    → (result : Result T JobError) (error : JobError) → IsErrAnd result (λ e. e ≡ error) → HasReadMore (read_effect remaining now last) room text new (Err error)
+    → HasReadInput (read_effect remaining first last) old new result
 input_stopped remaining first now last old text new so_far worked short room fits (Ok done) error is stopped = absurd is
 input_stopped {T = T} remaining first now last old text new (more, taken, whole) worked short room fits (Err other) error is stopped =
-    subst (λ e. HasReadInput {T = T} (given remaining first last) old new (Err e)) (sym is) (by_error error stopped)
+    subst (λ e. HasReadInput {T = T} (read_effect remaining first last) old new (Err e)) (sym is) (by_error error stopped)
   where
-    by_error : (error : JobError) → HasReadMore (given remaining now last) room text new (Err error)
-        → HasReadInput {T = T} (given remaining first last) old new (Err error)
+    by_error : (error : JobError) → HasReadMore (read_effect remaining now last) room text new (Err error)
+        → HasReadInput {T = T} (read_effect remaining first last) old new (Err error)
     by_error Read (these, failed) = (
       more,
       these_none remaining first now more taken worked last these,

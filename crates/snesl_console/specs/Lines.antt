@@ -5,7 +5,7 @@ use Rattle.snesl_data.specs.declared.refusal.Refusal.{Refusal}
 use Rattle.snesl_data.specs.declared.refusal.Refusal.TheVariants.{Output}
 use Rattle.snesl_data.specs.Faults.{number_of_fault}
 use Rattle.snesl_data.specs.Refusals.{number_of_refusal, offset_of_refusal, is_of_the_system, status_of_refusal}
-use Rattle.snesl_console.specs.Streams.{Taken, IsWhole, IsCutOff, WasTold}
+use Rattle.snesl_console.specs.Streams.{WriteEffect, IsWhole, IsCutOff, WasTold}
 
 -- ` at K` where there is an offset
 abbrev pub place_text : Option ℕ → List ℕ
@@ -25,14 +25,14 @@ abbrev pub stalled_line : List ℕ
 stalled_line = codes "stalled\n"
 
 -- a line was printed on standard output, and this is the exit status
-pub data Prints (out err : Taken) (line : List ℕ) (status : ℕ) : ℕ → Type 0 where
+pub data Prints (out err : WriteEffect) (line : List ℕ) (status : ℕ) : ℕ → Type 0 where
   -- all of it was written, and nothing on standard error
   written : IsWhole out line → err.nothing → Prints out err line status status
   -- a write failed, which is said on standard error
   cut_off : IsCutOff out line → WasTold err (refusal_line Output) → Prints out err line status (status_of_refusal Output)
 
 -- a refusal was said, and this is the exit status
-pub data Refuses (out err : Taken) (refusal : Refusal) : ℕ → Type 0 where
+pub data Refuses (out err : WriteEffect) (refusal : Refusal) : ℕ → Type 0 where
   -- the job is at fault: on standard output
   of_the_job : {status : ℕ} → is_of_the_system refusal ≡ false → Prints out err (refusal_line refusal) (status_of_refusal refusal) status
       → Refuses out err refusal status

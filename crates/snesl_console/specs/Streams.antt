@@ -5,7 +5,7 @@ use Rattle.snesl_data.specs.declared.counted.Counted.{Counted}
 use Rattle.snesl_data.specs.Counted.{counted_inner, failures_of, HasWorked, HasFailed}
 
 -- what a writer took
-pub record Taken : Type 1 where
+pub record WriteEffect : Type 1 where
   -- it is as before
   pub nothing : Type 0
   -- it took these bytes
@@ -16,7 +16,7 @@ pub record Taken : Type 1 where
   pub failed : Type 0
 
 -- what a reader gave
-pub record Given : Type 1 where
+pub record ReadEffect : Type 1 where
   -- it is as before
   pub nothing : Type 0
   -- it gave these bytes
@@ -29,8 +29,8 @@ pub record Given : Type 1 where
   pub failed : Type 0
 
 -- the writer before a call and after it, by the bytes that it holds where these are known
-abbrev pub taken : {W : Type 0} → (W → Option (List ℕ)) → Counted W → Counted W → Taken
-taken contents old new = record {
+abbrev pub write_effect : {W : Type 0} → (W → Option (List ℕ)) → Counted W → Counted W → WriteEffect
+write_effect contents old new = record {
   nothing = new ≡ old;
   these = λ bytes. Appends (contents (counted_inner old)) (contents (counted_inner new)) bytes;
   worked = HasWorked (failures_of old) (failures_of new);
@@ -38,8 +38,8 @@ taken contents old new = record {
 }
 
 -- the reader before a call and after it, by the bytes that it has left where these are known
-abbrev pub given : {R : Type 0} → (R → Option (List ℕ)) → Counted R → Counted R → Given
-given remaining old new = record {
+abbrev pub read_effect : {R : Type 0} → (R → Option (List ℕ)) → Counted R → Counted R → ReadEffect
+read_effect remaining old new = record {
   nothing = new ≡ old;
   these = λ bytes. Consumes (remaining (counted_inner old)) (remaining (counted_inner new)) bytes;
   ended = IsAtEnd (remaining (counted_inner new));
@@ -48,19 +48,19 @@ given remaining old new = record {
 }
 
 -- the writer took all bytes, and no call failed
-abbrev pub IsWhole : Taken → List ℕ → Type 0
+abbrev pub IsWhole : WriteEffect → List ℕ → Type 0
 IsWhole out bytes = out.these bytes × out.worked
 
 -- the writer took a beginning of the bytes and not all of them, and one call failed
-abbrev pub IsCutOff : Taken → List ℕ → Type 0
+abbrev pub IsCutOff : WriteEffect → List ℕ → Type 0
 IsCutOff out bytes =
     (front : List ℕ) × (rest : List ℕ) × (bytes ≡ front ++ rest) × (0 < length rest) × out.these front × out.failed
 
 -- all bytes were taken, or they were cut off
-abbrev pub HasSent : Taken → List ℕ → Bool → Type 0
+abbrev pub HasSent : WriteEffect → List ℕ → Bool → Type 0
 HasSent out bytes true = IsWhole out bytes
 HasSent out bytes false = IsCutOff out bytes
 
 -- an attempt to send the bytes was made: all were taken, or they were cut off
-abbrev pub WasTold : Taken → List ℕ → Type 0
+abbrev pub WasTold : WriteEffect → List ℕ → Type 0
 WasTold out bytes = IsWhole out bytes ⊎ IsCutOff out bytes

@@ -3,7 +3,7 @@
 ghost use Rattle.std.specs.Prelude.{◌≡◌, ◌<◌, length};
 ghost use Rattle.snesl_console.specs.declared.job.JobError.TheVariants.{NoMemory};
 ghost use Rattle.snesl_console.specs.Job.{HaveOneJob, HaveSomeJob};
-ghost use Rattle.snesl_console.specs.Streams.{given};
+ghost use Rattle.snesl_console.specs.Streams.{read_effect};
 ghost use Rattle.snesl_console.specs.Reads.{HasSplit};
 
 use crate::beginning::{Beginning, LONGEST_PROGRAM, look, parts_at_end};
@@ -62,7 +62,7 @@ pub fn split_job<R: Read>(
     alloc: Global,
     job: &mut Counted<R>,
 ) -> Result<(Vec<u8>, Vec<u8>), JobError>
-    ensures { HasSplit (given R.remaining job.old job.new) result }
+    ensures { HasSplit (read_effect R.remaining job.old job.new) result }
 {
     let mut piece = new_piece(alloc)?;
     split_by_pieces(alloc, job, &mut piece)
@@ -75,7 +75,7 @@ fn split_by_pieces<R: Read>(
     piece: &mut [u8],
 ) -> Result<(Vec<u8>, Vec<u8>), JobError>
     requires { 0 < length piece.old }
-    ensures { HasSplit (given R.remaining job.old job.new) result }
+    ensures { HasSplit (read_effect R.remaining job.old job.new) result }
 {
     let mut bytes = Vec::new(alloc);
     let mut line = 0;

@@ -1,7 +1,7 @@
 // Reading a job piece by piece.
 
 ghost use Rattle.std.specs.Prelude.{◌≡◌, ◌<◌, ◌≤◌, length, IfOk};
-ghost use Rattle.snesl_console.specs.Streams.{given};
+ghost use Rattle.snesl_console.specs.Streams.{read_effect};
 ghost use Rattle.snesl_console.specs.Reads.{HasReadMore, HasReadInput};
 
 use crate::job::JobError;
@@ -33,7 +33,7 @@ pub(crate) fn read_more<R: Read>(
     requires piece { 0 < length piece.old }
     requires room { 0 < room }
     ensures { HasReadMore
-        (given R.remaining job.old job.new) room bytes.old.items bytes.new.items result }
+        (read_effect R.remaining job.old job.new) room bytes.old.items bytes.new.items result }
 {
     let room = room.min(piece.len());
     let Ok(n) = job.read(&mut piece[..room]) else {
@@ -52,7 +52,7 @@ pub(crate) fn read_input<R: Read>(
     requires piece { 0 < length piece.old }
     requires short { length text.old.items ≤ 16777217 }
     ensures { HasReadInput
-        (given R.remaining job.old job.new) text.old.items text.new.items result }
+        (read_effect R.remaining job.old job.new) text.old.items text.new.items result }
 {
     while text.len() <= LONGEST_INPUT {
         let room = LONGEST_INPUT + 1 - text.len();

@@ -2,7 +2,7 @@
 
 ghost use Rattle.std.specs.Prelude.{◌≡◌, IsTrue};
 ghost use Rattle.snesl_data.specs.Refusals.{is_of_the_system, status_of_refusal};
-ghost use Rattle.snesl_console.specs.Streams.{taken, HasSent, WasTold};
+ghost use Rattle.snesl_console.specs.Streams.{write_effect, HasSent, WasTold};
 ghost use Rattle.snesl_console.specs.Lines.{Prints, refusal_line};
 
 use crate::lines::system_line;
@@ -12,7 +12,7 @@ use std::io::Write;
 /// Whether the writer took all bytes; else it took a beginning of them, and exactly one call failed. A write that fails, or
 /// that takes no byte, ends it: there is no second try, at an interrupted call either.
 pub fn send<W: Write>(out: &mut Counted<W>, bytes: &[u8]) -> bool
-    ensures { HasSent (taken W.contents out.old out.new) bytes.now result }
+    ensures { HasSent (write_effect W.contents out.old out.new) bytes.now result }
 {
     let mut rest = bytes;
     while !rest.is_empty() {
@@ -32,8 +32,8 @@ pub fn print<W: Write, E: Write>(
     out: &mut Counted<W>,
     err: &mut Counted<E>,
 ) -> u8
-    ensures { Prints (taken W.contents out.old out.new)
-        (taken E.contents err.old err.new) line.now status result }
+    ensures { Prints (write_effect W.contents out.old out.new)
+        (write_effect E.contents err.old err.new) line.now status result }
 {
     if send(out, line) {
         status
@@ -47,7 +47,7 @@ pub fn print<W: Write, E: Write>(
 pub fn complain<E: Write>(refusal: Refusal, err: &mut Counted<E>) -> u8
     requires { IsTrue (is_of_the_system refusal) }
     ensures status { result ≡ status_of_refusal refusal }
-    ensures told { WasTold (taken E.contents err.old err.new) (refusal_line refusal) }
+    ensures told { WasTold (write_effect E.contents err.old err.new) (refusal_line refusal) }
 {
     let _ = send(err, system_line(refusal));
     refusal.status()

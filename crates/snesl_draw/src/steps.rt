@@ -4,7 +4,7 @@ use flow_plans::{Operation, Step};
 use snesl_data::{Refusal, Ty};
 use snesl_scopes::Scope;
 use snesl_steps::{Binding, Steps};
-use snesl_translator::{Setting, translate};
+use snesl_translator::{ProgramContext, translate};
 use snesl_tree::Expr;
 use snesl_types::Typed;
 use std::alloc::Global;
@@ -22,13 +22,13 @@ fn add_program(steps: &mut Steps, typed: &Typed<'_>) -> Result<(), Refusal> {
     let at = first_offset(&program.expr);
     let control = steps.control(at)?;
     let inputs = bind_inputs(steps, at, typed.decls())?;
-    let setting = Setting {
+    let context = ProgramContext {
         text: &program.text,
         functions: &program.declarations,
     };
     let nothing = Scope::Nothing;
     let scope = Scope::Frame(&inputs, &nothing);
-    let wires = translate(steps, &setting, &program.expr, &scope, control)?;
+    let wires = translate(steps, &context, &program.expr, &scope, control)?;
     let ty = wires.ty(steps.alloc())?;
     let numbers = wires.numbers(steps.alloc())?;
     steps.test(at, Operation::Print(ty), numbers)

@@ -14,7 +14,7 @@ use Rattle.snesl_operators.specs.declared.operator.Reduction.TheVariants.{Sum, M
 use Rattle.snesl_operators.specs.declared.scalar.Scalar.{Scalar}
 use Rattle.snesl_operators.specs.declared.scalar.Scalar.TheVariants.{Int, Bool as Truth}
 use Rattle.snesl_operators.specs.Operators.{ranged, unary_value, binary_value}
-use Rattle.snesl_operators.specs.Reductions.{reduced, scanned}
+use Rattle.snesl_operators.specs.Reductions.{reduction_of, scan_of}
 use Rattle.snesl_tree.specs.declared.operator.Builtin.{Builtin}
 use Rattle.snesl_tree.specs.declared.operator.Builtin.TheVariants.{Iota, ScanAdd, ReduceAdd, ReduceMax, ReduceAnd, ReduceOr, Length, Concat, Part, The, Tab, Seq, Fst, Snd}
 use Rattle.snesl_tree.specs.declared.operator.Operator.{Operator}
@@ -124,11 +124,11 @@ iota_answer at (negsuc n) = faults NegativeCount at
 
 -- what the items of a sequence reduce to
 abbrev pub reduce_answer : Dialect → ℕ → Reduction → Value → Answer Value
-reduce_answer dialect at reduction v = go (each_at scalar_at at v) (λ xs. scalar_answer at (reduced dialect reduction xs))
+reduce_answer dialect at reduction v = go (each_at scalar_at at v) (λ xs. scalar_answer at (reduction_of dialect reduction xs))
 
 -- at each item of a sequence the sum of those before it
 abbrev pub scan_answer : Dialect → ℕ → Value → Answer Value
-scan_answer dialect at v = go (each_at int_at at v) (λ ns. go (answer_at at (scanned dialect ns)) (λ sums. gives (sequence (map an_int sums))))
+scan_answer dialect at v = go (each_at int_at at v) (λ ns. go (answer_at at (scan_of dialect ns)) (λ sums. gives (sequence (map an_int sums))))
 
 -- an item before those of the first part; there must be a part
 abbrev pub into_first : ℕ → Value → List (List Value) → Answer (List (List Value))

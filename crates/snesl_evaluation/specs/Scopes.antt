@@ -16,7 +16,7 @@ use Rattle.snesl_tree.specs.View.{declaration_of, tree_of, typed_of}
 use Rattle.snesl_evaluation.specs.declared.scope.Column.{Column}
 use Rattle.snesl_evaluation.specs.declared.scope.Scope.{Scope}
 use Rattle.snesl_evaluation.specs.declared.scope.Scope.TheVariants.{Inputs, Parameters, Bound', Row'}
-use Rattle.snesl_evaluation.specs.declared.scope.Setting.{Setting}
+use Rattle.snesl_evaluation.specs.declared.scope.ProgramContext.{ProgramContext}
 use Rattle.snesl_evaluation.specs.Answer.{Answer, faults, go, go_all, go_join}
 use Rattle.snesl_evaluation.specs.Entries.{entry_of}
 use Rattle.snesl_evaluation.specs.Builtins.{truth_at}
@@ -42,38 +42,38 @@ environment_in text (Bound' name value p outer) = (spelling text name, value_of 
 environment_in text (Row' columns index p outer) = row_at index (map (column_of text) columns.now) ++ environment_in text outer
 
 -- the calls of the functions that may be called
-abbrev pub calls_in : Setting → Calls
-calls_in setting = calls_of setting.dialect setting.text.now (map declaration_of setting.functions.now)
+abbrev pub calls_in : ProgramContext → Calls
+calls_in context = calls_of context.dialect context.text.now (map declaration_of context.functions.now)
 
 -- the answer of an expression there
-abbrev pub eval_in : Setting → Scope → Tree → Answer Value
-eval_in setting scope tree = eval setting.dialect tree setting.text.now (calls_in setting) (environment_in setting.text.now scope)
+abbrev pub eval_in : ProgramContext → Scope → Tree → Answer Value
+eval_in context scope tree = eval context.dialect tree context.text.now (calls_in context) (environment_in context.text.now scope)
 
 -- the answers of expressions there, of binders, and of an item under a condition
-abbrev pub all_in : Setting → Scope → Trees → Answer (List Value)
-all_in setting scope trees = eval_all setting.dialect trees setting.text.now (calls_in setting) (environment_in setting.text.now scope)
+abbrev pub all_in : ProgramContext → Scope → Trees → Answer (List Value)
+all_in context scope trees = eval_all context.dialect trees context.text.now (calls_in context) (environment_in context.text.now scope)
 
-abbrev pub binders_in : Setting → Scope → Binders → Answer Columns
-binders_in setting scope binders = eval_binders setting.dialect binders setting.text.now (calls_in setting) (environment_in setting.text.now scope)
+abbrev pub binders_in : ProgramContext → Scope → Binders → Answer Columns
+binders_in context scope binders = eval_binders context.dialect binders context.text.now (calls_in context) (environment_in context.text.now scope)
 
 -- an item where its condition is true, with these entries before the names there
-abbrev pub kept_at : Setting → Environment → ℕ → Tree → Tree → Answer (List Value)
-kept_at setting environment at item condition =
-    go (eval setting.dialect condition setting.text.now (calls_in setting) environment) (λ v.
-    go (truth_at at v) (λ b. kept b (eval setting.dialect item setting.text.now (calls_in setting) environment)))
+abbrev pub kept_at : ProgramContext → Environment → ℕ → Tree → Tree → Answer (List Value)
+kept_at context environment at item condition =
+    go (eval context.dialect condition context.text.now (calls_in context) environment) (λ v.
+    go (truth_at at v) (λ b. kept b (eval context.dialect item context.text.now (calls_in context) environment)))
 
-abbrev pub kept_in : Setting → Scope → ℕ → Tree → Tree → Answer (List Value)
-kept_in setting scope at item condition = kept_at setting (environment_in setting.text.now scope) at item condition
+abbrev pub kept_in : ProgramContext → Scope → ℕ → Tree → Tree → Answer (List Value)
+kept_in context scope at item condition = kept_at context (environment_in context.text.now scope) at item condition
 
 -- the values of a comprehension's body at rows before the names there
-abbrev pub each_in : Setting → Scope → Tree → List Environment → Answer (List Value)
-each_in setting scope body rows =
-    go_all (λ row. eval setting.dialect body setting.text.now (calls_in setting) (row ++ environment_in setting.text.now scope)) rows
+abbrev pub each_in : ProgramContext → Scope → Tree → List Environment → Answer (List Value)
+each_in context scope body rows =
+    go_all (λ row. eval context.dialect body context.text.now (calls_in context) (row ++ environment_in context.text.now scope)) rows
 
 -- and at those rows where the condition is true
-abbrev pub where_in : Setting → Scope → ℕ → Tree → Tree → List Environment → Answer (List Value)
-where_in setting scope at body condition rows =
-    go_join (λ row. kept_at setting (row ++ environment_in setting.text.now scope) at body condition) rows
+abbrev pub where_in : ProgramContext → Scope → ℕ → Tree → Tree → List Environment → Answer (List Value)
+where_in context scope at body condition rows =
+    go_join (λ row. kept_at context (row ++ environment_in context.text.now scope) at body condition) rows
 
 -- the length of the first column
 abbrev pub first_height : List Column → ℕ

@@ -18,7 +18,7 @@ use crate::entries::entries_of;
 use crate::halt::{Halt, fault};
 use crate::operators::{binary, prefix};
 use crate::parts::{add, add_found, filtered, into_items, pair, sequence_of, truth};
-use crate::scope::{Column, Scope, Setting, add_column, height, look_up};
+use crate::scope::{Column, ProgramContext, Scope, add_column, height, look_up};
 use snesl_data::{Datum, Fault, FaultKind};
 use snesl_grammar::Program;
 use snesl_tree::{Binder, Builtin, Declaration, Expr, Function, Operator, Prefix, Span};
@@ -48,14 +48,14 @@ pub fn evaluate(
         (program_value program.now.text.items (program_of program.now)
         (environment_of inputs.now))) }
 {
-    let setting = Setting {
+    let context = ProgramContext {
         alloc,
         dialect: program.dialect,
         text: &program.text,
         functions: &program.declarations,
     };
     let entries = entries_of(alloc, inputs)?;
-    match value(&setting, &program.expr, &Scope::Inputs(&entries)) {
+    match value(&context, &program.expr, &Scope::Inputs(&entries)) {
         Ok(datum) => Ok(Ok(datum)),
         Err(Halt::Faulted(fault)) => Ok(Err(fault)),
         Err(Halt::NoMemory) => Err(AllocError),
@@ -66,61 +66,61 @@ pub fn evaluate(
 // and none is inlined into another: its frame, and theirs, are what evaluation takes of the stack.
 #[cycle(value)]
 #[inline(never)]
-fn value(setting: &Setting, expr: &Expr, scope: &Scope) -> Result<Datum, Halt>
-    ensures { Answers value_of result (eval_in setting.now scope.now (tree_of expr.now)) }
+fn value(context: &ProgramContext, expr: &Expr, scope: &Scope) -> Result<Datum, Halt>
+    ensures { Answers value_of result (eval_in context.now scope.now (tree_of expr.now)) }
 {
     match expr {
         Expr::Integer { value, .. } => Ok(Datum::Int(*value)),
         Expr::Truth { value, .. } => Ok(Datum::Bool(*value)),
-        Expr::Name(name) => look_up(setting.alloc, *name, setting.text, scope),
+        Expr::Name(name) => look_up(context.alloc, *name, context.text, scope),
         Expr::Binary {
             at,
             operator,
             left,
             right,
-        } => binary_value(setting, *at, *operator, left, right, scope),
+        } => binary_value(context, *at, *operator, left, right, scope),
         Expr::Prefix {
             at,
             operator,
             operand,
-        } => prefix_value(setting, *at, *operator, operand, scope),
+        } => prefix_value(context, *at, *operator, operand, scope),
         Expr::Call {
             at,
             function,
             arguments,
-        } => built_in(setting, *at, *function, arguments, scope),
+        } => built_in(context, *at, *function, arguments, scope),
         Expr::Apply {
             function,
             arguments,
-        } => call(setting, *function, arguments, scope),
-        Expr::Group { inner, .. } => value(setting, inner, scope),
-        Expr::Pair { first, second, .. } => pair_value(setting, first, second, scope),
+        } => call(context, *function, arguments, scope),
+        Expr::Group { inner, .. } => value(context, inner, scope),
+        Expr::Pair { first, second, .. } => pair_value(context, first, second, scope),
         Expr::Let {
             name,
             value: bound,
             body,
             ..
-        } => let_value(setting, *name, bound, body, scope),
+        } => let_value(context, *name, bound, body, scope),
         Expr::If {
             at,
             condition,
             positive,
             negative,
-        } => if_value(setting, *at, condition, positive, negative, scope),
-        Expr::Literal { items, .. } => literal(setting, items, scope),
+        } => if_value(context, *at, condition, positive, negative, scope),
+        Expr::Literal { items, .. } => literal(context, items, scope),
         Expr::Filter {
             at,
             item,
             condition,
-        } => filter(setting, *at, item, condition, scope),
+        } => filter(context, *at, item, condition, scope),
         Expr::Each {
             at,
             body,
             binders,
             condition,
         } => match condition {
-            None => each(setting, *at, body, binders, scope),
-            Some(condition) => each_where(setting, *at, body, binders, condition, scope),
+            None => each(context, *at, body, binders, scope),
+            Some(condition) => each_where(context, *at, body, binders, condition, scope),
         },
     }
 }
@@ -129,89 +129,94 @@ fn value(setting: &Setting, expr: &Expr, scope: &Scope) -> Result<Datum, Halt>
 #[cycle(value)]
 #[inline(never)]
 fn binary_value(
-    setting: &Setting,
+    context: &ProgramContext,
     at: usize,
     operator: Operator,
     left: &Expr,
     right: &Expr,
     scope: &Scope,
 ) -> Result<Datum, Halt>
-    ensures { Answers value_of result (go (eval_in setting.now scope.now (tree_of left.now))
-        (λ v. go (eval_in setting.now scope.now (tree_of right.now))
-        (λ w. binary_answer setting.now.dialect at operator v w))) }
+    ensures { Answers value_of result (go (eval_in context.now scope.now (tree_of left.now))
+        (λ v. go (eval_in context.now scope.now (tree_of right.now))
+        (λ w. binary_answer context.now.dialect at operator v w))) }
 {
-    let x = value(setting, left, scope)?;
-    let y = value(setting, right, scope)?;
-    binary(setting.dialect, setting.alloc, at, operator, &x, &y)
+    let x = value(context, left, scope)?;
+    let y = value(context, right, scope)?;
+    binary(context.dialect, context.alloc, at, operator, &x, &y)
 }
 
 // An operator before its operand.
 #[cycle(value)]
 #[inline(never)]
 fn prefix_value(
-    setting: &Setting,
+    context: &ProgramContext,
     at: usize,
     operator: Prefix,
     operand: &Expr,
     scope: &Scope,
 ) -> Result<Datum, Halt>
-    ensures { Answers value_of result (go (eval_in setting.now scope.now (tree_of operand.now))
-        (prefix_answer setting.now.dialect at operator)) }
+    ensures { Answers value_of result (go (eval_in context.now scope.now (tree_of operand.now))
+        (prefix_answer context.now.dialect at operator)) }
 {
-    let x = value(setting, operand, scope)?;
-    prefix(setting.dialect, at, operator, &x)
+    let x = value(context, operand, scope)?;
+    prefix(context.dialect, at, operator, &x)
 }
 
 #[cycle(value)]
 #[inline(never)]
-fn pair_value(setting: &Setting, first: &Expr, second: &Expr, scope: &Scope) -> Result<Datum, Halt>
-    ensures { Answers value_of result (go (eval_in setting.now scope.now (tree_of first.now))
-        (λ v. go (eval_in setting.now scope.now (tree_of second.now)) (λ w. gives (a_pair v w)))) }
+fn pair_value(
+    context: &ProgramContext,
+    first: &Expr,
+    second: &Expr,
+    scope: &Scope,
+) -> Result<Datum, Halt>
+    ensures { Answers value_of result (go (eval_in context.now scope.now (tree_of first.now))
+        (λ v. go (eval_in context.now scope.now (tree_of second.now)) (λ w. gives (a_pair v w)))) }
 {
-    let x = value(setting, first, scope)?;
-    let y = value(setting, second, scope)?;
-    Ok(pair(setting.alloc, x, y)?)
+    let x = value(context, first, scope)?;
+    let y = value(context, second, scope)?;
+    Ok(pair(context.alloc, x, y)?)
 }
 
 // A body where a name has the value of another expression.
 #[cycle(value)]
 #[inline(never)]
 fn let_value(
-    setting: &Setting,
+    context: &ProgramContext,
     name: Span,
     bound: &Expr,
     body: &Expr,
     scope: &Scope,
 ) -> Result<Datum, Halt>
-    ensures { Answers value_of result (go (eval_in setting.now scope.now (tree_of bound.now))
-        (λ v. eval setting.now.dialect (tree_of body.now) setting.now.text.now
-        (calls_in setting.now) ((spelling setting.now.text.now name, v) ∷
-        environment_in setting.now.text.now scope.now))) }
+    ensures { Answers value_of result (go (eval_in context.now scope.now (tree_of bound.now))
+        (λ v. eval context.now.dialect (tree_of body.now) context.now.text.now
+        (calls_in context.now) ((spelling context.now.text.now name, v) ∷
+        environment_in context.now.text.now scope.now))) }
 {
-    let x = value(setting, bound, scope)?;
-    bind(setting, name, &x, body, &*scope)
+    let x = value(context, bound, scope)?;
+    bind(context, name, &x, body, &*scope)
 }
 
 // One of two expressions, as a condition says.
 #[cycle(value)]
 #[inline(never)]
 fn if_value(
-    setting: &Setting,
+    context: &ProgramContext,
     at: usize,
     condition: &Expr,
     positive: &Expr,
     negative: &Expr,
     scope: &Scope,
 ) -> Result<Datum, Halt>
-    ensures { Answers value_of result (go (eval_in setting.now scope.now (tree_of condition.now))
-        (λ v. go (truth_at at v) (λ b. if b then eval_in setting.now scope.now
-        (tree_of positive.now) else eval_in setting.now scope.now (tree_of negative.now)))) }
+    ensures { Answers value_of result (go (eval_in context.now scope.now (tree_of condition.now))
+        (λ v. go (truth_at at v) (λ b. if b then eval_in context.now scope.now
+        (tree_of positive.now) else eval_in context.now scope.now (tree_of negative.now)))) }
 {
-    let x = value(setting, condition, scope)?;
+    let x = value(context, condition, scope)?;
     if truth(at, &x)? {
-        value(setting, positive, scope)
+        value(context, positive, scope)
     } else {
-        value(setting, negative, scope)
+        value(context, negative, scope)
     }
 }
 
@@ -219,38 +224,43 @@ fn if_value(
 #[cycle(value)]
 #[inline(never)]
 fn built_in(
-    setting: &Setting,
+    context: &ProgramContext,
     at: usize,
     function: Builtin,
     arguments: &[Expr],
     scope: &Scope,
 ) -> Result<Datum, Halt>
-    ensures { Answers value_of result (go (all_in setting.now scope.now (trees_of arguments.now))
-        (applied setting.now.dialect at function)) }
+    ensures { Answers value_of result (go (all_in context.now scope.now (trees_of arguments.now))
+        (applied context.now.dialect at function)) }
 {
-    let values = all_values(setting, arguments, scope)?;
-    apply(setting.dialect, setting.alloc, at, function, &values)
+    let values = all_values(context, arguments, scope)?;
+    apply(context.dialect, context.alloc, at, function, &values)
 }
 
 // A declared function at arguments.
 #[cycle(value)]
 #[inline(never)]
-fn call(setting: &Setting, name: Span, arguments: &[Expr], scope: &Scope) -> Result<Datum, Halt>
-    ensures { Answers value_of result (go (all_in setting.now scope.now (trees_of arguments.now))
-        (calls_in setting.now name.at (spelling setting.now.text.now name))) }
+fn call(
+    context: &ProgramContext,
+    name: Span,
+    arguments: &[Expr],
+    scope: &Scope,
+) -> Result<Datum, Halt>
+    ensures { Answers value_of result (go (all_in context.now scope.now (trees_of arguments.now))
+        (calls_in context.now name.at (spelling context.now.text.now name))) }
 {
-    let values = all_values(setting, arguments, scope)?;
-    let result = called(setting, name, &values)?;
+    let values = all_values(context, arguments, scope)?;
+    let result = called(context, name, &values)?;
     Ok(result)
 }
 
 #[cycle(value)]
 #[inline(never)]
-fn literal(setting: &Setting, items: &[Expr], scope: &Scope) -> Result<Datum, Halt>
+fn literal(context: &ProgramContext, items: &[Expr], scope: &Scope) -> Result<Datum, Halt>
     ensures { Answers value_of result (seq_answer
-        (all_in setting.now scope.now (trees_of items.now))) }
+        (all_in context.now scope.now (trees_of items.now))) }
 {
-    let values = all_values(setting, items, scope)?;
+    let values = all_values(context, items, scope)?;
     Ok(sequence_of(values))
 }
 
@@ -258,37 +268,37 @@ fn literal(setting: &Setting, items: &[Expr], scope: &Scope) -> Result<Datum, Ha
 #[cycle(value)]
 #[inline(never)]
 fn filter(
-    setting: &Setting,
+    context: &ProgramContext,
     at: usize,
     item: &Expr,
     condition: &Expr,
     scope: &Scope,
 ) -> Result<Datum, Halt>
     ensures { Answers value_of result (seq_answer
-        (kept_in setting.now scope.now at (tree_of item.now) (tree_of condition.now))) }
+        (kept_in context.now scope.now at (tree_of item.now) (tree_of condition.now))) }
 {
-    let found = kept(setting, at, item, condition, scope)?;
-    Ok(filtered(setting.alloc, found)?)
+    let found = kept(context, at, item, condition, scope)?;
+    Ok(filtered(context.alloc, found)?)
 }
 
 // A comprehension with no condition.
 #[cycle(value)]
 #[inline(never)]
 fn each(
-    setting: &Setting,
+    context: &ProgramContext,
     at: usize,
     body: &Expr,
     binders: &[Binder],
     scope: &Scope,
 ) -> Result<Datum, Halt>
-    ensures { Answers value_of result (go (binders_in setting.now scope.now
+    ensures { Answers value_of result (go (binders_in context.now scope.now
         (binders_of binders.now)) (λ columns.
         go (in_step at columns) (λ rows.
-        seq_answer (each_in setting.now scope.now (tree_of body.now) rows)))) }
+        seq_answer (each_in context.now scope.now (tree_of body.now) rows)))) }
 {
-    let columns = all_columns(setting, binders, scope)?;
+    let columns = all_columns(context, binders, scope)?;
     let number = height(at, &columns)?;
-    let values = rows(setting, body, &columns, number, &*scope)?;
+    let values = rows(context, body, &columns, number, &*scope)?;
     Ok(sequence_of(values))
 }
 
@@ -296,35 +306,35 @@ fn each(
 #[cycle(value)]
 #[inline(never)]
 fn each_where(
-    setting: &Setting,
+    context: &ProgramContext,
     at: usize,
     body: &Expr,
     binders: &[Binder],
     condition: &Expr,
     scope: &Scope,
 ) -> Result<Datum, Halt>
-    ensures { Answers value_of result (go (binders_in setting.now scope.now
+    ensures { Answers value_of result (go (binders_in context.now scope.now
         (binders_of binders.now)) (λ columns.
         go (in_step at columns) (λ rows.
-        seq_answer (where_in setting.now scope.now at (tree_of body.now)
+        seq_answer (where_in context.now scope.now at (tree_of body.now)
         (tree_of condition.now) rows)))) }
 {
-    let columns = all_columns(setting, binders, scope)?;
+    let columns = all_columns(context, binders, scope)?;
     let number = height(at, &columns)?;
-    let values = rows_where(setting, at, body, condition, &columns, number, &*scope)?;
+    let values = rows_where(context, at, body, condition, &columns, number, &*scope)?;
     Ok(sequence_of(values))
 }
 
 // The values of arguments, or of the items of a literal.
 #[cycle(value)]
 #[inline(never)]
-fn all_values(setting: &Setting, exprs: &[Expr], scope: &Scope) -> Result<Vec<Datum>, Halt>
+fn all_values(context: &ProgramContext, exprs: &[Expr], scope: &Scope) -> Result<Vec<Datum>, Halt>
     ensures { Answers (λ values. map value_of values.items) result
-        (all_in setting.now scope.now (trees_of exprs.now)) }
+        (all_in context.now scope.now (trees_of exprs.now)) }
 {
-    let mut values = Vec::new(setting.alloc);
+    let mut values = Vec::new(context.alloc);
     for expr in exprs {
-        let value = value(setting, expr, scope)?;
+        let value = value(context, expr, scope)?;
         add(&mut values, value)?;
     }
     Ok(values)
@@ -333,13 +343,17 @@ fn all_values(setting: &Setting, exprs: &[Expr], scope: &Scope) -> Result<Vec<Da
 // The names of a comprehension with the items of their sequences.
 #[cycle(value)]
 #[inline(never)]
-fn all_columns(setting: &Setting, binders: &[Binder], scope: &Scope) -> Result<Vec<Column>, Halt>
-    ensures { Answers (λ columns. map (column_of setting.now.text.now) columns.items) result
-        (binders_in setting.now scope.now (binders_of binders.now)) }
+fn all_columns(
+    context: &ProgramContext,
+    binders: &[Binder],
+    scope: &Scope,
+) -> Result<Vec<Column>, Halt>
+    ensures { Answers (λ columns. map (column_of context.now.text.now) columns.items) result
+        (binders_in context.now scope.now (binders_of binders.now)) }
 {
-    let mut columns = Vec::new(setting.alloc);
+    let mut columns = Vec::new(context.alloc);
     for binder in binders {
-        let sequence = value(setting, &binder.source, scope)?;
+        let sequence = value(context, &binder.source, scope)?;
         let items = into_items(binder.name.at, sequence)?;
         add_column(&mut columns, binder.name, items)?;
     }
@@ -350,23 +364,23 @@ fn all_columns(setting: &Setting, binders: &[Binder], scope: &Scope) -> Result<V
 #[cycle(value)]
 #[inline(never)]
 fn bind<'a>(
-    setting: &Setting,
+    context: &ProgramContext,
     name: Span,
     bound: &'a Datum,
     body: &Expr,
     scope: &'a Scope<'a>,
 ) -> Result<Datum, Halt>
-    ensures { Answers value_of result (eval setting.now.dialect
-        (tree_of body.now) setting.now.text.now (calls_in setting.now)
-        ((spelling setting.now.text.now name, value_of bound.now) ∷
-        environment_in setting.now.text.now scope.now)) }
+    ensures { Answers value_of result (eval context.now.dialect
+        (tree_of body.now) context.now.text.now (calls_in context.now)
+        ((spelling context.now.text.now name, value_of bound.now) ∷
+        environment_in context.now.text.now scope.now)) }
 {
     let inner = Scope::Bound {
         name,
         value: bound,
         outer: scope,
     };
-    let result = value(setting, body, &inner)?;
+    let result = value(context, body, &inner)?;
     Ok(result)
 }
 
@@ -374,18 +388,18 @@ fn bind<'a>(
 #[cycle(value)]
 #[inline(never)]
 fn kept(
-    setting: &Setting,
+    context: &ProgramContext,
     at: usize,
     item: &Expr,
     condition: &Expr,
     scope: &Scope,
 ) -> Result<Option<Datum>, Halt>
     ensures { Answers (λ kept. option_to_list (option_map value_of kept)) result
-        (kept_in setting.now scope.now at (tree_of item.now) (tree_of condition.now)) }
+        (kept_in context.now scope.now at (tree_of item.now) (tree_of condition.now)) }
 {
-    let x = value(setting, condition, scope)?;
+    let x = value(context, condition, scope)?;
     if truth(at, &x)? {
-        let y = value(setting, item, scope)?;
+        let y = value(context, item, scope)?;
         Ok(Some(y))
     } else {
         Ok(None)
@@ -396,7 +410,7 @@ fn kept(
 #[cycle(value)]
 #[inline(never)]
 fn rows<'a>(
-    setting: &Setting,
+    context: &ProgramContext,
     body: &Expr,
     columns: &'a [Column],
     number: usize,
@@ -404,17 +418,17 @@ fn rows<'a>(
 ) -> Result<Vec<Datum>, Halt>
     requires { are_level number columns.now ≡ true }
     ensures { Answers (λ values. map value_of values.items) result
-        (each_in setting.now scope.now (tree_of body.now)
-        (rows_of number (map (column_of setting.now.text.now) columns.now))) }
+        (each_in context.now scope.now (tree_of body.now)
+        (rows_of number (map (column_of context.now.text.now) columns.now))) }
 {
-    let mut values = Vec::new(setting.alloc);
+    let mut values = Vec::new(context.alloc);
     for index in 0..number {
         let row = Scope::Row {
             columns,
             index,
             outer: scope,
         };
-        let value = value(setting, body, &row)?;
+        let value = value(context, body, &row)?;
         add(&mut values, value)?;
     }
     Ok(values)
@@ -424,7 +438,7 @@ fn rows<'a>(
 #[cycle(value)]
 #[inline(never)]
 fn rows_where<'a>(
-    setting: &Setting,
+    context: &ProgramContext,
     at: usize,
     body: &Expr,
     condition: &Expr,
@@ -434,17 +448,17 @@ fn rows_where<'a>(
 ) -> Result<Vec<Datum>, Halt>
     requires { are_level number columns.now ≡ true }
     ensures { Answers (λ values. map value_of values.items) result
-        (where_in setting.now scope.now at (tree_of body.now) (tree_of condition.now)
-        (rows_of number (map (column_of setting.now.text.now) columns.now))) }
+        (where_in context.now scope.now at (tree_of body.now) (tree_of condition.now)
+        (rows_of number (map (column_of context.now.text.now) columns.now))) }
 {
-    let mut values = Vec::new(setting.alloc);
+    let mut values = Vec::new(context.alloc);
     for index in 0..number {
         let row = Scope::Row {
             columns,
             index,
             outer: scope,
         };
-        let found = kept(setting, at, body, condition, &row)?;
+        let found = kept(context, at, body, condition, &row)?;
         add_found(&mut values, found)?;
     }
     Ok(values)
@@ -453,13 +467,13 @@ fn rows_where<'a>(
 // A declared function at the values of its arguments.
 #[cycle(value)]
 #[inline(never)]
-fn called(setting: &Setting, name: Span, values: &[Datum]) -> Result<Datum, Halt>
-    ensures { Answers value_of result (calls_in setting.now name.at
-        (spelling setting.now.text.now name) (map value_of values.now)) }
+fn called(context: &ProgramContext, name: Span, values: &[Datum]) -> Result<Datum, Halt>
+    ensures { Answers value_of result (calls_in context.now name.at
+        (spelling context.now.text.now name) (map value_of values.now)) }
 {
-    let bytes = name.spelled(setting.text);
-    match find_function(bytes, setting.text, setting.functions) {
-        Some((function, earlier)) => enter(setting, name.at, function, earlier, values),
+    let bytes = name.spelled(context.text);
+    match find_function(bytes, context.text, context.functions) {
+        Some((function, earlier)) => enter(context, name.at, function, earlier, values),
         None => Err(fault(FaultKind::Shape, name.at)),
     }
 }
@@ -468,23 +482,23 @@ fn called(setting: &Setting, name: Span, values: &[Datum]) -> Result<Datum, Halt
 #[cycle(value)]
 #[inline(never)]
 fn enter(
-    setting: &Setting,
+    context: &ProgramContext,
     at: usize,
     function: &Function,
     earlier: &[Declaration],
     values: &[Datum],
 ) -> Result<Datum, Halt>
     ensures { Answers value_of result
-        (entered setting.now.dialect setting.now.text.now at function.now earlier.now
+        (entered context.now.dialect context.now.text.now at function.now earlier.now
         (map value_of values.now)) }
 {
     if function.parameters.len() != values.len() {
         return Err(fault(FaultKind::Shape, at));
     }
-    let inner = Setting {
-        alloc: setting.alloc,
-        dialect: setting.dialect,
-        text: &*setting.text,
+    let inner = ProgramContext {
+        alloc: context.alloc,
+        dialect: context.dialect,
+        text: &*context.text,
         functions: &*earlier,
     };
     let scope = Scope::Parameters(&function.parameters, &*values);

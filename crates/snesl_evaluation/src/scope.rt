@@ -18,7 +18,7 @@ use std::alloc::{AllocError, Global};
 // What stays the same in one body: the dialect of the program, the text, in which names are
 // spelled, and the declarations whose functions may be called.
 #[derive(Clone, Copy)]
-pub struct Setting<'a> {
+pub struct ProgramContext<'a> {
     pub alloc: Global,
     pub dialect: Dialect,
     pub text: &'a [u8],

@@ -4,7 +4,7 @@ ghost use Rattle.std.specs.Prelude.{◌≡◌, ◌++◌, ◌∷◌, [], ◌+◌,
 ghost use Rattle.snesl_data.specs.declared.fault.FaultKind.TheVariants.{Part as PartFault};
 ghost use Rattle.snesl_data.specs.Values.{an_int, value_of};
 ghost use Rattle.snesl_operators.specs.Operators.{ranged};
-ghost use Rattle.snesl_operators.specs.Reductions.{reduced, scanned};
+ghost use Rattle.snesl_operators.specs.Reductions.{reduction_of, scan_of};
 ghost use Rattle.snesl_evaluation.specs.Answer.{answer_at, gives, go, go_all, go_join, or_fault};
 ghost use Rattle.snesl_evaluation.specs.Builtins.{int_at, items_at, numbers_below, parts_answer, scalar_at, sequence, truth_at};
 ghost use Rattle.snesl_evaluation.specs.Results.{Answers};
@@ -86,7 +86,7 @@ pub fn joined(alloc: Global, at: usize, all: &[Datum]) -> Result<Vec<Datum>, Hal
 }
 
 pub fn reduce(dialect: Dialect, reduction: Reduction, all: &[Scalar]) -> Result<Scalar, FaultKind>
-    ensures { result ≡ reduced dialect reduction all.now }
+    ensures { result ≡ reduction_of dialect reduction all.now }
 {
     let mut so_far = reduction.nothing();
     for x in all {
@@ -103,7 +103,7 @@ pub fn scan_add(
     numbers: &[i128],
 ) -> Result<Vec<Datum>, Halt>
     ensures { Answers (λ values. map value_of values.items) result
-        (go (answer_at at (scanned dialect numbers.now)) (λ sums. gives (map an_int sums))) }
+        (go (answer_at at (scan_of dialect numbers.now)) (λ sums. gives (map an_int sums))) }
 {
     let mut sums = Vec::with_capacity(alloc, numbers.len())?;
     if numbers.is_empty() {

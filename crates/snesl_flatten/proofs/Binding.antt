@@ -9,7 +9,7 @@ use Rattle.snesl_values.specs.Inputs.{Declaration, declared, declaration_of}
 use Rattle.flow_messages.specs.Cells.{Cell}
 use Rattle.snesl_translation.specs.Wires.{Wires, Bound}
 use Rattle.snesl_translation.specs.Makings.{Making, done, and_then}
-use Rattle.snesl_translation.specs.Programs.{sourced, inputs_sourced, not_set}
+use Rattle.snesl_translation.specs.Programs.{sourced, inputs_sourced, unset_cells}
 use Rattle.snesl_steps.specs.declared.steps.Steps.{Steps}
 use Rattle.snesl_steps.specs.declared.wires.Binding.{Binding}
 use Rattle.snesl_steps.specs.Views.{next_in, wires_of, binding_of, bindings_of}
@@ -37,28 +37,28 @@ inputs_append at cells (x ∷ xs) ys next =
     (ap (λ (m : Making Bound). m.next) ih)
 
 -- one input
-one_bound : (old new : Steps) (at : ℕ) (d : Declaration) (w : Wires) → HasMade old new (sourced at not_set d.1 (next_in old)) w → HasMade old new (inputs_sourced at not_set (d ∷ []) (next_in old)) ((d.0, w) ∷ [])
+one_bound : (old new : Steps) (at : ℕ) (d : Declaration) (w : Wires) → HasMade old new (sourced at unset_cells d.1 (next_in old)) w → HasMade old new (inputs_sourced at unset_cells (d ∷ []) (next_in old)) ((d.0, w) ∷ [])
 one_bound old new at d w made =
-    made_then (λ b. b) old new new (sourced at not_set d.1 (next_in old)) (λ u k. and_then (inputs_sourced at not_set [] k) (λ bound k. done ((d.0, u) ∷ bound) k)) w (Ok ((d.0, w) ∷ [])) made
-    (then_done new new (inputs_sourced at not_set [] (next_in new)) (λ bound. (d.0, w) ∷ bound) [] (done_made new []))
+    made_then (λ b. b) old new new (sourced at unset_cells d.1 (next_in old)) (λ u k. and_then (inputs_sourced at unset_cells [] k) (λ bound k. done ((d.0, u) ∷ bound) k)) w (Ok ((d.0, w) ∷ [])) made
+    (then_done new new (inputs_sourced at unset_cells [] (next_in new)) (λ bound. (d.0, w) ∷ bound) [] (done_made new []))
 
 -- some inputs and then one more
-pub one_more_bound : (old middle new : Steps) (at : ℕ) (xs : List Declaration) (d : Declaration) (bound : Bound) (w : Wires) → HasMade old middle (inputs_sourced at not_set xs (next_in old)) bound
-    → HasMade middle new (sourced at not_set d.1 (next_in middle)) w → HasMade old new (inputs_sourced at not_set (xs ++ d ∷ []) (next_in old)) (bound ++ (d.0, w) ∷ [])
+pub one_more_bound : (old middle new : Steps) (at : ℕ) (xs : List Declaration) (d : Declaration) (bound : Bound) (w : Wires) → HasMade old middle (inputs_sourced at unset_cells xs (next_in old)) bound
+    → HasMade middle new (sourced at unset_cells d.1 (next_in middle)) w → HasMade old new (inputs_sourced at unset_cells (xs ++ d ∷ []) (next_in old)) (bound ++ (d.0, w) ∷ [])
 one_more_bound old middle new at xs d bound w made one =
-    subst (λ m. HasMade old new m (bound ++ (d.0, w) ∷ [])) (sym (inputs_append at not_set xs (d ∷ []) (next_in old)))
-    (made_then (λ b. b) old middle new (inputs_sourced at not_set xs (next_in old)) (λ b k. and_then (inputs_sourced at not_set (d ∷ []) k) (λ c k. done (b ++ c) k)) bound (Ok (bound ++ (d.0, w) ∷ [])) made
-    (then_done middle new (inputs_sourced at not_set (d ∷ []) (next_in middle)) (λ c. bound ++ c) ((d.0, w) ∷ []) (one_bound middle new at d w one)))
+    subst (λ m. HasMade old new m (bound ++ (d.0, w) ∷ [])) (sym (inputs_append at unset_cells xs (d ∷ []) (next_in old)))
+    (made_then (λ b. b) old middle new (inputs_sourced at unset_cells xs (next_in old)) (λ b k. and_then (inputs_sourced at unset_cells (d ∷ []) k) (λ c k. done (b ++ c) k)) bound (Ok (bound ++ (d.0, w) ∷ [])) made
+    (then_done middle new (inputs_sourced at unset_cells (d ∷ []) (next_in middle)) (λ c. bound ++ c) ((d.0, w) ∷ []) (one_bound middle new at d w one)))
 
 -- one that is refused
 pub one_refused : {C : Type 0} (view : C → Bound) (old middle new : Steps) (at : ℕ) (xs : List Declaration) (d : Declaration) (others : List Declaration) (bound : Bound) (e : Refusal) (r : Result C Refusal)
-    → IsErr r × IsErrAnd r (λ g. g ≡ e) → HasMade old middle (inputs_sourced at not_set xs (next_in old)) bound
-    → Adds wires_of middle new (sourced at not_set d.1 (next_in middle)) (Err e) → Adds view old new (inputs_sourced at not_set (xs ++ d ∷ others) (next_in old)) r
+    → IsErr r × IsErrAnd r (λ g. g ≡ e) → HasMade old middle (inputs_sourced at unset_cells xs (next_in old)) bound
+    → Adds wires_of middle new (sourced at unset_cells d.1 (next_in middle)) (Err e) → Adds view old new (inputs_sourced at unset_cells (xs ++ d ∷ others) (next_in old)) r
 one_refused view old middle new at xs d others bound e r exit made adds =
-    subst (λ m. Adds view old new m r) (sym (inputs_append at not_set xs (d ∷ others) (next_in old)))
-    (made_then view old middle new (inputs_sourced at not_set xs (next_in old)) (λ b k. and_then (inputs_sourced at not_set (d ∷ others) k) (λ c k. done (b ++ c) k)) bound r made
-    (exits_first (λ (b : Bound). b) view middle new new (inputs_sourced at not_set (d ∷ others) (next_in middle)) (λ c k. done (bound ++ c) k) e r exit
-    (refused_first wires_of (λ (b : Bound). b) middle new new (sourced at not_set d.1 (next_in middle)) (λ u k. and_then (inputs_sourced at not_set others k) (λ bound k. done ((d.0, u) ∷ bound) k)) e adds)))
+    subst (λ m. Adds view old new m r) (sym (inputs_append at unset_cells xs (d ∷ others) (next_in old)))
+    (made_then view old middle new (inputs_sourced at unset_cells xs (next_in old)) (λ b k. and_then (inputs_sourced at unset_cells (d ∷ others) k) (λ c k. done (b ++ c) k)) bound r made
+    (exits_first (λ (b : Bound). b) view middle new new (inputs_sourced at unset_cells (d ∷ others) (next_in middle)) (λ c k. done (bound ++ c) k) e r exit
+    (refused_first wires_of (λ (b : Bound). b) middle new new (sourced at unset_cells d.1 (next_in middle)) (λ u k. and_then (inputs_sourced at unset_cells others k) (λ bound k. done ((d.0, u) ∷ bound) k)) e adds)))
 
 -- the declarations up to one of them, and that one
 pub declared_more : (ds : List (Vec ℕ Global × TyTree)) (i : ℕ) (d : Vec ℕ Global × TyTree) → i < length ds → d ≡ get_or ds i d → declared (take (i + 1) ds) ≡ declared (take i ds) ++ declaration_of d ∷ []

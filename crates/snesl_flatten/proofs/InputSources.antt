@@ -17,7 +17,7 @@ use Rattle.flow_messages.specs.Cells.{Cell}
 use Rattle.flow_messages.specs.declared.message.Kind.{Kind}
 use Rattle.flow_base.specs.Columns.{columns}
 use Rattle.flow_base.specs.Lists.{Lists}
-use Rattle.flow_scalar.specs.SourceBehaviour.{source_opened}
+use Rattle.flow_scalar.specs.SourceBehaviour.{source_opening}
 use Rattle.flow_values.specs.Shapes.{kinds_of, kind_at}
 use Rattle.flow_values.specs.Flats.{width, flat}
 use Rattle.flow_inputs.specs.Items.{items_at}
@@ -40,22 +40,22 @@ kind_more (kind ∷ kinds) zero lt = refl
 kind_more (kind ∷ kinds) (suc n) lt = ap (λ l. kind ∷ l) (kind_more kinds n (omega arith))
 
 -- one fresh source more
-pub fresh_more : (sources : List TextSource) (source : TextSource) → AreFresh sources → text_source_state source ≡ source_opened (items_in source) → AreFresh (sources ++ source ∷ [])
+pub fresh_more : (sources : List TextSource) (source : TextSource) → AreFresh sources → text_source_state source ≡ source_opening (items_in source) → AreFresh (sources ++ source ∷ [])
 fresh_more sources source fresh opens =
     map-append text_source_state sources (source ∷ [])
     ∙ ap₂ (λ a b. a ++ b ∷ []) fresh opens
-    ∙ sym (map-append (λ (s : TextSource). source_opened (items_in s)) sources (source ∷ []))
+    ∙ sym (map-append (λ (s : TextSource). source_opening (items_in s)) sources (source ∷ []))
 
 some_same : {A : Type 0} (x y : A) → Some x ≡ Some y → x ≡ y
 some_same x y same = cc
 
 -- the state of a fresh one
-pub fresh_at : (sources : List TextSource) (n : ℕ) (source : TextSource) → AreFresh sources → slice_get sources n ≡ Some source → text_source_state source ≡ source_opened (items_in source)
+pub fresh_at : (sources : List TextSource) (n : ℕ) (source : TextSource) → AreFresh sources → slice_get sources n ≡ Some source → text_source_state source ≡ source_opening (items_in source)
 fresh_at sources n source fresh there =
-    some_same (text_source_state source) (source_opened (items_in source))
+    some_same (text_source_state source) (source_opening (items_in source))
     (sym (slice_get-map text_source_state sources n ∙ ap (option_map text_source_state) there)
     ∙ ap (λ l. slice_get l n) fresh
-    ∙ slice_get-map (λ (s : TextSource). source_opened (items_in s)) sources n ∙ ap (option_map (λ (s : TextSource). source_opened (items_in s))) there)
+    ∙ slice_get-map (λ (s : TextSource). source_opening (items_in s)) sources n ∙ ap (option_map (λ (s : TextSource). source_opening (items_in s))) there)
 
 -- what is written at an edge of the type of a value, and of which kind it is
 module _ (holds : TextHoldsEdges) (kinds : KindsOfEdges) (text : List ℕ) (place : ℕ) (t : Ty) (placed : (dialect : Dialect) × IsPlaced dialect text t place) (edge : ℕ) (lt : edge < width t) (source : TextSource)

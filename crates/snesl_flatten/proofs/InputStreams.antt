@@ -13,7 +13,7 @@ use Rattle.snesl_values.specs.Inputs.{Declaration, Environment, Fits, declared, 
 use Rattle.flow_messages.specs.declared.message.Kind.{Kind}
 use Rattle.flow_base.specs.Columns.{Columns}
 use Rattle.flow_values.specs.Shapes.{is_a, kinds_of}
-use Rattle.flow_rows.specs.Made.{laid}
+use Rattle.flow_rows.specs.Made.{columns_of_values}
 use Rattle.snesl_translation.specs.Programs.{columns_of}
 use Rattle.snesl_flatten.specs.Sources.{all_kinds}
 use Rattle.snesl_flatten.proofs.InputValues.{fit_at, columns_more, kinds_more}
@@ -48,10 +48,10 @@ module _ (dialect : Dialect) (ds : List Declaration) (es : Environment) (fits : 
     value_typed = subst (λ v. is_a d.1 v ≡ true) value_is (fit_at dialect ds es i d fits there).2
 
     -- its columns behind those of the inputs before it
-    pub cells_added : (columns : Columns) → columns ≡ columns_of (take i ds) (take i es) → columns ++ laid d.1 (v ∷ []) ≡ columns_of (take (suc i) ds) (take (suc i) es)
+    pub cells_added : (columns : Columns) → columns ≡ columns_of (take i ds) (take i es) → columns ++ columns_of_values d.1 (v ∷ []) ≡ columns_of (take (suc i) ds) (take (suc i) es)
     cells_added columns so_far =
         let g = fit_at dialect ds es i d fits there in
-        ap₂ (λ a b. a ++ b) so_far (ap (λ v. laid d.1 (v ∷ [])) (sym value_is))
+        ap₂ (λ a b. a ++ b) so_far (ap (λ v. columns_of_values d.1 (v ∷ [])) (sym value_is))
         ∙ sym (columns_more ds es i d g.0 there g.1)
 
 pub kinds_added : (ds : List Declaration) (i : ℕ) (d : Declaration) → slice_get ds i ≡ Some d → (kinds : List Kind) → kinds ≡ all_kinds (take i ds) → kinds ++ kinds_of d.1 ≡ all_kinds (take (suc i) ds)

@@ -7,7 +7,7 @@ use Rattle.snesl_data.specs.Values.{Value, Values, an_int, a_bool, a_pair, a_vec
 use Rattle.snesl_values.specs.Inputs.{Declaration, Environment, Fits}
 use Rattle.flow_values.specs.Shapes.{is_a, all_are, kinds_of}
 use Rattle.flow_values.specs.laws.Kinds.{and_true}
-use Rattle.flow_rows.specs.Made.{laid}
+use Rattle.flow_rows.specs.Made.{columns_of_values}
 use Rattle.snesl_translation.specs.Programs.{columns_of}
 use Rattle.snesl_flatten.specs.Sources.{all_kinds}
 
@@ -37,15 +37,15 @@ fit_at dialect (x ∷ ds) (e ∷ es) (suc i) d fits there = fit_at dialect ds es
 
 -- the columns of some inputs and one more
 pub columns_more : (ds : List Declaration) (es : Environment) (i : ℕ) (d : Declaration) (e : List ℕ × Value) → slice_get ds i ≡ Some d → slice_get es i ≡ Some e
-    → columns_of (take (suc i) ds) (take (suc i) es) ≡ columns_of (take i ds) (take i es) ++ laid d.1 (e.1 ∷ [])
+    → columns_of (take (suc i) ds) (take (suc i) es) ≡ columns_of (take i ds) (take i es) ++ columns_of_values d.1 (e.1 ∷ [])
 columns_more [] es i d e there value = absurd (cc)
 columns_more (x ∷ ds) [] i d e there value = absurd (cc)
 columns_more (x ∷ ds) (y ∷ es) zero d e there value =
     let same : x ≡ d = cc in
     let one : y ≡ e = cc in
-    append-nil (laid x.1 (y.1 ∷ [])) ∙ (λ i. laid (same i).1 ((one i).1 ∷ []))
+    append-nil (columns_of_values x.1 (y.1 ∷ [])) ∙ (λ i. columns_of_values (same i).1 ((one i).1 ∷ []))
 columns_more (x ∷ ds) (y ∷ es) (suc i) d e there value =
-    ap (λ l. laid x.1 (y.1 ∷ []) ++ l) (columns_more ds es i d e there value) ∙ sym (append_assoc (laid x.1 (y.1 ∷ [])) (columns_of (take i ds) (take i es)) (laid d.1 (e.1 ∷ [])))
+    ap (λ l. columns_of_values x.1 (y.1 ∷ []) ++ l) (columns_more ds es i d e there value) ∙ sym (append_assoc (columns_of_values x.1 (y.1 ∷ [])) (columns_of (take i ds) (take i es)) (columns_of_values d.1 (e.1 ∷ [])))
 
 pub kinds_more : (ds : List Declaration) (i : ℕ) (d : Declaration) → slice_get ds i ≡ Some d → all_kinds (take (suc i) ds) ≡ all_kinds (take i ds) ++ kinds_of d.1
 kinds_more [] i d there = absurd (cc)

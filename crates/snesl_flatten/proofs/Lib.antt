@@ -10,4 +10,4 @@ mod Meanings
 mod Held
 mod InputStreams
 mod InputSources
-mod Setting
+mod SetSources

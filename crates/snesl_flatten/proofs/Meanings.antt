@@ -22,7 +22,7 @@ use Rattle.flow_base.specs.Columns.{Columns}
 use Rattle.flow_values.specs.Shapes.{is_a}
 use Rattle.flow_values.specs.Flats.{width, flat}
 use Rattle.flow_rows.specs.Lists.{bind}
-use Rattle.flow_rows.specs.Made.{laid}
+use Rattle.flow_rows.specs.Made.{columns_of_values}
 use Rattle.flow_rows.proofs.Options.{some_same}
 use Rattle.flow_nodes.specs.StreamNodes.{node_behaviour, text_in}
 use Rattle.flow_graph.specs.declared.edge.Edge.{Edge}
@@ -38,7 +38,7 @@ use Rattle.flow_plans.proofs.Places.{each_place, columns_place}
 use Rattle.flow_drive.specs.Texts.{last_text}
 use Rattle.flow_texts.specs.PrintedTexts.{PrintsAtTheEnd, PrintTells}
 use Rattle.snesl_translation.specs.Wires.{Wires, type_of_wires, numbers_of}
-use Rattle.snesl_translation.specs.Programs.{first_offset, program_plan, not_set, columns_of, cells_of, PlansMean}
+use Rattle.snesl_translation.specs.Programs.{first_offset, program_plan, unset_cells, columns_of, cells_of, PlansMean}
 use Rattle.snesl_flatten.specs.Networks.{NodeState, program_steps, NetworkMeans}
 use Rattle.snesl_flatten.specs.Sources.{HasSources}
 use Rattle.snesl_flatten.proofs.Sources.{value, given_is}
@@ -58,7 +58,7 @@ module _ (text : List ℕ) (program : ProgramTree) (environment : Environment) w
   abbrev RunsTo : List Declaration → Ty → Value → Type 0
   RunsTo inputs t v =
       (type_of_wires (given_with inputs) ≡ t)
-      × ((streams : Columns) × (run (steps_with inputs) [] ≡ Some streams) × (streams_at (numbers_of (given_with inputs)) streams ≡ Some (laid t (v ∷ []))))
+      × ((streams : Columns) × (run (steps_with inputs) [] ≡ Some streams) × (streams_at (numbers_of (given_with inputs)) streams ≡ Some (columns_of_values t (v ∷ []))))
 
   -- the plan runs just where the program has a value
   abbrev PlanMeans : List Declaration → Ty → Type 0
@@ -132,16 +132,16 @@ module _ (text : List ℕ) (program : ProgramTree) (inputs : List Declaration) (
           let goes = (means typing).0 v is in
           let given : (program_plan text program inputs (cells_of inputs environment)).given ≡ w = given_is text program inputs (cells_of inputs environment) in
           let type_is : type_of_wires w ≡ t = ap type_of_wires (sym given) ∙ goes.0 in
-          let unset : type_of_wires (program_plan text program inputs not_set).given ≡ t = ap type_of_wires (given_is text program inputs not_set) ∙ type_is in
+          let unset : type_of_wires (program_plan text program inputs unset_cells).given ≡ t = ap type_of_wires (given_is text program inputs unset_cells) ∙ type_is in
           let print : PrintsAtTheEnd t (first_offset program.expression) states = subst (λ ty. PrintsAtTheEnd ty (first_offset program.expression) states) unset set.print in
           let flow = lawful (configuration_of node_behaviour states' view) all in
           let ran = back plan set.network flow.0 flow.1 in
           let one : goes.1.0 ≡ ran.0 = some_same goes.1.0 ran.0 (sym goes.1.1 ∙ ran.1) in
-          let read : streams_at (numbers_of w) ran.0 ≡ Some (laid t (v ∷ [])) =
+          let read : streams_at (numbers_of w) ran.0 ≡ Some (columns_of_values t (v ∷ [])) =
           ap₂ (λ ws streams. streams_at (numbers_of ws) streams) (sym given) (sym one) ∙ goes.1.2 in
           tells t (first_offset program.expression) print set.opened states' view same all flow.0 flow.2 v (value_is text program environment inputs t fits typing sound v is)
           (λ p lt. some_same (flow.0 (in_edge edges print.0 p)) (flat t 0 (v ∷ []) p)
-          (sym (print_reads ran.0 (laid t (v ∷ [])) flow.0 read ran.2 print.0 print.1 p (omega (arith, ap width type_is, lt))) ∙ columns_place (width t) (flat t 0 (v ∷ [])) p lt))
+          (sym (print_reads ran.0 (columns_of_values t (v ∷ [])) flow.0 read ran.2 print.0 print.1 p (omega (arith, ap width type_is, lt))) ∙ columns_place (width t) (flat t 0 (v ∷ [])) p lt))
 
       prints : (v : Value) × (program_value text program environment ≡ gives v) × (last_text text_in states' ≡ text_of_value v)
       prints = by_answer (program_value text program environment) refl

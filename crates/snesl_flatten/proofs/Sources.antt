@@ -19,7 +19,7 @@ use Rattle.snesl_translation.specs.Wires.{Wires, type_of_wires, numbers_of, wire
 use Rattle.snesl_translation.specs.Makings.{Making, and_then}
 use Rattle.snesl_translation.specs.Translation.{tr}
 use Rattle.snesl_translation.specs.Functions.{bodies_of}
-use Rattle.snesl_translation.specs.Programs.{first_offset, source_steps, inputs_sourced, program_plan, not_set}
+use Rattle.snesl_translation.specs.Programs.{first_offset, source_steps, inputs_sourced, program_plan, unset_cells}
 use Rattle.snesl_flatten.specs.Networks.{program_steps}
 use Rattle.snesl_flatten.specs.Sources.{all_kinds, written}
 
@@ -98,7 +98,7 @@ module _ (text : List ℕ) (program : ProgramTree) (inputs : List Declaration) w
   value_under bound k = tr program.dialect text (bodies_of program.dialect text program.declarations) program.expression bound zero k
 
   abbrev pub value : Making Wires
-  value = value_under (inputs_sourced begin not_set inputs 1).given (inputs_sourced begin not_set inputs 1).next
+  value = value_under (inputs_sourced begin unset_cells inputs 1).given (inputs_sourced begin unset_cells inputs 1).next
 
   abbrev print_of : Wires → Step
   print_of w = record { at = begin; operation = print (type_of_wires w); reads = numbers_of w }
@@ -116,7 +116,7 @@ module _ (text : List ℕ) (program : ProgramTree) (inputs : List Declaration) w
   steps_are : (cells : ℕ → List Cell) → program_steps text program inputs cells ≡ control_step ∷ (source_steps begin cells 1 (all_kinds inputs) ++ (value.steps ++ print_step ∷ []))
   unfolding and_then
   steps_are cells =
-      let given = inputs_given begin cells not_set inputs 1 in
+      let given = inputs_given begin cells unset_cells inputs 1 in
       λ i. control_step ∷ (inputs_steps begin cells inputs 1 i ++ ((value_under (given.0 i) (given.1 i)).steps ++ print_of (value_under (given.0 i) (given.1 i)).given ∷ []))
 
   pub front_and_print : (cells : ℕ → List Cell) → program_steps text program inputs cells ≡ front_steps cells ++ print_step ∷ []
@@ -130,7 +130,7 @@ module _ (text : List ℕ) (program : ProgramTree) (inputs : List Declaration) w
 
   pub given_is : (cells : ℕ → List Cell) → (program_plan text program inputs cells).given ≡ value.given
   unfolding and_then
-  given_is cells = let given = inputs_given begin cells not_set inputs 1 in λ i. (value_under (given.0 i) (given.1 i)).given
+  given_is cells = let given = inputs_given begin cells unset_cells inputs 1 in λ i. (value_under (given.0 i) (given.1 i)).given
 
   module _ (columns : Columns) (kind : Kind) (there : slice_get (all_kinds inputs) (length columns) ≡ Some kind) where
     abbrev behind : List Step

@@ -14,7 +14,7 @@ use Rattle.flow_graph.proofs.KindTests.{same_kind}
 use Rattle.flow_plans.specs.Plans.{Step}
 use Rattle.flow_plans.specs.Ports.{AreWired, kinds_written}
 use Rattle.flow_plans.specs.Layouts.{all_behind, layout_from, layout}
-use Rattle.snesl_translation.specs.Programs.{not_set}
+use Rattle.snesl_translation.specs.Programs.{unset_cells}
 use Rattle.snesl_wiring.specs.Wirings.{PlansAreWired}
 use Rattle.snesl_flatten.specs.Networks.{program_steps}
 
@@ -33,10 +33,10 @@ AreWired-prop kinds [] = hlevel
 AreWired-prop kinds (step ∷ steps) = hlevel (props, Kind-set, AreWired-prop (kinds ++ kinds_written step.operation) steps)
 
 -- the steps of a typed program
-pub typed_wired : PlansAreWired → (typed : Typed) → AreWired [] (program_steps (typed_text typed) (typed_tree typed) (typed_inputs typed) not_set)
+pub typed_wired : PlansAreWired → (typed : Typed) → AreWired [] (program_steps (typed_text typed) (typed_tree typed) (typed_inputs typed) unset_cells)
 typed_wired wired typed =
-    ∥∥₁_elim typed.typed (AreWired-prop [] (program_steps (typed_text typed) (typed_tree typed) (typed_inputs typed) not_set)) (λ d.
-    subst (λ inputs. AreWired [] (program_steps (typed_text typed) (typed_tree typed) inputs not_set)) d.2 (wired (typed_text typed) (typed_tree typed) d.0 (typed_ty typed) not_set d.1).0)
+    ∥∥₁_elim typed.typed (AreWired-prop [] (program_steps (typed_text typed) (typed_tree typed) (typed_inputs typed) unset_cells)) (λ d.
+    subst (λ inputs. AreWired [] (program_steps (typed_text typed) (typed_tree typed) inputs unset_cells)) d.2 (wired (typed_text typed) (typed_tree typed) d.0 (typed_ty typed) unset_cells d.1).0)
 
 layout_long : (plan : List Step) (s : ℕ) (steps : List Step) → length steps ≤ length (layout_from plan s steps)
 layout_long plan s [] = omega arith

@@ -5,7 +5,7 @@ use Rattle.snesl_tree.specs.Tree.{ProgramTree}
 use Rattle.flow_messages.specs.Cells.{Cell}
 use Rattle.flow_messages.specs.declared.message.Kind.{Kind}
 use Rattle.flow_base.specs.Columns.{Columns}
-use Rattle.flow_scalar.specs.SourceBehaviour.{source_opened}
+use Rattle.flow_scalar.specs.SourceBehaviour.{source_opening}
 use Rattle.flow_values.specs.Shapes.{kinds_of}
 use Rattle.flow_inputs.specs.declared.source.TextSource.{TextSource}
 use Rattle.flow_inputs.specs.TextSources.{items_in, text_source_state}
@@ -15,7 +15,7 @@ use Rattle.flow_graph.specs.Networks.{AreOpened}
 use Rattle.flow_plans.specs.Layouts.{layout, places, IsNetworkOf}
 use Rattle.flow_assembly.specs.Openings.{AllOpen}
 use Rattle.snesl_translation.specs.Wires.{type_of_wires}
-use Rattle.snesl_translation.specs.Programs.{first_offset, program_plan, not_set}
+use Rattle.snesl_translation.specs.Programs.{first_offset, program_plan, unset_cells}
 use Rattle.flow_texts.specs.PrintedTexts.{PrintsAtTheEnd}
 use Rattle.snesl_flatten.specs.Networks.{NodeState, program_steps}
 
@@ -28,7 +28,7 @@ kind_in source = (items_in source).kind
 
 -- none of them has written anything
 abbrev pub AreFresh : List TextSource → Type 0
-AreFresh sources = map text_source_state sources ≡ map (λ source. source_opened (items_in source)) sources
+AreFresh sources = map text_source_state sources ≡ map (λ source. source_opening (items_in source)) sources
 
 -- the kinds of the streams of inputs, in order
 abbrev pub all_kinds : List Declaration → List Kind
@@ -46,5 +46,5 @@ pub record HasSources (text : List ℕ) (program : ProgramTree) (inputs : List D
   pub network : IsNetworkOf node_behaviour (program_steps text program inputs (written columns)) states edges
   pub opens : AllOpen (layout (program_steps text program inputs (written columns))) states
   pub opened : AreOpened node_behaviour states
-  pub print : PrintsAtTheEnd (type_of_wires (program_plan text program inputs not_set).given) (first_offset program.expression) states
-  pub places_are : places (program_steps text program inputs (written columns)) ≡ places (program_steps text program inputs not_set)
+  pub print : PrintsAtTheEnd (type_of_wires (program_plan text program inputs unset_cells).given) (first_offset program.expression) states
+  pub places_are : places (program_steps text program inputs (written columns)) ≡ places (program_steps text program inputs unset_cells)

@@ -7,9 +7,9 @@ ghost use Rattle.flow_nodes.specs.StreamNodes.{node_behaviour};
 ghost use Rattle.flow_graph.specs.Limits.{most_nodes, most_edges};
 ghost use Rattle.flow_plans.specs.Layouts.{layout, edges_needed, IsNetworkOf};
 ghost use Rattle.flow_assembly.specs.Openings.{AllOpen};
-ghost use Rattle.snesl_translation.specs.Programs.{not_set};
+ghost use Rattle.snesl_translation.specs.Programs.{unset_cells};
 ghost use Rattle.snesl_flatten.specs.Networks.{program_steps};
-ghost use Rattle.snesl_flatten.specs.PlanViews.{planned, plan_states, plan_edges, HoldsNetwork};
+ghost use Rattle.snesl_flatten.specs.PlanViews.{plan_typed, plan_states, plan_edges, HoldsNetwork};
 
 use crate::plan::Plan;
 use crate::steps::steps_of_program;
@@ -30,19 +30,19 @@ use std::alloc::Global;
 /// - `TooBig`: the network has more than 4,096 nodes or 16,384 edges.
 /// - `NoMemory`: memory was refused.
 pub fn flatten<'a>(alloc: Global, typed: &'a Typed<'a>) -> Result<Plan<'a>, Refusal>
-    ensures program { IfOk result (λ plan. planned plan ≡ typed.now) }
+    ensures program { IfOk result (λ plan. plan_typed plan ≡ typed.now) }
     ensures holds { IfOk result (λ plan. HoldsNetwork plan) }
     ensures network { IfOk result (λ plan. IsNetworkOf node_behaviour
         (program_steps (typed_text typed.now) (typed_tree typed.now)
-        (typed_inputs typed.now) not_set) (plan_states plan) (plan_edges plan)) }
+        (typed_inputs typed.now) unset_cells) (plan_states plan) (plan_edges plan)) }
     ensures opens { IfOk result (λ plan. AllOpen
         (layout (program_steps (typed_text typed.now) (typed_tree typed.now)
-        (typed_inputs typed.now) not_set)) (plan_states plan)) }
+        (typed_inputs typed.now) unset_cells)) (plan_states plan)) }
     ensures big { let nodes = layout (program_steps (typed_text typed.now) (typed_tree typed.now)
-        (typed_inputs typed.now) not_set) in
+        (typed_inputs typed.now) unset_cells) in
         (result ≡ Err TooBig → (most_nodes < length nodes) ⊎ (most_edges < edges_needed nodes)) }
     ensures few { let nodes = layout (program_steps (typed_text typed.now) (typed_tree typed.now)
-        (typed_inputs typed.now) not_set) in
+        (typed_inputs typed.now) unset_cells) in
         IfOk result (λ _. (length nodes ≤ most_nodes) × (edges_needed nodes ≤ most_edges)) }
     ensures memory { IfErr result (λ refusal. (refusal ≡ TooBig) ⊎ (refusal ≡ NoMemory)) }
 {

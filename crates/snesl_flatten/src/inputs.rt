@@ -9,7 +9,7 @@ ghost use Rattle.snesl_values.specs.Inputs.{declarations_of, declared, environme
 ghost use Rattle.snesl_values.specs.Places.{value_at};
 ghost use Rattle.flow_values.specs.Shapes.{kinds_of};
 ghost use Rattle.flow_values.specs.Flats.{width};
-ghost use Rattle.flow_rows.specs.Made.{laid};
+ghost use Rattle.flow_rows.specs.Made.{columns_of_values};
 ghost use Rattle.snesl_translation.specs.Programs.{columns_of};
 ghost use Rattle.snesl_flatten.specs.Sources.{all_kinds, cells_in, kind_in, AreFresh};
 
@@ -58,7 +58,7 @@ fn add_sources(
     requires fresh { AreFresh sources.old.items }
     ensures fresh { OnOk result (AreFresh sources.new.items) }
     ensures cells { OnOk result (map cells_in sources.new.items ≡ map cells_in sources.old.items ++
-        laid (ty_of ty.now) (value_at (arc_value text.now).items place ∷ [])) }
+        columns_of_values (ty_of ty.now) (value_at (arc_value text.now).items place ∷ [])) }
     ensures kinds { OnOk result (map kind_in sources.new.items ≡ map kind_in sources.old.items ++
         kinds_of (ty_of ty.now)) }
 {

@@ -10,7 +10,7 @@ ghost use Rattle.flow_plans.specs.Layouts.{layout, places, IsNetworkOf};
 ghost use Rattle.flow_assembly.specs.Openings.{AllOpen};
 ghost use Rattle.snesl_translation.specs.Programs.{cells_of, columns_of};
 ghost use Rattle.snesl_flatten.specs.Networks.{program_steps, NetworkMeans};
-ghost use Rattle.snesl_flatten.specs.PlanViews.{planned, plan_states, plan_edges, steps_planned, HoldsNetwork, AreButSources};
+ghost use Rattle.snesl_flatten.specs.PlanViews.{plan_typed, plan_states, plan_edges, plan_steps, HoldsNetwork, AreButSources};
 ghost use Rattle.snesl_flatten.specs.Sources.{all_kinds, cells_in, kind_in, AreFresh, HasSources};
 
 use crate::inputs::sources_of_inputs;
@@ -38,8 +38,8 @@ pub struct Plan<'a> {
 impl<'a> Plan<'a> {
     /// Whether the inputs were read for the program of the plan: in its dialect and for its declared inputs.
     pub fn fits(&self, inputs: &Inputs) -> bool
-        ensures { IsTrue result ↔ ((dialect_of inputs.now ≡ typed_dialect (planned self.now)) ×
-            (declarations_of inputs.now ≡ typed_inputs (planned self.now))) }
+        ensures { IsTrue result ↔ ((dialect_of inputs.now ≡ typed_dialect (plan_typed self.now)) ×
+            (declarations_of inputs.now ≡ typed_inputs (plan_typed self.now))) }
     {
         self.typed.fits(inputs)
     }
@@ -55,23 +55,23 @@ impl<'a> Plan<'a> {
     /// `AllocError` where memory is refused.
     pub fn with(self, inputs: Inputs) -> Result<Graph<StreamNode>, AllocError>
         requires holds { HoldsNetwork self }
-        requires in_dialect { dialect_of inputs ≡ typed_dialect (planned self) }
-        requires fits { declarations_of inputs ≡ typed_inputs (planned self) }
+        requires in_dialect { dialect_of inputs ≡ typed_dialect (plan_typed self) }
+        requires fits { declarations_of inputs ≡ typed_inputs (plan_typed self) }
         ensures network { IfOk result (λ graph. IsNetworkOf node_behaviour
-            (program_steps (typed_text (planned self.entry)) (typed_tree (planned self.entry))
-            (typed_inputs (planned self.entry))
-            (cells_of (typed_inputs (planned self.entry)) (environment_of inputs)))
+            (program_steps (typed_text (plan_typed self.entry)) (typed_tree (plan_typed self.entry))
+            (typed_inputs (plan_typed self.entry))
+            (cells_of (typed_inputs (plan_typed self.entry)) (environment_of inputs)))
             (states_of graph) (edges_of graph)) }
         ensures opens { IfOk result (λ graph. AllOpen
-            (layout (program_steps (typed_text (planned self.entry))
-            (typed_tree (planned self.entry)) (typed_inputs (planned self.entry))
-            (cells_of (typed_inputs (planned self.entry)) (environment_of inputs))))
+            (layout (program_steps (typed_text (plan_typed self.entry))
+            (typed_tree (plan_typed self.entry)) (typed_inputs (plan_typed self.entry))
+            (cells_of (typed_inputs (plan_typed self.entry)) (environment_of inputs))))
             (states_of graph)) }
         ensures opened { IfOk result (λ graph. AreOpened node_behaviour (states_of graph)) }
         ensures edges { IfOk result (λ graph. edges_of graph ≡ plan_edges self.entry) }
         ensures others { IfOk result (λ graph. AreButSources self.entry (states_of graph)) }
-        ensures means { IfOk result (λ graph. NetworkMeans (typed_text (planned self.entry))
-            (typed_tree (planned self.entry)) (environment_of inputs) (states_of graph)
+        ensures means { IfOk result (λ graph. NetworkMeans (typed_text (plan_typed self.entry))
+            (typed_tree (plan_typed self.entry)) (environment_of inputs) (states_of graph)
             (edges_of graph)) }
     {
         let mut plan = self;
@@ -84,16 +84,17 @@ impl<'a> Plan<'a> {
     // Puts these sources in place of those of the inputs, in order. Those are the steps behind the first one, the source of the
     // control stream.
     fn set_sources(&mut self, sources: Vec<TextSource>)
-        requires sources { HasSources (typed_text (planned self.old))
-            (typed_tree (planned self.old)) (typed_inputs (planned self.old)) []
+        requires sources { HasSources (typed_text (plan_typed self.old))
+            (typed_tree (plan_typed self.old)) (typed_inputs (plan_typed self.old)) []
             (plan_states self.old) (plan_edges self.old) }
-        requires places { self.old.places.items ≡ places (steps_planned self.old) }
+        requires places { self.old.places.items ≡ places (plan_steps self.old) }
         requires fresh { AreFresh sources.items }
-        requires kinds { map kind_in sources.items ≡ all_kinds (typed_inputs (planned self.old)) }
-        ensures typed { planned self.new ≡ planned self.old }
-        ensures sources { HasSources (typed_text (planned self.old)) (typed_tree (planned self.old))
-            (typed_inputs (planned self.old)) (map cells_in sources.items) (plan_states self.new)
-            (plan_edges self.new) }
+        requires kinds { map kind_in sources.items ≡ all_kinds
+            (typed_inputs (plan_typed self.old)) }
+        ensures typed { plan_typed self.new ≡ plan_typed self.old }
+        ensures sources { HasSources (typed_text (plan_typed self.old))
+            (typed_tree (plan_typed self.old)) (typed_inputs (plan_typed self.old))
+            (map cells_in sources.items) (plan_states self.new) (plan_edges self.new) }
         ensures edges { plan_edges self.new ≡ plan_edges self.old }
         ensures others { AreButSources self.old (plan_states self.new) }
     {
@@ -109,13 +110,13 @@ impl<'a> Plan<'a> {
 
     // A law and no code to run: what the network means once the sources hold the values of these inputs.
     fn has_meaning(&self, inputs: &Inputs)
-        requires in_dialect { dialect_of inputs.now ≡ typed_dialect (planned self.now) }
-        requires fits { declarations_of inputs.now ≡ typed_inputs (planned self.now) }
-        requires sources { HasSources (typed_text (planned self.now))
-            (typed_tree (planned self.now)) (typed_inputs (planned self.now))
-            (columns_of (typed_inputs (planned self.now)) (environment_of inputs.now))
+        requires in_dialect { dialect_of inputs.now ≡ typed_dialect (plan_typed self.now) }
+        requires fits { declarations_of inputs.now ≡ typed_inputs (plan_typed self.now) }
+        requires sources { HasSources (typed_text (plan_typed self.now))
+            (typed_tree (plan_typed self.now)) (typed_inputs (plan_typed self.now))
+            (columns_of (typed_inputs (plan_typed self.now)) (environment_of inputs.now))
             (plan_states self.now) (plan_edges self.now) }
-        ensures { NetworkMeans (typed_text (planned self.now)) (typed_tree (planned self.now))
+        ensures { NetworkMeans (typed_text (plan_typed self.now)) (typed_tree (plan_typed self.now))
             (environment_of inputs.now) (plan_states self.now) (plan_edges self.now) }
     {
         inputs_fit(inputs);

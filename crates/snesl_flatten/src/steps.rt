@@ -7,7 +7,7 @@ ghost use Rattle.snesl_tree.specs.View.{tree_of};
 ghost use Rattle.snesl_types.specs.Typed.{typed_dialect, typed_inputs, typed_text, typed_tree};
 ghost use Rattle.flow_graph.specs.Limits.{most_nodes};
 ghost use Rattle.flow_plans.specs.Views.{steps_of};
-ghost use Rattle.snesl_translation.specs.Programs.{inputs_sourced, program_plan, not_set};
+ghost use Rattle.snesl_translation.specs.Programs.{inputs_sourced, program_plan, unset_cells};
 ghost use Rattle.snesl_steps.specs.Views.{bindings_of, dialect_of_steps, next_in, wires_of};
 ghost use Rattle.snesl_steps.specs.Added.{Adds};
 ghost use Rattle.snesl_flatten.specs.Networks.{program_steps};
@@ -18,7 +18,7 @@ use flow_plans::{Operation, Step};
 use snesl_data::{Refusal, Ty};
 use snesl_scopes::Scope;
 use snesl_steps::{Binding, Steps, Wires};
-use snesl_translator::{Setting, translate};
+use snesl_translator::{ProgramContext, translate};
 use snesl_tree::Expr;
 use snesl_types::Typed;
 use std::alloc::Global;
@@ -27,10 +27,10 @@ use std::alloc::Global;
 pub(crate) fn steps_of_program(alloc: Global, typed: &Typed<'_>) -> Result<Vec<Step>, Refusal>
     ensures steps { IfOk result (λ steps. steps_of (typed_dialect typed.now) steps.items ≡
         program_steps (typed_text typed.now) (typed_tree typed.now)
-        (typed_inputs typed.now) not_set) }
+        (typed_inputs typed.now) unset_cells) }
     ensures big { result ≡ Err TooBig → most_nodes <
         length (program_steps (typed_text typed.now) (typed_tree typed.now)
-        (typed_inputs typed.now) not_set) }
+        (typed_inputs typed.now) unset_cells) }
     ensures memory { IfErr result (λ refusal. (refusal ≡ TooBig) ⊎ (refusal ≡ NoMemory)) }
 {
     let mut steps = Steps::new(alloc, typed.dialect());
@@ -44,17 +44,17 @@ fn add_program(steps: &mut Steps, typed: &Typed<'_>) -> Result<Wires, Refusal>
     requires next { next_in steps.old ≡ 0 }
     ensures { Adds wires_of steps.old steps.new
         (program_plan (typed_text typed.now) (typed_tree typed.now)
-        (typed_inputs typed.now) not_set) result }
+        (typed_inputs typed.now) unset_cells) result }
 {
     let program = typed.program();
     let at = first_offset(&program.expr);
     let control = steps.control(at)?;
     let inputs = bind_inputs(steps, at, typed.decls())?;
-    let setting = Setting {
+    let context = ProgramContext {
         text: &program.text,
         functions: &program.declarations,
     };
-    let wires = print_value(steps, at, &setting, &program.expr, &inputs, control)?;
+    let wires = print_value(steps, at, &context, &program.expr, &inputs, control)?;
     Ok(wires)
 }
 
@@ -65,7 +65,7 @@ fn bind_inputs<'a>(
     declarations: &'a [(Vec<u8>, Ty)],
 ) -> Result<Vec<Binding<'a>>, Refusal>
     ensures { Adds (λ bindings. bindings_of bindings.items) steps.old steps.new
-        (inputs_sourced at not_set (declared declarations.now) (next_in steps.old)) result }
+        (inputs_sourced at unset_cells (declared declarations.now) (next_in steps.old)) result }
 {
     let mut bindings = Vec::new(steps.alloc());
     for declaration in declarations {
@@ -80,18 +80,18 @@ fn bind_inputs<'a>(
 fn print_value(
     steps: &mut Steps,
     at: usize,
-    setting: &Setting<'_>,
+    context: &ProgramContext<'_>,
     expr: &Expr,
     inputs: &[Binding<'_>],
     control: usize,
 ) -> Result<Wires, Refusal>
     ensures { Adds wires_of steps.old steps.new
-        (printed steps.old at setting.now (tree_of expr.now)
+        (printed steps.old at context.now (tree_of expr.now)
         (bindings_of inputs.now) control) result }
 {
     let nothing = Scope::Nothing;
     let scope = Scope::Frame(inputs, &nothing);
-    let wires = translate(steps, setting, expr, &scope, control)?;
+    let wires = translate(steps, context, expr, &scope, control)?;
     let ty = wires.ty(steps.alloc())?;
     let numbers = wires.numbers(steps.alloc())?;
     steps.test(at, Operation::Print(ty), numbers)?;

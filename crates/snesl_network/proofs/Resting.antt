@@ -29,7 +29,7 @@ use Rattle.flow_drive.specs.Configs.{IsLawful, IsInSteps}
 use Rattle.flow_drive.specs.Drives.{EndsMaximalRun, IsSoundAt, RestsAt}
 use Rattle.flow_drive.specs.Texts.{last_text}
 use Rattle.snesl_flatten.specs.Networks.{NodeState}
-use Rattle.snesl_network.specs.NodesAtRest.{Rest}
+use Rattle.snesl_network.specs.NodesAtRest.{FinalView}
 use Rattle.snesl_network.specs.Driven.{HaveEnded, IsNamed, CameToRest}
 use Rattle.snesl_network.specs.Meant.{IsMeantFor}
 
@@ -51,7 +51,7 @@ module _ (text input : List ℕ) (states : List NodeState) (edges : List Edge) (
       by_answer (faults kind at) is =
           let same : has_fault kind at ≡ has_value v = one text input (has_fault kind at) (has_value v) (means_as (faults kind at) is) has in absurd (cc)
 
-  module _ (config : Config) (rest : Rest NodeState) (same : IsSameNetwork node_behaviour states edges rest.states rest.edges) (capacity_is : rest.capacity ≡ config.capacity)
+  module _ (config : Config) (rest : FinalView NodeState) (same : IsSameNetwork node_behaviour states edges rest.states rest.edges) (capacity_is : rest.capacity ≡ config.capacity)
       (sound : IsSoundAt node_behaviour rest.states rest.edges rest.traffic) (rests : RestsAt node_behaviour rest.states rest.edges rest.capacity rest.traffic)
       (begun : FlowIsBegun node_behaviour states edges) (never_stalls : FlowNeverStalls node_behaviour states edges) where
     abbrev P : Process NodeState Signal

@@ -25,32 +25,32 @@ use Rattle.flow_graph.specs.Flows.{IsLawfulFlow}
 use Rattle.flow_graph.specs.Shapes.{IsSameNetwork}
 use Rattle.flow_plans.specs.Layouts.{layout, edges_needed, IsNetworkOf}
 use Rattle.flow_assembly.specs.Openings.{AllOpen}
-use Rattle.snesl_translation.specs.Programs.{cells_of, not_set}
+use Rattle.snesl_translation.specs.Programs.{cells_of, unset_cells}
 use Rattle.flow_drive.specs.declared.config.Config.{Config}
 use Rattle.flow_drive.specs.Configs.{IsLawful, StartsThreads, IsInSteps}
 use Rattle.flow_drive.specs.Drives.{EndsMaximalRun, IsSoundAt, RestsAt}
 use Rattle.flow_drive.specs.Texts.{last_text}
 use Rattle.snesl_flatten.specs.Networks.{NodeState, program_steps}
-use Rattle.snesl_network.specs.NodesAtRest.{Rest}
+use Rattle.snesl_network.specs.NodesAtRest.{FinalView}
 
 -- all nodes that rest have ended
-abbrev pub HaveEnded : Rest NodeState → Type 0
+abbrev pub HaveEnded : FinalView NodeState → Type 0
 HaveEnded rest = AllEnded node_behaviour.process (network_of node_behaviour rest.states rest.edges) (configuration_of node_behaviour rest.states rest.traffic)
 
 -- this fault is the one that is named of all to which nodes have come
-abbrev pub IsNamed : Rest NodeState → Fault → Type 0
+abbrev pub IsNamed : FinalView NodeState → Fault → Type 0
 IsNamed rest f = NamesFault node_behaviour.process (network_of node_behaviour rest.states rest.edges) (configuration_of node_behaviour rest.states rest.traffic) f
 
 -- the network of a program of these inputs has no more nodes and edges than a graph may have
 abbrev pub IsWithinLimits : List ℕ → ProgramTree → List Declaration → Type 0
 IsWithinLimits text program inputs =
-    let nodes = layout (program_steps text program inputs not_set) in
+    let nodes = layout (program_steps text program inputs unset_cells) in
     (length nodes ≤ most_nodes) × (edges_needed nodes ≤ most_edges)
 
 -- or it has more
 abbrev pub IsBeyondLimits : List ℕ → ProgramTree → List Declaration → Type 0
 IsBeyondLimits text program inputs =
-    let nodes = layout (program_steps text program inputs not_set) in
+    let nodes = layout (program_steps text program inputs unset_cells) in
     (most_nodes < length nodes) ⊎ (most_edges < edges_needed nodes)
 
 module _ (text input : List ℕ) where
@@ -92,7 +92,7 @@ module _ (text input : List ℕ) where
 
   -- What rests is the network of the program with its input, driven as the configuration says until no node can step; and how
   -- it came out is the program's value, or a fault where the program has one.
-  pub record CameToRest (config : Config) (rest : Rest NodeState) : Type 0 where
+  pub record CameToRest (config : Config) (rest : FinalView NodeState) : Type 0 where
     pub lawful : IsLawful config
     -- the network at its start, which a graph may have
     pub states : List NodeState

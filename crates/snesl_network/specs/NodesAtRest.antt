@@ -7,11 +7,11 @@ use Rattle.flow_drive.specs.declared.rested.Rested.{Rested}
 use Rattle.flow_drive.specs.Resteds.{rested_states, rested_edges, rested_capacity, traffic_of}
 
 -- The states of the nodes, their edges, what was sent and received on these, and how much each may hold.
-pub record Rest (S : Type 0) : Type 0 where
+pub record FinalView (S : Type 0) : Type 0 where
   pub states : List S
   pub edges : List Edge
   pub traffic : View
   pub capacity : ℕ
 
-abbrev pub rest_of : {X : Type 0} {t : Ghosts X} → Rested X t → Rest t.State
-rest_of rested = record { states = rested_states rested; edges = rested_edges rested; traffic = traffic_of rested; capacity = rested_capacity rested }
+abbrev pub final_view : {X : Type 0} {t : Ghosts X} → Rested X t → FinalView t.State
+final_view rested = record { states = rested_states rested; edges = rested_edges rested; traffic = traffic_of rested; capacity = rested_capacity rested }

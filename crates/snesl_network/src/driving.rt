@@ -8,7 +8,7 @@ ghost use Rattle.flow_graph.specs.Networks.{AreOpened};
 ghost use Rattle.flow_drive.specs.Configs.{IsLawful};
 ghost use Rattle.snesl_network.specs.Driven.{CameToRest, WasRefused};
 ghost use Rattle.snesl_network.specs.Meant.{IsMeantFor, HasNoNetwork};
-ghost use Rattle.snesl_network.specs.NodesAtRest.{rest_of};
+ghost use Rattle.snesl_network.specs.NodesAtRest.{final_view};
 ghost use Rattle.snesl_network.specs.WhichDrive.{WasDrivenBy};
 
 use flow_drive::{
@@ -48,7 +48,7 @@ pub fn drive_program<R: Threads, G: Gate + Send + Sync + Drop + 'static>(
     gate: Arc<G, Global>,
 ) -> Result<Rested<StreamNode>, Refusal>
     ensures rests { IfOk result
-        (λ rested. CameToRest program.now input.now config.now (rest_of rested)) }
+        (λ rested. CameToRest program.now input.now config.now (final_view rested)) }
     ensures drive { IfOk result (λ rested. WasDrivenBy config.now.drive rested) }
     ensures refused { IfErr result (WasRefused program.now input.now config.now) }
     ensures config { (IsLawful config.now → ⊥) → result ≡ Err BadConfig }
@@ -67,7 +67,7 @@ pub fn drive_program_with<R: Threads, G: Gate + Send + Sync + Drop + 'static, S:
     start: &mut S,
 ) -> Result<Rested<StreamNode>, Refusal>
     ensures rests { IfOk result
-        (λ rested. CameToRest program.now input.now config.now (rest_of rested)) }
+        (λ rested. CameToRest program.now input.now config.now (final_view rested)) }
     ensures drive { IfOk result (λ rested. WasDrivenBy config.now.drive rested) }
     ensures refused { IfErr result (WasRefused program.now input.now config.now) }
     ensures config { (IsLawful config.now → ⊥) → result ≡ Err BadConfig }
@@ -108,7 +108,7 @@ fn driven<R: Threads, G: Gate + Send + Sync + Drop + 'static, S: Start>(
     requires opened { AreOpened node_behaviour (states_of graph) }
     ensures rests { (text input : List ℕ)
         → IsMeantFor text input (states_of graph) (edges_of graph)
-        → IfOk result (λ rested. CameToRest text input config.now (rest_of rested)) }
+        → IfOk result (λ rested. CameToRest text input config.now (final_view rested)) }
     ensures drive { IfOk result (λ rested. WasDrivenBy config.now.drive rested) }
     ensures refused { (text input : List ℕ)
         → IsMeantFor text input (states_of graph) (edges_of graph)

@@ -50,20 +50,20 @@ and_then (Ok x) next = next x
 and_then (Err kind) next = Err kind
 
 -- what the elements so far and others after them reduce to
-abbrev pub reduced_from : Dialect → Reduction → Option Scalar → List Scalar → Result Scalar FaultKind
-reduced_from dialect reduction so_far [] = reduced_all so_far
-reduced_from dialect reduction so_far (x ∷ xs) = and_then (reduced_more dialect reduction so_far x) (λ more. reduced_from dialect reduction more xs)
+abbrev pub reduction_from : Dialect → Reduction → Option Scalar → List Scalar → Result Scalar FaultKind
+reduction_from dialect reduction so_far [] = reduced_all so_far
+reduction_from dialect reduction so_far (x ∷ xs) = and_then (reduced_more dialect reduction so_far x) (λ more. reduction_from dialect reduction more xs)
 
 -- what the elements reduce to
-abbrev pub reduced : Dialect → Reduction → List Scalar → Result Scalar FaultKind
-reduced dialect reduction xs = reduced_from dialect reduction (reduced_nothing reduction) xs
+abbrev pub reduction_of : Dialect → Reduction → List Scalar → Result Scalar FaultKind
+reduction_of dialect reduction xs = reduction_from dialect reduction (reduced_nothing reduction) xs
 
 -- at each element the sum of those before it, after a sum so far; each sum that is given lies in the range
-abbrev pub scanned_from : Dialect → ℤ → List ℤ → Result (List ℤ) FaultKind
-scanned_from dialect so_far [] = Ok []
-scanned_from dialect so_far (x ∷ []) = Ok (so_far ∷ [])
-scanned_from dialect so_far (x ∷ y ∷ xs) = and_then (ranged dialect (so_far +ℤ x)) (λ sum. and_then (scanned_from dialect sum (y ∷ xs)) (λ sums. Ok (so_far ∷ sums)))
+abbrev pub scan_from : Dialect → ℤ → List ℤ → Result (List ℤ) FaultKind
+scan_from dialect so_far [] = Ok []
+scan_from dialect so_far (x ∷ []) = Ok (so_far ∷ [])
+scan_from dialect so_far (x ∷ y ∷ xs) = and_then (ranged dialect (so_far +ℤ x)) (λ sum. and_then (scan_from dialect sum (y ∷ xs)) (λ sums. Ok (so_far ∷ sums)))
 
 -- at each element the sum of those before it
-abbrev pub scanned : Dialect → List ℤ → Result (List ℤ) FaultKind
-scanned dialect xs = scanned_from dialect (pos 0) xs
+abbrev pub scan_of : Dialect → List ℤ → Result (List ℤ) FaultKind
+scan_of dialect xs = scan_from dialect (pos 0) xs

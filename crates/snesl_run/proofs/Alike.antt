@@ -5,21 +5,21 @@ use Rattle.flow_drive.specs.Drives.{ComesOut, EndsMaximalRun}
 use Rattle.flow_graph.specs.declared.edge.Edge.{Edge}
 use Rattle.flow_nodes.specs.StreamNodes.{node_behaviour}
 use Rattle.kahn.specs.declared.outcome.Outcome.{Outcome}
-use Rattle.snesl_network.specs.NodesAtRest.{Rest}
+use Rattle.snesl_network.specs.NodesAtRest.{FinalView}
 use Rattle.snesl_network.specs.OneNetwork.{HaveOneNetwork}
 use Rattle.snesl_flatten.specs.Networks.{NodeState}
 use Rattle.snesl_run.specs.Alike.{HaveOneOutcome}
-use Rattle.snesl_run.specs.Runs.{CameOut, outcome_of, rest_in}
+use Rattle.snesl_run.specs.Runs.{CameOut, outcome_of, view_in_report}
 
 -- how nodes came out, said of the network at its start and of the capacity
-came_out_at : (rest : Rest NodeState) (edges : List Edge) (capacity : ℕ) (outcome : Outcome) → rest.edges ≡ edges → rest.capacity ≡ capacity
+came_out_at : (rest : FinalView NodeState) (edges : List Edge) (capacity : ℕ) (outcome : Outcome) → rest.edges ≡ edges → rest.capacity ≡ capacity
     → CameOut rest outcome → ComesOut node_behaviour rest.states edges capacity rest.traffic outcome
 came_out_at rest edges capacity outcome same size came =
     subst (λ e. ComesOut node_behaviour rest.states e capacity rest.traffic outcome) same
     (subst (λ n. ComesOut node_behaviour rest.states rest.edges n rest.traffic outcome) size came)
 
 -- a run of the network, said of one that is the same
-run_at : (rest : Rest NodeState) (states others : List NodeState) (edges more : List Edge) (capacity size : ℕ) → states ≡ others → edges ≡ more → size ≡ capacity
+run_at : (rest : FinalView NodeState) (states others : List NodeState) (edges more : List Edge) (capacity size : ℕ) → states ≡ others → edges ≡ more → size ≡ capacity
     → EndsMaximalRun node_behaviour size others more rest.states rest.traffic → EndsMaximalRun node_behaviour capacity states edges rest.states rest.traffic
 run_at rest states others edges more capacity size same joined fits run =
     subst (λ l. EndsMaximalRun node_behaviour capacity l edges rest.states rest.traffic) (sym same)
@@ -30,8 +30,8 @@ pub one_outcome : HaveOneNetwork → RunsRestAlike node_behaviour → HaveOneOut
 one_outcome networks alike program input config report reported steps other_config other size other_steps told =
     let one = reported.came in
     let two = told.came in
-    let rest = rest_in report in
-    let last = rest_in other in
+    let rest = view_in_report report in
+    let last = view_in_report other in
     let same = networks program input one.states two.states one.edges two.edges one.start two.start in
     let run = run_at last one.states two.states one.edges two.edges config.capacity other_config.capacity same.0 same.1 size (two.run other_steps) in
     let a = alike config.capacity one.states one.edges one.start.joined rest.states last.states rest.traffic last.traffic

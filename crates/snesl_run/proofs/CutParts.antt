@@ -6,7 +6,7 @@ use Rattle.flow_drive.specs.declared.config.Config.{Config}
 use Rattle.snesl_console.specs.Job.{IsJob}
 use Rattle.snesl_console.specs.Parts.{AreParts, most_of_program}
 use Rattle.snesl_console.specs.Reads.{HoldsOfJob}
-use Rattle.snesl_console.specs.Streams.{Given, Taken}
+use Rattle.snesl_console.specs.Streams.{ReadEffect, WriteEffect}
 use Rattle.snesl_console.proofs.Jobs.{one_job}
 use Rattle.snesl_console.proofs.Parts.{AreFitting, AreTooLong, kinds}
 use Rattle.snesl_grammar.specs.Limits.{greatest_length}
@@ -109,7 +109,7 @@ not_accepted answers inputs program input part rest (inr long) accepted =
     accepted.inputs (input_too_long long.2) in
     cc
 
-module _ (answers : HaveOneAnswer) (inputs : OneInputMeaning) (config : Config) (out err : Taken) where
+module _ (answers : HaveOneAnswer) (inputs : OneInputMeaning) (config : Config) (out err : WriteEffect) where
   -- so a refusal of the parts is one of the job
   refused_whole : (program input part rest : List ℕ) → ¬ IsAccepted part rest → ((m : Meaning) → Means part rest m → Means program input m)
       → (refusal : Refusal) → WasRefused part rest config refusal → WasRefused program input config refusal
@@ -153,7 +153,7 @@ module _ (answers : HaveOneAnswer) (inputs : OneInputMeaning) (config : Config) 
       (k.0, k.1, k.2, printed_whole k.0 k.1 part rest status (cut_so part rest k.0 k.1 k.3) h)
 
   -- so it is the answer of each job that begins with what was read
-  pub printed_jobs : (reader : Given) (read part rest : List ℕ) (status : ℕ) → PrintedFor config part rest out err status
+  pub printed_jobs : (reader : ReadEffect) (read part rest : List ℕ) (status : ℕ) → PrintedFor config part rest out err status
       → HoldsOfJob reader read (λ job. AreParts job part rest) → HoldsOfJob reader read (λ job. Printed config job out err status)
   printed_jobs reader read part rest status h (inl at_end) = inl (at_end.0, printed_job read part rest status h at_end.1)
   printed_jobs reader read part rest status h (inr begins) = inr (λ more. printed_job (read ++ more) part rest status h (begins more))

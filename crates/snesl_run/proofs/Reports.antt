@@ -11,12 +11,12 @@ use Rattle.flow_drive.specs.declared.config.Config.{Config}
 use Rattle.flow_drive.specs.Texts.{last_text}
 use Rattle.snesl_meaning.specs.Meaning.{Means, has_value}
 use Rattle.snesl_network.specs.Driven.{WasRefused}
-use Rattle.snesl_run.specs.Runs.{rest_in, outcome_of, refusal_of, value_line, CameOut, WroteFor, HasWritten, IsReported, IsCutShort, HasError, IsErrorOf, IsRefusedWith}
-use Rattle.snesl_console.specs.Streams.{Taken, IsWhole, IsCutOff, HasSent}
+use Rattle.snesl_run.specs.Runs.{view_in_report, outcome_of, refusal_of, value_line, CameOut, WroteFor, HasWritten, IsReported, IsCutShort, HasError, IsErrorOf, IsRefusedWith}
+use Rattle.snesl_console.specs.Streams.{WriteEffect, IsWhole, IsCutOff, HasSent}
 use Rattle.snesl_run.specs.declared.report.Report.{Report}
 use Rattle.snesl_run.specs.declared.report.RunError.{RunError}
 
-module _ (program input : List ℕ) (config : Config) (out : Taken) where
+module _ (program input : List ℕ) (config : Config) (out : WriteEffect) where
   refused_untouched : (refusal : Refusal) → WasRefused program input config refusal → out.nothing → HasError program input config out refusal
   refused_untouched NoMemory was untouched = untouched
   refused_untouched Output was untouched = absurd was
@@ -30,15 +30,15 @@ module _ (program input : List ℕ) (config : Config) (out : Taken) where
 
 module _ (program input : List ℕ) (config : Config) (report : Report) (reported : IsReported program input config report) where
   -- where all nodes have ended, the line of the text is that of the program's value
-  line_is : (printed line : List ℕ) → outcome_of report ≡ Ended → printed ≡ last_text text_in (rest_in report).states → line ≡ printed ++ 10 ∷ []
+  line_is : (printed line : List ℕ) → outcome_of report ≡ Ended → printed ≡ last_text text_in (view_in_report report).states → line ≡ printed ++ 10 ∷ []
       → (v : Value) × Means program input (has_value v) × (line ≡ value_line v)
   line_is printed line is told made =
-      let h = reported.came.value (subst (CameOut (rest_in report)) is reported.outcome) in
+      let h = reported.came.value (subst (CameOut (view_in_report report)) is reported.outcome) in
       (h.0, h.1, made ∙ ap (λ l. l ++ 10 ∷ []) (told ∙ h.2))
 
-  module _ (out : Taken) where
+  module _ (out : WriteEffect) where
     -- which was cut off
-    pub line_cut_off : (printed line : List ℕ) (all : Bool) → outcome_of report ≡ Ended → printed ≡ last_text text_in (rest_in report).states
+    pub line_cut_off : (printed line : List ℕ) (all : Bool) → outcome_of report ≡ Ended → printed ≡ last_text text_in (view_in_report report).states
         → line ≡ printed ++ 10 ∷ [] → HasSent out line all → all ≡ false → IsCutShort program input config out
     line_cut_off printed line all is told made sent none =
         let h = line_is printed line is told made in
@@ -52,7 +52,7 @@ module _ (program input : List ℕ) (config : Config) (report : Report) (reporte
         }
 
     -- or written whole
-    pub line_written : (printed line : List ℕ) (all : Bool) → outcome_of report ≡ Ended → printed ≡ last_text text_in (rest_in report).states
+    pub line_written : (printed line : List ℕ) (all : Bool) → outcome_of report ≡ Ended → printed ≡ last_text text_in (view_in_report report).states
         → line ≡ printed ++ 10 ∷ [] → HasSent out line all → all ≡ true → HasWritten program input out report
     line_written printed line all is told made sent whole =
         let h = line_is printed line is told made in
@@ -62,7 +62,7 @@ module _ (program input : List ℕ) (config : Config) (report : Report) (reporte
     pub nothing_written : (outcome : Outcome) → outcome_of report ≡ outcome → (outcome ≡ Ended → ⊥) → out.nothing → HasWritten program input out report
     nothing_written Ended is not untouched = absurd (not refl)
     nothing_written (Failed f) is not untouched =
-        subst (WroteFor program input out) (sym is) (reported.came.fault f (subst (CameOut (rest_in report)) is reported.outcome), untouched)
+        subst (WroteFor program input out) (sym is) (reported.came.fault f (subst (CameOut (view_in_report report)) is reported.outcome), untouched)
     nothing_written (Stalled e) is not untouched = subst (WroteFor program input out) (sym is) untouched
 
 -- where a start of a thread was refused, and not before, the run is refused for it

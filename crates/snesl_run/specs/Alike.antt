@@ -3,14 +3,14 @@ use Rattle.std.specs.Prelude.{◌≡◌, ℕ, List}
 use Rattle.flow_drive.specs.declared.config.Config.{Config}
 use Rattle.flow_drive.specs.Configs.{IsInSteps}
 use Rattle.snesl_run.specs.declared.report.Report.{Report}
-use Rattle.snesl_run.specs.Runs.{rest_in, outcome_of, IsReported}
+use Rattle.snesl_run.specs.Runs.{view_in_report, outcome_of, IsReported}
 
 -- Two reports tell the same: the outcome, how each node rests, and what went over each edge.
 pub record TellsTheSame (report other : Report) : Type 0 where
   pub outcome : outcome_of other ≡ outcome_of report
-  pub states : (rest_in other).states ≡ (rest_in report).states
-  pub sent : (e : ℕ) → (rest_in other).traffic.sent e ≡ (rest_in report).traffic.sent e
-  pub received : (e : ℕ) → (rest_in other).traffic.received e ≡ (rest_in report).traffic.received e
+  pub states : (view_in_report other).states ≡ (view_in_report report).states
+  pub sent : (e : ℕ) → (view_in_report other).traffic.sent e ≡ (view_in_report report).traffic.sent e
+  pub received : (e : ℕ) → (view_in_report other).traffic.received e ≡ (view_in_report report).traffic.received e
 
 -- however the program is driven in steps for its input at this capacity, a report tells the same
 abbrev pub ComesOutOneWay : (program input : List ℕ) → ℕ → Report → Type 0

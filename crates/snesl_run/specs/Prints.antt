@@ -11,7 +11,7 @@ use Rattle.snesl_meaning.specs.Meaning.{Means, has_value}
 use Rattle.snesl_settings.specs.Settings.{AreLawful, SaysSo}
 use Rattle.snesl_network.specs.Driven.{WasRefused}
 use Rattle.snesl_console.specs.Job.{IsJob}
-use Rattle.snesl_console.specs.Streams.{Taken, Given}
+use Rattle.snesl_console.specs.Streams.{WriteEffect, ReadEffect}
 use Rattle.snesl_console.specs.Lines.{fault_line, stalled_line, Prints, Refuses}
 use Rattle.snesl_console.specs.Reads.{IsRead, IsBrokenOff, HoldsOfJob}
 use Rattle.snesl_run.specs.declared.report.Report.{Report}
@@ -20,13 +20,13 @@ use Rattle.snesl_run.specs.Runs.{outcome_of, value_line, EndsInFault, IsReported
 -- What is printed for how a network came out, and the exit status: the program's value; a fault, which need not be that of the
 -- program, where it ends in one; or that the network has stalled. Where the line was cut off, that is said, and the status is
 -- that of a failed output.
-abbrev pub PrintsOutcome : (program input : List ℕ) → Taken → Taken → Outcome → ℕ → Type 0
+abbrev pub PrintsOutcome : (program input : List ℕ) → WriteEffect → WriteEffect → Outcome → ℕ → Type 0
 PrintsOutcome program input out err Ended status = (v : Value) × Means program input (has_value v) × Prints out err (value_line v) 0 status
 PrintsOutcome program input out err (Failed f) status = EndsInFault program input × Prints out err (fault_line f.kind f.at) 2 status
 PrintsOutcome program input out err (Stalled e) status = Prints out err stalled_line 3 status
 
 -- what is printed for a program with an input text, driven so, and the exit status
-pub data PrintedFor (config : Config) (program input : List ℕ) (out err : Taken) : ℕ → Type 0 where
+pub data PrintedFor (config : Config) (program input : List ℕ) (out err : WriteEffect) : ℕ → Type 0 where
   -- how its network came out, as a report tells
   came_out : {status : ℕ} (report : Report) → IsReported program input config report
       → PrintsOutcome program input out err (outcome_of report) status → PrintedFor config program input out err status
@@ -35,12 +35,12 @@ pub data PrintedFor (config : Config) (program input : List ℕ) (out err : Take
       → PrintedFor config program input out err status
 
 -- what is printed for a job, and the exit status: that of its program with its input text, of which nothing is cut
-abbrev pub Printed : Config → List ℕ → Taken → Taken → ℕ → Type 0
+abbrev pub Printed : Config → List ℕ → WriteEffect → WriteEffect → ℕ → Type 0
 Printed config job out err status =
     (program : List ℕ) × (input : List ℕ) × IsJob job program input × PrintedFor config program input out err status
 
 -- what becomes of a job under this configuration: what was read, written and said, and the exit status
-pub data IsJobAnswered (config : Config) (reader : Given) (out err : Taken) : ℕ → Type 0 where
+pub data IsJobAnswered (config : Config) (reader : ReadEffect) (out err : WriteEffect) : ℕ → Type 0 where
   -- what was read decides the answer of the job, which was printed
   answered : {status : ℕ} (read : List ℕ) → IsRead reader read → HoldsOfJob reader read (λ job. Printed config job out err status)
       → IsJobAnswered config reader out err status
@@ -51,7 +51,7 @@ pub data IsJobAnswered (config : Config) (reader : Given) (out err : Taken) : �
       → IsJobAnswered config reader out err status
 
 -- what the program answers where it is given these words
-pub data Answered (words : List (List ℕ)) (reader : Given) (out err : Taken) : ℕ → Type 0 where
+pub data Answered (words : List (List ℕ)) (reader : ReadEffect) (out err : WriteEffect) : ℕ → Type 0 where
   -- the words say no lawful configuration, which is said before anything is read
   words_refused : {status : ℕ} → ¬ AreLawful words → reader.nothing → Refuses out err BadConfig status → Answered words reader out err status
   -- memory was refused to the words

@@ -12,16 +12,16 @@ use Rattle.flow_drive.specs.declared.config.Config.{Config}
 use Rattle.flow_drive.specs.Drives.{ComesOut}
 use Rattle.snesl_flatten.specs.Networks.{NodeState}
 use Rattle.snesl_meaning.specs.Meaning.{Means, has_value, has_fault}
-use Rattle.snesl_network.specs.NodesAtRest.{Rest, rest_of}
+use Rattle.snesl_network.specs.NodesAtRest.{FinalView, final_view}
 use Rattle.snesl_network.specs.WhichDrive.{WasDrivenBy}
 use Rattle.snesl_network.specs.Driven.{CameToRest, WasRefused}
-use Rattle.snesl_console.specs.Streams.{Taken, IsWhole, IsCutOff}
+use Rattle.snesl_console.specs.Streams.{WriteEffect, IsWhole, IsCutOff}
 use Rattle.snesl_run.specs.declared.report.Report.{Report}
 use Rattle.snesl_run.specs.declared.report.RunError.{RunError}
 
 -- the nodes of a run, at rest
-abbrev pub rest_in : Report → Rest NodeState
-rest_in report = rest_of report.rested
+abbrev pub view_in_report : Report → FinalView NodeState
+view_in_report report = final_view report.rested
 
 -- how it came out
 abbrev pub outcome_of : Report → Outcome
@@ -36,7 +36,7 @@ abbrev pub value_line : Value → List ℕ
 value_line v = text v ++ 10 ∷ []
 
 -- nodes at rest came out so
-abbrev pub CameOut : Rest NodeState → Outcome → Type 0
+abbrev pub CameOut : FinalView NodeState → Outcome → Type 0
 CameOut rest outcome = ComesOut node_behaviour rest.states rest.edges rest.capacity rest.traffic outcome
 
 -- the program ends in a fault for the input
@@ -45,25 +45,25 @@ EndsInFault program input = (kind : FaultKind) × (at : ℕ) × Means program in
 
 -- where all nodes have ended, the line of the program's value was written; where a fault is named, the program ends in a
 -- fault, perhaps in another one, and nothing was written; where the network has stalled, nothing was written
-abbrev pub WroteFor : (program input : List ℕ) → Taken → Outcome → Type 0
+abbrev pub WroteFor : (program input : List ℕ) → WriteEffect → Outcome → Type 0
 WroteFor program input out Ended = (v : Value) × Means program input (has_value v) × IsWhole out (value_line v)
 WroteFor program input out (Failed f) = EndsInFault program input × out.nothing
 WroteFor program input out (Stalled e) = out.nothing
 
 -- and so for a report
-abbrev pub HasWritten : (program input : List ℕ) → Taken → Report → Type 0
+abbrev pub HasWritten : (program input : List ℕ) → WriteEffect → Report → Type 0
 HasWritten program input out report = WroteFor program input out (outcome_of report)
 
 -- What rests in a report: the network of the program with its input, driven by the drive of the configuration; and how it came
 -- out.
 pub record IsReported (program input : List ℕ) (config : Config) (report : Report) : Type 0 where
-  pub came : CameToRest program input config (rest_in report)
+  pub came : CameToRest program input config (view_in_report report)
   pub drive : WasDrivenBy config.drive report.rested
-  pub outcome : CameOut (rest_in report) (outcome_of report)
+  pub outcome : CameOut (view_in_report report) (outcome_of report)
 
 -- The network came to rest with all nodes ended, as this report would have told, but a failed writer has taken no more than a
 -- beginning of the value's line.
-pub record IsCutShort (program input : List ℕ) (config : Config) (out : Taken) : Type 0 where
+pub record IsCutShort (program input : List ℕ) (config : Config) (out : WriteEffect) : Type 0 where
   pub report : Report
   pub reported : IsReported program input config report
   pub ended : outcome_of report ≡ Ended
@@ -74,13 +74,13 @@ pub record IsCutShort (program input : List ℕ) (config : Config) (out : Taken)
 -- want of memory leaves the writer untouched; a failed writer has taken a beginning of the value's line; any other refusal is
 -- that of the configuration, of a thread that could not be started, or of the program and its input, and leaves the writer
 -- untouched
-abbrev pub HasError : (program input : List ℕ) → Config → Taken → Refusal → Type 0
+abbrev pub HasError : (program input : List ℕ) → Config → WriteEffect → Refusal → Type 0
 HasError program input config out NoMemory = out.nothing
 HasError program input config out Output = IsCutShort program input config out
 HasError program input config out refusal = WasRefused program input config refusal × out.nothing
 
 -- and so for the error of a run
-abbrev pub IsErrorOf : (program input : List ℕ) → Config → Taken → RunError → Type 0
+abbrev pub IsErrorOf : (program input : List ℕ) → Config → WriteEffect → RunError → Type 0
 IsErrorOf program input config out error = HasError program input config out (refusal_of error)
 
 -- it was refused, and with this refusal

@@ -2,7 +2,7 @@
 
 ghost use Rattle.std.specs.Prelude.{◌≡◌, ◌⊎◌, IfOk, IfErr, MatchResult};
 ghost use Rattle.clap.specs.Walk.{texts};
-ghost use Rattle.snesl_console.specs.Streams.{given, taken};
+ghost use Rattle.snesl_console.specs.Streams.{read_effect, write_effect};
 ghost use Rattle.snesl_console.specs.Lines.{Prints, Refuses};
 ghost use Rattle.snesl_run.specs.Prints.{Answered, IsJobAnswered, PrintedFor};
 ghost use Rattle.snesl_run.specs.Runs.{IsReported, HasWritten, IsErrorOf};
@@ -48,8 +48,8 @@ pub fn answer<R: Read, W: Write, E: Write>(
     out: &mut Counted<W>,
     err: &mut Counted<E>,
 ) -> u8
-    ensures { Answered (texts words.now) (given R.remaining job.old job.new)
-        (taken W.contents out.old out.new) (taken E.contents err.old err.new) result }
+    ensures { Answered (texts words.now) (read_effect R.remaining job.old job.new)
+        (write_effect W.contents out.old out.new) (write_effect E.contents err.old err.new) result }
 {
     match settings(alloc, words) {
         Ok(config) => answer_job(rt, alloc, &config, job, out, err),
@@ -64,8 +64,8 @@ fn refuse_words<W: Write, E: Write>(
     err: &mut Counted<E>,
 ) -> u8
     requires { (refusal ≡ BadConfig) ⊎ (refusal ≡ NoMemory) }
-    ensures { Refuses (taken W.contents out.old out.new)
-        (taken E.contents err.old err.new) refusal result }
+    ensures { Refuses (write_effect W.contents out.old out.new)
+        (write_effect E.contents err.old err.new) refusal result }
 {
     if refusal.is_of_the_system() {
         complain(refusal, err)
@@ -83,8 +83,8 @@ fn answer_job<R: Read, W: Write, E: Write>(
     out: &mut Counted<W>,
     err: &mut Counted<E>,
 ) -> u8
-    ensures { IsJobAnswered config.now (given R.remaining job.old job.new)
-        (taken W.contents out.old out.new) (taken E.contents err.old err.new) result }
+    ensures { IsJobAnswered config.now (read_effect R.remaining job.old job.new)
+        (write_effect W.contents out.old out.new) (write_effect E.contents err.old err.new) result }
 {
     one_answer();
     one_input_meaning();
@@ -105,7 +105,7 @@ fn print_answer<W: Write, E: Write>(
     err: &mut Counted<E>,
 ) -> u8
     ensures { PrintedFor config.now program.now input.now
-        (taken W.contents out.old out.new) (taken E.contents err.old err.new) result }
+        (write_effect W.contents out.old out.new) (write_effect E.contents err.old err.new) result }
 {
     match run_alone(rt, alloc, program, input, config, out) {
         Ok(report) => match report.outcome() {
@@ -135,9 +135,9 @@ fn run_alone<W: Write>(
 ) -> Result<Report, RunError>
     ensures network { IfOk result (IsReported program.now input.now config.now) }
     ensures wrote { IfOk result
-        (HasWritten program.now input.now (taken W.contents out.old out.new)) }
+        (HasWritten program.now input.now (write_effect W.contents out.old out.new)) }
     ensures refused { IfErr result
-        (IsErrorOf program.now input.now config.now (taken W.contents out.old out.new)) }
+        (IsErrorOf program.now input.now config.now (write_effect W.contents out.old out.new)) }
 {
     match Arc::new(alloc, NoGate) {
         Ok(gate) => run(rt, alloc, program, input, config, gate, out),
@@ -155,10 +155,10 @@ fn print_made<W: Write, E: Write>(
     err: &mut Counted<E>,
 ) -> u8
     ensures { MatchResult line
-        (λ line. Prints (taken W.contents out.old out.new) (taken E.contents err.old err.new)
-        line.items status result)
-        (λ _. Refuses (taken W.contents out.old out.new) (taken E.contents err.old err.new)
-        NoMemory result) }
+        (λ line. Prints (write_effect W.contents out.old out.new)
+        (write_effect E.contents err.old err.new) line.items status result)
+        (λ _. Refuses (write_effect W.contents out.old out.new)
+        (write_effect E.contents err.old err.new) NoMemory result) }
 {
     match line {
         Ok(line) => print(&line, status, out, err),

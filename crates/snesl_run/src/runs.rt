@@ -3,7 +3,7 @@
 ghost use Rattle.std.specs.Prelude.{◌≡◌, ◌++◌, ◌∷◌, ◌⊎◌, IfErr, IfOk, []};
 ghost use Rattle.snesl_data.specs.declared.refusal.Refusal.TheVariants.{BadConfig, NoMemory, NoThread};
 ghost use Rattle.flow_drive.specs.Configs.{IsLawful};
-ghost use Rattle.snesl_console.specs.Streams.{taken};
+ghost use Rattle.snesl_console.specs.Streams.{write_effect};
 ghost use Rattle.snesl_run.specs.Alike.{IsTheOneWay};
 ghost use Rattle.snesl_run.specs.Runs.{IsReported, HasWritten, IsErrorOf, IsRefusedWith};
 
@@ -52,9 +52,9 @@ pub fn run<R: Threads, W: Write, G: Gate + Send + Sync + Drop + 'static>(
 ) -> Result<Report, RunError>
     ensures network { IfOk result (IsReported program.now input.now config.now) }
     ensures wrote { IfOk result
-        (HasWritten program.now input.now (taken W.contents out.old out.new)) }
+        (HasWritten program.now input.now (write_effect W.contents out.old out.new)) }
     ensures refused { IfErr result
-        (IsErrorOf program.now input.now config.now (taken W.contents out.old out.new)) }
+        (IsErrorOf program.now input.now config.now (write_effect W.contents out.old out.new)) }
     ensures config { (IsLawful config.now → ⊥) → IsRefusedWith BadConfig result }
     ensures one { IfOk result (IsTheOneWay program.now input.now config.now) }
 {
@@ -83,9 +83,9 @@ pub fn run_with<R: Threads, W: Write, G: Gate + Send + Sync + Drop + 'static, S:
 ) -> Result<Report, RunError>
     ensures network { IfOk result (IsReported program.now input.now config.now) }
     ensures wrote { IfOk result
-        (HasWritten program.now input.now (taken W.contents out.old out.new)) }
+        (HasWritten program.now input.now (write_effect W.contents out.old out.new)) }
     ensures refused { IfErr result
-        (IsErrorOf program.now input.now config.now (taken W.contents out.old out.new)) }
+        (IsErrorOf program.now input.now config.now (write_effect W.contents out.old out.new)) }
     ensures config { (IsLawful config.now → ⊥) → IsRefusedWith BadConfig result }
     ensures one { IfOk result (IsTheOneWay program.now input.now config.now) }
     ensures start { S.refused start.new → S.refused start.old ⊎ IsRefusedWith NoThread result }

@@ -15,8 +15,8 @@ use Rattle.flow_drive.specs.Limits.{greatest_chunk}
 use Rattle.snesl_flatten.specs.Networks.{NodeState}
 use Rattle.snesl_meaning.specs.Meaning.{HaveOneMeaning, has_fault, has_value}
 use Rattle.snesl_network.specs.Driven.{CameToRest, HaveEnded, WasRefused}
-use Rattle.snesl_network.specs.NodesAtRest.{Rest}
-use Rattle.snesl_run.specs.Runs.{CameOut, outcome_of, rest_in}
+use Rattle.snesl_network.specs.NodesAtRest.{FinalView}
+use Rattle.snesl_run.specs.Runs.{CameOut, outcome_of, view_in_report}
 use Rattle.snesl_size.specs.Sizes.{EndsAtNoneBelow, FaultsSo, IsLeast, IsLeft, IsRefusedAtAll}
 use Rattle.snesl_size.specs.Staying.{EndedNetworksStay}
 use Rattle.snesl_size.proofs.Staying.{ends_alone}
@@ -30,13 +30,13 @@ module _ (program input : List ℕ) where
   pub none_below_one : EndsAtNoneBelow program input 1
   none_below_one config report steps less reported is = absurd (omega (arith, less, reported.came.lawful.capacity.some))
 
-  module _ (capacity : ℕ) (rest : Rest NodeState) (left : IsLeft program input capacity rest) where
+  module _ (capacity : ℕ) (rest : FinalView NodeState) (left : IsLeft program input capacity rest) where
     -- where a network has stalled, the program ends at no capacity up to there
     pub none_up_to : EndedNetworksStay → (e : ℕ) → CameOut rest (Stalled e) → EndsAtNoneBelow program input (capacity + 1)
     none_up_to stay e so config report steps less reported is =
-        let ended : HaveEnded (rest_in report) = subst (CameOut (rest_in report)) is reported.outcome in
+        let ended : HaveEnded (view_in_report report) = subst (CameOut (view_in_report report)) is reported.outcome in
         let few : config.capacity ≤ left.config.capacity = omega (arith, less, left.capacity_is) in
-        let here = stay program input config left.config (rest_in report) rest steps (in_steps left.config.drive left.serial) few reported.came ended left.came in
+        let here = stay program input config left.config (view_in_report report) rest steps (in_steps left.config.drive left.serial) few reported.came ended left.came in
         let wrong : Stalled e ≡ Ended = ends_alone program input left.config rest left.came here.ended (Stalled e) so in
         absurd (cc)
 
@@ -47,9 +47,9 @@ module _ (program input : List ℕ) where
       ended = ended;
       none_below = none;
       from_there_on = λ config report steps more reported.
-          let so = stay program input left.config config rest (rest_in report) (in_steps left.config.drive left.serial) steps
+          let so = stay program input left.config config rest (view_in_report report) (in_steps left.config.drive left.serial) steps
           (omega (arith, more, left.capacity_is)) left.came ended reported.came in
-          (ends_alone program input config (rest_in report) reported.came so.ended (outcome_of report) reported.outcome, so);
+          (ends_alone program input config (view_in_report report) reported.came so.ended (outcome_of report) reported.outcome, so);
     }
 
     -- where it names a fault, the program has no value
@@ -63,7 +63,7 @@ module _ (program input : List ℕ) where
           named = named;
           faults = faults;
           never = λ config report reported is.
-              let ended : HaveEnded (rest_in report) = subst (CameOut (rest_in report)) is reported.outcome in
+              let ended : HaveEnded (view_in_report report) = subst (CameOut (view_in_report report)) is reported.outcome in
               let value = reported.came.value ended in
               let wrong : has_value value.0 ≡ has_fault faults.0 faults.1 = one program input (has_value value.0) (has_fault faults.0 faults.1) value.1 faults.2 in
               absurd (cc);
@@ -71,7 +71,7 @@ module _ (program input : List ℕ) where
 
   module _ (config : Config) (serial : config.drive ≡ Serial) where
     -- what a drive in one thread has left
-    pub left_so : {A E : Type 0} (rest : A → Rest NodeState) (result : Result A E) → IfOk result (λ rested. CameToRest program input config (rest rested))
+    pub left_so : {A E : Type 0} (rest : A → FinalView NodeState) (result : Result A E) → IfOk result (λ rested. CameToRest program input config (rest rested))
         → IfOk result (λ rested. IsLeft program input config.capacity (rest rested))
     left_so rest (Ok rested) came = record { config = config; serial = serial; capacity_is = refl; came = came }
     left_so rest (Err refusal) came = tt

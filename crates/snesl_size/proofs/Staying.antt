@@ -19,9 +19,9 @@ use Rattle.flow_drive.specs.declared.config.Config.{Config}
 use Rattle.flow_nodes.specs.StreamNodes.{node_behaviour}
 use Rattle.snesl_flatten.specs.Networks.{NodeState}
 use Rattle.snesl_network.specs.Driven.{CameToRest, HaveEnded}
-use Rattle.snesl_network.specs.NodesAtRest.{Rest}
+use Rattle.snesl_network.specs.NodesAtRest.{FinalView}
 use Rattle.snesl_network.specs.OneNetwork.{HaveOneNetwork}
-use Rattle.snesl_run.specs.Runs.{CameOut, outcome_of, rest_in}
+use Rattle.snesl_run.specs.Runs.{CameOut, outcome_of, view_in_report}
 use Rattle.snesl_size.specs.Staying.{EndedNetworksStay, EndingStays}
 
 -- a run at one capacity is a run at each greater one
@@ -80,7 +80,7 @@ networks_stay networks alike program input config greater rest other steps more_
     }
 
 -- a network whose nodes have all ended came out so, and not otherwise
-pub ends_alone : (program input : List ℕ) (config : Config) (rest : Rest NodeState) → CameToRest program input config rest → HaveEnded rest
+pub ends_alone : (program input : List ℕ) (config : Config) (rest : FinalView NodeState) → CameToRest program input config rest → HaveEnded rest
     → (outcome : Outcome) → CameOut rest outcome → outcome ≡ Ended
 ends_alone program input config rest came ended outcome so =
     let wired = subst (λ net. IsWired net) (sym came.same.network) came.start.joined.wired in
@@ -89,10 +89,10 @@ ends_alone program input config rest came ended outcome so =
 
 pub ending_stays : EndedNetworksStay → EndingStays
 ending_stays stay program input config greater report other steps more_steps more reported is told =
-    let ended : HaveEnded (rest_in report) = subst (CameOut (rest_in report)) is reported.outcome in
-    let so = stay program input config greater (rest_in report) (rest_in other) steps more_steps more reported.came ended told.came in
+    let ended : HaveEnded (view_in_report report) = subst (CameOut (view_in_report report)) is reported.outcome in
+    let so = stay program input config greater (view_in_report report) (view_in_report other) steps more_steps more reported.came ended told.came in
     record {
-      outcome = ends_alone program input greater (rest_in other) told.came so.ended (outcome_of other) told.outcome ∙ sym is;
+      outcome = ends_alone program input greater (view_in_report other) told.came so.ended (outcome_of other) told.outcome ∙ sym is;
       states = so.states;
       sent = so.sent;
       received = so.received;

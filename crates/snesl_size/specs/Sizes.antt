@@ -9,16 +9,16 @@ use Rattle.flow_drive.specs.declared.config.Drive.TheVariants.{Serial}
 use Rattle.flow_drive.specs.Configs.{IsInSteps}
 use Rattle.snesl_flatten.specs.Networks.{NodeState}
 use Rattle.snesl_network.specs.Driven.{CameToRest, HaveEnded, IsNamed, WasRefused}
-use Rattle.snesl_network.specs.NodesAtRest.{Rest, rest_of}
+use Rattle.snesl_network.specs.NodesAtRest.{FinalView, final_view}
 use Rattle.snesl_run.specs.declared.report.Report.{Report}
-use Rattle.snesl_run.specs.Runs.{rest_in, outcome_of, CameOut, EndsInFault, IsReported}
+use Rattle.snesl_run.specs.Runs.{view_in_report, outcome_of, CameOut, EndsInFault, IsReported}
 use Rattle.snesl_size.specs.declared.size.Size.{Size}
 use Rattle.snesl_size.specs.declared.size.Size.TheVariants.{Ends, Faults, NeverEnds}
 use Rattle.snesl_size.specs.Staying.{HasEndedAs}
 
 module _ (program input : List ℕ) where
   -- A drive in one thread has left the program's network so, at this capacity.
-  pub record IsLeft (capacity : ℕ) (rest : Rest NodeState) : Type 0 where
+  pub record IsLeft (capacity : ℕ) (rest : FinalView NodeState) : Type 0 where
     pub config : Config
     pub serial : config.drive ≡ Serial
     pub capacity_is : config.capacity ≡ capacity
@@ -31,19 +31,19 @@ module _ (program input : List ℕ) where
       → outcome_of report ≢ Ended
 
   -- The network has ended so at this capacity, and the program ends at no lesser one.
-  pub record IsLeast (capacity : ℕ) (rest : Rest NodeState) : Type 0 where
+  pub record IsLeast (capacity : ℕ) (rest : FinalView NodeState) : Type 0 where
     pub left : IsLeft capacity rest
     pub ended : HaveEnded rest
     pub none_below : EndsAtNoneBelow capacity
     -- from there on a report of a drive in steps is of a value, and its network has ended as this one
     pub from_there_on : (config : Config) (report : Report) → IsInSteps config.drive → capacity ≤ config.capacity
-        → IsReported program input config report → (outcome_of report ≡ Ended) × HasEndedAs rest (rest_in report)
+        → IsReported program input config report → (outcome_of report ≡ Ended) × HasEndedAs rest (view_in_report report)
 
   -- A drive in one thread, at one message less than this capacity, has stalled where this edge was full and its writer waited.
   pub record StalledBelow (capacity edge : ℕ) : Type 0 where
     pub below : ℕ
     pub one_less : below + 1 ≡ capacity
-    pub rest : Rest NodeState
+    pub rest : FinalView NodeState
     pub left : IsLeft below rest
     pub stalled : CameOut rest (Stalled edge)
 
@@ -55,7 +55,7 @@ module _ (program input : List ℕ) where
   -- The program ends in a fault, and this is the fault that is named at some capacity by a drive in one thread.
   pub record FaultsSo (fault : Fault) : Type 0 where
     pub capacity : ℕ
-    pub rest : Rest NodeState
+    pub rest : FinalView NodeState
     pub left : IsLeft capacity rest
     pub named : IsNamed rest fault
     pub faults : EndsInFault program input
@@ -65,7 +65,7 @@ module _ (program input : List ℕ) where
   -- the program ends from this capacity on, and at no lesser one, where at one less this edge was full; or it ends in a fault; or at
   -- no capacity that there is
   abbrev pub IsSizeOf : Size → Type 0
-  IsSizeOf (Ends least full rested) = IsLeast least (rest_of rested) × IsFullBelow least full
+  IsSizeOf (Ends least full rested) = IsLeast least (final_view rested) × IsFullBelow least full
   IsSizeOf (Faults fault) = FaultsSo fault
   IsSizeOf NeverEnds = EndsAtNoneBelow (greatest_capacity + 1)
 

@@ -3,7 +3,7 @@
 ghost use Rattle.std.specs.Prelude.{◌+◌, ◌<◌, ◌≤◌, IfErr, IfOk};
 ghost use Rattle.flow_messages.specs.Limits.{greatest_capacity};
 ghost use Rattle.flow_drive.specs.Configs.{IsWithin};
-ghost use Rattle.snesl_network.specs.NodesAtRest.{rest_of};
+ghost use Rattle.snesl_network.specs.NodesAtRest.{final_view};
 ghost use Rattle.snesl_size.specs.Sizes.{IsLeft, IsRefusedAtAll, IsSizeOf};
 
 use crate::laws::ending_stays;
@@ -95,7 +95,8 @@ fn left_at<R: Threads>(
     capacity: usize,
 ) -> Result<Rested<StreamNode>, Refusal>
     requires { IsWithin greatest_capacity capacity }
-    ensures left { IfOk result (λ rested. IsLeft program.now input.now capacity (rest_of rested)) }
+    ensures left { IfOk result (λ rested. IsLeft program.now input.now capacity
+        (final_view rested)) }
     ensures refused { IfErr result (IsRefusedAtAll program.now input.now chunk) }
 {
     let config = Config {

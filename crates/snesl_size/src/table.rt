@@ -1,7 +1,7 @@
 // The table of a program's size.
 
 ghost use Rattle.std.specs.Prelude.{◌≡◌, ◌++◌, IfOk, MatchOption, OnOk, length};
-ghost use Rattle.snesl_network.specs.NodesAtRest.{rest_of};
+ghost use Rattle.snesl_network.specs.NodesAtRest.{final_view};
 ghost use Rattle.snesl_size.specs.Tables.{AddedTo, BusiestLines, IsBusiest, IsSizeTable, count_over, full_part, messages_of, numbered, sizes_part};
 
 use flow_drive::Rested;
@@ -18,7 +18,7 @@ pub fn size_table(
     full: Option<usize>,
     rested: &Rested<StreamNode>,
 ) -> Result<Vec<u8>, AllocError>
-    ensures { IfOk result (λ table. IsSizeTable least full (rest_of rested.now) table.items) }
+    ensures { IfOk result (λ table. IsSizeTable least full (final_view rested.now) table.items) }
 {
     let mut table = Vec::new(alloc);
     append_sizes(&mut table, least, rested)?;
@@ -29,7 +29,7 @@ pub fn size_table(
 
 // The lines of the busiest edge, if there is an edge.
 fn append_busiest(table: &mut Vec<u8>, rested: &Rested<StreamNode>) -> Result<(), AllocError>
-    ensures { OnOk result (AddedTo (BusiestLines (rest_of rested.now)) table.old.items
+    ensures { OnOk result (AddedTo (BusiestLines (final_view rested.now)) table.old.items
         table.new.items) }
 {
     match busiest(rested) {
@@ -58,7 +58,7 @@ fn append_sizes(
     rested: &Rested<StreamNode>,
 ) -> Result<(), AllocError>
     ensures { OnOk result (table.new.items
-        ≡ table.old.items ++ sizes_part least (rest_of rested.now)) }
+        ≡ table.old.items ++ sizes_part least (final_view rested.now)) }
 {
     append_line(table, b"least capacity: ", least as u64)?;
     append_line(table, b"nodes: ", rested.nodes() as u64)?;
@@ -68,7 +68,7 @@ fn append_sizes(
 
 // How many messages went over all edges. The sum stays at `u64::MAX`.
 fn messages(rested: &Rested<StreamNode>) -> u64
-    ensures { result ≡ messages_of (rest_of rested.now) }
+    ensures { result ≡ messages_of (final_view rested.now) }
 {
     let mut sum: u64 = 0;
     for edge in 0..rested.edges() {
@@ -79,8 +79,8 @@ fn messages(rested: &Rested<StreamNode>) -> u64
 
 // The first edge over which most messages went.
 fn busiest(rested: &Rested<StreamNode>) -> Option<usize>
-    ensures { MatchOption result (length (rest_of rested.now).edges ≡ 0)
-        (IsBusiest (rest_of rested.now)) }
+    ensures { MatchOption result (length (final_view rested.now).edges ≡ 0)
+        (IsBusiest (final_view rested.now)) }
 {
     let mut busiest = None;
     let mut most = 0;

@@ -5,14 +5,14 @@ use Rattle.flow_messages.specs.declared.message.Kind.{Kind}
 use Rattle.flow_messages.specs.declared.message.Kind.TheVariants.{Unit as UnitKind}
 use Rattle.flow_plans.specs.Plans.{Step, source}
 use Rattle.snesl_translation.specs.Makings.{Making, tested, and_then}
-use Rattle.snesl_translation.specs.Programs.{source_steps, not_set}
+use Rattle.snesl_translation.specs.Programs.{source_steps, unset_cells}
 use Rattle.snesl_steps.specs.Views.{next_in}
 use Rattle.snesl_steps.specs.Added.{HasMade, Adds, only_steps}
 use Rattle.snesl_steps.specs.declared.steps.Steps.{Steps}
 use Rattle.snesl_steps.proofs.Adding.{made_then, refused_first, Continues, from_index}
 
 -- where nothing is set, the numbers of the streams say nothing
-same_sources : (at m n : ℕ) (kinds : List Kind) → source_steps at not_set m kinds ≡ source_steps at not_set n kinds
+same_sources : (at m n : ℕ) (kinds : List Kind) → source_steps at unset_cells m kinds ≡ source_steps at unset_cells n kinds
 same_sources at m n [] = refl
 same_sources at m n (kind ∷ kinds) =
     let step : Step = record { at = at; operation = source kind []; reads = [] } in
@@ -20,7 +20,7 @@ same_sources at m n (kind ∷ kinds) =
 
 -- those of these kinds
 abbrev sources_of : ℕ → ℕ → List Kind → Making (Unit {0})
-sources_of at next kinds = only_steps (source_steps at not_set next kinds) next
+sources_of at next kinds = only_steps (source_steps at unset_cells next kinds) next
 
 source_then : (at : ℕ) (kind : Kind) (kinds : List Kind) (now middle new : Steps) (result : Result (Unit {0}) Refusal)
     → HasMade now middle (tested at (source kind []) [] (tt {0}) (next_in now)) tt → Adds (λ x. x) middle new (sources_of at (next_in middle) kinds) result

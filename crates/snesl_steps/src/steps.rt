@@ -29,7 +29,7 @@ impl Steps {
     ghost use Rattle.flow_plans.specs.Views.{operation_of, steps_of};
     ghost use Rattle.snesl_translation.specs.Makings.{stepped, tested};
     ghost use Rattle.snesl_translation.specs.Moving.{flags_stepped};
-    ghost use Rattle.snesl_translation.specs.Programs.{control_sourced, source_steps, sourced, not_set};
+    ghost use Rattle.snesl_translation.specs.Programs.{control_sourced, source_steps, sourced, unset_cells};
     ghost use Rattle.snesl_translation.specs.Wires.{wire};
     ghost use Rattle.snesl_steps.specs.Views.{dialect_of_steps, steps_in, next_in, wires_of};
     ghost use Rattle.snesl_steps.specs.Added.{Adds, only_steps};
@@ -165,7 +165,7 @@ impl Steps {
     /// are those of `step`.
     pub fn input(&mut self, at: usize, ty: &Ty) -> Result<Wires, Refusal>
         ensures { Adds wires_of self.old self.new
-            (sourced at not_set (ty_of ty.now) (next_in self.old)) result }
+            (sourced at unset_cells (ty_of ty.now) (next_in self.old)) result }
     {
         let kinds = kinds(self.alloc, ty)?;
         self.sources(at, &kinds)?;
@@ -176,7 +176,7 @@ impl Steps {
     // Adds the beginnings of streams of these kinds.
     fn sources(&mut self, at: usize, kinds: &[Kind]) -> Result<(), Refusal>
         ensures { Adds (λ x. x) self.old self.new
-            (only_steps (source_steps at not_set (next_in self.old) kinds.now)
+            (only_steps (source_steps at unset_cells (next_in self.old) kinds.now)
             (next_in self.old)) result }
     {
         for kind in kinds {

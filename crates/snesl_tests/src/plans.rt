@@ -15,7 +15,7 @@ use snesl_data::{Dialect, Refusal, Ty};
 use snesl_scopes::Scope;
 use snesl_steps::{Steps, Wires};
 use snesl_syntax::{Program, parse};
-use snesl_translator::{Setting, translate};
+use snesl_translator::{ProgramContext, translate};
 use snesl_types::check;
 use snesl_values::Inputs;
 use std::alloc::{AllocError, Global};
@@ -33,11 +33,11 @@ fn translated(alloc: Global, text: &[u8]) -> Result<(Vec<Step>, Wires), Refusal>
 
 fn translated_into(steps: &mut Steps, program: &Program) -> Result<Wires, Refusal> {
     let control = steps.control(0)?;
-    let setting = Setting {
+    let context = ProgramContext {
         text: &program.text,
         functions: &program.declarations,
     };
-    translate(steps, &setting, &program.expr, &Scope::Nothing, control)
+    translate(steps, &context, &program.expr, &Scope::Nothing, control)
 }
 
 // Whether these are the six steps of a sum of squares.

@@ -7,7 +7,7 @@ use Rattle.snesl_data.specs.Types.{Ty, seq}
 use Rattle.snesl_data.specs.Values.{Value}
 use Rattle.snesl_tree.specs.declared.operator.Operator.TheVariants.{Append}
 use Rattle.flow_base.specs.Columns.{Columns}
-use Rattle.flow_base.specs.Flags.{flags, joined, lengths}
+use Rattle.flow_base.specs.Flags.{flags, concatenation, lengths}
 use Rattle.flow_segment.specs.Rows.{Sides, lefts, rights, alternated}
 use Rattle.flow_values.specs.Shapes.{elements_of}
 use Rattle.flow_rows.specs.Lists.{append_flags as added}
@@ -51,9 +51,9 @@ added_lengths xs =
     ap₂ (λ ns ms. added ns ms) (lengths_map (λ x. x.0) xs) (lengths_map (λ x. x.1) xs)
     ∙ ap (option_map (map plus)) (paired_map (λ x. length x.0) (λ x. length x.1) xs) ∙ ap Some (sums_are xs)
 
-pub alternated_joined : {A : Type 0} (xs : Sides A) → alternated xs ≡ joined (map both_sides xs)
+pub alternated_joined : {A : Type 0} (xs : Sides A) → alternated xs ≡ concatenation (map both_sides xs)
 alternated_joined [] = refl
-alternated_joined (x ∷ xs) = ap (λ l. x.0 ++ (x.1 ++ l)) (alternated_joined xs) ∙ sym (append_assoc x.0 x.1 (joined (map both_sides xs)))
+alternated_joined (x ∷ xs) = ap (λ l. x.0 ++ (x.1 ++ l)) (alternated_joined xs) ∙ sym (append_assoc x.0 x.1 (concatenation (map both_sides xs)))
 
 -- Streams
 
@@ -85,15 +85,15 @@ appended_makes at streams u v t xs c d =
     flags_written streams at append_flags (f ∷ g ∷ []) (flags ns ∷ flags ms ∷ []) (flags (lengths gs)) there (append_flags_makes ns ms ∙ ap (one flags) (added_lengths xs)) in
     let on = streams ++ groups.0 in
     let h = (flags_stepped at append_flags (f ∷ g ∷ []) (length streams)).given in
-    let lefter : Carries on (item_wires u) t (joined (lefts xs)) =
-    carried_on streams groups.0 (item_wires u) t (joined (lefts xs)) (subst (λ gs. Carries streams (item_wires u) t (joined gs)) (elements_made (lefts xs)) (items_carry streams u t (left_sequences xs) c)) in
-    let righter : Carries on (item_wires v) t (joined (rights xs)) =
-    carried_on streams groups.0 (item_wires v) t (joined (rights xs)) (subst (λ gs. Carries streams (item_wires v) t (joined gs)) (elements_made (rights xs)) (items_carry streams v t (right_sequences xs) d)) in
+    let lefter : Carries on (item_wires u) t (concatenation (lefts xs)) =
+    carried_on streams groups.0 (item_wires u) t (concatenation (lefts xs)) (subst (λ gs. Carries streams (item_wires u) t (concatenation gs)) (elements_made (lefts xs)) (items_carry streams u t (left_sequences xs) c)) in
+    let righter : Carries on (item_wires v) t (concatenation (rights xs)) =
+    carried_on streams groups.0 (item_wires v) t (concatenation (rights xs)) (subst (λ gs. Carries streams (item_wires v) t (concatenation gs)) (elements_made (rights xs)) (items_carry streams v t (right_sequences xs) d)) in
     let mix : Makes on t (mixed at f g (item_wires u) (item_wires v) (length on)) (alternated xs) =
     sides_make at f g on (item_wires u) (item_wires v) t xs (both_on streams groups.0 f g ns ms both) lefter righter in
     let back : gs ≡ map elements_of (all_sequences xs) = sym (elements_made gs) in
-    let elements : Makes on t (mixed at f g (item_wires u) (item_wires v) (length on)) (joined (map elements_of (all_sequences xs))) =
-    subst (λ l. Makes on t (mixed at f g (item_wires u) (item_wires v) (length on)) l) (alternated_joined xs ∙ ap joined back) mix in
+    let elements : Makes on t (mixed at f g (item_wires u) (item_wires v) (length on)) (concatenation (map elements_of (all_sequences xs))) =
+    subst (λ l. Makes on t (mixed at f g (item_wires u) (item_wires v) (length on)) l) (alternated_joined xs ∙ ap concatenation back) mix in
     let are : AllAre (seq t) (all_sequences xs) = groups_made t gs (subst (AllAre t) (alternated_joined xs) mix.3.are) in
     then_does (flags_stepped at append_flags (f ∷ g ∷ []) (length streams))
     (λ h k. and_then (mixed at f g (item_wires u) (item_wires v) k) (λ w k. done (segments (stream_of h) w) k))

@@ -15,7 +15,7 @@ use Rattle.flow_messages.specs.Cells.{unit}
 use Rattle.flow_folds.specs.Scalars.{cell_of_scalar}
 use Rattle.flow_values.specs.Shapes.{cell_for}
 use Rattle.flow_rows.specs.Lists.{bind, each}
-use Rattle.flow_rows.specs.Made.{laid}
+use Rattle.flow_rows.specs.Made.{columns_of_values}
 use Rattle.flow_rows.proofs.Encoded.{const_makes}
 use Rattle.flow_rows.proofs.ValueDecoding.{AllAre, all_cons}
 use Rattle.flow_plans.specs.Plans.{const}
@@ -59,7 +59,7 @@ pub const_means : (context : Context) (at : ℕ) (k : Scalar)
 const_means context at k streams bound control environments bears controls =
     let n = length environments in
     let vs = replicate n (scalar_value k) in
-    let cells : laid (constant_type k) vs ≡ replicate n (cell_of_scalar k) ∷ [] = single_laid (constant_type k) (constant_single k) vs ∙ ap (λ l. l ∷ []) (cells_constant k n) in
+    let cells : columns_of_values (constant_type k) vs ≡ replicate n (cell_of_scalar k) ∷ [] = single_laid (constant_type k) (constant_single k) vs ∙ ap (λ l. l ∷ []) (cells_constant k n) in
     subst (GoesTo streams (constant_type k) (stepped at (const k) (control ∷ []) (constant_type k) (length streams))) (sym (each_constant (scalar_value k) environments))
     (stepped_makes streams at (const k) (control ∷ []) (constant_type k) (replicate n unit ∷ []) vs controls (const_makes k n ∙ ap Some (sym cells)) (constants_are k n))
 

@@ -8,11 +8,11 @@ use Rattle.snesl_data.specs.Types.{Ty, int, bool, pair, vec, seq}
 use Rattle.snesl_data.specs.Values.{Value, a_pair, a_seq, list_of, values_of}
 use Rattle.flow_messages.specs.Cells.{Cell}
 use Rattle.flow_base.specs.Columns.{Columns}
-use Rattle.flow_base.specs.Flags.{flags, joined, lengths}
+use Rattle.flow_base.specs.Flags.{flags, concatenation, lengths}
 use Rattle.flow_values.specs.Shapes.{is_a, kinds_of, cell_for, first_of, second_of, elements_of, all_are}
 use Rattle.flow_values.specs.Flats.{width}
 use Rattle.flow_rows.specs.Lists.{bind}
-use Rattle.flow_rows.specs.Made.{laid}
+use Rattle.flow_rows.specs.Made.{columns_of_values}
 use Rattle.flow_rows.proofs.Edges.{laid_pair, laid_seq, laid_length}
 use Rattle.flow_rows.proofs.ValueDecoding.{AllAre, all_split, all_cons, all_joined, values_list}
 use Rattle.flow_plans.specs.Plans.{Operation, made_by, streams_at, run}
@@ -130,17 +130,17 @@ numbers_width (segments f items) h = ap suc (numbers_width items h)
 -- what is carried
 
 pub carried_on : (streams more : Columns) (w : Wires) (t : Ty) (vs : List Value) → Carries streams w t vs → Carries (streams ++ more) w t vs
-carried_on streams more w t vs c = record { of_type = c.of_type; whole = c.whole; are = c.are; there = grown (numbers_of w) streams more (laid t vs) c.there }
+carried_on streams more w t vs c = record { of_type = c.of_type; whole = c.whole; are = c.are; there = grown (numbers_of w) streams more (columns_of_values t vs) c.there }
 
 -- a step that writes what values put on the edges of a type makes these
 pub stepped_makes : (streams : Columns) (at : ℕ) (operation : Operation) (reads : List ℕ) (t : Ty) (read : Columns) (vs : List Value) → streams_at reads streams ≡ Some read
-    → made_by operation read ≡ Some (laid t vs) → all_are t (values_of vs) ≡ true → Makes streams t (stepped at operation reads t (length streams)) vs
+    → made_by operation read ≡ Some (columns_of_values t vs) → all_are t (values_of vs) ≡ true → Makes streams t (stepped at operation reads t (length streams)) vs
 stepped_makes streams at operation reads t read vs there made are = (
-  laid t vs,
+  columns_of_values t vs,
   ap (λ o. bind o (λ read. bind (made_by operation read) (λ written. Some (streams ++ written)))) there
       ∙ ap (λ o. bind o (λ written. Some (streams ++ written))) made,
-  omega (arith, length-append streams (laid t vs), laid_length t vs),
-  record { of_type = wires_type t (length streams); whole = wires_whole t (length streams); are = are; there = fresh t streams (laid t vs) (laid_length t vs) },
+  omega (arith, length-append streams (columns_of_values t vs), laid_length t vs),
+  record { of_type = wires_type t (length streams); whole = wires_whole t (length streams); are = are; there = fresh t streams (columns_of_values t vs) (laid_length t vs) },
 )
 
 pub stepped_stops : (streams : Columns) (at : ℕ) (operation : Operation) (reads : List ℕ) (t : Ty) (next : ℕ) (read : Columns) → streams_at reads streams ≡ Some read
@@ -230,7 +230,7 @@ two_carry streams u v s t vs cu cv are = record {
   of_type = ap₂ pair cu.of_type cv.of_type;
   whole = (cu.whole, cv.whole);
   are = are;
-  there = streams_joined (numbers_of u) (numbers_of v) streams (laid s (map first_of vs)) (laid t (map second_of vs)) cu.there cv.there ∙ ap Some (sym (laid_pair s t vs));
+  there = streams_joined (numbers_of u) (numbers_of v) streams (columns_of_values s (map first_of vs)) (columns_of_values t (map second_of vs)) cu.there cv.there ∙ ap Some (sym (laid_pair s t vs));
 }
 
 -- the first parts and the second parts of pairs are of their types
@@ -256,8 +256,8 @@ both_carry streams (two u v) s t vs c =
     let su : type_of_wires u ≡ s = cc in
     let tv : type_of_wires v ≡ t = cc in
     let are = parts_are s t vs c.are in
-    let long : length (laid s (map first_of vs)) ≡ length (numbers_of u) = laid_length s (map first_of vs) ∙ ap width (sym su) ∙ sym (numbers_width u c.whole.0) in
-    let p = streams_parted (numbers_of u) (numbers_of v) streams (laid s (map first_of vs)) (laid t (map second_of vs)) (c.there ∙ ap Some (laid_pair s t vs)) long in
+    let long : length (columns_of_values s (map first_of vs)) ≡ length (numbers_of u) = laid_length s (map first_of vs) ∙ ap width (sym su) ∙ sym (numbers_width u c.whole.0) in
+    let p = streams_parted (numbers_of u) (numbers_of v) streams (columns_of_values s (map first_of vs)) (columns_of_values t (map second_of vs)) (c.there ∙ ap Some (laid_pair s t vs)) long in
     (record { of_type = su; whole = c.whole.0; are = are.0; there = p.0 }, record { of_type = tv; whole = c.whole.1; are = are.1; there = p.1 })
 
 pub first_carries : (streams : Columns) (w : Wires) (s t : Ty) (vs : List Value) → Carries streams w (pair s t) vs → Carries streams (first_wires w) s (map first_of vs)
@@ -269,24 +269,24 @@ second_carries streams w s t vs c = (both_carry streams w s t vs c).1
 -- sequences
 
 pub segments_carry : (streams : Columns) (f : ℕ) (items : Wires) (t : Ty) (vs : List Value) → streams_at (f ∷ []) streams ≡ Some (flags (lengths (map elements_of vs)) ∷ [])
-    → Carries streams items t (joined (map elements_of vs)) → all_are (seq t) (values_of vs) ≡ true → Carries streams (segments f items) (seq t) vs
+    → Carries streams items t (concatenation (map elements_of vs)) → all_are (seq t) (values_of vs) ≡ true → Carries streams (segments f items) (seq t) vs
 segments_carry streams f items t vs there c are = record {
   of_type = ap seq c.of_type;
   whole = c.whole;
   are = are;
-  there = streams_joined (f ∷ []) (numbers_of items) streams (flags (lengths (map elements_of vs)) ∷ []) (laid t (joined (map elements_of vs))) there c.there ∙ ap Some (sym (laid_seq t vs));
+  there = streams_joined (f ∷ []) (numbers_of items) streams (flags (lengths (map elements_of vs)) ∷ []) (columns_of_values t (concatenation (map elements_of vs))) there c.there ∙ ap Some (sym (laid_seq t vs));
 }
 
 -- all elements are of their type
-elements_are : (t : Ty) (vs : List Value) → AllAre (seq t) vs → AllAre t (joined (map elements_of vs))
+elements_are : (t : Ty) (vs : List Value) → AllAre (seq t) vs → AllAre t (concatenation (map elements_of vs))
 elements_are t [] are = refl
 elements_are t (a_seq all ∷ vs) are =
     let p = all_split (seq t) (a_seq all) vs are in
-    all_joined t (list_of all) (joined (map elements_of vs)) (ap (all_are t) (values_list all) ∙ p.0) (elements_are t vs p.1)
+    all_joined t (list_of all) (concatenation (map elements_of vs)) (ap (all_are t) (values_list all) ∙ p.0) (elements_are t vs p.1)
 elements_are t (_ ∷ vs) are = absurd (cc)
 
 segments_parts : (streams : Columns) (w : Wires) (t : Ty) (vs : List Value) → Carries streams w (seq t) vs
-    → (streams_at (stream_of w ∷ []) streams ≡ Some (flags (lengths (map elements_of vs)) ∷ [])) × Carries streams (item_wires w) t (joined (map elements_of vs))
+    → (streams_at (stream_of w ∷ []) streams ≡ Some (flags (lengths (map elements_of vs)) ∷ [])) × Carries streams (item_wires w) t (concatenation (map elements_of vs))
 segments_parts streams (wire int k) t vs c = absurd (let e = c.of_type in cc)
 segments_parts streams (wire bool k) t vs c = absurd (let e = c.of_type in cc)
 segments_parts streams (wire (vec item) k) t vs c = absurd (let e = c.of_type in cc)
@@ -296,20 +296,20 @@ segments_parts streams (two u v) t vs c = absurd (let e = c.of_type in cc)
 segments_parts streams (segments f items) t vs c =
     let e = c.of_type in
     let same : type_of_wires items ≡ t = cc in
-    let p = streams_parted (f ∷ []) (numbers_of items) streams (flags (lengths (map elements_of vs)) ∷ []) (laid t (joined (map elements_of vs))) (c.there ∙ ap Some (laid_seq t vs)) refl in
+    let p = streams_parted (f ∷ []) (numbers_of items) streams (flags (lengths (map elements_of vs)) ∷ []) (columns_of_values t (concatenation (map elements_of vs))) (c.there ∙ ap Some (laid_seq t vs)) refl in
     (p.0, record { of_type = same; whole = c.whole; are = elements_are t vs c.are; there = p.1 })
 
 pub flags_carry : (streams : Columns) (w : Wires) (t : Ty) (vs : List Value) → Carries streams w (seq t) vs
     → streams_at (stream_of w ∷ []) streams ≡ Some (flags (lengths (map elements_of vs)) ∷ [])
 flags_carry streams w t vs c = (segments_parts streams w t vs c).0
 
-pub items_carry : (streams : Columns) (w : Wires) (t : Ty) (vs : List Value) → Carries streams w (seq t) vs → Carries streams (item_wires w) t (joined (map elements_of vs))
+pub items_carry : (streams : Columns) (w : Wires) (t : Ty) (vs : List Value) → Carries streams w (seq t) vs → Carries streams (item_wires w) t (concatenation (map elements_of vs))
 items_carry streams w t vs c = (segments_parts streams w t vs c).1
 
 -- single streams
 
 -- of a type of one edge the column is that of the values' cells
-pub single_laid : (t : Ty) → IsSingle t → (vs : List Value) → laid t vs ≡ map cell_for vs ∷ []
+pub single_laid : (t : Ty) → IsSingle t → (vs : List Value) → columns_of_values t vs ≡ map cell_for vs ∷ []
 single_laid int h vs = refl
 single_laid bool h vs = refl
 single_laid (vec item) h vs = refl

@@ -15,7 +15,7 @@ use Rattle.snesl_tree.specs.Tree.{Tree, choice}
 use Rattle.snesl_types.specs.Contexts.{Context}
 use Rattle.flow_messages.specs.Cells.{flag}
 use Rattle.flow_base.specs.Columns.{Columns}
-use Rattle.flow_base.specs.Flags.{flags, joined, lengths}
+use Rattle.flow_base.specs.Flags.{flags, concatenation, lengths}
 use Rattle.flow_values.specs.Shapes.{elements_of}
 use Rattle.flow_rows.specs.Lists.{bind, each}
 use Rattle.flow_rows.specs.Decoded.{a_seq_of}
@@ -119,7 +119,7 @@ own_lengths [] = refl
 own_lengths ((true, v) ∷ zs) = ap (λ ns. 1 ∷ ns) (own_lengths zs)
 own_lengths ((false, v) ∷ zs) = ap (λ ns. 1 ∷ ns) (own_lengths zs)
 
-own_joined : (zs : List (Bool × Value)) → joined (map both_sides (map placed zs)) ≡ map own zs
+own_joined : (zs : List (Bool × Value)) → concatenation (map both_sides (map placed zs)) ≡ map own zs
 own_joined [] = refl
 own_joined ((true, v) ∷ zs) = ap (λ l. v ∷ l) (own_joined zs)
 own_joined ((false, v) ∷ zs) = ap (λ l. v ∷ l) (own_joined zs)
@@ -141,7 +141,7 @@ module _ (at : ℕ) (t : Ty) where
       let there : streams_at (stream_of w ∷ []) on ≡ Some (flags (replicate (length zs) 1) ∷ []) =
       flags_carry on w t (all_sequences xs) carried ∙ ap (λ gs. Some (flags (lengths gs) ∷ [])) (elements_made (map both_sides xs)) ∙ ap (λ ns. Some (flags ns ∷ [])) (own_lengths zs) in
       let items : Carries on (item_wires w) t (map own zs) =
-      subst (Carries on (item_wires w) t) (ap (λ gs. joined gs) (elements_made (map both_sides xs)) ∙ own_joined zs) (items_carry on w t (all_sequences xs) carried) in
+      subst (Carries on (item_wires w) t) (ap (λ gs. concatenation gs) (elements_made (map both_sides xs)) ∙ own_joined zs) (items_carry on w t (all_sequences xs) carried) in
       let ran : run (taken w (length on)).steps on ≡ Some (on ++ []) =
       tested_runs on at the_check (stream_of w ∷ []) (item_wires w) (length on) (flags (replicate (length zs) 1) ∷ []) there (the_check_makes (length zs)) in
       let last : Makes on t (taken w (length on)) (map own zs) = ([], ran, ap length (sym (append-nil on)), carried_on on [] (item_wires w) t (map own zs) items) in

@@ -14,7 +14,7 @@ use Rattle.snesl_evaluation.specs.Eval.{Columns as Sequences, height, in_step as
 use Rattle.snesl_types.specs.Contexts.{open_to, Context, opened, found, inside}
 use Rattle.flow_messages.specs.Cells.{unit}
 use Rattle.flow_base.specs.Columns.{Columns}
-use Rattle.flow_base.specs.Flags.{flags, joined, lengths}
+use Rattle.flow_base.specs.Flags.{flags, concatenation, lengths}
 use Rattle.flow_values.specs.Shapes.{elements_of}
 use Rattle.flow_rows.specs.Lists.{bind, only_if, each, same_lists, copied}
 use Rattle.flow_rows.specs.Decoded.{a_seq_of}
@@ -85,7 +85,7 @@ open_behind items names context usable bytes among =
 items_borne : (streams : Columns) (given : Bound) (context : Context) (ns : List ℕ) (environments : List Environment) → length ns ≡ length environments
     → (sources : Sources) (items : List Declaration) (names : Names) (all : List Sequences) → SourcesCarry streams sources items all → all_fit ns all ≡ true
     → Bears streams given (without_items items names) context (copied (zip ns environments))
-    → Bears streams (items_bound sources ++ given) names (opened items ++ context) (joined (inner_instances ns all environments))
+    → Bears streams (items_bound sources ++ given) names (opened items ++ context) (concatenation (inner_instances ns all environments))
 items_borne streams given context ns environments long [] [] names all c fit bears =
     subst (Bears streams given names context) (sym (plain_instances ns all environments c (fit_length ns all fit) long)) bears
 items_borne streams given context ns environments long [] (item ∷ items) names all c fit bears = absurd c
@@ -95,18 +95,18 @@ items_borne streams given context ns environments long (source ∷ sources) (ite
     let fewer : length groups ≡ length ns = sym count ∙ sym (fit_length ns all fit) in
     let both = and_parts (same_lists ◌==◌ (lengths groups) ns) (all_fit ns others) (sym (fits_with item.0 ns groups others same fewer) ∙ ap (all_fit ns) (sym is) ∙ fit) in
     let high : lengths groups ≡ ns = same_numbers_back (lengths groups) ns both.0 in
-    let inner = joined (inner_instances ns others environments) in
+    let inner = concatenation (inner_instances ns others environments) in
     let within : Bears streams (items_bound sources ++ given) (without item.0 names) (opened items ++ context) inner =
     items_borne streams given context ns environments long sources items (without item.0 names) others rest both.1
     (subst (λ l. Bears streams given l context (copied (zip ns environments))) (without_last items item.0 names) bears) in
-    let counted : length (joined groups) ≡ length inner =
+    let counted : length (concatenation groups) ≡ length inner =
     sym (joined_length groups) ∙ ap sum (high ∙ sym (inner_lengths ns others environments both.1 long)) ∙ joined_length (inner_instances ns others environments) in
-    let values : Carries streams (item_wires source.1) item.1 (joined groups) =
-    subst (λ gs. Carries streams (item_wires source.1) item.1 (joined gs)) (elements_made groups) (items_carry streams source.1 item.1 (map a_seq_of groups) c) in
-    let here = borne_with streams (items_bound sources ++ given) item.0 (item_wires source.1) item.1 names (opened items ++ context) inner (joined groups) counted values within in
-    let instances : joined (inner_instances ns all environments) ≡ with_name item.0 inner (joined groups) =
-    ap (λ l. joined (inner_instances ns l environments)) is ∙ instances_with item.0 ns groups others environments high both.1 long in
-    subst (λ name. Bears streams ((name, item_wires source.1) ∷ (items_bound sources ++ given)) names (opened (item ∷ items) ++ context) (joined (inner_instances ns all environments))) (sym named)
+    let values : Carries streams (item_wires source.1) item.1 (concatenation groups) =
+    subst (λ gs. Carries streams (item_wires source.1) item.1 (concatenation gs)) (elements_made groups) (items_carry streams source.1 item.1 (map a_seq_of groups) c) in
+    let here = borne_with streams (items_bound sources ++ given) item.0 (item_wires source.1) item.1 names (opened items ++ context) inner (concatenation groups) counted values within in
+    let instances : concatenation (inner_instances ns all environments) ≡ with_name item.0 inner (concatenation groups) =
+    ap (λ l. concatenation (inner_instances ns l environments)) is ∙ instances_with item.0 ns groups others environments high both.1 long in
+    subst (λ name. Bears streams ((name, item_wires source.1) ∷ (items_bound sources ++ given)) names (opened (item ∷ items) ++ context) (concatenation (inner_instances ns all environments))) (sym named)
     (subst (Bears streams ((item.0, item_wires source.1) ∷ (items_bound sources ++ given)) names (opened (item ∷ items) ++ context)) (sym instances) here)
 
 -- makings one behind the other
@@ -118,19 +118,19 @@ does_go streams t first rest First d (Some vs) does = then_does first rest strea
 
 -- the body's values as sequences
 body_goes : (streams : Columns) (f : ℕ) (making : Making Wires) (t : Ty) (value : Environment → Option Value) (inners : List (List Environment))
-    → streams_at (f ∷ []) streams ≡ Some (flags (lengths inners) ∷ []) → GoesTo streams t making (each value (joined inners))
+    → streams_at (f ∷ []) streams ≡ Some (flags (lengths inners) ∷ []) → GoesTo streams t making (each value (concatenation inners))
     → GoesTo streams (seq t) (and_then making (λ w k. done (segments f w) k)) (option_map (map a_seq_of) (each (each value) inners))
 body_goes streams f making t value inners there goes = by_case (each (each value) inners) refl
   where
     by_case : (o : Option (List (List Value))) → each (each value) inners ≡ o → GoesTo streams (seq t) (and_then making (λ w k. done (segments f w) k)) (option_map (map a_seq_of) o)
     by_case None e =
-        first_stops making (λ w k. done (segments f w) k) streams (subst (GoesTo streams t making) (sym (each_joined value inners) ∙ ap (option_map joined) e) goes)
+        first_stops making (λ w k. done (segments f w) k) streams (subst (GoesTo streams t making) (sym (each_joined value inners) ∙ ap (option_map concatenation) e) goes)
     by_case (Some all) e =
-        let makes : Makes streams t making (joined all) = subst (GoesTo streams t making) (sym (each_joined value inners) ∙ ap (option_map joined) e) goes in
+        let makes : Makes streams t making (concatenation all) = subst (GoesTo streams t making) (sym (each_joined value inners) ∙ ap (option_map concatenation) e) goes in
         let same : all ≡ map elements_of (map a_seq_of all) = sym (elements_made all) in
         segments_makes streams f making t (map a_seq_of all)
         (there ∙ ap (λ ns. Some (flags ns ∷ [])) (sym (each_lengths value inners all e) ∙ ap lengths same))
-        (subst (λ gs. Makes streams t making (joined gs)) same makes) (groups_made t all makes.3.are)
+        (subst (λ gs. Makes streams t making (concatenation gs)) same makes) (groups_made t all makes.3.are)
 
 -- the values of a comprehension
 module _ (place : ℕ) (columns : Environment → Option Sequences) (inside_value : List Environment → Option Value) where
@@ -163,7 +163,7 @@ module _ (place : ℕ) (columns : Environment → Option Sequences) (inside_valu
 abbrev pub GoesInside : (ℕ → Bound → (control next : ℕ) → Making Wires) → (List Environment → Option Value) → Names → Context → Ty → Type 0
 GoesInside within inside_value names context t =
     (streams : Columns) (f : ℕ) (bound : Bound) (control : ℕ) (inners : List (List Environment))
-    → streams_at (f ∷ []) streams ≡ Some (flags (lengths inners) ∷ []) → Bears streams bound names context (joined inners) → Controls streams control (length (joined inners))
+    → streams_at (f ∷ []) streams ≡ Some (flags (lengths inners) ∷ []) → Bears streams bound names context (concatenation inners) → Controls streams control (length (concatenation inners))
     → GoesTo streams t (within f bound control (length streams)) (each inside_value inners)
 
 -- whatever is made inside
@@ -201,9 +201,9 @@ module _ (context : Context) (at place : ℕ) (item : Declaration) (items : List
       let on = streams ++ units.0 in
       let bound = items_bound sources ++ inner in
       let control = stream_of making.given in
-      let controlled : Controls on control (length (joined inners)) =
+      let controlled : Controls on control (length (concatenation inners)) =
       subst (Controls on control) (ap sum (sym high) ∙ joined_length inners) units.3 in
-      let borne : Bears on bound inner_names (opened (item ∷ items) ++ inside context) (joined inners) =
+      let borne : Bears on bound inner_names (opened (item ∷ items) ++ inside context) (concatenation inners) =
       items_borne on inner (inside context) ns environments long sources (item ∷ items) inner_names all (sources_on streams units.0 sources (item ∷ items) all c) fit
       (borne_on streams units.0 inner outer_names (inside context) (copied (zip ns environments)) bears) in
       let there : streams_at (f ∷ []) on ≡ Some (flags (lengths inners) ∷ []) =
@@ -333,7 +333,7 @@ each_means context at place item items t names inner_names sources body columns 
     let within : ℕ → Bound → ℕ → ℕ → Making Wires = λ f bound control k. and_then (body bound control k) (λ w k. done (segments f w) k) in
     let goes : GoesInside within inside_value inner_names (opened (item ∷ items) ++ inside context) (seq t) = λ streams f bound control inners there bears controls.
     subst (GoesTo streams (seq t) (within f bound control (length streams))) (sym (map_each (each value) a_seq_of inners))
-    (body_goes streams f (body bound control (length streams)) t value inners there (means streams bound control (joined inners) bears controls)) in
+    (body_goes streams f (body bound control (length streams)) t value inners there (means streams bound control (concatenation inners) bears controls)) in
     subst (GoesTo streams (seq t) (comprehension at (without_items (item ∷ items) inner_names) sources within bound control (length streams)))
     (each_same (each_value place columns inside_value) _ (rows_inside place columns value a_seq_of) environments)
     (comprehension_means context at place item items (seq t) inner_names within columns inside_value usable goes names sources h streams bound control environments bears controls)
@@ -350,34 +350,34 @@ made_in_turn first second rest =
 
 -- sequences of sequences, each as one
 concats : (dialect : Dialect) (at : ℕ) (lss : List (List (List Value)))
-    → go_all (λ v. applied dialect at Concat (v ∷ [])) (map (λ ls. a_seq_of (map a_seq_of ls)) lss) ≡ gives (map (λ ls. a_seq_of (joined ls)) lss)
-concats dialect at lss = go_all_gives (λ ls. a_seq_of (map a_seq_of ls)) (λ v. applied dialect at Concat (v ∷ [])) (λ ls. a_seq_of (joined ls)) (concat_gives dialect at) lss
+    → go_all (λ v. applied dialect at Concat (v ∷ [])) (map (λ ls. a_seq_of (map a_seq_of ls)) lss) ≡ gives (map (λ ls. a_seq_of (concatenation ls)) lss)
+concats dialect at lss = go_all_gives (λ ls. a_seq_of (map a_seq_of ls)) (λ v. applied dialect at Concat (v ∷ [])) (λ ls. a_seq_of (concatenation ls)) (concat_gives dialect at) lss
 
 module _ (dialect : Dialect) (at : ℕ) (t : Ty) (kept_values : Environment → Option (List Value)) where
   abbrev kept_sequence : Environment → Option Value
   kept_sequence environment = option_map a_seq_of (kept_values environment)
 
   abbrev one_sequence : List (List Value) → Value
-  one_sequence ls = a_seq_of (joined ls)
+  one_sequence ls = a_seq_of (concatenation ls)
 
   -- of what is kept of each instance one sequence
   concat_inside : (streams : Columns) (f : ℕ) (making : Making Wires) (inners : List (List Environment)) → streams_at (f ∷ []) streams ≡ Some (flags (lengths inners) ∷ [])
-      → GoesTo streams (seq t) making (each kept_sequence (joined inners))
+      → GoesTo streams (seq t) making (each kept_sequence (concatenation inners))
       → GoesTo streams (seq t) (and_then making (λ w k. concatenated at (segments f w) k)) (each (λ inner. option_map one_sequence (each kept_values inner)) inners)
   concat_inside streams f making inners there goes =
       subst (GoesTo streams (seq t) (and_then making (λ w k. concatenated at (segments f w) k))) (sym (map_each (each kept_values) one_sequence inners)) (by_case (each (each kept_values) inners) refl)
     where
-      sequences : each kept_sequence (joined inners) ≡ option_map (map a_seq_of) (option_map joined (each (each kept_values) inners))
-      sequences = map_each kept_values a_seq_of (joined inners) ∙ ap (option_map (map a_seq_of)) (sym (each_joined kept_values inners))
+      sequences : each kept_sequence (concatenation inners) ≡ option_map (map a_seq_of) (option_map concatenation (each (each kept_values) inners))
+      sequences = map_each kept_values a_seq_of (concatenation inners) ∙ ap (option_map (map a_seq_of)) (sym (each_joined kept_values inners))
 
       by_case : (o : Option (List (List (List Value)))) → each (each kept_values) inners ≡ o
           → GoesTo streams (seq t) (and_then making (λ w k. concatenated at (segments f w) k)) (option_map (map one_sequence) o)
       by_case None e =
           first_stops making (λ w k. concatenated at (segments f w) k) streams
-          (subst (GoesTo streams (seq t) making) (sequences ∙ ap (λ o. option_map (map a_seq_of) (option_map joined o)) e) goes)
+          (subst (GoesTo streams (seq t) making) (sequences ∙ ap (λ o. option_map (map a_seq_of) (option_map concatenation o)) e) goes)
       by_case (Some lss) e =
-          let makes : Makes streams (seq t) making (map a_seq_of (joined lss)) =
-          subst (GoesTo streams (seq t) making) (sequences ∙ ap (λ o. option_map (map a_seq_of) (option_map joined o)) e) goes in
+          let makes : Makes streams (seq t) making (map a_seq_of (concatenation lss)) =
+          subst (GoesTo streams (seq t) making) (sequences ∙ ap (λ o. option_map (map a_seq_of) (option_map concatenation o)) e) goes in
           let on = streams ++ makes.0 in
           let u = segments f making.given in
           let vs = map a_seq_of (map (λ ls. map a_seq_of ls) lss) in
@@ -388,7 +388,7 @@ module _ (dialect : Dialect) (at : ℕ) (t : Ty) (kept_values : Environment → 
           grouped_carry on f making.given (seq t) (map (λ ls. map a_seq_of ls) lss) flagged (subst (Carries on making.given (seq t)) (map_joined a_seq_of lss) makes.3) in
           let answer : go_all (λ v. applied dialect at Concat (v ∷ [])) vs ≡ gives (map one_sequence lss) =
           ap (go_all (λ v. applied dialect at Concat (v ∷ []))) (map_map a_seq_of (λ ls. map a_seq_of ls) lss) ∙ concats dialect at lss in
-          does_go streams (seq t) making (λ w k. concatenated at (segments f w) k) (λ l w. Carries l w (seq t) (map a_seq_of (joined lss))) makes (Some (map one_sequence lss))
+          does_go streams (seq t) making (λ w k. concatenated at (segments f w) k) (λ l w. Carries l w (seq t) (map a_seq_of (concatenation lss))) makes (Some (map one_sequence lss))
           (subst (Goes on (seq t) (concatenated at u (length on))) answer (concat_goes dialect at on u t vs carried))
 
   pub each_where_means : (context : Context) (place : ℕ) (item : Declaration) (items : List Declaration) (names inner_names : Names) (sources : Bound → ℕ → ℕ → Making Sources)
@@ -412,7 +412,7 @@ module _ (dialect : Dialect) (at : ℕ) (t : Ty) (kept_values : Environment → 
       let k = length streams in
       subst (λ making. GoesTo streams (seq t) making (each inside_value inners))
       (made_in_turn (condition bound control k) (λ d k. filter bound (stream_of d) k) (λ w k. concatenated at (segments f w) k))
-      (concat_inside streams f (and_then (condition bound control k) (λ d k. filter bound (stream_of d) k)) inners there (means streams bound control (joined inners) bears controls)) in
+      (concat_inside streams f (and_then (condition bound control k) (λ d k. filter bound (stream_of d) k)) inners there (means streams bound control (concatenation inners) bears controls)) in
       subst (GoesTo streams (seq t) (comprehension at (without_items (item ∷ items) inner_names) sources within bound control (length streams)))
       (each_same (each_value place columns inside_value) _ (rows_inside place columns kept_values one_sequence) environments)
       (comprehension_means context at place item items (seq t) inner_names within columns inside_value usable goes names sources h streams bound control environments bears controls)

@@ -13,12 +13,12 @@ use Rattle.snesl_operators.specs.Operators.{ranged}
 use Rattle.snesl_tree.specs.declared.operator.Builtin.TheVariants.{Iota, Length, The, Tab, Seq, Fst, Snd}
 use Rattle.flow_messages.specs.Cells.{int as int_cell, datum}
 use Rattle.flow_base.specs.Columns.{Columns}
-use Rattle.flow_base.specs.Flags.{flags, joined, lengths}
+use Rattle.flow_base.specs.Flags.{flags, concatenation, lengths}
 use Rattle.flow_scalar.specs.Rows.{numbers_from, numbers_below as cells_below}
 use Rattle.flow_values.specs.Shapes.{cell_for, first_of, second_of, elements_of}
 use Rattle.flow_rows.specs.Lists.{bind, each, only_if, same_lists}
 use Rattle.flow_rows.specs.Decoded.{a_pair_of, a_seq_of}
-use Rattle.flow_rows.specs.Made.{one, integer_cells, laid, natural, the_check_made, tab_of, tab_made, seq_made}
+use Rattle.flow_rows.specs.Made.{one, integer_cells, columns_of_values, natural, the_check_made, tab_of, tab_made, seq_made}
 use Rattle.flow_rows.proofs.Options.{map_gives, some_same, only_if_true, map_map, map_append}
 use Rattle.flow_rows.proofs.Mapped.{map_some_map, map_some_same}
 use Rattle.flow_rows.proofs.Decoding.{numbers_forth, integers_forth}
@@ -44,9 +44,9 @@ below_cells : (k n : ℕ) → map cell_for (map (λ i. an_int (pos i)) (range_wi
 below_cells k zero = refl
 below_cells k (suc n) = ap (λ l. int_cell (pos k) ∷ l) (below_cells (k + 1) n)
 
-cells_joined : (ks : List ℕ) → map cell_for (joined (map numbers_below ks)) ≡ joined (map cells_below ks)
+cells_joined : (ks : List ℕ) → map cell_for (concatenation (map numbers_below ks)) ≡ concatenation (map cells_below ks)
 cells_joined [] = refl
-cells_joined (k ∷ ks) = map_append cell_for (numbers_below k) (joined (map numbers_below ks)) ∙ ap₂ (λ a b. a ++ b) (below_cells 0 k) (cells_joined ks)
+cells_joined (k ∷ ks) = map_append cell_for (numbers_below k) (concatenation (map numbers_below ks)) ∙ ap₂ (λ a b. a ++ b) (below_cells 0 k) (cells_joined ks)
 
 lengths_below : (ks : List ℕ) → lengths (map numbers_below ks) ≡ ks
 lengths_below [] = refl
@@ -60,9 +60,9 @@ ints_below k (suc n) = ints_below (k + 1) n
 abbrev counted : ℕ → Value
 counted n = a_seq_of (numbers_below n)
 
-counted_laid : (ks : List ℕ) → flags ks ∷ joined (map cells_below ks) ∷ [] ≡ laid (seq int) (map counted ks)
+counted_laid : (ks : List ℕ) → flags ks ∷ concatenation (map cells_below ks) ∷ [] ≡ columns_of_values (seq int) (map counted ks)
 counted_laid ks = sym (
-    ap (laid (seq int)) (sym (map_map a_seq_of numbers_below ks)) ∙ laid_groups int (map numbers_below ks)
+    ap (columns_of_values (seq int)) (sym (map_map a_seq_of numbers_below ks)) ∙ laid_groups int (map numbers_below ks)
     ∙ ap₂ (λ f c. flags f ∷ c ∷ []) (lengths_below ks) (cells_joined ks))
 
 -- the one item, where there is no other
@@ -84,7 +84,7 @@ ones_only ((v ∷ w ∷ g) ∷ gs) =
 the_made : (gs : List (List Value)) → the_check_made (flags (lengths gs) ∷ []) ≡ option_map (λ (vs : List Value). []) (each the_of gs)
 the_made gs = ap (λ o. bind o (λ ns. only_if (same_lists ◌==◌ ns (replicate (length ns) 1)) [])) (numbers_forth (lengths gs)) ∙ ones_only gs
 
-the_joined : (gs : List (List Value)) (vs : List Value) → each the_of gs ≡ Some vs → joined gs ≡ vs
+the_joined : (gs : List (List Value)) (vs : List Value) → each the_of gs ≡ Some vs → concatenation gs ≡ vs
 the_joined [] vs e = some_same [] vs e
 the_joined ([] ∷ gs) vs e = absurd (cc)
 the_joined ((v ∷ []) ∷ gs) vs e = let g = map_gives (λ vs. v ∷ vs) (each the_of gs) e in ap (λ l. v ∷ l) (the_joined gs g.0 g.1) ∙ sym g.2
@@ -131,12 +131,12 @@ module _ (dialect : Dialect) (at : ℕ) where
         let ns = view.0 in
         let there : streams_at (stream_of u ∷ []) streams ≡ Some (integer_cells ns ∷ []) = stream_carries streams u int vs tt c ∙ ap (λ cs. Some (cs ∷ [])) (ap (map cell_for) view.1 ∙ cells_of_integers ns) in
         step_goes streams at iota (stream_of u ∷ []) (seq int) (integer_cells ns ∷ []) an_int (λ v. applied dialect at Iota (v ∷ [])) counted natural ns vs view.1 there
-        (ap (λ o. option_map (λ ns. flags ns ∷ joined (map cells_below ns) ∷ []) (bind o (each natural))) (integers_forth ns)
-        ∙ map_some_same (λ ks. flags ks ∷ joined (map cells_below ks) ∷ []) (λ ks. laid (seq int) (map counted ks)) (each natural ns) counted_laid)
+        (ap (λ o. option_map (λ ns. flags ns ∷ concatenation (map cells_below ns) ∷ []) (bind o (each natural))) (integers_forth ns)
+        ∙ map_some_same (λ ks. flags ks ∷ concatenation (map cells_below ks) ∷ []) (λ ks. columns_of_values (seq int) (map counted ks)) (each natural ns) counted_laid)
         iota_agrees (each_are (seq int) counted natural (λ z b e. ints_below 0 b) ns)
 
     the_either : (u : Wires) (t : Ty) (gs : List (List Value)) (a : Answer (List Value)) (o : Option (List Value)) → streams_at (stream_of u ∷ []) streams ≡ Some (flags (lengths gs) ∷ [])
-        → Carries streams (item_wires u) t (joined gs) → each the_of gs ≡ o → Agrees a o → Goes streams t (tested at the_check (stream_of u ∷ []) (item_wires u) (length streams)) a
+        → Carries streams (item_wires u) t (concatenation gs) → each the_of gs ≡ o → Agrees a o → Goes streams t (tested at the_check (stream_of u ∷ []) (item_wires u) (length streams)) a
     the_either u t gs (gives vs) (Some ws) there c e h = (
       [],
       tested_runs streams at the_check (stream_of u ∷ []) (item_wires u) (length streams) (flags (lengths gs) ∷ []) there (the_made gs ∙ ap (option_map (λ (vs : List Value). [])) e),
@@ -159,13 +159,13 @@ module _ (dialect : Dialect) (at : ℕ) where
     tab_goes u t vs concrete c =
         let by = grouped_from streams u t vs c in
         let gs = by.groups in
-        let there : streams_at (numbers_of u) streams ≡ Some (laid (seq t) (map a_seq_of gs)) = c.there ∙ ap (λ vs. Some (laid (seq t) vs)) by.view in
+        let there : streams_at (numbers_of u) streams ≡ Some (columns_of_values (seq t) (map a_seq_of gs)) = c.there ∙ ap (λ vs. Some (columns_of_values (seq t) vs)) by.view in
         let some = λ (g : List Value). Some g in
-        let made : tab_made t (laid (seq t) (map a_seq_of gs)) ≡ option_map (λ bs. laid (vec t) (map a_vec_of bs)) (each some gs) =
+        let made : tab_made t (columns_of_values (seq t) (map a_seq_of gs)) ≡ option_map (λ bs. columns_of_values (vec t) (map a_vec_of bs)) (each some gs) =
         tab_makes t gs by.items.are ∙ ap (one (map datum)) (each_tabs t concrete gs) ∙ ap (λ cs. Some (cs ∷ [])) (sym (cells_of_vectors gs))
-        ∙ ap (option_map (λ bs. laid (vec t) (map a_vec_of bs))) (sym (each_some gs)) in
+        ∙ ap (option_map (λ bs. columns_of_values (vec t) (map a_vec_of bs))) (sym (each_some gs)) in
         let goes : Goes streams (vec t) (stepped at (tab t) (numbers_of u) (vec t) (length streams)) (go_all (λ v. applied dialect at Tab (v ∷ [])) vs) =
-        step_goes streams at (tab t) (numbers_of u) (vec t) (laid (seq t) (map a_seq_of gs)) a_seq_of (λ v. applied dialect at Tab (v ∷ [])) a_vec_of some gs vs by.view there made
+        step_goes streams at (tab t) (numbers_of u) (vec t) (columns_of_values (seq t) (map a_seq_of gs)) a_seq_of (λ v. applied dialect at Tab (v ∷ [])) a_vec_of some gs vs by.view there made
         (λ g. ap (λ l. Some (a_vec (values_of l))) (sym (list_values g)))
         (λ bs e. subst (λ bs. AllAre (vec t) (map a_vec_of bs)) (some_same gs bs (sym (each_some gs) ∙ e)) (vectors_of_groups t gs by.items.are)) in
         subst (λ item. Goes streams (vec t) (stepped at (tab item) (numbers_of u) (vec item) (length streams)) (go_all (λ v. applied dialect at Tab (v ∷ [])) vs)) (sym by.items.of_type) goes
@@ -177,10 +177,10 @@ module _ (dialect : Dialect) (at : ℕ) where
         let are : AllAre (vec t) (map a_vec_of gs) = subst (AllAre (vec t)) view.1 c.are in
         let there : streams_at (stream_of u ∷ []) streams ≡ Some (map datum (map a_vec_of gs) ∷ []) = stream_carries streams u (vec t) vs tt c ∙ ap (λ cs. Some (cs ∷ [])) (ap (map cell_for) view.1 ∙ cells_of_vectors gs) in
         let some = λ (g : List Value). Some g in
-        let same : laid (seq t) (map a_vec_of gs) ≡ laid (seq t) (map a_seq_of gs) =
-        laid_seq t (map a_vec_of gs) ∙ ap (λ gs. flags (lengths gs) ∷ laid t (joined gs)) (vector_elements gs) ∙ sym (laid_groups t gs) in
-        let made : seq_made t (map datum (map a_vec_of gs) ∷ []) ≡ option_map (λ bs. laid (seq t) (map a_seq_of bs)) (each some gs) =
-        seq_makes t (map a_vec_of gs) are ∙ ap Some same ∙ ap (option_map (λ bs. laid (seq t) (map a_seq_of bs))) (sym (each_some gs)) in
+        let same : columns_of_values (seq t) (map a_vec_of gs) ≡ columns_of_values (seq t) (map a_seq_of gs) =
+        laid_seq t (map a_vec_of gs) ∙ ap (λ gs. flags (lengths gs) ∷ columns_of_values t (concatenation gs)) (vector_elements gs) ∙ sym (laid_groups t gs) in
+        let made : seq_made t (map datum (map a_vec_of gs) ∷ []) ≡ option_map (λ bs. columns_of_values (seq t) (map a_seq_of bs)) (each some gs) =
+        seq_makes t (map a_vec_of gs) are ∙ ap Some same ∙ ap (option_map (λ bs. columns_of_values (seq t) (map a_seq_of bs))) (sym (each_some gs)) in
         let goes : Goes streams (seq t) (stepped at (seq_of t) (stream_of u ∷ []) (seq t) (length streams)) (go_all (λ v. applied dialect at Seq (v ∷ [])) vs) =
         step_goes streams at (seq_of t) (stream_of u ∷ []) (seq t) (map datum (map a_vec_of gs) ∷ []) a_vec_of (λ v. applied dialect at Seq (v ∷ [])) a_seq_of some gs vs view.1 there made
         (λ g. ap (λ l. Some (a_seq_of l)) (sym (list_values g)))

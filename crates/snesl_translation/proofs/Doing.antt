@@ -5,7 +5,7 @@ use Rattle.snesl_data.specs.Types.{Ty, int, bool, pair, vec, seq}
 use Rattle.snesl_data.specs.Values.{Value, an_int, a_bool, a_vec}
 use Rattle.flow_messages.specs.Cells.{Cell, is_of}
 use Rattle.flow_base.specs.Columns.{Columns}
-use Rattle.flow_base.specs.Flags.{flags, joined, lengths}
+use Rattle.flow_base.specs.Flags.{flags, concatenation, lengths}
 use Rattle.flow_base.specs.Ranges.{AllOf}
 use Rattle.flow_values.specs.Shapes.{is_a, cell_for, first_of, second_of, elements_of}
 use Rattle.flow_rows.specs.Lists.{bind}
@@ -75,12 +75,12 @@ pair_makes streams first second s t ws one other are =
 
 -- the elements, beside flags that are there
 pub segments_makes : (streams : Columns) (f : ℕ) (making : Making Wires) (t : Ty) (ws : List Value) → streams_at (f ∷ []) streams ≡ Some (flags (lengths (map elements_of ws)) ∷ [])
-    → Makes streams t making (joined (map elements_of ws)) → AllAre (seq t) ws → Makes streams (seq t) (and_then making (λ u k. done (segments f u) k)) ws
+    → Makes streams t making (concatenation (map elements_of ws)) → AllAre (seq t) ws → Makes streams (seq t) (and_then making (λ u k. done (segments f u) k)) ws
 segments_makes streams f making t ws there items are =
     let Segments : Columns → Wires → Type 0 = λ l w. Carries l w (seq t) ws in
     let on = streams ++ items.0 in
     let carried = segments_carry on f making.given t ws (grown (f ∷ []) streams items.0 (flags (lengths (map elements_of ws)) ∷ []) there) items.3 are in
-    then_does making (λ u k. done (segments f u) k) streams (λ l w. Carries l w t (joined (map elements_of ws))) Segments items
+    then_does making (λ u k. done (segments f u) k) streams (λ l w. Carries l w t (concatenation (map elements_of ws))) Segments items
     (done_does (segments f making.given) on Segments carried)
 
 -- the cells of values of a type of one edge are of its kind

@@ -9,7 +9,7 @@ use Rattle.snesl_operators.specs.declared.scalar.Scalar.TheVariants.{Bool as Tru
 use Rattle.snesl_types.specs.Contexts.{Context}
 use Rattle.flow_messages.specs.Cells.{flag, unit}
 use Rattle.flow_base.specs.Columns.{Columns}
-use Rattle.flow_base.specs.Flags.{flags, joined, lengths}
+use Rattle.flow_base.specs.Flags.{flags, concatenation, lengths}
 use Rattle.flow_segment.specs.Rows.{one_if}
 use Rattle.flow_values.specs.Shapes.{cell_for, elements_of}
 use Rattle.flow_rows.specs.Lists.{bind, each, pack, kept as kept_items}
@@ -48,18 +48,18 @@ then_go first rest streams First t (Some vs) d makes = then_makes first streams 
 
 -- the elements of groups, beside the flags of the groups
 pub groups_go : {X : Type 0} (streams : Columns) (f : ℕ) (making : Making Wires) (t : Ty) (value : X → Option Value) (groups : List (List X)) → streams_at (f ∷ []) streams ≡ Some (flags (lengths groups) ∷ [])
-    → GoesTo streams t making (each value (joined groups))
+    → GoesTo streams t making (each value (concatenation groups))
     → GoesTo streams (seq t) (and_then making (λ w k. done (segments f w) k)) (option_map (map a_seq_of) (each (each value) groups))
 groups_go streams f making t value groups there goes = by_case (each (each value) groups) (each_joined value groups) (each_lengths value groups)
   where
-    by_case : (o : Option (List (List Value))) → option_map joined o ≡ each value (joined groups) → ((all : List (List Value)) → o ≡ Some all → lengths all ≡ lengths groups)
+    by_case : (o : Option (List (List Value))) → option_map concatenation o ≡ each value (concatenation groups) → ((all : List (List Value)) → o ≡ Some all → lengths all ≡ lengths groups)
         → GoesTo streams (seq t) (and_then making (λ w k. done (segments f w) k)) (option_map (map a_seq_of) o)
     by_case None e long = first_stops making (λ w k. done (segments f w) k) streams (subst (GoesTo streams t making) (sym e) goes)
     by_case (Some gs) e long =
-        let makes : Makes streams t making (joined gs) = subst (GoesTo streams t making) (sym e) goes in
+        let makes : Makes streams t making (concatenation gs) = subst (GoesTo streams t making) (sym e) goes in
         let back : gs ≡ map elements_of (map a_seq_of gs) = sym (elements_made gs) in
         segments_makes streams f making t (map a_seq_of gs) (there ∙ ap (λ ns. Some (flags ns ∷ [])) (sym (long gs refl) ∙ ap (λ gs. lengths gs) back))
-        (subst (λ gs. Makes streams t making (joined gs)) back makes) (groups_made t gs makes.3.are)
+        (subst (λ gs. Makes streams t making (concatenation gs)) back makes) (groups_made t gs makes.3.are)
 
 -- Instances beside which true stands
 
@@ -68,12 +68,12 @@ abbrev pub chosen : {A : Type 0} → A × Bool → List A
 chosen (x, true) = x ∷ []
 chosen (x, false) = []
 
-kept_chosen : {A : Type 0} (ps : List (A × Bool)) → kept_items (map (λ p. (p.1, p.0)) ps) ≡ joined (map chosen ps)
+kept_chosen : {A : Type 0} (ps : List (A × Bool)) → kept_items (map (λ p. (p.1, p.0)) ps) ≡ concatenation (map chosen ps)
 kept_chosen [] = refl
 kept_chosen ((x, true) ∷ ps) = ap (λ l. x ∷ l) (kept_chosen ps)
 kept_chosen ((x, false) ∷ ps) = kept_chosen ps
 
-pack_chosen : {A : Type 0} (ps : List (A × Bool)) → pack (map (λ p. p.1) ps) (map (λ p. p.0) ps) ≡ Some (joined (map chosen ps))
+pack_chosen : {A : Type 0} (ps : List (A × Bool)) → pack (map (λ p. p.1) ps) (map (λ p. p.0) ps) ≡ Some (concatenation (map chosen ps))
 pack_chosen ps = ap (option_map kept_items) (paired_map (λ p. p.1) (λ p. p.0) ps) ∙ ap Some (kept_chosen ps)
 
 lengths_chosen : {A : Type 0} (ps : List (A × Bool)) → lengths (map chosen ps) ≡ map one_if (map (λ p. p.1) ps)
@@ -111,7 +111,7 @@ module _ (context : Context) (at : ℕ) (names : Names) (t : Ty) (item : Bound �
       let ds = map (λ p. p.1) ps in
       let environments = map (λ p. p.0) ps in
       let groups = map chosen ps in
-      let inner = joined groups in
+      let inner = concatenation groups in
       let ns = lengths groups in
       let o = option_map (map a_seq_of) (each (each value) groups) in
       let flagged : Writes streams (flags_stepped at flag_of_bool (d ∷ []) (length streams)) (flags ns) =

@@ -12,7 +12,7 @@ use Rattle.snesl_evaluation.specs.Answer.{Answer, gives, faults, go, go_all, go_
 use Rattle.snesl_evaluation.specs.Builtins.{truth_at, items_at, seq_answer}
 use Rattle.snesl_evaluation.specs.Eval.{Calls, eval, eval_all, eval_binders, kept as kept_answer, Columns as Sequences, in_step as rows_in_step}
 use Rattle.snesl_types.specs.Contexts.{Context, opened, inside}
-use Rattle.flow_base.specs.Flags.{joined}
+use Rattle.flow_base.specs.Flags.{concatenation}
 use Rattle.flow_rows.specs.Lists.{bind, each}
 use Rattle.flow_rows.specs.Decoded.{a_seq_of}
 use Rattle.snesl_translation.specs.Wires.{Wires, segments, stream_of, Bound}
@@ -37,14 +37,14 @@ sequence_given : (answer : Answer (List Value)) → given_by (seq_answer answer)
 sequence_given (gives vs) = refl
 sequence_given (faults kind at) = refl
 
-joined_given : {X : Type 0} (f : X → Answer (List Value)) (xs : List X) → given_by (go_join f xs) ≡ option_map joined (each (λ x. given_by (f x)) xs)
+joined_given : {X : Type 0} (f : X → Answer (List Value)) (xs : List X) → given_by (go_join f xs) ≡ option_map concatenation (each (λ x. given_by (f x)) xs)
 joined_given f [] = refl
 joined_given f (x ∷ xs) = by_case (f x) (go_join f xs) (each (λ x. given_by (f x)) xs) (joined_given f xs)
   where
-    by_case : (a : Answer (List Value)) (others : Answer (List Value)) (o : Option (List (List Value))) → given_by others ≡ option_map joined o
-        → given_by (go a (λ ys. go others (λ zs. gives (ys ++ zs)))) ≡ option_map joined (bind (given_by a) (λ y. option_map (λ ys. y ∷ ys) o))
+    by_case : (a : Answer (List Value)) (others : Answer (List Value)) (o : Option (List (List Value))) → given_by others ≡ option_map concatenation o
+        → given_by (go a (λ ys. go others (λ zs. gives (ys ++ zs)))) ≡ option_map concatenation (bind (given_by a) (λ y. option_map (λ ys. y ∷ ys) o))
     by_case (faults kind at) others o h = refl
-    by_case (gives ys) (gives zs) (Some rest) h = let same : zs ≡ joined rest = cc in ap (λ l. Some (ys ++ l)) same
+    by_case (gives ys) (gives zs) (Some rest) h = let same : zs ≡ concatenation rest = cc in ap (λ l. Some (ys ++ l)) same
     by_case (gives ys) (gives zs) None h = absurd (cc)
     by_case (gives ys) (faults kind at) (Some rest) h = absurd (cc)
     by_case (gives ys) (faults kind at) None h = refl
@@ -235,7 +235,7 @@ module _ (dialect : Dialect) (text : List ℕ) (calls : Calls) (bodies : Bodies)
       and_then (filters (items_bound sources ++ inner) (stream_of d) k) (λ w k.
       concatenated at (segments (first_flags sources) w) k)))))) in
       let told : Environment → Option Value = λ environment. bind (columns environment) (λ columns. bind (given_by (rows_in_step at columns)) (λ rows.
-      option_map (λ ls. a_seq_of (joined ls)) (each (λ row. kept_values (row ++ environment)) rows))) in
+      option_map (λ ls. a_seq_of (concatenation ls)) (each (λ row. kept_values (row ++ environment)) rows))) in
       let kept_means : Means (λ b c k. and_then (tr dialect text bodies condition b c k) (λ d k. filters b (stream_of d) k)) (λ environment. option_map a_seq_of (kept_values environment)) inner_names inner (seq t) =
       means_same inner (seq t) inner_names (λ b c k. and_then (tr dialect text bodies condition b c k) (λ d k. filters b (stream_of d) k))
       (λ environment. given_by (go (eval dialect condition text calls environment) (λ v. go (truth_at at v) (λ b. seq_answer (kept_answer b (eval dialect body text calls environment))))))
@@ -251,17 +251,17 @@ module _ (dialect : Dialect) (text : List ℕ) (calls : Calls) (bodies : Bodies)
     where
       same_value : (environment : Environment)
           → bind (given_by (eval_binders dialect binders text calls environment)) (λ columns. bind (given_by (rows_in_step at columns)) (λ rows.
-          option_map (λ ls. a_seq_of (joined ls)) (each (λ row. given_by (go (eval dialect condition text calls (row ++ environment)) (λ v. go (truth_at at v) (λ b. kept_answer b (eval dialect body text calls (row ++ environment)))))) rows)))
+          option_map (λ ls. a_seq_of (concatenation ls)) (each (λ row. given_by (go (eval dialect condition text calls (row ++ environment)) (λ v. go (truth_at at v) (λ b. kept_answer b (eval dialect body text calls (row ++ environment)))))) rows)))
           ≡ given_by (eval dialect (each_tree at body binders (only_where condition)) text calls environment)
       same_value environment =
           let f : Environment → Answer (List Value) = λ row. go (eval dialect condition text calls (row ++ environment)) (λ v. go (truth_at at v) (λ b. kept_answer b (eval dialect body text calls (row ++ environment)))) in
           sym (given_go (eval_binders dialect binders text calls environment) (λ columns. go (rows_in_step at columns) (λ rows. seq_answer (go_join f rows)))
           ∙ bind_same (given_by (eval_binders dialect binders text calls environment)) (λ columns. given_by (go (rows_in_step at columns) (λ rows. seq_answer (go_join f rows))))
-          (λ columns. bind (given_by (rows_in_step at columns)) (λ rows. option_map (λ ls. a_seq_of (joined ls)) (each (λ row. given_by (f row)) rows)))
+          (λ columns. bind (given_by (rows_in_step at columns)) (λ rows. option_map (λ ls. a_seq_of (concatenation ls)) (each (λ row. given_by (f row)) rows)))
           (λ columns. given_go (rows_in_step at columns) (λ rows. seq_answer (go_join f rows))
-          ∙ bind_same (given_by (rows_in_step at columns)) (λ rows. given_by (seq_answer (go_join f rows))) (λ rows. option_map (λ ls. a_seq_of (joined ls)) (each (λ row. given_by (f row)) rows))
+          ∙ bind_same (given_by (rows_in_step at columns)) (λ rows. given_by (seq_answer (go_join f rows))) (λ rows. option_map (λ ls. a_seq_of (concatenation ls)) (each (λ row. given_by (f row)) rows))
           (λ rows. sequence_given (go_join f rows) ∙ ap (option_map a_seq_of) (joined_given f rows) ∙ sequences_of (each (λ row. given_by (f row)) rows))))
         where
-          sequences_of : (o : Option (List (List Value))) → option_map a_seq_of (option_map joined o) ≡ option_map (λ ls. a_seq_of (joined ls)) o
+          sequences_of : (o : Option (List (List Value))) → option_map a_seq_of (option_map concatenation o) ≡ option_map (λ ls. a_seq_of (concatenation ls)) o
           sequences_of None = refl
           sequences_of (Some ls) = refl

@@ -4,7 +4,7 @@ use Rattle.std.proofs.Common.{sym, ap, ◌∙◌, subst}
 use Rattle.snesl_data.specs.Types.{Ty, vec, seq}
 use Rattle.snesl_data.specs.Values.{Value}
 use Rattle.flow_base.specs.Columns.{Columns}
-use Rattle.flow_base.specs.Flags.{flags, joined, lengths}
+use Rattle.flow_base.specs.Flags.{flags, concatenation, lengths}
 use Rattle.flow_values.specs.Shapes.{elements_of}
 use Rattle.flow_rows.specs.Lists.{bind, each}
 use Rattle.flow_rows.specs.Decoded.{a_seq_of}
@@ -20,7 +20,7 @@ pub record Grouped (streams : Columns) (u : Wires) (t : Ty) (vs : List Value) : 
   pub groups : List (List Value)
   pub view : vs ≡ map a_seq_of groups
   pub flags_there : streams_at (stream_of u ∷ []) streams ≡ Some (flags (lengths groups) ∷ [])
-  pub items : Carries streams (item_wires u) t (joined groups)
+  pub items : Carries streams (item_wires u) t (concatenation groups)
 
 pub grouped_from : (streams : Columns) (u : Wires) (t : Ty) (vs : List Value) → Carries streams u (seq t) vs → Grouped streams u t vs
 grouped_from streams u t vs c =
@@ -30,14 +30,14 @@ grouped_from streams u t vs c =
       groups = all.0;
       view = all.1;
       flags_there = flags_carry streams u t vs c ∙ ap (λ gs. Some (flags (lengths gs) ∷ [])) same;
-      items = subst (λ gs. Carries streams (item_wires u) t (joined gs)) same (items_carry streams u t vs c);
+      items = subst (λ gs. Carries streams (item_wires u) t (concatenation gs)) same (items_carry streams u t vs c);
     }
 
-pub grouped_carry : (streams : Columns) (f : ℕ) (items : Wires) (t : Ty) (gs : List (List Value)) → streams_at (f ∷ []) streams ≡ Some (flags (lengths gs) ∷ []) → Carries streams items t (joined gs)
+pub grouped_carry : (streams : Columns) (f : ℕ) (items : Wires) (t : Ty) (gs : List (List Value)) → streams_at (f ∷ []) streams ≡ Some (flags (lengths gs) ∷ []) → Carries streams items t (concatenation gs)
     → Carries streams (segments f items) (seq t) (map a_seq_of gs)
 grouped_carry streams f items t gs there c =
     let same : gs ≡ map elements_of (map a_seq_of gs) = sym (elements_made gs) in
-    segments_carry streams f items t (map a_seq_of gs) (there ∙ ap (λ gs. Some (flags (lengths gs) ∷ [])) same) (subst (λ gs. Carries streams items t (joined gs)) same c) (groups_made t gs c.are)
+    segments_carry streams f items t (map a_seq_of gs) (there ∙ ap (λ gs. Some (flags (lengths gs) ∷ [])) same) (subst (λ gs. Carries streams items t (concatenation gs)) same c) (groups_made t gs c.are)
 
 pub each_lengths : {A B : Type 0} (f : ℕ → Option B) (gs : List (List A)) → each f (lengths gs) ≡ each (λ g. f (length g)) gs
 each_lengths f [] = refl
@@ -48,9 +48,9 @@ each_some [] = refl
 each_some (x ∷ xs) = ap (option_map (λ l. x ∷ l)) (each_some xs)
 
 -- vectors and sequences of the same elements
-pub vectors_of_groups : (t : Ty) (gs : List (List Value)) → AllAre t (joined gs) → AllAre (vec t) (map a_vec_of gs)
+pub vectors_of_groups : (t : Ty) (gs : List (List Value)) → AllAre t (concatenation gs) → AllAre (vec t) (map a_vec_of gs)
 vectors_of_groups t [] are = refl
-vectors_of_groups t (g ∷ gs) are = let s = all_apart t g (joined gs) are in all_cons (vec t) (a_vec_of g) (map a_vec_of gs) s.0 (vectors_of_groups t gs s.1)
+vectors_of_groups t (g ∷ gs) are = let s = all_apart t g (concatenation gs) are in all_cons (vec t) (a_vec_of g) (map a_vec_of gs) s.0 (vectors_of_groups t gs s.1)
 
 pub groups_of_vectors : (t : Ty) (gs : List (List Value)) → AllAre (vec t) (map a_vec_of gs) → AllAre (seq t) (map a_seq_of gs)
 groups_of_vectors t [] are = refl

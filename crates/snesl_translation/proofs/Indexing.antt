@@ -12,7 +12,7 @@ use Rattle.flow_values.specs.Shapes.{cell_for}
 use Rattle.flow_values.specs.Rows.{element_at}
 use Rattle.flow_values.specs.laws.Index.{element_is}
 use Rattle.flow_rows.specs.Lists.{bind, each, paired}
-use Rattle.flow_rows.specs.Made.{integer_cells, laid, picked, index_made}
+use Rattle.flow_rows.specs.Made.{integer_cells, columns_of_values, picked, index_made}
 use Rattle.flow_rows.proofs.Options.{bind_gives, map_gives, some_same, map_map, paired_map}
 use Rattle.flow_rows.proofs.Mapped.{map_some_same}
 use Rattle.flow_rows.proofs.Encoded.{index_makes}
@@ -75,10 +75,10 @@ module _ (dialect : Dialect) (at : ℕ) (streams : Columns) where
       stream_carries streams v int (map (λ p. p.1) ps) tt cv ∙ ap (λ cs. Some (cs ∷ [])) (ap (map cell_for) right ∙ cells_of_integers ns) in
       let there = streams_joined (stream_of u ∷ []) (stream_of v ∷ []) streams (map datum vectors ∷ []) (integer_cells ns ∷ []) there_left there_right in
       let in_pairs : paired vectors ns ≡ Some (map beside qs) = ap (λ l. paired l ns) (map_map a_vec_of (λ q. q.0) qs) ∙ paired_map (λ q. a_vec_of q.0) (λ q. q.1) qs in
-      let made : index_made item (map datum vectors ∷ integer_cells ns ∷ []) ≡ option_map (λ bs. laid item (map (λ v. v) bs)) (each element_of qs) =
-      index_makes item vectors ns are ∙ ap (λ o. option_map (laid item) (bind o (each picked))) in_pairs
-      ∙ ap (option_map (laid item)) (each_map picked beside qs)
-      ∙ map_some_same (laid item) (λ bs. laid item (map (λ v. v) bs)) (each element_of qs) (λ bs. ap (laid item) (sym (map-id bs))) in
+      let made : index_made item (map datum vectors ∷ integer_cells ns ∷ []) ≡ option_map (λ bs. columns_of_values item (map (λ v. v) bs)) (each element_of qs) =
+      index_makes item vectors ns are ∙ ap (λ o. option_map (columns_of_values item) (bind o (each picked))) in_pairs
+      ∙ ap (option_map (columns_of_values item)) (each_map picked beside qs)
+      ∙ map_some_same (columns_of_values item) (λ bs. columns_of_values item (map (λ v. v) bs)) (each element_of qs) (λ bs. ap (columns_of_values item) (sym (map-id bs))) in
       let goes : Goes streams item (stepped at (index item) (stream_of u ∷ stream_of v ∷ []) item (length streams)) (go_all (λ p. binary_answer dialect at Index p.0 p.1) ps) =
       step_goes streams at (index item) (stream_of u ∷ stream_of v ∷ []) item (map datum vectors ∷ integer_cells ns ∷ []) vector_and_index (λ p. binary_answer dialect at Index p.0 p.1) (λ v. v) element_of qs ps
       view.1 there made element_agrees (elements_typed item qs are) in

@@ -1,7 +1,7 @@
 -- Answers at many instances at once.
 use Rattle.std.specs.Prelude.{◌≡◌, suc, List, [], ◌∷◌, ◌++◌, map, length, zip, Option, Some, None, option_map, refl}
 use Rattle.std.proofs.Common.{sym, ap, ◌∙◌}
-use Rattle.flow_base.specs.Flags.{joined, lengths}
+use Rattle.flow_base.specs.Flags.{concatenation, lengths}
 use Rattle.flow_rows.specs.Lists.{bind, each}
 use Rattle.snesl_evaluation.specs.Answer.{Answer, gives, faults, go, go_all}
 use Rattle.snesl_translation.specs.Carrying.{given_by}
@@ -108,11 +108,11 @@ each_append {A = A} f (x ∷ xs) ys = ap (λ o. bind (f x) (λ y. option_map (λ
     by_case (Some v) (Some vs) (Some ws) = refl
 
 -- all answers of groups are those of the groups joined
-pub each_joined : {X A : Type 0} (f : X → Option A) (groups : List (List X)) → option_map joined (each (each f) groups) ≡ each f (joined groups)
+pub each_joined : {X A : Type 0} (f : X → Option A) (groups : List (List X)) → option_map concatenation (each (each f) groups) ≡ each f (concatenation groups)
 each_joined f [] = refl
-each_joined {A = A} f (g ∷ groups) = by_case (each f g) (each (each f) groups) ∙ ap (λ o. bind (each f g) (λ vs. option_map (λ ws. vs ++ ws) o)) (each_joined f groups) ∙ sym (each_append f g (joined groups))
+each_joined {A = A} f (g ∷ groups) = by_case (each f g) (each (each f) groups) ∙ ap (λ o. bind (each f g) (λ vs. option_map (λ ws. vs ++ ws) o)) (each_joined f groups) ∙ sym (each_append f g (concatenation groups))
   where
-    by_case : (vs : Option (List A)) (others : Option (List (List A))) → option_map joined (bind vs (λ v. option_map (λ o. v ∷ o) others)) ≡ bind vs (λ vs. option_map (λ ws. vs ++ ws) (option_map joined others))
+    by_case : (vs : Option (List A)) (others : Option (List (List A))) → option_map concatenation (bind vs (λ v. option_map (λ o. v ∷ o) others)) ≡ bind vs (λ vs. option_map (λ ws. vs ++ ws) (option_map concatenation others))
     by_case None others = refl
     by_case (Some vs) None = refl
     by_case (Some vs) (Some others) = refl

@@ -7,7 +7,7 @@ use Rattle.snesl_data.specs.Values.{Value}
 use Rattle.flow_messages.specs.Cells.{Cell, flag}
 use Rattle.flow_messages.specs.declared.message.Kind.TheVariants.{Bool as BoolKind}
 use Rattle.flow_base.specs.Columns.{Columns}
-use Rattle.flow_base.specs.Flags.{flags, joined, lengths}
+use Rattle.flow_base.specs.Flags.{flags, concatenation, lengths}
 use Rattle.flow_base.specs.Ranges.{AllOf}
 use Rattle.flow_values.specs.Shapes.{cell_for, first_of, second_of, elements_of}
 use Rattle.flow_rows.specs.Lists.{paired, copied, dist, pack, kept as kept_items}
@@ -41,14 +41,14 @@ pack_no [] bs xs ys e = e
 pack_no (x ∷ l) bs xs ys e = pack_false x (replicate (length l) false ++ bs) (l ++ xs) ∙ pack_no l bs xs ys e
 
 -- what stands beside a group, for each of its items
-pack_joined : {A : Type 0} (ps : List (Bool × List A)) → pack (copied (map (λ p. (length p.1, p.0)) ps)) (joined (map (λ p. p.1) ps)) ≡ Some (joined (kept_items ps))
+pack_joined : {A : Type 0} (ps : List (Bool × List A)) → pack (copied (map (λ p. (length p.1, p.0)) ps)) (concatenation (map (λ p. p.1) ps)) ≡ Some (concatenation (kept_items ps))
 pack_joined [] = refl
-pack_joined ((true, l) ∷ ps) = pack_all l (copied (map (λ p. (length p.1, p.0)) ps)) (joined (map (λ p. p.1) ps)) (joined (kept_items ps)) (pack_joined ps)
-pack_joined ((false, l) ∷ ps) = pack_no l (copied (map (λ p. (length p.1, p.0)) ps)) (joined (map (λ p. p.1) ps)) (joined (kept_items ps)) (pack_joined ps)
+pack_joined ((true, l) ∷ ps) = pack_all l (copied (map (λ p. (length p.1, p.0)) ps)) (concatenation (map (λ p. p.1) ps)) (concatenation (kept_items ps)) (pack_joined ps)
+pack_joined ((false, l) ∷ ps) = pack_no l (copied (map (λ p. (length p.1, p.0)) ps)) (concatenation (map (λ p. p.1) ps)) (concatenation (kept_items ps)) (pack_joined ps)
 
 -- the items of the groups that are kept are those that are kept by what stands beside their groups
 pub pack_inside : {A : Type 0} (ds : List Bool) (ls ms : List (List A)) → pack ds ls ≡ Some ms
-    → (es : List Bool) × (dist (lengths ls) ds ≡ Some es) × (pack es (joined ls) ≡ Some (joined ms))
+    → (es : List Bool) × (dist (lengths ls) ds ≡ Some es) × (pack es (concatenation ls) ≡ Some (concatenation ms))
 pack_inside ds ls ms e =
     let g = map_gives kept_items (paired ds ls) e in
     let ps = g.0 in
@@ -56,7 +56,7 @@ pack_inside ds ls ms e =
     let es = copied (map (λ p. (length p.1, p.0)) ps) in (
       es,
       ap₂ (λ ns bs. dist ns bs) (ap lengths p.1 ∙ lengths_map (λ p. p.1) ps) p.0 ∙ ap (option_map copied) (paired_map (λ p. length p.1) (λ p. p.0) ps),
-      ap (λ l. pack es (joined l)) p.1 ∙ pack_joined ps ∙ ap (λ m. Some (joined m)) (sym g.2),
+      ap (λ l. pack es (concatenation l)) p.1 ∙ pack_joined ps ∙ ap (λ m. Some (concatenation m)) (sym g.2),
     )
 
 pub lengths_are : {A : Type 0} (ls : List (List A)) → lengths ls ≡ map (λ l. length l) ls
@@ -131,8 +131,8 @@ module _ (at : ℕ) where
       (dist_makes BoolKind (map flag ds) (lengths ls) (truths_of_kind ds) ∙ ap (one (λ (r : List Cell). r)) (dist_map flag (lengths ls) ds ∙ ap (option_map (map flag)) inside.1)) in
       let all = on ++ spread.0 in
       let e = (flags_stepped at (dist_step BoolKind) (d ∷ g ∷ []) (length on)).given in
-      let carried : Carries all items t (joined ls) = carried_on on spread.0 items t (joined ls) (carried_on streams groups.0 items t (joined ls) (items_carry streams (segments g items) t vs c)) in
-      let elements : Makes all t (kept at (stream_of e) items (length all)) (joined ms) = kept_of (stream_of e) inside.0 all items (joined ls) (joined ms) carried spread.3 inside.2 in
+      let carried : Carries all items t (concatenation ls) = carried_on on spread.0 items t (concatenation ls) (carried_on streams groups.0 items t (concatenation ls) (items_carry streams (segments g items) t vs c)) in
+      let elements : Makes all t (kept at (stream_of e) items (length all)) (concatenation ms) = kept_of (stream_of e) inside.0 all items (concatenation ls) (concatenation ms) carried spread.3 inside.2 in
       then_does (flags_stepped at pack_groups (d ∷ g ∷ []) (length streams))
       (λ h k. and_then (flags_stepped at (dist_step BoolKind) (d ∷ g ∷ []) k) (λ e k. and_then (kept at (stream_of e) items k) (λ u k. done (segments (stream_of h) u) k)))
       streams (λ l w. streams_at (stream_of w ∷ []) l ≡ Some (flags (lengths ms) ∷ [])) Kept groups

@@ -7,7 +7,7 @@ use Rattle.snesl_data.specs.Types.{Ty, pair, seq}
 use Rattle.snesl_data.specs.Values.{Value}
 use Rattle.flow_messages.specs.Cells.{Cell}
 use Rattle.flow_base.specs.Columns.{Columns}
-use Rattle.flow_base.specs.Flags.{flags, joined, lengths}
+use Rattle.flow_base.specs.Flags.{flags, concatenation, lengths}
 use Rattle.flow_segment.specs.Rows.{Sides, lefts, rights, alternated}
 use Rattle.flow_values.specs.Shapes.{cell_for, first_of, second_of, elements_of}
 use Rattle.flow_rows.specs.Lists.{interleave, concat_flags}
@@ -29,7 +29,7 @@ use Rattle.snesl_translation.proofs.Doing.{Writes, then_does, flags_written, pai
 module _ {A B : Type 0} (e : A → List B) where
   -- all that the items hold
   abbrev opened : List A → List B
-  opened l = joined (map e l)
+  opened l = concatenation (map e l)
 
   abbrev both_opened : List A × List A → List B × List B
   both_opened p = (opened p.0, opened p.1)
@@ -41,9 +41,9 @@ module _ {A B : Type 0} (e : A → List B) where
   opened_append [] m = refl
   opened_append (x ∷ l) m = ap (λ k. e x ++ k) (opened_append l m) ∙ sym (append_assoc (e x) (opened l) (opened m))
 
-  opened_joined : (ls : List (List A)) → joined (map opened ls) ≡ opened (joined ls)
+  opened_joined : (ls : List (List A)) → concatenation (map opened ls) ≡ opened (concatenation ls)
   opened_joined [] = refl
-  opened_joined (l ∷ ls) = ap (λ k. opened l ++ k) (opened_joined ls) ∙ sym (opened_append l (joined ls))
+  opened_joined (l ∷ ls) = ap (λ k. opened l ++ k) (opened_joined ls) ∙ sym (opened_append l (concatenation ls))
 
   opened_alternated : (xs : Sides A) → alternated (map both_opened xs) ≡ opened (alternated xs)
   opened_alternated [] = refl
@@ -67,16 +67,16 @@ module _ {A B : Type 0} (e : A → List B) where
   sums_are [] = refl
   sums_are (l ∷ ls) = ap₂ (λ n ns. n ∷ ns) (sizes_sum l) (sums_are ls)
 
-  concat_opened : (ls : List (List A)) → concat_flags (lengths ls) (lengths (map e (joined ls))) ≡ Some (lengths (map opened ls))
+  concat_opened : (ls : List (List A)) → concat_flags (lengths ls) (lengths (map e (concatenation ls))) ≡ Some (lengths (map opened ls))
   concat_opened ls =
-      ap (concat_flags (lengths ls)) (lengths_map e (joined ls))
-      ∙ ap (option_map (map sum)) (cut_map size (lengths ls) (joined ls) ∙ ap (option_map (map (map size))) (cut_forth ls))
+      ap (concat_flags (lengths ls)) (lengths_map e (concatenation ls))
+      ∙ ap (option_map (map sum)) (cut_map size (lengths ls) (concatenation ls) ∙ ap (option_map (map (map size))) (cut_forth ls))
       ∙ ap Some (sums_are ls)
 
-  interleave_opened : (xs : Sides A) → interleave (lengths (map opened (lefts xs))) (lengths (map opened (rights xs))) (opened (joined (lefts xs))) (opened (joined (rights xs))) ≡ Some (opened (alternated xs))
+  interleave_opened : (xs : Sides A) → interleave (lengths (map opened (lefts xs))) (lengths (map opened (rights xs))) (opened (concatenation (lefts xs))) (opened (concatenation (rights xs))) ≡ Some (opened (alternated xs))
   interleave_opened xs =
       ap₂ (λ k l. interleave (lengths (map opened (lefts xs))) (lengths (map opened (rights xs))) k l) (sym (opened_joined (lefts xs))) (sym (opened_joined (rights xs)))
-      ∙ ap₂ (λ k l. interleave (lengths k) (lengths l) (joined k) (joined l)) (sym (lefts_opened xs)) (sym (rights_opened xs))
+      ∙ ap₂ (λ k l. interleave (lengths k) (lengths l) (concatenation k) (concatenation l)) (sym (lefts_opened xs)) (sym (rights_opened xs))
       ∙ interleave_forth (map both_opened xs) ∙ ap Some (opened_alternated xs)
 
   -- what the items of the groups hold, in groups of their own
@@ -100,11 +100,11 @@ module _ {A B : Type 0} (e : A → List B) where
 
 -- Values
 
-all_alternated : (t : Ty) (xs : Sides Value) → AllAre t (joined (lefts xs)) → AllAre t (joined (rights xs)) → AllAre t (alternated xs)
+all_alternated : (t : Ty) (xs : Sides Value) → AllAre t (concatenation (lefts xs)) → AllAre t (concatenation (rights xs)) → AllAre t (alternated xs)
 all_alternated t [] h g = refl
 all_alternated t ((u, v) ∷ xs) h g =
-    let l = all_apart t u (joined (lefts xs)) h in
-    let r = all_apart t v (joined (rights xs)) g in
+    let l = all_apart t u (concatenation (lefts xs)) h in
+    let r = all_apart t v (concatenation (rights xs)) g in
     all_joined t u (v ++ alternated xs) l.0 (all_joined t v (alternated xs) r.0 (all_alternated t xs l.1 r.1))
 
 pub all_interleaved : (t : Ty) (ns ms : List ℕ) (us vs r : List Value) → AllAre t us → AllAre t vs → interleave ns ms us vs ≡ Some r → AllAre t r
@@ -187,9 +187,9 @@ module _ (at : ℕ) where
       let later : (v : Wires) (xs : List Value) → Carries streams v t xs → Carries all v t xs =
       λ v xs k. carried_on further righter.0 v t xs (carried_on on lefter.0 v t xs (carried_on streams groups.0 v t xs k)) in
       let inner : BothFlags all (stream_of i) (stream_of j) ks ls = record { left = grown (stream_of i ∷ []) further righter.0 (flags ks ∷ []) lefter.3; right = righter.3 } in
-      let elements : Makes all t (mixed at (stream_of i) (stream_of j) items (item_wires other) (length all)) (joined (map elements_of r)) =
-      mixed_of (stream_of i) (stream_of j) ks ls all items (item_wires other) (joined (map elements_of us)) (joined (map elements_of vs)) (joined (map elements_of r)) inner
-      (later items (joined (map elements_of us)) (items_carry streams (segments p items) t us c)) (later (item_wires other) (joined (map elements_of vs)) (items_carry streams other t vs d)) inside.4 in
+      let elements : Makes all t (mixed at (stream_of i) (stream_of j) items (item_wires other) (length all)) (concatenation (map elements_of r)) =
+      mixed_of (stream_of i) (stream_of j) ks ls all items (item_wires other) (concatenation (map elements_of us)) (concatenation (map elements_of vs)) (concatenation (map elements_of r)) inner
+      (later items (concatenation (map elements_of us)) (items_carry streams (segments p items) t us c)) (later (item_wires other) (concatenation (map elements_of vs)) (items_carry streams other t vs d)) inside.4 in
       let there : streams_at (stream_of h ∷ []) all ≡ Some (flags rs ∷ []) = grown (stream_of h ∷ []) further righter.0 (flags rs ∷ []) (grown (stream_of h ∷ []) on lefter.0 (flags rs ∷ []) groups.3) in
       then_does (flags_stepped at interleave_groups (f ∷ g ∷ p ∷ q ∷ []) (length streams))
       (λ h k. and_then (flags_stepped at concat_step (f ∷ p ∷ []) k) (λ i k. and_then (flags_stepped at concat_step (g ∷ q ∷ []) k) (λ j k.
@@ -213,6 +213,6 @@ module _ (at : ℕ) where
 
   -- the same where both are in as many groups
   pub sides_make : (f g : ℕ) (streams : Columns) (w other : Wires) (t : Ty) (xs : Sides Value) → BothFlags streams f g (lengths (lefts xs)) (lengths (rights xs))
-      → Carries streams w t (joined (lefts xs)) → Carries streams other t (joined (rights xs)) → Makes streams t (mixed at f g w other (length streams)) (alternated xs)
+      → Carries streams w t (concatenation (lefts xs)) → Carries streams other t (concatenation (rights xs)) → Makes streams t (mixed at f g w other (length streams)) (alternated xs)
   sides_make f g streams w other t xs grouped c d =
-      mixed_makes f g (lengths (lefts xs)) (lengths (rights xs)) streams w other t (joined (lefts xs)) (joined (rights xs)) (alternated xs) grouped c d (interleave_forth xs)
+      mixed_makes f g (lengths (lefts xs)) (lengths (rights xs)) streams w other t (concatenation (lefts xs)) (concatenation (rights xs)) (alternated xs) grouped c d (interleave_forth xs)

@@ -11,7 +11,7 @@ use Rattle.snesl_data.specs.Values.{Value, a_bool, list_of, values_of}
 use Rattle.snesl_tree.specs.declared.operator.Builtin.TheVariants.{Part}
 use Rattle.flow_messages.specs.Cells.{Cell, flag}
 use Rattle.flow_base.specs.Columns.{Columns}
-use Rattle.flow_base.specs.Flags.{flags, joined, lengths}
+use Rattle.flow_base.specs.Flags.{flags, concatenation, lengths}
 use Rattle.flow_values.specs.Shapes.{is_a, cell_for, elements_of}
 use Rattle.flow_rows.specs.Lists.{bind, only_if, each, same_lists, front, cut}
 use Rattle.flow_rows.specs.Decoded.{one_more, numbers, a_seq_of}
@@ -162,7 +162,7 @@ all_fit (q ∷ qs) = fit_more (lengths (map (λ q. q.0) qs)) q.0 (numbers (map f
 
 -- how many parts, and how many elements they have
 abbrev part_columns : List (List ℕ) → Columns
-part_columns parts = flags (lengths parts) ∷ flags (joined parts) ∷ []
+part_columns parts = flags (lengths parts) ∷ flags (concatenation parts) ∷ []
 
 only_columns : (ms : List ℕ) (o : Option (List (List ℕ))) → bind o (λ parts. only_if (same_lists ◌==◌ (map sum parts) ms) (part_columns parts)) ≡ option_map part_columns (fitting ms o)
 only_columns ms None = refl
@@ -173,7 +173,7 @@ only_columns ms (Some parts) = go_on (same_lists ◌==◌ (map sum parts) ms)
     go_on false = refl
 
 parts_made : (qs : List (List Value × List Bool)) →
-    part_flags_made (flags (lengths (map (λ q. q.1) qs)) ∷ map flag (joined (map (λ q. q.1) qs)) ∷ flags (lengths (map (λ q. q.0) qs)) ∷ [])
+    part_flags_made (flags (lengths (map (λ q. q.1) qs)) ∷ map flag (concatenation (map (λ q. q.1) qs)) ∷ flags (lengths (map (λ q. q.0) qs)) ∷ [])
     ≡ option_map (λ pss. part_columns (map (λ l. lengths l) pss)) (each parts_of qs)
 parts_made qs =
     ap (λ o. bind o (λ ns. bind (cut ns b) rest)) (numbers_forth (lengths bss))
@@ -192,7 +192,7 @@ parts_made qs =
     ms = lengths (map (λ q. q.0) qs)
 
     b : List Cell
-    b = map flag (joined bss)
+    b = map flag (concatenation bss)
 
     last : List (List ℕ) → Option Columns
     last parts = bind (numbers (flags ms)) (λ ms. only_if (same_lists ◌==◌ (map sum parts) ms) (part_columns parts))
@@ -201,13 +201,13 @@ parts_made qs =
     rest pieces = bind (each numbers pieces) last
 
 -- all parts have all the values
-parts_joined : (qs : List (List Value × List Bool)) (pss : List (List (List Value))) → each parts_of qs ≡ Some pss → joined (map (λ q. q.0) qs) ≡ joined (joined pss)
-parts_joined [] pss e = ap (λ l. joined (joined l)) (some_same [] pss e)
+parts_joined : (qs : List (List Value × List Bool)) (pss : List (List (List Value))) → each parts_of qs ≡ Some pss → concatenation (map (λ q. q.0) qs) ≡ concatenation (concatenation pss)
+parts_joined [] pss e = ap (λ l. concatenation (concatenation l)) (some_same [] pss e)
 parts_joined (q ∷ qs) pss e =
     let one = bind_gives (parts_of q) (λ y. option_map (λ ys. y ∷ ys) (each parts_of qs)) e in
     let others = map_gives (λ ys. one.0 ∷ ys) (each parts_of qs) one.2 in
     let cuts = bind_gives (numbers (map flag q.1)) (λ ns. cut ns q.0) one.1 in
-    ap₂ (λ a b. a ++ b) (cut_back cuts.0 q.0 one.0 cuts.2).1 (parts_joined qs others.0 others.1) ∙ sym (joined_append one.0 (joined others.0)) ∙ ap (λ l. joined (joined l)) (sym others.2)
+    ap₂ (λ a b. a ++ b) (cut_back cuts.0 q.0 one.0 cuts.2).1 (parts_joined qs others.0 others.1) ∙ sym (joined_append one.0 (concatenation others.0)) ∙ ap (λ l. concatenation (concatenation l)) (sym others.2)
 
 -- values and flags as arguments
 
@@ -265,35 +265,35 @@ two_written streams at operation reads read c d there made = (
 
 module _ (dialect : Dialect) (at : ℕ) (streams : Columns) where
   part_either : (u v : Wires) (t : Ty) (qs : List (List Value × List Bool)) (a : Answer (List Value)) (o : Option (List (List (List Value))))
-      → streams_at (stream_of v ∷ stream_of (item_wires v) ∷ stream_of u ∷ []) streams ≡ Some (flags (lengths (map (λ q. q.1) qs)) ∷ map flag (joined (map (λ q. q.1) qs)) ∷ flags (lengths (map (λ q. q.0) qs)) ∷ [])
-      → Carries streams (item_wires u) t (joined (map (λ q. q.0) qs)) → each parts_of qs ≡ o → Agrees a (option_map (map nested) o)
+      → streams_at (stream_of v ∷ stream_of (item_wires v) ∷ stream_of u ∷ []) streams ≡ Some (flags (lengths (map (λ q. q.1) qs)) ∷ map flag (concatenation (map (λ q. q.1) qs)) ∷ flags (lengths (map (λ q. q.0) qs)) ∷ [])
+      → Carries streams (item_wires u) t (concatenation (map (λ q. q.0) qs)) → each parts_of qs ≡ o → Agrees a (option_map (map nested) o)
       → Goes streams (seq (seq t)) (call_streams dialect at Part (u ∷ v ∷ []) (length streams)) a
   part_either u v t qs (gives vs) (Some pss) there c e h =
       let reads = stream_of v ∷ stream_of (item_wires v) ∷ stream_of u ∷ [] in
       let step = stepped at part_flags reads (pair bool bool) (length streams) in
       let sizes = map (λ l. lengths l) pss in
-      let read = flags (lengths (map (λ q. q.1) qs)) ∷ map flag (joined (map (λ q. q.1) qs)) ∷ flags (lengths (map (λ q. q.0) qs)) ∷ [] in
-      let wrote = two_written streams at part_flags reads read (flags (lengths sizes)) (flags (joined sizes)) there (parts_made qs ∙ ap (option_map (λ pss. part_columns (map (λ l. lengths l) pss))) e) in
+      let read = flags (lengths (map (λ q. q.1) qs)) ∷ map flag (concatenation (map (λ q. q.1) qs)) ∷ flags (lengths (map (λ q. q.0) qs)) ∷ [] in
+      let wrote = two_written streams at part_flags reads read (flags (lengths sizes)) (flags (concatenation sizes)) there (parts_made qs ∙ ap (option_map (λ pss. part_columns (map (λ l. lengths l) pss))) e) in
       let on = streams ++ wrote.0 in
       let first = stream_of (first_wires step.given) in
       let second = stream_of (second_wires step.given) in
-      let items : Carries on (item_wires u) t (joined (joined pss)) =
-      carried_on streams wrote.0 (item_wires u) t (joined (joined pss)) (subst (Carries streams (item_wires u) t) (parts_joined qs pss e) c) in
-      let inner : Carries on (segments second (item_wires u)) (seq t) (map a_seq_of (joined pss)) =
-      grouped_carry on second (item_wires u) t (joined pss) (wrote.3.1 ∙ ap (λ ns. Some (flags ns ∷ [])) (sym (lengths_joined pss))) items in
+      let items : Carries on (item_wires u) t (concatenation (concatenation pss)) =
+      carried_on streams wrote.0 (item_wires u) t (concatenation (concatenation pss)) (subst (Carries streams (item_wires u) t) (parts_joined qs pss e) c) in
+      let inner : Carries on (segments second (item_wires u)) (seq t) (map a_seq_of (concatenation pss)) =
+      grouped_carry on second (item_wires u) t (concatenation pss) (wrote.3.1 ∙ ap (λ ns. Some (flags ns ∷ [])) (sym (lengths_joined pss))) items in
       let outer : Carries on (segments first (segments second (item_wires u))) (seq (seq t)) (map a_seq_of (map (map a_seq_of) pss)) =
       grouped_carry on first (segments second (item_wires u)) (seq t) (map (map a_seq_of) pss) (wrote.3.0 ∙ ap (λ ns. Some (flags ns ∷ [])) (sym (lengths_lengths pss) ∙ sym (lengths_inside a_seq_of pss)))
       (subst (Carries on (segments second (item_wires u)) (seq t)) (map_joined a_seq_of pss) inner) in
       let carried : Carries on (segments first (segments second (item_wires u))) (seq (seq t)) vs =
       subst (Carries on (segments first (segments second (item_wires u))) (seq (seq t))) (map_map a_seq_of (map a_seq_of) pss ∙ some_same (map nested pss) vs h) outer in
       let Holds : Columns → Wires → Type 0 = λ l w. Carries l w (seq (seq t)) vs in
-      then_does step (λ h k. done (segments (stream_of (first_wires h)) (segments (stream_of (second_wires h)) (item_wires u))) k) streams (TwoColumns (flags (lengths sizes)) (flags (joined sizes))) Holds wrote
+      then_does step (λ h k. done (segments (stream_of (first_wires h)) (segments (stream_of (second_wires h)) (item_wires u))) k) streams (TwoColumns (flags (lengths sizes)) (flags (concatenation sizes))) Holds wrote
       (done_does (segments first (segments second (item_wires u))) on Holds carried)
   part_either u v t qs (gives vs) None there c e h = absurd (cc)
   part_either u v t qs (faults kind place) (Some pss) there c e h = absurd (cc)
   part_either u v t qs (faults kind place) None there c e h =
       let reads = stream_of v ∷ stream_of (item_wires v) ∷ stream_of u ∷ [] in
-      let read = flags (lengths (map (λ q. q.1) qs)) ∷ map flag (joined (map (λ q. q.1) qs)) ∷ flags (lengths (map (λ q. q.0) qs)) ∷ [] in
+      let read = flags (lengths (map (λ q. q.1) qs)) ∷ map flag (concatenation (map (λ q. q.1) qs)) ∷ flags (lengths (map (λ q. q.0) qs)) ∷ [] in
       first_stops (stepped at part_flags reads (pair bool bool) (length streams)) (λ h k. done (segments (stream_of (first_wires h)) (segments (stream_of (second_wires h)) (item_wires u))) k) streams
       (stepped_stops streams at part_flags reads (pair bool bool) (length streams) read there (parts_made qs ∙ ap (option_map (λ pss. part_columns (map (λ l. lengths l) pss))) e))
 
@@ -312,14 +312,14 @@ module _ (dialect : Dialect) (at : ℕ) (streams : Columns) where
       let values : map elements_of (map (λ p. p.0) ps) ≡ vss = ap (map elements_of) left ∙ elements_made vss in
       let truths : map elements_of (map (λ p. p.1) ps) ≡ map (map a_bool) bss = ap (map elements_of) right ∙ elements_made (map (map a_bool) bss) in
       let u_flags : streams_at (stream_of u ∷ []) streams ≡ Some (flags (lengths vss) ∷ []) = flags_carry streams u t (map (λ p. p.0) ps) cu ∙ ap (λ gs. Some (flags (lengths gs) ∷ [])) values in
-      let u_items : Carries streams (item_wires u) t (joined vss) = subst (λ gs. Carries streams (item_wires u) t (joined gs)) values (items_carry streams u t (map (λ p. p.0) ps) cu) in
+      let u_items : Carries streams (item_wires u) t (concatenation vss) = subst (λ gs. Carries streams (item_wires u) t (concatenation gs)) values (items_carry streams u t (map (λ p. p.0) ps) cu) in
       let v_flags : streams_at (stream_of v ∷ []) streams ≡ Some (flags (lengths bss) ∷ []) =
       flags_carry streams v bool (map (λ p. p.1) ps) cv ∙ ap (λ gs. Some (flags (lengths gs) ∷ [])) truths ∙ ap (λ ns. Some (flags ns ∷ [])) (lengths_inside a_bool bss) in
-      let v_items : streams_at (stream_of (item_wires v) ∷ []) streams ≡ Some (map flag (joined bss) ∷ []) =
-      stream_carries streams (item_wires v) bool (joined (map elements_of (map (λ p. p.1) ps))) tt (items_carry streams v bool (map (λ p. p.1) ps) cv)
-      ∙ ap (λ cs. Some (cs ∷ [])) (ap (λ gs. map cell_for (joined gs)) truths ∙ ap (map cell_for) (sym (map_joined a_bool bss)) ∙ cells_of_truths (joined bss)) in
-      let there = streams_joined (stream_of v ∷ []) (stream_of (item_wires v) ∷ stream_of u ∷ []) streams (flags (lengths bss) ∷ []) (map flag (joined bss) ∷ flags (lengths vss) ∷ []) v_flags
-      (streams_joined (stream_of (item_wires v) ∷ []) (stream_of u ∷ []) streams (map flag (joined bss) ∷ []) (flags (lengths vss) ∷ []) v_items u_flags) in
+      let v_items : streams_at (stream_of (item_wires v) ∷ []) streams ≡ Some (map flag (concatenation bss) ∷ []) =
+      stream_carries streams (item_wires v) bool (concatenation (map elements_of (map (λ p. p.1) ps))) tt (items_carry streams v bool (map (λ p. p.1) ps) cv)
+      ∙ ap (λ cs. Some (cs ∷ [])) (ap (λ gs. map cell_for (concatenation gs)) truths ∙ ap (map cell_for) (sym (map_joined a_bool bss)) ∙ cells_of_truths (concatenation bss)) in
+      let there = streams_joined (stream_of v ∷ []) (stream_of (item_wires v) ∷ stream_of u ∷ []) streams (flags (lengths bss) ∷ []) (map flag (concatenation bss) ∷ flags (lengths vss) ∷ []) v_flags
+      (streams_joined (stream_of (item_wires v) ∷ []) (stream_of u ∷ []) streams (map flag (concatenation bss) ∷ []) (flags (lengths vss) ∷ []) v_items u_flags) in
       part_either u v t qs (go_all f ps) (each parts_of qs) there u_items refl
       (subst (λ ps. Agrees (go_all f ps) (option_map (map nested) (each parts_of qs))) (sym all.1)
       (subst (λ o. Agrees (go_all f (map part_arguments qs)) o) (map_each parts_of nested qs) (all_agree part_arguments f (λ q. option_map nested (parts_of q)) (part_agrees dialect at) qs)))

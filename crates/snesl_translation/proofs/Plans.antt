@@ -16,7 +16,7 @@ use Rattle.flow_messages.specs.declared.message.Kind.{Kind}
 use Rattle.flow_base.specs.Columns.{Columns}
 use Rattle.flow_values.specs.Shapes.{is_a, all_are, kinds_of}
 use Rattle.flow_rows.specs.Lists.{bind, each}
-use Rattle.flow_rows.specs.Made.{laid, print_made}
+use Rattle.flow_rows.specs.Made.{columns_of_values, print_made}
 use Rattle.flow_rows.proofs.Edges.{laid_length}
 use Rattle.flow_rows.proofs.Encoded.{print_makes}
 use Rattle.flow_rows.proofs.ValueDecoding.{all_split, all_cons}
@@ -70,13 +70,13 @@ sources_run at cells number (kind ∷ kinds) (c ∷ columns) streams e agrees =
     ∙ sources_run at cells (suc number) kinds columns (streams ++ (c ∷ [])) (omega (arith)) (λ k i is lt. agrees k (suc i) (omega (arith, is)) (omega (arith, lt)))
     ∙ ap Some (append_assoc streams (c ∷ []) columns)
 
-sourced_does : (at : ℕ) (cells : ℕ → List Cell) (t : Ty) (v : Value) (streams : Columns) → is_a t v ≡ true → Agrees cells (length streams) (laid t (v ∷ []))
+sourced_does : (at : ℕ) (cells : ℕ → List Cell) (t : Ty) (v : Value) (streams : Columns) → is_a t v ≡ true → Agrees cells (length streams) (columns_of_values t (v ∷ []))
     → Does streams (sourced at cells t (length streams)) (λ l w. Carries l w t (v ∷ []))
 sourced_does at cells t v streams is agrees = (
-  laid t (v ∷ []),
-  sources_run at cells (length streams) (kinds_of t) (laid t (v ∷ [])) streams (laid_length t (v ∷ [])) agrees,
-  omega (arith, length-append streams (laid t (v ∷ [])), laid_length t (v ∷ [])),
-  record { of_type = wires_type t (length streams); whole = wires_whole t (length streams); are = all_cons t v [] is refl; there = fresh t streams (laid t (v ∷ [])) (laid_length t (v ∷ [])) },
+  columns_of_values t (v ∷ []),
+  sources_run at cells (length streams) (kinds_of t) (columns_of_values t (v ∷ [])) streams (laid_length t (v ∷ [])) agrees,
+  omega (arith, length-append streams (columns_of_values t (v ∷ [])), laid_length t (v ∷ [])),
+  record { of_type = wires_type t (length streams); whole = wires_whole t (length streams); are = all_cons t v [] is refl; there = fresh t streams (columns_of_values t (v ∷ [])) (laid_length t (v ∷ [])) },
 )
 
 first_agree : (cells : ℕ → List Cell) (number : ℕ) (first others : Columns) → Agrees cells number (first ++ others) → Agrees cells number first
@@ -97,7 +97,7 @@ inputs_does at cells dialect [] environment streams fits agrees = done_does [] s
 inputs_does at cells dialect (declaration ∷ declarations) [] streams fits agrees = absurd fits
 inputs_does at cells dialect (declaration ∷ declarations) (entry ∷ environment) streams fits agrees =
     let t = declaration.1 in
-    let columns = laid t (entry.1 ∷ []) in
+    let columns = columns_of_values t (entry.1 ∷ []) in
     let behind = columns_of declarations environment in
     let first = sourced_does at cells t entry.1 streams (typed_is dialect t entry.1 fits.1) (first_agree cells (length streams) columns behind agrees) in
     let there = streams ++ first.0 in
@@ -125,8 +125,8 @@ no_calls_mean : CallsMean [] no_calls no_bodies
 no_calls_mean streams at bytes signature us control rows is carry controls = absurd (cc)
 
 -- Print of what carries one value
-prints : (streams : Columns) (w : Wires) (t : Ty) (v : Value) → Carries streams w t (v ∷ []) → print_made (type_of_wires w) (laid t (v ∷ [])) ≡ Some []
-prints streams w t v c = ap (λ s. print_made s (laid t (v ∷ []))) c.of_type ∙ print_makes t v (all_split t v [] c.are).0
+prints : (streams : Columns) (w : Wires) (t : Ty) (v : Value) → Carries streams w t (v ∷ []) → print_made (type_of_wires w) (columns_of_values t (v ∷ [])) ≡ Some []
+prints streams w t v c = ap (λ s. print_made s (columns_of_values t (v ∷ []))) c.of_type ∙ print_makes t v (all_split t v [] c.are).0
 
 pub plans_mean : TypedExpressionsMean → PlansMean
 plans_mean expressions text program declared t environment typed fits = (where_value, where_fault)
@@ -173,16 +173,16 @@ plans_mean expressions text program declared t environment typed fits = (where_v
         there bound zero (environment ∷ []) (inputs.3 (free text program.expression)) (controls_on first inputs.0 zero 1 refl)
 
     where_value : (v : Value) → program_value text program environment ≡ gives v
-        → (type_of_wires plan.given ≡ t) × ((streams : Columns) × (run plan.steps [] ≡ Some streams) × (streams_at (numbers_of plan.given) streams ≡ Some (laid t (v ∷ []))))
+        → (type_of_wires plan.given ≡ t) × ((streams : Columns) × (run plan.steps [] ≡ Some streams) × (streams_at (numbers_of plan.given) streams ≡ Some (columns_of_values t (v ∷ []))))
     where_value v is =
         let makes : Makes there t (translated bound zero (length there)) (v ∷ []) = subst (λ a. GoesTo there t (translated bound zero (length there)) (bind (given_by a) (λ y. Some (y ∷ [])))) is goes in
         let last = there ++ makes.0 in
         let w = (translated bound zero (length there)).given in
         let c = makes.3 in
-        let Holds : Columns → Wires → Type 0 = λ l w. (type_of_wires w ≡ t) × (streams_at (numbers_of w) l ≡ Some (laid t (v ∷ []))) in
+        let Holds : Columns → Wires → Type 0 = λ l w. (type_of_wires w ≡ t) × (streams_at (numbers_of w) l ≡ Some (columns_of_values t (v ∷ []))) in
         let end : Does last (printed w (length last)) Holds = (
           [],
-          tested_runs last at (print (type_of_wires w)) (numbers_of w) w (length last) (laid t (v ∷ [])) c.there (prints last w t v c),
+          tested_runs last at (print (type_of_wires w)) (numbers_of w) w (length last) (columns_of_values t (v ∷ [])) c.there (prints last w t v c),
           ap length (sym (append-nil last)),
           subst (λ l. Holds l w) (sym (append-nil last)) (c.of_type, c.there),
         ) in

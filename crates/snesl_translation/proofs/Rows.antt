@@ -9,7 +9,7 @@ use Rattle.snesl_data.specs.Values.{Value}
 use Rattle.snesl_values.specs.Inputs.{Environment}
 use Rattle.snesl_evaluation.specs.Answer.{gives, faults}
 use Rattle.snesl_evaluation.specs.Eval.{Columns as Sequences, height, beside, rows_of, in_step}
-use Rattle.flow_base.specs.Flags.{joined, lengths}
+use Rattle.flow_base.specs.Flags.{concatenation, lengths}
 use Rattle.flow_rows.specs.Lists.{bind, only_if, each, same_lists, paired, copied, dist}
 use Rattle.snesl_translation.specs.Carrying.{given_by}
 use Rattle.snesl_translation.specs.Sources.{with_column}
@@ -141,7 +141,7 @@ same_rows zero environment = refl
 same_rows (suc n) environment = ap (λ l. environment ∷ l) (same_rows n environment)
 
 pub plain_instances : (ns : List ℕ) (all : List Sequences) (environments : List Environment) → all ≡ replicate (length all) [] → length ns ≡ length all → length ns ≡ length environments
-    → joined (inner_instances ns all environments) ≡ copied (zip ns environments)
+    → concatenation (inner_instances ns all environments) ≡ copied (zip ns environments)
 plain_instances [] [] [] e f g = refl
 plain_instances [] [] (environment ∷ environments) e f g = absurd (omega (arith))
 plain_instances [] (columns ∷ all) environments e f g = absurd (omega (arith))
@@ -178,7 +178,7 @@ with_name_append name (a ∷ first) second (v ∷ vs) ws e = ap (λ l. ((name, v
 
 pub instances_with : (name : List ℕ) (ns : List ℕ) (groups : List (List Value)) (all : List Sequences) (environments : List Environment)
     → lengths groups ≡ ns → all_fit ns all ≡ true → length ns ≡ length environments
-    → joined (inner_instances ns (with_column name groups all) environments) ≡ with_name name (joined (inner_instances ns all environments)) (joined groups)
+    → concatenation (inner_instances ns (with_column name groups all) environments) ≡ with_name name (concatenation (inner_instances ns all environments)) (concatenation groups)
 instances_with name [] [] [] [] e f g = refl
 instances_with name [] [] [] (environment ∷ environments) e f g = absurd (omega (arith))
 instances_with name [] [] (columns ∷ all) environments e f g = absurd (cc)
@@ -193,4 +193,4 @@ instances_with name (n ∷ ns) (group ∷ groups) (columns ∷ all) (environment
     let rows = map (λ row. row ++ environment) (rows_of n columns) in
     let long : length rows ≡ length group = length_same (λ row. row ++ environment) (rows_of n columns) ∙ rows_length n columns p.0 ∙ sym high in
     ap₂ (λ l m. l ++ m) (beside_rows name group (rows_of n columns) environment) (instances_with name ns groups all environments others p.1 (omega (arith)))
-    ∙ sym (with_name_append name rows (joined (inner_instances ns all environments)) group (joined groups) long)
+    ∙ sym (with_name_append name rows (concatenation (inner_instances ns all environments)) group (concatenation groups) long)

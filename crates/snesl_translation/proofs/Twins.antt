@@ -9,7 +9,7 @@ use Rattle.snesl_data.specs.Values.{Value}
 use Rattle.flow_base.specs.Columns.{Columns}
 use Rattle.flow_values.specs.Shapes.{is_a}
 use Rattle.flow_rows.specs.Lists.{bind, each}
-use Rattle.flow_rows.specs.Made.{laid}
+use Rattle.flow_rows.specs.Made.{columns_of_values}
 use Rattle.flow_rows.proofs.Options.{bind_gives, map_gives, some_same}
 use Rattle.flow_rows.proofs.ValueDecoding.{AllAre, all_cons}
 use Rattle.snesl_evaluation.specs.Answer.{Answer, gives, faults, go, go_all, answer_at}
@@ -73,7 +73,7 @@ if_ok P (Err kind) x h e = absurd (cc)
 -- steps
 
 step_either : {B : Type 0} (streams : Columns) (at : ℕ) (operation : Operation) (reads : List ℕ) (t : Ty) (read : Columns) (value : B → Value) (a : Answer (List Value)) (o : Option (List B))
-    → streams_at reads streams ≡ Some read → made_by operation read ≡ option_map (λ bs. laid t (map value bs)) o → Agrees a (option_map (map value) o)
+    → streams_at reads streams ≡ Some read → made_by operation read ≡ option_map (λ bs. columns_of_values t (map value bs)) o → Agrees a (option_map (map value) o)
     → ((bs : List B) → o ≡ Some bs → AllAre t (map value bs)) → Goes streams t (stepped at operation reads t (length streams)) a
 step_either streams at operation reads t read value (gives vs) (Some bs) there made h are =
     subst (λ vs. Makes streams t (stepped at operation reads t (length streams)) vs) (some_same (map value bs) vs h) (stepped_makes streams at operation reads t read (map value bs) there made (are bs refl))
@@ -84,7 +84,7 @@ step_either streams at operation reads t read value (faults kind place) None the
 -- A step goes as the answers do, where its node makes what the answers' twin gives, each as a value.
 pub step_goes : {Z A B : Type 0} (streams : Columns) (at : ℕ) (operation : Operation) (reads : List ℕ) (t : Ty) (read : Columns)
     (make : Z → A) (answer : A → Answer Value) (value : B → Value) (g : Z → Option B) (zs : List Z) (vs : List A) → vs ≡ map make zs → streams_at reads streams ≡ Some read
-    → made_by operation read ≡ option_map (λ bs. laid t (map value bs)) (each g zs) → ((z : Z) → Agrees (answer (make z)) (option_map value (g z)))
+    → made_by operation read ≡ option_map (λ bs. columns_of_values t (map value bs)) (each g zs) → ((z : Z) → Agrees (answer (make z)) (option_map value (g z)))
     → ((bs : List B) → each g zs ≡ Some bs → AllAre t (map value bs)) → Goes streams t (stepped at operation reads t (length streams)) (go_all answer vs)
 step_goes streams at operation reads t read make answer value g zs vs view there made agrees are =
     step_either streams at operation reads t read value (go_all answer vs) (each g zs) there made

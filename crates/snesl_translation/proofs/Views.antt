@@ -10,10 +10,10 @@ use Rattle.snesl_operators.specs.declared.scalar.Scalar.TheVariants.{Int, Bool a
 use Rattle.snesl_operators.specs.declared.scalar.ScalarType.{ScalarType}
 use Rattle.snesl_operators.specs.declared.scalar.ScalarType.TheVariants.{Int as IntType, Bool as BoolType}
 use Rattle.flow_messages.specs.Cells.{flag, int as int_cell, datum}
-use Rattle.flow_base.specs.Flags.{flags, joined, lengths}
+use Rattle.flow_base.specs.Flags.{flags, concatenation, lengths}
 use Rattle.flow_values.specs.Shapes.{is_a, cell_for}
 use Rattle.flow_rows.specs.Decoded.{a_pair_of, a_seq_of}
-use Rattle.flow_rows.specs.Made.{one, scalar_cells, integer_cells, laid}
+use Rattle.flow_rows.specs.Made.{one, scalar_cells, integer_cells, columns_of_values}
 use Rattle.flow_rows.proofs.Edges.{laid_seq}
 use Rattle.flow_rows.proofs.ValueDecoding.{AllAre, values_list, all_split, all_apart, elements_made}
 use Rattle.snesl_evaluation.specs.Builtins.{scalar_value}
@@ -41,11 +41,11 @@ both_from s t make other h g ((v, w) ∷ ps) left right =
     ((first.0, second.0) ∷ others.0, ap₂ (λ p ps. p ∷ ps) (ap₂ (λ v w. (v, w)) first.1 second.1) others.1)
 
 -- the same of groups
-pub groups_from : {Z : Type 0} (t : Ty) (make : Z → Value) → ((v : Value) → is_a t v ≡ true → (z : Z) × (v ≡ make z)) → (gs : List (List Value)) → AllAre t (joined gs)
+pub groups_from : {Z : Type 0} (t : Ty) (make : Z → Value) → ((v : Value) → is_a t v ≡ true → (z : Z) × (v ≡ make z)) → (gs : List (List Value)) → AllAre t (concatenation gs)
     → (zss : List (List Z)) × (gs ≡ map (map make) zss)
 groups_from t make h [] are = ([], refl)
 groups_from t make h (g ∷ gs) are =
-    let s = all_apart t g (joined gs) are in
+    let s = all_apart t g (concatenation gs) are in
     let one = all_from t make h g s.0 in
     let others = groups_from t make h gs s.1 in
     (one.0 ∷ others.0, ap₂ (λ g gs. g ∷ gs) one.1 others.1)
@@ -114,14 +114,14 @@ cells_of_vectors [] = refl
 cells_of_vectors (g ∷ gs) = ap (λ l. datum (a_vec_of g) ∷ l) (cells_of_vectors gs)
 
 -- what a node makes of scalars is what their values put there
-pub one_scalars : (t : ScalarType) (o : Option (List Scalar)) → one scalar_cells o ≡ option_map (λ ks. laid (type_as t) (map scalar_value ks)) o
+pub one_scalars : (t : ScalarType) (o : Option (List Scalar)) → one scalar_cells o ≡ option_map (λ ks. columns_of_values (type_as t) (map scalar_value ks)) o
 one_scalars t None = refl
 one_scalars IntType (Some ks) = ap (λ cs. Some (cs ∷ [])) (sym (cells_of_scalars ks))
 one_scalars BoolType (Some ks) = ap (λ cs. Some (cs ∷ [])) (sym (cells_of_scalars ks))
 
-pub one_integers : (o : Option (List ℤ)) → one integer_cells o ≡ option_map (λ ns. laid int (map an_int ns)) o
+pub one_integers : (o : Option (List ℤ)) → one integer_cells o ≡ option_map (λ ns. columns_of_values int (map an_int ns)) o
 one_integers None = refl
 one_integers (Some ns) = ap (λ cs. Some (cs ∷ [])) (sym (cells_of_integers ns))
 
-pub laid_groups : (item : Ty) (gs : List (List Value)) → laid (seq item) (map a_seq_of gs) ≡ flags (lengths gs) ∷ laid item (joined gs)
-laid_groups item gs = laid_seq item (map a_seq_of gs) ∙ ap (λ gs. flags (lengths gs) ∷ laid item (joined gs)) (elements_made gs)
+pub laid_groups : (item : Ty) (gs : List (List Value)) → columns_of_values (seq item) (map a_seq_of gs) ≡ flags (lengths gs) ∷ columns_of_values item (concatenation gs)
+laid_groups item gs = laid_seq item (map a_seq_of gs) ∙ ap (λ gs. flags (lengths gs) ∷ columns_of_values item (concatenation gs)) (elements_made gs)

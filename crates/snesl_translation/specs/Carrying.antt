@@ -5,7 +5,7 @@ use Rattle.snesl_data.specs.Values.{Value, values_of}
 use Rattle.flow_messages.specs.Cells.{unit}
 use Rattle.flow_base.specs.Columns.{Columns}
 use Rattle.flow_values.specs.Shapes.{all_are}
-use Rattle.flow_rows.specs.Made.{laid}
+use Rattle.flow_rows.specs.Made.{columns_of_values}
 use Rattle.snesl_evaluation.specs.Answer.{Answer, gives, faults}
 use Rattle.flow_plans.specs.Plans.{streams_at, run}
 use Rattle.snesl_translation.specs.Wires.{Wires, type_of_wires, AreWhole, numbers_of}
@@ -16,7 +16,7 @@ pub record Carries (streams : Columns) (wires : Wires) (t : Ty) (values : List V
   pub of_type : type_of_wires wires ≡ t
   pub whole : AreWhole wires
   pub are : all_are t (values_of values) ≡ true
-  pub there : streams_at (numbers_of wires) streams ≡ Some (laid t values)
+  pub there : streams_at (numbers_of wires) streams ≡ Some (columns_of_values t values)
 
 -- there is a Unit for each of so many instances
 abbrev pub Controls : Columns → ℕ → ℕ → Type 0

@@ -14,7 +14,7 @@ use Rattle.flow_messages.specs.declared.message.Kind.TheVariants.{Unit as UnitKi
 use Rattle.flow_base.specs.Columns.{Columns}
 use Rattle.flow_values.specs.Shapes.{kinds_of}
 use Rattle.flow_values.specs.Flats.{width}
-use Rattle.flow_rows.specs.Made.{laid}
+use Rattle.flow_rows.specs.Made.{columns_of_values}
 use Rattle.flow_plans.specs.Plans.{source, print, Step, streams_at, run}
 use Rattle.snesl_translation.specs.Wires.{Wires, type_of_wires, numbers_of, wires_from, Bound}
 use Rattle.snesl_translation.specs.Makings.{Making, done, and_then, tested}
@@ -61,7 +61,7 @@ inputs_sourced at cells (declaration ∷ declarations) next =
 
 -- the columns of inputs that have these values
 abbrev pub columns_of : List Declaration → Environment → Columns
-columns_of (declaration ∷ declarations) (entry ∷ environment) = laid declaration.1 (entry.1 ∷ []) ++ columns_of declarations environment
+columns_of (declaration ∷ declarations) (entry ∷ environment) = columns_of_values declaration.1 (entry.1 ∷ []) ++ columns_of declarations environment
 columns_of _ _ = []
 
 -- what their sources write: the control stream has number 0, and the columns have the next ones
@@ -69,8 +69,8 @@ abbrev pub cells_of : List Declaration → Environment → ℕ → List Cell
 cells_of inputs environment number = slice_index_or (columns_of inputs environment) (number - 1) []
 
 -- nothing is set yet
-abbrev pub not_set : ℕ → List Cell
-not_set number = []
+abbrev pub unset_cells : ℕ → List Cell
+unset_cells number = []
 
 -- the control stream of a program: one Unit
 abbrev pub control_sourced : ℕ → ℕ → Making ℕ
@@ -98,5 +98,5 @@ PlansMean =
     → ProgramTypes text program declared t → Fits program.dialect declared.inputs environment
     → let plan = program_plan text program declared.inputs (cells_of declared.inputs environment) in
     ((value : Value) → program_value text program environment ≡ gives value
-    → (type_of_wires plan.given ≡ t) × ((streams : Columns) × (run plan.steps [] ≡ Some streams) × (streams_at (numbers_of plan.given) streams ≡ Some (laid t (value ∷ [])))))
+    → (type_of_wires plan.given ≡ t) × ((streams : Columns) × (run plan.steps [] ≡ Some streams) × (streams_at (numbers_of plan.given) streams ≡ Some (columns_of_values t (value ∷ [])))))
     × ((kind : FaultKind) (at : ℕ) → program_value text program environment ≡ faults kind at → run plan.steps [] ≡ None)

@@ -7,9 +7,9 @@ use Rattle.snesl_translation.specs.Makings.{Making}
 use Rattle.snesl_translation.specs.Translation.{tr}
 use Rattle.snesl_scopes.specs.Scopes.{bound_of}
 use Rattle.snesl_scopes.specs.declared.scope.Scope.{Scope}
-use Rattle.snesl_translator.specs.declared.translator.Setting.{Setting}
+use Rattle.snesl_translator.specs.declared.translator.ProgramContext.{ProgramContext}
 use Rattle.snesl_translator.specs.Translated.{bodies_in}
 
 -- the steps of an expression, from a stream's number on
-abbrev pub tr_in : Dialect → Setting → Scope → Tree → (control next : ℕ) → Making Wires
-tr_in dialect setting scope tree control next = tr dialect setting.text.now (bodies_in dialect setting) tree (bound_of scope) control next
+abbrev pub tr_in : Dialect → ProgramContext → Scope → Tree → (control next : ℕ) → Making Wires
+tr_in dialect context scope tree control next = tr dialect context.text.now (bodies_in dialect context) tree (bound_of scope) control next

@@ -9,7 +9,7 @@ use Rattle.flow_plans.specs.Plans.{Step}
 use Rattle.snesl_translation.specs.Wires.{Wires}
 use Rattle.snesl_translation.specs.Makings.{Making, done, and_then}
 use Rattle.snesl_scopes.specs.declared.scope.Scope.{Scope}
-use Rattle.snesl_translator.specs.declared.translator.Setting.{Setting}
+use Rattle.snesl_translator.specs.declared.translator.ProgramContext.{ProgramContext}
 use Rattle.snesl_translator.specs.Translated.{all_in, binders_in}
 use Rattle.snesl_translator.proofs.Expressions.{tr_in}
 
@@ -36,12 +36,12 @@ made_all-append {B = B} one (x ∷ xs) ys next =
     ap (λ (m : Making (List B)). record { steps = first.steps ++ (m.steps ++ []); given = first.given ∷ m.given; next = m.next }) (made_all-append one xs ys first.next)
     ∙ ap (λ steps. record { steps = steps; given = first.given ∷ (middle.given ++ last.given); next = last.next }) (regrouped first.steps middle.steps last.steps)
 
-module _ (dialect : Dialect) (setting : Setting) (scope : Scope) (control : ℕ) where
+module _ (dialect : Dialect) (context : ProgramContext) (scope : Scope) (control : ℕ) where
   -- arguments
   abbrev pub argument_in : Expr → ℕ → Making Wires
-  argument_in expr next = tr_in dialect setting scope (tree_of expr) control next
+  argument_in expr next = tr_in dialect context scope (tree_of expr) control next
 
-  pub arguments_listed : (exprs : List Expr) (next : ℕ) → made_all argument_in exprs next ≡ all_in dialect setting scope (trees_of exprs) control next
+  pub arguments_listed : (exprs : List Expr) (next : ℕ) → made_all argument_in exprs next ≡ all_in dialect context scope (trees_of exprs) control next
   unfolding and_then
   arguments_listed [] next = refl
   arguments_listed (expr ∷ exprs) next =
@@ -50,14 +50,14 @@ module _ (dialect : Dialect) (setting : Setting) (scope : Scope) (control : ℕ)
 
   -- sequences of binders
   abbrev pub source_in : Binder → ℕ → Making (List ℕ × Wires)
-  source_in binder next = and_then (tr_in dialect setting scope (tree_of binder.source) control next) (λ u k. done (spelling setting.text.now binder.name, u) k)
+  source_in binder next = and_then (tr_in dialect context scope (tree_of binder.source) control next) (λ u k. done (spelling context.text.now binder.name, u) k)
 
-  pub sources_listed : (binders : List Binder) (next : ℕ) → made_all source_in binders next ≡ binders_in dialect setting scope (binders_of binders) control next
+  pub sources_listed : (binders : List Binder) (next : ℕ) → made_all source_in binders next ≡ binders_in dialect context scope (binders_of binders) control next
   unfolding and_then
   sources_listed [] next = refl
   sources_listed (binder ∷ binders) next =
-      let first = tr_in dialect setting scope (tree_of binder.source) control next in
-      let name = spelling setting.text.now binder.name in
+      let first = tr_in dialect context scope (tree_of binder.source) control next in
+      let name = spelling context.text.now binder.name in
       let others = made_all source_in binders first.next in
       ap (λ steps. record { steps = steps ++ (others.steps ++ []); given = (name, first.given) ∷ others.given; next = others.next }) (append-nil first.steps)
       ∙ ap (λ (m : Making (List (List ℕ × Wires))). record { steps = first.steps ++ (m.steps ++ []); given = (name, first.given) ∷ m.given; next = m.next }) (sources_listed binders first.next)

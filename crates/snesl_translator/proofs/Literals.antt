@@ -16,7 +16,7 @@ use Rattle.snesl_steps.specs.declared.steps.Steps.{Steps}
 use Rattle.snesl_steps.proofs.Adding.{made_then, refused_first, then_done}
 use Rattle.snesl_scopes.specs.Scopes.{bound_of}
 use Rattle.snesl_scopes.specs.declared.scope.Scope.{Scope}
-use Rattle.snesl_translator.specs.declared.translator.Setting.{Setting}
+use Rattle.snesl_translator.specs.declared.translator.ProgramContext.{ProgramContext}
 use Rattle.snesl_translator.specs.Translated.{bodies_in, further_in, single_in}
 use Rattle.snesl_translator.proofs.Makings.{in_turn, then_nothing}
 
@@ -58,56 +58,56 @@ module _ (dialect : Dialect) (text : List ℕ) (bodies : Bodies) (at : ℕ) (bou
   behind_parted u xs ys next =
       further_parted (λ b c n. done u n) xs ys next ∙ further_behind (λ b c n. tr_further dialect text bodies at (λ b c n. done u n) (trees_of xs) b c n) (trees_of ys) next
 
-module _ (setting : Setting) (scope : Scope) (at control : ℕ) where
+module _ (context : ProgramContext) (scope : Scope) (at control : ℕ) where
   -- an item, appended to a sequence, from the next stream on
   abbrev pub last_in : Dialect → Wires → Tree → ℕ → Making Wires
-  last_in dialect u item next = and_then (single_in dialect setting scope at item control next) (λ v k. appended at u v k)
+  last_in dialect u item next = and_then (single_in dialect context scope at item control next) (λ v k. appended at u v k)
 
   -- one more item was appended
   pub item_behind : {old middle second new : Steps} (u all v w : Wires) (xs : List Expr) (i : ℕ) (x : Expr) → i < length xs → x ≡ get_or xs i x
-      → HasMade old middle (further_in (dialect_of_steps old) setting scope at u (trees_of (take i xs)) control (next_in old)) all
-      → HasMade middle second (single_in (dialect_of_steps middle) setting scope at (tree_of x) control (next_in middle)) v
+      → HasMade old middle (further_in (dialect_of_steps old) context scope at u (trees_of (take i xs)) control (next_in old)) all
+      → HasMade middle second (single_in (dialect_of_steps middle) context scope at (tree_of x) control (next_in middle)) v
       → HasMade second new (appended at all v (next_in second)) w
-      → HasMade old new (further_in (dialect_of_steps old) setting scope at u (trees_of (take (i + 1) xs)) control (next_in old)) w
+      → HasMade old new (further_in (dialect_of_steps old) context scope at u (trees_of (take (i + 1) xs)) control (next_in old)) w
   item_behind {old = old} {middle = middle} {second = second} {new = new} u all v w xs i x l is made item_made last_made =
       let dialect = dialect_of_steps old in
-      let text = setting.text.now in
-      let bodies = bodies_in dialect setting in
+      let text = context.text.now in
+      let bodies = bodies_in dialect context in
       let there = take_more xs i x l ∙ ap (λ y. take i xs ++ y ∷ []) (sym is) in
-      let item_made' : HasMade middle second (single_in dialect setting scope at (tree_of x) control (next_in middle)) v =
-      subst (λ d. HasMade middle second (single_in d setting scope at (tree_of x) control (next_in middle)) v) made.dialect item_made in
+      let item_made' : HasMade middle second (single_in dialect context scope at (tree_of x) control (next_in middle)) v =
+      subst (λ d. HasMade middle second (single_in d context scope at (tree_of x) control (next_in middle)) v) made.dialect item_made in
       let last : HasMade middle new (last_in dialect all (tree_of x) (next_in middle)) w =
-      made_then (λ u. u) middle second new (single_in dialect setting scope at (tree_of x) control (next_in middle)) (λ v k. appended at all v k) v (Ok w) item_made' last_made in
-      let more : HasMade middle new (further_in dialect setting scope at all (both (tree_of x) none) control (next_in middle)) w =
+      made_then (λ u. u) middle second new (single_in dialect context scope at (tree_of x) control (next_in middle)) (λ v k. appended at all v k) v (Ok w) item_made' last_made in
+      let more : HasMade middle new (further_in dialect context scope at all (both (tree_of x) none) control (next_in middle)) w =
       subst (λ (m : Making Wires). HasMade middle new m w) (sym (one_behind dialect text bodies at (bound_of scope) control all (tree_of x) none (next_in middle)))
       (then_done middle new (last_in dialect all (tree_of x) (next_in middle)) (λ w. w) w last) in
-      subst (λ ys. HasMade old new (further_in dialect setting scope at u (trees_of ys) control (next_in old)) w) (sym there)
+      subst (λ ys. HasMade old new (further_in dialect context scope at u (trees_of ys) control (next_in old)) w) (sym there)
       (subst (λ (m : Making Wires). HasMade old new m w) (sym (behind_parted dialect text bodies at (bound_of scope) control u (take i xs) (x ∷ []) (next_in old)))
-      (made_then (λ u. u) old middle new (further_in dialect setting scope at u (trees_of (take i xs)) control (next_in old)) (λ w k. further_in dialect setting scope at w (trees_of (x ∷ [])) control k) all (Ok w) made more))
+      (made_then (λ u. u) old middle new (further_in dialect context scope at u (trees_of (take i xs)) control (next_in old)) (λ w k. further_in dialect context scope at w (trees_of (x ∷ [])) control k) all (Ok w) made more))
 
   -- one more item was refused
   pub item_not_behind : {old middle : Steps} (new : Steps) (u all : Wires) (xs : List Expr) (i : ℕ) (x : Expr) (e : Refusal) → i < length xs → x ≡ get_or xs i x
-      → HasMade old middle (further_in (dialect_of_steps old) setting scope at u (trees_of (take i xs)) control (next_in old)) all
+      → HasMade old middle (further_in (dialect_of_steps old) context scope at u (trees_of (take i xs)) control (next_in old)) all
       → Adds wires_of middle new (last_in (dialect_of_steps middle) all (tree_of x) (next_in middle)) (Err e)
-      → Adds wires_of old new (further_in (dialect_of_steps old) setting scope at u (trees_of xs) control (next_in old)) (Err e)
+      → Adds wires_of old new (further_in (dialect_of_steps old) context scope at u (trees_of xs) control (next_in old)) (Err e)
   item_not_behind {old = old} {middle = middle} new u all xs i x e l is made refused =
       let dialect = dialect_of_steps old in
-      let text = setting.text.now in
-      let bodies = bodies_in dialect setting in
+      let text = context.text.now in
+      let bodies = bodies_in dialect context in
       let others = drop (suc i) xs in
       let there = ap (λ ys. take i xs ++ ys) (ap (λ y. y ∷ others) is ∙ sym (drop-cons xs i x l)) ∙ take-append-drop i xs in
       let refused' : Adds wires_of middle new (last_in dialect all (tree_of x) (next_in middle)) (Err e) =
       subst (λ d. Adds wires_of middle new (last_in d all (tree_of x) (next_in middle)) (Err e)) made.dialect refused in
-      let rest : Adds wires_of middle new (further_in dialect setting scope at all (trees_of (x ∷ others)) control (next_in middle)) (Err e) =
+      let rest : Adds wires_of middle new (further_in dialect context scope at all (trees_of (x ∷ others)) control (next_in middle)) (Err e) =
       subst (λ (m : Making Wires). Adds wires_of middle new m (Err e)) (sym (one_behind dialect text bodies at (bound_of scope) control all (tree_of x) (trees_of others) (next_in middle)))
-      (refused_first wires_of wires_of middle new new (last_in dialect all (tree_of x) (next_in middle)) (λ w k. further_in dialect setting scope at w (trees_of others) control k) e refused') in
-      subst (λ ys. Adds wires_of old new (further_in dialect setting scope at u (trees_of ys) control (next_in old)) (Err e)) there
+      (refused_first wires_of wires_of middle new new (last_in dialect all (tree_of x) (next_in middle)) (λ w k. further_in dialect context scope at w (trees_of others) control k) e refused') in
+      subst (λ ys. Adds wires_of old new (further_in dialect context scope at u (trees_of ys) control (next_in old)) (Err e)) there
       (subst (λ (m : Making Wires). Adds wires_of old new m (Err e)) (sym (behind_parted dialect text bodies at (bound_of scope) control u (take i xs) (x ∷ others) (next_in old)))
-      (made_then wires_of old middle new (further_in dialect setting scope at u (trees_of (take i xs)) control (next_in old)) (λ w k. further_in dialect setting scope at w (trees_of (x ∷ others)) control k) all (Err e) made rest))
+      (made_then wires_of old middle new (further_in dialect context scope at u (trees_of (take i xs)) control (next_in old)) (λ w k. further_in dialect context scope at w (trees_of (x ∷ others)) control k) all (Err e) made rest))
 
   -- all items were appended
   pub all_behind : {old new : Steps} (u w : Wires) (xs : List Expr) (i : ℕ) → length xs ≤ i
-      → HasMade old new (further_in (dialect_of_steps old) setting scope at u (trees_of (take i xs)) control (next_in old)) w
-      → HasMade old new (further_in (dialect_of_steps old) setting scope at u (trees_of xs) control (next_in old)) w
+      → HasMade old new (further_in (dialect_of_steps old) context scope at u (trees_of (take i xs)) control (next_in old)) w
+      → HasMade old new (further_in (dialect_of_steps old) context scope at u (trees_of xs) control (next_in old)) w
   all_behind {old = old} {new = new} u w xs i l made =
-      subst (λ ys. HasMade old new (further_in (dialect_of_steps old) setting scope at u (trees_of ys) control (next_in old)) w) (take_all i xs l) made
+      subst (λ ys. HasMade old new (further_in (dialect_of_steps old) context scope at u (trees_of ys) control (next_in old)) w) (take_all i xs l) made

@@ -7,4 +7,4 @@ mod functions;
 mod rows;
 mod translator;
 
-pub use translator::{Setting, translate};
+pub use translator::{ProgramContext, translate};

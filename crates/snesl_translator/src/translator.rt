@@ -30,7 +30,7 @@ use snesl_tree::{Binder, Builtin, Declaration, Expr, Function, Operator, Prefix,
 /// What stays the same in one body: the text, in which names are spelled, and the declarations whose functions may be
 /// called.
 #[derive(Clone, Copy)]
-pub struct Setting<'a> {
+pub struct ProgramContext<'a> {
     pub text: &'a [u8],
     pub functions: &'a [Declaration],
 }
@@ -48,73 +48,73 @@ pub struct Setting<'a> {
 #[inline(never)]
 pub fn translate(
     steps: &mut Steps,
-    setting: &Setting<'_>,
+    context: &ProgramContext<'_>,
     expr: &Expr,
     scope: &Scope<'_>,
     control: usize,
 ) -> Result<Wires, Refusal>
     ensures { Adds wires_of steps.old steps.new
-        (translated steps.old setting.now scope.now (tree_of expr.now) control) result }
+        (translated steps.old context.now scope.now (tree_of expr.now) control) result }
 {
     // It only hands each form on to a function of its own, and none is inlined into another: its frame, and theirs, are
     // what translation takes of the stack.
     match expr {
         Expr::Integer { at, value } => constant(steps, *at, Scalar::Int(*value), &Ty::Int, control),
         Expr::Truth { at, value } => constant(steps, *at, Scalar::Bool(*value), &Ty::Bool, control),
-        Expr::Name(name) => named(steps, setting.text, *name, scope),
+        Expr::Name(name) => named(steps, context.text, *name, scope),
         Expr::Binary {
             at,
             operator,
             left,
             right,
-        } => binary_form(steps, setting, *at, *operator, left, right, scope, control),
+        } => binary_form(steps, context, *at, *operator, left, right, scope, control),
         Expr::Prefix {
             at,
             operator,
             operand,
-        } => prefix_form(steps, setting, *at, *operator, operand, scope, control),
+        } => prefix_form(steps, context, *at, *operator, operand, scope, control),
         Expr::Call {
             at,
             function,
             arguments,
-        } => built_in(steps, setting, *at, *function, arguments, scope, control),
+        } => built_in(steps, context, *at, *function, arguments, scope, control),
         Expr::Apply {
             function,
             arguments,
-        } => call_form(steps, setting, *function, arguments, scope, control),
-        Expr::Group { inner, .. } => translate(steps, setting, inner, scope, control),
+        } => call_form(steps, context, *function, arguments, scope, control),
+        Expr::Group { inner, .. } => translate(steps, context, inner, scope, control),
         Expr::Pair { at, first, second } => pair_form(
-            steps, setting, *at, first, second, scope, control,
+            steps, context, *at, first, second, scope, control,
         ),
         Expr::Let {
             at,
             name,
             value,
             body,
-        } => let_form(steps, setting, *at, *name, value, body, scope, control),
+        } => let_form(steps, context, *at, *name, value, body, scope, control),
         Expr::If {
             at,
             condition,
             positive,
             negative,
         } => if_form(
-            steps, setting, *at, condition, positive, negative, scope, control,
+            steps, context, *at, condition, positive, negative, scope, control,
         ),
-        Expr::Literal { at, items } => literal_form(steps, setting, *at, items, scope, control),
+        Expr::Literal { at, items } => literal_form(steps, context, *at, items, scope, control),
         Expr::Filter {
             at,
             item,
             condition,
-        } => filter_form(steps, setting, *at, item, condition, scope, control),
+        } => filter_form(steps, context, *at, item, condition, scope, control),
         Expr::Each {
             at,
             body,
             binders,
             condition,
         } => match condition {
-            None => each_form(steps, setting, *at, body, binders, scope, control),
+            None => each_form(steps, context, *at, body, binders, scope, control),
             Some(condition) => each_where(
-                steps, setting, *at, body, binders, condition, scope, control,
+                steps, context, *at, body, binders, condition, scope, control,
             ),
         },
     }
@@ -125,7 +125,7 @@ pub fn translate(
 #[inline(never)]
 fn binary_form(
     steps: &mut Steps,
-    setting: &Setting<'_>,
+    context: &ProgramContext<'_>,
     at: usize,
     operator: Operator,
     left: &Expr,
@@ -134,11 +134,11 @@ fn binary_form(
     control: usize,
 ) -> Result<Wires, Refusal>
     ensures { Adds wires_of steps.old steps.new
-        (translated steps.old setting.now scope.now
+        (translated steps.old context.now scope.now
         (binary at operator (tree_of left.now) (tree_of right.now)) control) result }
 {
-    let u = translate(steps, setting, left, scope, control)?;
-    let v = translate(steps, setting, right, scope, control)?;
+    let u = translate(steps, context, left, scope, control)?;
+    let v = translate(steps, context, right, scope, control)?;
     apply_operator(steps, at, operator, &u, &v)
 }
 
@@ -147,7 +147,7 @@ fn binary_form(
 #[inline(never)]
 fn prefix_form(
     steps: &mut Steps,
-    setting: &Setting<'_>,
+    context: &ProgramContext<'_>,
     at: usize,
     operator: Prefix,
     operand: &Expr,
@@ -155,10 +155,10 @@ fn prefix_form(
     control: usize,
 ) -> Result<Wires, Refusal>
     ensures { Adds wires_of steps.old steps.new
-        (translated steps.old setting.now scope.now
+        (translated steps.old context.now scope.now
         (prefix at operator (tree_of operand.now)) control) result }
 {
-    let u = translate(steps, setting, operand, scope, control)?;
+    let u = translate(steps, context, operand, scope, control)?;
     apply_prefix(steps, at, operator, &u)
 }
 
@@ -166,7 +166,7 @@ fn prefix_form(
 #[inline(never)]
 fn pair_form(
     steps: &mut Steps,
-    setting: &Setting<'_>,
+    context: &ProgramContext<'_>,
     at: usize,
     first: &Expr,
     second: &Expr,
@@ -174,11 +174,11 @@ fn pair_form(
     control: usize,
 ) -> Result<Wires, Refusal>
     ensures { Adds wires_of steps.old steps.new
-        (translated steps.old setting.now scope.now
+        (translated steps.old context.now scope.now
         (pair at (tree_of first.now) (tree_of second.now)) control) result }
 {
-    let u = translate(steps, setting, first, scope, control)?;
-    let v = translate(steps, setting, second, scope, control)?;
+    let u = translate(steps, context, first, scope, control)?;
+    let v = translate(steps, context, second, scope, control)?;
     paired(steps, u, v)
 }
 
@@ -187,7 +187,7 @@ fn pair_form(
 #[inline(never)]
 fn let_form(
     steps: &mut Steps,
-    setting: &Setting<'_>,
+    context: &ProgramContext<'_>,
     at: usize,
     name: Span,
     value: &Expr,
@@ -196,12 +196,12 @@ fn let_form(
     control: usize,
 ) -> Result<Wires, Refusal>
     ensures { Adds wires_of steps.old steps.new
-        (translated steps.old setting.now scope.now
+        (translated steps.old context.now scope.now
         (binding at name (tree_of value.now) (tree_of body.now)) control) result }
 {
-    let u = translate(steps, setting, value, scope, control)?;
-    let frame = one_bound(steps.alloc(), name.spelled(setting.text), u)?;
-    in_frame(steps, setting, body, &frame, &*scope, control)
+    let u = translate(steps, context, value, scope, control)?;
+    let frame = one_bound(steps.alloc(), name.spelled(context.text), u)?;
+    in_frame(steps, context, body, &frame, &*scope, control)
 }
 
 // A body that sees these names before those of a scope.
@@ -209,19 +209,19 @@ fn let_form(
 #[inline(never)]
 fn in_frame<'a>(
     steps: &mut Steps,
-    setting: &Setting<'_>,
+    context: &ProgramContext<'_>,
     body: &Expr,
     frame: &'a [Binding<'a>],
     scope: &'a Scope<'a>,
     control: usize,
 ) -> Result<Wires, Refusal>
     ensures { Adds wires_of steps.old steps.new
-        (tr (dialect_of_steps steps.old) setting.now.text.now
-        (bodies_in (dialect_of_steps steps.old) setting.now) (tree_of body.now)
+        (tr (dialect_of_steps steps.old) context.now.text.now
+        (bodies_in (dialect_of_steps steps.old) context.now) (tree_of body.now)
         (bindings_of frame.now ++ bound_of scope.now) control (next_in steps.old)) result }
 {
     let inner = Scope::Frame(frame, scope);
-    let w = translate(steps, setting, body, &inner, control)?;
+    let w = translate(steps, context, body, &inner, control)?;
     Ok(w)
 }
 
@@ -230,7 +230,7 @@ fn in_frame<'a>(
 #[inline(never)]
 fn if_form(
     steps: &mut Steps,
-    setting: &Setting<'_>,
+    context: &ProgramContext<'_>,
     at: usize,
     condition: &Expr,
     positive: &Expr,
@@ -239,13 +239,13 @@ fn if_form(
     control: usize,
 ) -> Result<Wires, Refusal>
     ensures { Adds wires_of steps.old steps.new
-        (translated steps.old setting.now scope.now
+        (translated steps.old context.now scope.now
         (choice at (tree_of condition.now) (tree_of positive.now)
         (tree_of negative.now)) control) result }
 {
-    let d = translate(steps, setting, condition, scope, control)?;
-    let u = filtered(steps, setting, at, positive, scope, d.stream())?;
-    let v = otherwise(steps, setting, at, negative, scope, &d)?;
+    let d = translate(steps, context, condition, scope, control)?;
+    let u = filtered(steps, context, at, positive, scope, d.stream())?;
+    let v = otherwise(steps, context, at, negative, scope, &d)?;
     one_of(steps, at, &u, &v)
 }
 
@@ -254,7 +254,7 @@ fn if_form(
 #[inline(never)]
 fn otherwise(
     steps: &mut Steps,
-    setting: &Setting<'_>,
+    context: &ProgramContext<'_>,
     at: usize,
     item: &Expr,
     scope: &Scope<'_>,
@@ -263,11 +263,11 @@ fn otherwise(
     ensures { Adds wires_of steps.old steps.new
         (and_then (prefix_streams (dialect_of_steps steps.old) at Not (wires_of condition.now)
         (next_in steps.old)) (λ e k. filtered_in
-        (dialect_of_steps steps.old) setting.now scope.now at (tree_of item.now)
+        (dialect_of_steps steps.old) context.now scope.now at (tree_of item.now)
         (stream_of e) k)) result }
 {
     let e = apply_prefix(steps, at, Prefix::Not, condition)?;
-    filtered(steps, setting, at, item, scope, e.stream())
+    filtered(steps, context, at, item, scope, e.stream())
 }
 
 // A built-in function at arguments.
@@ -275,7 +275,7 @@ fn otherwise(
 #[inline(never)]
 fn built_in(
     steps: &mut Steps,
-    setting: &Setting<'_>,
+    context: &ProgramContext<'_>,
     at: usize,
     function: Builtin,
     arguments: &[Expr],
@@ -283,10 +283,10 @@ fn built_in(
     control: usize,
 ) -> Result<Wires, Refusal>
     ensures { Adds wires_of steps.old steps.new
-        (translated steps.old setting.now scope.now
+        (translated steps.old context.now scope.now
         (call at function (trees_of arguments.now)) control) result }
 {
-    let us = all_translated(steps, setting, arguments, scope, control)?;
+    let us = all_translated(steps, context, arguments, scope, control)?;
     apply_built_in(steps, at, function, &us)
 }
 
@@ -295,18 +295,18 @@ fn built_in(
 #[inline(never)]
 fn call_form(
     steps: &mut Steps,
-    setting: &Setting<'_>,
+    context: &ProgramContext<'_>,
     function: Span,
     arguments: &[Expr],
     scope: &Scope<'_>,
     control: usize,
 ) -> Result<Wires, Refusal>
     ensures { Adds wires_of steps.old steps.new
-        (translated steps.old setting.now scope.now
+        (translated steps.old context.now scope.now
         (apply function (trees_of arguments.now)) control) result }
 {
-    let us = all_translated(steps, setting, arguments, scope, control)?;
-    called(steps, setting, function, &us, control)
+    let us = all_translated(steps, context, arguments, scope, control)?;
+    called(steps, context, function, &us, control)
 }
 
 // A declared function at the streams of its arguments.
@@ -314,19 +314,19 @@ fn call_form(
 #[inline(never)]
 fn called(
     steps: &mut Steps,
-    setting: &Setting<'_>,
+    context: &ProgramContext<'_>,
     name: Span,
     arguments: &[Wires],
     control: usize,
 ) -> Result<Wires, Refusal>
     ensures { Adds wires_of steps.old steps.new
-        (bodies_in (dialect_of_steps steps.old) setting.now name.at
-        (spelling setting.now.text.now name) (map wires_of arguments.now) control
+        (bodies_in (dialect_of_steps steps.old) context.now name.at
+        (spelling context.now.text.now name) (map wires_of arguments.now) control
         (next_in steps.old)) result }
 {
-    let bytes = name.spelled(setting.text);
-    match find_function(bytes, setting.text, setting.functions) {
-        Some((function, earlier)) => enter(steps, setting, function, earlier, arguments, control),
+    let bytes = name.spelled(context.text);
+    match find_function(bytes, context.text, context.functions) {
+        Some((function, earlier)) => enter(steps, context, function, earlier, arguments, control),
         None => Ok(Wires::Wire(Ty::Int, 0)),
     }
 }
@@ -336,21 +336,21 @@ fn called(
 #[inline(never)]
 fn enter(
     steps: &mut Steps,
-    setting: &Setting<'_>,
+    context: &ProgramContext<'_>,
     function: &Function,
     earlier: &[Declaration],
     arguments: &[Wires],
     control: usize,
 ) -> Result<Wires, Refusal>
     ensures { Adds wires_of steps.old steps.new
-        (entered (dialect_of_steps steps.old) setting.now.text.now function.now earlier.now
+        (entered (dialect_of_steps steps.old) context.now.text.now function.now earlier.now
         (map wires_of arguments.now) control (next_in steps.old)) result }
 {
-    let inner = Setting {
-        text: &*setting.text,
+    let inner = ProgramContext {
+        text: &*context.text,
         functions: &*earlier,
     };
-    let frame = bind_parameters(steps.alloc(), setting.text, &function.parameters, arguments)?;
+    let frame = bind_parameters(steps.alloc(), context.text, &function.parameters, arguments)?;
     let nothing = Scope::Nothing;
     let w = in_frame(steps, &inner, &function.body, &frame, &nothing, control)?;
     Ok(w)
@@ -361,20 +361,20 @@ fn enter(
 #[inline(never)]
 fn literal_form(
     steps: &mut Steps,
-    setting: &Setting<'_>,
+    context: &ProgramContext<'_>,
     at: usize,
     items: &[Expr],
     scope: &Scope<'_>,
     control: usize,
 ) -> Result<Wires, Refusal>
     ensures { Adds wires_of steps.old steps.new
-        (translated steps.old setting.now scope.now
+        (translated steps.old context.now scope.now
         (literal at (trees_of items.now)) control) result }
 {
     match items.split_first() {
         Some((first, others)) => {
-            let sequence = single(steps, setting, at, first, scope, control)?;
-            further(steps, setting, at, sequence, others, scope, control)
+            let sequence = single(steps, context, at, first, scope, control)?;
+            further(steps, context, at, sequence, others, scope, control)
         }
         None => Ok(Wires::Wire(Ty::Int, 0)),
     }
@@ -385,7 +385,7 @@ fn literal_form(
 #[inline(never)]
 fn further(
     steps: &mut Steps,
-    setting: &Setting<'_>,
+    context: &ProgramContext<'_>,
     at: usize,
     sequence: Wires,
     items: &[Expr],
@@ -393,12 +393,12 @@ fn further(
     control: usize,
 ) -> Result<Wires, Refusal>
     ensures { Adds wires_of steps.old steps.new
-        (further_in (dialect_of_steps steps.old) setting.now scope.now at (wires_of sequence)
+        (further_in (dialect_of_steps steps.old) context.now scope.now at (wires_of sequence)
         (trees_of items.now) control (next_in steps.old)) result }
 {
     let mut all = sequence;
     for item in items {
-        let last = single(steps, setting, at, item, scope, control)?;
+        let last = single(steps, context, at, item, scope, control)?;
         all = append(steps, at, &all, &last)?;
     }
     Ok(all)
@@ -409,7 +409,7 @@ fn further(
 #[inline(never)]
 fn filter_form(
     steps: &mut Steps,
-    setting: &Setting<'_>,
+    context: &ProgramContext<'_>,
     at: usize,
     item: &Expr,
     condition: &Expr,
@@ -417,11 +417,11 @@ fn filter_form(
     control: usize,
 ) -> Result<Wires, Refusal>
     ensures { Adds wires_of steps.old steps.new
-        (translated steps.old setting.now scope.now
+        (translated steps.old context.now scope.now
         (filter at (tree_of item.now) (tree_of condition.now)) control) result }
 {
-    let d = translate(steps, setting, condition, scope, control)?;
-    filtered(steps, setting, at, item, scope, d.stream())
+    let d = translate(steps, context, condition, scope, control)?;
+    filtered(steps, context, at, item, scope, d.stream())
 }
 
 // A comprehension with no condition.
@@ -429,7 +429,7 @@ fn filter_form(
 #[inline(never)]
 fn each_form(
     steps: &mut Steps,
-    setting: &Setting<'_>,
+    context: &ProgramContext<'_>,
     at: usize,
     body: &Expr,
     binders: &[Binder],
@@ -437,11 +437,11 @@ fn each_form(
     control: usize,
 ) -> Result<Wires, Refusal>
     ensures { Adds wires_of steps.old steps.new
-        (translated steps.old setting.now scope.now
+        (translated steps.old context.now scope.now
         (each at (tree_of body.now) (binders_of binders.now) always) control) result }
 {
-    let sources = all_sources(steps, setting, binders, scope, control)?;
-    each_over(steps, setting, at, body, binders, &sources, scope)
+    let sources = all_sources(steps, context, binders, scope, control)?;
+    each_over(steps, context, at, body, binders, &sources, scope)
 }
 
 // A comprehension behind its sources, in a frame of its own: sources nest, and need nothing of what comes behind them.
@@ -449,7 +449,7 @@ fn each_form(
 #[inline(never)]
 fn each_over(
     steps: &mut Steps,
-    setting: &Setting<'_>,
+    context: &ProgramContext<'_>,
     at: usize,
     body: &Expr,
     binders: &[Binder],
@@ -457,12 +457,12 @@ fn each_over(
     scope: &Scope<'_>,
 ) -> Result<Wires, Refusal>
     ensures { Adds wires_of steps.old steps.new
-        (each_behind (dialect_of_steps steps.old) setting.now scope.now at (bindings_of sources.now)
+        (each_behind (dialect_of_steps steps.old) context.now scope.now at (bindings_of sources.now)
         (tree_of body.now) (binders_of binders.now) (next_in steps.old)) result }
 {
-    let part = part_of(&*setting.text, &*binders, &*body);
+    let part = part_of(&*context.text, &*binders, &*body);
     let rows = open_each(steps, at, &part, &*sources, &*scope)?;
-    in_rows(steps, setting, body, &rows)
+    in_rows(steps, context, body, &rows)
 }
 
 // A comprehension with a condition.
@@ -470,7 +470,7 @@ fn each_over(
 #[inline(never)]
 fn each_where(
     steps: &mut Steps,
-    setting: &Setting<'_>,
+    context: &ProgramContext<'_>,
     at: usize,
     body: &Expr,
     binders: &[Binder],
@@ -479,13 +479,13 @@ fn each_where(
     control: usize,
 ) -> Result<Wires, Refusal>
     ensures { Adds wires_of steps.old steps.new
-        (translated steps.old setting.now scope.now
+        (translated steps.old context.now scope.now
         (each at (tree_of body.now) (binders_of binders.now)
         (only_where (tree_of condition.now))) control) result }
 {
-    let sources = all_sources(steps, setting, binders, scope, control)?;
+    let sources = all_sources(steps, context, binders, scope, control)?;
     where_over(
-        steps, setting, at, body, binders, condition, &sources, scope,
+        steps, context, at, body, binders, condition, &sources, scope,
     )
 }
 
@@ -494,7 +494,7 @@ fn each_where(
 #[inline(never)]
 fn where_over(
     steps: &mut Steps,
-    setting: &Setting<'_>,
+    context: &ProgramContext<'_>,
     at: usize,
     body: &Expr,
     binders: &[Binder],
@@ -503,13 +503,13 @@ fn where_over(
     scope: &Scope<'_>,
 ) -> Result<Wires, Refusal>
     ensures { Adds wires_of steps.old steps.new
-        (where_behind (dialect_of_steps steps.old) setting.now scope.now at
+        (where_behind (dialect_of_steps steps.old) context.now scope.now at
         (bindings_of sources.now) (tree_of body.now) (tree_of condition.now)
         (binders_of binders.now) (next_in steps.old)) result }
 {
-    let part = part_where(&*setting.text, &*binders, &*condition, &*body);
+    let part = part_where(&*context.text, &*binders, &*condition, &*body);
     let rows = open_each(steps, at, &part, &*sources, &*scope)?;
-    where_true(steps, setting, at, body, condition, &rows)
+    where_true(steps, context, at, body, condition, &rows)
 }
 
 // The streams of arguments, from left to right.
@@ -517,18 +517,18 @@ fn where_over(
 #[inline(never)]
 fn all_translated(
     steps: &mut Steps,
-    setting: &Setting<'_>,
+    context: &ProgramContext<'_>,
     exprs: &[Expr],
     scope: &Scope<'_>,
     control: usize,
 ) -> Result<Vec<Wires>, Refusal>
     ensures { Adds (λ us. map wires_of us.items) steps.old steps.new
-        (all_in (dialect_of_steps steps.old) setting.now scope.now (trees_of exprs.now) control
+        (all_in (dialect_of_steps steps.old) context.now scope.now (trees_of exprs.now) control
         (next_in steps.old)) result }
 {
     let mut us = Vec::new(steps.alloc());
     for expr in exprs {
-        let u = translate(steps, setting, expr, scope, control)?;
+        let u = translate(steps, context, expr, scope, control)?;
         us.push(u)?;
     }
     Ok(us)
@@ -539,19 +539,19 @@ fn all_translated(
 #[inline(never)]
 fn all_sources<'a>(
     steps: &mut Steps,
-    setting: &Setting<'a>,
+    context: &ProgramContext<'a>,
     binders: &[Binder],
     scope: &Scope<'_>,
     control: usize,
 ) -> Result<Vec<Binding<'a>>, Refusal>
     ensures { Adds (λ sources. bindings_of sources.items) steps.old steps.new
-        (binders_in (dialect_of_steps steps.old) setting.now scope.now
+        (binders_in (dialect_of_steps steps.old) context.now scope.now
         (binders_of binders.now) control (next_in steps.old)) result }
 {
     let mut sources = Vec::new(steps.alloc());
     for binder in binders {
-        let wires = translate(steps, setting, &binder.source, scope, control)?;
-        let name = binder.name.spelled(setting.text);
+        let wires = translate(steps, context, &binder.source, scope, control)?;
+        let name = binder.name.spelled(context.text);
         sources.push(Binding { name, wires })?;
     }
     Ok(sources)
@@ -562,18 +562,18 @@ fn all_sources<'a>(
 #[inline(never)]
 fn single(
     steps: &mut Steps,
-    setting: &Setting<'_>,
+    context: &ProgramContext<'_>,
     at: usize,
     item: &Expr,
     scope: &Scope<'_>,
     control: usize,
 ) -> Result<Wires, Refusal>
     ensures { Adds wires_of steps.old steps.new
-        (single_in (dialect_of_steps steps.old) setting.now scope.now at (tree_of item.now) control
+        (single_in (dialect_of_steps steps.old) context.now scope.now at (tree_of item.now) control
         (next_in steps.old)) result }
 {
     let truths = always_true(steps, at, control)?;
-    filtered(steps, setting, at, item, scope, truths)
+    filtered(steps, context, at, item, scope, truths)
 }
 
 // An item where these truth values are true, and else nothing.
@@ -581,19 +581,19 @@ fn single(
 #[inline(never)]
 fn filtered(
     steps: &mut Steps,
-    setting: &Setting<'_>,
+    context: &ProgramContext<'_>,
     at: usize,
     item: &Expr,
     scope: &Scope<'_>,
     truths: usize,
 ) -> Result<Wires, Refusal>
     ensures { Adds wires_of steps.old steps.new
-        (filtered_in (dialect_of_steps steps.old) setting.now scope.now at (tree_of item.now) truths
+        (filtered_in (dialect_of_steps steps.old) context.now scope.now at (tree_of item.now) truths
         (next_in steps.old)) result }
 {
-    let part = part_of(&*setting.text, &[], &*item);
+    let part = part_of(&*context.text, &[], &*item);
     let rows = open_where(steps, at, &part, truths, &*scope)?;
-    in_rows(steps, setting, item, &rows)
+    in_rows(steps, context, item, &rows)
 }
 
 // The sequence of a body's values, which sees this.
@@ -601,18 +601,18 @@ fn filtered(
 #[inline(never)]
 fn in_rows(
     steps: &mut Steps,
-    setting: &Setting<'_>,
+    context: &ProgramContext<'_>,
     body: &Expr,
     rows: &Rows<'_>,
 ) -> Result<Wires, Refusal>
     ensures { Adds wires_of steps.old steps.new
-        (body_in (dialect_of_steps steps.old) setting.now (rows_of rows.now) (tree_of body.now)
+        (body_in (dialect_of_steps steps.old) context.now (rows_of rows.now) (tree_of body.now)
         (next_in steps.old)) result }
 {
     let nothing = Scope::Nothing;
     let outside = Scope::Frame(&rows.outside, &nothing);
     let scope = Scope::Frame(&rows.items, &outside);
-    let w = translate(steps, setting, body, &scope, rows.control)?;
+    let w = translate(steps, context, body, &scope, rows.control)?;
     let all = sequence(steps, rows.flags, w)?;
     Ok(all)
 }
@@ -622,21 +622,21 @@ fn in_rows(
 #[inline(never)]
 fn where_true(
     steps: &mut Steps,
-    setting: &Setting<'_>,
+    context: &ProgramContext<'_>,
     at: usize,
     body: &Expr,
     condition: &Expr,
     rows: &Rows<'_>,
 ) -> Result<Wires, Refusal>
     ensures { Adds wires_of steps.old steps.new
-        (where_in (dialect_of_steps steps.old) setting.now (rows_of rows.now) at (tree_of body.now)
+        (where_in (dialect_of_steps steps.old) context.now (rows_of rows.now) at (tree_of body.now)
         (tree_of condition.now) (next_in steps.old)) result }
 {
     let nothing = Scope::Nothing;
     let outside = Scope::Frame(&rows.outside, &nothing);
     let scope = Scope::Frame(&rows.items, &outside);
-    let d = translate(steps, setting, condition, &scope, rows.control)?;
-    let w = filtered(steps, setting, at, body, &scope, d.stream())?;
+    let d = translate(steps, context, condition, &scope, rows.control)?;
+    let w = filtered(steps, context, at, body, &scope, d.stream())?;
     let all = flat(steps, at, rows.flags, w)?;
     Ok(all)
 }

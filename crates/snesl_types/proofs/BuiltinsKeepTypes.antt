@@ -14,7 +14,7 @@ use Rattle.snesl_operators.specs.declared.scalar.Scalar.TheVariants.{Int, Bool a
 use Rattle.snesl_operators.specs.declared.operator.Reduction.{Reduction}
 use Rattle.snesl_operators.specs.declared.operator.Reduction.TheVariants.{Sum, Max, All, Any}
 use Rattle.snesl_operators.specs.Operators.{ranged, quotient, remainder, an_integer}
-use Rattle.snesl_operators.specs.Reductions.{reduced, reduced_from, reduced_more, reduced_all, reduced_nothing, and_then, some_of, scanned, scanned_from}
+use Rattle.snesl_operators.specs.Reductions.{reduction_of, reduction_from, reduced_more, reduced_all, reduced_nothing, and_then, some_of, scan_of, scan_from}
 use Rattle.snesl_operators.proofs.OperatorLaws.{rem_integer}
 use Rattle.snesl_operators.proofs.ReductionLaws.{nothing_range}
 use Rattle.snesl_tree.specs.declared.operator.Builtin.{Builtin}
@@ -297,10 +297,10 @@ module _ (dialect : Dialect) where
   all_sure Any bool (Some (Truth a)) h = tt
   all_sure _ _ _ h = absurd h
 
-  reduced_sure : (r : Reduction) (t : Ty) (xs : List Scalar) (so_far : Option Scalar) → IsSoFar r t so_far → AllScalars t xs → Sure (ScalarOf t) (reduced_from dialect r so_far xs)
+  reduced_sure : (r : Reduction) (t : Ty) (xs : List Scalar) (so_far : Option Scalar) → IsSoFar r t so_far → AllScalars t xs → Sure (ScalarOf t) (reduction_from dialect r so_far xs)
   reduced_sure r t [] so_far h hs = all_sure r t so_far h
   reduced_sure r t (x ∷ xs) so_far h hs =
-      then_sure (IsSoFar r t) (ScalarOf t) (reduced_more dialect r so_far x) (λ more. reduced_from dialect r more xs) (more_sure r t so_far x h hs.0) (λ more hm.
+      then_sure (IsSoFar r t) (ScalarOf t) (reduced_more dialect r so_far x) (λ more. reduction_from dialect r more xs) (more_sure r t so_far x h hs.0) (λ more hm.
       reduced_sure r t xs more hm hs.1)
 
   scalar_typed : (at : ℕ) (t : Ty) (r : Result Scalar FaultKind) → Sure (ScalarOf t) r → Safe (λ v. HasType dialect v t) (scalar_answer at r)
@@ -312,8 +312,8 @@ module _ (dialect : Dialect) where
   reduce_safe : (at : ℕ) (r : Reduction) (t : Ty) (v : Value) → ((x : Value) → HasType dialect x t → Safe (ScalarOf t) (scalar_at at x)) → IsSoFar r t (reduced_nothing r) → HasType dialect v (seq t)
       → Safe (λ x. HasType dialect x t) (reduce_answer dialect at r v)
   reduce_safe at r t v k h hv =
-      go_safe (AllScalars t) (λ x. HasType dialect x t) (each_at scalar_at at v) (λ xs. scalar_answer at (reduced dialect r xs)) (each_scalar_safe at t v k hv) (λ xs hxs.
-      scalar_typed at t (reduced dialect r xs) (reduced_sure r t xs (reduced_nothing r) h hxs))
+      go_safe (AllScalars t) (λ x. HasType dialect x t) (each_at scalar_at at v) (λ xs. scalar_answer at (reduction_of dialect r xs)) (each_scalar_safe at t v k hv) (λ xs hxs.
+      scalar_typed at t (reduction_of dialect r xs) (reduced_sure r t xs (reduced_nothing r) h hxs))
 
   ranged_sure : (n : ℤ) → Sure (IsInteger dialect) (ranged dialect n)
   ranged_sure n = by_test (is_integer dialect n) refl
@@ -322,17 +322,17 @@ module _ (dialect : Dialect) where
       by_test true e = e
       by_test false e = λ f. cc
 
-  scanned_sure : (ns : List ℤ) (so_far : ℤ) → IsInteger dialect so_far → Sure AllIntegers (scanned_from dialect so_far ns)
+  scanned_sure : (ns : List ℤ) (so_far : ℤ) → IsInteger dialect so_far → Sure AllIntegers (scan_from dialect so_far ns)
   scanned_sure [] so_far h = tt
   scanned_sure (n ∷ []) so_far h = (h, tt)
   scanned_sure (n ∷ m ∷ ns) so_far h =
-      then_sure (IsInteger dialect) AllIntegers (ranged dialect (so_far +ℤ n)) (λ sum. and_then (scanned_from dialect sum (m ∷ ns)) (λ sums. Ok (so_far ∷ sums))) (ranged_sure (so_far +ℤ n)) (λ sum hsum.
-      then_sure AllIntegers AllIntegers (scanned_from dialect sum (m ∷ ns)) (λ sums. Ok (so_far ∷ sums)) (scanned_sure (m ∷ ns) sum hsum) (λ sums hsums. (h, hsums)))
+      then_sure (IsInteger dialect) AllIntegers (ranged dialect (so_far +ℤ n)) (λ sum. and_then (scan_from dialect sum (m ∷ ns)) (λ sums. Ok (so_far ∷ sums))) (ranged_sure (so_far +ℤ n)) (λ sum hsum.
+      then_sure AllIntegers AllIntegers (scan_from dialect sum (m ∷ ns)) (λ sums. Ok (so_far ∷ sums)) (scanned_sure (m ∷ ns) sum hsum) (λ sums hsums. (h, hsums)))
 
   scan_safe : (at : ℕ) (v : Value) → HasType dialect v (seq int) → Safe (λ x. HasType dialect x (seq int)) (scan_answer dialect at v)
   scan_safe at v hv =
-      go_safe AllIntegers (λ x. HasType dialect x (seq int)) (each_at int_at at v) (λ ns. go (answer_at at (scanned dialect ns)) (λ sums. gives (sequence (map an_int sums)))) (each_int_safe at v hv) (λ ns hns.
-      go_safe AllIntegers (λ x. HasType dialect x (seq int)) (answer_at at (scanned dialect ns)) (λ sums. gives (sequence (map an_int sums))) (answer_at_safe AllIntegers at (scanned dialect ns) (scanned_sure ns (pos 0) (nothing_range dialect Sum))) (λ sums hsums.
+      go_safe AllIntegers (λ x. HasType dialect x (seq int)) (each_at int_at at v) (λ ns. go (answer_at at (scan_of dialect ns)) (λ sums. gives (sequence (map an_int sums)))) (each_int_safe at v hv) (λ ns hns.
+      go_safe AllIntegers (λ x. HasType dialect x (seq int)) (answer_at at (scan_of dialect ns)) (λ sums. gives (sequence (map an_int sums))) (answer_at_safe AllIntegers at (scan_of dialect ns) (scanned_sure ns (pos 0) (nothing_range dialect Sum))) (λ sums hsums.
       unlisted (map an_int sums) int (integers_listed sums hsums)))
 
   less_fits : (m n : ℕ) → m ≤ n → IsInteger dialect (pos n) → IsInteger dialect (pos m)

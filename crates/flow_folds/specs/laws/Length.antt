@@ -11,26 +11,26 @@ use Rattle.snesl_data.specs.Integers.{greatest_integer, is_integer, IsInteger}
 use Rattle.flow_messages.specs.Cells.{Cell, flag, int}
 use Rattle.flow_base.specs.Flags.{F, T, elements, flags}
 use Rattle.flow_base.specs.Columns.{Columns, columns, push_column, At}
-use Rattle.flow_base.specs.Machines.{MachineLaws, SoundAt, Run, Runs, taken, OnNext, OfNext}
+use Rattle.flow_base.specs.Machines.{MachineLaws, SoundAt, Run, Runs, state_after_item, OnNext, OfNext}
 use Rattle.flow_base.specs.MachineRuns.{Then, reading, writing, run_is}
 use Rattle.flow_folds.specs.OwnDialect.{own_read, own_write}
 use Rattle.flow_folds.specs.Rows.{LengthRow}
 use Rattle.flow_folds.specs.declared.length.Count.{Count}
 use Rattle.flow_folds.specs.declared.length.Count.TheVariants.{Counting, Due}
 use Rattle.flow_folds.specs.declared.length.Length.{Length}
-use Rattle.flow_folds.specs.LengthMachine.{one_more, length_ended, length_counts, length_move, length_in_range, length_machine, length_view}
+use Rattle.flow_folds.specs.LengthMachine.{one_more, length_at_end, length_counts, length_move, length_in_range, length_machine, length_view}
 use Rattle.flow_base.specs.Members.{NodeOf, node_of}
 use Rattle.flow_base.specs.declared.node.Node.{Node}
 
 -- the number of a segment that ended is due in the range
-ended_fits : (dialect : Dialect) (n : ℕ) → OfNext (length_ended dialect n) (length_in_range dialect)
+ended_fits : (dialect : Dialect) (n : ℕ) → OfNext (length_at_end dialect n) (length_in_range dialect)
 ended_fits dialect n = go (is_integer dialect (pos n)) refl
   where
     go : (b : Bool) → is_integer dialect (pos n) ≡ b → OfNext (cond b (Ok (Due (pos n))) (Err Overflow)) (length_in_range dialect)
     go true e = e
     go false e = tt
 
-ended_any : (dialect : Dialect) (n : ℕ) → OfNext (length_ended dialect n) (λ _. Unit {0})
+ended_any : (dialect : Dialect) (n : ℕ) → OfNext (length_at_end dialect n) (λ _. Unit {0})
 ended_any dialect n = go (is_integer dialect (pos n))
   where
     go : (b : Bool) → OfNext (cond b (Ok (Due (pos n))) (Err Overflow)) (λ _. Unit {0})
@@ -43,10 +43,10 @@ sound dialect (Counting (suc n)) = (omega arith, refl, λ _. (tt, ended_any dial
 sound dialect (Due number) = (omega arith, omega arith, λ _. (refl, tt), own_write length_in_range dialect (Due number) (Counting zero) (int number) (λ h. (h, tt)))
 
 -- a segment ends where its number lies in the range, and nowhere else
-ended_on : (dialect : Dialect) (n : ℕ) (P : Count → Type 0) → IsInteger dialect (pos n) → P (Due (pos n)) → OnNext (length_ended dialect n) P
+ended_on : (dialect : Dialect) (n : ℕ) (P : Count → Type 0) → IsInteger dialect (pos n) → P (Due (pos n)) → OnNext (length_at_end dialect n) P
 ended_on dialect n P fits h = subst (λ b. OnNext (cond b (Ok (Due (pos n))) (Err Overflow)) P) (sym fits) h
 
-ended_from : (dialect : Dialect) (n : ℕ) (P : Count → Type 0) → OnNext (length_ended dialect n) P → IsInteger dialect (pos n) × P (Due (pos n))
+ended_from : (dialect : Dialect) (n : ℕ) (P : Count → Type 0) → OnNext (length_at_end dialect n) P → IsInteger dialect (pos n) × P (Due (pos n))
 ended_from dialect n P h = go (is_integer dialect (pos n)) refl h
   where
     go : (b : Bool) → is_integer dialect (pos n) ≡ b → OnNext (cond b (Ok (Due (pos n))) (Err Overflow)) P → IsInteger dialect (pos n) × P (Due (pos n))
@@ -64,7 +64,7 @@ counted_back : (n more total top : ℕ) → suc (min n top) + more ≡ total →
 counted_back n more total top e most = omega arith
 
 -- a flag is read after n elements, in an instance or where one begins
-flag_read : (dialect : Dialect) (n k : ℕ) (i o : Columns) → At 0 i (λ x r. OnNext (taken (length_counts dialect n) x) (λ s. Run length_machine dialect k s r o)) → Run length_machine dialect (suc k) (Counting n) i o
+flag_read : (dialect : Dialect) (n k : ℕ) (i o : Columns) → At 0 i (λ x r. OnNext (state_after_item (length_counts dialect n) x) (λ s. Run length_machine dialect k s r o)) → Run length_machine dialect (suc k) (Counting n) i o
 flag_read dialect zero k i o h = h
 flag_read dialect (suc n) k i o h = h
 
@@ -107,7 +107,7 @@ before_end : (dialect : Dialect) (n : ℕ) (i o : Columns) → IsInteger dialect
 before_end dialect zero _ _ fits (due _ (start ns h)) = start (zero ∷ ns) (All-cons (λ n. IsInteger dialect (pos n)) zero ns fits h)
 before_end dialect (suc n) _ _ fits (due _ (start ns h)) = counted n zero (suc n) (omega arith) ns (All-cons (λ n. IsInteger dialect (pos n)) (suc n) ns fits h)
 
-ended : (dialect : Dialect) (n : ℕ) (i o : Columns) → OnNext (length_ended dialect n) (λ next. Owes dialect next i o) → Owes dialect (Counting n) (push_column 0 T i) o
+ended : (dialect : Dialect) (n : ℕ) (i o : Columns) → OnNext (length_at_end dialect n) (λ next. Owes dialect next i o) → Owes dialect (Counting n) (push_column 0 T i) o
 ended dialect n i o h = let g = ended_from dialect n (λ next. Owes dialect next i o) h in before_end dialect n i o g.0 g.1
 
 earlier : (dialect : Dialect) (s : Count) (x : Cell) (i o : Columns) → Then (λ next. Owes dialect next i o) (length_move dialect s) x → Owes dialect s (reading (length_move dialect s) x i) (writing (length_move dialect s) o)

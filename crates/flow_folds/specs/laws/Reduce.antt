@@ -5,15 +5,15 @@ use Rattle.snesl_data.specs.declared.dialect.Dialect.{Dialect}
 use Rattle.snesl_data.specs.declared.fault.FaultKind.{FaultKind}
 use Rattle.snesl_data.specs.declared.fault.FaultKind.TheVariants.{Shape}
 use Rattle.snesl_operators.specs.Operators.{type_of, ScalarInRange}
-use Rattle.snesl_operators.specs.Reductions.{and_then, reduction_type, reduced_nothing, reduced_more, reduced_all, reduced_from}
+use Rattle.snesl_operators.specs.Reductions.{and_then, reduction_type, reduced_nothing, reduced_more, reduced_all, reduction_from}
 use Rattle.snesl_operators.proofs.ReductionLaws.{nothing_type, nothing_range, more_type, more_shape, more_range}
 use Rattle.snesl_operators.specs.declared.scalar.Scalar.{Scalar}
 use Rattle.snesl_operators.specs.declared.operator.Reduction.{Reduction}
 use Rattle.flow_messages.specs.Cells.{Cell, flag, is_of}
-use Rattle.flow_base.specs.Flags.{F, T, elements, flags, joined}
+use Rattle.flow_base.specs.Flags.{F, T, elements, flags, concatenation}
 use Rattle.flow_base.specs.Lists.{Lists}
 use Rattle.flow_base.specs.Columns.{Columns, columns, push_column, rows_from}
-use Rattle.flow_base.specs.Machines.{MachineLaws, SoundAt, on_kind, taken, OnNext, OfNext, Run, Runs}
+use Rattle.flow_base.specs.Machines.{MachineLaws, SoundAt, on_kind, state_after_item, OnNext, OfNext, Run, Runs}
 use Rattle.flow_base.specs.MachineRuns.{Then, reading, writing, run_is}
 use Rattle.flow_folds.specs.OwnDialect.{own_read, own_write}
 use Rattle.flow_folds.specs.Scalars.{cell_of_scalar, scalar_in}
@@ -27,7 +27,7 @@ use Rattle.flow_base.specs.declared.node.Node.{Node}
 use Rattle.flow_folds.specs.declared.reduce.Reduce.{Reduce}
 
 -- an element of another kind is of another type, and so Shape already
-pub element_is : (dialect : Dialect) (reduction : Reduction) (so_far : Option Scalar) (x : Cell) → taken (on_kind (reduced_kind reduction) (λ x. at_element dialect reduction so_far (scalar_in x))) x ≡ at_element dialect reduction so_far (scalar_in x)
+pub element_is : (dialect : Dialect) (reduction : Reduction) (so_far : Option Scalar) (x : Cell) → state_after_item (on_kind (reduced_kind reduction) (λ x. at_element dialect reduction so_far (scalar_in x))) x ≡ at_element dialect reduction so_far (scalar_in x)
 element_is dialect reduction so_far x = go (is_of (reduced_kind reduction) x) refl
   where
     other : is_of (reduced_kind reduction) x ≡ false → (z : Option Scalar) → scalar_in x ≡ z → Err Shape ≡ at_element dialect reduction so_far z
@@ -97,7 +97,7 @@ abbrev Does : Dialect → Reduction → Stage → List Cell → List Cell → Li
 Does dialect reduction s f a r = Runs reduce_machine (dialect, reduction) s (f ∷ a ∷ []) (r ∷ [])
 
 -- elements that are left, and then a run, are a run
-group_runs : (dialect : Dialect) (reduction : Reduction) (xs : List Scalar) (so_far : Option Scalar) (value : Scalar) → reduced_from dialect reduction so_far xs ≡ Ok value → {f a r : List Cell} → Does dialect reduction Start f a r →
+group_runs : (dialect : Dialect) (reduction : Reduction) (xs : List Scalar) (so_far : Option Scalar) (value : Scalar) → reduction_from dialect reduction so_far xs ≡ Ok value → {f a r : List Cell} → Does dialect reduction Start f a r →
     Does dialect reduction (Flag so_far) (elements (length xs) (T ∷ f)) (map cell_of_scalar xs ++ a) (cell_of_scalar value ∷ r)
 group_runs dialect reduction [] (Some x) value e run = let same : value ≡ x = cc in (suc (suc run.0), (ap cell_of_scalar same, run.1))
 group_runs dialect reduction [] None value e run = absurd (cc)
@@ -108,7 +108,7 @@ group_runs dialect reduction (x ∷ xs) so_far value e {f = f} {a = a} {r = r} r
           (sym (element_is dialect reduction so_far (cell_of_scalar x) ∙ ap (at_element dialect reduction so_far) (scalar_in-cell x))) k.1,
     )
   where
-    go : (more : Result (Option Scalar) FaultKind) → ((more : Option Scalar) → reduced_from dialect reduction more xs ≡ Ok value → Does dialect reduction (Flag more) (elements (length xs) (T ∷ f)) (map cell_of_scalar xs ++ a) (cell_of_scalar value ∷ r)) → and_then more (λ more. reduced_from dialect reduction more xs) ≡ Ok value →
+    go : (more : Result (Option Scalar) FaultKind) → ((more : Option Scalar) → reduction_from dialect reduction more xs ≡ Ok value → Does dialect reduction (Flag more) (elements (length xs) (T ∷ f)) (map cell_of_scalar xs ++ a) (cell_of_scalar value ∷ r)) → and_then more (λ more. reduction_from dialect reduction more xs) ≡ Ok value →
         (n : ℕ) × OnNext (and_then more (λ so_far. Ok (Flag so_far))) (λ s. Run reduce_machine (dialect, reduction) n s (elements (length xs) (T ∷ f) ∷ (map cell_of_scalar xs ++ a) ∷ []) ((cell_of_scalar value ∷ r) ∷ []))
     go (Ok more) others e = others more e
     go (Err kind) others e = absurd (cc)
@@ -128,7 +128,7 @@ abbrev flags_of : (dialect : Dialect) (reduction : Reduction) → List (Reduced 
 flags_of dialect reduction groups = flags (map (λ g. length g.0) groups)
 
 abbrev elements_of : (dialect : Dialect) (reduction : Reduction) → List (Reduced dialect reduction) → List Cell
-elements_of dialect reduction groups = joined (map (λ g. map cell_of_scalar g.0) groups)
+elements_of dialect reduction groups = concatenation (map (λ g. map cell_of_scalar g.0) groups)
 
 abbrev values_of : (dialect : Dialect) (reduction : Reduction) → List (Reduced dialect reduction) → List Cell
 values_of dialect reduction groups = map (λ g. cell_of_scalar g.1) groups
@@ -136,9 +136,9 @@ values_of dialect reduction groups = map (λ g. cell_of_scalar g.1) groups
 -- what a run reads and writes
 data Owes (dialect : Dialect) (reduction : Reduction) : Stage → Columns → Columns → Type 0 where
   start : (groups : List (Reduced dialect reduction)) → Owes dialect reduction Start (reduce_reads dialect reduction groups) (reduce_writes dialect reduction groups)
-  flagged : (so_far : Option Scalar) (xs : List Scalar) (value : Scalar) → reduced_from dialect reduction so_far xs ≡ Ok value → (groups : List (Reduced dialect reduction)) →
+  flagged : (so_far : Option Scalar) (xs : List Scalar) (value : Scalar) → reduction_from dialect reduction so_far xs ≡ Ok value → (groups : List (Reduced dialect reduction)) →
       Owes dialect reduction (Flag so_far) (elements (length xs) (T ∷ flags_of dialect reduction groups) ∷ (map cell_of_scalar xs ++ elements_of dialect reduction groups) ∷ []) ((cell_of_scalar value ∷ values_of dialect reduction groups) ∷ [])
-  element : (so_far : Option Scalar) (x : Scalar) (xs : List Scalar) (value : Scalar) → reduced_from dialect reduction so_far (x ∷ xs) ≡ Ok value → (groups : List (Reduced dialect reduction)) →
+  element : (so_far : Option Scalar) (x : Scalar) (xs : List Scalar) (value : Scalar) → reduction_from dialect reduction so_far (x ∷ xs) ≡ Ok value → (groups : List (Reduced dialect reduction)) →
       Owes dialect reduction (Element so_far) (elements (length xs) (T ∷ flags_of dialect reduction groups) ∷ (cell_of_scalar x ∷ (map cell_of_scalar xs ++ elements_of dialect reduction groups)) ∷ []) ((cell_of_scalar value ∷ values_of dialect reduction groups) ∷ [])
   written : (value : Scalar) {i o : Columns} → Owes dialect reduction Start i o → Owes dialect reduction (Value value) i (push_column 0 (cell_of_scalar value) o)
 
@@ -157,7 +157,7 @@ opened dialect reduction _ _ (flagged _ xs value e groups) = start ((xs, value, 
 -- an element comes before those that are reduced after it
 one_more : (dialect : Dialect) (reduction : Reduction) (so_far : Option Scalar) (x : Scalar) (more : Result (Option Scalar) FaultKind) → reduced_more dialect reduction so_far x ≡ more → (i o : Columns) →
     OnNext (and_then more (λ so_far. Ok (Flag so_far))) (λ next. Owes dialect reduction next i o) → Owes dialect reduction (Element so_far) (push_column 1 (cell_of_scalar x) i) o
-one_more dialect reduction so_far x (Ok more) is _ _ (flagged _ xs value e groups) = element so_far x xs value (ap (λ more. and_then more (λ more. reduced_from dialect reduction more xs)) is ∙ e) groups
+one_more dialect reduction so_far x (Ok more) is _ _ (flagged _ xs value e groups) = element so_far x xs value (ap (λ more. and_then more (λ more. reduction_from dialect reduction more xs)) is ∙ e) groups
 one_more dialect reduction so_far x (Err kind) is i o h = absurd h
 
 at_scalar : (dialect : Dialect) (reduction : Reduction) (so_far : Option Scalar) (x : Cell) (z : Option Scalar) → scalar_in x ≡ z → (i o : Columns) → OnNext (at_element dialect reduction so_far z) (λ next. Owes dialect reduction next i o) → Owes dialect reduction (Element so_far) (push_column 1 x i) o

@@ -6,10 +6,10 @@ use Rattle.snesl_data.specs.declared.dialect.Dialect.TheVariants.{One, Two}
 use Rattle.snesl_data.specs.declared.fault.FaultKind.{FaultKind}
 use Rattle.snesl_data.specs.Integers.{IsInteger}
 use Rattle.snesl_operators.specs.Operators.{ranged}
-use Rattle.snesl_operators.specs.Reductions.{scanned_from, and_then}
+use Rattle.snesl_operators.specs.Reductions.{scan_from, and_then}
 use Rattle.snesl_operators.proofs.OperatorLaws.{ranged_integer}
 use Rattle.flow_messages.specs.Cells.{Cell, int, flag}
-use Rattle.flow_base.specs.Flags.{T, elements, flags, joined}
+use Rattle.flow_base.specs.Flags.{T, elements, flags, concatenation}
 use Rattle.flow_base.specs.Columns.{Columns, push_column, rows_from}
 use Rattle.flow_base.specs.Machines.{on_flag, on_int, MachineLaws, SoundAt, OnNext, OfNext, Run, Runs}
 use Rattle.flow_base.specs.MachineRuns.{Then, reading, writing, run_is}
@@ -28,10 +28,10 @@ and_sums so_far others = and_then others (λ sums. Ok (so_far ∷ sums))
 
 -- the sums of these elements after a sum that is still to be made
 abbrev sums_after : Dialect → Result ℤ FaultKind → List ℤ → Result (List ℤ) FaultKind
-sums_after dialect before xs = and_then before (λ sum. scanned_from dialect sum xs)
+sums_after dialect before xs = and_then before (λ sum. scan_from dialect sum xs)
 
 -- the first running sum is the sum so far
-first_sum : (dialect : Dialect) (so_far x : ℤ) (xs sums : List ℤ) → scanned_from dialect so_far (x ∷ xs) ≡ Ok sums → (others : List ℤ) × (sums ≡ so_far ∷ others)
+first_sum : (dialect : Dialect) (so_far x : ℤ) (xs sums : List ℤ) → scan_from dialect so_far (x ∷ xs) ≡ Ok sums → (others : List ℤ) × (sums ≡ so_far ∷ others)
 first_sum dialect so_far x [] sums e = let same : sums ≡ so_far ∷ [] = cc in ([], same)
 first_sum dialect so_far x (y ∷ xs) sums e = go (ranged dialect (so_far +ℤ x)) e
   where
@@ -39,13 +39,13 @@ first_sum dialect so_far x (y ∷ xs) sums e = go (ranged dialect (so_far +ℤ x
     behind (Ok others) e = let same : sums ≡ so_far ∷ others = cc in (others, same)
     behind (Err kind) e = absurd (cc)
 
-    go : (sum : Result ℤ FaultKind) → and_then sum (λ next. and_sums so_far (scanned_from dialect next (y ∷ xs))) ≡ Ok sums → (others : List ℤ) × (sums ≡ so_far ∷ others)
-    go (Ok sum) e = behind (scanned_from dialect sum (y ∷ xs)) e
+    go : (sum : Result ℤ FaultKind) → and_then sum (λ next. and_sums so_far (scan_from dialect next (y ∷ xs))) ≡ Ok sums → (others : List ℤ) × (sums ≡ so_far ∷ others)
+    go (Ok sum) e = behind (scan_from dialect sum (y ∷ xs)) e
     go (Err kind) e = absurd (cc)
 
 -- the sums behind the first are those after the next sum
-sums_behind : (dialect : Dialect) (so_far : ℤ) (sum : Result ℤ FaultKind) (xs sums : List ℤ) → and_then sum (λ next. and_sums so_far (scanned_from dialect next xs)) ≡ Ok (so_far ∷ sums) → sums_after dialect sum xs ≡ Ok sums
-sums_behind dialect so_far (Ok sum) xs sums e = go (scanned_from dialect sum xs) e
+sums_behind : (dialect : Dialect) (so_far : ℤ) (sum : Result ℤ FaultKind) (xs sums : List ℤ) → and_then sum (λ next. and_sums so_far (scan_from dialect next xs)) ≡ Ok (so_far ∷ sums) → sums_after dialect sum xs ≡ Ok sums
+sums_behind dialect so_far (Ok sum) xs sums e = go (scan_from dialect sum xs) e
   where
     go : (others : Result (List ℤ) FaultKind) → and_sums so_far others ≡ Ok (so_far ∷ sums) → others ≡ Ok sums
     go (Ok others) e = let same : others ≡ sums = cc in ap Ok same
@@ -53,7 +53,7 @@ sums_behind dialect so_far (Ok sum) xs sums e = go (scanned_from dialect sum xs)
 sums_behind dialect so_far (Err kind) xs sums e = absurd (cc)
 
 -- and with the first in front
-sums_before : (dialect : Dialect) (so_far : ℤ) (sum : Result ℤ FaultKind) (xs sums : List ℤ) → sums_after dialect sum xs ≡ Ok sums → and_then sum (λ next. and_sums so_far (scanned_from dialect next xs)) ≡ Ok (so_far ∷ sums)
+sums_before : (dialect : Dialect) (so_far : ℤ) (sum : Result ℤ FaultKind) (xs sums : List ℤ) → sums_after dialect sum xs ≡ Ok sums → and_then sum (λ next. and_sums so_far (scan_from dialect next xs)) ≡ Ok (so_far ∷ sums)
 sums_before dialect so_far (Ok sum) xs sums e = ap (and_sums so_far) e
 sums_before dialect so_far (Err kind) xs sums e = absurd (cc)
 
@@ -91,7 +91,7 @@ Does dialect s f a r = Runs scan_add_machine dialect s (f ∷ a ∷ []) (r ∷ [
 
 -- at a flag within a segment, these elements that are left, and then what comes after the segment, are a run
 abbrev FlagRuns : Dialect → List Cell → List Cell → List Cell → List ℤ → Type 0
-FlagRuns dialect f a r xs = (before last : ℤ) (sums : List ℤ) → scanned_from dialect before (last ∷ xs) ≡ Ok (before ∷ sums) → Does dialect (Flag before last) (elements (length xs) (T ∷ f)) (map int xs ++ a) (map int sums ++ r)
+FlagRuns dialect f a r xs = (before last : ℤ) (sums : List ℤ) → scan_from dialect before (last ∷ xs) ≡ Ok (before ∷ sums) → Does dialect (Flag before last) (elements (length xs) (T ∷ f)) (map int xs ++ a) (map int sums ++ r)
 
 -- so they are with an element before them
 element_runs : (dialect : Dialect) (x : ℤ) (xs : List ℤ) (f a r : List Cell) → FlagRuns dialect f a r xs → (before last : ℤ) (sums : List ℤ) → sums_after dialect (ranged dialect (before +ℤ last)) (x ∷ xs) ≡ Ok sums →
@@ -114,10 +114,10 @@ abbrev flags_of : (dialect : Dialect) → List (Scanned dialect) → List Cell
 flags_of dialect groups = flags (map (λ g. length g.0) groups)
 
 abbrev integers_of : (dialect : Dialect) → List (Scanned dialect) → List Cell
-integers_of dialect groups = joined (map (λ g. map int g.0) groups)
+integers_of dialect groups = concatenation (map (λ g. map int g.0) groups)
 
 abbrev sums_of : (dialect : Dialect) → List (Scanned dialect) → List Cell
-sums_of dialect groups = joined (map (λ g. map int g.1) groups)
+sums_of dialect groups = concatenation (map (λ g. map int g.1) groups)
 
 -- the row is a run
 runs : (dialect : Dialect) (groups : List (Scanned dialect)) → Runs scan_add_machine dialect Start (scan_add_reads dialect groups) (scan_add_writes dialect groups)
@@ -133,7 +133,7 @@ runs dialect ((x ∷ xs, sums, e) ∷ groups) =
 -- what a run reads and writes
 data Owes (dialect : Dialect) : Stage → Columns → Columns → Type 0 where
   start : (groups : List (Scanned dialect)) → Owes dialect Start (scan_add_reads dialect groups) (scan_add_writes dialect groups)
-  flagged : (before last : ℤ) (xs sums : List ℤ) → scanned_from dialect before (last ∷ xs) ≡ Ok (before ∷ sums) → (groups : List (Scanned dialect)) →
+  flagged : (before last : ℤ) (xs sums : List ℤ) → scan_from dialect before (last ∷ xs) ≡ Ok (before ∷ sums) → (groups : List (Scanned dialect)) →
       Owes dialect (Flag before last) (elements (length xs) (T ∷ flags_of dialect groups) ∷ (map int xs ++ integers_of dialect groups) ∷ []) ((map int sums ++ sums_of dialect groups) ∷ [])
   element : (before last x : ℤ) (xs sums : List ℤ) → sums_after dialect (ranged dialect (before +ℤ last)) (x ∷ xs) ≡ Ok sums → (groups : List (Scanned dialect)) →
       Owes dialect (Element before last) (elements (length xs) (T ∷ flags_of dialect groups) ∷ (int x ∷ (map int xs ++ integers_of dialect groups)) ∷ []) ((map int sums ++ sums_of dialect groups) ∷ [])

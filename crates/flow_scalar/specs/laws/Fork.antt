@@ -8,10 +8,10 @@ use Rattle.flow_base.specs.Ports.{each_port}
 use Rattle.flow_base.specs.Columns.{Columns, columns, push_column, nothing, At, column_is, columns_same}
 use Rattle.flow_base.specs.Machines.{MachineLaws, SoundAt, Run, Runs}
 use Rattle.flow_base.specs.MachineRuns.{Then, reading, writing, run_is, leads_on, led_on}
-use Rattle.flow_scalar.specs.ForkMachine.{ForkPorts, Step, idle, holding, fork_move, fork_machine}
+use Rattle.flow_scalar.specs.ForkMachine.{ForkPorts, ForkState, idle, holding, fork_move, fork_machine}
 
 -- the table keeps to its laws
-sound : (p : ForkPorts) (s : Step) → SoundAt fork_machine p s (fork_move p s)
+sound : (p : ForkPorts) (s : ForkState) → SoundAt fork_machine p s (fork_move p s)
 sound p idle = (refl, (omega arith, refl, λ _ x e. e, λ _ _ _ x e h. h))
 sound p (holding x zero) = (omega arith, omega arith, λ h. (h, tt), λ _ _ h. (h, tt))
 sound p (holding x (suc left)) = (omega arith, omega arith, λ h. (h, h), λ _ _ h. (h, h))
@@ -77,12 +77,12 @@ runs p (x ∷ a) h =
     (suc k.0, leads_on p.kind (λ x. Ok (holding x p.others)) x (λ s. Run fork_machine p k.0 s (a ∷ []) (same p.others (x ∷ a))) h.0 (subst (λ c. Run fork_machine p k.0 (holding x p.others) (a ∷ []) c) (fan_all x a p.others) k.1))
 
 -- what a run reads and writes, where no more outputs are left than there are
-data Owes (p : ForkPorts) : Step → Columns → Columns → Type 0 where
+data Owes (p : ForkPorts) : ForkState → Columns → Columns → Type 0 where
   start : (a : List Cell) → AllOf p.kind a → Owes p idle (a ∷ []) (same p.others a)
   held : (x : Cell) (left done : ℕ) (a : List Cell) → done + left ≡ p.others → AllOf p.kind a → Owes p (holding x left) (a ∷ []) (fan x a done left)
 
 -- no more outputs are left than there are
-abbrev Within : ForkPorts → Step → Type 0
+abbrev Within : ForkPorts → ForkState → Type 0
 Within p idle = Unit {0}
 Within p (holding x left) = left ≤ p.others
 
@@ -106,7 +106,7 @@ next_left p x left _ _ le (held _ _ (suc done) a e h) =
     subst (λ q. Owes p (holding x (suc left)) (a ∷ []) (push_column q x (fan x a (suc done) left))) port (subst (λ c. Owes p (holding x (suc left)) (a ∷ []) c) (sym (pushed_next x a done left)) (held x (suc left) done a (omega arith) h))
 
 -- what the next state owes, and the step before it
-earlier : (p : ForkPorts) (s : Step) (x : Cell) (i o : Columns) → Then (λ next. Within p next → Owes p next i o) (fork_move p s) x → Within p s → Owes p s (reading (fork_move p s) x i) (writing (fork_move p s) o)
+earlier : (p : ForkPorts) (s : ForkState) (x : Cell) (i o : Columns) → Then (λ next. Within p next → Owes p next i o) (fork_move p s) x → Within p s → Owes p s (reading (fork_move p s) x i) (writing (fork_move p s) o)
 earlier p idle x i o h w = let g = led_on p.kind (λ x. Ok (holding x p.others)) x (λ next. Within p next → Owes p next i o) h in begun p x i o g.0 (g.1 (omega arith))
 earlier p (holding y zero) x i o h w = last_left p y i o (h tt)
 earlier p (holding y (suc left)) x i o h w = next_left p y left i o w (h (omega arith))

@@ -7,7 +7,7 @@ use Rattle.snesl_data.specs.declared.dialect.Dialect.{Dialect}
 use Rattle.snesl_data.specs.declared.dialect.Dialect.TheVariants.{One, Two}
 use Rattle.snesl_data.specs.Integers.{greatest_integer, IsInteger}
 use Rattle.flow_messages.specs.Cells.{Cell, flag, int}
-use Rattle.flow_base.specs.Flags.{F, T, elements, flags, joined}
+use Rattle.flow_base.specs.Flags.{F, T, elements, flags, concatenation}
 use Rattle.flow_base.specs.Columns.{Columns, push_column, rows_from}
 use Rattle.flow_base.specs.Machines.{MachineLaws, SoundAt, OfKind, OfRange, on_int, RunOf, Runs}
 use Rattle.flow_base.specs.MachineRuns.{Then, reading, writing, run_is}
@@ -121,13 +121,13 @@ data Owes : Iota → Columns → Columns → Type 0 where
 after_flag : (number end : ℤ) (b : Bool) → int_lt number end ≡ b → (i o : Columns) → Owes (cond b (Number number end) Between) i o → Owes (Flag number end) i (push_column 0 (flag (not b)) o)
 after_flag number end true lt _ _ (numbered _ _ (flagged _ _ left is a f r o)) =
     subst (λ z. Owes (Flag number end) (a ∷ []) ((F ∷ elements left (T ∷ f)) ∷ (int number ∷ (numbers_from z left ++ r)) ∷ [])) (sym (after_is number end lt)) (flagged number end (suc left) (left_below number end lt ∙ ap suc is) a f r o)
-after_flag number end false lt _ _ (start ns) = flagged number end zero (left_at_end number end lt) (map (λ n. int (pos n)) ns) (flags ns) (joined (map numbers_below ns)) (start ns)
+after_flag number end false lt _ _ (start ns) = flagged number end zero (left_at_end number end lt) (map (λ n. int (pos n)) ns) (flags ns) (concatenation (map numbers_below ns)) (start ns)
 
 -- what the next state owes, and the step before it
 earlier : (s : Iota) (x : Cell) (i o : Columns) → Then (λ next. Owes next i o) (iota_move s) x → Owes s (reading (iota_move s) x i) (writing (iota_move s) o)
 earlier Between (int (pos n)) _ _ (flagged _ _ left e a f r (start ns)) =
     let same : n ≡ left = omega arith in
-    subst (λ k. Owes Between ((int (pos n) ∷ map (λ n. int (pos n)) ns) ∷ []) (elements k (T ∷ flags ns) ∷ (numbers_from (pos 0) k ++ joined (map numbers_below ns)) ∷ [])) same (start (n ∷ ns))
+    subst (λ k. Owes Between ((int (pos n) ∷ map (λ n. int (pos n)) ns) ∷ []) (elements k (T ∷ flags ns) ∷ (numbers_from (pos 0) k ++ concatenation (map numbers_below ns)) ∷ [])) same (start (n ∷ ns))
 earlier (Flag number end) _ i o h = after_flag number end (int_lt number end) refl i o h
 earlier (Number number end) _ _ _ o = numbered number end o
 earlier _ _ _ _ h = absurd h

@@ -15,7 +15,7 @@ use Rattle.flow_base.specs.Transducers.{BehaviourLaws, IsLawfulTraffic, closed}
 use Rattle.flow_base.specs.Promises.{Promise, KeepsWrite, Keeps, PromiseLaws}
 use Rattle.flow_base.specs.Promised.{promised_laws}
 use Rattle.flow_scalar.specs.Streams.{Items}
-use Rattle.flow_scalar.specs.SourceBehaviour.{SourceState, sending, finished, source_want, source_opened, source_items, source_behaviour, source_state}
+use Rattle.flow_scalar.specs.SourceBehaviour.{SourceState, sending, finished, source_want, source_opening, source_items, source_behaviour, source_state}
 use Rattle.flow_base.specs.Members.{NodeOf}
 use Rattle.flow_scalar.specs.declared.source.Source.{Source}
 
@@ -104,7 +104,7 @@ each (finished items) = record {
 }
 
 -- a source that has written nothing owes lawful traffic
-traffic : (items : Items) (i o : Lists Signal) → (o 0 ≡ closed items.cells) ↔ IsLawfulTraffic source_behaviour (source_opened items) i o
+traffic : (items : Items) (i o : Lists Signal) → (o 0 ≡ closed items.cells) ↔ IsLawfulTraffic source_behaviour (source_opening items) i o
 traffic items i o = (
   λ h. record {
     ins = λ _. [];
@@ -116,9 +116,9 @@ traffic items i o = (
   λ h. h.closed_outs 0 (omega arith) ∙ ap closed h.row,
 )
 
-opens : (s : SourceState) → source_opened (source_items s) ≡ s → (i o : Lists Signal) → owes s o ↔ IsLawfulTraffic source_behaviour s i o
+opens : (s : SourceState) → source_opening (source_items s) ≡ s → (i o : Lists Signal) → owes s o ↔ IsLawfulTraffic source_behaviour s i o
 opens (sending items n) e i o = let none : n ≡ 0 = cc in rw none (traffic items i o)
-opens (finished items) e i o = absurd (let never : source_opened items ≡ finished items = e in cc)
+opens (finished items) e i o = absurd (let never : source_opening items ≡ finished items = e in cc)
 
 promise_laws : PromiseLaws source_behaviour promise
 promise_laws = record {

@@ -2,7 +2,7 @@
 use Rattle.std.specs.Prelude.{◌≡◌, ℕ, zero, suc, true, false, List, [], ◌∷◌, ◌++◌, length, Ok, refl}
 use Rattle.std.proofs.Common.{arith, sym, ap, subst}
 use Rattle.flow_messages.specs.Cells.{Cell, flag}
-use Rattle.flow_base.specs.Flags.{F, T, elements, flags, joined, lengths}
+use Rattle.flow_base.specs.Flags.{F, T, elements, flags, concatenation, lengths}
 use Rattle.flow_base.specs.Columns.{Columns, push_column, rows_from}
 use Rattle.flow_base.specs.Machines.{on_flag, MachineLaws, SoundAt, Runs}
 use Rattle.flow_base.specs.MachineRuns.{Then, reading, writing, run_is}
@@ -31,15 +31,15 @@ outer_runs : (ms ns ks : List ℕ) {h : List Cell} → Does Start (flags ns) (fl
 outer_runs [] ns ks r = (suc (suc r.0), (refl, r.1))
 outer_runs (m ∷ ms) ns ks r = let k = inner_runs m (outer_runs ms ns ks r) in (suc k.0, k.1)
 
-runs : (groups : List (List ℕ)) → Does Start (flags (lengths groups)) (flags (joined groups)) (sum_flags (λ m. m) groups)
+runs : (groups : List (List ℕ)) → Does Start (flags (lengths groups)) (flags (concatenation groups)) (sum_flags (λ m. m) groups)
 runs [] = (zero, (refl, refl))
-runs (ms ∷ groups) = from_start concat_flags_machine tt (on_flag (Ok Inner) (Ok End)) (outer_runs ms (lengths groups) (joined groups) (runs groups))
+runs (ms ∷ groups) = from_start concat_flags_machine tt (on_flag (Ok Inner) (Ok End)) (outer_runs ms (lengths groups) (concatenation groups) (runs groups))
 
 -- what a run reads and writes
 data Owes : ConcatFlagsStage → Columns → Columns → Type 0 where
   start : (groups : List (List ℕ)) → Owes Start (concat_flags_reads groups) (sum_flags (λ m. m) groups ∷ [])
-  outer : (ms : List ℕ) (groups : List (List ℕ)) → Owes Outer (elements (length ms) (T ∷ flags (lengths groups)) ∷ flags (ms ++ joined groups) ∷ []) (all_elements (λ m. m) ms (T ∷ sum_flags (λ m. m) groups) ∷ [])
-  inner : (m : ℕ) (ms : List ℕ) (groups : List (List ℕ)) → Owes Inner (elements (length ms) (T ∷ flags (lengths groups)) ∷ elements m (T ∷ flags (ms ++ joined groups)) ∷ []) (elements m (all_elements (λ m. m) ms (T ∷ sum_flags (λ m. m) groups)) ∷ [])
+  outer : (ms : List ℕ) (groups : List (List ℕ)) → Owes Outer (elements (length ms) (T ∷ flags (lengths groups)) ∷ flags (ms ++ concatenation groups) ∷ []) (all_elements (λ m. m) ms (T ∷ sum_flags (λ m. m) groups) ∷ [])
+  inner : (m : ℕ) (ms : List ℕ) (groups : List (List ℕ)) → Owes Inner (elements (length ms) (T ∷ flags (lengths groups)) ∷ elements m (T ∷ flags (ms ++ concatenation groups)) ∷ []) (elements m (all_elements (λ m. m) ms (T ∷ sum_flags (λ m. m) groups)) ∷ [])
   element : {i o : Columns} → Owes Inner i o → Owes Element i (push_column 0 F o)
   last : {i o : Columns} → Owes Start i o → Owes End i (push_column 0 T o)
 
@@ -60,7 +60,7 @@ whole (start groups) = (groups, refl, ap (λ h. h ∷ []) (sym (sums_are (λ m. 
 pub concat_flags_laws : MachineLaws concat_flags_machine
 concat_flags_laws = flag_laws concat_flags_table sound refl (
     rows_from concat_flags_reads concat_flags_writes (Runs concat_flags_machine tt Start)
-    (λ groups. subst (Does Start (flags (lengths groups)) (flags (joined groups))) (sym (sums_are (λ m. m) groups)) (runs groups))
+    (λ groups. subst (Does Start (flags (lengths groups)) (flags (concatenation groups))) (sym (sums_are (λ m. m) groups)) (runs groups))
     (λ i o r. whole (run_is concat_flags_machine tt Owes sound (start []) earlier Start i o r)) 2 1)
 
 -- the transducer that a node makes of it

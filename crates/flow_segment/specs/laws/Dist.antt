@@ -9,17 +9,17 @@ use Rattle.flow_base.specs.Columns.{Columns, columns, push_column}
 use Rattle.flow_base.specs.Machines.{MachineLaws, SoundAt, Run, Runs}
 use Rattle.flow_base.specs.MachineRuns.{Then, reading, writing, run_is, leads_on, led_on}
 use Rattle.flow_segment.specs.Rows.{repeated, DistRow}
-use Rattle.flow_segment.specs.DistMachine.{Step, at_start, at_flag, at_copy, dist_move, dist_machine, dist_view}
+use Rattle.flow_segment.specs.DistMachine.{DistState, at_start, at_flag, at_copy, dist_move, dist_machine, dist_view}
 use Rattle.flow_base.specs.Members.{NodeOf, node_of}
 use Rattle.flow_base.specs.declared.node.Node.{Node}
 use Rattle.flow_segment.specs.declared.dist.Dist.{Dist}
 
-sound : (k : Kind) (s : Step) → SoundAt dist_machine k s (dist_move k s)
+sound : (k : Kind) (s : DistState) → SoundAt dist_machine k s (dist_move k s)
 sound k at_start = (refl, (omega arith, refl, λ _ x e. e, λ _ _ _ x e h. h))
 sound k (at_flag x) = (omega arith, refl, λ h. (h, tt), λ _ _ h. (h, tt))
 sound k (at_copy x) = (omega arith, omega arith, λ h. (h, h), λ _ _ h. (h, h))
 
-abbrev Does : Kind → Step → List Cell → List Cell → List Cell → Type 0
+abbrev Does : Kind → DistState → List Cell → List Cell → List Cell → Type 0
 Does k s a f r = Runs dist_machine k s (a ∷ f ∷ []) (r ∷ [])
 
 -- what is left of a segment, and then a run, is a run
@@ -36,7 +36,7 @@ runs k [] (x ∷ a) e h = absurd (omega arith)
 runs k (n ∷ ns) [] e h = absurd (omega arith)
 
 -- what a run reads and writes
-data Owes (k : Kind) : Step → Columns → Columns → Type 0 where
+data Owes (k : Kind) : DistState → Columns → Columns → Type 0 where
   start : (ns : List ℕ) (a : List Cell) → length ns ≡ length a → AllOf k a → Owes k at_start (a ∷ flags ns ∷ []) (repeated ns a ∷ [])
   flagged : (x : Cell) (n : ℕ) (a f r : List Cell) → Owes k at_start (a ∷ f ∷ []) (r ∷ []) → Owes k (at_flag x) (a ∷ elements n (T ∷ f) ∷ []) ((replicate n x ++ r) ∷ [])
   copied : (x : Cell) {i o : Columns} → Owes k (at_flag x) i o → Owes k (at_copy x) i (push_column 0 x o)
@@ -44,7 +44,7 @@ data Owes (k : Kind) : Step → Columns → Columns → Type 0 where
 begun : (k : Kind) (x : Cell) (i o : Columns) → is_of k x ≡ true → Owes k (at_flag x) i o → Owes k at_start (push_column 0 x i) o
 begun k x _ _ is (flagged _ n _ _ _ (start ns a e h)) = start (n ∷ ns) (x ∷ a) (ap suc e) (is, h)
 
-earlier : (k : Kind) (s : Step) (x : Cell) (i o : Columns) → Then (λ next. Owes k next i o) (dist_move k s) x → Owes k s (reading (dist_move k s) x i) (writing (dist_move k s) o)
+earlier : (k : Kind) (s : DistState) (x : Cell) (i o : Columns) → Then (λ next. Owes k next i o) (dist_move k s) x → Owes k s (reading (dist_move k s) x i) (writing (dist_move k s) o)
 earlier k at_start x i o h = let g = led_on k (λ x. Ok (at_flag x)) x (λ next. Owes k next i o) h in begun k x i o g.0 g.1
 earlier k (at_flag x) (flag false) _ _ (copied _ (flagged _ n a f r o)) = flagged x (suc n) a f r o
 earlier k (at_flag x) (flag true) _ _ (start ns a e h) = flagged x zero a (flags ns) (repeated ns a) (start ns a e h)

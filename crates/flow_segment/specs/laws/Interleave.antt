@@ -3,21 +3,21 @@ use Rattle.std.specs.Prelude.{◌≡◌, zero, suc, true, false, List, [], ◌�
 use Rattle.std.proofs.Common.{arith}
 use Rattle.flow_messages.specs.Cells.{Cell, flag, is_of}
 use Rattle.flow_messages.specs.declared.message.Kind.{Kind}
-use Rattle.flow_base.specs.Flags.{T, elements, flags, joined, lengths}
+use Rattle.flow_base.specs.Flags.{T, elements, flags, concatenation, lengths}
 use Rattle.flow_base.specs.Ranges.{AllOf}
 use Rattle.flow_base.specs.Columns.{Columns, push_column, rows_from}
 use Rattle.flow_base.specs.Machines.{Run, Runs, SoundAt, MachineLaws}
 use Rattle.flow_base.specs.MachineRuns.{leads_on, led_on, reading, writing, Then, run_is}
 use Rattle.flow_segment.specs.Rows.{Sides, lefts, rights, alternated, AllOfSides, interleave_reads}
 use Rattle.flow_segment.specs.laws.FlagLaws.{from_start}
-use Rattle.flow_segment.specs.InterleaveMachine.{Step, at_start, at_flag, at_item, at_copy, flag_of, interleave_move, interleave_machine, interleave_view}
+use Rattle.flow_segment.specs.InterleaveMachine.{InterleaveState, at_start, at_flag, at_item, at_copy, flag_of, interleave_move, interleave_machine, interleave_view}
 use Rattle.flow_segment.specs.declared.interleave.Side.{Side}
 use Rattle.flow_segment.specs.declared.interleave.Side.TheVariants.{Left, Right}
 use Rattle.flow_base.specs.Members.{NodeOf, node_of}
 use Rattle.flow_base.specs.declared.node.Node.{Node}
 use Rattle.flow_segment.specs.declared.interleave.Interleave.{Interleave}
 
-sound : (k : Kind) (s : Step) → SoundAt interleave_machine k s (interleave_move k s)
+sound : (k : Kind) (s : InterleaveState) → SoundAt interleave_machine k s (interleave_move k s)
 sound k at_start = (refl, (omega arith, refl, λ _. (tt, tt), λ _ _ _. (tt, tt)))
 sound k (at_flag Left) = (omega arith, refl, λ _. (tt, tt), λ _ _ _. (tt, tt))
 sound k (at_flag Right) = (omega arith, refl, λ _. (tt, tt), λ _ _ _. (tt, tt))
@@ -26,7 +26,7 @@ sound k (at_item Right) = (omega arith, refl, λ _ x e. e, λ _ _ _ x e range. r
 sound k (at_copy Left x) = (omega arith, omega arith, λ h. (h, tt), λ _ _ h. (h, tt))
 sound k (at_copy Right x) = (omega arith, omega arith, λ h. (h, tt), λ _ _ h. (h, tt))
 
-abbrev Does : Kind → Step → List Cell → List Cell → List Cell → List Cell → List Cell → Type 0
+abbrev Does : Kind → InterleaveState → List Cell → List Cell → List Cell → List Cell → List Cell → Type 0
 Does k s f g a b r = Runs interleave_machine k s (f ∷ g ∷ a ∷ b ∷ []) (r ∷ [])
 
 -- the items of a side and then a run are a run
@@ -47,12 +47,12 @@ runs k [] h = (zero, (refl, refl))
 runs k ((u, v) ∷ xs) h = from_start interleave_machine k (flag_of Left) (left_runs k u h.0 (right_runs k v h.1 (runs k xs h.2)))
 
 -- what a run reads and writes
-data Owes (k : Kind) : Step → Columns → Columns → Type 0 where
+data Owes (k : Kind) : InterleaveState → Columns → Columns → Type 0 where
   start : (xs : Sides Cell) → AllOfSides k xs → Owes k at_start (interleave_reads xs) (alternated xs ∷ [])
   right : (v : List Cell) (xs : Sides Cell) → AllOf k v → AllOfSides k xs →
-      Owes k (at_flag Right) (flags (lengths (lefts xs)) ∷ elements (length v) (T ∷ flags (lengths (rights xs))) ∷ joined (lefts xs) ∷ (v ++ joined (rights xs)) ∷ []) ((v ++ alternated xs) ∷ [])
+      Owes k (at_flag Right) (flags (lengths (lefts xs)) ∷ elements (length v) (T ∷ flags (lengths (rights xs))) ∷ concatenation (lefts xs) ∷ (v ++ concatenation (rights xs)) ∷ []) ((v ++ alternated xs) ∷ [])
   left : (u v : List Cell) (xs : Sides Cell) → AllOf k u → AllOf k v → AllOfSides k xs →
-      Owes k (at_flag Left) (elements (length u) (T ∷ flags (lengths (lefts xs))) ∷ elements (length v) (T ∷ flags (lengths (rights xs))) ∷ (u ++ joined (lefts xs)) ∷ (v ++ joined (rights xs)) ∷ []) ((u ++ (v ++ alternated xs)) ∷ [])
+      Owes k (at_flag Left) (elements (length u) (T ∷ flags (lengths (lefts xs))) ∷ elements (length v) (T ∷ flags (lengths (rights xs))) ∷ (u ++ concatenation (lefts xs)) ∷ (v ++ concatenation (rights xs)) ∷ []) ((u ++ (v ++ alternated xs)) ∷ [])
   left_item : (x : Cell) {i o : Columns} → is_of k x ≡ true → Owes k (at_flag Left) i o → Owes k (at_item Left) (push_column 2 x i) (push_column 0 x o)
   right_item : (x : Cell) {i o : Columns} → is_of k x ≡ true → Owes k (at_flag Right) i o → Owes k (at_item Right) (push_column 3 x i) (push_column 0 x o)
   copied : (side : Side) (x : Cell) {i o : Columns} → Owes k (at_flag side) i o → Owes k (at_copy side x) i (push_column 0 x o)
@@ -63,7 +63,7 @@ take_left k x _ _ is (copied _ _ o) = left_item x is o
 take_right : (k : Kind) (x : Cell) (i o : Columns) → is_of k x ≡ true → Owes k (at_copy Right x) i o → Owes k (at_item Right) (push_column 3 x i) o
 take_right k x _ _ is (copied _ _ o) = right_item x is o
 
-earlier : (k : Kind) (s : Step) (x : Cell) (i o : Columns) → Then (λ next. Owes k next i o) (interleave_move k s) x → Owes k s (reading (interleave_move k s) x i) (writing (interleave_move k s) o)
+earlier : (k : Kind) (s : InterleaveState) (x : Cell) (i o : Columns) → Then (λ next. Owes k next i o) (interleave_move k s) x → Owes k s (reading (interleave_move k s) x i) (writing (interleave_move k s) o)
 earlier k at_start (flag false) _ _ (left_item x is (left u v xs hu hv h)) = start ((x ∷ u, v) ∷ xs) ((is, hu), hv, h)
 earlier k at_start (flag true) _ _ (right v xs hv h) = start (([], v) ∷ xs) (tt, hv, h)
 earlier k (at_flag Left) (flag false) _ _ (left_item x is (left u v xs hu hv h)) = left (x ∷ u) v xs (is, hu) hv h

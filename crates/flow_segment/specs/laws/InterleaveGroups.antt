@@ -2,7 +2,7 @@
 use Rattle.std.specs.Prelude.{◌≡◌, ℕ, zero, suc, true, false, List, [], ◌∷◌, ◌++◌, length, Ok, refl}
 use Rattle.std.proofs.Common.{arith}
 use Rattle.flow_messages.specs.Cells.{Cell, flag}
-use Rattle.flow_base.specs.Flags.{F, T, elements, flags, joined, lengths}
+use Rattle.flow_base.specs.Flags.{F, T, elements, flags, concatenation, lengths}
 use Rattle.flow_base.specs.Columns.{Columns, push_column, rows_from}
 use Rattle.flow_base.specs.Machines.{on_flag, Runs, SoundAt, MachineLaws}
 use Rattle.flow_base.specs.MachineRuns.{reading, writing, Then, run_is}
@@ -46,15 +46,15 @@ left_runs (m ∷ us) ks ns r = let n = left_group_runs m (left_runs us ks ns r) 
 
 runs : (xs : Sides ℕ) → Runs interleave_groups_machine tt Start (interleave_groups_reads xs) (flags (alternated xs) ∷ [])
 runs [] = (zero, (refl, refl))
-runs ((us, vs) ∷ xs) = from_start interleave_groups_machine tt (on_flag (Ok LeftGroup) (Ok Right)) (left_runs us (joined (lefts xs)) (vs ++ alternated xs) (right_runs vs (joined (rights xs)) (alternated xs) (runs xs)))
+runs ((us, vs) ∷ xs) = from_start interleave_groups_machine tt (on_flag (Ok LeftGroup) (Ok Right)) (left_runs us (concatenation (lefts xs)) (vs ++ alternated xs) (right_runs vs (concatenation (rights xs)) (alternated xs) (runs xs)))
 
 -- what a run reads and writes
 data Owes : InterleaveGroupsStage → Columns → Columns → Type 0 where
   start : (xs : Sides ℕ) → Owes Start (interleave_groups_reads xs) (flags (alternated xs) ∷ [])
   right : (vs : List ℕ) (xs : Sides ℕ) →
-      Owes Right (flags (lengths (lefts xs)) ∷ elements (length vs) (T ∷ flags (lengths (rights xs))) ∷ flags (joined (lefts xs)) ∷ flags (vs ++ joined (rights xs)) ∷ []) (flags (vs ++ alternated xs) ∷ [])
+      Owes Right (flags (lengths (lefts xs)) ∷ elements (length vs) (T ∷ flags (lengths (rights xs))) ∷ flags (concatenation (lefts xs)) ∷ flags (vs ++ concatenation (rights xs)) ∷ []) (flags (vs ++ alternated xs) ∷ [])
   left : (us vs : List ℕ) (xs : Sides ℕ) →
-      Owes Left (elements (length us) (T ∷ flags (lengths (lefts xs))) ∷ elements (length vs) (T ∷ flags (lengths (rights xs))) ∷ flags (us ++ joined (lefts xs)) ∷ flags (vs ++ joined (rights xs)) ∷ [])
+      Owes Left (elements (length us) (T ∷ flags (lengths (lefts xs))) ∷ elements (length vs) (T ∷ flags (lengths (rights xs))) ∷ flags (us ++ concatenation (lefts xs)) ∷ flags (vs ++ concatenation (rights xs)) ∷ [])
       (flags (us ++ (vs ++ alternated xs)) ∷ [])
   right_group : (m : ℕ) {f g p q r : List Cell} → Owes Right (f ∷ g ∷ p ∷ q ∷ []) (r ∷ []) → Owes RightGroup (f ∷ g ∷ p ∷ elements m (T ∷ q) ∷ []) (elements m (T ∷ r) ∷ [])
   left_group : (m : ℕ) {f g p q r : List Cell} → Owes Left (f ∷ g ∷ p ∷ q ∷ []) (r ∷ []) → Owes LeftGroup (f ∷ g ∷ elements m (T ∷ p) ∷ q ∷ []) (elements m (T ∷ r) ∷ [])

@@ -8,12 +8,12 @@ use Rattle.flow_base.specs.Columns.{Columns, push_column, rows_from}
 use Rattle.flow_base.specs.Machines.{Run, Runs, SoundAt, MachineLaws}
 use Rattle.flow_base.specs.MachineRuns.{leads_on, led_on, reading, writing, Then, run_is}
 use Rattle.flow_segment.specs.Rows.{Pairs, pair_items, pack_reads, items_kept}
-use Rattle.flow_segment.specs.PackMachine.{Step, at_start, at_item, at_copy, pack_move, pack_machine, pack_view}
+use Rattle.flow_segment.specs.PackMachine.{PackState, at_start, at_item, at_copy, pack_move, pack_machine, pack_view}
 use Rattle.flow_base.specs.Members.{NodeOf, node_of}
 use Rattle.flow_base.specs.declared.node.Node.{Node}
 use Rattle.flow_segment.specs.declared.pack.Pack.{Pack}
 
-sound : (k : Kind) (s : Step) → SoundAt pack_machine k s (pack_move k s)
+sound : (k : Kind) (s : PackState) → SoundAt pack_machine k s (pack_move k s)
 sound k at_start = (refl, (omega arith, refl, λ _. (tt, tt), λ _ _ _. (tt, tt)))
 sound k (at_item true) = (omega arith, refl, λ _ x e. e, λ _ _ _ x e range. range)
 sound k (at_item false) = (omega arith, refl, λ _ x e. tt, λ _ _ _ x e range. tt)
@@ -29,7 +29,7 @@ runs k ((false, x) ∷ xs) h =
     (suc (suc g.0), leads_on k (λ _. Ok at_start) x (λ s. Run pack_machine k g.0 s (pack_reads xs) (items_kept xs ∷ [])) h.0 g.1)
 
 -- what a run reads and writes
-data Owes (k : Kind) : Step → Columns → Columns → Type 0 where
+data Owes (k : Kind) : PackState → Columns → Columns → Type 0 where
   start : (xs : Pairs) → AllOf k (pair_items xs) → Owes k at_start (pack_reads xs) (items_kept xs ∷ [])
   keeps : (x : Cell) (xs : Pairs) → is_of k x ≡ true → AllOf k (pair_items xs) → Owes k (at_item true) (push_column 1 x (pack_reads xs)) ((x ∷ items_kept xs) ∷ [])
   drops : (x : Cell) (xs : Pairs) → is_of k x ≡ true → AllOf k (pair_items xs) → Owes k (at_item false) (push_column 1 x (pack_reads xs)) (items_kept xs ∷ [])
@@ -41,7 +41,7 @@ keep k x _ _ is (copied _ (start xs h)) = keeps x xs is h
 drop : (k : Kind) (x : Cell) (i o : Columns) → is_of k x ≡ true → Owes k at_start i o → Owes k (at_item false) (push_column 1 x i) o
 drop k x _ _ is (start xs h) = drops x xs is h
 
-earlier : (k : Kind) (s : Step) (x : Cell) (i o : Columns) → Then (λ next. Owes k next i o) (pack_move k s) x → Owes k s (reading (pack_move k s) x i) (writing (pack_move k s) o)
+earlier : (k : Kind) (s : PackState) (x : Cell) (i o : Columns) → Then (λ next. Owes k next i o) (pack_move k s) x → Owes k s (reading (pack_move k s) x i) (writing (pack_move k s) o)
 earlier k at_start (flag true) _ _ (keeps x xs is h) = start ((true, x) ∷ xs) (is, h)
 earlier k at_start (flag false) _ _ (drops x xs is h) = start ((false, x) ∷ xs) (is, h)
 earlier k (at_item true) x i o h = let g = led_on k (λ x. Ok (at_copy x)) x (λ next. Owes k next i o) h in keep k x i o g.0 g.1

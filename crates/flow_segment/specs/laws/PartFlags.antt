@@ -3,7 +3,7 @@ use Rattle.std.specs.Prelude.{◌≡◌, ℕ, zero, suc, true, false, List, [], 
 use Rattle.std.proofs.Common.{arith, sym, subst}
 use Rattle.std.proofs.Math.Path.{ap₂}
 use Rattle.flow_messages.specs.Cells.{Cell, flag}
-use Rattle.flow_base.specs.Flags.{F, T, elements, flags, joined, lengths}
+use Rattle.flow_base.specs.Flags.{F, T, elements, flags, concatenation, lengths}
 use Rattle.flow_base.specs.Columns.{Columns, push_column, rows_from}
 use Rattle.flow_base.specs.Machines.{on_flag, Runs, SoundAt, MachineLaws}
 use Rattle.flow_base.specs.MachineRuns.{reading, writing, Then, run_is}
@@ -27,10 +27,10 @@ sound End = (omega arith, omega arith, λ _. (refl, tt), λ _ _ _. (tt, tt))
 
 -- what segments read, one element at a time
 abbrev each_reads : List (List ℕ) → Columns
-each_reads groups = sum_flags suc groups ∷ flags (joined groups) ∷ sum_flags (λ m. m) groups ∷ []
+each_reads groups = sum_flags suc groups ∷ flags (concatenation groups) ∷ sum_flags (λ m. m) groups ∷ []
 
 reads_are : (groups : List (List ℕ)) → part_flags_reads groups ≡ each_reads groups
-reads_are groups = ap₂ (λ g f. g ∷ flags (joined groups) ∷ f ∷ []) (sums_are suc groups) (sums_are (λ m. m) groups)
+reads_are groups = ap₂ (λ g f. g ∷ flags (concatenation groups) ∷ f ∷ []) (sums_are suc groups) (sums_are (λ m. m) groups)
 
 abbrev Does : PartFlagsStage → List Cell → List Cell → List Cell → List Cell → List Cell → Type 0
 Does s g b f h k = Runs part_flags_machine tt s (g ∷ b ∷ f ∷ []) (h ∷ k ∷ [])
@@ -48,17 +48,17 @@ parted_runs (m ∷ ms) ks r = let n = test_runs m (parted_runs ms ks r) in (suc 
 
 runs : (groups : List (List ℕ)) → Runs part_flags_machine tt Start (each_reads groups) (part_flags_writes groups)
 runs [] = (zero, (refl, refl))
-runs (ms ∷ groups) = from_start part_flags_machine tt (on_flag (Ok Test) (Ok Last)) (parted_runs ms (joined groups) (runs groups))
+runs (ms ∷ groups) = from_start part_flags_machine tt (on_flag (Ok Test) (Ok Last)) (parted_runs ms (concatenation groups) (runs groups))
 
 -- what a run reads and writes
 data Owes : PartFlagsStage → Columns → Columns → Type 0 where
   start : (groups : List (List ℕ)) → Owes Start (each_reads groups) (part_flags_writes groups)
   parted : (ms : List ℕ) (groups : List (List ℕ)) → Owes Parted
-      (all_elements suc ms (T ∷ sum_flags suc groups) ∷ flags (ms ++ joined groups) ∷ all_elements (λ m. m) ms (T ∷ sum_flags (λ m. m) groups) ∷ [])
-      (elements (length ms) (T ∷ flags (lengths groups)) ∷ flags (ms ++ joined groups) ∷ [])
+      (all_elements suc ms (T ∷ sum_flags suc groups) ∷ flags (ms ++ concatenation groups) ∷ all_elements (λ m. m) ms (T ∷ sum_flags (λ m. m) groups) ∷ [])
+      (elements (length ms) (T ∷ flags (lengths groups)) ∷ flags (ms ++ concatenation groups) ∷ [])
   test : (m : ℕ) (ms : List ℕ) (groups : List (List ℕ)) → Owes Test
-      (elements m (all_elements suc ms (T ∷ sum_flags suc groups)) ∷ elements m (T ∷ flags (ms ++ joined groups)) ∷ elements m (all_elements (λ m. m) ms (T ∷ sum_flags (λ m. m) groups)) ∷ [])
-      ((F ∷ elements (length ms) (T ∷ flags (lengths groups))) ∷ elements m (T ∷ flags (ms ++ joined groups)) ∷ [])
+      (elements m (all_elements suc ms (T ∷ sum_flags suc groups)) ∷ elements m (T ∷ flags (ms ++ concatenation groups)) ∷ elements m (all_elements (λ m. m) ms (T ∷ sum_flags (λ m. m) groups)) ∷ [])
+      ((F ∷ elements (length ms) (T ∷ flags (lengths groups))) ∷ elements m (T ∷ flags (ms ++ concatenation groups)) ∷ [])
   unended : {i o : Columns} → Owes Test i o → Owes Open (push_column 0 F i) o
   element : {i o : Columns} → Owes PartElement i o → Owes Element (push_column 2 F i) o
   part_element : {i o : Columns} → Owes Open i o → Owes PartElement i (push_column 1 F o)

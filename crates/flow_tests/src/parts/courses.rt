@@ -5,9 +5,9 @@ ghost use Rattle.flow_messages.specs.Limits.{greatest_capacity};
 ghost use Rattle.flow_tests.specs.Joined.{AreJoined};
 
 use crate::parts::messages::{is_message, is_refused, message};
-use crate::parts::opened::{own_wire, wires};
+use crate::parts::opened::{own_owner, owners};
 use flow_boxes::Boxes;
-use flow_meetings::{Meeting, Opening, Wire, meet_all, open_all};
+use flow_meetings::{EdgeOwners, Meeting, Opening, meet_all, open_all};
 use flow_messages::{CountedEnds, Why};
 use flow_rings::Rings;
 use std::alloc::{AllocError, Global};
@@ -45,7 +45,7 @@ pub enum Block {
 
 // A step of a course.
 #[derive(Clone, Copy)]
-enum Step {
+enum CourseStep {
     // In a share, at an edge.
     At(usize, usize, Act),
     // The ends of every edge meet.
@@ -59,7 +59,7 @@ struct Course {
     shares: Shares,
     // How many messages each edge holds: 1 or 2.
     capacity: usize,
-    steps: &'static [Step],
+    steps: &'static [CourseStep],
 }
 
 // The shares of a course, and their edges.
@@ -77,11 +77,11 @@ const EACH_WAY: Course = Course {
     shares: Shares::Two,
     capacity: 1,
     steps: &[
-        Step::At(0, 0, Act::Puts(Some(1))),
-        Step::At(1, 1, Act::Puts(None)),
-        Step::Meet,
-        Step::At(1, 0, Act::Takes(Some(1))),
-        Step::At(0, 1, Act::Takes(None)),
+        CourseStep::At(0, 0, Act::Puts(Some(1))),
+        CourseStep::At(1, 1, Act::Puts(None)),
+        CourseStep::Meet,
+        CourseStep::At(1, 0, Act::Takes(Some(1))),
+        CourseStep::At(0, 1, Act::Takes(None)),
     ],
 };
 
@@ -91,20 +91,20 @@ const BLOCKS_OVER_RINGS: Course = Course {
     shares: Shares::One,
     capacity: 2,
     steps: &[
-        Step::At(0, 0, Act::Blocks(Block::PutsInts(&[5, 6]))),
-        Step::Meet,
-        Step::At(0, 0, Act::Blocks(Block::ShowsInts(&[]))),
-        Step::At(0, 0, Act::Blocks(Block::SkipsOne)),
-        Step::At(0, 0, Act::Takes(Some(6))),
-        Step::Meet,
-        Step::At(0, 0, Act::Blocks(Block::PutsFlags(&[true]))),
-        Step::At(0, 0, Act::Blocks(Block::PutsUnits(1))),
-        Step::Meet,
-        Step::At(0, 0, Act::Blocks(Block::ShowsFlags(&[]))),
-        Step::At(0, 0, Act::Blocks(Block::SkipsOne)),
-        Step::At(0, 0, Act::Blocks(Block::ShowsUnits(0))),
-        Step::At(0, 0, Act::Blocks(Block::SkipsOne)),
-        Step::At(0, 0, Act::Counts(4, 4)),
+        CourseStep::At(0, 0, Act::Blocks(Block::PutsInts(&[5, 6]))),
+        CourseStep::Meet,
+        CourseStep::At(0, 0, Act::Blocks(Block::ShowsInts(&[]))),
+        CourseStep::At(0, 0, Act::Blocks(Block::SkipsOne)),
+        CourseStep::At(0, 0, Act::Takes(Some(6))),
+        CourseStep::Meet,
+        CourseStep::At(0, 0, Act::Blocks(Block::PutsFlags(&[true]))),
+        CourseStep::At(0, 0, Act::Blocks(Block::PutsUnits(1))),
+        CourseStep::Meet,
+        CourseStep::At(0, 0, Act::Blocks(Block::ShowsFlags(&[]))),
+        CourseStep::At(0, 0, Act::Blocks(Block::SkipsOne)),
+        CourseStep::At(0, 0, Act::Blocks(Block::ShowsUnits(0))),
+        CourseStep::At(0, 0, Act::Blocks(Block::SkipsOne)),
+        CourseStep::At(0, 0, Act::Counts(4, 4)),
     ],
 };
 
@@ -114,36 +114,36 @@ const BLOCKS_OVER_BOXES: Course = Course {
     shares: Shares::One,
     capacity: 2,
     steps: &[
-        Step::At(0, 0, Act::Blocks(Block::PutsInts(&[5, 6]))),
-        Step::Meet,
-        Step::At(0, 0, Act::Blocks(Block::ShowsInts(&[5, 6]))),
-        Step::At(0, 0, Act::Blocks(Block::SkipsOne)),
-        Step::Meet,
-        Step::At(0, 0, Act::Blocks(Block::PutsInts(&[7]))),
-        Step::At(0, 0, Act::Blocks(Block::ShowsInts(&[6]))),
-        Step::Meet,
-        Step::At(0, 0, Act::Blocks(Block::ShowsInts(&[6, 7]))),
-        Step::At(0, 0, Act::Blocks(Block::SkipsOne)),
-        Step::At(0, 0, Act::Takes(Some(7))),
-        Step::Meet,
-        Step::At(0, 0, Act::Blocks(Block::PutsFlags(&[true]))),
-        Step::At(0, 0, Act::Blocks(Block::PutsUnits(1))),
-        Step::Meet,
-        Step::At(0, 0, Act::Blocks(Block::ShowsFlags(&[true]))),
-        Step::At(0, 0, Act::Blocks(Block::SkipsOne)),
-        Step::At(0, 0, Act::Blocks(Block::ShowsUnits(0))),
-        Step::At(0, 0, Act::Blocks(Block::SkipsOne)),
-        Step::Meet,
-        Step::At(0, 0, Act::Blocks(Block::PutsUnits(2))),
-        Step::Meet,
-        Step::At(0, 0, Act::Blocks(Block::ShowsUnits(2))),
-        Step::At(0, 0, Act::Counts(7, 5)),
-        Step::At(0, 0, Act::Blocks(Block::SkipsOne)),
-        Step::At(0, 0, Act::Blocks(Block::SkipsOne)),
-        Step::Meet,
-        Step::At(0, 0, Act::Puts(None)),
-        Step::At(0, 0, Act::Blocks(Block::PutsFlags(&[true]))),
-        Step::At(0, 0, Act::Counts(8, 7)),
+        CourseStep::At(0, 0, Act::Blocks(Block::PutsInts(&[5, 6]))),
+        CourseStep::Meet,
+        CourseStep::At(0, 0, Act::Blocks(Block::ShowsInts(&[5, 6]))),
+        CourseStep::At(0, 0, Act::Blocks(Block::SkipsOne)),
+        CourseStep::Meet,
+        CourseStep::At(0, 0, Act::Blocks(Block::PutsInts(&[7]))),
+        CourseStep::At(0, 0, Act::Blocks(Block::ShowsInts(&[6]))),
+        CourseStep::Meet,
+        CourseStep::At(0, 0, Act::Blocks(Block::ShowsInts(&[6, 7]))),
+        CourseStep::At(0, 0, Act::Blocks(Block::SkipsOne)),
+        CourseStep::At(0, 0, Act::Takes(Some(7))),
+        CourseStep::Meet,
+        CourseStep::At(0, 0, Act::Blocks(Block::PutsFlags(&[true]))),
+        CourseStep::At(0, 0, Act::Blocks(Block::PutsUnits(1))),
+        CourseStep::Meet,
+        CourseStep::At(0, 0, Act::Blocks(Block::ShowsFlags(&[true]))),
+        CourseStep::At(0, 0, Act::Blocks(Block::SkipsOne)),
+        CourseStep::At(0, 0, Act::Blocks(Block::ShowsUnits(0))),
+        CourseStep::At(0, 0, Act::Blocks(Block::SkipsOne)),
+        CourseStep::Meet,
+        CourseStep::At(0, 0, Act::Blocks(Block::PutsUnits(2))),
+        CourseStep::Meet,
+        CourseStep::At(0, 0, Act::Blocks(Block::ShowsUnits(2))),
+        CourseStep::At(0, 0, Act::Counts(7, 5)),
+        CourseStep::At(0, 0, Act::Blocks(Block::SkipsOne)),
+        CourseStep::At(0, 0, Act::Blocks(Block::SkipsOne)),
+        CourseStep::Meet,
+        CourseStep::At(0, 0, Act::Puts(None)),
+        CourseStep::At(0, 0, Act::Blocks(Block::PutsFlags(&[true]))),
+        CourseStep::At(0, 0, Act::Counts(8, 7)),
     ],
 };
 
@@ -155,23 +155,23 @@ const OVER_BOXES: [Course; 4] = [
         shares: Shares::Two,
         capacity: 2,
         steps: &[
-            Step::At(0, 0, Act::HasEnds(true, false)),
-            Step::At(1, 0, Act::HasEnds(false, true)),
-            Step::At(0, 0, Act::Puts(Some(1))),
-            Step::At(0, 0, Act::Puts(Some(2))),
-            Step::At(0, 0, Act::IsRefused(Some(3), Why::Full)),
-            Step::At(1, 0, Act::TakesNothing),
-            Step::Meet,
-            Step::At(0, 0, Act::HasRoom(false)),
-            Step::At(1, 0, Act::Takes(Some(1))),
-            Step::At(1, 0, Act::Takes(Some(2))),
-            Step::At(0, 0, Act::IsRefused(None, Why::Full)),
-            Step::Meet,
-            Step::At(0, 0, Act::HasRoom(true)),
-            Step::At(0, 0, Act::Puts(None)),
-            Step::At(0, 0, Act::IsRefused(Some(4), Why::Closed)),
-            Step::Meet,
-            Step::At(1, 0, Act::Takes(None)),
+            CourseStep::At(0, 0, Act::HasEnds(true, false)),
+            CourseStep::At(1, 0, Act::HasEnds(false, true)),
+            CourseStep::At(0, 0, Act::Puts(Some(1))),
+            CourseStep::At(0, 0, Act::Puts(Some(2))),
+            CourseStep::At(0, 0, Act::IsRefused(Some(3), Why::Full)),
+            CourseStep::At(1, 0, Act::TakesNothing),
+            CourseStep::Meet,
+            CourseStep::At(0, 0, Act::HasRoom(false)),
+            CourseStep::At(1, 0, Act::Takes(Some(1))),
+            CourseStep::At(1, 0, Act::Takes(Some(2))),
+            CourseStep::At(0, 0, Act::IsRefused(None, Why::Full)),
+            CourseStep::Meet,
+            CourseStep::At(0, 0, Act::HasRoom(true)),
+            CourseStep::At(0, 0, Act::Puts(None)),
+            CourseStep::At(0, 0, Act::IsRefused(Some(4), Why::Closed)),
+            CourseStep::Meet,
+            CourseStep::At(1, 0, Act::Takes(None)),
         ],
     },
     Course {
@@ -179,17 +179,17 @@ const OVER_BOXES: [Course; 4] = [
         shares: Shares::One,
         capacity: 1,
         steps: &[
-            Step::At(0, 0, Act::Puts(Some(1))),
-            Step::At(0, 0, Act::IsReady(false)),
-            Step::Meet,
-            Step::At(0, 0, Act::IsReady(true)),
-            Step::At(0, 0, Act::Counts(1, 0)),
-            Step::At(0, 0, Act::Takes(Some(1))),
-            Step::At(0, 0, Act::Counts(1, 1)),
-            Step::Meet,
-            Step::At(0, 0, Act::Puts(None)),
-            Step::Meet,
-            Step::At(0, 0, Act::Takes(None)),
+            CourseStep::At(0, 0, Act::Puts(Some(1))),
+            CourseStep::At(0, 0, Act::IsReady(false)),
+            CourseStep::Meet,
+            CourseStep::At(0, 0, Act::IsReady(true)),
+            CourseStep::At(0, 0, Act::Counts(1, 0)),
+            CourseStep::At(0, 0, Act::Takes(Some(1))),
+            CourseStep::At(0, 0, Act::Counts(1, 1)),
+            CourseStep::Meet,
+            CourseStep::At(0, 0, Act::Puts(None)),
+            CourseStep::Meet,
+            CourseStep::At(0, 0, Act::Takes(None)),
         ],
     },
 ];
@@ -202,21 +202,21 @@ const OVER_RINGS: [Course; 4] = [
         shares: Shares::Two,
         capacity: 2,
         steps: &[
-            Step::At(0, 0, Act::HasEnds(true, false)),
-            Step::At(0, 1, Act::HasEnds(false, true)),
-            Step::At(0, 2, Act::HasEnds(false, false)),
-            Step::At(0, 0, Act::Puts(Some(7))),
-            Step::Meet,
-            Step::At(0, 0, Act::Puts(None)),
-            Step::Meet,
-            Step::At(1, 0, Act::IsReady(true)),
-            Step::At(1, 0, Act::Takes(Some(7))),
-            Step::At(1, 0, Act::Takes(None)),
-            Step::At(1, 0, Act::TakesNothing),
-            Step::At(1, 1, Act::Puts(None)),
-            Step::Meet,
-            Step::At(0, 1, Act::Takes(None)),
-            Step::At(1, 1, Act::IsRefused(None, Why::Closed)),
+            CourseStep::At(0, 0, Act::HasEnds(true, false)),
+            CourseStep::At(0, 1, Act::HasEnds(false, true)),
+            CourseStep::At(0, 2, Act::HasEnds(false, false)),
+            CourseStep::At(0, 0, Act::Puts(Some(7))),
+            CourseStep::Meet,
+            CourseStep::At(0, 0, Act::Puts(None)),
+            CourseStep::Meet,
+            CourseStep::At(1, 0, Act::IsReady(true)),
+            CourseStep::At(1, 0, Act::Takes(Some(7))),
+            CourseStep::At(1, 0, Act::Takes(None)),
+            CourseStep::At(1, 0, Act::TakesNothing),
+            CourseStep::At(1, 1, Act::Puts(None)),
+            CourseStep::Meet,
+            CourseStep::At(0, 1, Act::Takes(None)),
+            CourseStep::At(1, 1, Act::IsRefused(None, Why::Closed)),
         ],
     },
     Course {
@@ -224,13 +224,13 @@ const OVER_RINGS: [Course; 4] = [
         shares: Shares::One,
         capacity: 1,
         steps: &[
-            Step::At(0, 0, Act::HasRoom(true)),
-            Step::At(0, 0, Act::Puts(None)),
-            Step::Meet,
-            Step::At(0, 0, Act::HasRoom(false)),
-            Step::At(0, 0, Act::Takes(None)),
-            Step::Meet,
-            Step::At(0, 0, Act::Counts(1, 1)),
+            CourseStep::At(0, 0, Act::HasRoom(true)),
+            CourseStep::At(0, 0, Act::Puts(None)),
+            CourseStep::Meet,
+            CourseStep::At(0, 0, Act::HasRoom(false)),
+            CourseStep::At(0, 0, Act::Takes(None)),
+            CourseStep::Meet,
+            CourseStep::At(0, 0, Act::Counts(1, 1)),
         ],
     },
 ];
@@ -292,29 +292,29 @@ fn act_in<E: CountedEnds>(ends: &mut [E], share: usize, edge: usize, act: Act) -
 }
 
 // Makes a step over the ends of shares. Whether what is to come of it comes.
-fn goes<E: Meeting + CountedEnds>(ends: &mut [E], wires: &[Wire], step: Step) -> bool
-    requires { AreJoined E.joins wires.now ends.old }
-    ensures { AreJoined E.joins wires.now ends.new }
+fn goes<E: Meeting + CountedEnds>(ends: &mut [E], owners: &[EdgeOwners], step: CourseStep) -> bool
+    requires { AreJoined E.joins owners.now ends.old }
+    ensures { AreJoined E.joins owners.now ends.new }
 {
     match step {
-        Step::Meet => {
-            meet_all(ends, wires);
+        CourseStep::Meet => {
+            meet_all(ends, owners);
             true
         }
-        Step::At(share, edge, act) => share < ends.len() && act_in(ends, share, edge, act),
+        CourseStep::At(share, edge, act) => share < ends.len() && act_in(ends, share, edge, act),
     }
 }
 
 // The number of the first step that does not go, if there is one.
 fn first_wrong<E: Meeting + CountedEnds>(
     ends: &mut [E],
-    wires: &[Wire],
-    steps: &[Step],
+    owners: &[EdgeOwners],
+    steps: &[CourseStep],
 ) -> Option<usize>
-    requires { AreJoined E.joins wires.now ends.old }
+    requires { AreJoined E.joins owners.now ends.old }
 {
     for (number, &step) in steps.iter().enumerate() {
-        if !goes(ends, wires, step) {
+        if !goes(ends, owners, step) {
             return Some(number);
         }
     }
@@ -325,17 +325,17 @@ fn first_wrong<E: Meeting + CountedEnds>(
 fn first_over<E: Opening + CountedEnds + Drop>(
     alloc: Global,
     shares: usize,
-    wires: &[Wire],
+    owners: &[EdgeOwners],
     capacity: usize,
-    steps: &[Step],
+    steps: &[CourseStep],
 ) -> Result<Option<usize>, AllocError>
     requires some { 0 < capacity }
     requires limit { capacity ≤ greatest_capacity }
-    requires writers { All (λ wire. wire.writer < shares) wires.now }
-    requires readers { All (λ wire. wire.reader < shares) wires.now }
+    requires writers { All (λ owner. owner.writer < shares) owners.now }
+    requires readers { All (λ owner. owner.reader < shares) owners.now }
 {
-    let mut ends: Vec<E> = open_all(alloc, shares, wires, capacity)?;
-    Ok(first_wrong(&mut ends, wires, steps))
+    let mut ends: Vec<E> = open_all(alloc, shares, owners, capacity)?;
+    Ok(first_wrong(&mut ends, owners, steps))
 }
 
 // The number of the first step of a course that does not go, if there is one.
@@ -345,8 +345,8 @@ fn first_of<E: Opening + CountedEnds + Drop>(
 ) -> Result<Option<usize>, AllocError> {
     let capacity = course.capacity.clamp(1, 2);
     match course.shares {
-        Shares::Two => first_over::<E>(alloc, 2, &wires(), capacity, course.steps),
-        Shares::One => first_over::<E>(alloc, 1, &own_wire(), capacity, course.steps),
+        Shares::Two => first_over::<E>(alloc, 2, &owners(), capacity, course.steps),
+        Shares::One => first_over::<E>(alloc, 1, &own_owner(), capacity, course.steps),
     }
 }
 

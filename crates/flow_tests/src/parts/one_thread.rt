@@ -17,7 +17,7 @@ use std::test::Fail;
 
 // What is done at an edge, and what is to come of it. A message is a number, or `End` where there is none.
 #[derive(Clone, Copy)]
-enum Step {
+enum ThreadStep {
     Puts(Option<i128>),
     // It is refused for this cause, and comes back.
     IsRefused(Option<i128>, Why),
@@ -29,7 +29,7 @@ enum Step {
 }
 
 // Makes a step. Whether what is to come of it comes.
-fn goes(writer: &mut EdgeWriter, reader: &mut EdgeReader, step: Step) -> bool
+fn goes(writer: &mut EdgeWriter, reader: &mut EdgeReader, step: ThreadStep) -> bool
     requires edge { IsEdge writer.old reader.old }
     requires ints { TakesInts (kind_of writer.old) }
     ensures edge { IsEdge writer.new reader.new }
@@ -37,18 +37,18 @@ fn goes(writer: &mut EdgeWriter, reader: &mut EdgeReader, step: Step) -> bool
 {
     same_ends_are_an_edge();
     match step {
-        Step::Puts(of) => writer.put(message(of)).is_ok(),
-        Step::IsRefused(of, cause) => is_refused(writer.put(message(of)), of, cause),
-        Step::Takes(of) => is_message(reader.take(), of),
-        Step::TakesNothing => reader.take().is_none(),
-        Step::Meets(held) => meet(writer, reader) == held,
-        Step::HasRoom(room) => writer.room() == room,
-        Step::IsReady(ready) => reader.ready() == ready,
+        ThreadStep::Puts(of) => writer.put(message(of)).is_ok(),
+        ThreadStep::IsRefused(of, cause) => is_refused(writer.put(message(of)), of, cause),
+        ThreadStep::Takes(of) => is_message(reader.take(), of),
+        ThreadStep::TakesNothing => reader.take().is_none(),
+        ThreadStep::Meets(held) => meet(writer, reader) == held,
+        ThreadStep::HasRoom(room) => writer.room() == room,
+        ThreadStep::IsReady(ready) => reader.ready() == ready,
     }
 }
 
 // Asserts that these steps go one after another over a new edge.
-fn assert_goes(rt: &impl Abort, ends: (EdgeWriter, EdgeReader), steps: &[Step])
+fn assert_goes(rt: &impl Abort, ends: (EdgeWriter, EdgeReader), steps: &[ThreadStep])
     requires edge { IsEdge ends.0 ends.1 }
     requires ints { TakesInts (kind_of ends.0) }
 {
@@ -61,7 +61,7 @@ fn assert_goes(rt: &impl Abort, ends: (EdgeWriter, EdgeReader), steps: &[Step])
 // What is done at an edge of integers. A block has these numbers, and `End` behind them where it closes.
 #[derive(Clone, Copy)]
 enum BlockStep {
-    One(Step),
+    One(ThreadStep),
     HasRoomFor(usize, bool),
     Puts(&'static [i128], bool),
     // Nothing of the block is put.
@@ -131,31 +131,31 @@ fn assert_goes_in_blocks(rt: &impl Abort, ends: (EdgeWriter, EdgeReader), steps:
 }
 
 // Two messages fill an edge of two.
-const OF_TWO: [Step; 16] = [
-    Step::Puts(Some(1)),
-    Step::Puts(Some(2)),
-    Step::Meets(Held { count: 2, room: 0 }),
-    Step::IsRefused(Some(3), Why::Full),
-    Step::HasRoom(false),
-    Step::IsReady(true),
-    Step::Takes(Some(1)),
-    Step::Takes(Some(2)),
-    Step::TakesNothing,
-    Step::IsReady(false),
-    Step::Meets(Held { count: 0, room: 2 }),
-    Step::HasRoom(true),
-    Step::Puts(None),
-    Step::IsRefused(Some(4), Why::Closed),
-    Step::Meets(Held { count: 1, room: 1 }),
-    Step::Takes(None),
+const OF_TWO: [ThreadStep; 16] = [
+    ThreadStep::Puts(Some(1)),
+    ThreadStep::Puts(Some(2)),
+    ThreadStep::Meets(Held { count: 2, room: 0 }),
+    ThreadStep::IsRefused(Some(3), Why::Full),
+    ThreadStep::HasRoom(false),
+    ThreadStep::IsReady(true),
+    ThreadStep::Takes(Some(1)),
+    ThreadStep::Takes(Some(2)),
+    ThreadStep::TakesNothing,
+    ThreadStep::IsReady(false),
+    ThreadStep::Meets(Held { count: 0, room: 2 }),
+    ThreadStep::HasRoom(true),
+    ThreadStep::Puts(None),
+    ThreadStep::IsRefused(Some(4), Why::Closed),
+    ThreadStep::Meets(Held { count: 1, room: 1 }),
+    ThreadStep::Takes(None),
 ];
 
 // An end waits for room too.
-const OF_ONE: [Step; 4] = [
-    Step::Puts(Some(1)),
-    Step::IsRefused(None, Why::Full),
-    Step::Meets(Held { count: 1, room: 0 }),
-    Step::Takes(Some(1)),
+const OF_ONE: [ThreadStep; 4] = [
+    ThreadStep::Puts(Some(1)),
+    ThreadStep::IsRefused(None, Why::Full),
+    ThreadStep::Meets(Held { count: 1, room: 0 }),
+    ThreadStep::Takes(Some(1)),
 ];
 
 // Blocks go over an edge of three, whole or not at all, and are taken in order.
@@ -166,14 +166,14 @@ const IN_BLOCKS: [BlockStep; 16] = [
     BlockStep::IsRefused(&[3], true),
     BlockStep::Puts(&[3], false),
     BlockStep::IsRefused(&[], true),
-    BlockStep::One(Step::Meets(Held { count: 3, room: 0 })),
+    BlockStep::One(ThreadStep::Meets(Held { count: 3, room: 0 })),
     BlockStep::Takes(0, &[], false),
     BlockStep::Takes(2, &[1, 2], false),
     BlockStep::HasRoomFor(2, true),
     BlockStep::Puts(&[4], true),
     BlockStep::IsRefused(&[5], false),
-    BlockStep::One(Step::IsRefused(Some(5), Why::Closed)),
-    BlockStep::One(Step::Meets(Held { count: 3, room: 0 })),
+    BlockStep::One(ThreadStep::IsRefused(Some(5), Why::Closed)),
+    BlockStep::One(ThreadStep::Meets(Held { count: 3, room: 0 })),
     BlockStep::Takes(64, &[3, 4], true),
     BlockStep::Takes(64, &[], false),
 ];
@@ -182,7 +182,7 @@ const IN_BLOCKS: [BlockStep; 16] = [
 const END_ALONE: [BlockStep; 4] = [
     BlockStep::Puts(&[1], false),
     BlockStep::IsRefused(&[], true),
-    BlockStep::One(Step::Meets(Held { count: 1, room: 0 })),
+    BlockStep::One(ThreadStep::Meets(Held { count: 1, room: 0 })),
     BlockStep::Takes(64, &[1], false),
 ];
 

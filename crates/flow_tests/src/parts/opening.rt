@@ -4,7 +4,7 @@ ghost use Rattle.std.specs.List.{All};
 ghost use Rattle.flow_messages.specs.Limits.{greatest_capacity};
 ghost use Rattle.flow_graph.specs.Graphs.{states_of};
 ghost use Rattle.flow_graph.specs.Networks.{AreOpened};
-ghost use Rattle.flow_meetings.specs.Settings.{Setting, setting_of};
+ghost use Rattle.flow_meetings.specs.SharedNetworks.{SharedNetwork, shared_network};
 
 use flow_base::Transducer;
 use flow_boxes::Boxes;
@@ -24,8 +24,8 @@ fn deal_and_gather<T: Transducer + Drop, E: Opening + Drop>(
     share: &[u8],
     capacity: usize,
 ) -> Result<(Graph<T>, Vec<E>), AllocError>
-    ghost setting: { Setting ⟦<T as Transducer>⟧ }
-    requires setting { setting ≡ setting_of graph share.now capacity }
+    ghost network: { SharedNetwork ⟦<T as Transducer>⟧ }
+    requires network { network ≡ shared_network graph share.now capacity }
     requires opened { AreOpened T.behaviour (states_of graph) }
     requires named { 0 < length share.now }
     requires shares { All (λ s. s < threads) share.now }
@@ -36,10 +36,10 @@ fn deal_and_gather<T: Transducer + Drop, E: Opening + Drop>(
     let dealt: Dealt<T, E> = deal(alloc, graph, threads, share, capacity)?;
     let Dealt {
         shares,
-        wires: _,
-        layout,
+        owners: _,
+        skeleton,
     } = dealt;
-    gather_graph(alloc, shares, layout, nodes, share)
+    gather_graph(alloc, shares, skeleton, nodes, share)
 }
 
 // Whether the graph without nodes is dealt to each of three shares, none of which is pumped yet.
@@ -53,8 +53,8 @@ fn is_dealt(alloc: Global) -> Result<bool, AllocError> {
 fn are_bare<T: Transducer, E: Opening>(dealt: &Dealt<T, E>) -> bool {
     dealt.shares.len() == 3
         && dealt.shares[2].number() == 2
-        && dealt.wires.is_empty()
-        && dealt.layout.edges().is_empty()
+        && dealt.owners.is_empty()
+        && dealt.skeleton.edges().is_empty()
         && are_fed(&dealt.shares)
         && are_calm(&dealt.shares)
 }

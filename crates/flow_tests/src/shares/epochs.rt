@@ -3,8 +3,8 @@
 ghost use Rattle.std.specs.Prelude.{◌≡◌};
 ghost use Rattle.flow_graph.specs.Graphs.{states_of};
 ghost use Rattle.flow_graph.specs.Networks.{AreOpened};
-ghost use Rattle.flow_meetings.specs.Settings.{Setting};
-ghost use Rattle.flow_drive.specs.Dealings.{setting_under};
+ghost use Rattle.flow_meetings.specs.SharedNetworks.{SharedNetwork};
+ghost use Rattle.flow_drive.specs.Dealings.{network_under};
 
 use crate::sketches::{SUM_OF_FIVE, graph_of};
 use flow_base::Transducer;
@@ -29,16 +29,16 @@ fn two_epochs<R: Threads, T: Transducer + Send + Drop + 'static>(
     two_epochs_in(rt, alloc, graph, config)
 }
 
-// The same, in the setting in which the graph is dealt out.
+// The same, in the network in which the graph is dealt out.
 fn two_epochs_in<R: Threads, T: Transducer + Send + Drop + 'static>(
     rt: &R,
     alloc: Global,
     graph: Graph<T>,
     config: &Config,
 ) -> Result<Option<usize>, Fail>
-    ghost setting: { Setting ⟦<T as Transducer>⟧ }
+    ghost network: { SharedNetwork ⟦<T as Transducer>⟧ }
     requires opened { AreOpened T.behaviour (states_of graph) }
-    requires setting { setting ≡ setting_under graph config.now }
+    requires network { network ≡ network_under graph config.now }
 {
     let gate = Arc::new(alloc, NoGate)?;
     let shares = deal_rings(alloc, graph, config)?;

@@ -1,6 +1,6 @@
 // Shares that were dealt out, the first of them pumped by itself.
 
-ghost use Rattle.flow_meetings.specs.Settings.{AreFed};
+ghost use Rattle.flow_meetings.specs.SharedNetworks.{AreFed};
 ghost use Rattle.flow_drive.specs.Configs.{IsLawful};
 
 use crate::sketches::{SUM_OF_FIVE, graph_of};

@@ -30,10 +30,10 @@ pub fn dealt_and_gathered<T: Transducer + Drop>(
     ensures states { IfOk result (λ made. states_of made.0 ≡ states_of graph) }
     ensures edges { IfOk result (λ made. edges_of made.0 ≡ edges_of graph) }
 {
-    let (nodes, layout) = graph.take_apart();
+    let (nodes, skeleton) = graph.take_apart();
     let count = nodes.len();
     let dealt = deal_nodes(alloc, nodes, 3, share)?;
     let counts = counts_in(&dealt);
     let nodes = gather(alloc, dealt, count, share)?;
-    Ok((layout.put_together(nodes), counts))
+    Ok((skeleton.put_together(nodes), counts))
 }

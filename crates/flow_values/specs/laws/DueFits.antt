@@ -9,7 +9,7 @@ use Rattle.flow_messages.specs.declared.message.Kind.{Kind}
 use Rattle.flow_messages.specs.declared.message.Kind.TheVariants.{Bool as BoolKind, Int as IntKind, Vec as VecKind}
 use Rattle.flow_base.specs.Flags.{F, T}
 use Rattle.flow_base.specs.Ranges.{InRange, AllInRange, CellInRange}
-use Rattle.flow_base.specs.Segments.{joined_by}
+use Rattle.flow_base.specs.Segments.{concatenation_by}
 use Rattle.flow_values.specs.Shapes.{is_a, all_are, kinds_of, cell_for, first_of, second_of, kind_at}
 use Rattle.flow_values.specs.Flats.{width}
 use Rattle.flow_values.specs.laws.Kinds.{both_true, kind_right}
@@ -54,12 +54,12 @@ within_items all kind others p h = within_second all (kind ∷ []) others p h
 
 -- the elements of a sequence, and their flags
 segment_of_kind : (all : List Kind) (item : Ty) (p : ℕ) → Within all (BoolKind ∷ kinds_of item) p → ((v : Value) → is_a item v ≡ true → DuesOfKind all (dues_of item (p + 1) v)) →
-    (vs : Values) → all_are item vs ≡ true → DuesOfKind all (joined_by (element_dues p (λ e. dues_of item (p + 1) e)) (list_of vs) ++ (due p T ∷ []))
+    (vs : Values) → all_are item vs ≡ true → DuesOfKind all (concatenation_by (element_dues p (λ e. dues_of item (p + 1) e)) (list_of vs) ++ (due p T ∷ []))
 segment_of_kind all item p here each no_values are = leaf_of_kind all BoolKind (kinds_of item) p T here refl
 segment_of_kind all item p here each (more_values v vs) are =
     let both = both_true (is_a item v) (all_are item vs) are in
     let one = dues_of item (p + 1) v in
-    let others = joined_by (element_dues p (λ e. dues_of item (p + 1) e)) (list_of vs) in
+    let others = concatenation_by (element_dues p (λ e. dues_of item (p + 1) e)) (list_of vs) in
     let flag = leaf_of_kind all BoolKind (kinds_of item) p F here refl in
     let rest = both_of_kind all one (others ++ (due p T ∷ [])) (each v both.0) (segment_of_kind all item p here each vs both.1) in
     (flag.0, subst (DuesOfKind all) (sym (append_assoc one others (due p T ∷ []))) rest)
@@ -120,10 +120,10 @@ module _ (dialect : Dialect) where
   second_in_range (a_vec vs) h = h
   second_in_range (a_seq vs) h = h
 
-  segment_in_range : (p : ℕ) (dues : Value → List DueCell) → ((v : Value) → InRange dialect v → DuesInRange dialect (dues v)) → (vs : Values) → AllInRange dialect vs → DuesInRange dialect (joined_by (element_dues p dues) (list_of vs) ++ (due p T ∷ []))
+  segment_in_range : (p : ℕ) (dues : Value → List DueCell) → ((v : Value) → InRange dialect v → DuesInRange dialect (dues v)) → (vs : Values) → AllInRange dialect vs → DuesInRange dialect (concatenation_by (element_dues p dues) (list_of vs) ++ (due p T ∷ []))
   segment_in_range p dues each no_values h = (tt, tt)
   segment_in_range p dues each (more_values v vs) h =
-      let others = joined_by (element_dues p dues) (list_of vs) in
+      let others = concatenation_by (element_dues p dues) (list_of vs) in
       (tt, subst (DuesInRange dialect) (sym (append_assoc (dues v) others (due p T ∷ []))) (both_in_range (dues v) (others ++ (due p T ∷ [])) (each v h.0) (segment_in_range p dues each vs h.1)))
 
   -- the items of a value in the range

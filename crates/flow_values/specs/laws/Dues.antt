@@ -8,7 +8,7 @@ use Rattle.snesl_data.specs.Values.{Value}
 use Rattle.flow_messages.specs.Cells.{Cell}
 use Rattle.flow_base.specs.Lists.{Lists, push}
 use Rattle.flow_base.specs.Flags.{F, T, elements}
-use Rattle.flow_base.specs.Segments.{joined_by}
+use Rattle.flow_base.specs.Segments.{concatenation_by}
 use Rattle.flow_values.specs.Shapes.{cell_for, first_of, second_of, elements_of, kinds_of}
 use Rattle.flow_values.specs.Flats.{nothing, only_at, ◌⊕◌, width, spread, spread_all}
 use Rattle.flow_values.specs.laws.Sides.{sides_assoc, nothing_more, push_is, first_only, only_moves, spread_below}
@@ -53,11 +53,11 @@ leaf_items n p x lt = first_item n p x [] lt ∙ sym (push_is p x nothing) ∙ n
 
 -- the elements of a sequence and their flags
 segment_items : (n p : ℕ) (item : Ty) → p < n → ((e : Value) → items_at n (dues_of item (p + 1) e) ≡ spread item (p + 1) e) → (es : List Value) →
-    items_at n (joined_by (element_dues p (λ e. dues_of item (p + 1) e)) es ++ (due p T ∷ [])) ≡ only_at p (elements (length es) (T ∷ [])) ⊕ spread_all item (p + 1) es
+    items_at n (concatenation_by (element_dues p (λ e. dues_of item (p + 1) e)) es ++ (due p T ∷ [])) ≡ only_at p (elements (length es) (T ∷ [])) ⊕ spread_all item (p + 1) es
 segment_items n p item lt each [] = leaf_items n p T lt ∙ sym (nothing_more (only_at p (T ∷ [])))
 segment_items n p item lt each (e ∷ es) =
     let one = dues_of item (p + 1) e in
-    let others = joined_by (element_dues p (λ e. dues_of item (p + 1) e)) es in
+    let others = concatenation_by (element_dues p (λ e. dues_of item (p + 1) e)) es in
     let flags = only_at p (elements (length es) (T ∷ [])) in
     let first = spread item (p + 1) e in
     let later = spread_all item (p + 1) es in

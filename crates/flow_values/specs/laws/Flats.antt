@@ -7,8 +7,8 @@ use Rattle.snesl_data.specs.Types.{Ty, int, bool, pair, vec, seq}
 use Rattle.snesl_data.specs.Values.{Value}
 use Rattle.flow_base.specs.Lists.{Lists}
 use Rattle.flow_base.specs.Ports.{by_port}
-use Rattle.flow_base.specs.Flags.{T, elements, flags, joined, lengths}
-use Rattle.flow_base.specs.Segments.{joined_by, elements-append}
+use Rattle.flow_base.specs.Flags.{T, elements, flags, concatenation, lengths}
+use Rattle.flow_base.specs.Segments.{concatenation_by, elements-append}
 use Rattle.flow_values.specs.Shapes.{cell_for, first_of, second_of, elements_of}
 use Rattle.flow_values.specs.Flats.{nothing, only_at, ◌⊕◌, width, flat, spread, spread_all}
 use Rattle.flow_values.specs.laws.Sides.{only_here, only_there, only_moves, sides_assoc, nothing_more, both_empty, spread_below, spread_above, all_below, all_none}
@@ -38,14 +38,14 @@ middle a b c d e =
     ∙ ap (λ l. a ⊕ l) (sym (sides_assoc b c d) ∙ ap (λ l. l ⊕ d) e ∙ sides_assoc c b d)
     ∙ sym (sides_assoc a c (b ⊕ d))
 
-joined_by-append : {A B : Type 0} (f : A → List B) (xs ys : List A) → joined_by f (xs ++ ys) ≡ joined_by f xs ++ joined_by f ys
-joined_by-append f [] ys = refl
-joined_by-append f (x ∷ xs) ys = ap (λ l. f x ++ l) (joined_by-append f xs ys) ∙ sym (append_assoc (f x) (joined_by f xs) (joined_by f ys))
+concatenation_by-append : {A B : Type 0} (f : A → List B) (xs ys : List A) → concatenation_by f (xs ++ ys) ≡ concatenation_by f xs ++ concatenation_by f ys
+concatenation_by-append f [] ys = refl
+concatenation_by-append f (x ∷ xs) ys = ap (λ l. f x ++ l) (concatenation_by-append f xs ys) ∙ sym (append_assoc (f x) (concatenation_by f xs) (concatenation_by f ys))
 
 all_append : (ty : Ty) (p : ℕ) (vs ws : List Value) → spread_all ty p (vs ++ ws) ≡ spread_all ty p vs ⊕ spread_all ty p ws
-all_append ty p vs ws = fun_ext (λ q. joined_by-append (λ v. spread ty p v q) vs ws)
+all_append ty p vs ws = fun_ext (λ q. concatenation_by-append (λ v. spread ty p v q) vs ws)
 
-leaf_all : (p : ℕ) (vs : List Value) → only_at p (map cell_for vs) ≡ (λ q. joined_by (λ v. only_at p (cell_for v ∷ []) q) vs)
+leaf_all : (p : ℕ) (vs : List Value) → only_at p (map cell_for vs) ≡ (λ q. concatenation_by (λ v. only_at p (cell_for v ∷ []) q) vs)
 leaf_all p [] = only_none p
 leaf_all p (v ∷ vs) = only_append p (cell_for v ∷ []) (map cell_for vs) ∙ ap (λ l. only_at p (cell_for v ∷ []) ⊕ l) (leaf_all p vs)
 
@@ -63,13 +63,13 @@ pair_all first second p (v ∷ vs) =
     middle (spread first p (first_of v)) lefts right (spread_all second m (map second_of vs)) (swap lefts right apart)
     ∙ ap (λ l. spread (pair first second) p v ⊕ l) (pair_all first second p vs)
 
-seq_all : (item : Ty) (p : ℕ) (vs : List Value) → only_at p (flags (lengths (map elements_of vs))) ⊕ spread_all item (p + 1) (joined (map elements_of vs)) ≡ spread_all (seq item) p vs
+seq_all : (item : Ty) (p : ℕ) (vs : List Value) → only_at p (flags (lengths (map elements_of vs))) ⊕ spread_all item (p + 1) (concatenation (map elements_of vs)) ≡ spread_all (seq item) p vs
 seq_all item p [] = ap (λ l. l ⊕ nothing) (only_none p)
 seq_all item p (v ∷ vs) =
     let es = elements_of v in
     let own = elements (length es) (T ∷ []) in
     let later = flags (lengths (map elements_of vs)) in
-    let others = joined (map elements_of vs) in
+    let others = concatenation (map elements_of vs) in
     ap₂ (λ a b. a ⊕ b) (ap (only_at p) (sym (elements-append (length es) later)) ∙ only_append p own later) (all_append item (p + 1) es others)
     ∙ middle (only_at p own) (only_at p later) (spread_all item (p + 1) es) (spread_all item (p + 1) others) (only_moves p later (spread_all item (p + 1) es) (all_below item (p + 1) es p (omega arith)))
     ∙ ap (λ l. spread (seq item) p v ⊕ l) (seq_all item p vs)
@@ -80,7 +80,7 @@ flat_each int p vs = leaf_all p vs
 flat_each bool p vs = leaf_all p vs
 flat_each (vec item) p vs = leaf_all p vs
 flat_each (pair first second) p vs = ap₂ (λ a b. a ⊕ b) (flat_each first p (map first_of vs)) (flat_each second (p + width first) (map second_of vs)) ∙ pair_all first second p vs
-flat_each (seq item) p vs = ap (λ l. only_at p (flags (lengths (map elements_of vs))) ⊕ l) (flat_each item (p + 1) (joined (map elements_of vs))) ∙ seq_all item p vs
+flat_each (seq item) p vs = ap (λ l. only_at p (flags (lengths (map elements_of vs))) ⊕ l) (flat_each item (p + 1) (concatenation (map elements_of vs))) ∙ seq_all item p vs
 
 pub flat_one : (ty : Ty) (p : ℕ) (v : Value) → flat ty p (v ∷ []) ≡ spread ty p v
 flat_one ty p v = flat_each ty p (v ∷ []) ∙ nothing_more (spread ty p v)

@@ -19,7 +19,7 @@ use Rattle.flow_values.specs.laws.Kinds.{both_true}
 use Rattle.flow_values.specs.Dues.{DueCell, dues_of, output_of, items_at}
 use Rattle.flow_values.specs.laws.Dues.{has_edge, is_output, items_are}
 use Rattle.flow_values.specs.Rows.{element_at, Picked, IndexRow}
-use Rattle.flow_values.specs.IndexMachine.{Step, held, writing, vector_given, element_given, index_move, index_of_kind, index_in_range, index_machine}
+use Rattle.flow_values.specs.IndexMachine.{IndexState, held, writing, vector_given, element_given, index_move, index_of_kind, index_in_range, index_machine}
 use Rattle.flow_values.specs.laws.DueFits.{value_of_kind, value_in_range}
 use Rattle.flow_values.specs.laws.Edges.{at_due, push_due, none_at, on_edges}
 
@@ -73,7 +73,7 @@ module _ (dialect : Dialect) where
   ranged_element item vs n (Some e) found fits = value_in_range dialect item 0 e (element_in_range vs n e found fits)
   ranged_element item vs n None found fits = tt
 
-sound : (item : Ty) (s : Step) → SoundAt index_machine item s (index_move item s)
+sound : (item : Ty) (s : IndexState) → SoundAt index_machine item s (index_move item s)
 sound item (writing []) = (refl, (omega arith, refl, λ _. kept item, λ dialect _ _. ranged dialect item))
 sound item (held vs) = (omega arith, refl, λ are n. kept_element item vs n (element_at vs n) refl are, λ dialect are fits n _. ranged_element dialect item vs n (element_at vs n) refl fits)
 sound item (writing (d ∷ ds)) = (in_type item d.port, omega arith, λ h. h, λ _ _ h. h)
@@ -96,7 +96,7 @@ module _ (item : Ty) where
   laid : (e : Value) (es : List Value) → written (dues_of item 0 e) es ≡ written [] (e ∷ es)
   laid e es = ap (λ l. columns (width item) (l ⊕ spread_all item 0 es)) (items_are item (width item) 0 e (omega arith))
 
-  abbrev Does : Step → List Cell → List Cell → Columns → Type 0
+  abbrev Does : IndexState → List Cell → List Cell → Columns → Type 0
   Does s v i o = Runs index_machine item s (v ∷ i ∷ []) o
 
   writes : (ds : List DueCell) (v i : List Cell) (es : List Value) → Does (writing []) v i (written [] es) → Does (writing ds) v i (written ds es)
@@ -118,7 +118,7 @@ module _ (item : Ty) where
   runs (x ∷ xs) = one x (vectors xs) (indices xs) (elements xs) (runs xs)
 
   -- what a run reads and writes
-  data Owes : Step → Columns → Columns → Type 0 where
+  data Owes : IndexState → Columns → Columns → Type 0 where
     owed : (ds : List DueCell) (xs : List (Picked item)) → Owes (writing ds) (vectors xs ∷ indices xs ∷ []) (written ds (elements xs))
     holds : (vs : Values) (n : ℤ) (e : Value) (xs : List (Picked item)) → element_at vs n ≡ Some e → Owes (held vs) (vectors xs ∷ (int n ∷ indices xs) ∷ []) (written [] (e ∷ elements xs))
 
@@ -133,7 +133,7 @@ module _ (item : Ty) where
   found_at vs n i o (Some e) found h = picked vs n e i o found h
   found_at vs n i o None found h = absurd h
 
-  earlier : (s : Step) (x : Cell) (i o : Columns) → Then (λ next. Owes next i o) (index_move item s) x → Owes s (reading (index_move item s) x i) (wrote (index_move item s) o)
+  earlier : (s : IndexState) (x : Cell) (i o : Columns) → Then (λ next. Owes next i o) (index_move item s) x → Owes s (reading (index_move item s) x i) (wrote (index_move item s) o)
   earlier (writing []) (datum (a_vec vs)) i o h = begun vs i o (all_are item vs) refl h
   earlier (writing []) (datum _) _ _ h = absurd h
   earlier (writing []) unit _ _ h = absurd h

@@ -23,7 +23,7 @@ use Rattle.flow_values.specs.Flats.{nothing, ◌⊕◌, width, spread, flat}
 use Rattle.flow_values.specs.laws.Flats.{flat_one}
 use Rattle.flow_values.specs.laws.Sides.{spread_above, nothing_more}
 use Rattle.flow_values.specs.laws.Kinds.{spread_full, spread_kinds, full_append, flags_here}
-use Rattle.flow_values.specs.PrintMachine.{Pending, whole, further, port_of, Reading, next, Step, within, closing, stuck, PrintState, print_state, print_opened, step_of, want_at, moved, checked, read_at, print_behaviour}
+use Rattle.flow_values.specs.PrintMachine.{Pending, whole, further, port_of, Reading, next, PrintStage, within, closing, stuck, PrintState, print_state, print_opening, print_stage, want_at, moved, checked, read_at, print_behaviour}
 use Rattle.flow_values.specs.laws.PrintSteps.{segment, Ends, EndsAfter, next_law}
 
 -- What is still to come: the closed lists of bodies that are just what is to be read, each of the kind of its port, and
@@ -35,7 +35,7 @@ record Owed (ty : Ty) (pending : List Pending) (text : List ℕ) (i : Lists Sign
   kinds : (p : ℕ) → AllOf (kind_at (kinds_of ty) p) (bodies p)
   ends : Ends pending text bodies t
 
-abbrev OwesAt : Step → Ty → List ℕ → Lists Signal → List ℕ → Type 0
+abbrev OwesAt : PrintStage → Ty → List ℕ → Lists Signal → List ℕ → Type 0
 OwesAt (within first others) ty text i t = Owed ty (first ∷ others) text i t
 OwesAt (closing p) ty text i t = EndsFrom p (width ty) i × (t ≡ text)
 OwesAt stuck ty text i t = ⊥
@@ -50,7 +50,7 @@ OwesAfter ty (Some r) i t = Owed ty r.pending r.text i t
 
 module _ (ty : Ty) (i : Lists Signal) (t : List ℕ) where
   -- where nothing is left to be read, the ends are owed
-  owed_pending : (pending : List Pending) (text : List ℕ) → Owed ty pending text i t ↔ OwesAt (step_of pending) ty text i t
+  owed_pending : (pending : List Pending) (text : List ℕ) → Owed ty pending text i t ↔ OwesAt (print_stage pending) ty text i t
   owed_pending [] text = (
     λ h. (closed_ends (width ty) i h.bodies h.are_closed (λ p lt. ap (λ l. l p) h.ends.0), h.ends.1),
     λ h. record { bodies = nothing; are_closed = ends_closed (width ty) i h.0; beyond = λ p le. refl; kinds = λ p. tt; ends = (refl, h.1) },
@@ -59,7 +59,7 @@ module _ (ty : Ty) (i : Lists Signal) (t : List ℕ) where
 
   owed_moved : (s : PrintState) (r : Option Reading) → s.ty ≡ ty → OwesAfter ty r i t ↔ OwesText (moved s r) i t
   owed_moved s None e = iff_refl
-  owed_moved s (Some r) e = subst (λ k. OwesAfter ty (Some r) i t ↔ OwesAt (step_of r.pending) k r.text i t) (sym e) (owed_pending r.pending r.text)
+  owed_moved s (Some r) e = subst (λ k. OwesAfter ty (Some r) i t ↔ OwesAt (print_stage r.pending) k r.text i t) (sym e) (owed_pending r.pending r.text)
 
   pack : (r : Option Reading) (bodies : Lists Cell) → AreClosed (width ty) i bodies → ((p : ℕ) → width ty ≤ p → bodies p ≡ []) → ((p : ℕ) → AllOf (kind_at (kinds_of ty) p) (bodies p)) → EndsAfter r bodies t → OwesAfter ty r i t
   pack None bodies c b k h = h
@@ -144,7 +144,7 @@ module _ (s : PrintState) (i : Lists Signal) (t : List ℕ) where
   closing_step p lt (carry x) = (λ h. absurd (no_carry (width s.ty) p x i lt h.0), λ h. absurd h)
 
 -- whether the end of the input has passed
-abbrev over_at : Step → ℕ → Bool
+abbrev over_at : PrintStage → ℕ → Bool
 over_at (within first others) p = false
 over_at (closing k) p = nat_lt p k
 over_at stuck p = true
@@ -160,18 +160,18 @@ some_text : {A B : List ℕ → Type 0} → ((t : List ℕ) → A t ↔ B t) →
 some_text h = (λ g. (g.0, (h g.0).0 g.1), λ g. (g.0, (h g.0).1 g.1))
 
 module _ (ty : Ty) (text : List ℕ) (at : ℕ) where
-  abbrev state : Step → PrintState
+  abbrev state : PrintStage → PrintState
   state step = print_state ty step text at
 
-  moved_opening : (s : PrintState) (r : Option Reading) → print_opened (moved s r).ty (moved s r).at ≡ print_opened s.ty s.at
+  moved_opening : (s : PrintState) (r : Option Reading) → print_opening (moved s r).ty (moved s r).at ≡ print_opening s.ty s.at
   moved_opening s None = refl
   moved_opening s (Some r) = refl
 
-  within_opening : (first : Pending) (others : List Pending) (m : Signal) → print_behaviour.opening (read_at (within first others) (state (within first others)) m) ≡ print_opened ty at
+  within_opening : (first : Pending) (others : List Pending) (m : Signal) → print_behaviour.opening (read_at (within first others) (state (within first others)) m) ≡ print_opening ty at
   within_opening first others stop = refl
   within_opening first others (carry x) = moved_opening (state (within first others)) (checked (is_of (kind_at (kinds_of ty) (port_of first)) x) (next first x others text))
 
-  closing_opening : (p : ℕ) (m : Signal) → print_behaviour.opening (read_at (closing p) (state (closing p)) m) ≡ print_opened ty at
+  closing_opening : (p : ℕ) (m : Signal) → print_behaviour.opening (read_at (closing p) (state (closing p)) m) ≡ print_opening ty at
   closing_opening p stop = refl
   closing_opening p (carry x) = refl
 
@@ -234,7 +234,7 @@ module _ (ty : Ty) (text : List ℕ) (at : ℕ) where
     outs = λ i o h q lt. absurd (omega arith);
   }
 
-  each_step : (step : Step) → Keeps print_behaviour promise (state step) (want_at step (state step))
+  each_step : (step : PrintStage) → Keeps print_behaviour promise (state step) (want_at step (state step))
   each_step (within first others) = each_within first others (nat_lt (port_of first) (width ty)) refl
   each_step (closing p) = each_closing p (nat_lt p (width ty)) refl
   each_step stuck = record { place = refl; never = λ i o h. h.1 }
@@ -247,7 +247,7 @@ pub record Printed (ty : Ty) (i : Lists Signal) (t : List ℕ) : Type 0 where
   pub text_is : t ≡ text_of_value value
 
 -- before the value, a value is owed, and its text
-opened_text : (ty : Ty) (at : ℕ) (i : Lists Signal) (t : List ℕ) → OwesText (print_opened ty at) i t ↔ Printed ty i t
+opened_text : (ty : Ty) (at : ℕ) (i : Lists Signal) (t : List ℕ) → OwesText (print_opening ty at) i t ↔ Printed ty i t
 opened_text ty at i t = (
   λ h.
       let first = h.ends in
@@ -267,7 +267,7 @@ opened_text ty at i t = (
   },
 )
 
-opened_row : (ty : Ty) (at : ℕ) (i o : Lists Signal) → ((t : List ℕ) × OwesText (print_opened ty at) i t) ↔ IsLawfulTraffic print_behaviour (print_opened ty at) i o
+opened_row : (ty : Ty) (at : ℕ) (i o : Lists Signal) → ((t : List ℕ) × OwesText (print_opening ty at) i t) ↔ IsLawfulTraffic print_behaviour (print_opening ty at) i o
 opened_row ty at i o = (
   λ h.
       let g = (opened_text ty at i h.0).0 h.1 in
@@ -318,18 +318,18 @@ one_read s p m i t wants h = go s.step refl wants h
         subst (λ q. OwesAt (closing k) s.ty s.text (push q m i) t) same ((closing_step s i t k (lt_of s.ty s.text s.at k (width s.ty) e) m).1 h)
     go_closing k false e wants h = absurd (cc)
 
-    go : (step : Step) → step ≡ s.step → want_at step s ≡ Read p → OwesText (read_at step s m) i t → OwesAt step s.ty s.text (push p m i) t
+    go : (step : PrintStage) → step ≡ s.step → want_at step s ≡ Read p → OwesText (read_at step s m) i t → OwesAt step s.ty s.text (push p m i) t
     go (within first others) e wants h = go_within first others (nat_lt (port_of first) (width s.ty)) refl wants h
     go (closing k) e wants h = go_closing k (nat_lt k (width s.ty)) refl wants h
     go stuck e wants h = absurd (cc)
 
 -- it wants to write nothing
-no_write : (s : PrintState) (step : Step) (q : ℕ) → want_at step s ≡ Write q → ⊥
+no_write : (s : PrintState) (step : PrintStage) (q : ℕ) → want_at step s ≡ Write q → ⊥
 no_write s (within first others) q e = elim (nat_lt (port_of first) (width s.ty)) as (λ b. cond b (Read (port_of first)) (Faulted (record { kind = Shape; at = s.at })) ≡ Write q → ⊥) [ true ↦ λ e. absurd (cc) | false ↦ λ e. absurd (cc) ] e
 no_write s (closing p) q e = elim (nat_lt p (width s.ty)) as (λ b. cond b (Read p) Ended ≡ Write q → ⊥) [ true ↦ λ e. absurd (cc) | false ↦ λ e. absurd (cc) ] e
 no_write s stuck q e = absurd (cc)
 
-ended_text : (s : PrintState) (step : Step) → want_at step s ≡ Ended → OwesAt step s.ty s.text (λ _. []) s.text
+ended_text : (s : PrintState) (step : PrintStage) → want_at step s ≡ Ended → OwesAt step s.ty s.text (λ _. []) s.text
 ended_text s (within first others) e = absurd (elim (nat_lt (port_of first) (width s.ty)) as (λ b. cond b (Read (port_of first)) (Faulted (record { kind = Shape; at = s.at })) ≡ Ended → ⊥) [ true ↦ λ e. absurd (cc) | false ↦ λ e. absurd (cc) ] e)
 ended_text s (closing p) e = elim (nat_lt p (width s.ty)) as (λ b. nat_lt p (width s.ty) ≡ b → cond b (Read p) Ended ≡ Ended → OwesAt (closing p) s.ty s.text (λ _. []) s.text) [
   | true ↦ λ t e. absurd (cc)
@@ -347,8 +347,8 @@ text_in_the_end (Writes q m ∷ h) s t (wants, is, does) e = absurd (no_write s 
 abbrev pub PrintsText : PrintState → Type 0
 PrintsText start = (h : List (Event Signal)) (s : PrintState) → Does print_behaviour.process start h s → print_behaviour.process.want s ≡ Ended → Printed start.ty (λ p. reads p h) s.text
 
-from_opened : (ty : Ty) (at : ℕ) → PrintsText (print_opened ty at)
-from_opened ty at h s does e = (opened_text ty at (read_in h) s.text).0 (text_in_the_end h (print_opened ty at) s does e)
+from_opened : (ty : Ty) (at : ℕ) → PrintsText (print_opening ty at)
+from_opened ty at h s does e = (opened_text ty at (read_in h) s.text).0 (text_in_the_end h (print_opening ty at) s does e)
 
 pub prints_text : (start : PrintState) → print_behaviour.opening start ≡ start → PrintsText start
 prints_text start opens = subst (λ s. PrintsText s) opens (from_opened start.ty start.at)

@@ -12,7 +12,7 @@ use Rattle.flow_base.specs.Lists.{Lists, push}
 use Rattle.flow_base.specs.Flags.{F, T}
 use Rattle.flow_base.specs.Ranges.{InRange, AllInRange, CellInRange}
 use Rattle.flow_base.specs.Columns.{Columns, columns, push_column, At}
-use Rattle.flow_base.specs.Machines.{taken, on_kind, OnNext, OfNext, OfRange, Run, Runs, SoundAt, MachineLaws}
+use Rattle.flow_base.specs.Machines.{state_after_item, on_kind, OnNext, OfNext, OfRange, Run, Runs, SoundAt, MachineLaws}
 use Rattle.flow_base.specs.MachineRuns.{Then, reading, writing, run_is, leads_on, led_on}
 use Rattle.flow_values.specs.Shapes.{is_a, all_are, kinds_of, cell_for, first_of, second_of, kind_at}
 use Rattle.flow_values.specs.Flats.{only_at, ◌⊕◌, width, spread, spread_all}
@@ -23,7 +23,7 @@ use Rattle.flow_values.specs.Parts.{parts, Built, built, part_fits}
 use Rattle.flow_values.specs.laws.Parts.{in_row, built-parts, built-is, parts-length, spread-parts}
 use Rattle.flow_values.specs.laws.PartFits.{part_kind, part_is}
 use Rattle.flow_values.specs.Rows.{AreTabs, TabRow}
-use Rattle.flow_values.specs.TabMachine.{Step, start, at_flag, at_item, at_end, flag_taking, closed, grown, item_given, item_port, vector_cell, tab_move, CellsInRange, tab_in_range, tab_machine}
+use Rattle.flow_values.specs.TabMachine.{TabState, start, at_flag, at_item, at_end, flag_taking, closed, grown, item_given, item_port, vector_cell, tab_move, CellsInRange, tab_in_range, tab_machine}
 use Rattle.flow_values.specs.laws.Edges.{at_pushed, push_columns, none_at, on_edges}
 
 -- Ranges.
@@ -85,7 +85,7 @@ module _ (dialect : Dialect) where
 
 -- The table.
 
-always : (r : Result Step FaultKind) → OfNext r (λ _. Unit {0})
+always : (r : Result TabState FaultKind) → OfNext r (λ _. Unit {0})
 always (Ok s) = tt
 always (Err kind) = tt
 
@@ -93,7 +93,7 @@ item_below : (ty : Ty) (got : List Cell) (inside : Bool) → nat_lt (length got)
 item_below ty got true e = let below : length got < width ty = grind (arith, nat_tests, e) in omega (arith, below)
 item_below ty got false e = omega arith
 
-sound : (ty : Ty) (s : Step) → SoundAt tab_machine ty s (tab_move ty s)
+sound : (ty : Ty) (s : TabState) → SoundAt tab_machine ty s (tab_move ty s)
 sound ty start = (refl, (omega arith, refl, λ _. (always _, always _), λ dialect _ _. ranged_flag dialect ty [] tt))
 sound ty (at_flag es) = (omega arith, refl, λ _. (always _, always _), λ dialect _ h. ranged_flag dialect ty es h)
 sound ty (at_item es got) = (item_below ty got (nat_lt (length got) (width ty)) refl, refl, λ _ x _. always _, λ dialect _ h x _ r. ranged_item dialect ty es got x h.0 h.1 r)
@@ -130,7 +130,7 @@ module _ (ty : Ty) where
   abbrev edges : Lists Cell → Columns
   edges l = columns (width (seq ty)) l
 
-  abbrev Does : Step → Lists Cell → List Cell → Type 0
+  abbrev Does : TabState → Lists Cell → List Cell → Type 0
   Does s l o = Runs tab_machine ty s (edges l) (o ∷ [])
 
   some_port : 0 < width (seq ty)
@@ -142,13 +142,13 @@ module _ (ty : Ty) where
   -- the items of an element, and its segment behind
 
   -- an item that leads on, and then a run, is a run
-  item_run : (es : List Value) (got : List Cell) (x : Cell) (s : Step) (l : Lists Cell) (o : List Cell) → length got < width ty → part_fits ty (length got) x ≡ true → item_given ty es got x ≡ Ok s → Does s l o → Does (at_item es got) (push (suc (length got)) x l) o
+  item_run : (es : List Value) (got : List Cell) (x : Cell) (s : TabState) (l : Lists Cell) (o : List Cell) → length got < width ty → part_fits ty (length got) x ≡ true → item_given ty es got x ≡ Ok s → Does s l o → Does (at_item es got) (push (suc (length got)) x l) o
   item_run es got x s l o lt fits given r =
       let inside : nat_lt (length got) (width ty) ≡ true = grind (arith, nat_tests, lt) in
-      let here : Cell → Columns → Type 0 = λ y c. OnNext (taken (on_kind (kind_at (kinds_of ty) (length got)) (item_given ty es got)) y) (λ s. Run tab_machine ty r.0 s c (o ∷ [])) in
+      let here : Cell → Columns → Type 0 = λ y c. OnNext (state_after_item (on_kind (kind_at (kinds_of ty) (length got)) (item_given ty es got)) y) (λ s. Run tab_machine ty r.0 s c (o ∷ [])) in
       let next : here x (edges l) = leads_on (kind_at (kinds_of ty) (length got)) (item_given ty es got) x (λ s. Run tab_machine ty r.0 s (edges l) (o ∷ [])) (fits_kind ty (length got) x fits) (subst (λ n. OnNext n (λ s. Run tab_machine ty r.0 s (edges l) (o ∷ []))) (sym given) r.1) in (
         suc r.0,
-        subst (λ b. At (cond b (suc (length got)) 0) (edges (push (suc (length got)) x l)) (λ y c. OnNext (taken (on_kind (kind_at (kinds_of (seq ty)) (cond b (suc (length got)) 0)) (item_given ty es got)) y) (λ s. Run tab_machine ty r.0 s c (o ∷ [])))) (sym inside)
+        subst (λ b. At (cond b (suc (length got)) 0) (edges (push (suc (length got)) x l)) (λ y c. OnNext (state_after_item (on_kind (kind_at (kinds_of (seq ty)) (cond b (suc (length got)) 0)) (item_given ty es got)) y) (λ s. Run tab_machine ty r.0 s c (o ∷ [])))) (sym inside)
             (at_pushed (width (seq ty)) (suc (length got)) x l here (omega (arith, lt)) next),
       )
 
@@ -186,7 +186,7 @@ module _ (ty : Ty) where
       let out = vector_cell (es ++ []) ∷ o in
       let written : Run tab_machine ty (suc r.0) (at_end es) (edges l) (out ∷ []) = (ap vector_cell (append-nil es), r.1) in
       let next = subst (λ b. OnNext (cond b (Ok (at_end es)) (Err Shape)) (λ s. Run tab_machine ty (suc r.0) s (edges l) (out ∷ []))) (sym c) written in
-      subst (λ m. Does (at_flag es) m out) (sym (none_is ty 0 l)) (suc (suc r.0), at_pushed (width (seq ty)) 0 T l (λ x c. OnNext (taken (flag_taking ty es) x) (λ s. Run tab_machine ty (suc r.0) s c (out ∷ []))) some_port next)
+      subst (λ m. Does (at_flag es) m out) (sym (none_is ty 0 l)) (suc (suc r.0), at_pushed (width (seq ty)) 0 T l (λ x c. OnNext (state_after_item (flag_taking ty es) x) (λ s. Run tab_machine ty (suc r.0) s c (out ∷ []))) some_port next)
   segment_run (more_values v vs) es l o c are r =
       let both = both_true (is_a ty v) (all_are ty vs) are in
       let out = vector_cell (es ++ v ∷ list_of vs) ∷ o in
@@ -196,7 +196,7 @@ module _ (ty : Ty) where
       let row = spread-parts ty 1 v c ∙ ap (in_row 1) full.2 in
       let k : Does (at_item es []) (spread ty 1 v ⊕ later) out = subst (λ m. Does (at_item es []) (m ⊕ later) out) (sym row) (element_run v full.0 full.1 [] es later out c both.0 full.2 others) in
       let next = subst (λ b. OnNext (cond b (Ok (at_item es [])) (Err Shape)) (λ s. Run tab_machine ty k.0 s (edges (spread ty 1 v ⊕ later)) (out ∷ []))) (sym c) k.1 in
-      subst (λ m. Does (at_flag es) m out) (sym (more_is ty 0 v vs l)) (suc k.0, at_pushed (width (seq ty)) 0 F (spread ty 1 v ⊕ later) (λ x c. OnNext (taken (flag_taking ty es) x) (λ s. Run tab_machine ty k.0 s c (out ∷ []))) some_port next)
+      subst (λ m. Does (at_flag es) m out) (sym (more_is ty 0 v vs l)) (suc k.0, at_pushed (width (seq ty)) 0 F (spread ty 1 v ⊕ later) (λ x c. OnNext (state_after_item (flag_taking ty es) x) (λ s. Run tab_machine ty k.0 s c (out ∷ []))) some_port next)
 
   -- an instance begins with a flag
   begins_run : (l : Lists Cell) (o : List Cell) → Does (at_flag []) l o → Does start l o
@@ -215,7 +215,7 @@ module _ (ty : Ty) where
 
   -- What a run reads and writes: further sequences and vectors, behind these elements; there are further ones, or a next
   -- element has these of its items left.
-  data Owes : Step → Columns → Columns → Type 0 where
+  data Owes : TabState → Columns → Columns → Type 0 where
     started : (vectors : List Value) → AreTabs ty vectors → Owes start (edges (all_edges vectors)) (map datum vectors ∷ [])
     flagged : (es : List Value) (vs : Values) (vectors : List Value) → is_concrete ty ≡ true → all_are ty vs ≡ true → AreTabs ty vectors → Owes (at_flag es) (edges (segment ty 0 vs ⊕ all_edges vectors)) ((vector_cell (es ++ list_of vs) ∷ map datum vectors) ∷ [])
     itemed : (es : List Value) (got : List Cell) (e : Value) (cells : List Cell) (vs : Values) (vectors : List Value) → is_concrete ty ≡ true → is_a ty e ≡ true → all_are ty vs ≡ true → AreTabs ty vectors → parts ty e ≡ got ++ cells →
@@ -223,7 +223,7 @@ module _ (ty : Ty) where
     ended : (es : List Value) (vectors : List Value) → AreTabs ty vectors → Owes (at_end es) (edges (all_edges vectors)) ((vector_cell es ∷ map datum vectors) ∷ [])
 
   -- the same of other columns
-  owes_as : (s : Step) (p : ℕ) (x : Cell) (l m : Lists Cell) (es fs : List Value) (o : List Cell) → p < width (seq ty) → l ≡ push p x m → es ≡ fs → Owes s (edges l) ((vector_cell es ∷ o) ∷ []) → Owes s (push_column p x (edges m)) ((vector_cell fs ∷ o) ∷ [])
+  owes_as : (s : TabState) (p : ℕ) (x : Cell) (l m : Lists Cell) (es fs : List Value) (o : List Cell) → p < width (seq ty) → l ≡ push p x m → es ≡ fs → Owes s (edges l) ((vector_cell es ∷ o) ∷ []) → Owes s (push_column p x (edges m)) ((vector_cell fs ∷ o) ∷ [])
   owes_as s p x l m es fs o lt e f h = subst (λ k. Owes s k ((vector_cell fs ∷ o) ∷ [])) (ap edges e ∙ sym (push_columns (width (seq ty)) p x m lt)) (subst (λ k. Owes s (edges l) ((vector_cell k ∷ o) ∷ [])) f h)
 
   to_end : (es : List Value) (i o : Columns) → is_concrete ty ≡ true → Owes (at_end es) i o → Owes (at_flag es) (push_column 0 T i) o
@@ -236,7 +236,7 @@ module _ (ty : Ty) where
       owes_as (at_flag es) 0 F (segment ty 0 (more_values e vs) ⊕ all_edges vectors) (in_row 1 cells ⊕ later) (es ++ e ∷ list_of vs) ((es ++ e ∷ []) ++ list_of vs) (map datum vectors) some_port row (sym (append_assoc es (e ∷ []) (list_of vs)))
       (flagged es (more_values e vs) vectors c (and_true (is_a ty e) (all_are ty vs) is are) tabs)
 
-  flag_earlier : (es : List Value) (x : Cell) (i o : Columns) → OnNext (taken (flag_taking ty es) x) (λ s. Owes s i o) → Owes (at_flag es) (push_column 0 x i) o
+  flag_earlier : (es : List Value) (x : Cell) (i o : Columns) → OnNext (state_after_item (flag_taking ty es) x) (λ s. Owes s i o) → Owes (at_flag es) (push_column 0 x i) o
   flag_earlier es (flag false) i o h = go (is_concrete ty) refl h
     where
       go : (c : Bool) → is_concrete ty ≡ c → OnNext (cond c (Ok (at_item es [])) (Err Shape)) (λ s. Owes s i o) → Owes (at_flag es) (push_column 0 F i) o
@@ -280,7 +280,7 @@ module _ (ty : Ty) where
   item_earlier es got x true false more i o e h = absurd h
   item_earlier es got x false fits more i o e h = absurd h
 
-  earlier : (s : Step) (x : Cell) (i o : Columns) → Then (λ next. Owes next i o) (tab_move ty s) x → Owes s (reading (tab_move ty s) x i) (writing (tab_move ty s) o)
+  earlier : (s : TabState) (x : Cell) (i o : Columns) → Then (λ next. Owes next i o) (tab_move ty s) x → Owes s (reading (tab_move ty s) x i) (writing (tab_move ty s) o)
   earlier start x i o h = opened (push_column 0 x i) o (flag_earlier [] x i o h)
   earlier (at_flag es) x i o h = flag_earlier es x i o h
   earlier (at_item es got) x i o h =

@@ -24,7 +24,7 @@ pub struct Fed {
 
 // What came of a step.
 #[derive(Clone, Copy, Debug, PartialEq, Eq)]
-enum Step {
+enum Feed {
     Made,
     // Memory was refused to the node.
     Refused,
@@ -66,12 +66,12 @@ impl Fed {
         for _ in 0..MOST_STEPS {
             let before = seen(node);
             match self.step(node)? {
-                Step::Made => {}
-                Step::Refused => {
+                Feed::Made => {}
+                Feed::Refused => {
                     self.refused = self.refused.saturating_add(1);
                     self.changed = self.changed || seen(node) != before;
                 }
-                Step::Last => break,
+                Feed::Last => break,
             }
         }
         if let Some(text) = node.printed() {
@@ -82,29 +82,29 @@ impl Fed {
     }
 
     // A step of the node. A message that it could not take is still the next.
-    fn step<T: Transducer>(&mut self, node: &mut T) -> Result<Step, AllocError> {
+    fn step<T: Transducer>(&mut self, node: &mut T) -> Result<Feed, AllocError> {
         match node.want() {
             Want::Read(port) => {
                 let Some(message) = self.next(port)? else {
-                    return Ok(Step::Last);
+                    return Ok(Feed::Last);
                 };
                 let word = word_of(self.alloc, '<', port, &message)?;
                 if node.give(port, message).is_err() {
-                    return Ok(Step::Refused);
+                    return Ok(Feed::Refused);
                 }
                 self.advance(port);
                 self.done.push_str(word.as_str())?;
-                Ok(Step::Made)
+                Ok(Feed::Made)
             }
             Want::Write(port) => {
                 let Ok(message) = node.emit() else {
-                    return Ok(Step::Refused);
+                    return Ok(Feed::Refused);
                 };
                 let word = word_of(self.alloc, '>', port, &message)?;
                 self.done.push_str(word.as_str())?;
-                Ok(Step::Made)
+                Ok(Feed::Made)
             }
-            Want::Ended | Want::Faulted(_) => Ok(Step::Last),
+            Want::Ended | Want::Faulted(_) => Ok(Feed::Last),
         }
     }
 

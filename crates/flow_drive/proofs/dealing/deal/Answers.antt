@@ -1,4 +1,4 @@
-use Rattle.flow_meetings.specs.BoxMeetings.{BoxesJoin, box_places}
+use Rattle.flow_meetings.specs.BoxMeetings.{BoxesJoin, box_slots}
 use Rattle.flow_drive.specs.Configs.{IsLawful}
 use Rattle.flow_drive.proofs.Refused.{passed_on, passed_made}
 use Rattle.flow_drive.proofs.Dealt.{are_dealt_out, are_fed}
@@ -11,7 +11,7 @@ pub returns-clause-config : goal.returns-clause-config
 returns-clause-config g c = passed_made c.in_ok-dealt.dealt c.in_ok-dealt.dealt.shares (IsLawful c.args.config.now) c.in_ok-dealt.ensures.config
 
 pub returns-clause-dealt : goal.returns-clause-dealt
-returns-clause-dealt g c = are_dealt_out BoxesJoin box_places c.args.graph c.args.config.now c.in_ok-dealt.dealt c.in_ok-dealt.ensures.dealt c.in_ok-dealt.ensures.lawful
+returns-clause-dealt g c = are_dealt_out BoxesJoin box_slots c.args.graph c.args.config.now c.in_ok-dealt.dealt c.in_ok-dealt.ensures.dealt c.in_ok-dealt.ensures.lawful
 
 pub returns-clause-fed : goal.returns-clause-fed
-returns-clause-fed g c = are_fed BoxesJoin box_places c.args.graph c.args.config.now c.in_ok-dealt.dealt c.in_ok-dealt.ensures.dealt
+returns-clause-fed g c = are_fed BoxesJoin box_slots c.args.graph c.args.config.now c.in_ok-dealt.dealt c.in_ok-dealt.ensures.dealt

@@ -1,4 +1,4 @@
-use Rattle.flow_meetings.specs.RingMeetings.{RingsJoin, ring_places}
+use Rattle.flow_meetings.specs.RingMeetings.{RingsJoin, ring_slots}
 use Rattle.flow_rounds.proofs.EpochBegins.{dealt_graph}
 use Rattle.flow_drive.specs.Configs.{IsLawful}
 use Rattle.flow_drive.proofs.Refused.{passed_on, passed_made}
@@ -12,7 +12,7 @@ pub returns-clause-config : goal.returns-clause-config
 returns-clause-config g c = passed_made c.in_ok-dealt.dealt c.in_ok-dealt.dealt.shares (IsLawful c.args.config.now) c.in_ok-dealt.ensures.config
 
 pub returns-clause-dealt : goal.returns-clause-dealt
-returns-clause-dealt g c = are_dealt_out RingsJoin ring_places c.args.graph c.args.config.now c.in_ok-dealt.dealt c.in_ok-dealt.ensures.dealt c.in_ok-dealt.ensures.lawful
+returns-clause-dealt g c = are_dealt_out RingsJoin ring_slots c.args.graph c.args.config.now c.in_ok-dealt.dealt c.in_ok-dealt.ensures.dealt c.in_ok-dealt.ensures.lawful
 
 pub returns-clause-graph : goal.returns-clause-graph
 returns-clause-graph g c =
@@ -20,4 +20,4 @@ returns-clause-graph g c =
     dealt_graph c.args.graph config.threads config.share.items config.capacity c.in_ok-dealt.dealt c.in_ok-dealt.ensures.dealt
 
 pub returns-clause-fed : goal.returns-clause-fed
-returns-clause-fed g c = are_fed RingsJoin ring_places c.args.graph c.args.config.now c.in_ok-dealt.dealt c.in_ok-dealt.ensures.dealt
+returns-clause-fed g c = are_fed RingsJoin ring_slots c.args.graph c.args.config.now c.in_ok-dealt.dealt c.in_ok-dealt.ensures.dealt

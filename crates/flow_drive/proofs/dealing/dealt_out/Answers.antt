@@ -14,4 +14,4 @@ returns-clause-config g c = made_lawful c.in_ok-dealt.dealt (IsLawful c.args.con
 pub returns-clause-dealt : goal.returns-clause-dealt
 returns-clause-dealt g c =
     let config = c.args.config.now in
-    subst (λ share. IsDealt g.E.Meeting.joins g.E.Meeting.places c.args.graph config.threads share config.capacity c.in_ok-dealt.dealt) c.deref.ensures.value c.in_ok-dealt.ensures
+    subst (λ share. IsDealt g.E.Meeting.joins g.E.Meeting.slots c.args.graph config.threads share config.capacity c.in_ok-dealt.dealt) c.deref.ensures.value c.in_ok-dealt.ensures

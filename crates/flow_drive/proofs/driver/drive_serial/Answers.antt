@@ -33,7 +33,7 @@ invariant_of-gathered g c =
     let run : EndsMaximalRun b (capacity_of ends') states edges states' view = subst (λ n. EndsMaximalRun b n states edges states' view) (sym shape.same) c.in_ok-run_serial.ensures.run in
     record {
       there = record {
-        whole = λ t is. subst (λ lines. HasAllEnds (length edges') (traffic_in edges' lines)) is
+        whole = λ t is. subst (λ all_ends. HasAllEnds (length edges') (traffic_in edges' all_ends)) is
             (all_ends_still c.edges.result (length edges') (ends_of table) view (sym (c.edges.ensures ∙ count)) shape.ends (fresh_all_ends c.edges.result (ends_of table) c.in_ok-ends.ensures.fresh));
         shared = λ boxes is. absurd (cc is);
       };

@@ -6,9 +6,9 @@ use Rattle.flow_drive.proofs.places.places_of.Given as goal
 -- the places of the nodes in the shares so far are noted
 abbrev pub invariant-loop-s : goal.invariant-loop-s
 invariant-loop-s g l =
-    (deals : AreDealt g.setting.share g.setting.nodes (nodes_in l.shares)) → AreNoted g.setting.share g.setting.nodes (nodes_in l.shares) deals l.s 0 l.places.items
+    (deals : AreDealt g.network.share g.network.nodes (nodes_in l.shares)) → AreNoted g.network.share g.network.nodes (nodes_in l.shares) deals l.s 0 l.places.items
 
 -- and in the next share those of the nodes so far
 abbrev pub invariant-loop-place : goal.invariant-loop-place
 invariant-loop-place g l =
-    (deals : AreDealt g.setting.share g.setting.nodes (nodes_in l.shares)) → AreNoted g.setting.share g.setting.nodes (nodes_in l.shares) deals l.s l.place l.places.items
+    (deals : AreDealt g.network.share g.network.nodes (nodes_in l.shares)) → AreNoted g.network.share g.network.nodes (nodes_in l.shares) deals l.s l.place l.places.items

@@ -3,9 +3,9 @@ use Rattle.std.proofs.lemmas.List.{length-map}
 use Rattle.flow_graph.specs.Graphs.{states_of}
 use Rattle.flow_shares.specs.declared.error.WorkError.TheVariants.{NoThread}
 use Rattle.flow_shares.proofs.Refused.{none_refused}
-use Rattle.flow_meetings.specs.Open.{AreWires}
+use Rattle.flow_meetings.specs.Open.{AreOwners}
 use Rattle.flow_meetings.specs.Joints.{views_of}
-use Rattle.flow_meetings.specs.Settings.{moved_by}
+use Rattle.flow_meetings.specs.SharedNetworks.{moves_by}
 use Rattle.flow_rounds.proofs.RoundMeets.{seen_is}
 use Rattle.flow_rounds.proofs.RoundGathers.{come_to_rest}
 use Rattle.flow_drive.proofs.Refused.{nothing_made}
@@ -17,63 +17,63 @@ run_rounds-requires g c κs within =
     let bounds = c.requires.1.1.1.1 in
     let clauses = bounds.1.1.1.1.1 in
     let lawful = clauses.0 in
-    let wires = subst (λ w. AreWires g.setting.share g.setting.edges w) (sym c.deref.ensures.value) clauses.1.1.0 in
-    (within.0, (within.1.0, (within.1.1.0, (within.1.1.1, (bounds.0, (bounds.1.0, (bounds.1.1.0, (bounds.1.1.1.0, (bounds.1.1.1.1.0, (lawful.chunk.some, (lawful.idle.some, (wires, clauses.1.1.1.1.0))))))))))))
+    let owners = subst (λ w. AreOwners g.network.share g.network.edges w) (sym c.deref.ensures.value) clauses.1.1.0 in
+    (within.0, (within.1.0, (within.1.1.0, (within.1.1.1, (bounds.0, (bounds.1.0, (bounds.1.1.0, (bounds.1.1.1.0, (bounds.1.1.1.1.0, (lawful.chunk.some, (lawful.idle.some, (owners, clauses.1.1.1.1.0))))))))))))
 
 pub invariant_of-gathered : goal.invariant_of-gathered
 invariant_of-gathered g c =
-    let given = c.requires.1.1.1.1.1.1.1.1.1.1.0 in
+    let origin = c.requires.1.1.1.1.1.1.1.1.1.1.0 in
     let graph = c.in_ok-graph.graph in
     let shared = c.new-shared.result in
     let network = c.in_ok-graph.ensures.network in
     let taken = ap (λ ends. ends.items) c.new-shared.ensures.ends ∙ c.in_ok-graph.ensures.ends in
-    let rest = come_to_rest g.setting c.in_ok-shares.shares.items c.in_ok-shares.ensures.rest (states_of graph) c.in_ok-graph.ensures.states shared.ends.items taken in
-    let share = ap (λ share. share.items) c.new-shared.ensures.share ∙ given.share in
-    let capacity = c.new-shared.ensures.capacity ∙ given.capacity in
+    let rest = come_to_rest g.network c.in_ok-shares.shares.items c.in_ok-shares.ensures.rest (states_of graph) c.in_ok-graph.ensures.states shared.ends.items taken in
+    let share = ap (λ share. share.items) c.new-shared.ensures.share ∙ origin.share in
+    let capacity = c.new-shared.ensures.capacity ∙ origin.capacity in
     record {
-      there = are_there g.setting graph shared network rest share capacity;
-      sound = sound g.setting graph shared network rest share capacity;
-      rest = rests g.setting graph shared network rest share capacity;
+      there = are_there g.network graph shared network rest share capacity;
+      sound = sound g.network graph shared network rest share capacity;
+      rest = rests g.network graph shared network rest share capacity;
     }
 
 pub returns-clause-run : goal.returns-clause-run
 returns-clause-run g c =
-    let given = c.requires.1.1.1.1.1.1.1.1.1.1.0 in
+    let origin = c.requires.1.1.1.1.1.1.1.1.1.1.0 in
     let graph = c.in_ok-graph.graph in
     let shared = c.new-shared.result in
     let taken = ap (λ ends. ends.items) c.new-shared.ensures.ends ∙ c.in_ok-graph.ensures.ends in
-    let rest = come_to_rest g.setting c.in_ok-shares.shares.items c.in_ok-shares.ensures.rest (states_of graph) c.in_ok-graph.ensures.states shared.ends.items taken in
-    run g.setting graph shared c.in_ok-graph.ensures.network rest (ap (λ share. share.items) c.new-shared.ensures.share ∙ given.share) (c.new-shared.ensures.capacity ∙ given.capacity)
+    let rest = come_to_rest g.network c.in_ok-shares.shares.items c.in_ok-shares.ensures.rest (states_of graph) c.in_ok-graph.ensures.states shared.ends.items taken in
+    run g.network graph shared c.in_ok-graph.ensures.network rest (ap (λ share. share.items) c.new-shared.ensures.share ∙ origin.share) (c.new-shared.ensures.capacity ∙ origin.capacity)
 
 pub returns-clause-least : goal.returns-clause-least
 returns-clause-least g c =
-    let given = c.requires.1.1.1.1.1.1.1.1.1.1.0 in
+    let origin = c.requires.1.1.1.1.1.1.1.1.1.1.0 in
     let none = c.requires.1.1.1.1.1.1.1.1.1.1.1.1.1.1 in
     let graph = c.in_ok-graph.graph in
     let shared = c.new-shared.result in
     let shares = c.in_ok-shares.shares.items in
     let count = c.in_ok-shares.count in
     let taken = ap (λ ends. ends.items) c.new-shared.ensures.ends ∙ c.in_ok-graph.ensures.ends in
-    let rest = come_to_rest g.setting shares c.in_ok-shares.ensures.rest (states_of graph) c.in_ok-graph.ensures.states shared.ends.items taken in
-    boxes_moved g.setting graph shared c.in_ok-graph.ensures.network rest (ap (λ share. share.items) c.new-shared.ensures.share ∙ given.share) (c.new-shared.ensures.capacity ∙ given.capacity) (λ n. 0 < n → 0 < count)
-    (subst (λ v. 0 < moved_by g.setting (views_of v) → 0 < count) (sym (seen_is shares shared.ends.items taken)) (λ some. c.in_ok-shares.ensures.least (omega (arith, none, some))))
+    let rest = come_to_rest g.network shares c.in_ok-shares.ensures.rest (states_of graph) c.in_ok-graph.ensures.states shared.ends.items taken in
+    boxes_moved g.network graph shared c.in_ok-graph.ensures.network rest (ap (λ share. share.items) c.new-shared.ensures.share ∙ origin.share) (c.new-shared.ensures.capacity ∙ origin.capacity) (λ n. 0 < n → 0 < count)
+    (subst (λ v. 0 < moves_by g.network (views_of v) → 0 < count) (sym (seen_is shares shared.ends.items taken)) (λ some. c.in_ok-shares.ensures.least (omega (arith, none, some))))
 
 pub returns-clause-most : goal.returns-clause-most
 returns-clause-most g c =
-    let given = c.requires.1.1.1.1.1.1.1.1.1.1.0 in
+    let origin = c.requires.1.1.1.1.1.1.1.1.1.1.0 in
     let graph = c.in_ok-graph.graph in
     let shared = c.new-shared.result in
     let shares = c.in_ok-shares.shares.items in
     let count = c.in_ok-shares.count in
     let taken = ap (λ ends. ends.items) c.new-shared.ensures.ends ∙ c.in_ok-graph.ensures.ends in
-    let rest = come_to_rest g.setting shares c.in_ok-shares.ensures.rest (states_of graph) c.in_ok-graph.ensures.states shared.ends.items taken in
-    boxes_moved g.setting graph shared c.in_ok-graph.ensures.network rest (ap (λ share. share.items) c.new-shared.ensures.share ∙ given.share) (c.new-shared.ensures.capacity ∙ given.capacity) (λ n. count ≤ n)
-    (subst (λ v. count ≤ moved_by g.setting (views_of v)) (sym (seen_is shares shared.ends.items taken)) (omega (arith, c.in_ok-shares.ensures.most)))
+    let rest = come_to_rest g.network shares c.in_ok-shares.ensures.rest (states_of graph) c.in_ok-graph.ensures.states shared.ends.items taken in
+    boxes_moved g.network graph shared c.in_ok-graph.ensures.network rest (ap (λ share. share.items) c.new-shared.ensures.share ∙ origin.share) (c.new-shared.ensures.capacity ∙ origin.capacity) (λ n. count ≤ n)
+    (subst (λ v. count ≤ moves_by g.network (views_of v)) (sym (seen_is shares shared.ends.items taken)) (omega (arith, c.in_ok-shares.ensures.most)))
 
 pub returns-clause-share : goal.returns-clause-share
 returns-clause-share g c =
-    let given = c.requires.1.1.1.1.1.1.1.1.1.1.0 in
-    ap (λ share. share.items) c.new-shared.ensures.share ∙ given.share
+    let origin = c.requires.1.1.1.1.1.1.1.1.1.1.0 in
+    ap (λ share. share.items) c.new-shared.ensures.share ∙ origin.share
 
 pub returns-clause-shares : goal.returns-clause-shares
 returns-clause-shares g c =

@@ -7,7 +7,7 @@ use Rattle.std.proofs.lemmas.List.{take_more}
 use Rattle.snesl_operators.specs.Reductions.{reduced_more}
 use Rattle.snesl_operators.specs.declared.operator.Reduction.TheVariants.{Max}
 use Rattle.snesl_operators.specs.declared.scalar.Scalar.TheVariants.{Int}
-use Rattle.flow_folds.specs.ReduceBlocks.{reduced_ints}
+use Rattle.flow_folds.specs.ReduceBlocks.{reduction_of_ints}
 use Rattle.flow_folds.proofs.ReduceBlocks.{one_int_more}
 use Rattle.flow_folds.proofs.reduce.greatest_of.Goals as goal
 
@@ -24,4 +24,4 @@ loop-place-preserved c = λ dialect.
     let greatest = c.greater-greatest.result in
     let back_greatest : to_z w128 (of_z w128 greatest) ≡ greatest = search rules in
     let step : reduced_more dialect Max (Some (Int held)) (Int x) ≡ Ok (Some (Int greatest)) = ap (λ k. Ok (Some (Int (if int_lt held k then k else held)))) (sym back) ∙ ap (λ k. Ok (Some (Int k))) (sym c.greater-greatest.ensures) in
-    ap (reduced_ints dialect Max (Some (Int before))) block ∙ one_int_more dialect Max (Some (Int before)) (Some (Int held)) (Some (Int greatest)) (take place xs) x (c.loop-place.invariant dialect) step ∙ ap (λ k. Ok (Some (Int k))) (sym back_greatest)
+    ap (reduction_of_ints dialect Max (Some (Int before))) block ∙ one_int_more dialect Max (Some (Int before)) (Some (Int held)) (Some (Int greatest)) (take place xs) x (c.loop-place.invariant dialect) step ∙ ap (λ k. Ok (Some (Int k))) (sym back_greatest)

@@ -6,7 +6,7 @@ use Rattle.std.proofs.lemmas.List.{take_more}
 use Rattle.snesl_operators.specs.Reductions.{reduced_more}
 use Rattle.snesl_operators.specs.declared.operator.Reduction.TheVariants.{Sum}
 use Rattle.snesl_operators.specs.declared.scalar.Scalar.TheVariants.{Int}
-use Rattle.flow_folds.specs.ReduceBlocks.{reduced_ints}
+use Rattle.flow_folds.specs.ReduceBlocks.{reduction_of_ints}
 use Rattle.flow_folds.proofs.ReduceBlocks.{one_int_more, small_sum_more}
 use Rattle.flow_folds.proofs.reduce.small_sum_of.Goals as goal
 
@@ -25,4 +25,4 @@ loop-place-preserved c = λ dialect.
     let low : negsuc 9223372036854775807 ≤ℤ more = omega (arith, ints) in
     let high : more ≤ℤ pos 9223372036854775807 = omega (arith, ints) in
     let step : reduced_more dialect Sum (Some (Int reached)) (Int x) ≡ Ok (Some (Int more)) = small_sum_more dialect reached x more is low high in
-    ap (reduced_ints dialect Sum (Some (Int total))) block ∙ one_int_more dialect Sum (Some (Int total)) (Some (Int reached)) (Some (Int more)) (take place xs) x (c.loop-place.invariant dialect) step ∙ ap (λ k. Ok (Some (Int k))) (sym back_more)
+    ap (reduction_of_ints dialect Sum (Some (Int total))) block ∙ one_int_more dialect Sum (Some (Int total)) (Some (Int reached)) (Some (Int more)) (take place xs) x (c.loop-place.invariant dialect) step ∙ ap (λ k. Ok (Some (Int k))) (sym back_more)

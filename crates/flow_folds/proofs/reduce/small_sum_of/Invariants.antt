@@ -3,8 +3,8 @@ use Rattle.std.specs.Prelude.{Ok}
 use Rattle.snesl_data.specs.declared.dialect.Dialect.{Dialect}
 use Rattle.snesl_operators.specs.declared.operator.Reduction.TheVariants.{Sum}
 use Rattle.snesl_operators.specs.declared.scalar.Scalar.TheVariants.{Int}
-use Rattle.flow_folds.specs.ReduceBlocks.{reduced_ints}
+use Rattle.flow_folds.specs.ReduceBlocks.{reduction_of_ints}
 use Rattle.flow_folds.proofs.reduce.small_sum_of.Given as goal
 
 abbrev pub invariant-loop-place : goal.invariant-loop-place
-invariant-loop-place l = (dialect : Dialect) → reduced_ints dialect Sum (Some (Int l.fn.total)) (take l.place l.elements) ≡ Ok (Some (Int l.reached))
+invariant-loop-place l = (dialect : Dialect) → reduction_of_ints dialect Sum (Some (Int l.fn.total)) (take l.place l.elements) ≡ Ok (Some (Int l.reached))

@@ -8,7 +8,7 @@ use Rattle.snesl_operators.specs.Operators.{ranged, an_integer}
 use Rattle.snesl_operators.specs.Reductions.{some_of, reduced_more}
 use Rattle.snesl_operators.specs.declared.operator.Reduction.TheVariants.{Sum}
 use Rattle.snesl_operators.specs.declared.scalar.Scalar.TheVariants.{Int}
-use Rattle.flow_folds.specs.ReduceBlocks.{reduced_ints}
+use Rattle.flow_folds.specs.ReduceBlocks.{reduction_of_ints}
 use Rattle.flow_folds.proofs.ReduceBlocks.{one_int_more}
 use Rattle.flow_folds.proofs.reduce.sum_of.Goals as goal
 
@@ -26,4 +26,4 @@ loop-place-preserved c =
     let more = c.in-Ok-sum.more in
     let back_more : to_z w128 (of_z w128 more) ≡ more = search rules in
     let step : reduced_more dialect Sum (Some (Int reached)) (Int x) ≡ Ok (Some (Int more)) = ap (λ k. some_of (an_integer (ranged dialect (reached +ℤ k)))) (sym back) ∙ ap (λ r. some_of (an_integer r)) (sym c.in-Ok-sum.ensures) in
-    ap (reduced_ints dialect Sum (Some (Int total))) block ∙ one_int_more dialect Sum (Some (Int total)) (Some (Int reached)) (Some (Int more)) (take place xs) x c.loop-place.invariant step ∙ ap (λ k. Ok (Some (Int k))) (sym back_more)
+    ap (reduction_of_ints dialect Sum (Some (Int total))) block ∙ one_int_more dialect Sum (Some (Int total)) (Some (Int reached)) (Some (Int more)) (take place xs) x c.loop-place.invariant step ∙ ap (λ k. Ok (Some (Int k))) (sym back_more)

@@ -1,10 +1,10 @@
 use Rattle.std.proofs.Common.{◌≡◌, [], length, get_or, sym, ap, ◌∙◌, subst, arith}
 use Rattle.std.proofs.lemmas.List.{get_or-map, length-map}
 use Rattle.flow_graph.specs.Places.{states_in}
-use Rattle.flow_graph.specs.Layouts.{edges_in}
+use Rattle.flow_graph.specs.Skeletons.{edges_in}
 use Rattle.flow_graph.specs.Networks.{AreOpened}
 use Rattle.flow_shares.specs.Deals.{lists_in, AreJustDealt}
-use Rattle.flow_meetings.specs.Open.{AreWires, AreFreshEnds}
+use Rattle.flow_meetings.specs.Open.{AreOwners, AreFreshEnds}
 use Rattle.flow_meetings.specs.Deals.{MakeAShare, nodes_in}
 use Rattle.flow_meetings.proofs.Lists.{all_zipped}
 use Rattle.flow_meetings.proofs.Fits.{make_a_share}
@@ -15,18 +15,18 @@ pub make_shares-requires : goal.make_shares-requires
 make_shares-requires g c =
     let view = g.E.Ends.view in
     let share = c.args.share.now in
-    let layout = edges_in c.take_apart-nodes.result.1 in
+    let skeleton = edges_in c.take_apart-nodes.result.1 in
     let nodes = c.take_apart-nodes.result.0.items in
     let lists = c.in_ok-nodes.nodes.items in
     let ends = c.in_ok-ends.ends.items in
-    let wires = c.in_ok-wires.wires.items in
+    let owners = c.in_ok-owners.owners.items in
     let opened = subst (λ ns. AreOpened g.T.Transducer.behaviour (states_in ns)) (sym c.take_apart-nodes.ensures.nodes) c.requires.opened in
-    let are = subst (λ es. AreWires share es wires) c.edges.ensures c.in_ok-wires.ensures in
-    let all = subst (λ ws. AreFreshEnds view g.E.Meeting.joins g.E.Meeting.places ws c.args.capacity ends) c.deref.ensures.value c.in_ok-ends.ensures.opened in
+    let are = subst (λ es. AreOwners share es owners) c.edges.ensures c.in_ok-owners.ensures in
+    let all = subst (λ ws. AreFreshEnds view g.E.Meeting.joins g.E.Meeting.slots ws c.args.capacity ends) c.deref.ensures.value c.in_ok-ends.ensures.opened in
     let many : length ends ≡ length lists = c.in_ok-ends.ensures.count ∙ sym c.in_ok-nodes.ensures.count in
     all_zipped (λ nodes ends. MakeAShare (view ends) nodes.items) lists ends many (λ s x y l. (
     subst (λ ns. MakeAShare (view (get_or ends s y)) ns) (get_or-map (λ nodes. nodes.items) lists s x [] l)
-    (make_a_share share layout nodes c.take_apart-nodes.ensures.fit opened wires are (lists_in lists) c.in_ok-nodes.ensures.dealt c.args.capacity s
+    (make_a_share share skeleton nodes c.take_apart-nodes.ensures.fit opened owners are (lists_in lists) c.in_ok-nodes.ensures.dealt c.args.capacity s
     (omega (arith, l, length-map lists (λ nodes. nodes.items))) (view (get_or ends s y)) (all.fresh s y (omega (arith, l, many))))
     ))
 
@@ -37,21 +37,21 @@ returns g c =
     let nodes = c.take_apart-nodes.result.0.items in
     let lists = c.in_ok-nodes.nodes.items in
     let shares = c.in_ok-shares.shares.items in
-    let wires = c.in_ok-wires.wires.items in
+    let owners = c.in_ok-owners.owners.items in
     let made = c.in_ok-shares.ensures in
     record {
       count = sym (length-map shares (λ share. share.nodes.items)) ∙ ap length made.nodes ∙ length-map lists (λ nodes. nodes.items) ∙ c.in_ok-nodes.ensures.count;
       new = made.new;
       nodes = subst (λ ns. AreJustDealt share ns (nodes_in shares)) c.take_apart-nodes.ensures.nodes (subst (λ dealt. AreJustDealt share nodes dealt) (sym made.nodes) c.in_ok-nodes.ensures.dealt);
-      layout = c.take_apart-nodes.ensures.edges;
-      wires = subst (λ es. AreWires share es wires) (c.edges.ensures ∙ c.take_apart-nodes.ensures.edges) c.in_ok-wires.ensures;
-      ends = subst (λ l. AreFreshEnds view g.E.Meeting.joins g.E.Meeting.places wires c.args.capacity l) (sym made.ends) (
-          subst (λ ws. AreFreshEnds view g.E.Meeting.joins g.E.Meeting.places ws c.args.capacity c.in_ok-ends.ends.items) c.deref.ensures.value c.in_ok-ends.ensures.opened
+      skeleton = c.take_apart-nodes.ensures.edges;
+      owners = subst (λ es. AreOwners share es owners) (c.edges.ensures ∙ c.take_apart-nodes.ensures.edges) c.in_ok-owners.ensures;
+      ends = subst (λ l. AreFreshEnds view g.E.Meeting.joins g.E.Meeting.slots owners c.args.capacity l) (sym made.ends) (
+          subst (λ ws. AreFreshEnds view g.E.Meeting.joins g.E.Meeting.slots ws c.args.capacity c.in_ok-ends.ends.items) c.deref.ensures.value c.in_ok-ends.ensures.opened
           );
     }
 
-pub returns-in_err-wires : goal.returns-in_err-wires
-returns-in_err-wires g c = none_given _ c.from_residual.result c.from_residual.ensures.0
+pub returns-in_err-owners : goal.returns-in_err-owners
+returns-in_err-owners g c = none_given _ c.from_residual.result c.from_residual.ensures.0
 
 pub returns-in_err-ends : goal.returns-in_err-ends
 returns-in_err-ends g c = none_given _ c.from_residual-in_err-ends.result c.from_residual-in_err-ends.ensures.0

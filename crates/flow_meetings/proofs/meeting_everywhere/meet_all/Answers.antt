@@ -1,7 +1,7 @@
 use Rattle.std.proofs.Common.{◌≡◌, ◌<◌, ℕ, length, get_or, arith, below_more, ◌∙◌}
 use Rattle.std.proofs.lemmas.List.{get_or_default}
 use Rattle.flow_boxes.proofs.Changed.{everywhere}
-use Rattle.flow_meetings.specs.declared.wires.Wire.{Wire}
+use Rattle.flow_meetings.specs.declared.owners.EdgeOwners.{EdgeOwners}
 use Rattle.flow_meetings.specs.Met.{Met, met_kept, kept_trans}
 use Rattle.flow_meetings.proofs.meeting_everywhere.meet_all.Goals as goal
 
@@ -14,45 +14,45 @@ loop-edge-preserved g c =
     let step = c.meet_edge.ensures in
     let law = g.met.E.Meeting in
     let edge = c.loop-edge.edge in
-    let none : Wire = record { writer = 0; reader = 0 } in
-    let wires = c.args.wires.now in
+    let none : EdgeOwners = record { writer = 0; reader = 0 } in
+    let owners = c.args.owners.now in
     let old = c.args.ends.now in
     let now = c.loop-edge.ends in
     let new = c.meet_edge.new.ends in
     let view = g.E.Ends.view in
-    let places = g.E.Meeting.places in
+    let places = g.E.Meeting.slots in
     let joins = g.E.Meeting.joins in
-    let here : (w : Wire) → get_or wires edge w ≡ get_or wires edge none = λ w. get_or_default wires edge w none c.loop-edge-test.true in
+    let here : (w : EdgeOwners) → get_or owners edge w ≡ get_or owners edge none = λ w. get_or_default owners edge w none c.loop-edge-test.true in
     let meets = λ (k : ℕ) (d : g.row.E.Denot) (low : k < length old). (let low' : k < length now = omega (arith, c.loop-edge.auto.ends) in step.meets k d low') in
     let kept = λ (k : ℕ) (d : g.row.E.Denot) (low : k < length old). law.meets_kept edge (get_or now k d) (get_or new k d) (meets k d low) in
-    let alike = λ (k e : ℕ) (d : g.row.E.Denot) (low : k < length old). law.meets_places edge (get_or now k d) (get_or new k d) (meets k d low) e in
+    let alike = λ (k e : ℕ) (d : g.row.E.Denot) (low : k < length old). law.meets_slots edge (get_or now k d) (get_or new k d) (meets k d low) e in
     record {
       kept = λ k d low. kept_trans (view (get_or old k d)) (view (get_or now k d)) (view (get_or new k d)) (inv.kept k d low) (kept k d low);
       same = λ k d low. law.stays_trans (get_or old k d) (get_or now k d) (get_or new k d) (inv.same k d low) (law.meets_stays edge (get_or now k d) (get_or new k d) (meets k d low));
       places = λ k e d low. alike k e d low ∙ inv.places k e d low;
       joined = λ e w d low. (
-          everywhere (λ i. i < length wires → joins (get_or new (get_or wires i w).writer d) (get_or new (get_or wires i w).reader d) i) edge
+          everywhere (λ i. i < length owners → joins (get_or new (get_or owners i w).writer d) (get_or new (get_or owners i w).reader d) i) edge
           (λ there. rw (here w) (step.joined d))
           (λ i ne there. (
-          let wire = get_or wires i w in
+          let owner = get_or owners i w in
           let hw = c.requires.writers i w there in
           let hr = c.requires.readers i w there in
-          law.join_reader (get_or new wire.writer d) (get_or now wire.reader d) (get_or new wire.reader d) edge i
-          (law.join_writer (get_or now wire.writer d) (get_or new wire.writer d) (get_or now wire.reader d) edge i (inv.joined i w d there) ne (meets wire.writer d hw))
-          ne (meets wire.reader d hr)
+          law.join_reader (get_or new owner.writer d) (get_or now owner.reader d) (get_or new owner.reader d) edge i
+          (law.join_writer (get_or now owner.writer d) (get_or new owner.writer d) (get_or now owner.reader d) edge i (inv.joined i w d there) ne (meets owner.writer d hw))
+          ne (meets owner.reader d hr)
           ))
           e low
           );
       met = λ e w d low. (
-          below_more (λ i. Met (view (get_or new (get_or wires i w).writer d)) (view (get_or new (get_or wires i w).reader d)) (places (get_or new (get_or wires i w).writer d) i) i) edge
+          below_more (λ i. Met (view (get_or new (get_or owners i w).writer d)) (view (get_or new (get_or owners i w).reader d)) (places (get_or new (get_or owners i w).writer d) i) i) edge
           (λ i below. (
-          let there : i < length wires = omega (arith, c.loop-edge-test.true) in
-          let wire = get_or wires i w in
+          let there : i < length owners = omega (arith, c.loop-edge-test.true) in
+          let owner = get_or owners i w in
           let hw = c.requires.writers i w there in
           let hr = c.requires.readers i w there in
-          rw (alike wire.writer i d hw)
-          (met_kept (view (get_or now wire.writer d)) (view (get_or new wire.writer d)) (view (get_or now wire.reader d)) (view (get_or new wire.reader d)) (places (get_or now wire.writer d) i) i
-          (inv.met i w d below) (kept wire.writer d hw) (kept wire.reader d hr))
+          rw (alike owner.writer i d hw)
+          (met_kept (view (get_or now owner.writer d)) (view (get_or new owner.writer d)) (view (get_or now owner.reader d)) (view (get_or new owner.reader d)) (places (get_or now owner.writer d) i) i
+          (inv.met i w d below) (kept owner.writer d hw) (kept owner.reader d hr))
           ))
           (rw (here w) (step.met d)) e low
           );

@@ -7,7 +7,7 @@ abbrev pub invariant-loop-edge : goal.invariant-loop-edge
 invariant-loop-edge g l = record {
   kept : (k : ℕ) (d : _) → k < length l.initial.ends → Kept (g.E.Ends.view (get_or l.initial.ends k d)) (g.E.Ends.view (get_or l.ends k d));
   same : (k : ℕ) (d : _) → k < length l.initial.ends → g.E.Meeting.stays (get_or l.initial.ends k d) (get_or l.ends k d);
-  places : (k e : ℕ) (d : _) → k < length l.initial.ends → g.E.Meeting.places (get_or l.ends k d) e ≡ g.E.Meeting.places (get_or l.initial.ends k d) e;
-  joined : (e : ℕ) (w : _) (d : _) → e < length l.wires → let wire = get_or l.wires e w in g.E.Meeting.joins (get_or l.ends wire.writer d) (get_or l.ends wire.reader d) e;
-  met : (e : ℕ) (w : _) (d : _) → e < l.edge → let wire = get_or l.wires e w in let a = get_or l.ends wire.writer d in Met (g.E.Ends.view a) (g.E.Ends.view (get_or l.ends wire.reader d)) (g.E.Meeting.places a e) e;
+  places : (k e : ℕ) (d : _) → k < length l.initial.ends → g.E.Meeting.slots (get_or l.ends k d) e ≡ g.E.Meeting.slots (get_or l.initial.ends k d) e;
+  joined : (e : ℕ) (w : _) (d : _) → e < length l.owners → let owner = get_or l.owners e w in g.E.Meeting.joins (get_or l.ends owner.writer d) (get_or l.ends owner.reader d) e;
+  met : (e : ℕ) (w : _) (d : _) → e < l.edge → let owner = get_or l.owners e w in let a = get_or l.ends owner.writer d in Met (g.E.Ends.view a) (g.E.Ends.view (get_or l.ends owner.reader d)) (g.E.Meeting.slots a e) e;
 }

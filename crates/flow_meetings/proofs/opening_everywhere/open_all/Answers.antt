@@ -2,7 +2,7 @@ use Rattle.std.proofs.Common.{◌≡◌, ◌==◌, ◌+◌, ◌<◌, ◌++◌, �
 use Rattle.std.specs.List.{All}
 use Rattle.std.proofs.lemmas.List.{take_more, length-take-le}
 use Rattle.std.proofs.lemmas.List.Elements.{All-take}
-use Rattle.flow_meetings.specs.declared.wires.Wire.{Wire}
+use Rattle.flow_meetings.specs.declared.owners.EdgeOwners.{EdgeOwners}
 use Rattle.flow_meetings.specs.Opens.{OpensAt}
 use Rattle.flow_meetings.specs.Open.{AreFreshEnds}
 use Rattle.flow_meetings.proofs.Lists.{written_back}
@@ -17,22 +17,22 @@ loop-edge-preserved g c =
     let law = g.met.E.Opening in
     let view = g.E.Ends.view in
     let joins = g.E.Meeting.joins in
-    let places = g.E.Meeting.places in
+    let places = g.E.Meeting.slots in
     let capacity = c.args.capacity in
-    let wires = c.args.wires.now in
+    let owners = c.args.owners.now in
     let n = c.loop-edge.edge in
-    let inside : n < length wires = c.loop-edge-test.true in
-    let none : Wire = record { writer = 0; reader = 0 } in
-    let wire = get_or wires n none in
+    let inside : n < length owners = c.loop-edge-test.true in
+    let none : EdgeOwners = record { writer = 0; reader = 0 } in
+    let owner = get_or owners n none in
     let items = c.loop-edge.ends.items in
     let old = c.deref_mut.result.now in
     let new = c.open_edge.new.ends in
     let value : old ≡ items = c.deref_mut.ensures.value in
     let many : length old ≡ c.args.threads = ap length value ∙ inv.count in
     let back = written_back new items c.loop-edge.ends.len (omega (arith, c.open_edge.auto.ends, ap length value)) (omega (arith, c.deref_mut.ensures.len, ap length value)) in
-    let at : length (take n wires) ≡ n = length-take-le n wires (omega (arith, inside)) in
-    let next : take (n + 1) wires ≡ take n wires ++ wire ∷ [] = take_more wires n none inside in
-    let P = λ (a : g.row.E.Denot). ((e : ℕ) → e < length wires → g.E.Opening.has_place a e capacity) in
+    let at : length (take n owners) ≡ n = length-take-le n owners (omega (arith, inside)) in
+    let next : take (n + 1) owners ≡ take n owners ++ owner ∷ [] = take_more owners n none inside in
+    let P = λ (a : g.row.E.Denot). ((e : ℕ) → e < length owners → g.E.Opening.has_place a e capacity) in
     let place = subst (All P) (sym value) inv.place in
     record {
       count = ap length back ∙ c.open_edge.auto.ends ∙ many;
@@ -40,15 +40,15 @@ loop-edge-preserved g c =
           let l : k < length old = omega (arith, low, c.open_edge.auto.ends) in
           law.opens_place n (get_or old k d) (get_or new k d) (step.opens k d l) e capacity (place k d l e h)
           ));
-      opened = subst (λ l. AreFreshEnds view joins places (take (n + 1) wires) capacity l) (sym back) (subst (λ ws. AreFreshEnds view joins places ws capacity new) (sym next) (
-          open_more view joins places capacity g.E.Opening.opens law.opens_places law.open_join_writer law.open_join_reader (take n wires) wire old new c.open_edge.auto.ends
-          (subst (All (λ w. w.writer < length old)) next (All-take (λ w. w.writer < length old) (n + 1) wires (λ k d l. omega (arith, c.requires.writers k d l, many))))
-          (subst (All (λ w. w.reader < length old)) next (All-take (λ w. w.reader < length old) (n + 1) wires (λ k d l. omega (arith, c.requires.readers k d l, many))))
+      opened = subst (λ l. AreFreshEnds view joins places (take (n + 1) owners) capacity l) (sym back) (subst (λ ws. AreFreshEnds view joins places ws capacity new) (sym next) (
+          open_more view joins places capacity g.E.Opening.opens law.opens_places law.open_join_writer law.open_join_reader (take n owners) owner old new c.open_edge.auto.ends
+          (subst (All (λ w. w.writer < length old)) next (All-take (λ w. w.writer < length old) (n + 1) owners (λ k d l. omega (arith, c.requires.writers k d l, many))))
+          (subst (All (λ w. w.reader < length old)) next (All-take (λ w. w.reader < length old) (n + 1) owners (λ k d l. omega (arith, c.requires.readers k d l, many))))
           (λ s d l. subst (λ m. g.E.Opening.opens m (get_or old s d) (get_or new s d)) (sym at) (step.opens s d l))
-          (λ s d l. subst (λ m. OpensAt m capacity (wire.writer == s) (wire.reader == s) (view (get_or old s d)) (view (get_or new s d))) (sym at) (step.fresh s d l))
-          (λ d. subst (λ m. joins (get_or new wire.writer d) (get_or new wire.reader d) m) (sym at) (step.joined d))
-          (λ d. subst (λ m. places (get_or new wire.writer d) m ≡ capacity) (sym at) (step.places d))
-          (subst (λ l. AreFreshEnds view joins places (take n wires) capacity l) (sym value) inv.opened)
+          (λ s d l. subst (λ m. OpensAt m capacity (owner.writer == s) (owner.reader == s) (view (get_or old s d)) (view (get_or new s d))) (sym at) (step.fresh s d l))
+          (λ d. subst (λ m. joins (get_or new owner.writer d) (get_or new owner.reader d) m) (sym at) (step.joined d))
+          (λ d. subst (λ m. places (get_or new owner.writer d) m ≡ capacity) (sym at) (step.places d))
+          (subst (λ l. AreFreshEnds view joins places (take n owners) capacity l) (sym value) inv.opened)
           ));
     }
 

@@ -1,7 +1,7 @@
 use Rattle.std.proofs.Common.{◌≡◌, length, map, refl, sym, ◌∙◌, ap, subst, arith}
 use Rattle.std.specs.List.{AllZip}
 use Rattle.flow_rings.specs.Rings.{Kept, SameRings, ends_of}
-use Rattle.flow_shares.specs.Lending.{body_of}
+use Rattle.flow_shares.specs.Lending.{share_nodes}
 use Rattle.flow_meetings.proofs.Lists.{mapped_twice, written_back}
 use Rattle.flow_rounds.proofs.ShareLists.{two_of_ok}
 use Rattle.flow_rounds.proofs.EpochMeets.{are_met, zip_parts}
@@ -36,6 +36,6 @@ returns g c =
     let made = c.put_together.ensures in
     two_of_ok c.put_together.result made.bodies made.ends
     (λ met bodies put.
-    are_met g.setting shares c.requires.1.1 c.args.wires.now c.requires.1.0 ends (is ∙ c.in_ok-lenders.ensures.ends) now even all.kept all.same all.places all.joined all.met refl met.items
-    (bodies ∙ sym (mapped_twice (λ share. body_of share) (λ lender. lender.share.value) lenders) ∙ ap (map (λ share. body_of share)) given)
+    are_met g.network shares c.requires.1.1 c.args.owners.now c.requires.1.0 ends (is ∙ c.in_ok-lenders.ensures.ends) now even all.kept all.same all.places all.joined all.met refl met.items
+    (bodies ∙ sym (mapped_twice (λ share. share_nodes share) (λ lender. lender.share.value) lenders) ∙ ap (map (λ share. share_nodes share)) given)
     (put ∙ back))

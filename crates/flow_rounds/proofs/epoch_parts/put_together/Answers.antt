@@ -1,7 +1,7 @@
 use Rattle.std.proofs.Common.{map, ap, arith}
 use Rattle.std.proofs.lemmas.Grind.{common_steps}
 use Rattle.flow_rings.specs.Rings.{Kept, SameRings, ends_of}
-use Rattle.flow_shares.specs.Lending.{body_of}
+use Rattle.flow_shares.specs.Lending.{share_nodes}
 use Rattle.flow_rounds.proofs.GoingOver.{nothing_made, goes_over_as, first_and_rest}
 use Rattle.flow_rounds.proofs.epoch_parts.put_together.Goals as goal
 
@@ -29,8 +29,8 @@ loop-lender-preserved g c =
     record {
       same = same.1;
       kept = kept.1;
-      bodies = goes_over_as (λ share. body_of share) made now share (map (λ lender. body_of lender.share.value) left) (map (λ lender. body_of lender.share.value) rest) (body_of lender.share.value)
-          (map (λ lender. body_of lender.share.value) c.args.lenders.items) c.push_reserved.ensures.items c.take_back.ensures.body (ap (map (λ lender. body_of lender.share.value)) is) was.bodies;
+      bodies = goes_over_as (λ share. share_nodes share) made now share (map (λ lender. share_nodes lender.share.value) left) (map (λ lender. share_nodes lender.share.value) rest) (share_nodes lender.share.value)
+          (map (λ lender. share_nodes lender.share.value) c.args.lenders.items) c.push_reserved.ensures.items c.take_back.ensures.body (ap (map (λ lender. share_nodes lender.share.value)) is) was.bodies;
       ends = goes_over_as (λ share. share.ends) made now share ends others own c.args.ends.items c.push_reserved.ensures.items c.take_back.ensures.ends are was.ends;
       room = grind (arith, common_steps);
     }

@@ -2,7 +2,7 @@ use Rattle.std.specs.Prelude.{◌≡◌, ◌+◌, ◌≤◌, ◌++◌, map, leng
 use Rattle.std.specs.List.{AllZip}
 use Rattle.std.specs.Vec.{vec_capacity}
 use Rattle.flow_rings.specs.Rings.{Kept, SameRings, ends_of}
-use Rattle.flow_shares.specs.Lending.{body_of}
+use Rattle.flow_shares.specs.Lending.{share_nodes}
 use Rattle.flow_meetings.specs.Deals.{ends_in}
 use Rattle.flow_rounds.proofs.epoch_parts.put_together.Given as goal
 
@@ -14,7 +14,7 @@ invariant-loop-lender g l =
     record {
       same : AllZip (λ lender ends. SameRings lender.share.value.ends ends) left own;
       kept : AllZip (λ lender ends. Kept (ends_of lender.share.value.ends) (ends_of ends)) left own;
-      bodies : map (λ share. body_of share) made ++ map (λ lender. body_of lender.share.value) left ≡ map (λ lender. body_of lender.share.value) l.fn.lenders.items;
+      bodies : map (λ share. share_nodes share) made ++ map (λ lender. share_nodes lender.share.value) left ≡ map (λ lender. share_nodes lender.share.value) l.fn.lenders.items;
       ends : ends_in made ++ own ≡ l.fn.ends.items;
       room : length made + length left ≤ vec_capacity l.shares;
     }

@@ -1,6 +1,6 @@
 use Rattle.std.proofs.Common.{rules}
-use Rattle.flow_meetings.specs.Open.{AreWires}
-use Rattle.flow_meetings.specs.Settings.{AreFed}
+use Rattle.flow_meetings.specs.Open.{AreOwners}
+use Rattle.flow_meetings.specs.SharedNetworks.{AreFed}
 use Rattle.flow_rounds.specs.Epochs.{AreOfOneGraph}
 use Rattle.flow_rounds.proofs.ShareLists.{fed_stay}
 use Rattle.flow_rounds.proofs.Pumps.{pumped_graph}
@@ -17,20 +17,20 @@ run_all-requires-clause-fed g c κs within =
 
 pub meet-requires-2 : goal.meet-requires-2
 meet-requires-2 g c κs within =
-    let wires : AreWires g.setting.share g.setting.edges c.args.wires.now = search rules in
-    (search rules, (wires, pumped_graph (λ a b same. same) g.setting c.in_ok-met.met.items c.in_ok-back.back.items c.in_ok-back.ensures.count c.in_ok-back.ensures.each c.in_ok-met.ensures.graph))
+    let owners : AreOwners g.network.share g.network.edges c.args.owners.now = search rules in
+    (search rules, (owners, pumped_graph (λ a b same. same) g.network c.in_ok-met.met.items c.in_ok-back.back.items c.in_ok-back.ensures.count c.in_ok-back.ensures.each c.in_ok-met.ensures.graph))
 
 pub returns-clause-epoch : goal.returns-clause-epoch
 returns-clause-epoch g c =
     let shares = c.args.shares.items in
     let mid = c.in_ok-met.met.items in
     let pumped = c.in_ok-back.back.items in
-    let graph : AreOfOneGraph g.setting shares = search rules in
+    let graph : AreOfOneGraph g.network shares = search rules in
     let first = c.in_ok-met.ensures in
     let went = c.in_ok-back.ensures in
     let laws = (g.met.T.Transducer g.world.𝓛 g.world.𝓜 g.world.𝓡 ((λ s x. x), (λ x. x), (λ x. x), λ x. x)).laws in
-    is_epoch g.setting (λ a b same. same) laws shares mid pumped c.in_ok-back-2.back.items first went.count went.each c.in_ok-back-2.ensures graph
-    (pumped_graph (λ a b same. same) g.setting mid pumped went.count went.each first.graph)
+    is_epoch g.network (λ a b same. same) laws shares mid pumped c.in_ok-back-2.back.items first went.count went.each c.in_ok-back-2.ensures graph
+    (pumped_graph (λ a b same. same) g.network mid pumped went.count went.each first.graph)
 
 -- a share with its rings may go to another thread
 pub run_all-requires-send-E : goal.run_all-requires-send-E

@@ -1,9 +1,9 @@
 use Rattle.std.proofs.Common.{◌≡◌, ◌++◌, length, take, drop, sym, ◌∙◌, ap, subst, arith, rules}
 use Rattle.flow_shares.specs.declared.error.WorkError.TheVariants.{NoThread}
 use Rattle.flow_shares.proofs.Refused.{none_refused}
-use Rattle.flow_meetings.specs.Settings.{AreFed, NoneCanStep, AreLookedAt}
+use Rattle.flow_meetings.specs.SharedNetworks.{AreFed, NoneCanStep, AreLookedAt}
 use Rattle.flow_meetings.proofs.Lists.{written_back}
-use Rattle.flow_rounds.specs.Epochs.{moved_in, AreLater, AreOfOneGraph, HaveMetAll, StandSound, StandAtRest, AreMet}
+use Rattle.flow_rounds.specs.Epochs.{moved_in, AreLater, AreOfOneGraph, SharesHaveMet, StandSound, StandAtRest, HaveMetSince}
 use Rattle.flow_rounds.proofs.ShareLists.{fed_stay}
 use Rattle.flow_rounds.proofs.EpochLooked.{looked_met}
 use Rattle.flow_rounds.proofs.Whole.{stands_sound, stands_at_rest, moved_same, met_traffic, met_later, left_falls, later_then}
@@ -11,10 +11,10 @@ use Rattle.flow_rounds.proofs.epochs.run_epochs.Goals as goal
 
 pub epochs-init : goal.epochs-init
 epochs-init g c =
-    let s = g.setting in
+    let s = g.network in
     let given = c.args.shares.items in
     let now = c.in_ok-shares.shares.items in
-    let met : AreMet s given now = c.in_ok-shares.ensures in
+    let met : HaveMetSince s given now = c.in_ok-shares.ensures in
     let graph : AreOfOneGraph s given = search rules in
     let fed : AreFed given = search rules in
     let same = moved_same s given now graph (met_traffic s given now met) in
@@ -32,116 +32,116 @@ pub epoch-requires : goal.epoch-requires
 epoch-requires g c κs within =
     let bounds = c.requires.1.1.1.1 in
     let clauses = bounds.1.1.1.1.1 in
-    let s = g.setting in
+    let s = g.network in
     let was = c.epochs.invariant in
     let items = c.epochs.shares.items in
     let now = c.are_stuck.new.shares in
     let looked = subst (λ l. AreLookedAt l now) c.deref_mut.ensures.value c.are_stuck.ensures.looked in
     let back : take c.epochs.shares.len (now ++ drop (length now) items) ≡ now = written_back now items c.epochs.shares.len looked.count (omega (arith, c.epochs.shares.ok.0)) in
-    let met : AreMet s items now = looked_met (λ a b same. same) s items now was.graph was.met looked in
+    let met : HaveMetSince s items now = looked_met (λ a b same. same) s items now was.graph was.met looked in
     let graph = subst (λ l. AreOfOneGraph s l) (sym back) met.graph in
     let fed = subst (λ l. AreFed l) (sym back) (fed_stay items now met.bodies was.fed) in
     (within.0, (within.1.0, (within.1.1.0, (within.1.1.1, (bounds.0, (bounds.1.0, (bounds.1.1.0, (bounds.1.1.1.0, (bounds.1.1.1.1.0, (clauses.0, (clauses.1.0, (clauses.1.1.0, (graph, fed)))))))))))))
 
 pub returns-then-are_stuck-clause-later : goal.returns-then-are_stuck-clause-later
 returns-then-are_stuck-clause-later g c =
-    let s = g.setting in
+    let s = g.network in
     let was = c.epochs.invariant in
     let items = c.epochs.shares.items in
     let now = c.are_stuck.new.shares in
     let looked = subst (λ l. AreLookedAt l now) c.deref_mut.ensures.value c.are_stuck.ensures.looked in
     let back : take c.epochs.shares.len (now ++ drop (length now) items) ≡ now = written_back now items c.epochs.shares.len looked.count (omega (arith, c.epochs.shares.ok.0)) in
-    let met : AreMet s items now = looked_met (λ a b same. same) s items now was.graph was.met looked in
+    let met : HaveMetSince s items now = looked_met (λ a b same. same) s items now was.graph was.met looked in
     subst (λ l. AreLater c.args.shares.items l) (sym back) (later_then c.args.shares.items items now was.later (met_later s items now met))
 
 pub returns-then-are_stuck-clause-graph : goal.returns-then-are_stuck-clause-graph
 returns-then-are_stuck-clause-graph g c =
-    let s = g.setting in
+    let s = g.network in
     let was = c.epochs.invariant in
     let items = c.epochs.shares.items in
     let now = c.are_stuck.new.shares in
     let looked = subst (λ l. AreLookedAt l now) c.deref_mut.ensures.value c.are_stuck.ensures.looked in
     let back : take c.epochs.shares.len (now ++ drop (length now) items) ≡ now = written_back now items c.epochs.shares.len looked.count (omega (arith, c.epochs.shares.ok.0)) in
-    let met : AreMet s items now = looked_met (λ a b same. same) s items now was.graph was.met looked in
+    let met : HaveMetSince s items now = looked_met (λ a b same. same) s items now was.graph was.met looked in
     subst (λ l. AreOfOneGraph s l) (sym back) met.graph
 
 pub returns-then-are_stuck-clause-met : goal.returns-then-are_stuck-clause-met
 returns-then-are_stuck-clause-met g c =
-    let s = g.setting in
+    let s = g.network in
     let was = c.epochs.invariant in
     let items = c.epochs.shares.items in
     let now = c.are_stuck.new.shares in
     let looked = subst (λ l. AreLookedAt l now) c.deref_mut.ensures.value c.are_stuck.ensures.looked in
     let back : take c.epochs.shares.len (now ++ drop (length now) items) ≡ now = written_back now items c.epochs.shares.len looked.count (omega (arith, c.epochs.shares.ok.0)) in
-    let met : AreMet s items now = looked_met (λ a b same. same) s items now was.graph was.met looked in
-    subst (λ l. HaveMetAll s l) (sym back) met.met
+    let met : HaveMetSince s items now = looked_met (λ a b same. same) s items now was.graph was.met looked in
+    subst (λ l. SharesHaveMet s l) (sym back) met.met
 
 pub returns-then-are_stuck-clause-fed : goal.returns-then-are_stuck-clause-fed
 returns-then-are_stuck-clause-fed g c =
-    let s = g.setting in
+    let s = g.network in
     let was = c.epochs.invariant in
     let items = c.epochs.shares.items in
     let now = c.are_stuck.new.shares in
     let looked = subst (λ l. AreLookedAt l now) c.deref_mut.ensures.value c.are_stuck.ensures.looked in
     let back : take c.epochs.shares.len (now ++ drop (length now) items) ≡ now = written_back now items c.epochs.shares.len looked.count (omega (arith, c.epochs.shares.ok.0)) in
-    let met : AreMet s items now = looked_met (λ a b same. same) s items now was.graph was.met looked in
+    let met : HaveMetSince s items now = looked_met (λ a b same. same) s items now was.graph was.met looked in
     subst (λ l. AreFed l) (sym back) (fed_stay items now met.bodies was.fed)
 
 pub returns-then-are_stuck-clause-sound : goal.returns-then-are_stuck-clause-sound
 returns-then-are_stuck-clause-sound g c =
-    let s = g.setting in
+    let s = g.network in
     let was = c.epochs.invariant in
     let items = c.epochs.shares.items in
     let now = c.are_stuck.new.shares in
     let looked = subst (λ l. AreLookedAt l now) c.deref_mut.ensures.value c.are_stuck.ensures.looked in
     let back : take c.epochs.shares.len (now ++ drop (length now) items) ≡ now = written_back now items c.epochs.shares.len looked.count (omega (arith, c.epochs.shares.ok.0)) in
-    let met : AreMet s items now = looked_met (λ a b same. same) s items now was.graph was.met looked in
+    let met : HaveMetSince s items now = looked_met (λ a b same. same) s items now was.graph was.met looked in
     subst (λ l. StandSound s l) (sym back) (stands_sound s now met.met (fed_stay items now met.bodies was.fed))
 
 pub returns-then-are_stuck-clause-rest : goal.returns-then-are_stuck-clause-rest
 returns-then-are_stuck-clause-rest g c =
-    let s = g.setting in
+    let s = g.network in
     let was = c.epochs.invariant in
     let items = c.epochs.shares.items in
     let now = c.are_stuck.new.shares in
     let looked = subst (λ l. AreLookedAt l now) c.deref_mut.ensures.value c.are_stuck.ensures.looked in
     let back : take c.epochs.shares.len (now ++ drop (length now) items) ≡ now = written_back now items c.epochs.shares.len looked.count (omega (arith, c.epochs.shares.ok.0)) in
-    let met : AreMet s items now = looked_met (λ a b same. same) s items now was.graph was.met looked in
+    let met : HaveMetSince s items now = looked_met (λ a b same. same) s items now was.graph was.met looked in
     subst (λ l. StandAtRest s l) (sym back) (stands_at_rest s now met.met (c.are_stuck.ensures.stuck.0 c.if-are_stuck.true))
 
 pub returns-then-are_stuck-clause-least : goal.returns-then-are_stuck-clause-least
 returns-then-are_stuck-clause-least g c =
-    let s = g.setting in
+    let s = g.network in
     let was = c.epochs.invariant in
     let items = c.epochs.shares.items in
     let now = c.are_stuck.new.shares in
     let looked = subst (λ l. AreLookedAt l now) c.deref_mut.ensures.value c.are_stuck.ensures.looked in
     let back : take c.epochs.shares.len (now ++ drop (length now) items) ≡ now = written_back now items c.epochs.shares.len looked.count (omega (arith, c.epochs.shares.ok.0)) in
-    let met : AreMet s items now = looked_met (λ a b same. same) s items now was.graph was.met looked in
+    let met : HaveMetSince s items now = looked_met (λ a b same. same) s items now was.graph was.met looked in
     let same = ap (λ l. moved_in s l) back ∙ moved_same s items now was.graph (met_traffic s items now met) in
     λ some. was.least (omega (arith, some, same))
 
 pub returns-then-are_stuck-clause-most : goal.returns-then-are_stuck-clause-most
 returns-then-are_stuck-clause-most g c =
-    let s = g.setting in
+    let s = g.network in
     let was = c.epochs.invariant in
     let items = c.epochs.shares.items in
     let now = c.are_stuck.new.shares in
     let looked = subst (λ l. AreLookedAt l now) c.deref_mut.ensures.value c.are_stuck.ensures.looked in
     let back : take c.epochs.shares.len (now ++ drop (length now) items) ≡ now = written_back now items c.epochs.shares.len looked.count (omega (arith, c.epochs.shares.ok.0)) in
-    let met : AreMet s items now = looked_met (λ a b same. same) s items now was.graph was.met looked in
+    let met : HaveMetSince s items now = looked_met (λ a b same. same) s items now was.graph was.met looked in
     let same = ap (λ l. moved_in s l) back ∙ moved_same s items now was.graph (met_traffic s items now met) in
     omega (arith, same, was.most)
 
 pub epochs-smaller : goal.epochs-smaller
 epochs-smaller g c =
-    let s = g.setting in
+    let s = g.network in
     let was = c.epochs.invariant in
     let items = c.epochs.shares.items in
     let now = c.are_stuck.new.shares in
     let looked = subst (λ l. AreLookedAt l now) c.deref_mut.ensures.value c.are_stuck.ensures.looked in
     let back : take c.epochs.shares.len (now ++ drop (length now) items) ≡ now = written_back now items c.epochs.shares.len looked.count (omega (arith, c.epochs.shares.ok.0)) in
-    let met : AreMet s items now = looked_met (λ a b same. same) s items now was.graph was.met looked in
+    let met : HaveMetSince s items now = looked_met (λ a b same. same) s items now was.graph was.met looked in
     let same = ap (λ l. moved_in s l) back ∙ moved_same s items now was.graph (met_traffic s items now met) in
     let fed = subst (λ l. AreFed l) c.deref.ensures.value (c.are_fed.ensures.0 c.if-not-are_fed.false) in
     let steps : NoneCanStep (take c.epochs.shares.len (now ++ drop (length now) items)) → ⊥ = λ none. (let no = sym (c.are_stuck.ensures.stuck.1 (subst (λ l. NoneCanStep l) back none)) ∙ c.if-are_stuck.false in cc) in
@@ -151,13 +151,13 @@ epochs-smaller g c =
 
 pub epochs-preserved : goal.epochs-preserved
 epochs-preserved g c =
-    let s = g.setting in
+    let s = g.network in
     let was = c.epochs.invariant in
     let items = c.epochs.shares.items in
     let now = c.are_stuck.new.shares in
     let looked = subst (λ l. AreLookedAt l now) c.deref_mut.ensures.value c.are_stuck.ensures.looked in
     let back : take c.epochs.shares.len (now ++ drop (length now) items) ≡ now = written_back now items c.epochs.shares.len looked.count (omega (arith, c.epochs.shares.ok.0)) in
-    let met : AreMet s items now = looked_met (λ a b same. same) s items now was.graph was.met looked in
+    let met : HaveMetSince s items now = looked_met (λ a b same. same) s items now was.graph was.met looked in
     let same = ap (λ l. moved_in s l) back ∙ moved_same s items now was.graph (met_traffic s items now met) in
     let fed = subst (λ l. AreFed l) c.deref.ensures.value (c.are_fed.ensures.0 c.if-not-are_fed.false) in
     let steps : NoneCanStep (take c.epochs.shares.len (now ++ drop (length now) items)) → ⊥ = λ none. (let no = sym (c.are_stuck.ensures.stuck.1 (subst (λ l. NoneCanStep l) back none)) ∙ c.if-are_stuck.false in cc) in

@@ -1,27 +1,27 @@
 use Rattle.std.specs.Prelude.{◌+◌, ◌-◌, ◌<◌, ◌≤◌}
-use Rattle.flow_meetings.specs.Settings.{AreFed}
-use Rattle.flow_rounds.specs.Epochs.{moved_in, AreLater, AreOfOneGraph, HaveMetAll}
+use Rattle.flow_meetings.specs.SharedNetworks.{AreFed}
+use Rattle.flow_rounds.specs.Epochs.{moved_in, AreLater, AreOfOneGraph, SharesHaveMet}
 use Rattle.flow_rounds.proofs.Whole.{most_moved}
 use Rattle.flow_rounds.proofs.epochs.run_epochs.Given as goal
 
 abbrev pub ghost-meet : goal.ghost-meet
-ghost-meet g a = g.setting
+ghost-meet g a = g.network
 
 abbrev pub ghost-epoch : goal.ghost-epoch
-ghost-epoch g a = g.setting
+ghost-epoch g a = g.network
 
 -- the shares are those that were given, later, their ends have met, and each epoch so far moved a message
 abbrev pub invariant-epochs : goal.invariant-epochs
 invariant-epochs g l = record {
   asked : g.S.Start.refused l.start → g.S.Start.refused l.fn.start;
   later : AreLater l.fn.shares.items l.shares.items;
-  graph : AreOfOneGraph g.setting l.shares.items;
-  met : HaveMetAll g.setting l.shares.items;
+  graph : AreOfOneGraph g.network l.shares.items;
+  met : SharesHaveMet g.network l.shares.items;
   fed : AreFed l.shares.items;
-  least : moved_in g.setting l.fn.shares.items < moved_in g.setting l.shares.items → 0 < l.count;
-  most : l.count + moved_in g.setting l.fn.shares.items ≤ moved_in g.setting l.shares.items;
+  least : moved_in g.network l.fn.shares.items < moved_in g.network l.shares.items → 0 < l.count;
+  most : l.count + moved_in g.network l.fn.shares.items ≤ moved_in g.network l.shares.items;
 }
 
 -- how many messages are still to be sent and received
 abbrev pub decreases-epochs : goal.decreases-epochs
-decreases-epochs g l = most_moved (g.met.T.Transducer g.world.𝓛 g.world.𝓜 g.world.𝓡 ((λ s x. x), (λ x. x), (λ x. x), λ x. x)).laws g.setting - moved_in g.setting l.shares.items
+decreases-epochs g l = most_moved (g.met.T.Transducer g.world.𝓛 g.world.𝓜 g.world.𝓡 ((λ s x. x), (λ x. x), (λ x. x), λ x. x)).laws g.network - moved_in g.network l.shares.items

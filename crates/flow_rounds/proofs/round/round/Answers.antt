@@ -1,6 +1,6 @@
 use Rattle.std.proofs.Common.{refl, subst, rules}
-use Rattle.flow_meetings.specs.Open.{AreWires}
-use Rattle.flow_meetings.specs.Settings.{AreFed}
+use Rattle.flow_meetings.specs.Open.{AreOwners}
+use Rattle.flow_meetings.specs.SharedNetworks.{AreFed}
 use Rattle.flow_rounds.specs.Standing.{StandBetweenRounds}
 use Rattle.flow_rounds.proofs.Shares.{still_linked}
 use Rattle.flow_rounds.proofs.After.{stands_after, moves_after}
@@ -8,18 +8,18 @@ use Rattle.flow_rounds.proofs.round.round.Goals as goal
 
 pub meet-requires : goal.meet-requires
 meet-requires g c =
-    let s = g.setting in
+    let s = g.network in
     let shares = c.args.shares.items in
     let back = c.in_ok-back.back.items in
     let stand : StandBetweenRounds s shares = search rules in
-    let wires : AreWires s.share s.edges c.args.wires.now = search rules in
+    let owners : AreOwners s.share s.edges c.args.owners.now = search rules in
     let fed = subst (λ l. AreFed l) c.deref.ensures.value (c.are_fed.ensures.0 c.if-not-are_fed.false) in
     let linked = still_linked refl (λ a b same. same) shares back c.in_ok-back.ensures.count c.in_ok-back.ensures.each fed s.share s.edges s.nodes s.capacity s.fit stand.deals stand.met in
-    λ κs sub. (search rules, (wires, (linked, fed)))
+    λ κs sub. (search rules, (owners, (linked, fed)))
 
 pub returns-clause-stand : goal.returns-clause-stand
 returns-clause-stand g c =
-    let s = g.setting in
+    let s = g.network in
     let shares = c.args.shares.items in
     let back = c.in_ok-back.back.items in
     let stand : StandBetweenRounds s shares = search rules in
@@ -29,7 +29,7 @@ returns-clause-stand g c =
 
 pub returns-clause-moves : goal.returns-clause-moves
 returns-clause-moves g c =
-    let s = g.setting in
+    let s = g.network in
     let shares = c.args.shares.items in
     let back = c.in_ok-back.back.items in
     let stand : StandBetweenRounds s shares = search rules in

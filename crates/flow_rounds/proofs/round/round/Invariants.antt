@@ -1,4 +1,4 @@
 use Rattle.flow_rounds.proofs.round.round.Given as goal
 
 abbrev pub ghost-meet : goal.ghost-meet
-ghost-meet g a = g.setting
+ghost-meet g a = g.network

@@ -1,7 +1,7 @@
 use Rattle.std.proofs.Common.{◌≡◌, ◌++◌, length, take, drop, refl, sym, ◌∙◌, ap, subst, arith}
 use Rattle.flow_shares.specs.declared.error.WorkError.TheVariants.{NoThread}
 use Rattle.flow_shares.proofs.Refused.{none_refused}
-use Rattle.flow_meetings.specs.Settings.{NoneCanStep, AreLookedAt}
+use Rattle.flow_meetings.specs.SharedNetworks.{NoneCanStep, AreLookedAt}
 use Rattle.flow_meetings.proofs.Lists.{written_back}
 use Rattle.flow_rounds.specs.Standing.{boxes_of, moved_in, StandBetweenRounds, RestBetweenRounds}
 use Rattle.flow_rounds.proofs.Rounds.{rests, left_falls}
@@ -13,7 +13,7 @@ pub round-requires : goal.round-requires
 round-requires g c κs within =
     let bounds = c.requires.1.1.1.1 in
     let clauses = bounds.1.1.1.1.1 in
-    let s = g.setting in
+    let s = g.network in
     let was = c.rounds.invariant in
     let items = c.rounds.shares.items in
     let now = c.are_stuck.new.shares in
@@ -25,7 +25,7 @@ round-requires g c κs within =
 
 pub returns-then-are_stuck-clause-rest : goal.returns-then-are_stuck-clause-rest
 returns-then-are_stuck-clause-rest g c =
-    let s = g.setting in
+    let s = g.network in
     let was = c.rounds.invariant in
     let items = c.rounds.shares.items in
     let now = c.are_stuck.new.shares in
@@ -37,7 +37,7 @@ returns-then-are_stuck-clause-rest g c =
 
 pub returns-then-are_stuck-clause-count : goal.returns-then-are_stuck-clause-count
 returns-then-are_stuck-clause-count g c =
-    let s = g.setting in
+    let s = g.network in
     let was = c.rounds.invariant in
     let items = c.rounds.shares.items in
     let now = c.are_stuck.new.shares in
@@ -47,7 +47,7 @@ returns-then-are_stuck-clause-count g c =
 
 pub returns-then-are_stuck-clause-least : goal.returns-then-are_stuck-clause-least
 returns-then-are_stuck-clause-least g c =
-    let s = g.setting in
+    let s = g.network in
     let was = c.rounds.invariant in
     let items = c.rounds.shares.items in
     let now = c.are_stuck.new.shares in
@@ -58,7 +58,7 @@ returns-then-are_stuck-clause-least g c =
 
 pub returns-then-are_stuck-clause-most : goal.returns-then-are_stuck-clause-most
 returns-then-are_stuck-clause-most g c =
-    let s = g.setting in
+    let s = g.network in
     let was = c.rounds.invariant in
     let items = c.rounds.shares.items in
     let now = c.are_stuck.new.shares in
@@ -69,7 +69,7 @@ returns-then-are_stuck-clause-most g c =
 
 pub rounds-smaller : goal.rounds-smaller
 rounds-smaller g c =
-    let s = g.setting in
+    let s = g.network in
     let was = c.rounds.invariant in
     let items = c.rounds.shares.items in
     let now = c.are_stuck.new.shares in
@@ -82,7 +82,7 @@ rounds-smaller g c =
 
 pub rounds-preserved : goal.rounds-preserved
 rounds-preserved g c =
-    let s = g.setting in
+    let s = g.network in
     let was = c.rounds.invariant in
     let items = c.rounds.shares.items in
     let now = c.are_stuck.new.shares in

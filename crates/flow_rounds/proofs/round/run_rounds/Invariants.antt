@@ -4,18 +4,18 @@ use Rattle.flow_rounds.proofs.Rounds.{most_moved}
 use Rattle.flow_rounds.proofs.round.run_rounds.Given as goal
 
 abbrev pub ghost-round : goal.ghost-round
-ghost-round g a = g.setting
+ghost-round g a = g.network
 
 -- the shares stand where a run led, all of them, and each round so far moved a message
 abbrev pub invariant-rounds : goal.invariant-rounds
 invariant-rounds g l = record {
   asked : g.S.Start.refused l.start → g.S.Start.refused l.fn.start;
-  stand : StandBetweenRounds g.setting l.shares.items;
+  stand : StandBetweenRounds g.network l.shares.items;
   count : length l.shares.items ≡ length l.fn.shares.items;
-  least : moved_in g.setting (boxes_of l.fn.shares.items) < moved_in g.setting (boxes_of l.shares.items) → 0 < l.count;
-  most : l.count + moved_in g.setting (boxes_of l.fn.shares.items) ≤ moved_in g.setting (boxes_of l.shares.items);
+  least : moved_in g.network (boxes_of l.fn.shares.items) < moved_in g.network (boxes_of l.shares.items) → 0 < l.count;
+  most : l.count + moved_in g.network (boxes_of l.fn.shares.items) ≤ moved_in g.network (boxes_of l.shares.items);
 }
 
 -- how many messages are still to be sent and received
 abbrev pub decreases-rounds : goal.decreases-rounds
-decreases-rounds g l = most_moved (g.met.T.Transducer g.world.𝓛 g.world.𝓜 g.world.𝓡 ((λ s x. x), (λ x. x), (λ x. x), λ x. x)).laws g.setting - moved_in g.setting (boxes_of l.shares.items)
+decreases-rounds g l = most_moved (g.met.T.Transducer g.world.𝓛 g.world.𝓜 g.world.𝓡 ((λ s x. x), (λ x. x), (λ x. x), λ x. x)).laws g.network - moved_in g.network (boxes_of l.shares.items)

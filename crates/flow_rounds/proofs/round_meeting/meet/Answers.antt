@@ -10,11 +10,11 @@ use Rattle.flow_rounds.proofs.round_meeting.meet.Goals as goal
 
 pub meet_all-requires-clause-joined : goal.meet_all-requires-clause-joined
 meet_all-requires-clause-joined g c =
-    let s = g.setting in
+    let s = g.network in
     let boxes = c.deref_mut.result.now in
     let is : boxes ≡ c.in_ok-parts.boxes.items = cc in
-    let wires = c.requires.1.0 in
-    all_join s.share s.edges c.args.wires.now wires boxes s.capacity (their_links s c.args.wires.now wires c.args.shares.items c.requires.1.1.0 boxes (is ∙ c.in_ok-parts.ensures.boxes))
+    let owners = c.requires.1.0 in
+    all_join s.share s.edges c.args.owners.now owners boxes s.capacity (their_links s c.args.owners.now owners c.args.shares.items c.requires.1.1.0 boxes (is ∙ c.in_ok-parts.ensures.boxes))
 
 pub put_together-requires : goal.put_together-requires
 put_together-requires g c =
@@ -31,7 +31,7 @@ put_together-requires g c =
 
 pub returns : goal.returns
 returns g c =
-    let s = g.setting in
+    let s = g.network in
     let shares = c.args.shares.items in
     let boxes = c.deref_mut.result.now in
     let now = c.meet_all.new.ends in
@@ -44,7 +44,7 @@ returns g c =
     let made = c.put_together.ensures in
     four_of_ok c.put_together.result made.numbers made.nodes made.boxes made.fed
     (λ met numbers nodes ends fed.
-    are_met s c.args.wires.now c.requires.1.0 shares c.requires.1.1.0 boxes (is ∙ c.in_ok-parts.ensures.boxes) now even all.kept all.places all.joined all.met met.items
+    are_met s c.args.owners.now c.requires.1.0 shares c.requires.1.1.0 boxes (is ∙ c.in_ok-parts.ensures.boxes) now even all.kept all.places all.joined all.met met.items
     (numbers ∙ sym (mapped_twice (λ share. share.number) (λ part. part.share.value) parts) ∙ ap (map (λ share. share.number)) given)
     (nodes ∙ sym (mapped_twice (λ share. share.nodes.items) (λ part. part.share.value) parts) ∙ ap (map (λ share. share.nodes.items)) given)
     (ends ∙ back) fed)

@@ -1,7 +1,7 @@
 use Rattle.std.proofs.Common.{◌<◌, ◌≤◌, subst, arith}
 use Rattle.snesl_operators.specs.declared.scalar.Scalar.TheVariants.{Bool as Truth}
 use Rattle.flow_messages.specs.Ends.{PutAll}
-use Rattle.flow_messages.specs.Blocks.{units_said}
+use Rattle.flow_messages.specs.Blocks.{unit_signals}
 use Rattle.flow_base.proofs.Carried.{same_ends_refl, same_ends_then}
 use Rattle.flow_base.proofs.Batches.{take_units, length_units, skipped}
 use Rattle.flow_folds.specs.Scalars.{cell_of_scalar}
@@ -41,7 +41,7 @@ loop-block-preserved g c =
     let shown : count ≤ c.units.result = omega (arith, c.min.ensures, c.min-in-loop-block.ensures, c.min-count.ensures) in
     let block : count ≤ 64 = omega (arith, c.min-count.ensures) in
     let some : 0 < count = omega (arith, c.if-count-eq0.false) in
-    let taken = skipped count (units_said c.units.result) (units_said count) u from x c.units.ensures (omega (arith, shown, length_units c.units.result)) (take_units count c.units.result shown) c.skip.ensures.taken in
+    let taken = skipped count (unit_signals c.units.result) (unit_signals count) u from x c.units.ensures (omega (arith, shown, length_units c.units.result)) (take_units count c.units.result shown) c.skip.ensures.taken in
     let put : PutAll x to (copies (cell_of_scalar k) count) w = subst (λ l. PutAll x to l w) (block_flags c.args.truth count 64 block) c.put_flags.ensures.put in
     let E = g.met.E.Ends in
     record {

@@ -2,7 +2,7 @@ use Rattle.std.proofs.Common.{◌≡◌, ◌<◌, ◌≤◌, length, take, repli
 use mir.Syntax.{w64}
 use Rattle.snesl_operators.specs.declared.scalar.Scalar.TheVariants.{Int}
 use Rattle.flow_messages.specs.Ends.{PutAll}
-use Rattle.flow_messages.specs.Blocks.{units_said, ints_said}
+use Rattle.flow_messages.specs.Blocks.{unit_signals, int_signals}
 use Rattle.flow_base.proofs.Carried.{same_ends_refl, same_ends_then}
 use Rattle.flow_base.proofs.Batches.{take_units, length_units, skipped}
 use Rattle.flow_scalar.specs.ConstCopies.{WrittenFor}
@@ -49,10 +49,10 @@ rounds-preserved g c =
     let many = length c.args.copies.now in
     let block : count ≤ many = omega (arith, c.min-count.ensures) in
     let some : 0 < count = omega (arith, c.if-count-eq0.false) in
-    let taken = skipped count (units_said c.units.result) (units_said count) u from x c.units.ensures (omega (arith, shown, length_units c.units.result)) (take_units count c.units.result shown) c.skip.ensures.taken in
+    let taken = skipped count (unit_signals c.units.result) (unit_signals count) u from x c.units.ensures (omega (arith, shown, length_units c.units.result)) (take_units count c.units.result shown) c.skip.ensures.taken in
     let kept = to_z w64 (of_z w64 number) in
     let back : kept ≡ number = search rules in
-    let all = subst (λ l. PutAll x to (ints_said (take count l)) w) (c.requires.copies ∙ ap (replicate many) (sym back)) c.put_ints.ensures.put in
+    let all = subst (λ l. PutAll x to (int_signals (take count l)) w) (c.requires.copies ∙ ap (replicate many) (sym back)) c.put_ints.ensures.put in
     let put : PutAll x to (copies (cell_of_scalar k) count) w = subst (λ l. PutAll x to l w) (block_ints kept count many block) all in
     let E = g.met.E.Ends in
     record {

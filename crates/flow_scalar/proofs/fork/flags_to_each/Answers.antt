@@ -2,7 +2,7 @@ use Rattle.std.proofs.Common.{◌≡◌, ◌+◌, ◌*◌, ◌<◌, ◌≤◌, l
 use Rattle.std.proofs.lemmas.List.{length-take-le}
 use Rattle.flow_messages.specs.Cells.{flag, is_of}
 use Rattle.flow_messages.specs.Ends.{TakenAll}
-use Rattle.flow_messages.specs.Blocks.{flags_said}
+use Rattle.flow_messages.specs.Blocks.{flag_signals}
 use Rattle.flow_base.proofs.Batches.{ended_flags, take_flags, length_flags, skipped}
 use Rattle.flow_scalar.specs.ForkCopies.{PutOnEach}
 use Rattle.flow_scalar.proofs.ForkBlocks.{Copies, copies_flags, copies_went, copied_none, filled}
@@ -24,9 +24,9 @@ returns-clause-copied g c = λ ins there is p kind counts at.
     let block = take count shown in
     let within : count ≤ length shown = omega (arith, c.min.ensures, c.min-count.ensures) in
     let long : length block ≡ count = length-take-le count shown within in
-    let taken = skipped count (flags_said shown) (flags_said block) a c.args.from u c.flags-shown.ensures (omega (arith, within, length_flags shown)) (take_flags count shown) c.skip.ensures.taken in
-    let here = subst (λ e. TakenAll a e (flags_said block) u) (sym is) taken in
+    let taken = skipped count (flag_signals shown) (flag_signals block) a c.args.from u c.flags-shown.ensures (omega (arith, within, length_flags shown)) (take_flags count shown) c.skip.ensures.taken in
+    let here = subst (λ e. TakenAll a e (flag_signals block) u) (sym is) taken in
     let some : 0 < (length outs + 1) * count = grind (arith, c.if-count-eq0.false) in
-    let copies = subst (λ n. Copies ins outs p at (flags_said block) ((length outs + 1) * n)) long (copies_flags ins outs p at c.requires.rise counts (λ b. ap (λ k. is_of k (flag b)) kind) block) in
-    let put : PutOnEach outs (length outs) (flags_said block) u w = subst (λ l. PutOnEach outs (length outs) (flags_said l) u w) (filled count shown _ c.copy_from_slice.new.self within c.copy_from_slice.ensures.after) c.put_flags_on_each.ensures.put in
-    copies_went ins outs p at (flags_said block) ((length outs + 1) * count) there copies some (ended_flags block) a u w here put
+    let copies = subst (λ n. Copies ins outs p at (flag_signals block) ((length outs + 1) * n)) long (copies_flags ins outs p at c.requires.rise counts (λ b. ap (λ k. is_of k (flag b)) kind) block) in
+    let put : PutOnEach outs (length outs) (flag_signals block) u w = subst (λ l. PutOnEach outs (length outs) (flag_signals l) u w) (filled count shown _ c.copy_from_slice.new.self within c.copy_from_slice.ensures.after) c.put_flags_on_each.ensures.put in
+    copies_went ins outs p at (flag_signals block) ((length outs + 1) * count) there copies some (ended_flags block) a u w here put

@@ -1,6 +1,6 @@
 use Rattle.std.proofs.Common.{◌≡◌, true, ◌∙◌, arith}
 use Rattle.std.proofs.lemmas.List.Elements.{All-get_or}
-use Rattle.flow_messages.specs.Blocks.{flags_said}
+use Rattle.flow_messages.specs.Blocks.{flag_signals}
 use Rattle.flow_base.proofs.Batches.{ended_flags}
 use Rattle.flow_scalar.proofs.ForkBlocks.{put_on_none, put_on_more}
 use Rattle.flow_scalar.proofs.fork.put_flags_on_each.Goals as goal
@@ -8,7 +8,7 @@ use Rattle.flow_scalar.proofs.fork.put_flags_on_each.Goals as goal
 pub loop-port-init : goal.loop-port-init
 loop-port-init g c = record {
   same = g.met.E.Ends.same_refl c.args.ends.now;
-  put = put_on_none c.args.outputs.now (flags_said c.args.flags.now) (g.E.Ends.view c.args.ends.now);
+  put = put_on_none c.args.outputs.now (flag_signals c.args.flags.now) (g.E.Ends.view c.args.ends.now);
 }
 
 pub put_flags-requires-clause-writes : goal.put_flags-requires-clause-writes
@@ -26,5 +26,5 @@ loop-port-preserved g c =
     let w = view c.put_flags.new.self in
     record {
       same = g.met.E.Ends.same_trans c.args.ends.now c.loop-port.ends c.put_flags.new.self c.loop-port.invariant.same c.put_flags.ensures.same;
-      put = put_on_more c.args.outputs.now (flags_said c.args.flags.now) c.requires.rise (ended_flags c.args.flags.now) c.loop-port.port c.loop-port-test.true (view c.args.ends.now) v w c.loop-port.invariant.put c.put_flags.ensures.put;
+      put = put_on_more c.args.outputs.now (flag_signals c.args.flags.now) c.requires.rise (ended_flags c.args.flags.now) c.loop-port.port c.loop-port-test.true (view c.args.ends.now) v w c.loop-port.invariant.put c.put_flags.ensures.put;
     }

@@ -1,6 +1,6 @@
 use Rattle.std.proofs.Common.{◌≡◌, true, ◌∙◌, arith}
 use Rattle.std.proofs.lemmas.List.Elements.{All-get_or}
-use Rattle.flow_messages.specs.Blocks.{ints_said}
+use Rattle.flow_messages.specs.Blocks.{int_signals}
 use Rattle.flow_base.proofs.Batches.{ended_ints}
 use Rattle.flow_scalar.proofs.ForkBlocks.{put_on_none, put_on_more}
 use Rattle.flow_scalar.proofs.fork.put_ints_on_each.Goals as goal
@@ -8,7 +8,7 @@ use Rattle.flow_scalar.proofs.fork.put_ints_on_each.Goals as goal
 pub loop-port-init : goal.loop-port-init
 loop-port-init g c = record {
   same = g.met.E.Ends.same_refl c.args.ends.now;
-  put = put_on_none c.args.outputs.now (ints_said c.args.ints.now) (g.E.Ends.view c.args.ends.now);
+  put = put_on_none c.args.outputs.now (int_signals c.args.ints.now) (g.E.Ends.view c.args.ends.now);
 }
 
 pub put_ints-requires-clause-writes : goal.put_ints-requires-clause-writes
@@ -26,5 +26,5 @@ loop-port-preserved g c =
     let w = view c.put_ints.new.self in
     record {
       same = g.met.E.Ends.same_trans c.args.ends.now c.loop-port.ends c.put_ints.new.self c.loop-port.invariant.same c.put_ints.ensures.same;
-      put = put_on_more c.args.outputs.now (ints_said c.args.ints.now) c.requires.rise (ended_ints c.args.ints.now) c.loop-port.port c.loop-port-test.true (view c.args.ends.now) v w c.loop-port.invariant.put c.put_ints.ensures.put;
+      put = put_on_more c.args.outputs.now (int_signals c.args.ints.now) c.requires.rise (ended_ints c.args.ints.now) c.loop-port.port c.loop-port-test.true (view c.args.ends.now) v w c.loop-port.invariant.put c.put_ints.ensures.put;
     }

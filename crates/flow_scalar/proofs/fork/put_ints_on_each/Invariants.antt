@@ -1,4 +1,4 @@
-use Rattle.flow_messages.specs.Blocks.{ints_said}
+use Rattle.flow_messages.specs.Blocks.{int_signals}
 use Rattle.flow_scalar.specs.ForkCopies.{PutOnEach}
 use Rattle.flow_scalar.proofs.fork.put_ints_on_each.Given as goal
 
@@ -6,5 +6,5 @@ use Rattle.flow_scalar.proofs.fork.put_ints_on_each.Given as goal
 abbrev pub invariant-loop-port : goal.invariant-loop-port
 invariant-loop-port g l = let view = g.E.Ends.view in record {
   same : g.E.Ends.same l.fn.ends l.ends;
-  put : PutOnEach l.outputs l.port (ints_said l.ints) (view l.fn.ends) (view l.ends);
+  put : PutOnEach l.outputs l.port (int_signals l.ints) (view l.fn.ends) (view l.ends);
 }

@@ -1,6 +1,6 @@
 use Rattle.std.proofs.Common.{◌≡◌, true, ◌∙◌, arith}
 use Rattle.std.proofs.lemmas.List.Elements.{All-get_or}
-use Rattle.flow_messages.specs.Blocks.{units_said}
+use Rattle.flow_messages.specs.Blocks.{unit_signals}
 use Rattle.flow_base.proofs.Batches.{ended_units}
 use Rattle.flow_scalar.proofs.ForkBlocks.{put_on_none, put_on_more}
 use Rattle.flow_scalar.proofs.fork.put_units_on_each.Goals as goal
@@ -8,7 +8,7 @@ use Rattle.flow_scalar.proofs.fork.put_units_on_each.Goals as goal
 pub loop-port-init : goal.loop-port-init
 loop-port-init g c = record {
   same = g.met.E.Ends.same_refl c.args.ends.now;
-  put = put_on_none c.args.outputs.now (units_said c.args.count) (g.E.Ends.view c.args.ends.now);
+  put = put_on_none c.args.outputs.now (unit_signals c.args.count) (g.E.Ends.view c.args.ends.now);
 }
 
 pub put_units-requires-clause-writes : goal.put_units-requires-clause-writes
@@ -26,5 +26,5 @@ loop-port-preserved g c =
     let w = view c.put_units.new.self in
     record {
       same = g.met.E.Ends.same_trans c.args.ends.now c.loop-port.ends c.put_units.new.self c.loop-port.invariant.same c.put_units.ensures.same;
-      put = put_on_more c.args.outputs.now (units_said c.args.count) c.requires.rise (ended_units c.args.count) c.loop-port.port c.loop-port-test.true (view c.args.ends.now) v w c.loop-port.invariant.put c.put_units.ensures.put;
+      put = put_on_more c.args.outputs.now (unit_signals c.args.count) c.requires.rise (ended_units c.args.count) c.loop-port.port c.loop-port-test.true (view c.args.ends.now) v w c.loop-port.invariant.put c.put_units.ensures.put;
     }

@@ -1,4 +1,4 @@
-use Rattle.flow_messages.specs.Blocks.{units_said}
+use Rattle.flow_messages.specs.Blocks.{unit_signals}
 use Rattle.flow_scalar.specs.ForkCopies.{PutOnEach}
 use Rattle.flow_scalar.proofs.fork.put_units_on_each.Given as goal
 
@@ -6,5 +6,5 @@ use Rattle.flow_scalar.proofs.fork.put_units_on_each.Given as goal
 abbrev pub invariant-loop-port : goal.invariant-loop-port
 invariant-loop-port g l = let view = g.E.Ends.view in record {
   same : g.E.Ends.same l.fn.ends l.ends;
-  put : PutOnEach l.outputs l.port (units_said l.count) (view l.fn.ends) (view l.ends);
+  put : PutOnEach l.outputs l.port (unit_signals l.count) (view l.fn.ends) (view l.ends);
 }

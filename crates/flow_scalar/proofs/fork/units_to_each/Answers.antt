@@ -1,7 +1,7 @@
 use Rattle.std.proofs.Common.{◌+◌, ◌*◌, ◌<◌, ◌≤◌, length, sym, ap, subst, arith}
 use Rattle.flow_messages.specs.Cells.{unit, is_of}
 use Rattle.flow_messages.specs.Ends.{TakenAll}
-use Rattle.flow_messages.specs.Blocks.{units_said}
+use Rattle.flow_messages.specs.Blocks.{unit_signals}
 use Rattle.flow_base.proofs.Batches.{ended_units, take_units, length_units, skipped}
 use Rattle.flow_scalar.proofs.ForkBlocks.{copies_units, copies_went, copied_none}
 use Rattle.flow_scalar.proofs.fork.units_to_each.Goals as goal
@@ -20,8 +20,8 @@ returns-clause-copied g c = λ ins there is p kind counts at.
     let shown = c.units.result in
     let count = c.min-count.result in
     let within : count ≤ shown = omega (arith, c.min-count.ensures) in
-    let taken = skipped count (units_said shown) (units_said count) a c.args.from u c.units.ensures (omega (arith, within, length_units shown)) (take_units count shown within) c.skip.ensures.taken in
-    let here = subst (λ e. TakenAll a e (units_said count) u) (sym is) taken in
+    let taken = skipped count (unit_signals shown) (unit_signals count) a c.args.from u c.units.ensures (omega (arith, within, length_units shown)) (take_units count shown within) c.skip.ensures.taken in
+    let here = subst (λ e. TakenAll a e (unit_signals count) u) (sym is) taken in
     let some : 0 < (length outs + 1) * count = grind (arith, c.if-count-eq0.false) in
     let copies = copies_units ins outs p at c.requires.rise counts (ap (λ k. is_of k unit) kind) count in
-    copies_went ins outs p at (units_said count) ((length outs + 1) * count) there copies some (ended_units count) a u w here c.put_units_on_each.ensures.put
+    copies_went ins outs p at (unit_signals count) ((length outs + 1) * count) there copies some (ended_units count) a u w here c.put_units_on_each.ensures.put

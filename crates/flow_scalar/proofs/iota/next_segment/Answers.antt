@@ -7,7 +7,7 @@ use Rattle.std.proofs.lemmas.Int.{ints, to_z-of_z}
 use mathlib.Core.List.{IsPrefix}
 use Rattle.flow_messages.specs.Cells.{flag, int}
 use Rattle.flow_messages.specs.Ends.{TakenAll}
-use Rattle.flow_messages.specs.Blocks.{ints_said}
+use Rattle.flow_messages.specs.Blocks.{int_signals}
 use Rattle.flow_messages.specs.Signals.{carry}
 use Rattle.flow_base.specs.Nodes.{behaviour_of}
 use Rattle.flow_base.specs.Visits.{edge_of, Went}
@@ -57,8 +57,8 @@ returns-clause-went g c = λ at.
     let count = to_z w128 (of_z w128 narrow) in
     let back : count ≡ first = widened first fits in
     let natural : pos 0 ≤ℤ count = subst (λ (k : ℤ). pos 0 ≤ℤ k) (to_z-of_z w64 first fits ∙ sym back) natural_narrow in
-    let still = subst (IsPrefix (ints_said c.ints.result.now)) (sym (c.space.ensures.looked.coming from)) c.ints.ensures in
-    let seen = prefix_then (ints_said c.ints.result.now) (v.coming from) (u.coming from) still (coming_still v u (edge_of outs 0) from (carry (flag true) ∷ []) c.put_flags.ensures.put) in
+    let still = subst (IsPrefix (int_signals c.ints.result.now)) (sym (c.space.ensures.looked.coming from)) c.ints.ensures in
+    let seen = prefix_then (int_signals c.ints.result.now) (v.coming from) (u.coming from) still (coming_still v u (edge_of outs 0) from (carry (flag true) ∷ []) c.put_flags.ensures.put) in
     let one : take 1 (u.coming from) ≡ carry (int count) ∷ [] = first_shown c.ints.result.now (u.coming from) c.in-len1-up.len_at_least seen ∙ ap (λ k. carry (int k) ∷ []) (sym back) in
     let taken = subst (λ ms. TakenAll u from ms w) one c.skip.ensures.taken in
     segment_went ins outs (omega (arith, c.requires.wired.each_input)) (omega (arith, c.requires.wired.each_output)) at c.args.next c.args.end count test natural a v u w looked c.put_flags.ensures.put taken

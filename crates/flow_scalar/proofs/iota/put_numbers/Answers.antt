@@ -3,7 +3,7 @@ use Rattle.std.specs.Int.{w64, w128}
 use Rattle.std.proofs.lemmas.Int.{ints, to_z-of_z}
 use mir.Val.{SFits}
 use Rattle.flow_messages.specs.Ends.{PutAll}
-use Rattle.flow_messages.specs.Blocks.{flags_said, ints_said}
+use Rattle.flow_messages.specs.Blocks.{flag_signals, int_signals}
 use Rattle.flow_base.specs.Nodes.{behaviour_of}
 use Rattle.flow_base.specs.Visits.{edge_of, Went}
 use Rattle.flow_base.proofs.Carried.{same_ends_then}
@@ -75,6 +75,6 @@ returns-clause-went g c = λ ins at.
     let filled : (k : ℕ) → k < n → get_or c.fill.new.block k (pos 0) ≡ c.args.next +ℤ pos k = λ k h. c.fill.ensures k h ∙ ap (λ q. q +ℤ pos k) first_is in
     let within : n ≤ 64 = omega (arith, c.numbers_left.ensures.block) in
     let block : take n c.fill.new.block ≡ numbers_block c.args.next n = filled_block c.args.next n c.fill.new.block (omega arith) filled in
-    let flagged = subst (λ bs. PutAll (view c.space-2.new.self) (edge_of outs 0) (flags_said bs) u) (elements_are n 64 within) c.put_flags.ensures.put in
-    let numbered = subst (λ ns. PutAll u (edge_of outs 1) (ints_said ns) w) block c.put_ints.ensures.put in
+    let flagged = subst (λ bs. PutAll (view c.space-2.new.self) (edge_of outs 0) (flag_signals bs) u) (elements_are n 64 within) c.put_flags.ensures.put in
+    let numbered = subst (λ ns. PutAll u (edge_of outs 1) (int_signals ns) w) block c.put_ints.ensures.put in
     numbers_went ins outs c.requires.apart (omega (arith, c.requires.two)) at c.args.end n c.args.next fits some a (view c.space-2.new.self) u w looked flagged numbered

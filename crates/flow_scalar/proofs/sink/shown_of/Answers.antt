@@ -1,12 +1,12 @@
 use Rattle.std.proofs.Common.{subst, sym}
-use Rattle.flow_messages.specs.Blocks.{units_said, flags_said, ints_said}
+use Rattle.flow_messages.specs.Blocks.{unit_signals, flag_signals, int_signals}
 use Rattle.flow_base.proofs.Batches.{length_units, length_flags, length_ints}
 use Rattle.flow_scalar.specs.SinkShown.{EachFits}
 use Rattle.flow_scalar.proofs.SinkBlocks.{fit_units, fit_flags, fit_ints}
 use Rattle.flow_scalar.proofs.sink.shown_of.Goals as goal
 
 pub returns-in-Unit : goal.returns-in-Unit
-returns-in-Unit g c = let block = units_said c.units.result in record {
+returns-in-Unit g c = let block = unit_signals c.units.result in record {
   block = block;
   first = c.units.ensures;
   long = length_units c.units.result;
@@ -14,7 +14,7 @@ returns-in-Unit g c = let block = units_said c.units.result in record {
 }
 
 pub returns-in-Bool : goal.returns-in-Bool
-returns-in-Bool g c = let block = flags_said c.flags.result.now in record {
+returns-in-Bool g c = let block = flag_signals c.flags.result.now in record {
   block = block;
   first = c.flags.ensures;
   long = length_flags c.flags.result.now;
@@ -22,7 +22,7 @@ returns-in-Bool g c = let block = flags_said c.flags.result.now in record {
 }
 
 pub returns-in-Int : goal.returns-in-Int
-returns-in-Int g c = let block = ints_said c.ints.result.now in record {
+returns-in-Int g c = let block = int_signals c.ints.result.now in record {
   block = block;
   first = c.ints.ensures;
   long = length_ints c.ints.result.now;

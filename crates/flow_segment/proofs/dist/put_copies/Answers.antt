@@ -6,7 +6,7 @@ use Rattle.std.specs.Prelude.{replicate}
 use Rattle.std.proofs.lemmas.List.{take-replicate, take_all, length-take-le}
 use Rattle.flow_messages.specs.Cells.{cell_of, flag}
 use Rattle.flow_messages.specs.Ends.{PutAll}
-use Rattle.flow_messages.specs.Blocks.{flags_said, ints_said}
+use Rattle.flow_messages.specs.Blocks.{flag_signals, int_signals}
 use Rattle.flow_messages.specs.Signals.{carry}
 use Rattle.flow_segment.proofs.DistBlocks.{same_block, flags_same, ints_same}
 use Rattle.flow_segment.proofs.dist.put_copies.Goals as goal
@@ -14,13 +14,13 @@ use Rattle.flow_segment.proofs.dist.put_copies.Goals as goal
 pub returns-then-truth-clause-put : goal.returns-then-truth-clause-put
 returns-then-truth-clause-put g c =
     let n = c.args.count in
-    let says : flags_said (take n (replicate 64 true)) ≡ replicate n (carry (cell_of c.args.item.now)) = ap flags_said (take-replicate n 64 true c.requires.block) ∙ flags_same n true ∙ ap (λ b. replicate n (carry (flag b))) (sym c.if-truth.true) ∙ ap (λ i. replicate n (carry (cell_of i))) (sym c.in-Bool.is) in
+    let says : flag_signals (take n (replicate 64 true)) ≡ replicate n (carry (cell_of c.args.item.now)) = ap flag_signals (take-replicate n 64 true c.requires.block) ∙ flags_same n true ∙ ap (λ b. replicate n (carry (flag b))) (sym c.if-truth.true) ∙ ap (λ i. replicate n (carry (cell_of i))) (sym c.in-Bool.is) in
     subst (λ ms. PutAll (g.E.Ends.view c.args.ends.now) c.args.to ms (g.E.Ends.view c.put_flags.new.self)) says c.put_flags.ensures.put
 
 pub returns-else-truth-clause-put : goal.returns-else-truth-clause-put
 returns-else-truth-clause-put g c =
     let n = c.args.count in
-    let says : flags_said (take n (replicate 64 false)) ≡ replicate n (carry (cell_of c.args.item.now)) = ap flags_said (take-replicate n 64 false c.requires.block) ∙ flags_same n false ∙ ap (λ b. replicate n (carry (flag b))) (sym c.if-truth.false) ∙ ap (λ i. replicate n (carry (cell_of i))) (sym c.in-Bool.is) in
+    let says : flag_signals (take n (replicate 64 false)) ≡ replicate n (carry (cell_of c.args.item.now)) = ap flag_signals (take-replicate n 64 false c.requires.block) ∙ flags_same n false ∙ ap (λ b. replicate n (carry (flag b))) (sym c.if-truth.false) ∙ ap (λ i. replicate n (carry (cell_of i))) (sym c.in-Bool.is) in
     subst (λ ms. PutAll (g.E.Ends.view c.args.ends.now) c.args.to ms (g.E.Ends.view c.put_flags-else-truth.new.self)) says c.put_flags-else-truth.ensures.put
 
 pub returns-in-Ok-clause-put : goal.returns-in-Ok-clause-put
@@ -36,5 +36,5 @@ returns-in-Ok-clause-put g c =
     let long : length xs ≡ n = c.fill.ensures.length ∙ part in
     let filled : (k : ℕ) → k < n → get_or xs k (pos 0) ≡ v = λ k h. c.fill.ensures.filled k (omega arith) ∙ back in
     let same : xs ≡ replicate n v = sym (take_all n xs (omega arith)) ∙ same_block v (pos 0) n xs (omega arith) filled in
-    let says : ints_said xs ≡ replicate n (carry (cell_of c.args.item.now)) = ap ints_said same ∙ ints_same n v ∙ ap (λ i. replicate n (carry (cell_of i))) (sym c.in-Int.is) in
+    let says : int_signals xs ≡ replicate n (carry (cell_of c.args.item.now)) = ap int_signals same ∙ ints_same n v ∙ ap (λ i. replicate n (carry (cell_of i))) (sym c.in-Int.is) in
     subst (λ ms. PutAll (g.E.Ends.view c.args.ends.now) c.args.to ms (g.E.Ends.view c.put_ints.new.self)) says c.put_ints.ensures.put

@@ -2,7 +2,7 @@ use Rattle.std.proofs.Common.{◌≡◌, ◌<◌, ◌+◌, ℕ, Bool, List, leng
 use Rattle.std.proofs.lemmas.List.{length-set}
 use Rattle.kahn.specs.declared.want.Want.TheVariants.{Read}
 use Rattle.flow_messages.specs.Cells.{flag}
-use Rattle.flow_base.specs.Machines.{on_flag, begins, takes, gives, ask_of, given_of}
+use Rattle.flow_base.specs.Machines.{on_flag, begins, takes, gives, ask_of, state_after_read}
 use Rattle.flow_base.specs.Nodes.{want_for}
 use Rattle.flow_segment.specs.FlagBlocks.{RunsOver}
 use Rattle.flow_segment.specs.declared.over_flags.Ran.{Ran}
@@ -42,7 +42,7 @@ loop-preserved g c =
           let k = on_flag w.in-Begin.at_f w.in-Begin.at_t in
           let is : begins k ≡ t.move ran.stage = w.in-Begin.ensures in
           let shown = w.in-Some.ensures in
-          let run = next_first t s xs ys zs ran.first ran.second ran.written ran.stage w.in-Some.next inv.ran k shown.shown (sym (ap (λ m. want_for (ask_of m)) is)) (λ y. sym (ap (λ m. given_of m y) is)) shown.leads in
+          let run = next_first t s xs ys zs ran.first ran.second ran.written ran.stage w.in-Some.next inv.ran k shown.shown (sym (ap (λ m. want_for (ask_of m)) is)) (λ y. sym (ap (λ m. state_after_read m y) is)) shown.leads in
           record {
             counted = omega (arith, inv.counted, ap first w.ran-is, ap second w.ran-is, ap written w.ran-is);
             first = omega (arith, shown.shown, ap first w.ran-is);
@@ -59,7 +59,7 @@ loop-preserved g c =
           let wants = sym (ap (λ m. want_for (ask_of m)) is) ∙ ap Read it.field-0-test in
           let next = w.in-Some-stage_after.next in
           let shown = w.in-Some-stage_after.ensures in
-          let run = next_first t s xs ys zs ran.first ran.second ran.written ran.stage next inv.ran k shown.shown wants (λ y. sym (ap (λ m. given_of m y) is)) shown.leads in
+          let run = next_first t s xs ys zs ran.first ran.second ran.written ran.stage next inv.ran k shown.shown wants (λ y. sym (ap (λ m. state_after_read m y) is)) shown.leads in
           record {
             counted = omega (arith, inv.counted, ap first w.ran-is, ap second w.ran-is, ap written w.ran-is);
             first = omega (arith, shown.shown, ap first w.ran-is);
@@ -77,7 +77,7 @@ loop-preserved g c =
           let next = w.in-Some-stage_after-2.next in
           let shown = w.in-Some-stage_after-2.ensures in
           let there : it.field-0 < t.inputs = input_there t g.S.Stage.laws ran.stage it.field-0 k is in
-          let run = next_second t s xs ys zs ran.first ran.second ran.written ran.stage next inv.ran k shown.shown wants (λ y. sym (ap (λ m. given_of m y) is)) shown.leads in
+          let run = next_second t s xs ys zs ran.first ran.second ran.written ran.stage next inv.ran k shown.shown wants (λ y. sym (ap (λ m. state_after_read m y) is)) shown.leads in
           record {
             counted = omega (arith, inv.counted, ap first w.ran-is, ap second w.ran-is, ap written w.ran-is);
             first = omega (arith, inv.first, ap first w.ran-is);

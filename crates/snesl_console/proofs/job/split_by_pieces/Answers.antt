@@ -3,7 +3,7 @@ use Rattle.snesl_console.proofs.Streaming.{rest_is}
 use Rattle.snesl_console.proofs.job.split_by_pieces.Goals as goal
 use Rattle.snesl_console.specs.Beginnings.{IsParted, IsScanned, IsUndecided}
 use Rattle.snesl_console.specs.Parts.{AreParts}
-use Rattle.snesl_console.specs.Streams.{given}
+use Rattle.snesl_console.specs.Streams.{read_effect}
 use Rattle.std.proofs.Common.{[], ap, arith, drop, length, subst, take, ◌+◌, ◌++◌, ◌≡◌, ◌∙◌}
 
 pub returns-in_err-read_input-in-Parted : goal.returns-in_err-read_input-in-Parted
@@ -11,7 +11,7 @@ returns-in_err-read_input-in-Parted g c =
     let remaining = g.R.Read.remaining in
     let held = c.loop-program.invariant in
     let parted = subst (λ l. IsParted l c.in-Parted.program c.in-Parted.input) c.deref.ensures.value c.in-Parted.ensures in
-    passed_on (given remaining c.args.job.now c.read_input.new.job) c.from_residual-in_err-read_input-in-Parted.result c.in_err-read_input-in-Parted.field-0.0
+    passed_on (read_effect remaining c.args.job.now c.read_input.new.job) c.from_residual-in_err-read_input-in-Parted.result c.in_err-read_input-in-Parted.field-0.0
     c.from_residual-in_err-read_input-in-Parted.ensures.1
     (input_broken remaining c.args.job.now c.loop-program.job c.loop-program.bytes.items held.taken held.count c.read_input.new.job
     c.in-Parted.program c.in-Parted.input parted held.few (Unit {0}) c.in_ok-text-in-Parted.text.items c.read_input.new.text.items c.in_err-read_input-in-Parted.field-0.0
@@ -39,7 +39,7 @@ returns-in_err-read_more g c =
     let remaining = g.R.Read.remaining in
     let held = c.loop-program.invariant in
     let open_so_far = subst (λ l. IsUndecided l c.in-Open.last) c.deref.ensures.value c.in-Open.ensures in
-    passed_on (given remaining c.args.job.now c.read_more.new.job) c.from_residual-in_err-read_more.result c.in_err-read_more.field-0.0
+    passed_on (read_effect remaining c.args.job.now c.read_more.new.job) c.from_residual-in_err-read_more.result c.in_err-read_more.field-0.0
     c.from_residual-in_err-read_more.ensures.1
     (call_failed remaining c.args.job.now c.loop-program.job c.loop-program.bytes.items held.taken held.count c.read_more.new.job
     c.in-Open.last (c.saturating_sub-room.result + 1) open_so_far (omega (arith, c.saturating_sub-room.ensures, c.len-seen.ensures))

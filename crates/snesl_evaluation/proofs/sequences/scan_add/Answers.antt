@@ -5,7 +5,7 @@ use mir.Syntax.{w128}
 use Rattle.snesl_data.specs.declared.datum.Datum.{Datum}
 use Rattle.snesl_data.specs.Values.{an_int, value_of}
 use Rattle.snesl_operators.specs.Operators.{ranged}
-use Rattle.snesl_operators.specs.Reductions.{scanned, scanned_from}
+use Rattle.snesl_operators.specs.Reductions.{scan_of, scan_from}
 use Rattle.snesl_evaluation.specs.Answer.{answer_at, gives, go}
 use Rattle.snesl_evaluation.proofs.Passed.{halt_passes}
 use Rattle.snesl_evaluation.proofs.Scans.{scan_step, scan_fault, scan_last, sums_behind}
@@ -23,7 +23,7 @@ returns-in_err-so_far c =
     let so_far = to_z w128 c.loop-i.so_far-bits in
     let total = λ (m : ℤ). answer_at at (ranged dialect (so_far +ℤ m)) in
     halt_passes (λ (n : ℤ). n) (λ (sums : Vec Datum Global). map value_of sums.items) c.from_residual-in_err-so_far.result c.in_err-so_far.field-0.0 (total (to_z w128 (of_z w128 x)))
-    (go (answer_at at (scanned dialect numbers)) (λ sums. gives (map an_int sums))) c.from_residual-in_err-so_far.ensures.1 c.in_err-so_far.ensures
+    (go (answer_at at (scan_of dialect numbers)) (λ sums. gives (map an_int sums))) c.from_residual-in_err-so_far.ensures.1 c.in_err-so_far.ensures
     (λ kind place e. c.loop-i.invariant ∙ scan_fault dialect at given so_far (pos 0) numbers i kind place (omega arith) (ap total (sym z) ∙ e))
 
 pub loop-i-preserved : goal.loop-i-preserved
@@ -41,9 +41,9 @@ loop-i-preserved c =
     let n : suc i ≡ i + 1 = omega arith in
     c.loop-i.invariant
     ∙ scan_step dialect at given so_far y (pos 0) numbers i (omega arith) (ap (λ m. answer_at at (ranged dialect (so_far +ℤ m))) (sym z) ∙ c.in_ok-so_far.ensures)
-    ∙ ap (λ l. sums_behind at l (scanned_from dialect y (drop (suc i) numbers))) (sym c.in_ok-add.ensures)
-    ∙ ap (λ j. sums_behind at (map value_of c.add.new.values.items) (scanned_from dialect y (drop j numbers))) n
-    ∙ ap (λ q. sums_behind at (map value_of c.add.new.values.items) (scanned_from dialect q (drop (i + 1) numbers))) (sym w)
+    ∙ ap (λ l. sums_behind at l (scan_from dialect y (drop (suc i) numbers))) (sym c.in_ok-add.ensures)
+    ∙ ap (λ j. sums_behind at (map value_of c.add.new.values.items) (scan_from dialect y (drop j numbers))) n
+    ∙ ap (λ q. sums_behind at (map value_of c.add.new.values.items) (scan_from dialect q (drop (i + 1) numbers))) (sym w)
 
 pub returns : goal.returns
 returns c =

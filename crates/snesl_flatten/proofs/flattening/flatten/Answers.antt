@@ -8,7 +8,7 @@ use Rattle.flow_plans.specs.Layouts.{layout, places, edges_needed, IsNetworkOf}
 use Rattle.flow_plans.specs.Ports.{AreWired}
 use Rattle.flow_plans.specs.Views.{steps_of}
 use Rattle.flow_assembly.specs.Openings.{AllOpen}
-use Rattle.snesl_translation.specs.Programs.{not_set}
+use Rattle.snesl_translation.specs.Programs.{unset_cells}
 use Rattle.snesl_flatten.specs.Networks.{program_steps}
 use Rattle.snesl_flatten.proofs.Wired.{typed_wired, node_each, refused_with}
 use Rattle.snesl_flatten.proofs.Held.{no_source_set}
@@ -17,7 +17,7 @@ use Rattle.snesl_flatten.proofs.flattening.flatten.Goals as goal
 pub returns-in_err-steps-clause-big : goal.returns-in_err-steps-clause-big
 returns-in_err-steps-clause-big c same =
     let typed = c.args.typed.now in
-    let steps = program_steps (typed_text typed) (typed_tree typed) (typed_inputs typed) not_set in
+    let steps = program_steps (typed_text typed) (typed_tree typed) (typed_inputs typed) unset_cells in
     inl (omega (arith, node_each steps, c.in_err-steps.ensures.big (ap Err (refused_with c.from_residual.result c.in_err-steps.field-0.0 TooBig c.from_residual.ensures same))))
 
 pub assemble-requires : goal.assemble-requires

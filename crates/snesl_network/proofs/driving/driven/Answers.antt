@@ -1,6 +1,6 @@
 use Rattle.std.proofs.Common.{Err, ap}
 use Rattle.flow_graph.specs.Graphs.{states_of, edges_of}
-use Rattle.snesl_network.specs.NodesAtRest.{rest_of}
+use Rattle.snesl_network.specs.NodesAtRest.{final_view}
 use Rattle.snesl_network.proofs.Refusing.{has_network}
 use Rattle.snesl_network.proofs.Resting.{comes_to_rest}
 use Rattle.flow_nodes.proofs.Sending.{nodes_cross}
@@ -8,7 +8,7 @@ use Rattle.snesl_network.proofs.driving.driven.Goals as goal
 
 pub returns-in-Ok-clause-rests : goal.returns-in-Ok-clause-rests
 returns-in-Ok-clause-rests g c text input meant =
-    comes_to_rest text input (states_of c.args.graph) (edges_of c.args.graph) meant c.one_meaning.ensures.one c.args.config.now (rest_of c.in-Ok.rested)
+    comes_to_rest text input (states_of c.args.graph) (edges_of c.args.graph) meant c.one_meaning.ensures.one c.args.config.now (final_view c.in-Ok.rested)
     c.in-Ok.ensures.network c.in-Ok.ensures.capacity c.rested_is_sound.ensures.sound c.rested_is_sound.ensures.rest
     c.flow_is_carried.ensures.begins c.flow_runs_to_end.ensures.rest c.requires.lawful c.rested_is_sound.ensures.fits c.in-Ok.ensures.run
 

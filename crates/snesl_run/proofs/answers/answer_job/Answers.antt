@@ -1,5 +1,5 @@
 use Rattle.std.proofs.Common.{refl, subst}
-use Rattle.snesl_console.specs.Streams.{given, taken}
+use Rattle.snesl_console.specs.Streams.{read_effect, write_effect}
 use Rattle.snesl_run.proofs.CutParts.{printed_jobs}
 use Rattle.snesl_run.proofs.Printing.{job_refused_so}
 use Rattle.snesl_run.proofs.answers.answer_job.Goals as goal
@@ -7,9 +7,9 @@ use Rattle.snesl_run.specs.Prints.{PrintedFor, answered}
 
 pub returns-in-Ok : goal.returns-in-Ok
 returns-in-Ok g c =
-    let out = taken g.W.Write.contents c.args.out.now c.print_answer.new.out in
-    let err = taken g.E.Write.contents c.args.err.now c.print_answer.new.err in
-    let reader = given g.R.Read.remaining c.args.job.now c.split_job.new.job in
+    let out = write_effect g.W.Write.contents c.args.out.now c.print_answer.new.out in
+    let err = write_effect g.E.Write.contents c.args.err.now c.print_answer.new.err in
+    let reader = read_effect g.R.Read.remaining c.args.job.now c.split_job.new.job in
     let split = c.in-Ok.ensures in
     answered split.0 split.1
     (printed_jobs c.one_answer.ensures.one c.one_input_meaning.ensures.one c.args.config.now out err reader split.0

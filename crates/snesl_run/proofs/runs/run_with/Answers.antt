@@ -2,7 +2,7 @@ use Rattle.std.proofs.Common.{◌≡◌, refl, sym, subst}
 use Rattle.kahn.specs.declared.outcome.Outcome.{Outcome}
 use Rattle.kahn.specs.declared.outcome.Outcome.TheVariants.{Value as Ended, Fault as Failed, Stalled}
 use Rattle.flow_nodes.specs.StreamNodes.{text_in}
-use Rattle.snesl_console.specs.Streams.{taken, HasSent}
+use Rattle.snesl_console.specs.Streams.{write_effect, HasSent}
 use Rattle.snesl_run.specs.Runs.{HasWritten, IsReported}
 use Rattle.snesl_run.specs.declared.report.Report.{Report}
 use Rattle.snesl_run.proofs.Reports.{run_refused, line_cut_off, line_written, nothing_written, start_kept, start_refused}
@@ -11,7 +11,7 @@ use Rattle.snesl_run.proofs.runs.run_with.Goals as goal
 
 pub returns-in_err-rested-clause-refused : goal.returns-in_err-rested-clause-refused
 returns-in_err-rested-clause-refused g c =
-    run_refused c.args.program.now c.args.input.now c.args.config.now (taken g.W.Write.contents c.args.out.now c.args.out.now)
+    run_refused c.args.program.now c.args.input.now c.args.config.now (write_effect g.W.Write.contents c.args.out.now c.args.out.now)
     c.from_residual.result c.in_err-rested.field-0.0 c.from_residual.ensures.1 c.in_err-rested.ensures.refused refl
 
 pub returns-then-not-send-clause-refused : goal.returns-then-not-send-clause-refused
@@ -19,9 +19,9 @@ returns-then-not-send-clause-refused g c =
     let report : Report = record { rested = c.in_ok-rested.rested; outcome = c.outcome-outcome.result } in
     let reported : IsReported c.args.program.now c.args.input.now c.args.config.now report =
     record { came = c.in_ok-rested.ensures.rests; drive = c.in_ok-rested.ensures.drive; outcome = c.outcome-outcome.ensures } in
-    line_cut_off c.args.program.now c.args.input.now c.args.config.now report reported (taken g.W.Write.contents c.args.out.now c.send.new.out)
+    line_cut_off c.args.program.now c.args.input.now c.args.config.now report reported (write_effect g.W.Write.contents c.args.out.now c.send.new.out)
     c.text.result.now c.in_ok-line-in-Value.line.items c.send.result c.in-Value.is (c.text.ensures text_in (λ node. refl)) c.in_ok-line-in-Value.ensures.line
-    (subst (λ l. HasSent (taken g.W.Write.contents c.args.out.now c.send.new.out) l c.send.result) c.deref.ensures.value c.send.ensures) c.if-not-send.true
+    (subst (λ l. HasSent (write_effect g.W.Write.contents c.args.out.now c.send.new.out) l c.send.result) c.deref.ensures.value c.send.ensures) c.if-not-send.true
 
 pub returns-clause-network : goal.returns-clause-network
 returns-clause-network g c =
@@ -33,18 +33,18 @@ returns-clause-wrote g c =
     let reported : IsReported c.args.program.now c.args.input.now c.args.config.now report =
     record { came = c.in_ok-rested.ensures.rests; drive = c.in_ok-rested.ensures.drive; outcome = c.outcome-outcome.ensures } in
     let untouched = λ (outcome : Outcome) (is : c.outcome-outcome.result ≡ outcome) (not : outcome ≡ Ended → ⊥).
-    nothing_written c.args.program.now c.args.input.now c.args.config.now report reported (taken g.W.Write.contents c.args.out.now c.args.out.now)
+    nothing_written c.args.program.now c.args.input.now c.args.config.now report reported (write_effect g.W.Write.contents c.args.out.now c.args.out.now)
     outcome is not refl in
     elim c.match-outcome.branch [
       | in-Value+in_ok-line-in-Value+else-not-send w ↦
-          subst (λ out. HasWritten c.args.program.now c.args.input.now (taken g.W.Write.contents c.args.out.now out) report) (sym w.out-is)
-          (line_written c.args.program.now c.args.input.now c.args.config.now report reported (taken g.W.Write.contents c.args.out.now w.send.new.out)
+          subst (λ out. HasWritten c.args.program.now c.args.input.now (write_effect g.W.Write.contents c.args.out.now out) report) (sym w.out-is)
+          (line_written c.args.program.now c.args.input.now c.args.config.now report reported (write_effect g.W.Write.contents c.args.out.now w.send.new.out)
           w.text.result.now w.in_ok-line-in-Value.line.items w.send.result w.in-Value.is (w.text.ensures text_in (λ node. refl)) w.in_ok-line-in-Value.ensures.line
-          (subst (λ l. HasSent (taken g.W.Write.contents c.args.out.now w.send.new.out) l w.send.result) w.deref.ensures.value w.send.ensures) w.if-not-send.false)
+          (subst (λ l. HasSent (write_effect g.W.Write.contents c.args.out.now w.send.new.out) l w.send.result) w.deref.ensures.value w.send.ensures) w.if-not-send.false)
       | in-Fault w ↦
-          subst (λ out. HasWritten c.args.program.now c.args.input.now (taken g.W.Write.contents c.args.out.now out) report) (sym w.out-is) (untouched (Failed _) w.in-Fault.is (λ e. absurd (cc)))
+          subst (λ out. HasWritten c.args.program.now c.args.input.now (write_effect g.W.Write.contents c.args.out.now out) report) (sym w.out-is) (untouched (Failed _) w.in-Fault.is (λ e. absurd (cc)))
       | in-Stalled w ↦
-          subst (λ out. HasWritten c.args.program.now c.args.input.now (taken g.W.Write.contents c.args.out.now out) report) (sym w.out-is) (untouched (Stalled _) w.in-Stalled.is (λ e. absurd (cc)))
+          subst (λ out. HasWritten c.args.program.now c.args.input.now (write_effect g.W.Write.contents c.args.out.now out) report) (sym w.out-is) (untouched (Stalled _) w.in-Stalled.is (λ e. absurd (cc)))
     ]
 
 pub returns-clause-one : goal.returns-clause-one

@@ -1,7 +1,7 @@
 use Rattle.std.proofs.Common.{◌≡◌, ◌+◌, ◌-◌, ◌≤◌, MatchOption}
 use Rattle.flow_messages.specs.Limits.{greatest_capacity}
 use Rattle.snesl_network.specs.Driven.{HaveEnded}
-use Rattle.snesl_network.specs.NodesAtRest.{rest_of}
+use Rattle.snesl_network.specs.NodesAtRest.{final_view}
 use Rattle.snesl_size.specs.Sizes.{EndsAtNoneBelow, IsFullBelow, IsLeft}
 use Rattle.snesl_size.proofs.search.least_capacity.Given as goal
 
@@ -13,7 +13,7 @@ invariant-loop-least g l = record {
   limit : l.enough ≤ greatest_capacity + 1;
   none : EndsAtNoneBelow l.fn.program l.fn.input l.least;
   known : MatchOption l.ended (l.enough ≡ greatest_capacity + 1)
-      (λ rested. IsLeft l.fn.program l.fn.input l.enough (rest_of rested) × HaveEnded (rest_of rested));
+      (λ rested. IsLeft l.fn.program l.fn.input l.enough (final_view rested) × HaveEnded (final_view rested));
   full : IsFullBelow l.fn.program l.fn.input l.least l.full;
 }
 

@@ -1,6 +1,6 @@
 use Rattle.std.proofs.Common.{Result, Ok, Err}
 use Rattle.std.specs.Result.{OnOk}
-use Rattle.snesl_network.specs.NodesAtRest.{rest_of}
+use Rattle.snesl_network.specs.NodesAtRest.{final_view}
 use Rattle.snesl_size.proofs.Tables.{with_busiest, without_busiest}
 use Rattle.snesl_size.proofs.table.append_busiest.Goals as goal
 
@@ -13,8 +13,8 @@ returns-in_ok-append_line-in-Some c =
     let first = c.append_line.new.table.items in
     let second = c.append_line-in-Some in
     on_ok second.result
-    (with_busiest (rest_of c.args.rested.now) c.args.table.now.items c.in-Some.edge c.counts.result.0 first second.new.table.items c.in-Some.ensures c.counts.ensures.sent c.in_ok-append_line-in-Some.ensures)
+    (with_busiest (final_view c.args.rested.now) c.args.table.now.items c.in-Some.edge c.counts.result.0 first second.new.table.items c.in-Some.ensures c.counts.ensures.sent c.in_ok-append_line-in-Some.ensures)
     second.ensures
 
 pub returns-in-None : goal.returns-in-None
-returns-in-None c = without_busiest (rest_of c.args.rested.now) c.args.table.now.items c.in-None.ensures
+returns-in-None c = without_busiest (final_view c.args.rested.now) c.args.table.now.items c.in-None.ensures

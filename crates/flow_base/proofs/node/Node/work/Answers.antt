@@ -3,8 +3,8 @@ use Rattle.std.proofs.lemmas.Bool.Decides.{nat_tests}
 use Rattle.kahn.specs.declared.want.Want.TheVariants.{Read, Write}
 use Rattle.flow_messages.specs.Signals.{signal_of, carry}
 use Rattle.flow_messages.specs.declared.message.Msg.TheVariants as msg
-use Rattle.flow_base.specs.Machines.{move_of, told_of}
-use Rattle.flow_base.specs.Nodes.{node_state, want_in, told_in, after_in, memory_in}
+use Rattle.flow_base.specs.Machines.{move_of, written_cell}
+use Rattle.flow_base.specs.Nodes.{node_state, want_in, written_signal, after_in, memory_in}
 use Rattle.flow_base.specs.Members.{node_of}
 use Rattle.flow_base.specs.Visits.{edge_of, IsStuck, Visited}
 use Rattle.flow_base.proofs.Carried.{same_ends_then}
@@ -162,7 +162,7 @@ loop-made-preserved g c =
           })
       | in-Write+else-prove-2+else-not-room+in_ok-item-in-Write+in-Err+in-Item+in-Vec-1 w ↦ (let wants : b.process.want t ≡ Write w.in-Write.port = ap (λ p. want_in m p t) works ∙ sym c.want_on.ensures ∙ w.in-Write.is in
           let sent = w.in_ok-item-in-Write in
-          let told : carry (told_of (move_of m t.worker)) ≡ b.process.written t = sym (ap (λ p. told_in m p t) works) in
+          let told : carry (written_cell (move_of m t.worker)) ≡ b.process.written t = sym (ap (λ p. written_signal m p t) works) in
           let is : next ≡ b.process.wrote t = ap node.state w.self-is ∙ ap (λ x. node_state x c.loop-made.self.phase c.loop-made.self.at) sent.ensures.ok.1 ∙ sym (ap (λ p. after_in m p t) works) in
           let certain : 0 < (view w.room.new.self).room (edge_of outs w.in-Write.port) = w.room.ensures.value.0 (cc (w.if-not-room.false)) in
           record {
@@ -172,7 +172,7 @@ loop-made-preserved g c =
           })
       | in-Write+else-prove-2+else-not-room+in_ok-item-in-Write+in-Err+in-Item+in-Unit-1 w ↦ (let wants : b.process.want t ≡ Write w.in-Write.port = ap (λ p. want_in m p t) works ∙ sym c.want_on.ensures ∙ w.in-Write.is in
           let sent = w.in_ok-item-in-Write in
-          let told : carry (told_of (move_of m t.worker)) ≡ b.process.written t = sym (ap (λ p. told_in m p t) works) in
+          let told : carry (written_cell (move_of m t.worker)) ≡ b.process.written t = sym (ap (λ p. written_signal m p t) works) in
           let is : next ≡ b.process.wrote t = ap node.state w.self-is ∙ ap (λ x. node_state x c.loop-made.self.phase c.loop-made.self.at) sent.ensures.ok.1 ∙ sym (ap (λ p. after_in m p t) works) in
           let certain : 0 < (view w.room.new.self).room (edge_of outs w.in-Write.port) = w.room.ensures.value.0 (cc (w.if-not-room.false)) in
           record {
@@ -182,7 +182,7 @@ loop-made-preserved g c =
           })
       | in-Write+else-prove-2+else-not-room+in_ok-item-in-Write+in-Err+in-End-1 w ↦ (let wants : b.process.want t ≡ Write w.in-Write.port = ap (λ p. want_in m p t) works ∙ sym c.want_on.ensures ∙ w.in-Write.is in
           let sent = w.in_ok-item-in-Write in
-          let told : carry (told_of (move_of m t.worker)) ≡ b.process.written t = sym (ap (λ p. told_in m p t) works) in
+          let told : carry (written_cell (move_of m t.worker)) ≡ b.process.written t = sym (ap (λ p. written_signal m p t) works) in
           let is : next ≡ b.process.wrote t = ap node.state w.self-is ∙ ap (λ x. node_state x c.loop-made.self.phase c.loop-made.self.at) sent.ensures.ok.1 ∙ sym (ap (λ p. after_in m p t) works) in
           let certain : 0 < (view w.room.new.self).room (edge_of outs w.in-Write.port) = w.room.ensures.value.0 (cc (w.if-not-room.false)) in
           record {
@@ -192,7 +192,7 @@ loop-made-preserved g c =
           })
       | in-Write+else-prove-2+else-not-room+in_ok-item-in-Write+in-Ok-1 w ↦ (let wants : b.process.want t ≡ Write w.in-Write.port = ap (λ p. want_in m p t) works ∙ sym c.want_on.ensures ∙ w.in-Write.is in
           let sent = w.in_ok-item-in-Write in
-          let told : carry (told_of (move_of m t.worker)) ≡ b.process.written t = sym (ap (λ p. told_in m p t) works) in
+          let told : carry (written_cell (move_of m t.worker)) ≡ b.process.written t = sym (ap (λ p. written_signal m p t) works) in
           let is : next ≡ b.process.wrote t = ap node.state w.self-is ∙ ap (λ x. node_state x c.loop-made.self.phase c.loop-made.self.at) sent.ensures.ok.1 ∙ sym (ap (λ p. after_in m p t) works) in
           let certain : 0 < (view w.room.new.self).room (edge_of outs w.in-Write.port) = w.room.ensures.value.0 (cc (w.if-not-room.false)) in
           record {

@@ -19,7 +19,7 @@ returns-in-Shared-clause-sent g c =
     let shared = c.in-Shared.shared in
     let edges = edges_of gathered.graph in
     sent_counted view_of BoxesJoin boxes_join_ends shared.share.items edges shared.ends.items shared.capacity (gathered.there.shared shared c.in-Shared.is) c.args.edge c.requires c.edge-ends.result c.edge-ends.ensures
-    (traffic_in edges gathered.lines) (ap (traffic_in edges) c.in-Shared.is) c.counts.result.0 c.counts.ensures.sent
+    (traffic_in edges gathered.all_ends) (ap (traffic_in edges) c.in-Shared.is) c.counts.result.0 c.counts.ensures.sent
 
 pub returns-in-Shared-clause-received : goal.returns-in-Shared-clause-received
 returns-in-Shared-clause-received g c =
@@ -27,4 +27,4 @@ returns-in-Shared-clause-received g c =
     let shared = c.in-Shared.shared in
     let edges = edges_of gathered.graph in
     received_counted view_of BoxesJoin boxes_join_ends shared.share.items edges shared.ends.items shared.capacity (gathered.there.shared shared c.in-Shared.is) c.args.edge c.requires c.edge-ends.result c.edge-ends.ensures
-    (traffic_in edges gathered.lines) (ap (traffic_in edges) c.in-Shared.is) c.counts.result.1 c.counts.ensures.received
+    (traffic_in edges gathered.all_ends) (ap (traffic_in edges) c.in-Shared.is) c.counts.result.1 c.counts.ensures.received

@@ -2,7 +2,7 @@ use Rattle.std.proofs.Common.{◌≡◌, ◌+◌, ◌<◌, ◌≤◌, length, ta
 use Rattle.std.proofs.lemmas.List.{take-take, length-take-le}
 use Rattle.snesl_data.specs.declared.dialect.Dialect.{Dialect}
 use Rattle.snesl_data.specs.Integers.{greatest_integer}
-use Rattle.flow_messages.specs.Blocks.{flags_said, ints_said}
+use Rattle.flow_messages.specs.Blocks.{flag_signals, int_signals}
 use Rattle.flow_messages.specs.Ends.{TakenAll}
 use Rattle.flow_base.specs.Nodes.{NodeState, behaviour_of, node_state}
 use Rattle.flow_base.specs.Visits.{edge_of, Went}
@@ -82,6 +82,6 @@ returns-clause-went g c = λ at.
     let t = counting ins outs d at along.result.2 in
     let looked = went_looked b ins outs (went_none b ins outs s a) 0 u writes c.space.ensures.looked in
     let rounds = lengths_rounds ins outs d at count along.result.2 (take n bs) lengths range is in
-    let went = singles_went ins outs b (flags_said (take n bs)) (ints_said lengths) reads writes looked rounds (omega (arith, long, c.if-passed-eq0.false)) (ended_ints lengths) v w taken c.put_ints.ensures.put in
+    let went = singles_went ins outs b (flag_signals (take n bs)) (int_signals lengths) reads writes looked rounds (omega (arith, long, c.if-passed-eq0.false)) (ended_ints lengths) v w taken c.put_ints.ensures.put in
     let steps : 0 + (length (take n bs) + length lengths) ≡ n + k = omega (arith, long, written) in
     subst (λ q. Went ins outs b q a t w (n + k)) (sym (ap on c.in-Counting.is)) (subst (Went ins outs b s a t w) steps went)

@@ -7,7 +7,7 @@ use Rattle.snesl_data.specs.declared.dialect.Dialect.{Dialect}
 use Rattle.snesl_operators.specs.declared.operator.Reduction.{Reduction}
 use Rattle.flow_messages.specs.Cells.{int}
 use Rattle.flow_messages.specs.Ends.{TakenAll, PutAll}
-use Rattle.flow_messages.specs.Blocks.{flags_said}
+use Rattle.flow_messages.specs.Blocks.{flag_signals}
 use Rattle.flow_messages.specs.Signals.{carry}
 use Rattle.flow_base.specs.Nodes.{behaviour_of}
 use Rattle.flow_base.specs.Visits.{edge_of, Went}
@@ -61,9 +61,9 @@ returns-clause-ended g c = λ is at.
     let bs = c.flags.result.now in
     let there : 0 < length outs = omega (arith, c.requires.wired.each_output) in
     let looked = went_looked b ins outs (went_none b ins outs s a) 0 v there c.space.ensures.looked in
-    let still = subst (IsPrefix (flags_said bs)) (sym (c.space.ensures.looked.coming from)) c.flags.ensures in
+    let still = subst (IsPrefix (flag_signals bs)) (sym (c.space.ensures.looked.coming from)) c.flags.ensures in
     let put = subst (λ k. PutAll v (edge_of outs 0) (carry (int k) ∷ []) u) back c.put_ints.ensures.put in
-    let seen = prefix_then (flags_said bs) (v.coming from) (u.coming from) still (coming_still v u (edge_of outs 0) from (carry (int value) ∷ []) put) in
+    let seen = prefix_then (flag_signals bs) (v.coming from) (u.coming from) still (coming_still v u (edge_of outs 0) from (carry (int value) ∷ []) put) in
     let at_end : get_or bs 0 false ≡ true = c.begins_with_end.ensures (search rules) in
     let taken = subst (λ ms. TakenAll u from ms w) (first_flag_taken bs (u.coming from) seen at_end) c.skip.ensures.taken in
     end_went ins outs (omega (arith, c.requires.wired.each_input)) there p at c.args.stage value c.in-Some.ensures a v u w looked put taken

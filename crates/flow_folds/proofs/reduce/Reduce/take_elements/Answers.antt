@@ -4,12 +4,12 @@ use Rattle.std.proofs.lemmas.List.{take-take, length-take}
 use Rattle.snesl_data.specs.declared.dialect.Dialect.{Dialect}
 use Rattle.snesl_operators.specs.declared.operator.Reduction.{Reduction}
 use Rattle.flow_messages.specs.Ends.{TakenAll}
-use Rattle.flow_messages.specs.Blocks.{flags_said}
+use Rattle.flow_messages.specs.Blocks.{flag_signals}
 use Rattle.flow_base.specs.Nodes.{behaviour_of}
 use Rattle.flow_base.specs.Visits.{edge_of, Went}
 use Rattle.flow_base.proofs.Kernels.{went_none}
 use Rattle.flow_folds.specs.ReduceMachine.{reduce_machine}
-use Rattle.flow_folds.specs.ReduceBlocks.{reduced_ints}
+use Rattle.flow_folds.specs.ReduceBlocks.{reduction_of_ints}
 use Rattle.flow_folds.specs.declared.reduce.Stage.TheVariants.{Flag}
 use Rattle.flow_folds.proofs.SegmentBlocks.{elements_block}
 use Rattle.flow_folds.proofs.ReduceBlocks.{stage_on, first_elements, flags_taken, ints_taken, elements_went}
@@ -41,9 +41,9 @@ returns-clause-went g c = λ outs at.
     let block : take n (take ahead xs) ≡ take n xs = take-take n ahead xs fewer in
     let long : length (take n xs) ≡ n = length-take n xs ∙ omega arith in
     let some : 0 < length (take n xs) = omega (arith, long, c.if-count-eq0.false) in
-    let reduced : reduced_ints p.0 p.1 c.in-Some.so_far (take n xs) ≡ Ok more = ap (reduced_ints p.0 p.1 c.in-Some.so_far) (sym block) ∙ c.more_of-count.ensures.reduced in
+    let reduced : reduction_of_ints p.0 p.1 c.in-Some.so_far (take n xs) ≡ Ok more = ap (reduction_of_ints p.0 p.1 c.in-Some.so_far) (sym block) ∙ c.more_of-count.ensures.reduced in
     let front : take n bs ≡ elements_block n = first_elements n bs (omega (arith, c.elements_ahead-ahead.ensures.shown)) (λ k h. c.elements_ahead-ahead.ensures.ahead k (omega arith)) in
-    let flags = flags_taken bs (a.coming (edge_of ins 0)) n c.flags.ensures (omega (arith, c.elements_ahead-ahead.ensures.shown)) ∙ ap flags_said (front ∙ ap elements_block (sym long)) in
+    let flags = flags_taken bs (a.coming (edge_of ins 0)) n c.flags.ensures (omega (arith, c.elements_ahead-ahead.ensures.shown)) ∙ ap flag_signals (front ∙ ap elements_block (sym long)) in
     let ints = ap (take n) (c.skip.ensures.taken.coming (edge_of ins 1) apart) ∙ ints_taken xs (a.coming (edge_of ins 1)) n c.ints-block.ensures (omega arith) in
     let first = subst (λ ms. TakenAll a (edge_of ins 0) ms v) flags c.skip.ensures.taken in
     let second = subst (λ ms. TakenAll v (edge_of ins 1) ms w) ints c.skip-2.ensures.taken in

@@ -10,7 +10,7 @@ use Rattle.flow_messages.specs.Ends.{SameEnds}
 use Rattle.flow_messages.specs.Signals.{Signal, signal_of, carry}
 use Rattle.flow_messages.specs.declared.message.Msg.{Msg}
 use Rattle.flow_base.specs.Machines.{Leads, on_kind}
-use Rattle.flow_base.specs.Nodes.{NodeState, behaviour_of, node_state, given_in}
+use Rattle.flow_base.specs.Nodes.{NodeState, behaviour_of, node_state, node_after_read}
 use Rattle.flow_base.specs.Visits.{edge_of, Went, Wrote}
 use Rattle.flow_base.specs.declared.node.Phase.TheVariants.{Working}
 use Rattle.flow_base.proofs.Carried.{same_ends_then, taken_room}
@@ -35,7 +35,7 @@ flag_wanted p (Flag so_far) next at x leads = refl
 flag_wanted p (Element so_far) next at x leads = absurd leads
 flag_wanted p (Value value) next at x leads = absurd leads
 
-flag_read : (p : Dialect × Reduction) (s next : Stage) (at : ℕ) (x : Signal) → LeadsAtFlag p.1 s x next → node_state (p, next) Working at ≡ given_in reduce_machine Working (node_state (p, s) Working at) x
+flag_read : (p : Dialect × Reduction) (s next : Stage) (at : ℕ) (x : Signal) → LeadsAtFlag p.1 s x next → node_state (p, next) Working at ≡ node_after_read reduce_machine Working (node_state (p, s) Working at) x
 flag_read p Start next at x leads = leads_on reduce_machine p Start next at (at_flag (reduced_nothing p.1)) x (λ y. refl) leads
 flag_read p (Flag so_far) next at x leads = leads_on reduce_machine p (Flag so_far) next at (at_flag so_far) x (λ y. refl) leads
 flag_read p (Element so_far) next at x leads = absurd leads

@@ -8,7 +8,7 @@ use Rattle.flow_messages.specs.Cells.{flag, int}
 use Rattle.flow_messages.specs.Ends.{SameEnds}
 use Rattle.flow_messages.specs.Signals.{carry}
 use Rattle.flow_base.specs.Flags.{F, T}
-use Rattle.flow_base.specs.Machines.{given_of, on_int}
+use Rattle.flow_base.specs.Machines.{state_after_read, on_int}
 use Rattle.flow_base.specs.Nodes.{NodeState, behaviour_of, node_state, moved}
 use Rattle.flow_base.specs.Visits.{edge_of, Went, Wrote}
 use Rattle.flow_base.specs.declared.node.Phase.TheVariants.{Working}
@@ -108,7 +108,7 @@ loop-preserved g c =
             ends = subst (λ q. SameEnds a (view q)) (sym w.ends-is) (same_ends_then a v u inv.ends taken.ends);
             steps = omega (arith, inv.steps, w.made-is);
             room = subst (λ q. c.min-end.result ≤ (view q).room (edge_of outs 0) + (c.loop.counter + 1)) (sym w.ends-is) (omega (arith, inv.room, taken_room v u _ (edge_of outs 0) _ taken));
-            held = ap (λ q. given_of (scan_add_move q.dialect q.stage) F) w.self-is ∙ ap (λ q. Ok (Element q.0 q.1)) (sym w.held-is);
+            held = ap (λ q. state_after_read (scan_add_move q.dialect q.stage) F) w.self-is ∙ ap (λ q. Ok (Element q.0 q.1)) (sym w.held-is);
             went = λ at.
                 let s = node_state (scan_add_view c.args.self.now) Working at in
                 let on : Stage → NodeState (Dialect × Stage) = λ q. node_state (d, q) Working at in
@@ -135,7 +135,7 @@ loop-preserved g c =
             ends = subst (λ q. SameEnds a (view q)) (sym w.ends-is) (same_ends_then a r z (same_ends_then a u r (same_ends_then a v u inv.ends first.ends) second.ends) w.put_in_space.ensures.wrote.ends);
             steps = omega (arith, inv.steps, w.made-is);
             room = subst (λ q. c.min-end.result ≤ (view q).room (edge_of outs 0) + (c.loop.counter + 1)) (sym w.ends-is) (omega (arith, inv.room, taken_room v u _ (edge_of outs 0) _ first, taken_room u r _ (edge_of outs 0) _ second, w.put_in_space.ensures.room));
-            held = ap (λ q. given_of (scan_add_move q.dialect q.stage) F) next_is ∙ ap (λ q. Ok (Element q.0 q.1)) (sym w.held-is);
+            held = ap (λ q. state_after_read (scan_add_move q.dialect q.stage) F) next_is ∙ ap (λ q. Ok (Element q.0 q.1)) (sym w.held-is);
             went = λ at.
                 let s = node_state (scan_add_view c.args.self.now) Working at in
                 let on : Stage → NodeState (Dialect × Stage) = λ q. node_state (d, q) Working at in

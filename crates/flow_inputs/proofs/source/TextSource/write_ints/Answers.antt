@@ -1,6 +1,6 @@
 use Rattle.std.proofs.Common.{◌≡◌, ◌<◌, ◌≤◌, take, length, ◌∙◌, subst, arith}
 use Rattle.std.proofs.lemmas.List.{length-take-le}
-use Rattle.flow_messages.specs.Blocks.{ints_said}
+use Rattle.flow_messages.specs.Blocks.{int_signals}
 use Rattle.flow_base.proofs.Carried.{same_ends_refl, same_ends_then}
 use Rattle.flow_base.proofs.Kernels.{went_none}
 use Rattle.flow_base.proofs.Batches.{ended_ints, length_ints}
@@ -44,7 +44,7 @@ loop-made-preserved g c =
       long = scan.ensures.long;
       sending = scan.ensures.sending;
       went = λ ins. let block_is = take count scan.new.ints in
-          went_block ins outs (inv.went ins) there c.space.ensures.looked (ints_said block_is) (text_source_state scan.new.self) w count (ended_ints block_is) scan.ensures.sends
+          went_block ins outs (inv.went ins) there c.space.ensures.looked (int_signals block_is) (text_source_state scan.new.self) w count (ended_ints block_is) scan.ensures.sends
           (length_ints block_is ∙ length-take-le count scan.new.ints block) (omega (arith, c.if-count-eq0.false)) c.put_ints.ensures.put;
     }
 
@@ -55,5 +55,5 @@ returns-then-count-eq0-clause-went g c = λ ins.
     let scan = c.scan_ints-count in
     let there : 0 < length outs = omega (arith, c.requires.one) in
     let none : scan.result ≡ 0 = c.if-count-eq0.true in
-    let same : text_source_state c.loop-made.self ≡ text_source_state scan.new.self = subst (λ k. Sends (text_source_state c.loop-made.self) (ints_said (take k scan.new.ints)) (text_source_state scan.new.self)) none scan.ensures.sends in
+    let same : text_source_state c.loop-made.self ≡ text_source_state scan.new.self = subst (λ k. Sends (text_source_state c.loop-made.self) (int_signals (take k scan.new.ints)) (text_source_state scan.new.self)) none scan.ensures.sends in
     went_nowhere ins outs (c.loop-made.invariant.went ins) there c.space.ensures.looked (text_source_state scan.new.self) same

@@ -3,7 +3,7 @@ use Rattle.std.specs.Prelude.{option_to_list}
 use Rattle.std.specs.Arc.{arc_value}
 use Rattle.flow_messages.specs.Cells.{is_of}
 use Rattle.flow_messages.specs.declared.message.Kind.TheVariants.{Vec as VecKind}
-use Rattle.flow_inputs.specs.declared.turns.Step.{Step}
+use Rattle.flow_inputs.specs.declared.turns.Component.{Component}
 use Rattle.flow_inputs.specs.declared.turns.Leaf.{Leaf}
 use Rattle.flow_inputs.specs.declared.turns.State.{State}
 use Rattle.flow_inputs.specs.declared.turns.Piece.{Piece}
@@ -14,7 +14,7 @@ use Rattle.flow_inputs.proofs.Sending.{nexts, sends_piece, sends_end, takes}
 use Rattle.flow_inputs.proofs.source.TextSourceTransducer.emit.Goals as goal
 
 -- the scan of the same text on the same way found this piece, and leaves the others
-found : (text same : List ℕ) (way alike : List Step) (leaf : Leaf) (at end : ℕ) (s u : State) (o : Option Piece) (x : Piece) → same ≡ text → alike ≡ way
+found : (text same : List ℕ) (way alike : List Component) (leaf : Leaf) (at end : ℕ) (s u : State) (o : Option Piece) (x : Piece) → same ≡ text → alike ≡ way
     → left same alike leaf at s ≡ option_to_list o ++ left same alike leaf end u → o ≡ Some x → left text way leaf at s ≡ x ∷ left text way leaf end u
 found text same way alike leaf at end s u o x e f first is =
     subst (λ t. left t way leaf at s ≡ x ∷ left t way leaf end u) e
@@ -22,7 +22,7 @@ found text same way alike leaf at end s u o x e f first is =
     (first ∙ ap (λ o. option_to_list o ++ left same alike leaf end u) is))
 
 -- or nothing
-unfound : (text same : List ℕ) (way alike : List Step) (leaf : Leaf) (at end : ℕ) (s u : State) (o : Option Piece) → same ≡ text → alike ≡ way
+unfound : (text same : List ℕ) (way alike : List Component) (leaf : Leaf) (at end : ℕ) (s u : State) (o : Option Piece) → same ≡ text → alike ≡ way
     → left same alike leaf at s ≡ option_to_list o ++ left same alike leaf end u → o ≡ None → left same alike leaf end u ≡ [] → left text way leaf at s ≡ []
 unfound text same way alike leaf at end s u o e f first is none =
     subst (λ t. left t way leaf at s ≡ []) e

@@ -3,7 +3,7 @@ use Rattle.std.proofs.lemmas.List.{length-map, length-take-le, take_all}
 use Rattle.flow_messages.specs.Cells.{flag}
 use Rattle.flow_messages.specs.Signals.{carry}
 use Rattle.flow_messages.specs.Ends.{PutAll}
-use Rattle.flow_messages.specs.Blocks.{flags_said}
+use Rattle.flow_messages.specs.Blocks.{flag_signals}
 use Rattle.flow_messages.proofs.Blocks.{put_none, put_next, block_next, items_go_on}
 use Rattle.flow_messages.proofs.ends.Ends.put_flags.Goals as goal
 
@@ -21,7 +21,7 @@ loop-flag-preserved g c =
     let a = view c.args.self.now in
     let v = view c.loop-flag.self in
     let w = view c.put.new.self in
-    let ms = flags_said (take i ns) in
+    let ms = flag_signals (take i ns) in
     let m = carry (flag (get_or ns i false)) in
     let short : length ms < a.room c.args.edge = omega (arith, c.loop-flag-test.true, c.requires.certain, length-map (take i ns) (λ b. carry (flag b)), length-take-le i ns) in
     let no_end = items_go_on (λ b. carry (flag b)) (λ n. refl) (take i ns) in
@@ -37,5 +37,5 @@ returns g c =
     let all = take_all c.loop-flag.flag-index ns c.loop-flag-test.false in
     record {
       same = c.loop-flag.invariant.same;
-      put = subst (λ l. PutAll (g.Self.Ends.view c.args.self.now) c.args.edge (flags_said l) (g.Self.Ends.view c.loop-flag.self)) all c.loop-flag.invariant.put;
+      put = subst (λ l. PutAll (g.Self.Ends.view c.args.self.now) c.args.edge (flag_signals l) (g.Self.Ends.view c.loop-flag.self)) all c.loop-flag.invariant.put;
     }

@@ -5,7 +5,7 @@ use Rattle.std.proofs.lemmas.List.{length-map, length-take-le, take_all}
 use Rattle.flow_messages.specs.Cells.{int}
 use Rattle.flow_messages.specs.Signals.{carry}
 use Rattle.flow_messages.specs.Ends.{PutAll}
-use Rattle.flow_messages.specs.Blocks.{ints_said}
+use Rattle.flow_messages.specs.Blocks.{int_signals}
 use Rattle.flow_messages.proofs.Blocks.{put_none, put_next, block_next, items_go_on}
 use Rattle.flow_messages.proofs.Widened.{widened}
 use Rattle.flow_messages.proofs.ends.Ends.put_ints.Goals as goal
@@ -24,7 +24,7 @@ loop-int-preserved g c =
     let a = view c.args.self.now in
     let v = view c.loop-int.self in
     let w = view c.put.new.self in
-    let ms = ints_said (take i ns) in
+    let ms = int_signals (take i ns) in
     let short : length ms < a.room c.args.edge = omega (arith, c.loop-int-test.true, c.requires.certain, length-map (take i ns) (λ n. carry (int n)), length-take-le i ns) in
     let no_end = items_go_on (λ n. carry (int n)) (λ n. refl) (take i ns) in
     let next = put_next a v w c.args.edge ms _ _ c.put.result c.loop-int.invariant.put no_end short c.put.ensures.ok c.put.ensures.refused c.put.ensures.closed c.put.ensures.succeeds in
@@ -41,5 +41,5 @@ returns g c =
     let all = take_all c.loop-int.int-index ns c.loop-int-test.false in
     record {
       same = c.loop-int.invariant.same;
-      put = subst (λ l. PutAll (g.Self.Ends.view c.args.self.now) c.args.edge (ints_said l) (g.Self.Ends.view c.loop-int.self)) all c.loop-int.invariant.put;
+      put = subst (λ l. PutAll (g.Self.Ends.view c.args.self.now) c.args.edge (int_signals l) (g.Self.Ends.view c.loop-int.self)) all c.loop-int.invariant.put;
     }

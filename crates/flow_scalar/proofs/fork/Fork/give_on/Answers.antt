@@ -6,7 +6,7 @@ use Rattle.flow_base.specs.Visits.{edge_of, Went, Wrote}
 use Rattle.flow_base.specs.declared.node.Phase.TheVariants.{Working}
 use Rattle.flow_base.proofs.Carried.{same_ends_refl, same_ends_then}
 use Rattle.flow_base.proofs.Kernels.{went_none, went_looked}
-use Rattle.flow_scalar.specs.ForkMachine.{ForkPorts, Step, fork_ports, step_of, fork_machine}
+use Rattle.flow_scalar.specs.ForkMachine.{ForkPorts, ForkState, fork_ports, fork_state, fork_machine}
 use Rattle.flow_scalar.proofs.ForkBlocks.{fork_view, gave, owing_none, owing_more}
 use Rattle.flow_scalar.proofs.fork.Fork.give_on.Goals as goal
 
@@ -47,10 +47,10 @@ returns-then-self-clause-went g c =
     let w = view c.put_copy.new.ends in
     let wrote : Wrote (view c.space.new.self) (edge_of outs n.next) (carry x) w = subst (λ y. Wrote (view c.space.new.self) (edge_of outs n.next) (carry y) w) (sym inv.held.2) c.put_copy.ensures.wrote in
     λ ins at.
-    let on : Step → NodeState (ForkPorts × Step) = λ s. node_state (p, s) Working at in
+    let on : ForkState → NodeState (ForkPorts × ForkState) = λ s. node_state (p, s) Working at in
     let s = node_state (fork_view c.args.self.now) Working at in
     let a = view c.args.ends.now in
-    let went = subst (λ o. Went ins outs b s a (on (step_of n.outputs n.next o)) (view c.loop-made.ends) c.loop-made.made) inv.held.1 (inv.went ins at) in
+    let went = subst (λ o. Went ins outs b s a (on (fork_state n.outputs n.next o)) (view c.loop-made.ends) c.loop-made.made) inv.held.1 (inv.went ins at) in
     let given = gave ins outs n.kind n.outputs n.next x at (inv.outputs ∙ c.requires.outputs) inv.next went c.space.ensures.looked wrote in
     subst (λ o. Went ins outs b s a (on o) w (c.loop-made.made + 1)) (owing_none x n.outputs n.next c.if-self.true) given
 
@@ -77,11 +77,11 @@ loop-made-preserved g c =
       held = inv.held;
       scalar = inv.scalar;
       went = λ ins at.
-          let on : Step → NodeState (ForkPorts × Step) = λ s. node_state (p, s) Working at in
+          let on : ForkState → NodeState (ForkPorts × ForkState) = λ s. node_state (p, s) Working at in
           let s = node_state (fork_view c.args.self.now) Working at in
           let a = view c.args.ends.now in
-          let came = subst (λ o. Went ins outs b s a (on (step_of n.outputs n.next o)) (view c.loop-made.ends) c.loop-made.made) inv.held.1 (inv.went ins at) in
+          let came = subst (λ o. Went ins outs b s a (on (fork_state n.outputs n.next o)) (view c.loop-made.ends) c.loop-made.made) inv.held.1 (inv.went ins at) in
           let given = gave ins outs n.kind n.outputs n.next x at (inv.outputs ∙ c.requires.outputs) inv.next came c.space.ensures.looked wrote in
           let holds = subst (λ o. Went ins outs b s a (on o) w (c.loop-made.made + 1)) (owing_more x n.outputs n.next more) given in
-          subst (λ o. Went ins outs b s a (on (step_of n.outputs (n.next + 1) o)) w (c.loop-made.made + 1)) (sym inv.held.1) holds;
+          subst (λ o. Went ins outs b s a (on (fork_state n.outputs (n.next + 1) o)) w (c.loop-made.made + 1)) (sym inv.held.1) holds;
     }

@@ -4,7 +4,7 @@ use Rattle.flow_base.specs.Visits.{Went}
 use Rattle.flow_base.specs.declared.node.Phase.TheVariants.{Working}
 use Rattle.flow_base.proofs.Carried.{same_ends_refl, same_ends_then}
 use Rattle.flow_base.proofs.Kernels.{went_none, went_further}
-use Rattle.flow_scalar.specs.ForkMachine.{ForkPorts, Step, fork_ports, step_of, idle, fork_machine}
+use Rattle.flow_scalar.specs.ForkMachine.{ForkPorts, ForkState, fork_ports, fork_state, idle, fork_machine}
 use Rattle.flow_scalar.proofs.ForkBlocks.{fork_view}
 use Rattle.flow_scalar.proofs.fork.Fork.instances.Goals as goal
 
@@ -45,9 +45,9 @@ returns-then-count-eq0-clause-went g c =
     let reads : 0 < length ins = omega (arith, c.requires.wired.each_input) in
     let none = c.requires.idle in
     λ at.
-    let on : Step → NodeState (ForkPorts × Step) = λ s. node_state (p, s) Working at in
+    let on : ForkState → NodeState (ForkPorts × ForkState) = λ s. node_state (p, s) Working at in
     let s = node_state (fork_view n) Working at in
-    let at_start : on idle ≡ s = ap (λ o. on (step_of n.outputs n.next o)) (sym none) in
+    let at_start : on idle ≡ s = ap (λ o. on (fork_state n.outputs n.next o)) (sym none) in
     let copied = subst (λ k. Went ins outs b k v k w ((length outs + 1) * count)) at_start (c.block_to_each-count.ensures.copied ins reads refl p refl c.requires.outputs at) in
     subst (Went ins outs b s (view c.args.ends.now) s w) (instances_none (length outs + 1) c.loop-made.made count c.if-count-eq0.true) (went_further b ins outs (c.loop-made.invariant.went at) copied)
 
@@ -73,9 +73,9 @@ loop-made-preserved g c =
       within = omega (arith, inv.within, block.within, c.loop-made-test.true);
       room = λ q lt. omega (arith, inv.room q lt, block.room q lt);
       went = λ at.
-          let on : Step → NodeState (ForkPorts × Step) = λ s. node_state (p, s) Working at in
+          let on : ForkState → NodeState (ForkPorts × ForkState) = λ s. node_state (p, s) Working at in
           let s = node_state (fork_view n) Working at in
-          let at_start : on idle ≡ s = ap (λ o. on (step_of n.outputs n.next o)) (sym none) in
+          let at_start : on idle ≡ s = ap (λ o. on (fork_state n.outputs n.next o)) (sym none) in
           let copied = subst (λ k. Went ins outs b k v k w ((length outs + 1) * count)) at_start (block.copied ins reads refl p refl c.requires.outputs at) in
           subst (Went ins outs b s a s w) (instances_more (length outs + 1) c.loop-made.made count) (went_further b ins outs (inv.went at) copied);
     }

@@ -6,7 +6,7 @@ use Rattle.flow_base.specs.Nodes.{NodeState, behaviour_of, node_state}
 use Rattle.flow_base.specs.Visits.{Went}
 use Rattle.flow_base.specs.declared.node.Phase.TheVariants.{Working}
 use Rattle.flow_base.proofs.Kernels.{went_none, went_read, leads_on}
-use Rattle.flow_scalar.specs.ForkMachine.{ForkPorts, Step, fork_ports, step_of, idle, holding, fork_machine}
+use Rattle.flow_scalar.specs.ForkMachine.{ForkPorts, ForkState, fork_ports, fork_state, idle, holding, fork_machine}
 use Rattle.flow_scalar.proofs.Leading.{nothing}
 use Rattle.flow_scalar.proofs.ForkBlocks.{fork_view}
 use Rattle.flow_scalar.proofs.fork.Fork.take_on.Goals as goal
@@ -36,9 +36,9 @@ returns-clause-went g c =
     let reads : 0 < length ins = omega (arith, c.requires.wired.each_input) in
     let none = nothing n.held (sym c.is_some.ensures ∙ c.if-is_some.false) in
     λ at.
-    let on : Step → NodeState (ForkPorts × Step) = λ s. node_state (p, s) Working at in
+    let on : ForkState → NodeState (ForkPorts × ForkState) = λ s. node_state (p, s) Working at in
     let s = node_state (fork_view n) Working at in
-    let at_start : on idle ≡ s = ap (λ o. on (step_of n.outputs n.next o)) (sym none) in
+    let at_start : on idle ≡ s = ap (λ o. on (fork_state n.outputs n.next o)) (sym none) in
     let held = holding (cell_of c.in-Some.item) p.others in
     let began = subst (λ k. Went ins outs b s a k a 0) (sym at_start) (went_none b ins outs s a) in
     went_read b ins outs began 0 x (on held) w reads refl taken (leads_on fork_machine p idle held at (on_kind n.kind (λ y. Ok (holding y p.others))) x (λ y. refl) (c.in-Some.ensures.leads p.others))

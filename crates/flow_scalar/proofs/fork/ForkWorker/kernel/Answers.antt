@@ -8,7 +8,7 @@ use Rattle.flow_base.specs.Visits.{edge_of, Went}
 use Rattle.flow_base.specs.declared.node.Phase.TheVariants.{Working}
 use Rattle.flow_base.proofs.Carried.{same_ends_then, taken_room}
 use Rattle.flow_base.proofs.Kernels.{went_none, went_read, leads_on}
-use Rattle.flow_scalar.specs.ForkMachine.{ForkPorts, Step, fork_ports, step_of, idle, holding, fork_machine}
+use Rattle.flow_scalar.specs.ForkMachine.{ForkPorts, ForkState, fork_ports, fork_state, idle, holding, fork_machine}
 use Rattle.flow_scalar.proofs.Leading.{nothing}
 use Rattle.flow_scalar.proofs.ForkBlocks.{fork_view}
 use Rattle.flow_scalar.proofs.fork.ForkWorker.kernel.Goals as goal
@@ -80,9 +80,9 @@ loop-made-preserved g c =
       ends = same_ends_then a u w (same_ends_then a v u inv.ends taken.ends) put.ends;
       room = λ q lt. omega (arith, inv.room q lt, taken_room v u _ (edge_of outs q) _ taken, put.room q lt);
       went = λ at.
-          let on : Step → NodeState (ForkPorts × Step) = λ s. node_state (p, s) Working at in
+          let on : ForkState → NodeState (ForkPorts × ForkState) = λ s. node_state (p, s) Working at in
           let s = node_state (fork_view n) Working at in
-          let at_start : on idle ≡ s = ap (λ o. on (step_of n.outputs n.next o)) (sym none) in
+          let at_start : on idle ≡ s = ap (λ o. on (fork_state n.outputs n.next o)) (sym none) in
           let began = subst (λ k. Went ins outs b s a k v ((length outs + 1) * made)) (sym at_start) (inv.went at) in
           let read = went_read b ins outs began 0 x (on held) u reads refl taken (leads_on fork_machine p idle held at (on_kind n.kind (λ y. Ok (holding y p.others))) x (λ y. refl) (c.in-Some-item_at.ensures.leads p.others)) in
           let wrote = put.went ins p (sym c.requires.wired.each_output) at s a ((length outs + 1) * made + 1) read in

@@ -2,7 +2,7 @@ use Rattle.std.proofs.Common.{◌≡◌, ◌+◌, ◌<◌, ◌≤◌, false, not
 use Rattle.std.proofs.lemmas.List.{length-take-le}
 use Rattle.std.proofs.lemmas.List.Sums.{count_by-le-length}
 use Rattle.flow_messages.specs.Ends.{PutAll}
-use Rattle.flow_messages.specs.Blocks.{units_said, flags_said}
+use Rattle.flow_messages.specs.Blocks.{unit_signals, flag_signals}
 use Rattle.flow_base.specs.Nodes.{behaviour_of, node_state}
 use Rattle.flow_base.specs.Visits.{edge_of, Went}
 use Rattle.flow_base.specs.declared.node.Phase.TheVariants.{Working}
@@ -55,12 +55,12 @@ loop-ends-preserved g c =
     let units = c.elements_in-units.result in
     let reads : 0 < length ins = omega (arith, c.requires.wired.each_input) in
     let writes : 0 < length outs = omega (arith, c.requires.wired.each_output) in
-    let within : whole ≤ length (flags_said shown) = omega (arith, length_flags shown, c.min.ensures, c.min-whole.ensures) in
+    let within : whole ≤ length (flag_signals shown) = omega (arith, length_flags shown, c.min.ensures, c.min-whole.ensures) in
     let long : length flags ≡ whole = length-take-le whole shown (omega (arith, c.min.ensures, c.min-whole.ensures)) in
     let fewer : units ≤ whole = omega (arith, c.elements_in-units.ensures, count_by-le-length not flags, long) in
     let of_units : units ≡ elements flags = c.elements_in-units.ensures ∙ sym (counted flags) in
-    let taken = skipped whole (flags_said shown) (flags_said flags) u (edge_of ins 0) v c.flags-flags.ensures within (take_flags whole shown) c.skip.ensures.taken in
-    let put : PutAll v (edge_of outs 0) (units_said (elements flags)) w = subst (λ n. PutAll v (edge_of outs 0) (units_said n) w) of_units c.put_units.ensures.put in
+    let taken = skipped whole (flag_signals shown) (flag_signals flags) u (edge_of ins 0) v c.flags-flags.ensures within (take_flags whole shown) c.skip.ensures.taken in
+    let put : PutAll v (edge_of outs 0) (unit_signals (elements flags)) w = subst (λ n. PutAll v (edge_of outs 0) (unit_signals n) w) of_units c.put_units.ensures.put in
     let steps : done + (length flags + elements flags) ≡ done + (whole + units) = omega (arith, long, of_units) in
     let some : 0 < length flags + elements flags = omega (arith, long, c.if-whole-eq0.false) in
     let E = g.met.E.Ends in
@@ -73,6 +73,6 @@ loop-ends-preserved g c =
           let at_start : on ins outs at false ≡ s = ap (on ins outs at) (sym c.if-self.false) in
           let so_far = subst (λ k. Went ins outs b s a k t done) (sym at_start) (inv.went at) in
           let looked = went_looked b ins outs so_far 0 u writes c.space-room.ensures.looked in
-          let went = singles_went ins outs b (flags_said flags) (units_said (elements flags)) reads writes looked (units_of_rounds ins outs at flags) some (ended_units (elements flags)) v w taken put in
+          let went = singles_went ins outs b (flag_signals flags) (unit_signals (elements flags)) reads writes looked (units_of_rounds ins outs at flags) some (ended_units (elements flags)) v w taken put in
           subst (λ k. Went ins outs b s a k w (done + (whole + units))) at_start (subst (Went ins outs b s a (on ins outs at false) w) steps went);
     }

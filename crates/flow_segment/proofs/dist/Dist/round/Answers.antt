@@ -1,7 +1,7 @@
 use Rattle.std.proofs.Common.{◌≡◌, ◌+◌, ◌*◌, ◌<◌, suc, true, false, [], ◌∷◌, ◌++◌, length, take, sym, ◌∙◌, ap, subst, arith}
 use Rattle.std.specs.Prelude.{replicate}
 use Rattle.flow_messages.specs.Cells.{cell_of, flag}
-use Rattle.flow_messages.specs.Blocks.{flags_said}
+use Rattle.flow_messages.specs.Blocks.{flag_signals}
 use Rattle.flow_messages.specs.Signals.{carry}
 use Rattle.flow_base.specs.Nodes.{behaviour_of, node_state}
 use Rattle.flow_base.specs.Visits.{edge_of, Went}
@@ -45,9 +45,9 @@ returns-then-ends_at-clause-went g c =
     let writes : 0 < length outs = omega (arith, c.requires.wired.each_output) in
     let within : n < length xs = c.ends_at.ensures.shown c.if-ends_at.true in
     let next : n + 1 ≡ suc n = omega arith in
-    let flags = flags_said (replicate n false) ++ carry (flag true) ∷ [] in
-    let block : take (n + 1) (flags_said xs) ≡ flags = take_flags (n + 1) xs ∙ ap (λ k. flags_said (take k xs)) next ∙ segment_block n xs within c.elements_ahead-count.ensures.ahead (c.ends_at.ensures.ends c.if-ends_at.true) in
-    let taken = skipped (n + 1) (flags_said xs) flags v (edge_of ins 1) w c.flags-shown.ensures (omega (arith, length_flags xs)) block c.skip.ensures.taken in
+    let flags = flag_signals (replicate n false) ++ carry (flag true) ∷ [] in
+    let block : take (n + 1) (flag_signals xs) ≡ flags = take_flags (n + 1) xs ∙ ap (λ k. flag_signals (take k xs)) next ∙ segment_block n xs within c.elements_ahead-count.ensures.ahead (c.ends_at.ensures.ends c.if-ends_at.true) in
+    let taken = skipped (n + 1) (flag_signals xs) flags v (edge_of ins 1) w c.flags-shown.ensures (omega (arith, length_flags xs)) block c.skip.ensures.taken in
     λ at.
     let went = copies_went ins outs m.kind at x flags n reads writes a v w z c.space.ensures.looked (segment_rounds ins outs m.kind at x n) (omega arith) taken c.put_copies.ensures.put in
     subst (λ q. Went ins outs b (node_state (m.kind, q) Working at) a (node_state (m.kind, at_start) Working at) z (2 * n + 1)) (sym (held_at m.held m.copies c.in-Some.item c.in-Some.is c.requires.idle)) went
@@ -70,9 +70,9 @@ returns-clause-went g c =
     let reads : 1 < length ins = omega (arith, c.requires.wired.each_input) in
     let writes : 0 < length outs = omega (arith, c.requires.wired.each_output) in
     let made = c.elements_ahead-count.ensures in
-    let flags = flags_said (replicate n false) in
-    let block : take n (flags_said xs) ≡ flags = take_flags n xs ∙ ap flags_said (same_block false true n xs made.shown made.ahead) in
-    let taken = skipped n (flags_said xs) flags v (edge_of ins 1) w c.flags-shown.ensures (omega (arith, length_flags xs, made.shown)) block c.skip-2.ensures.taken in
+    let flags = flag_signals (replicate n false) in
+    let block : take n (flag_signals xs) ≡ flags = take_flags n xs ∙ ap flag_signals (same_block false true n xs made.shown made.ahead) in
+    let taken = skipped n (flag_signals xs) flags v (edge_of ins 1) w c.flags-shown.ensures (omega (arith, length_flags xs, made.shown)) block c.skip-2.ensures.taken in
     λ at.
     let went = copies_went ins outs m.kind at x flags n reads writes a v w z c.space.ensures.looked (copies_rounds ins outs m.kind at x n) (omega (arith, c.if-count-eq0.false)) taken c.put_copies-2.ensures.put in
     subst (λ q. Went ins outs b (node_state (m.kind, q) Working at) a (node_state (m.kind, q) Working at) z (2 * n)) (sym (held_at m.held m.copies c.in-Some.item c.in-Some.is c.requires.idle)) went

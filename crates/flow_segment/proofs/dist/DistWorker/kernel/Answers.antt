@@ -10,16 +10,16 @@ use Rattle.flow_base.specs.Visits.{edge_of, Went, Wrote}
 use Rattle.flow_base.specs.declared.node.Phase.TheVariants.{Working}
 use Rattle.flow_base.proofs.Carried.{same_ends_then, taken_room}
 use Rattle.flow_base.proofs.Kernels.{went_none, went_looked, went_read, went_write, leads_on}
-use Rattle.flow_segment.specs.DistMachine.{Step, at_start, at_flag, at_copy, step_of, dist_machine, dist_view}
+use Rattle.flow_segment.specs.DistMachine.{DistState, at_start, at_flag, at_copy, dist_state, dist_machine, dist_view}
 use Rattle.flow_segment.proofs.Leading.{item_leads}
 use Rattle.flow_segment.proofs.dist.DistWorker.kernel.Goals as goal
 
 -- how far a worker is that holds nothing, and one that holds this item
-starts : (held : Option Item) (copies : Bool) → held ≡ None → step_of held copies ≡ at_start
-starts held copies none = ap (λ o. step_of o copies) none
+starts : (held : Option Item) (copies : Bool) → held ≡ None → dist_state held copies ≡ at_start
+starts held copies none = ap (λ o. dist_state o copies) none
 
-holds : (held : Option Item) (copies : Bool) (item : Item) → held ≡ Some item → copies ≡ false → step_of held copies ≡ at_flag (cell_of item)
-holds held copies item some idle = ap (λ o. step_of o copies) some ∙ ap (step_of (Some item)) idle
+holds : (held : Option Item) (copies : Bool) (item : Item) → held ≡ Some item → copies ≡ false → dist_state held copies ≡ at_flag (cell_of item)
+holds held copies item some idle = ap (λ o. dist_state o copies) some ∙ ap (dist_state (Some item)) idle
 
 -- it made no step
 pub returns-then-self-clause-went : goal.returns-then-self-clause-went
@@ -69,7 +69,7 @@ loop-preserved-in_default g c =
       room = omega (arith, inv.room, taken_room v u _ (edge_of outs 0) _ taken);
       went = λ at.
           let s = node_state (dist_view c.args.self.now) Working at in
-          let on : Step → NodeState (Kind × Step) = λ q. node_state (k, q) Working at in
+          let on : DistState → NodeState (Kind × DistState) = λ q. node_state (k, q) Working at in
           let began = subst (λ q. Went ins outs b s a (on q) v c.loop.made) (starts n.held n.copies c.in_default.is) (inv.went at) in
           let leads = item_leads k (λ i. Ok (at_flag i)) (at_flag (cell_of item)) (cell_of item) is.1 refl in
           let one = went_read b ins outs began 0 x (on (at_flag (cell_of item))) u reads refl taken (leads_on dist_machine k at_start (at_flag (cell_of item)) at (on_kind k (λ i. Ok (at_flag i))) x (λ i. refl) leads) in
@@ -103,7 +103,7 @@ loop-preserved-then-last g c =
       room = omega (arith, inv.room, taken_room v u _ (edge_of outs 0) _ taken);
       went = λ at.
           let s = node_state (dist_view c.args.self.now) Working at in
-          let on : Step → NodeState (Kind × Step) = λ q. node_state (k, q) Working at in
+          let on : DistState → NodeState (Kind × DistState) = λ q. node_state (k, q) Working at in
           let began = subst (λ q. Went ins outs b s a (on q) v c.loop.made) (holds n.held n.copies c.in-Some.held c.in-Some.is inv.idle) (inv.went at) in
           went_read b ins outs began 1 x (on at_start) u reads refl taken (sym (ap (b.process.read (on (at_flag held))) read_as));
     }
@@ -153,7 +153,7 @@ loop-preserved g c =
       room = omega (arith, inv.room, taken_room v u _ to _ taken, c.put_in_space.ensures.room);
       went = λ at.
           let s = node_state (dist_view c.args.self.now) Working at in
-          let on : Step → NodeState (Kind × Step) = λ q. node_state (k, q) Working at in
+          let on : DistState → NodeState (Kind × DistState) = λ q. node_state (k, q) Working at in
           let here = holds n.held n.copies c.in-Some.held c.in-Some.is inv.idle in
           let began = subst (λ q. Went ins outs b s a (on q) v c.loop.made) here (inv.went at) in
           let one = went_read b ins outs began 1 x (on (at_copy held)) u reads refl taken (sym (ap (b.process.read (on (at_flag held))) read_as)) in

@@ -4,7 +4,7 @@ use Rattle.kahn.specs.declared.want.Want.TheVariants.{Read}
 use Rattle.flow_messages.specs.Cells.{Cell, flag}
 use Rattle.flow_messages.specs.Ends.{View, SameEnds, Taken}
 use Rattle.flow_messages.specs.Signals.{Signal, carry}
-use Rattle.flow_base.specs.Machines.{Taking, on_flag, taken, begins, takes, gives, ask_of, given_of, told_of, after_of, Leads}
+use Rattle.flow_base.specs.Machines.{Taking, on_flag, state_after_item, begins, takes, gives, ask_of, state_after_read, written_cell, state_after_write, Leads}
 use Rattle.flow_base.specs.Nodes.{NodeState, behaviour_of, node_state, want_for}
 use Rattle.flow_base.specs.Visits.{edge_of, Went, Wrote}
 use Rattle.flow_base.specs.declared.node.Phase.TheVariants.{Working}
@@ -17,11 +17,11 @@ use Rattle.flow_segment.proofs.over_flags.OverFlagsWorker.kernel.Goals as goal
 
 -- a table goes on by one step
 module _ {S : Type 0} (t : FlagTable S) (inputs outputs : List ℕ) (at : ℕ) {o : NodeState (Unit {0} × S)} {a : View} {s : S} {v : View} {n : ℕ} (went : Went inputs outputs (behaviour_of (over_flags t)) o a (node_state (tt, s) Working at) v n) where
-  table_reads : (p : ℕ) (k : Taking S) (x : Signal) (next : S) (w : View) → p < length inputs → want_for (ask_of (t.move s)) ≡ Read p → ((y : Cell) → given_of (t.move s) y ≡ taken k y) → Taken v (edge_of inputs p) x w → Leads k x next → Went inputs outputs (behaviour_of (over_flags t)) o a (node_state (tt, next) Working at) w (n + 1)
+  table_reads : (p : ℕ) (k : Taking S) (x : Signal) (next : S) (w : View) → p < length inputs → want_for (ask_of (t.move s)) ≡ Read p → ((y : Cell) → state_after_read (t.move s) y ≡ state_after_item k y) → Taken v (edge_of inputs p) x w → Leads k x next → Went inputs outputs (behaviour_of (over_flags t)) o a (node_state (tt, next) Working at) w (n + 1)
   table_reads p k x next w there wants given took leads = went_read (behaviour_of (over_flags t)) inputs outputs went p x (node_state (tt, next) Working at) w there wants took (leads_on (over_flags t) tt s next at k x given leads)
 
   table_writes : (q : ℕ) (x : Cell) (next : S) (w : View) → q < length outputs → gives q x next ≡ t.move s → Wrote v (edge_of outputs q) (carry x) w → Went inputs outputs (behaviour_of (over_flags t)) o a (node_state (tt, next) Working at) w (n + 1)
-  table_writes q x next w there is wrote = went_write (behaviour_of (over_flags t)) inputs outputs went q (carry x) (node_state (tt, next) Working at) w there (sym (ap (λ m. want_for (ask_of m)) is)) (ap (λ m. carry (told_of m)) is) wrote (ap (λ m. node_state (tt, after_of s m) Working at) is)
+  table_writes q x next w there is wrote = went_write (behaviour_of (over_flags t)) inputs outputs went q (carry x) (node_state (tt, next) Working at) w there (sym (ap (λ m. want_for (ask_of m)) is)) (ap (λ m. carry (written_cell m)) is) wrote (ap (λ m. node_state (tt, state_after_write s m) Working at) is)
 
 pub loop-made-init : goal.loop-made-init
 loop-made-init g c =
@@ -123,14 +123,14 @@ loop-made-preserved g c =
           let next = w.in-Some.next in
           let is : begins k ≡ t.move stage = w.in-Begin.ensures in
           let front = w.in-Some.ensures in
-          let taken = w.take_front.ensures.taken front.0 front.1 in
+          let state_after_item = w.take_front.ensures.taken front.0 front.1 in
           let there : 0 < length ins = omega (arith, first_there t laws stage _ is, c.requires.wired.each_input) in
           record {
             same = subst (g.E.Ends.same c.args.ends.now) (sym w.ends-is) (E.same_trans c.args.ends.now c.loop-made.ends w.take_front.new.ends inv.same w.take_front.ensures.same);
-            ends = subst (λ q. SameEnds a (view q)) (sym w.ends-is) (same_ends_then a v u inv.ends taken.ends);
+            ends = subst (λ q. SameEnds a (view q)) (sym w.ends-is) (same_ends_then a v u inv.ends state_after_item.ends);
             went = λ at.
                 let s = node_state (stage_view c.args.self.now) Working at in
-                let read = table_reads t ins outs at (inv.went at) 0 k front.0 next u there (sym (ap (λ m. want_for (ask_of m)) is)) (λ y. sym (ap (λ m. given_of m y) is)) taken front.2 in
+                let read = table_reads t ins outs at (inv.went at) 0 k front.0 next u there (sym (ap (λ m. want_for (ask_of m)) is)) (λ y. sym (ap (λ m. state_after_read m y) is)) state_after_item front.2 in
                 subst (λ q. Went ins outs b s a (node_state (stage_view q) Working at) (view c.match-step.ends) (made + 1)) (sym w.self-is) (subst (λ q. Went ins outs b s a (node_state (tt, next) Working at) (view q) (made + 1)) (sym w.ends-is) read);
           })
       | in-Take+in-Some-stage_at w ↦ (
@@ -140,14 +140,14 @@ loop-made-preserved g c =
           let next = w.in-Some-stage_at.next in
           let is : takes p k ≡ t.move stage = w.in-Take.ensures in
           let front = w.in-Some-stage_at.ensures in
-          let taken = w.take_front-in-Take.ensures.taken front.0 front.1 in
+          let state_after_item = w.take_front-in-Take.ensures.taken front.0 front.1 in
           let there : p < length ins = omega (arith, input_there t laws stage _ _ is, c.requires.wired.each_input) in
           record {
             same = subst (g.E.Ends.same c.args.ends.now) (sym w.ends-is) (E.same_trans c.args.ends.now c.loop-made.ends w.take_front-in-Take.new.ends inv.same w.take_front-in-Take.ensures.same);
-            ends = subst (λ q. SameEnds a (view q)) (sym w.ends-is) (same_ends_then a v u inv.ends taken.ends);
+            ends = subst (λ q. SameEnds a (view q)) (sym w.ends-is) (same_ends_then a v u inv.ends state_after_item.ends);
             went = λ at.
                 let s = node_state (stage_view c.args.self.now) Working at in
-                let read = table_reads t ins outs at (inv.went at) p k front.0 next u there (sym (ap (λ m. want_for (ask_of m)) is)) (λ y. sym (ap (λ m. given_of m y) is)) taken front.2 in
+                let read = table_reads t ins outs at (inv.went at) p k front.0 next u there (sym (ap (λ m. want_for (ask_of m)) is)) (λ y. sym (ap (λ m. state_after_read m y) is)) state_after_item front.2 in
                 subst (λ q. Went ins outs b s a (node_state (stage_view q) Working at) (view c.match-step.ends) (made + 1)) (sym w.self-is) (subst (λ q. Went ins outs b s a (node_state (tt, next) Working at) (view q) (made + 1)) (sym w.ends-is) read);
           })
       | in-Give+else-space-eq0 w ↦ (

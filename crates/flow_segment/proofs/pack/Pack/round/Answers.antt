@@ -4,14 +4,14 @@ use Rattle.std.proofs.lemmas.List.{length-take-le, length-replicate}
 use mathlib.Core.List.{IsPrefix}
 use Rattle.flow_messages.specs.Cells.{Cell, is_of, flag, int, unit}
 use Rattle.flow_messages.specs.Ends.{PutAll}
-use Rattle.flow_messages.specs.Blocks.{units_said, flags_said, ints_said}
+use Rattle.flow_messages.specs.Blocks.{unit_signals, flag_signals, int_signals}
 use Rattle.flow_messages.specs.Signals.{carry}
 use Rattle.flow_messages.specs.declared.message.Kind.{Kind}
 use Rattle.flow_base.specs.Nodes.{NodeState, behaviour_of, node_state}
 use Rattle.flow_base.specs.Visits.{edge_of, Went}
 use Rattle.flow_base.specs.declared.node.Phase.TheVariants.{Working}
 use Rattle.flow_base.proofs.Kernels.{went_none, went_looked}
-use Rattle.flow_segment.specs.PackMachine.{Step, at_start, step_of, kept, pack_machine, pack_view}
+use Rattle.flow_segment.specs.PackMachine.{PackState, at_start, pack_state, kept, pack_machine, pack_view}
 use Rattle.flow_segment.proofs.PackBlocks.{pairs_went, trues_kept, units_one_by_one}
 use Rattle.flow_segment.proofs.pack.Pack.round.Goals as goal
 
@@ -79,14 +79,14 @@ returns-else-whole-eq0-clause-went g c = λ at.
     let writes : 0 < length outs = omega (arith, c.requires.wired.each_output) in
     let in_bs : n ≤ length bs = omega (arith, c.min-in-Int.ensures, c.min-whole.ensures) in
     let in_xs : n ≤ length xs = omega (arith, c.min-in-Int.ensures, c.min-whole.ensures) in
-    let put : PutAll w2 (edge_of outs 0) (ints_said zs) w = subst (λ l. PutAll w2 (edge_of outs 0) (ints_said l) w) c.keep-count.ensures.kept c.put_ints.ensures.put in
+    let put : PutAll w2 (edge_of outs 0) (int_signals zs) w = subst (λ l. PutAll w2 (edge_of outs 0) (int_signals l) w) c.keep-count.ensures.kept c.put_ints.ensures.put in
     let long = c.keep-count.auto.block in
     let block = c.keep-count.new.block in
     let within : count ≤ length block = omega (arith, long, c.keep-count.ensures.within, length-take-le n bs in_bs, c.min-room.ensures, c.min.ensures, c.min-2.ensures, c.min-in-Int.ensures, c.min-whole.ensures) in
     let counts : count ≡ length zs = sym (length-take-le count block within) ∙ ap length c.keep-count.ensures.kept in
     let went = pairs_went ins outs m.kind at int (λ x. ap (λ k. is_of k (int x)) c.in-Int.is) c.requires.apart bs xs n count a u w1 w2 w reads writes c.space.ensures.looked (omega (arith, c.if-whole-eq0.false)) in_bs in_xs counts c.flags-shown.ensures c.ints-ints.ensures c.skip.ensures.taken c.skip-in-Int.ensures.taken put in
-    let on : Step → NodeState (Kind × Step) = λ q. node_state (m.kind, q) Working at in
-    let start : on at_start ≡ on (step_of m.pair) = ap (λ q. on (step_of q)) (sym c.requires.start) in
+    let on : PackState → NodeState (Kind × PackState) = λ q. node_state (m.kind, q) Working at in
+    let start : on at_start ≡ on (pack_state m.pair) = ap (λ q. on (pack_state q)) (sym c.requires.start) in
     subst (λ q. Went ins outs (behaviour_of pack_machine) q a q w (2 * n + count)) start went
 
 -- truth values
@@ -110,14 +110,14 @@ returns-else-whole-eq0-2-clause-went g c = λ at.
     let writes : 0 < length outs = omega (arith, c.requires.wired.each_output) in
     let in_bs : n ≤ length bs = omega (arith, c.min-in-Bool.ensures, c.min-whole-in-Bool.ensures) in
     let in_xs : n ≤ length xs = omega (arith, c.min-in-Bool.ensures, c.min-whole-in-Bool.ensures) in
-    let put : PutAll w2 (edge_of outs 0) (flags_said zs) w = subst (λ l. PutAll w2 (edge_of outs 0) (flags_said l) w) c.keep-count-in-Bool.ensures.kept c.put_flags.ensures.put in
+    let put : PutAll w2 (edge_of outs 0) (flag_signals zs) w = subst (λ l. PutAll w2 (edge_of outs 0) (flag_signals l) w) c.keep-count-in-Bool.ensures.kept c.put_flags.ensures.put in
     let long = c.keep-count-in-Bool.auto.block in
     let block = c.keep-count-in-Bool.new.block in
     let within : count ≤ length block = omega (arith, long, c.keep-count-in-Bool.ensures.within, length-take-le n bs in_bs, c.min-room.ensures, c.min.ensures, c.min-2.ensures, c.min-in-Bool.ensures, c.min-whole-in-Bool.ensures) in
     let counts : count ≡ length zs = sym (length-take-le count block within) ∙ ap length c.keep-count-in-Bool.ensures.kept in
     let went = pairs_went ins outs m.kind at flag (λ x. ap (λ k. is_of k (flag x)) c.in-Bool.is) c.requires.apart bs xs n count a u w1 w2 w reads writes c.space.ensures.looked (omega (arith, c.if-whole-eq0-2.false)) in_bs in_xs counts c.flags-shown.ensures c.flags-flags.ensures c.skip-in-Bool.ensures.taken c.skip-in-Bool-2.ensures.taken put in
-    let on : Step → NodeState (Kind × Step) = λ q. node_state (m.kind, q) Working at in
-    let start : on at_start ≡ on (step_of m.pair) = ap (λ q. on (step_of q)) (sym c.requires.start) in
+    let on : PackState → NodeState (Kind × PackState) = λ q. node_state (m.kind, q) Working at in
+    let start : on at_start ≡ on (pack_state m.pair) = ap (λ q. on (pack_state q)) (sym c.requires.start) in
     subst (λ q. Went ins outs (behaviour_of pack_machine) q a q w (2 * n + count)) start went
 
 -- units
@@ -145,11 +145,11 @@ returns-else-whole-eq0-3-clause-went g c = λ at.
     let in_xs : n ≤ length xs = omega (arith, units, c.min-in-Unit.ensures, c.min-whole-in-Unit.ensures) in
     let as_long : length (take n xs) ≡ length (take n bs) = length-take-le n xs in_xs ∙ sym (length-take-le n bs in_bs) in
     let counts : count ≡ length zs = c.trues_in-count.ensures.trues ∙ sym (trues_kept (take n bs) (take n xs) as_long) in
-    let says : units_said count ≡ map (λ x. carry (said x)) zs = ap units_said counts ∙ sym (units_one_by_one zs) in
-    let shows : units_said c.units.result ≡ map (λ x. carry (said x)) xs = ap units_said (sym units) ∙ sym (units_one_by_one xs) in
+    let says : unit_signals count ≡ map (λ x. carry (said x)) zs = ap unit_signals counts ∙ sym (units_one_by_one zs) in
+    let shows : unit_signals c.units.result ≡ map (λ x. carry (said x)) xs = ap unit_signals (sym units) ∙ sym (units_one_by_one xs) in
     let put = subst (λ l. PutAll w2 (edge_of outs 0) l w) says c.put_units.ensures.put in
     let first = subst (λ l. IsPrefix l (u.coming (edge_of ins 1))) shows c.units.ensures in
     let went = pairs_went ins outs m.kind at said (λ x. ap (λ k. is_of k unit) c.in-Unit.is) c.requires.apart bs xs n count a u w1 w2 w reads writes c.space.ensures.looked (omega (arith, c.if-whole-eq0-3.false)) in_bs in_xs counts c.flags-shown.ensures first c.skip-in-Unit.ensures.taken c.skip-in-Unit-2.ensures.taken put in
-    let on : Step → NodeState (Kind × Step) = λ q. node_state (m.kind, q) Working at in
-    let start : on at_start ≡ on (step_of m.pair) = ap (λ q. on (step_of q)) (sym c.requires.start) in
+    let on : PackState → NodeState (Kind × PackState) = λ q. node_state (m.kind, q) Working at in
+    let start : on at_start ≡ on (pack_state m.pair) = ap (λ q. on (pack_state q)) (sym c.requires.start) in
     subst (λ q. Went ins outs (behaviour_of pack_machine) q a q w (2 * n + count)) start went

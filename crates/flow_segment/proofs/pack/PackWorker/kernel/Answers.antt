@@ -10,7 +10,7 @@ use Rattle.flow_base.specs.Visits.{edge_of, Went}
 use Rattle.flow_base.specs.declared.node.Phase.TheVariants.{Working}
 use Rattle.flow_base.proofs.Carried.{same_ends_then, taken_room}
 use Rattle.flow_base.proofs.Kernels.{went_none, went_looked, went_read, went_write, leads_on}
-use Rattle.flow_segment.specs.PackMachine.{Step, at_start, at_item, at_copy, step_of, pack_machine, pack_view}
+use Rattle.flow_segment.specs.PackMachine.{PackState, at_start, at_item, at_copy, pack_state, pack_machine, pack_view}
 use Rattle.flow_segment.proofs.Leading.{item_leads}
 use Rattle.flow_segment.proofs.pack.PackWorker.kernel.Goals as goal
 
@@ -108,8 +108,8 @@ loop-preserved-then-not-keep g c =
       room = omega (arith, inv.room, taken_room v u _ to _ first, taken_room u w _ to _ second);
       went = λ at.
           let s = node_state (pack_view n) Working at in
-          let on : Step → NodeState (Kind × Step) = λ q. node_state (k, q) Working at in
-          let start : on at_start ≡ s = ap (λ q. on (step_of q)) (sym c.in-Start.is) in
+          let on : PackState → NodeState (Kind × PackState) = λ q. node_state (k, q) Working at in
+          let start : on at_start ≡ s = ap (λ q. on (pack_state q)) (sym c.in-Start.is) in
           let began = subst (λ q. Went ins outs b s a q v c.loop.made) (sym start) (inv.went at) in
           let one = went_read b ins outs began 0 x (on (at_item false)) u (omega arith) refl first (sym (ap (b.process.read (on at_start)) read_as)) in
           let leads = item_leads k (λ i. Ok at_start) at_start item is.1 refl in
@@ -154,8 +154,8 @@ loop-preserved g c =
       room = omega (arith, inv.room, taken_room v u _ to _ first, taken_room u w _ to _ second, c.put_in_space.ensures.room);
       went = λ at.
           let s = node_state (pack_view n) Working at in
-          let on : Step → NodeState (Kind × Step) = λ q. node_state (k, q) Working at in
-          let start : on at_start ≡ s = ap (λ q. on (step_of q)) (sym c.in-Start.is) in
+          let on : PackState → NodeState (Kind × PackState) = λ q. node_state (k, q) Working at in
+          let start : on at_start ≡ s = ap (λ q. on (pack_state q)) (sym c.in-Start.is) in
           let began = subst (λ q. Went ins outs b s a q v c.loop.made) (sym start) (inv.went at) in
           let one = went_read b ins outs began 0 x (on (at_item true)) u (omega arith) refl first (sym (ap (b.process.read (on at_start)) read_as)) in
           let leads = item_leads k (λ i. Ok (at_copy i)) (at_copy item) item is.1 refl in

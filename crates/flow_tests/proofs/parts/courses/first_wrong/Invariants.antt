@@ -2,4 +2,4 @@ use Rattle.flow_tests.specs.Joined.{AreJoined}
 use Rattle.flow_tests.proofs.parts.courses.first_wrong.Given as goal
 
 abbrev pub invariant-loop-number : goal.invariant-loop-number
-invariant-loop-number g l = AreJoined g.E.Meeting.joins l.wires l.ends
+invariant-loop-number g l = AreJoined g.E.Meeting.joins l.owners l.ends

@@ -1,6 +1,6 @@
 use Rattle.std.proofs.Common.{◌≡◌, get_or, sym, subst, ◌∙◌, arith}
 use Rattle.std.proofs.lemmas.List.{get_or_default}
-use Rattle.flow_meetings.specs.declared.wires.Wire.{Wire}
+use Rattle.flow_meetings.specs.declared.owners.EdgeOwners.{EdgeOwners}
 use Rattle.flow_meetings.specs.Open.{AreFreshEnds}
 use Rattle.flow_tests.proofs.parts.opened.crossed.Goals as goal
 
@@ -10,8 +10,8 @@ returns-clause-there g c =
     let left = c.swap_remove-left.result in
     let right = c.swap_remove-right.result in
     let joins = g.E.Meeting.joins in
-    let none : Wire = record { writer = 0; reader = 0 } in
-    let all = subst (λ ws. AreFreshEnds g.E.Ends.view joins g.E.Meeting.places ws 2 items) c.wires.ensures c.in_ok-ends.ensures.opened in
+    let none : EdgeOwners = record { writer = 0; reader = 0 } in
+    let all = subst (λ ws. AreFreshEnds g.E.Ends.view joins g.E.Meeting.slots ws 2 items) c.owners.ensures c.in_ok-ends.ensures.opened in
     let first : left ≡ get_or items 0 left = c.swap_remove-left.ensures.value ∙ c.swap_remove-right.ensures.by_index.1 0 left (λ h. omega (arith, h)) (omega (arith, c.in_ok-ends.ensures.count)) in
     let second : right ≡ get_or items 1 left = c.swap_remove-right.ensures.value ∙ get_or_default items 1 right left (omega (arith, c.in_ok-ends.ensures.count)) in
     subst (λ x. joins x right 0) (sym first) (subst (λ y. joins (get_or items 0 left) y 0) (sym second) (all.joined 0 none left (omega arith)))
@@ -22,8 +22,8 @@ returns-clause-back g c =
     let left = c.swap_remove-left.result in
     let right = c.swap_remove-right.result in
     let joins = g.E.Meeting.joins in
-    let none : Wire = record { writer = 0; reader = 0 } in
-    let all = subst (λ ws. AreFreshEnds g.E.Ends.view joins g.E.Meeting.places ws 2 items) c.wires.ensures c.in_ok-ends.ensures.opened in
+    let none : EdgeOwners = record { writer = 0; reader = 0 } in
+    let all = subst (λ ws. AreFreshEnds g.E.Ends.view joins g.E.Meeting.slots ws 2 items) c.owners.ensures c.in_ok-ends.ensures.opened in
     let first : left ≡ get_or items 0 left = c.swap_remove-left.ensures.value ∙ c.swap_remove-right.ensures.by_index.1 0 left (λ h. omega (arith, h)) (omega (arith, c.in_ok-ends.ensures.count)) in
     let second : right ≡ get_or items 1 left = c.swap_remove-right.ensures.value ∙ get_or_default items 1 right left (omega (arith, c.in_ok-ends.ensures.count)) in
     subst (λ x. joins right x 1) (sym first) (subst (λ y. joins y (get_or items 0 left) 1) (sym second) (all.joined 1 none left (omega arith)))

@@ -1,6 +1,6 @@
 use Rattle.std.proofs.Common.{length, sym, ◌∙◌, ap, subst}
 use Rattle.std.proofs.lemmas.List.{length-map}
-use Rattle.flow_graph.specs.Layouts.{nodes_of}
+use Rattle.flow_graph.specs.Skeletons.{nodes_of}
 use Rattle.flow_graph.specs.Places.{placed_state}
 use Rattle.flow_shares.specs.Deals.{AreDealt}
 use Rattle.flow_shares.proofs.Stays.{as_given}
@@ -17,4 +17,4 @@ gather_graph-requires g c κs within =
     let dealt = c.in_ok-dealt.ensures in
     let nodes = c.nodes-nodes.ensures ∙ length-map (nodes_of graph) placed_state in
     let deals = as_given share (nodes_of graph) (nodes_in shares) dealt.nodes in
-    (within.0, (within.1, (clauses.1.1.0, (nodes ∙ ap (λ s. length s.nodes) is, (ap (λ s. s.share) is, (dealt.layout ∙ ap (λ s. s.edges) is, subst (λ s. AreDealt s.share s.nodes (nodes_in shares)) is deals))))))
+    (within.0, (within.1, (clauses.1.1.0, (nodes ∙ ap (λ s. length s.nodes) is, (ap (λ s. s.share) is, (dealt.skeleton ∙ ap (λ s. s.edges) is, subst (λ s. AreDealt s.share s.nodes (nodes_in shares)) is deals))))))

@@ -1,5 +1,5 @@
-use Rattle.flow_drive.specs.Dealings.{setting_under}
+use Rattle.flow_drive.specs.Dealings.{network_under}
 use Rattle.flow_tests.proofs.shares.epochs.two_epochs.Given as goal
 
 abbrev pub ghost-two_epochs_in : goal.ghost-two_epochs_in
-ghost-two_epochs_in g a = setting_under a.graph a.config.now
+ghost-two_epochs_in g a = network_under a.graph a.config.now

@@ -1,13 +1,13 @@
 use Rattle.std.proofs.Common.{◌≡◌, sym, subst, rules}
-use Rattle.flow_meetings.specs.Settings.{AreFed}
+use Rattle.flow_meetings.specs.SharedNetworks.{AreFed}
 use Rattle.flow_rounds.specs.Epochs.{AreOfOneGraph}
-use Rattle.flow_drive.specs.Dealings.{setting_under}
+use Rattle.flow_drive.specs.Dealings.{network_under}
 use Rattle.flow_tests.proofs.shares.epochs.two_epochs_in.Goals as goal
 
 pub epoch-requires : goal.epoch-requires
 epoch-requires g c κs within =
     let made = c.in_ok-shares.ensures in
-    let same : g.setting ≡ setting_under c.args.graph c.args.config.now = search rules in
+    let same : g.network ≡ network_under c.args.graph c.args.config.now = search rules in
     let graph = subst (λ s. AreOfOneGraph s c.in_ok-shares.shares.items) (sym same) made.graph in
     (search rules, (search rules, (search rules, (search rules, (search rules, (search rules, (search rules, (search rules, (made.dealt.lawful, (graph, made.fed))))))))))
 

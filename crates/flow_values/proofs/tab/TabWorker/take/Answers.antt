@@ -3,8 +3,8 @@ use Rattle.snesl_data.specs.Types.{Ty, ty_of}
 use Rattle.snesl_data.specs.Values.{value_of}
 use Rattle.flow_messages.specs.Cells.{cell_of}
 use Rattle.flow_base.specs.Workers.{Takes}
-use Rattle.flow_base.specs.Machines.{given_of, with_parameters}
-use Rattle.flow_values.specs.TabMachine.{Step, step_in, tab_move}
+use Rattle.flow_base.specs.Machines.{state_after_read, with_parameters}
+use Rattle.flow_values.specs.TabMachine.{TabState, tab_state, tab_move}
 use Rattle.flow_values.proofs.Building.{item_taken}
 use Rattle.flow_values.proofs.tab.TabWorker.take.Goals as goal
 
@@ -16,5 +16,5 @@ returns-in-Item-clause-takes c =
     let got = map cell_of self.items.items in
     let x = cell_of c.args.item in
     let new = c.take_item.new.self in
-    let after : Ty × Step = (ty_of new.element, step_in new.stage (map value_of new.elements.items) (map cell_of new.items.items)) in
-    subst (λ r. Takes r (ty, step_in self.stage es got) c.take_item.result after) (ap (with_parameters ty) (item_taken ty es got x) ∙ sym (ap (λ s. with_parameters ty (given_of (tab_move ty (step_in s es got)) x)) c.in-Item.is)) c.take_item.ensures
+    let after : Ty × TabState = (ty_of new.element, tab_state new.stage (map value_of new.elements.items) (map cell_of new.items.items)) in
+    subst (λ r. Takes r (ty, tab_state self.stage es got) c.take_item.result after) (ap (with_parameters ty) (item_taken ty es got x) ∙ sym (ap (λ s. with_parameters ty (state_after_read (tab_move ty (tab_state s es got)) x)) c.in-Item.is)) c.take_item.ensures

@@ -2,14 +2,14 @@ use Rattle.std.proofs.Common.{subst}
 use Rattle.snesl_values.specs.Inputs.{Fits, dialect_of, environment_of}
 use Rattle.snesl_types.specs.Typed.{typed_inputs, typed_text, typed_tree, typed_ty}
 use Rattle.snesl_types.specs.declared.typed.Typed.{Typed}
-use Rattle.snesl_flatten.specs.PlanViews.{planned, plan_states, plan_edges}
+use Rattle.snesl_flatten.specs.PlanViews.{plan_typed, plan_states, plan_edges}
 use Rattle.snesl_flatten.proofs.Meanings.{network_means}
 use Rattle.snesl_flatten.proofs.plan.Plan.has_meaning.Goals as goal
 
 pub returns : goal.returns
 returns c =
     let plan = c.args.self.now in
-    let typed : Typed = planned plan in
+    let typed : Typed = plan_typed plan in
     let inputs = c.args.inputs.now in
     let environment = environment_of inputs in
     network_means (typed_text typed) (typed_tree typed) (typed_inputs typed) environment (plan_states plan) (plan_edges plan) c.graph_is_a_network.ensures.network c.requires.sources

@@ -4,7 +4,7 @@ use Rattle.std.proofs.lemmas.Option.{slice_get_within}
 use Rattle.std.proofs.lemmas.Iterator.Adapters.{YieldsList-from_vec}
 use Rattle.std.proofs.lemmas.Iterator.Consumers.{YieldsList-turn}
 use Rattle.snesl_types.specs.Typed.{typed_inputs, typed_text, typed_tree}
-use Rattle.flow_scalar.specs.SourceBehaviour.{source_opened}
+use Rattle.flow_scalar.specs.SourceBehaviour.{source_opening}
 use Rattle.flow_nodes.specs.StreamNodes.{a_source, node_behaviour}
 use Rattle.flow_graph.specs.Graphs.{states_of, edges_of}
 use Rattle.flow_graph.specs.Networks.{AreOpened}
@@ -13,10 +13,10 @@ use Rattle.flow_graph.specs.declared.edge.Edge.{Edge}
 use Rattle.flow_plans.specs.Layouts.{places}
 use Rattle.flow_base.specs.Columns.{Columns}
 use Rattle.snesl_flatten.specs.Networks.{NodeState}
-use Rattle.snesl_flatten.specs.PlanViews.{planned, steps_planned, AreButSources}
+use Rattle.snesl_flatten.specs.PlanViews.{plan_typed, plan_steps, AreButSources}
 use Rattle.flow_inputs.specs.TextSources.{items_in}
 use Rattle.snesl_flatten.specs.Sources.{all_kinds, cells_in, HasSources}
-use Rattle.snesl_flatten.proofs.Setting.{kind_next, fresh_next, place_is, next_within, may_set, next_has, others_stay}
+use Rattle.snesl_flatten.proofs.SetSources.{kind_next, fresh_next, place_is, next_within, may_set, next_has, others_stay}
 use Rattle.snesl_flatten.proofs.plan.Plan.set_sources.Goals as goal
 
 pub loop-source-init : goal.loop-source-init
@@ -31,7 +31,7 @@ loop-source-init c = record {
 
 pub index-requires : goal.index-requires
 index-requires c =
-    let typed = planned c.args.self.now in
+    let typed = plan_typed c.args.self.now in
     let all = c.args.sources.items in
     let it = c.into_iter-source-iterator.ensures.into_iter_gives in
     let done = c.loop-source.yielded in
@@ -42,7 +42,7 @@ index-requires c =
 
 pub replace-requires : goal.replace-requires
 replace-requires c =
-    let typed = planned c.args.self.now in
+    let typed = plan_typed c.args.self.now in
     let all = c.args.sources.items in
     let it = c.into_iter-source-iterator.ensures.into_iter_gives in
     let done = c.loop-source.yielded in
@@ -52,14 +52,14 @@ replace-requires c =
     let there = kind_next all (all_kinds (typed_inputs typed)) c.requires.kinds done c.in-Some.source turn in
     let has = c.loop-source.invariant.sources in
     let on : c.loop-source.step ≡ suc (length columns) = omega (arith, length-map done cells_in, c.loop-source.invariant.step) in
-    let place = place_is c.loop-source.self.places.items (places (steps_planned c.args.self.now)) (c.loop-source.invariant.places ∙ c.requires.places) c.loop-source.step (suc (length columns)) c.index.result.now c.index.ensures on
+    let place = place_is c.loop-source.self.places.items (places (plan_steps c.args.self.now)) (c.loop-source.invariant.places ∙ c.requires.places) c.loop-source.step (suc (length columns)) c.index.result.now c.index.ensures on
     (next_within (typed_text typed) (typed_tree typed) (typed_inputs typed) columns (states_of graph) (edges_of graph) has _ there) in
     subst (λ s. MayReplace node_behaviour (states_of graph) c.index.result.now (a_source, s)) (sym (fresh_next all c.requires.fresh done c.in-Some.source turn))
     (may_set (typed_text typed) (typed_tree typed) (typed_inputs typed) columns (states_of graph) (edges_of graph) has c.source_is_set.ensures c.openings_perform.ensures (items_in c.in-Some.source) there c.index.result.now place)
 
 pub loop-source-preserved : goal.loop-source-preserved
 loop-source-preserved c =
-    let typed = planned c.args.self.now in
+    let typed = plan_typed c.args.self.now in
     let all = c.args.sources.items in
     let it = c.into_iter-source-iterator.ensures.into_iter_gives in
     let done = c.loop-source.yielded in
@@ -72,7 +72,7 @@ loop-source-preserved c =
     let there = kind_next all (all_kinds (typed_inputs typed)) c.requires.kinds done s turn in
     let has = c.loop-source.invariant.sources in
     let on : c.loop-source.step ≡ suc (length columns) = omega (arith, length-map done cells_in, c.loop-source.invariant.step) in
-    let place = place_is c.loop-source.self.places.items (places (steps_planned c.args.self.now)) (c.loop-source.invariant.places ∙ c.requires.places) c.loop-source.step (suc (length columns)) k c.index.ensures on
+    let place = place_is c.loop-source.self.places.items (places (plan_steps c.args.self.now)) (c.loop-source.invariant.places ∙ c.requires.places) c.loop-source.step (suc (length columns)) k c.index.ensures on
     (next_within (typed_text typed) (typed_tree typed) (typed_inputs typed) columns states (edges_of graph) has _ there) in
     let is = c.replace.ensures.nodes ∙ ap (λ x. set states k (a_source, x)) (fresh_next all c.requires.fresh done s turn) in
     let set_has = next_has (typed_text typed) (typed_tree typed) (typed_inputs typed) columns states (edges_of graph) has c.source_is_set.ensures c.openings_perform.ensures (items_in s) there k place
@@ -84,10 +84,10 @@ loop-source-preserved c =
       sources =
           subst (λ (l : Columns). HasSources (typed_text typed) (typed_tree typed) (typed_inputs typed) l (states_of c.replace.new.self) (edges_of c.replace.new.self)) (sym (map-append cells_in done (s ∷ [])))
           (subst (λ (l : List NodeState). HasSources (typed_text typed) (typed_tree typed) (typed_inputs typed) (columns ++ cells_in s ∷ []) l (edges_of c.replace.new.self)) (sym is)
-          (subst (λ (l : List Edge). HasSources (typed_text typed) (typed_tree typed) (typed_inputs typed) (columns ++ cells_in s ∷ []) (set states k (a_source, source_opened (items_in s))) l) (sym c.replace.ensures.edges) set_has));
+          (subst (λ (l : List Edge). HasSources (typed_text typed) (typed_tree typed) (typed_inputs typed) (columns ++ cells_in s ∷ []) (set states k (a_source, source_opening (items_in s))) l) (sym c.replace.ensures.edges) set_has));
       edges = c.replace.ensures.edges ∙ c.loop-source.invariant.edges;
       others =
           subst (AreButSources c.args.self.now) (sym is)
-          (others_stay c.args.self.now states (length columns) k (a_source, source_opened (items_in s)) c.loop-source.invariant.others
+          (others_stay c.args.self.now states (length columns) k (a_source, source_opening (items_in s)) c.loop-source.invariant.others
           (slice_get_within (all_kinds (typed_inputs typed)) (length columns) _ there) place);
     }

@@ -7,14 +7,14 @@ use Rattle.flow_plans.specs.Layouts.{layout, IsNetworkOf}
 use Rattle.flow_assembly.specs.Openings.{AllOpen}
 use Rattle.snesl_translation.specs.Programs.{columns_of}
 use Rattle.snesl_flatten.specs.Networks.{program_steps}
-use Rattle.snesl_flatten.specs.PlanViews.{planned, plan_states, plan_edges}
+use Rattle.snesl_flatten.specs.PlanViews.{plan_typed, plan_states, plan_edges}
 use Rattle.snesl_flatten.specs.Sources.{all_kinds, written}
-use Rattle.snesl_flatten.proofs.Setting.{sources_fit}
+use Rattle.snesl_flatten.proofs.SetSources.{sources_fit}
 use Rattle.snesl_flatten.proofs.plan.Plan.with.Goals as goal
 
 pub returns-clause-network : goal.returns-clause-network
 returns-clause-network c =
-    let typed = planned c.args.self in
+    let typed = plan_typed c.args.self in
     let plan = c.set_sources.new.self in
     let environment = environment_of c.args.inputs in
     subst (λ (columns : Columns). IsNetworkOf node_behaviour (program_steps (typed_text typed) (typed_tree typed) (typed_inputs typed) (written columns)) (plan_states plan) (plan_edges plan))
@@ -23,7 +23,7 @@ returns-clause-network c =
 
 pub returns-clause-opens : goal.returns-clause-opens
 returns-clause-opens c =
-    let typed = planned c.args.self in
+    let typed = plan_typed c.args.self in
     let plan = c.set_sources.new.self in
     let environment = environment_of c.args.inputs in
     subst (λ (columns : Columns). AllOpen (layout (program_steps (typed_text typed) (typed_tree typed) (typed_inputs typed) (written columns))) (plan_states plan))
@@ -32,6 +32,6 @@ returns-clause-opens c =
 
 pub sources_of_inputs-requires-clause-fits : goal.sources_of_inputs-requires-clause-fits
 sources_of_inputs-requires-clause-fits c =
-    let typed = planned c.args.self in
+    let typed = plan_typed c.args.self in
     let fits = sources_fit (typed_text typed) (typed_tree typed) (typed_inputs typed) in
     subst (λ ds. length (all_kinds ds) < 2 ^ 64) (sym c.decls.ensures) (omega (arith, fits, ap length c.requires.holds.places_are, c.args.self.places.ok.0))

@@ -1,0 +1,95 @@
+// The steps of a plan, and how often they read each stream.
+
+ghost use Rattle.std.specs.Prelude.{◌≡◌, ℕ, ◌+◌, ◌<◌, ◌≤◌, ◌⊎◌, length, slice_index_or, IfOk, OnOk, IfErr};
+ghost use Rattle.snesl_data.specs.declared.refusal.Refusal.TheVariants.{TooBig, NoMemory};
+ghost use Rattle.flow_graph.specs.Limits.{most_edges};
+ghost use Rattle.flow_plans.specs.Layouts.{times};
+ghost use Rattle.flow_plans.specs.Views.{steps_of};
+ghost use Rattle.flow_assembly.specs.Ready.{plan_of, IsCounted, IsTooBig};
+
+use flow_graph::MAX_EDGES;
+use flow_plans::Step;
+use snesl_data::{Dialect, Refusal};
+use std::alloc::{AllocError, Global};
+
+/// The steps of a plan in a program of the dialect, with how often they read each stream.
+#[derive(Debug, Drop)]
+pub struct CountedSteps {
+    pub dialect: Dialect,
+    pub steps: Vec<Step>,
+    pub uses: Vec<usize>,
+}
+
+impl CountedSteps {
+    /// The plan of these steps. `TooBig` only where they read so much that their network has too many edges.
+    pub fn new(alloc: Global, dialect: Dialect, steps: Vec<Step>) -> Result<CountedSteps, Refusal>
+        ensures plan { IfOk result (λ plan. plan_of plan ≡ steps_of dialect steps.items) }
+        ensures counted { IfOk result (λ plan. IsCounted plan.uses.items (plan_of plan)) }
+        ensures dialect { IfOk result (λ plan. plan.dialect ≡ dialect) }
+        ensures steps { IfOk result (λ plan. plan.steps.items ≡ steps.items) }
+        ensures big { result ≡ Err TooBig → IsTooBig (steps_of dialect steps.items) }
+        ensures memory { IfErr result (λ refusal. (refusal ≡ TooBig) ⊎ (refusal ≡ NoMemory)) }
+    {
+        let mut uses = Vec::new(alloc);
+        for step in &steps {
+            add_uses(&mut uses, &step.reads)?;
+        }
+        Ok(CountedSteps {
+            dialect,
+            steps,
+            uses,
+        })
+    }
+
+    /// How often the steps read the stream.
+    pub fn uses(&self, stream: usize) -> usize
+        ensures { result ≡ slice_index_or self.now.uses.items stream 0 }
+    {
+        match self.uses.get(stream) {
+            Some(uses) => *uses,
+            None => 0,
+        }
+    }
+}
+
+// Counts these reads.
+fn add_uses(uses: &mut Vec<usize>, reads: &[usize]) -> Result<(), Refusal>
+    ensures counted { OnOk result ((s : ℕ) → slice_index_or uses.new.items s 0 ≡
+        slice_index_or uses.old.items s 0 + times s reads.now) }
+    ensures big { result ≡ Err TooBig → (s : ℕ) ×
+        (most_edges < slice_index_or uses.old.items s 0 + times s reads.now) }
+    ensures memory { IfErr result (λ refusal. (refusal ≡ TooBig) ⊎ (refusal ≡ NoMemory)) }
+{
+    for stream in reads {
+        add_use(uses, *stream)?;
+    }
+    Ok(())
+}
+
+// Counts one read of the stream.
+fn add_use(uses: &mut Vec<usize>, stream: usize) -> Result<(), Refusal>
+    ensures one { OnOk result (slice_index_or uses.new.items stream 0 ≡
+        slice_index_or uses.old.items stream 0 + 1) }
+    ensures others { OnOk result ((s : ℕ) → (s ≡ stream → ⊥) → slice_index_or uses.new.items s 0 ≡
+        slice_index_or uses.old.items s 0) }
+    ensures big { result ≡ Err TooBig → most_edges ≤ slice_index_or uses.old.items stream 0 }
+    ensures memory { IfErr result (λ refusal. (refusal ≡ TooBig) ⊎ (refusal ≡ NoMemory)) }
+{
+    extend(uses, stream)?;
+    if uses[stream] >= MAX_EDGES {
+        return Err(Refusal::TooBig);
+    }
+    uses[stream] += 1;
+    Ok(())
+}
+
+// Makes the table so long that the stream is in it.
+fn extend(uses: &mut Vec<usize>, stream: usize) -> Result<(), AllocError>
+    ensures inside { OnOk result (stream < length uses.new.items) }
+    ensures same { (s : ℕ) → slice_index_or uses.new.items s 0 ≡ slice_index_or uses.old.items s 0 }
+{
+    while uses.len() <= stream {
+        uses.push(0)?;
+    }
+    Ok(())
+}
