@@ -32,16 +32,3 @@ fn append_byte(made: &mut Vec<u8>, byte: u8) -> Result<(), AllocError>
     }
     Ok(())
 }
-
-#[cfg(test)]
-mod tests {
-    use super::*;
-    use std::test::Fail;
-
-    #[test]
-    fn no_byte_of_a_text_ends_its_string(rt: HostRuntime) -> Result<(), Fail> {
-        let made = quoted(rt.alloc(), b"a \"b\\\"\n\t\x7f\xc3\xa9~")?;
-        assert_eq!(rt; made.as_slice(), b"a \\\"b\\\\\\\"\\n ???~".as_slice());
-        Ok(())
-    }
-}

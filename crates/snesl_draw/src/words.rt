@@ -103,23 +103,3 @@ pub fn kind_colour(kind: Kind) -> &'static str
         Kind::Vec => "#26782e",
     }
 }
-
-#[cfg(test)]
-mod tests {
-    use super::*;
-
-    #[test]
-    fn a_node_is_called_by_its_operation(rt: HostRuntime) {
-        assert_eq!(rt;
-            operation_word(&Operation::Binary(BinaryOperator::Multiply)),
-            "Binary: Multiply"
-        );
-        assert_eq!(rt; operation_word(&Operation::Pack(Kind::Int)), "Pack");
-    }
-
-    #[test]
-    fn a_kind_has_a_word_and_a_colour(rt: HostRuntime) {
-        assert_eq!(rt; kind_word(Kind::Vec), "vector");
-        assert_eq!(rt; kind_colour(Kind::Unit), "#777777");
-    }
-}

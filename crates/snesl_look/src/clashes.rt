@@ -205,25 +205,3 @@ fn append_type(text: &mut Vec<u8>, ty: &Ty) -> Result<(), AllocError>
         }
     }
 }
-
-#[cfg(test)]
-mod tests {
-    use super::*;
-    use std::test::Fail;
-
-    #[test]
-    fn a_mismatch_tells_the_types_of_its_operands(rt: HostRuntime) -> Result<(), Fail> {
-        let clash = Clash::Operands(Ty::Int, Ty::Bool);
-        let message = clash_message(rt.alloc(), 2, b"x + true", &clash)?;
-        let want = b"error: a value of another type, or another number of values, is needed here
- --> line 1, column 3
-  |
-1 | x + true
-  |   ^
-  = note: the operands are of the types `int`, `bool`
-  = hint: operators take single values; for each element of a sequence `s` write `{x + 1 : x in s}`
-";
-        assert_eq!(rt; message.as_slice(), want.as_slice());
-        Ok(())
-    }
-}

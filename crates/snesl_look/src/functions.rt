@@ -104,25 +104,3 @@ fn blanks_len(text: &[u8]) -> usize
 {
     text.iter().take_while(|byte| is_blank(**byte)).count()
 }
-
-#[cfg(test)]
-mod tests {
-    use super::*;
-
-    const PROGRAM: &[u8] =
-        b"dialect 2; input n : int;\nfunction half(x : int) : int = {x : y in {1}; z in {2}} ! 0;\nhalf(n) + {a : b in {1}; c in {2}} ! 0";
-
-    #[test]
-    fn a_semicolon_in_a_bracket_ends_no_declaration(rt: HostRuntime) {
-        assert_eq!(rt; function_at(PROGRAM, 58), Some(b"half".as_slice()));
-        assert_eq!(rt; function_at(PROGRAM, 83), Some(b"half".as_slice()));
-        assert_eq!(rt; function_at(PROGRAM, 95), None);
-        assert_eq!(rt; function_at(PROGRAM, 111), None);
-    }
-
-    #[test]
-    fn an_input_is_no_function(rt: HostRuntime) {
-        assert_eq!(rt; function_at(PROGRAM, 12), None);
-        assert_eq!(rt; function_at(b"", 0), None);
-    }
-}

@@ -1,5 +1,5 @@
-// Tests that cross crates: of the language's calls, of jobs over readers and writers that go wrong, and of programs that run as
-// networks.
+// Tests that cross crates: of the language's calls, of jobs over readers and writers that go wrong, of programs that run as
+// networks, and of what a person is shown of them.
 #![tactic(auto)]
 
 #[cfg(test)]
@@ -11,11 +11,17 @@ mod command_lines;
 #[cfg(test)]
 mod declared_inputs;
 #[cfg(test)]
+mod drawings;
+#[cfg(test)]
 mod ending;
 #[cfg(test)]
 mod inputs;
 #[cfg(test)]
+mod least_capacities;
+#[cfg(test)]
 mod limping;
+#[cfg(test)]
+mod looks;
 #[cfg(test)]
 mod plans;
 #[cfg(test)]
