@@ -12,7 +12,5 @@ pub mod run;
 pub mod scalar;
 pub mod segment;
 pub mod syntax;
-#[cfg(test)]
-mod tests;
 pub mod types;
 pub mod values;

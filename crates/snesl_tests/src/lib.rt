@@ -5,6 +5,8 @@
 #[cfg(test)]
 mod answering;
 #[cfg(test)]
+mod calling;
+#[cfg(test)]
 mod calls;
 #[cfg(test)]
 mod command_lines;

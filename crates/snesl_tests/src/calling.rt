@@ -1,18 +1,18 @@
-// Each caller runs.
+// Each caller of the public crates runs.
 ghost use Rattle.flow_graph.specs.Graphs.{states_of};
 ghost use Rattle.flow_graph.specs.Networks.{AreOpened};
 ghost use Rattle.snesl_flatten.specs.StreamNodes.{node_behaviour};
 
-use crate::drive::outcome_on_two_threads;
-use crate::edges::messages;
-use crate::flatten::network_of;
-use crate::graph::carried;
-use crate::run::line_of;
-use crate::scalar::negated;
-use crate::segment::printed;
-use crate::syntax::is_program;
-use crate::types::value_of;
-use crate::values::value_text;
+use callers::drive::outcome_on_two_threads;
+use callers::edges::messages;
+use callers::flatten::network_of;
+use callers::graph::carried;
+use callers::run::line_of;
+use callers::scalar::negated;
+use callers::segment::printed;
+use callers::syntax::is_program;
+use callers::types::value_of;
+use callers::values::value_text;
 use flow_drive::{DriveError, Outcome};
 use flow_edges::{Item, Kind, Msg};
 use flow_graph::Graph;
