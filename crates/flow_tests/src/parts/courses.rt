@@ -36,10 +36,10 @@ pub enum Act {
 pub enum Block {
     PutsUnits(usize),
     PutsFlags(&'static [bool]),
-    PutsInts(&'static [i128]),
+    PutsInts(&'static [i64]),
     ShowsUnits(usize),
     ShowsFlags(&'static [bool]),
-    ShowsInts(&'static [i128]),
+    ShowsInts(&'static [i64]),
     SkipsOne,
 }
 

@@ -93,3 +93,27 @@ fn blocks(rt: HostRuntime) -> Result<(), Fail> {
     assert_eq!(rt; first_wrong(&mut table, &IN_BLOCKS), None);
     Ok(())
 }
+
+// An integer of more than 64 bits, and those put after it until it is taken, are shown in no slice.
+const WIDE: i128 = 18_446_744_073_709_551_616;
+
+const WIDE_AND_NARROW: [(usize, Act); 11] = [
+    (0, Act::Puts(Some(1))),
+    (0, Act::Puts(Some(WIDE))),
+    (0, Act::Puts(Some(3))),
+    (0, Act::Blocks(Block::ShowsInts(&[1]))),
+    (0, Act::Takes(Some(1))),
+    (0, Act::Blocks(Block::ShowsInts(&[]))),
+    (0, Act::Blocks(Block::PutsInts(&[4]))),
+    (0, Act::Takes(Some(WIDE))),
+    (0, Act::Takes(Some(3))),
+    (0, Act::Takes(Some(4))),
+    (0, Act::Counts(4, 4)),
+];
+
+#[test]
+fn wide_integers(rt: HostRuntime) -> Result<(), Fail> {
+    let mut table = Table::new(rt.alloc(), 1, 4)?;
+    assert_eq!(rt; first_wrong(&mut table, &WIDE_AND_NARROW), None);
+    Ok(())
+}
