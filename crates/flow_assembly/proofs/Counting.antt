@@ -14,7 +14,7 @@ use Rattle.flow_assembly.specs.Ready.{plan_of, IsTooBig}
 use Rattle.flow_assembly.proofs.Limiting.{too_many_uses}
 use Rattle.flow_assembly.proofs.Stepping.{read_one, read_others}
 
--- one of the steps that a list holds, and those behind it
+-- one of the steps that a list holds, and those after it
 pub steps_now : (dialect : Dialect) (steps : List StepData) (i : ℕ) (step : StepData) → i < length steps → step ≡ get_or steps i step → steps_of dialect (drop i steps) ≡ step_of dialect step ∷ steps_of dialect (drop (i + 1) steps)
 steps_now dialect steps i step lt is =
     let e : suc i ≡ i + 1 = omega arith in
@@ -41,7 +41,7 @@ drop_map f xs zero = refl
 drop_map f [] (suc i) = refl
 drop_map f (x ∷ xs) (suc i) = drop_map f xs i
 
--- the step of this number, and those behind it
+-- the step of this number, and those after it
 pub step_now : (plan : CountedSteps) (i : ℕ) (step : StepData) → i < length plan.steps.items → step ≡ get_or plan.steps.items i step → drop i (plan_of plan) ≡ step_of plan.dialect step ∷ drop (i + 1) (plan_of plan)
 step_now plan i step lt is =
     drop_map (step_of plan.dialect) plan.steps.items i ∙ steps_now plan.dialect plan.steps.items i step lt is

@@ -54,7 +54,7 @@ empty_built plan supply found states edges one two three four =
     subst (λ x. IsBuiltTo plan 0 x found states edges) (sym one) (subst (λ x. IsBuiltTo plan 0 [] x states edges) (sym two)
     (subst (λ x. IsBuiltTo plan 0 [] [] x edges) (sym three) (subst (λ x. IsBuiltTo plan 0 [] [] [] x) (sym four) (nothing_built plan))))
 
--- behind its last step a plan has none
+-- after its last step a plan has none
 pub plan_ended : (plan : CountedSteps) → drop (length plan.steps.items) (plan_of plan) ≡ []
 plan_ended plan = drop_of_length-le (plan_of plan) (omega (arith, length-map plan.steps.items (step_of plan.dialect)))
 

@@ -141,7 +141,7 @@ pub from_start : (k : ℕ) (nodes : List Placed) → inputs_from k nodes ≡ inp
 from_start k [] = refl
 from_start k (placed ∷ nodes) = refl
 
--- one input port, and those behind it
+-- one input port, and those after it
 next_input : (nodes : List Placed) (r p s : ℕ) → stream_to nodes r p ≡ Some s
     → inputs_behind r p (drop r nodes) ≡ (record { node = r; port = p; stream = s }) ∷ inputs_behind r (p + 1) (drop r nodes)
 next_input nodes r p s to =

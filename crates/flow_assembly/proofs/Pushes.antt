@@ -1,4 +1,4 @@
--- Edges behind others, and the numbers of the edges at ports.
+-- Edges after others, and the numbers of the edges at ports.
 use Rattle.std.specs.Prelude.{◌≡◌, ℕ, ◌<◌, ◌≤◌, ◌==◌, ◌&&◌, Bool, true, false, List, [], ◌∷◌, ◌++◌, length}
 use Rattle.std.specs.List.{position_or_len}
 use Rattle.std.proofs.Common.{sym, subst, arith, get_or, inl, inr}
@@ -11,14 +11,14 @@ use Rattle.std.proofs.Math.Seq.{get_or-append_seam}
 use borrow.Author.Count.{below_more}
 
 module _ {X : Type 0} where
-  -- what holds of each, and of one more behind them, holds of all
+  -- what holds of each, and of one more after them, holds of all
   pub each_push : (P : X → Type 0) (xs : List X) (y d : X) → ((e : ℕ) → e < length xs → P (get_or xs e d)) → P y → (e : ℕ) → e < length (xs ++ y ∷ []) → P (get_or (xs ++ y ∷ []) e d)
   each_push P xs y d all here e lt =
       below_more (λ k. P (get_or (xs ++ y ∷ []) k d)) (length xs) (λ k l. subst P (sym (get_or_append_left xs (y ∷ []) d k l)) (all k l))
       (subst P (sym (get_or-append_seam xs y [] d)) here) e (omega (arith, length_push xs y))
 
   module _ (p : X → Bool) (xs : List X) (y : X) where
-    -- one that is found is found behind more
+    -- one that is found is found after more
     pub found_stays : position_or_len p xs < length xs → position_or_len p (xs ++ y ∷ []) < length (xs ++ y ∷ [])
     found_stays lt = let e = position_or_len_push p xs y in let l = length_push xs y in grind (arith, nat_tests)
 

@@ -1,4 +1,4 @@
--- What is put behind a stream: a Sink, nothing, or a Fork.
+-- What is put after a stream: a Sink, nothing, or a Fork.
 use Rattle.std.specs.Prelude.{◌≡◌, ℕ, zero, suc, ◌+◌, ◌<◌, ◌≤◌, ◌^◌, ◌==◌, ◌⊎◌, List, [], ◌∷◌, ◌++◌, length, drop, replicate, Some, refl, if◌then◌else◌}
 use Rattle.std.specs.List.{slice_get}
 use Rattle.std.proofs.Common.{sym, ◌∙◌, ap, subst, arith, inl, inr, set, get_or-set_same, get_or-set_other}
@@ -30,7 +30,7 @@ State = (t : NodeKind) × (member t).State
 abbrev no_port : Port
 no_port = record { node = 0; port = 0 }
 
--- how many uses are left before and behind the streams that are done
+-- how many uses are left before and after the streams that are done
 pub left_done : (steps : List Step) (s t : ℕ) → t < s → left_before steps s t ≡ uses t steps
 left_done steps s t lt = grind (arith, nat_tests)
 
@@ -111,7 +111,7 @@ module _ (nodes : List Placed) (steps : List Step) (s : ℕ) (supply : List Port
     longer : length supply' ≡ length supply
     longer = length-set supply s (port_after (supplier supply s))
 
-    -- a Sink behind a stream with no use
+    -- a Sink after a stream with no use
     pub put_sink : uses s steps ≡ 0 → placed.writes ≡ [] → IsJoinedTo nodes (left_before steps (s + 1)) supply' (suc (length states)) 0 (states ++ state ∷ []) edges'
     put_sink none no_writes =
         passed nodes (left_without steps s) supply' (length states) (0 + 1) (states ++ state ∷ []) edges' joined_now (left_before steps (s + 1)) supply' one_port (omega arith)
@@ -125,7 +125,7 @@ module _ (nodes : List Placed) (steps : List Step) (s : ℕ) (supply : List Port
         }))
         (λ q t from. absurd (let e : slice_get [] q ≡ Some t = ap (λ l. slice_get l q) (sym no_writes) ∙ sym (writes_at q) ∙ from in cc))
 
-    -- a Fork behind a stream with several
+    -- a Fork after a stream with several
     module _ (n : ℕ) (many : uses s steps ≡ n) (fits : n < 2 ^ 64) (copies : placed.writes ≡ replicate n s) where
       abbrev pub forked : List Port
       forked = set supply' s (record { node = length states; port = 0 })
@@ -165,7 +165,7 @@ module _ (nodes : List Placed) (steps : List Step) (s : ℕ) (supply : List Port
             (sym (ap (λ w. w.node) forked_here), omega (arith, ap (λ w. w.port) forked_here), omega (arith, found.0, uses_here, ap (λ w. w.port) forked_here)),
           ))
 
--- What comes next behind a stream
+-- What comes next after a stream
 
 pub sink_next : (plan : List Step) (states : List State) (at s : ℕ) (kind : Kind) → ComeNext plan states (behind at s kind (uses s plan)) → uses s plan ≡ 0
     → slice_get (layout plan) (length states) ≡ Some (record { at = at; operation = sink kind; reads = s ∷ []; writes = [] })

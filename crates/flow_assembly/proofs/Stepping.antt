@@ -1,4 +1,4 @@
--- One step of a plan in its network: its reads, its streams, and what stands behind them.
+-- One step of a plan in its network: its reads, its streams, and what stands after them.
 use Rattle.std.specs.Prelude.{◌≡◌, ℕ, zero, suc, ◌+◌, ◌<◌, ◌≤◌, List, [], ◌∷◌, ◌++◌, length, drop, Some, refl}
 use Rattle.std.specs.List.{slice_get}
 use Rattle.std.proofs.Common.{sym, ◌∙◌, ap, subst, arith, get_or, set}

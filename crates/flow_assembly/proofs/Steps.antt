@@ -285,7 +285,7 @@ module _ (plan : List Step) (i : ℕ) (step : Step) (now : drop i plan ≡ step 
     pub step_inside : (first : ℕ) → first ≡ length supply → first + outputs ≤ length supply4
     step_inside first here = omega (arith, here, ap length longer, count)
 
-  -- and with what stands behind its streams it is built
+  -- and with what stands after its streams it is built
   pub step_built : (node : ℕ) (kinds2 : List Kind) (first : ℕ) (supply5 : List Port) (found5 : List ℕ) (states5 : List State) (edges5 : List Edge) → node ≡ length states → kinds2 ≡ kinds → first ≡ length supply
       → IsPutTo plan (first + length kinds2) supply5 found5 states5 edges5 → length states5 ≡ length states + 1 + length (all_behind plan step.at first kinds2) → length supply5 ≡ length supply + length kinds
       → found5 ≡ found ++ node ∷ [] → IsBuiltTo plan (i + 1) supply5 found5 states5 edges5

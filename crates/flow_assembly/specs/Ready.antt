@@ -41,11 +41,11 @@ pub record IsBuiltTo (plan : List Step) (i : ℕ) (supply : List Port) (found : 
   pub within : IsWithin plan states edges 0
   pub joined : IsJoinedTo (layout plan) (λ s. uses s (drop i plan)) supply (length states) 0 states edges
 
--- how many uses a stream has left once these steps are left, where what stands behind the streams from this one on is to come
+-- how many uses a stream has left once these steps are left, where what stands after the streams from this one on is to come
 abbrev pub left_before : List Step → (stream s : ℕ) → ℕ
 left_before steps stream s = if nat_lt s stream then uses s steps else 1
 
--- What stands behind the streams before this one is built.
+-- What stands after the streams before this one is built.
 pub record IsPutTo (plan : List Step) (stream : ℕ) (supply : List Port) (found : List ℕ) (states : List ((t : NodeKind) × (member t).State)) (edges : List Edge) : Type 0 where
   pub within : IsWithin plan states edges 0
   pub joined : IsJoinedTo (layout plan) (left_before (drop (length found) plan) stream) supply (length states) 0 states edges

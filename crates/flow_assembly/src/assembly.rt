@@ -29,7 +29,7 @@ pub struct Assembled {
     pub places: Vec<usize>,
 }
 
-/// The network of these steps, in a program of the dialect. Behind a stream that no step reads stands a Sink, and behind
+/// The network of these steps, in a program of the dialect. After a stream that no step reads stands a Sink, and after
 /// one that is read several times a Fork, whose outputs go to the ports that read the stream, in the order of steps and ports.
 /// There is an edge for each input port, numbered in the order of nodes and ports. The inputs are empty.
 ///

@@ -17,7 +17,7 @@ use flow_messages::Kind;
 use snesl_data::Refusal;
 
 impl Network {
-    /// Adds the step of this number, behind all before it: its transducer, and what stands behind the streams that it
+    /// Adds the step of this number, after all before it: its transducer, and what stands after the streams that it
     /// writes. Each port that reads a stream is joined.
     pub fn add_step(&mut self, plan: &CountedSteps, number: usize) -> Result<(), Refusal>
         requires inside { number < length plan.now.steps.items }
@@ -83,7 +83,7 @@ impl Network {
         Ok(())
     }
 
-    // Puts what stands behind the streams of these kinds, the first of which has this number.
+    // Puts what stands after the streams of these kinds, the first of which has this number.
     fn put_all_behind(
         &mut self,
         plan: &CountedSteps,
@@ -118,7 +118,7 @@ impl Network {
         Ok(())
     }
 
-    // Puts what stands behind one stream.
+    // Puts what stands after one stream.
     fn put_behind(
         &mut self,
         plan: &CountedSteps,

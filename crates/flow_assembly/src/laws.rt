@@ -14,7 +14,7 @@ pub fn openings_perform()
     rows_are_functions();
 }
 
-/// A plan has one network: the states in which its nodes open, and how its edges join them, are determined.
+/// A plan has at most one network: the states in which its nodes open, and how its edges join them, are determined.
 pub fn plan_has_one_network()
     ensures { PlansHaveOneNetwork }
 {}

@@ -50,7 +50,7 @@ module _ {S : Type 0} (b : Behaviour S) (promise : Promise S) (laws : PromiseLaw
         } in
         run_owed b promise laws start i o ((laws.opens start opens i o).1 traffic) (λ q le. closed_beyond (b.outputs start) outs q le)
 
-    -- on beginnings of what a run reads it writes beginnings of what that run writes
+    -- on prefixes of what a run reads it writes prefixes of what that run writes
     follows : FollowsLists b.process start (b.inputs start)
     follows = follows_lists b.process start (b.inputs start) (b.outputs start) lawful
 

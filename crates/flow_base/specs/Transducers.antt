@@ -79,7 +79,7 @@ module _ {S : Type 0} (b : Behaviour S) where
     pub lawful : IsLawful b.process start (b.inputs start) (b.outputs start)
     -- over bodies that satisfy the row it has a run to its end
     pub runs : (ins outs : Lists Cell) → b.row start ins outs → RunsToEnd b.process start (b.inputs start) (closed_at (b.inputs start) ins) (closed_at (b.outputs start) outs)
-    -- on beginnings of closed lists whose bodies satisfy the row it has not faulted, and wrote beginnings of those that go out
+    -- on prefixes of closed lists whose bodies satisfy the row it has not faulted, and wrote prefixes of those that go out
     pub beginnings : (ins outs : Lists Cell) → b.row start ins outs → (h : List (Event Signal)) (s : S) → Does b.process start h s →
         ((p : ℕ) → p < b.inputs start → Begins (reads p h) (closed (ins p))) →
         ((fault : Fault) → b.process.want s ≡ Faulted fault → ⊥) × ((q : ℕ) → q < b.outputs start → Begins (writes q h) (closed (outs q)))

@@ -16,7 +16,7 @@ read_from edge e [] = []
 read_from edge e (Reads p m ∷ h) = cond (eqb e (edge p)) (m ∷ read_from edge e h) (read_from edge e h)
 read_from edge e (Writes q m ∷ h) = read_from edge e h
 
--- what was sent on edge e after the events, where output port q has the edge `edge q`: nothing is put behind the end
+-- what was sent on edge e after the events, where output port q has the edge `edge q`: nothing is put after the end
 unfoldable pub sent_after : (ℕ → ℕ) → ℕ → List Signal → List (Event Signal) → List Signal
 sent_after edge e sent [] = sent
 sent_after edge e sent (Reads p m ∷ h) = sent_after edge e sent h

@@ -100,8 +100,8 @@ pub trait Transducer {
         ensures err { OnErr result (state self.new ≡ state self.old) }
         ensures sure { behaviour.takes_memory (state self.old) ≡ false → IsOk result };
 
-    /// A visit: as many steps as it can make, at least one where its ends are certain of one, and at most `chunk`. The
-    /// edges at its input ports and at its output ports are `inputs` and `outputs`. Whether it made a step.
+    /// A visit: some steps, at least one where its ends are certain of one. That there are at most `chunk` is not promised.
+    /// The edges at its input ports and at its output ports are `inputs` and `outputs`. Whether it made a step.
     ///
     /// An error where memory was refused. Then it stays where it was before that step, and a message that it was to
     /// read is lost.
@@ -155,7 +155,7 @@ pub trait Transducer {
 }
 
 /// A law and no code to run: what each transducer keeps to, from its opening state on, whatever it reads and
-/// writes. It is a lawful process; on beginnings of lawful traffic it has not faulted and wrote beginnings of what
+/// writes. It is a lawful process; on prefixes of lawful traffic it has not faulted and wrote prefixes of what
 /// goes out; where it has ended its traffic was lawful; and lawful traffic it carries to its end. Each item that it
 /// writes is of the kind of its port; and for each dialect it carries integers in its range where those that came
 /// in, and its own, are.

@@ -10,7 +10,7 @@ pub record SameBoxes (a b : Contents) : Type 0 where
   pub count : b.count ≡ a.count
   pub capacity : b.capacity ≡ a.capacity
 
--- the same is new behind s and behind q
+-- the same is new after s and after q
 abbrev pub GrowAlike : List Signal → List Signal → List Signal → List Signal → Type 0
 GrowAlike s q s' q' = (more : List Signal) × (s' ≡ s ++ more) × (q' ≡ q ++ more)
 
@@ -22,7 +22,7 @@ pub record KeepsRound (a b : Contents) : Type 0 where
   pub arrived : (k : ℕ) → a.ends.received k ++ a.ends.coming k ≡ b.ends.received k ++ b.ends.coming k
   -- what was received stays received
   pub received : (k : ℕ) → length (a.ends.received k) ≤ length (b.ends.received k)
-  -- what was sent since waits in the outbox, behind what was there
+  -- what was sent since waits in the outbox, after what was there
   pub sent : (k : ℕ) → GrowAlike (a.ends.sent k) (a.leaving k) (b.ends.sent k) (b.leaving k)
   -- each message that is sent takes one place of the room
   pub places : (k : ℕ) → length (a.ends.sent k) + a.ends.room k ≡ length (b.ends.sent k) + b.ends.room k

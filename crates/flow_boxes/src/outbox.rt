@@ -53,7 +53,7 @@ impl Outbox {
         })
     }
 
-    /// Puts a message behind all others, or gives it back.
+    /// Puts a message after all others, or gives it back.
     #[inline(always)]
     #[tactic(auto, using(flow_messages::proofs::Signals::signal_steps))]
     pub fn put(&mut self, message: Msg) -> Result<(), Refused>
@@ -103,7 +103,7 @@ impl Outbox {
         self.closed
     }
 
-    /// Puts so many units behind all others, unless `End` was put before.
+    /// Puts so many units after all others, unless `End` was put before.
     #[inline(always)]
     pub fn put_units(&mut self, count: usize)
         requires { count ≤ self.old.room }
@@ -120,7 +120,7 @@ impl Outbox {
         self.put = self.put.saturating_add(count as u64);
     }
 
-    /// Puts these truth values behind all others, unless `End` was put before.
+    /// Puts these truth values after all others, unless `End` was put before.
     #[inline(always)]
     pub fn put_flags(&mut self, flags: &[bool])
         requires { length flags.now ≤ self.old.room }
@@ -137,7 +137,7 @@ impl Outbox {
         self.put = self.put.saturating_add(flags.len() as u64);
     }
 
-    /// Puts these integers behind all others, unless `End` was put before.
+    /// Puts these integers after all others, unless `End` was put before.
     #[inline(always)]
     pub fn put_ints(&mut self, ints: &[i64])
         requires { length ints.now ≤ self.old.room }

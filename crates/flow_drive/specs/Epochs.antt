@@ -3,7 +3,7 @@ use Rattle.std.specs.Prelude.{◌≡◌, ℕ, ◌<◌, ◌≤◌}
 use Rattle.flow_drive.specs.declared.config.Drive.{Drive}
 use Rattle.flow_drive.specs.declared.config.Drive.TheVariants.{Serial, Rounds, Rings}
 
--- each of so many rounds or epochs moved one of so many messages at least, and there was one if any moved
+-- there were no more rounds or epochs than messages moved, and there was one if any moved
 abbrev pub MovedEach : ℕ → ℕ → Type 0
 MovedEach count moved = (count ≤ moved) × (0 < moved → 0 < count)
 

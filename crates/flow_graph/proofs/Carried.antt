@@ -67,7 +67,7 @@ module _ {S : Type 0} (P : Process S Signal) (is_end : P.end ≡ stop) (net : Ne
       ∙ read_other e away (before ++ Reads p m ∷ []) h (P.read s m) t (did_read before s p m did wants) rest
   read_other e away before (Writes q m ∷ h) s t did (wants, is, rest) = read_other e away (before ++ Writes q m ∷ []) h (P.wrote s) t (did_write before s q m did wants is) rest
 
-  -- no lawful node writes behind an end
+  -- no lawful node writes after an end
   still_open : (before : List (Event Signal)) (s : S) (q : ℕ) (sent : List Signal) → Does P (net.opening k) before s → P.want s ≡ Write q → sent ≡ writes q before → ended sent ≡ false
   still_open before s q sent did wants is = elim (cases_Bool (ended sent)) [
     | inl closed ↦ absurd (lawful.open_out before s q did wants (subst (HasEnd P) is (ended_has P is_end sent closed)))

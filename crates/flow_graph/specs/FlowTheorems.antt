@@ -30,7 +30,7 @@ module _ {S : Type 0} (b : Behaviour S) (states : List S) (edges : List Edge) wh
   abbrev pub FlowIsCarried : Type 0
   FlowIsCarried = (bodies : ℕ → List Cell) → IsLawfulFlow b states edges bodies → Carries b.process net (λ e. closed (bodies e))
 
-  -- each sound configuration has beginnings of a lawful flow on all edges, and no fault
+  -- each sound configuration has prefixes of a lawful flow on all edges, and no fault
   abbrev pub FlowIsBegun : Type 0
   FlowIsBegun =
       (bodies : ℕ → List Cell) → IsLawfulFlow b states edges bodies → (c : Configuration S Signal) → IsSound b.process net c

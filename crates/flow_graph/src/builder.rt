@@ -26,7 +26,7 @@ impl<T: Transducer + Drop> GraphBuilder<T> {
         }
     }
 
-    /// Adds a node, in its opening state, behind all others. Its number is how many there were.
+    /// Adds a node, in its opening state, after all others. Its number is how many there were.
     ///
     /// It is refused as `TooBig` exactly where there are `MAX_NODES` already, and else only as
     /// `NoMemory`. Then the builder stays as it was.
@@ -88,7 +88,7 @@ impl<T: Transducer + Drop> GraphBuilder<T> {
         from.kind_out(edge.writer_port) == to.kind_in(edge.reader_port)
     }
 
-    /// Adds an edge behind all others. Its number is how many there were.
+    /// Adds an edge after all others. Its number is how many there were.
     ///
     /// It is refused as `TooBig` exactly where there are `MAX_EDGES` already, and else only as
     /// `NoMemory`. Then the builder stays as it was.

@@ -34,7 +34,7 @@ pub fn rows_make_a_flow<T: Transducer>(graph: &Graph<T>)
 {}
 
 /// A graph carries a lawful flow, on each edge the closed list of its body: these are the histories of its edges (Kahn
-/// 1974). Each sound configuration has beginnings of them and no fault, and where all nodes ended the edges carried
+/// 1974). Each sound configuration has prefixes of them and no fault, and where all nodes ended the edges carried
 /// just them.
 pub fn flow_is_carried<T: Transducer>(graph: &Graph<T>)
     ensures carries { FlowIsCarried T.behaviour (states_of graph.now) (edges_of graph.now) }

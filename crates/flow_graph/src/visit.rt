@@ -10,7 +10,7 @@ use flow_messages::WholeEnds;
 use std::alloc::AllocError;
 
 impl<T: Transducer> Graph<T> {
-    /// Lets the node make as many steps as it can, at most `chunk`. Whether it made one.
+    /// Lets the node make a visit. Whether it made a step.
     ///
     /// An error where memory was refused. Then the node stays where it was before that step, and a message that it was
     /// to read is lost.

@@ -1,4 +1,4 @@
--- What is left to write where a value begins: what the value puts on the edge, and what is left behind it.
+-- What is left to write where a value begins: what the value puts on the edge, and what is left after it.
 use Rattle.std.proofs.Common.{◌≡◌, ℕ, ℤ, ◌+◌, ◌≤◌, Bool, true, false, cond, eqb, List, ◌∷◌, length, map, Option, Some, None, refl, sym, ap, ◌∙◌, arith}
 use Rattle.std.proofs.lemmas.Bool.{cond-false, eqb-true}
 use Rattle.std.proofs.lemmas.Bool.Decides.{nat_tests}

@@ -20,7 +20,7 @@ use Rattle.snesl_values.specs.Marks.{mark_of, Spot, spots, found_from}
 use Rattle.flow_inputs.specs.Left.{run, left}
 use Rattle.snesl_values.proofs.Spots.{spots_none, spots_some}
 
--- what is written by a turn and behind it
+-- what is written by a turn and after it
 abbrev pub behind_turn : List ℕ → List Component → Leaf → Turn → ℕ → List Piece
 behind_turn text way leaf u end = option_to_list u.0 ++ left text way leaf end u.1
 

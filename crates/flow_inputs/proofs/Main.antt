@@ -156,12 +156,12 @@ flags_law vector {text = text} way level ahead vs {from = from} {end = end} insi
         ∙ ap (λ l. F ∷ l) (over_value vector way Flags level Counting (counting_passes way Flags level) v 0 inside first.1
         ∙ further_flags vector way level vs (ends_inside (value_tokens v) inside first.1) first.2)
 
--- What a value at the front of a way leaves: its items there, and what is left behind it.
+-- What a value at the front of a way leaves: its items there, and what is left after it.
 abbrev pub Leaves : (vector : ℕ → Value) (text : List ℕ) (way : List Component) (leaf : Leaf) (level : ℕ) (rest : List Component) (v : Value) → Type 0
 Leaves vector text way leaf level rest v = (from end : ℕ) → from ≤ length text → Reads text from (value_tokens v) end
     → cells vector text way leaf from (state level ValueNext) ≡ items rest leaf v ++ cells vector text way leaf end (state level Behind)
 
--- the elements behind the first one
+-- the elements after the first one
 further_elements : (dialect : Dialect) (vector : ℕ → Value) {text : List ℕ} (way : List Component) (leaf : Leaf) (level : ℕ) (rest : List Component) (a : Ty) → slice_get way level ≡ Some Elements
     → ((v : Value) → HasType dialect v a → Leaves vector text way leaf (level + 1) rest v) → (vs : Values) → AllHaveType dialect vs a → {from end : ℕ} → from ≤ length text → Reads text from (further_tokens vs ++ right_brace ∷ []) end
     → cells vector text way leaf from (state (level + 1) Behind) ≡ concatenation_by (items rest leaf) (list_of vs) ++ cells vector text way leaf end (state level Behind)

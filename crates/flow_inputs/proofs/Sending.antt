@@ -27,7 +27,7 @@ drop_first [] rest (suc n) x e = absurd (cc)
 drop_first (y ∷ all) rest zero x e = cc
 drop_first (y ∷ all) rest (suc n) x e = let next : suc n + 1 ≡ suc (n + 1) = omega arith in ap (λ k. drop k (y ∷ all)) next ∙ drop_first all rest n x e
 
--- where a piece is left, it is the next one, and behind it the others are left
+-- where a piece is left, it is the next one, and after it the others are left
 pub record Nexts (all rest : List Piece) (x : Piece) (others : List Piece) : Type 0 where
   pub next : slice_get all (written_of all rest) ≡ Some x
   pub more : written_of all others ≡ written_of all rest + 1

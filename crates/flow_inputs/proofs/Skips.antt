@@ -1,4 +1,4 @@
--- What is left to write behind a byte that a scanner passes over: the same as before it.
+-- What is left to write after a byte that a scanner passes over: the same as before it.
 use Rattle.std.proofs.Common.{◌≡◌, ℕ, zero, suc, ℤ, pos, ◌+◌, ◌-◌, ◌<◌, ◌≤◌, Bool, true, false, cond, eqb, List, [], ◌∷◌, length, drop, get_or, option_map, Option, Some, None, refl, sym, ap, ◌∙◌, subst, arith, drop-drop, length-drop}
 use Rattle.std.proofs.lemmas.Bool.{cond-true, cond-false}
 use Rattle.std.specs.Str.{bytes_eq}
@@ -42,7 +42,7 @@ prefix-most p q weaker (b ∷ bs) = by_test (p b) refl (prefix-most p q weaker b
     by_test true e h = let f : cond (q b) (1 + prefix_len q bs) 0 ≡ 1 + prefix_len q bs = cond-true _ _ _ (weaker b e) in omega (arith, f, h)
     by_test false e h = omega arith
 
--- behind some bytes that pass a test
+-- after some bytes that pass a test
 prefix-behind : (p : ℕ → Bool) (n : ℕ) (bs : List ℕ) → n ≤ prefix_len p bs → n + prefix_len p (drop n bs) ≡ prefix_len p bs
 prefix-behind p zero bs h = omega arith
 prefix-behind p (suc n) [] h = absurd (omega arith)
@@ -53,7 +53,7 @@ prefix-behind p (suc n) (b ∷ bs) h = by_test (p b) h (prefix-behind p n bs)
     by_test true h same = let f = same (omega arith) in omega (arith, f)
     by_test false h same = absurd (omega arith)
 
--- the offset behind the bytes that stand here and pass a test
+-- the offset after the bytes that stand here and pass a test
 abbrev end_of : (ℕ → Bool) → List ℕ → ℕ → ℕ
 end_of p text at = at + prefix_len p (drop at text)
 
@@ -164,7 +164,7 @@ module _ (text : List ℕ) (way : List Component) (leaf : Leaf) (level : ℕ) (m
   abbrev left_from : ℕ → List Piece
   left_from at = left text way leaf at (state level (mode depth))
 
-  -- behind plain bytes it is the same
+  -- after plain bytes it is the same
   abbrev Skips : ℕ → Type 0
   Skips at = left_from at ≡ left_from (end_of is_plain text at)
 
@@ -188,7 +188,7 @@ module _ (text : List ℕ) (way : List Component) (leaf : Leaf) (level : ℕ) (m
           ∙ ap (λ n. behind_turn text way leaf (turn way leaf (state level (mode depth)) (mark_of l.0) other) (n + l.1)) e
           ∙ sym (left_turn text way leaf other (state level (mode depth)) l inside (sym (next-same text at other e) ∙ f))
 
-  -- behind a token that is passed over
+  -- after a token that is passed over
   left_behind : (at : ℕ) (l : Lexeme) → at ≤ length text → next_at text at ≡ at → next text at ≡ Some l → Calm (mark_of l.0) → left_from at ≡ left_from (at + l.1)
   left_behind at l within here e calm =
       left_turn text way leaf at (state level (mode depth)) l within e
@@ -230,7 +230,7 @@ module _ (text : List ℕ) (way : List Component) (leaf : Leaf) (level : ℕ) (m
       ∙ skips_tokens n (at + blanks) inside (omega arith) here (skips n)
       ∙ ap left_from (end-between is_plain text at blanks (prefix-most is_blank is_plain blank_plain (drop at text)))
 
-  -- behind one plain byte
+  -- after one plain byte
   skips_byte : (at b : ℕ) (bs : List ℕ) → at < length text → drop at text ≡ b ∷ bs → is_plain b ≡ true → left_from at ≡ left_from (at + 1)
   skips_byte at b bs inside e plain =
       let some : 1 ≤ prefix_len is_plain (drop at text) = omega (arith, ap (prefix_len is_plain) e ∙ cond-true _ _ _ plain) in
@@ -272,7 +272,7 @@ sign_first b bs h = by_first (first (b ∷ bs)) (a_sign (b ∷ bs) (omega arith)
 none_blank : (text : List ℕ) (at b : ℕ) (bs : List ℕ) → drop at text ≡ b ∷ bs → is_blank b ≡ false → next_at text at ≡ at
 none_blank text at b bs e h = let f : prefix_len is_blank (drop at text) ≡ 0 = ap (prefix_len is_blank) e ∙ cond-false _ _ _ h in omega (arith, next_at-is text at, f)
 
--- behind the last byte no blank is passed over
+-- after the last byte no blank is passed over
 pub end_at : (text : List ℕ) (at : ℕ) → length text ≤ at → at ≡ next_at text at
 end_at text at over = omega (arith, next_at-is text at, prefix_len-le-length is_blank (drop at text), length-drop at text)
 
@@ -296,7 +296,7 @@ sign_found text at inside other = by_test (is_plain b) refl
 nonzero : (n : ℕ) → eqb n 0 ≡ false → 0 < n
 nonzero n h = grind (arith, nat_tests)
 
--- the depth behind a closing bracket that is passed over, and behind a comma
+-- the depth after a closing bracket that is passed over, and after a comma
 behind_close : (depth deeper : ℕ) → cond (depth == 0) None (Some (depth - 1)) ≡ Some deeper → depth ≡ deeper + 1
 behind_close depth deeper e = by_test (eqb depth 0) refl e
   where
@@ -325,7 +325,7 @@ turn_past way leaf level mode p commas q (Truth b) depth deeper place e = p.trut
 turn_past way leaf level mode p commas q (Number n) depth deeper place e = p.numbers depth place n ∙ ap (λ n. moved level (mode n)) (some_same e)
 turn_past way leaf level mode p commas q Other depth deeper place e = p.others depth place ∙ ap (λ n. moved level (mode n)) (some_same e)
 
--- behind a byte that a scanner passes over
+-- after a byte that a scanner passes over
 pub byte_past : (text : List ℕ) (commas : Bool) (at depth deeper : ℕ) → at < length text → Some deeper ≡ depth_behind (sign_mark (get_or text at 0)) depth commas → SameLeft text commas at depth (at + 1) deeper
 byte_past text commas at depth deeper inside e way leaf level mode p q = by_test (is_plain b) refl
   where

@@ -63,7 +63,7 @@ module _ (vector : ℕ → Value) where
   opened_fine step leaf level (Close Curly) place = (tt, tt)
   opened_fine step leaf level mark place = value_fine step leaf level mark place
 
-  -- behind a value
+  -- after a value
   behind_fine : (step : Option Component) (leaf : Leaf) (level : ℕ) (mark : Mark) → Fine leaf (behind step level mark)
   behind_fine (Some Elements) leaf level Comma = (tt, tt)
   behind_fine (Some First) leaf level Comma = (tt, tt)
@@ -122,7 +122,7 @@ module _ (vector : ℕ → Value) where
   turn_fine (Within depth) way leaf level mark place e = within_fine leaf level depth mark
   turn_fine Lost way leaf level mark place e = (tt, tt)
 
-  -- what one turn writes, and what comes behind it
+  -- what one turn writes, and what comes after it
   with_rest : (kind : Kind) (o : Option Piece) (rest : List Piece) → AllOf kind (map (cell vector) (option_to_list o)) → AllOf kind (map (cell vector) rest) → AllOf kind (map (cell vector) (option_to_list o ++ rest))
   with_rest kind None rest h k = k
   with_rest kind (Some x) rest h k = (h.0, k)

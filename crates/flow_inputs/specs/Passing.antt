@@ -23,7 +23,7 @@ pub record Passes (way : List Component) (leaf : Leaf) (level : ℕ) (mode : ℕ
 abbrev pub PassesParts : List Component → Leaf → ℕ → (ℕ → Mode) → ℕ → Type 0
 PassesParts way leaf level mode depth = (place : ℕ) → turn way leaf (state level (mode depth)) Comma place ≡ moved level (mode depth)
 
--- the depth behind a byte of this mark, if a scanner passes over it: all but what closes the brackets in which it stands, and, unless
+-- the depth after a byte of this mark, if a scanner passes over it: all but what closes the brackets in which it stands, and, unless
 -- it passes over commas, a comma outside the brackets that it counts
 abbrev pub depth_behind : Mark → ℕ → Bool → Option ℕ
 depth_behind (Open b) depth commas = Some (depth + 1)

@@ -13,7 +13,7 @@ use Rattle.flow_inputs.specs.declared.turns.State.{State}
 use Rattle.flow_inputs.specs.declared.turns.Piece.{Piece}
 use Rattle.flow_inputs.specs.declared.turns.Piece.TheVariants.{Flag, Int, VectorAt}
 
--- what is written, and the state behind
+-- what is written, and the state after
 abbrev pub Turn : Type 0
 Turn = Option Piece × State
 
@@ -54,7 +54,7 @@ abbrev pub at_opened : Option Component → Leaf → ℕ → Mark → ℕ → Tu
 at_opened step leaf level (Close Curly) place = moved (level - 1) Behind
 at_opened step leaf level mark place = at_value step leaf level mark place
 
--- a token behind a value, by the innermost step that was made
+-- a token after a value, by the innermost step that was made
 abbrev pub behind : Option Component → ℕ → Mark → Turn
 behind (Some Elements) level Comma = moved level Value
 behind (Some First) level Comma = moved level (Passing 0)

@@ -11,7 +11,7 @@ ghost use Rattle.flow_inputs.specs.Passing.{depth_behind, SameLeft};
 use crate::turns::Mode;
 use snesl_values::{Mark, sign_mark};
 
-// How many brackets are open behind this byte, if a scanner passes over it. It does not where the
+// How many brackets are open after this byte, if a scanner passes over it. It does not where the
 // byte closes the brackets in which it stands, and at a comma outside the brackets that it counts,
 // unless it passes over commas.
 #[inline(always)]
@@ -33,7 +33,7 @@ fn depth_behind(byte: u8, depth: usize, passes_commas: bool) -> Option<usize>
     }
 }
 
-// The offset behind the bytes that a scanner passes over from here on, with so many brackets open,
+// The offset after the bytes that a scanner passes over from here on, with so many brackets open,
 // and how many are open there.
 #[inline(always)]
 fn past_brackets(text: &[u8], from: usize, opened: usize, passes_commas: bool) -> (usize, usize)
@@ -58,7 +58,7 @@ fn past_brackets(text: &[u8], from: usize, opened: usize, passes_commas: bool) -
     (at, depth)
 }
 
-// The offset behind what a scanner passes over from here on, and where it stands then. It counts
+// The offset after what a scanner passes over from here on, and where it stands then. It counts
 // brackets byte by byte. A token that begins in the bytes between ends in them.
 #[inline(always)]
 pub(crate) fn past(text: &[u8], mode: Mode, at: usize) -> (usize, Mode)

@@ -24,7 +24,7 @@ pub(crate) struct Scanned {
     pub(crate) state: State,
 }
 
-// How many items were scanned, and where the scan stands behind them.
+// How many items were scanned, and where the scan stands after them.
 #[derive(Clone, Copy, Debug, PartialEq, Eq)]
 pub(crate) struct Ahead {
     pub(crate) count: usize,
@@ -51,7 +51,7 @@ fn next_mark(text: &[u8], at: usize) -> Option<Found>
 }
 
 // The next piece that is written from this state and offset on, if there is one, and where the scan
-// stands behind it.
+// stands after it.
 #[inline(always)]
 pub(crate) fn scan(
     text: &[u8],
@@ -99,8 +99,8 @@ pub(crate) fn scan(
     }
 }
 
-// The integer of 64 bits that is written next behind an element of a sequence, where it is the next element,
-// and the offset behind it. The scan stands behind an element again. It says what `scan` would, and
+// The integer of 64 bits that is written next after an element of a sequence, where it is the next element,
+// and the offset after it. The scan stands after an element again. It says what `scan` would, and
 // is faster.
 #[inline(always)]
 fn next_element(

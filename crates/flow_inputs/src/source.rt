@@ -59,7 +59,7 @@ impl TextSource {
 
     /// A source that has written nothing, for the edge of this number, counted from 0. It will write
     /// what a value puts on that edge, where the text spells a value of the type `ty` from `place`
-    /// on, an offset in bytes from the start of the text. The place must not be behind the end of
+    /// on, an offset in bytes from the start of the text. The place must not be after the end of
     /// the text, and the type must have fewer than 2^64 edges.
     ///
     /// # Errors
@@ -97,7 +97,7 @@ impl TextSource {
         })
     }
 
-    // Scans the integers that come next, at most so many, and goes behind them. How many.
+    // Scans the integers that come next, at most so many, and goes on after them. How many.
     #[inline(always)]
     fn scan_ints(&mut self, ints: &mut [i64; BLOCK], most: usize) -> usize
         requires sending { self.old.ended ≡ false }
@@ -143,7 +143,7 @@ impl TextSource {
         made
     }
 
-    // Scans the truth values that come next, at most so many, and goes behind them. How many.
+    // Scans the truth values that come next, at most so many, and goes on after them. How many.
     #[inline(always)]
     fn scan_flags(&mut self, flags: &mut [bool; BLOCK], most: usize) -> usize
         requires sending { self.old.ended ≡ false }

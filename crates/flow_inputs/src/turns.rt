@@ -57,7 +57,7 @@ pub enum Mode {
     Passing(usize),
     /// A sequence was opened whose flags are written.
     Flagging,
-    /// Behind the first token of that sequence's elements, with so many brackets open in it.
+    /// After the first token of that sequence's elements, with so many brackets open in it.
     Counting(usize),
     /// In a vector that was written, with so many brackets open in it.
     Within(usize),
@@ -84,7 +84,7 @@ pub enum Piece {
     VectorAt(usize),
 }
 
-// What is written at a token, if anything is, and the state behind it.
+// What is written at a token, if anything is, and the state after it.
 pub(crate) type Turn = (Option<Piece>, State);
 
 // Nothing is written.
@@ -142,7 +142,7 @@ fn at_value(step: Option<Component>, leaf: Leaf, level: usize, mark: Mark, place
     }
 }
 
-// A token behind a value, by the innermost step that was made.
+// A token after a value, by the innermost step that was made.
 #[inline(always)]
 fn behind(step: Option<Component>, level: usize, mark: Mark) -> Turn
     ensures { result ≡ behind step level mark }
@@ -170,7 +170,7 @@ fn at_opened(step: Option<Component>, leaf: Leaf, level: usize, mark: Mark, plac
     }
 }
 
-// A token in a part that is passed over, outside its brackets: the comma behind a first part, and
+// A token in a part that is passed over, outside its brackets: the comma after a first part, and
 // the end of a pair.
 #[inline(always)]
 fn passed(step: Option<Component>, level: usize, mark: Mark) -> Turn

@@ -19,7 +19,7 @@ use Rattle.flow_meetings.specs.Joints.{nodes_at, writer_view, reader_view, end_v
 use Rattle.flow_meetings.specs.RoundTheorems.{net_of}
 
 module _ (share : List ℕ) (edges : List Edge) (view_at : ℕ → View) where
-  -- on each edge, what was received is a beginning of what was sent
+  -- on each edge, what was received is a prefix of what was sent
   abbrev pub AllBegin : Type 0
   AllBegin = (e : ℕ) → e < length edges → IsPrefix ((reader_view share edges view_at e).received e) ((writer_view share edges view_at e).sent e)
 
@@ -41,7 +41,7 @@ abbrev pub end_configuration : {X : Type 0} (t : Ghosts X) → List ℕ → List
 end_configuration t share edges states view_at = configuration_of t.behaviour states (end_view share edges view_at)
 
 module _ {X : Type 0} (t : Ghosts X) where
-  -- where each node's history is that of its own ends, and on each edge what was received is a beginning of what was
+  -- where each node's history is that of its own ends, and on each edge what was received is a prefix of what was
   -- sent, the configuration is sound
   abbrev pub OwnSharesAreSound : Type 0
   OwnSharesAreSound =

@@ -7,7 +7,7 @@ use Rattle.flow_rings.specs.Rings.{Kept}
 
 -- The writer of edge e is seen in a, and its reader in b. The edge holds so many messages at most.
 pub record Met (a b : View) (slots e : ℕ) : Type 0 where
-  -- what was received is a beginning of what was sent
+  -- what was received is a prefix of what was sent
   pub begins : IsPrefix (b.received e) (a.sent e)
   -- all that was sent and not received is certain to the reader
   pub held : length (a.sent e) ≤ length (b.received e) + held b e

@@ -13,7 +13,7 @@ use crate::meeting::Meeting;
 use flow_base::Transducer;
 use flow_boxes::Boxes;
 
-/// Where both ends of an edge have met, what was received is a beginning of what was sent, and all of
+/// Where both ends of an edge have met, what was received is a prefix of what was sent, and all of
 /// it where the edge holds nothing. Where there is no room, the edge is full.
 pub fn met_is_in_order()
     ensures begins { (a b : View) (places e : ℕ) → Met a b places e →
@@ -41,7 +41,7 @@ pub fn fresh_shares_start<T: Transducer>()
 {}
 
 /// Whatever ends the shares have: where each node's history is that of its own ends, and on each edge what was received is
-/// a beginning of what was sent, the configuration is sound.
+/// a prefix of what was sent, the configuration is sound.
 pub fn own_shares_are_sound<T: Transducer>()
     ensures { OwnSharesAreSound ⟦<T as Transducer>⟧ }
 {}

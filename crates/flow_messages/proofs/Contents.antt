@@ -227,7 +227,7 @@ block_more {X} f xs k d q q' q'' low is next =
 
 -- both lists
 
--- what comes first in the second goes behind the first
+-- what comes first in the second goes after the first
 pub moved_on : {X : Type 0} (xs first ys : List X) (n : ℕ) → IsPrefix first ys → length first ≡ n → (xs ++ first) ++ drop n ys ≡ xs ++ ys
 moved_on xs first ys n (rest, all) long =
     ap (λ k. (xs ++ first) ++ drop k ys) (sym long) ∙ ap (λ l. (xs ++ first) ++ drop (length first) l) (sym all)

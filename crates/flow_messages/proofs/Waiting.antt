@@ -53,7 +53,7 @@ module _ (capacity : ℕ) (a b : View) (e : ℕ) (m : Signal) where
       ap (drop (length (a.received e))) (sym (taken-begins whole taken) ∙ append_assoc (a.received e) (m ∷ []) (waiting b e))
       ∙ drop-append_seam (a.received e) (m ∷ waiting b e)
 
--- of a list that begins m ∷ after: it is m and a beginning of `after`, if it is anything
+-- of a list that begins m ∷ after: it is m and a prefix of `after`, if it is anything
 pub first-certain : (m : Signal) (before after : List Signal) → 0 < length before → IsPrefix before (m ∷ after) → IsPrefix (m ∷ []) before
 first-certain m [] after some begins = absurd (omega (arith, some))
 first-certain m (n ∷ before) after some (rest, is) = let same : m ≡ n = cc in (before, ap (λ (x : Signal). x ∷ before) same)
@@ -62,7 +62,7 @@ pub others-certain : (m : Signal) (before after : List Signal) → IsPrefix befo
 others-certain m [] after begins = (after, refl)
 others-certain m (n ∷ before) after (rest, is) = (rest, cc)
 
--- in an orderly list nothing stands behind a stop
+-- in an orderly list nothing stands after a stop
 pub nothing-behind : (before after : List Signal) → orderly (before ++ stop ∷ after) ≡ true → after ≡ []
 unfolding orderly
 nothing-behind [] [] h = refl

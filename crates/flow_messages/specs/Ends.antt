@@ -33,7 +33,7 @@ pub record LookedForRoom (a : View) (e : ℕ) (b : View) : Type 0 where
   pub room : (k : ℕ) → k ≢ e → b.room k ≡ a.room k
   pub more : a.room e ≤ b.room e
 
--- the reader of edge e looked for messages, and may have found more behind those that were certain
+-- the reader of edge e looked for messages, and may have found more after those that were certain
 pub record LookedForMessages (a : View) (e : ℕ) (b : View) : Type 0 where
   pub ends : SameEnds a b
   pub traffic : SameTraffic a b

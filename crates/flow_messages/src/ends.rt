@@ -76,7 +76,7 @@ pub trait Ends {
         None
     }
 
-    /// Puts a message behind all others.
+    /// Puts a message after all others.
     ///
     /// It is refused as `Closed` exactly where `End` was put on the edge before, and as `Full` only
     /// where no room was certain. Then nothing was put, and the message comes back.

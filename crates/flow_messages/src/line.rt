@@ -71,7 +71,7 @@ impl Line {
         self.store.len() > 0
     }
 
-    /// Puts a message behind all others, or gives it back.
+    /// Puts a message after all others, or gives it back.
     #[inline(always)]
     #[tactic(auto, using(crate::proofs::Signals::signal_steps))]
     pub fn put(&mut self, message: Msg) -> Result<(), Refused>
@@ -147,7 +147,7 @@ impl Line {
         self.closed
     }
 
-    /// Puts so many units behind all others, unless `End` was put on it.
+    /// Puts so many units after all others, unless `End` was put on it.
     #[inline(always)]
     pub fn put_units(&mut self, count: usize)
         requires { length (content_of self.old.store) + count ≤ self.old.store.capacity }
@@ -164,7 +164,7 @@ impl Line {
         self.store.put_units(count);
     }
 
-    /// Puts these truth values behind all others, unless `End` was put on it.
+    /// Puts these truth values after all others, unless `End` was put on it.
     #[inline(always)]
     pub fn put_flags(&mut self, flags: &[bool])
         requires { length (content_of self.old.store) + length flags.now ≤
@@ -182,7 +182,7 @@ impl Line {
         self.store.put_flags(flags);
     }
 
-    /// Puts these integers behind all others, unless `End` was put on it.
+    /// Puts these integers after all others, unless `End` was put on it.
     #[inline(always)]
     pub fn put_ints(&mut self, ints: &[i64])
         requires { length (content_of self.old.store) + length ints.now ≤

@@ -56,7 +56,7 @@ impl<T: Copy + Drop> Run<T> {
         self.items.len() == self.taken
     }
 
-    /// Puts an item behind all others.
+    /// Puts an item after all others.
     #[inline(always)]
     pub fn put(&mut self, item: T)
         requires room { length (run_items self.old) < self.old.most }
@@ -69,7 +69,7 @@ impl<T: Copy + Drop> Run<T> {
         self.items.push_reserved(item);
     }
 
-    /// Puts these items behind all others, in order.
+    /// Puts these items after all others, in order.
     #[inline(always)]
     pub fn put_all(&mut self, items: &[T])
         requires room { length (run_items self.old) + length items.now ≤ self.old.most }
@@ -112,7 +112,7 @@ impl<T: Copy + Drop> Run<T> {
         Some(item)
     }
 
-    /// Moves what it holds to the front, so that there is room behind it.
+    /// Moves what it holds to the front, so that there is room after it.
     #[inline(never)]
     fn move_down(&mut self)
         ensures items { run_items self.new ≡ run_items self.old }

@@ -99,7 +99,7 @@ impl Store {
         self.queue.front()
     }
 
-    /// Puts a message behind all others.
+    /// Puts a message after all others.
     #[inline(always)]
     pub fn push(&mut self, message: Msg)
         requires room { length (content_of self.old) < self.old.capacity }
@@ -190,7 +190,7 @@ impl Store {
         self.held -= count;
     }
 
-    /// Puts this many units behind all others.
+    /// Puts this many units after all others.
     #[inline(always)]
     pub fn put_units(&mut self, count: usize)
         requires room { length (content_of self.old) + count ≤ self.old.capacity }
@@ -206,7 +206,7 @@ impl Store {
         self.held += count;
     }
 
-    /// Puts these truth values behind all others, in order.
+    /// Puts these truth values after all others, in order.
     #[inline(always)]
     pub fn put_flags(&mut self, flags: &[bool])
         requires room { length (content_of self.old) + length flags.now ≤ self.old.capacity }
@@ -222,7 +222,7 @@ impl Store {
         self.held += flags.len();
     }
 
-    /// Puts these integers behind all others, in order.
+    /// Puts these integers after all others, in order.
     #[inline(always)]
     pub fn put_ints(&mut self, ints: &[i64])
         requires room { length (content_of self.old) + length ints.now ≤ self.old.capacity }
@@ -238,7 +238,7 @@ impl Store {
         self.held += ints.len();
     }
 
-    /// Moves all messages of another store behind its own, in order.
+    /// Moves all messages of another store after its own, in order.
     pub fn append(&mut self, other: &mut Store)
         requires room { length (content_of self.old) + length (content_of other.old) ≤
             self.old.capacity }
@@ -311,7 +311,7 @@ fn drop_front(queue: &mut VecDeque<Msg>, count: usize)
     }
 }
 
-/// Puts this many units behind the messages of a queue.
+/// Puts this many units after the messages of a queue.
 fn queue_units(queue: &mut VecDeque<Msg>, count: usize)
     requires room { deque_len queue.old + count ≤ deque_capacity queue.old }
     ensures items { queue.new.items ≡ queue.old.items ++ unit_messages count }
@@ -322,7 +322,7 @@ fn queue_units(queue: &mut VecDeque<Msg>, count: usize)
     }
 }
 
-/// Puts these truth values behind the messages of a queue.
+/// Puts these truth values after the messages of a queue.
 fn queue_flags(queue: &mut VecDeque<Msg>, flags: &[bool])
     requires room { deque_len queue.old + length flags.now ≤ deque_capacity queue.old }
     ensures items { queue.new.items ≡ queue.old.items ++ flag_messages flags.now }
@@ -333,7 +333,7 @@ fn queue_flags(queue: &mut VecDeque<Msg>, flags: &[bool])
     }
 }
 
-/// Puts these integers behind the messages of a queue.
+/// Puts these integers after the messages of a queue.
 fn queue_ints(queue: &mut VecDeque<Msg>, ints: &[i64])
     requires room { deque_len queue.old + length ints.now ≤ deque_capacity queue.old }
     ensures items { queue.new.items ≡ queue.old.items ++ int_messages ints.now }

@@ -5,7 +5,7 @@ ghost use Rattle.flow_messages.specs.Signals.{Signal, stop, orderly};
 ghost use Rattle.flow_messages.specs.Ends.{View, held, Put, Taken};
 ghost use Rattle.flow_messages.specs.Whole.{IsWhole, waiting};
 
-/// A put makes one message more wait, behind all others, and there was room for it.
+/// A put makes one message more wait, after all others, and there was room for it.
 pub fn put_adds_one()
     ensures waits { (capacity : ℕ) (a b : View) (e : ℕ) (m : Signal) → IsWhole capacity a →
         IsWhole capacity b → Put a e m b → waiting b e ≡ waiting a e ++ m ∷ [] }
@@ -41,7 +41,7 @@ pub fn counts_are_exact()
         v.received e ≡ v.sent e }
 {}
 
-/// In an orderly list nothing stands behind a stop.
+/// In an orderly list nothing stands after a stop.
 pub fn nothing_after_stop()
     ensures { (before after : List Signal) → orderly (before ++ stop ∷ after) ≡ true → after ≡ [] }
 {}

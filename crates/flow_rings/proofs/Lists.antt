@@ -10,7 +10,7 @@ use Rattle.flow_messages.proofs.Signals.{ended-snoc, orderly-snoc, ended-nil, or
 -- what a fresh list and a list with one message more are
 pub ruleset list_steps = (ended-snoc, orderly-snoc, ended-nil, orderly-nil)
 
--- in an orderly list nothing stands behind a part that has an End
+-- in an orderly list nothing stands after a part that has an End
 nothing-left : (before after : List Msg) → orderly (signals (before ++ after)) ≡ true → ended (signals before) ≡ true → after ≡ []
 unfolding signals ended orderly
 nothing-left [] after h closed = cc

@@ -79,7 +79,7 @@ met_here ws rs a b e w r found hw hr is-a is-b fifo count room whole =
       whole = whole ∙ sym places;
     }
 
--- in an orderly list nothing stands behind a part that has a stop
+-- in an orderly list nothing stands after a part that has a stop
 nothing-left : (before after : List Signal) → orderly (before ++ after) ≡ true → ended before ≡ true → after ≡ []
 unfolding ended orderly
 nothing-left [] after h closed = cc

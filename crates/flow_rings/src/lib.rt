@@ -6,7 +6,7 @@
 //! holds the [`EdgeWriter`] alone puts messages on the edge, and whoever holds the [`EdgeReader`]
 //! alone takes them. Each end has one owner at a time, and may move to another thread.
 //!
-//! - [`EdgeWriter::put`] puts a message behind all others, or gives it back where the edge is full or
+//! - [`EdgeWriter::put`] puts a message after all others, or gives it back where the edge is full or
 //!   closed. An edge is closed once `End` was put on it. [`EdgeWriter::room`] tells whether a put is
 //!   certain of room.
 //! - [`EdgeReader::take`] takes the oldest message, or gives none. [`EdgeReader::ready`] tells whether

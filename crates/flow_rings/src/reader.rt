@@ -13,7 +13,7 @@ use flow_messages::Msg;
 
 impl EdgeReader {
     /// Takes the oldest message that was not taken, or none where none is certain to be there.
-    /// Nothing is taken behind an `End`, and from an edge of scalars only items of its kind.
+    /// Nothing is taken after an `End`, and from an edge of scalars only items of its kind.
     #[inline(always)]
     pub fn take(&mut self) -> Option<Msg>
         ensures same { SameReader self.old self.new }
@@ -42,8 +42,8 @@ impl EdgeReader {
     }
 
     /// Takes the oldest messages that were not taken, at most `most`, as far as the block has room, and
-    /// appends them to it in order. The answer is how many: not none where one is certain to be there.
-    /// The edge is one of scalars.
+    /// appends them to it in order. The answer is how many: not none where one is certain to be there,
+    /// the block has room and `most` is not 0. The edge is one of scalars.
     #[inline(always)]
     pub fn take_block(&mut self, block: &mut Block, most: usize) -> usize
         requires scalar { IsSome (reader_kind self.old) }

@@ -33,7 +33,7 @@ pub fn all_was_received()
 {}
 
 /// The ends of one edge stay so, whatever either share was called for since: each is there, at its
-/// number, and the edge keeps its capacity. Where they have met, what was received is a beginning of
+/// number, and the edge keeps its capacity. Where they have met, what was received is a prefix of
 /// what was sent, and all of it where a stop was received.
 pub fn rings_stay_joined()
     ensures joined { (a a' b b' : Rings) (e : ℕ) → Joins (writer_at a e) (reader_at b e) →

@@ -24,7 +24,7 @@ fn ends(block: &[Flat]) -> bool
 }
 
 impl EdgeWriter {
-    /// Puts a message behind all others.
+    /// Puts a message after all others.
     ///
     /// It is refused as `Closed` exactly where `End` was put on the edge before, and as `Full` only
     /// where no room is certain. Then nothing was put, and the message comes back. On an edge of
@@ -97,7 +97,7 @@ impl EdgeWriter {
         self.ring.has_slots(count)
     }
 
-    /// Puts the messages of a block behind all others, in order, and empties it.
+    /// Puts the messages of a block after all others, in order, and empties it.
     ///
     /// Where there is not room for all of them, or `End` was put on the edge before, the answer is false,
     /// and nothing was put. The edge is one of scalars, and an `End` may only be the last of the block.
@@ -135,8 +135,8 @@ impl EdgeWriter {
         true
     }
 
-    /// Gives up the writer for a mark of all that it has put, or for none where the reader was dropped
-    /// before. No `End` is put.
+    /// Gives up the writer for a mark of all that it has put, or for none. No `End` is put. That there is a
+    /// mark unless the reader was dropped before is not promised.
     pub fn finish(self) -> Option<FinishedMark>
         ensures { IfSome result (λ f. Finishes self f) }
     {

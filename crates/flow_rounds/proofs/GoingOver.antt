@@ -15,7 +15,7 @@ map_pushed : {A B : Type 0} (f : A → B) (made : List A) (y : A) → map f (mad
 map_pushed f [] y = refl
 map_pushed f (x ∷ made) y = ap (λ ys. f x ∷ ys) (map_pushed f made y)
 
--- the first of those that are left goes behind those that were made
+-- the first of those that are left goes after those that were made
 pub goes_over : {A : Type 0} (made now left rest : List A) (y : A) (all : List A) → now ≡ made ++ y ∷ [] → left ≡ y ∷ rest → made ++ left ≡ all → now ++ rest ≡ all
 goes_over made now left rest y all longer is whole = ap (λ ys. ys ++ rest) longer ∙ pushed made rest y ∙ ap (λ ys. made ++ ys) (sym is) ∙ whole
 

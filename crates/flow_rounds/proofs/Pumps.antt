@@ -95,7 +95,7 @@ module _ {X : Type 0} {t : Ghosts X} {u : EndsGhosts Rings} (same_is : (a b : Ri
       at false is = moved_grows _ _ _ _ (pumped.moved is)
       at true is = lost_grows _ _ _ _ (pumped.lost is)
 
-  -- what each share sent and received is what it had, and what came behind
+  -- what each share sent and received is what it had, and what came after
   pub grows : (s : ℕ) → s < length shares → Grows (view_at shares s) (view_at back s)
   grows s l = of_views Grows s l (grew _ _ (each s (some s l) l))
 

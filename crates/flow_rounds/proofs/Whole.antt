@@ -153,7 +153,7 @@ module _ {X : Type 0} {t : Ghosts X} {u : EndsGhosts Rings} (network : SharedNet
     later : AreLater shares back
     later = record { count = back_count ∙ count ∙ mid_count; each = later_at }
 
-    -- what each share sent and received is what it had, and what came behind
+    -- what each share sent and received is what it had, and what came after
     grown : (s : ℕ) → s < length shares → Grows (view_at shares s) (view_at back s)
     grown s l =
         let at_mid : s < length mid = omega (arith, l, mid_count) in

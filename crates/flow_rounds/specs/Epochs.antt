@@ -89,7 +89,7 @@ module _ {X : Type 0} {t : Ghosts X} {u : EndsGhosts Rings} where
       pub later : AreLater shares back
       pub graph : AreOfOneGraph network back
       pub met : SharesHaveMet network back
-      -- what each share sent and received is what it had, and what came behind
+      -- what each share sent and received is what it had, and what came after
       pub grown : (s : ℕ) → s < length shares → Grows (view_at shares s) (view_at back s)
       -- where memory was refused to none, they stand sound
       pub sound : AreFed back → StandSound network back

@@ -51,8 +51,10 @@ pub fn epoch<
 /// Runs shares in epochs, as long as a node can step where the ends of every edge have met. The shares, and how many epochs
 /// there were; the count stays at the greatest `u64`.
 ///
-/// Each epoch moves a message at least. Refused as `NoThread` where a thread could not be started or `start` said no, and
-/// as `NoMemory` where memory was refused, to a node too. The shares are then let go.
+/// There are no more epochs than messages were sent and received, and one at least where any was.
+///
+/// Refused as `NoThread` where a thread could not be started or `start` said no, and as `NoMemory` where memory was
+/// refused, to a node too. The shares are then let go.
 pub fn run_epochs<
     R: Threads,
     T: Transducer + Send + Drop + 'static,

@@ -30,7 +30,7 @@ pub fn owners_of_shares<T: Transducer>(
     Ok(owners)
 }
 
-// The shares that have the two ends of this edge. There is none behind the last edge.
+// The shares that have the two ends of this edge. There is none after the last edge.
 fn owners_at<T: Transducer>(shares: &[Share<T, Rings>], edge: usize) -> Option<EdgeOwners>
     ensures both { IfSome result (HasBoth shares.now edge) }
     ensures none { IfNone result (LacksAnEnd shares.now edge) }

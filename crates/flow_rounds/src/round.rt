@@ -17,8 +17,10 @@ use std::thread::Threads;
 /// Runs shares in rounds, as long as a node can step. The shares, and how many rounds there were; the count stays at the
 /// greatest `u64`.
 ///
-/// Each round moves a message at least. Refused as `NoThread` where a thread could not be started or `start` said no, and
-/// as `NoMemory` where memory was refused, to a node too. The shares are then let go.
+/// There are no more rounds than messages were sent and received, and one at least where any was.
+///
+/// Refused as `NoThread` where a thread could not be started or `start` said no, and as `NoMemory` where memory was
+/// refused, to a node too. The shares are then let go.
 pub fn run_rounds<
     R: Threads,
     T: Transducer + Send + Drop + 'static,

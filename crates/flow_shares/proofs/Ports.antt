@@ -107,7 +107,7 @@ module _ {S : Type 0} (b : Behaviour S) (laws : BehaviourLaws b) (edges : List �
   all_other : (p q : ℕ) (s : S) (sent : List Signal) (m : Signal) → (p ≡ q → ⊥) → P.want s ≡ Write q → P.written s ≡ m → WroteAll p s sent → WroteAll p (P.wrote s) sent
   all_other p q s sent m other wants written all = ∥∥₁_map all (λ (before, did, is). (before ++ Writes q m ∷ [], did_write s q m before wants written did, is ∙ sym (writes_push_other p q m before other)))
 
-  -- it writes nothing behind its end
+  -- it writes nothing after its end
   still_open : (s : S) (q : ℕ) (sent : List Signal) → P.want s ≡ Write q → WroteAll q s sent → ended sent ≡ false
   still_open s q sent wants all = ∥∥₁_elim all (hlevel Bool-set) (λ (before, did, is). elim (cases_Bool (ended sent)) [
     | inl closed ↦ absurd ((laws.opened (b.opening s) (laws.same_opening s)).lawful.open_out before s q did wants (subst (HasEnd P) is (ended_has P laws.end sent closed)))

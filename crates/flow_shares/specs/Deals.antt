@@ -23,7 +23,7 @@ module _ {X : Type 0} {t : Ghosts X} where
   abbrev pub node_at : List (List (Placed X t)) → ℕ → ℕ → Placed X t → Placed X t
   node_at dealt s i d = slice_index_or (slice_index_or dealt s []) i d
 
-  -- Each node lies in its share, at one place there, behind those of smaller numbers, and nothing else does. R says
+  -- Each node lies in its share, at one place there, after those of smaller numbers, and nothing else does. R says
   -- what each is to the one that lies there.
   pub record AreDealtBy (R : Placed X t → Placed X t → Type 0) (share : List ℕ) (nodes : List (Placed X t)) (dealt : List (List (Placed X t))) : Type 0 where
     pub place : ℕ → ℕ

@@ -25,7 +25,7 @@ row_of table k = slice_index_or table k []
 abbrev pub StandOnce : List (List ℕ) → Type 0
 StandOnce table = (k j p q : ℕ) → p < length (row_of table k) → q < length (row_of table j) → number_at table k p ≡ number_at table j q → (k ≡ j) × (p ≡ q)
 
--- What was sent and received at first is a beginning of what was at last.
+-- What was sent and received at first is a prefix of what was at last.
 pub record Grows (a v : View) : Type 0 where
   pub received : (e : ℕ) → Begins (a.received e) (v.received e)
   pub sent : (e : ℕ) → Begins (a.sent e) (v.sent e)

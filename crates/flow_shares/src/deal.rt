@@ -8,7 +8,7 @@ use flow_base::Transducer;
 use flow_graph::Placed;
 use std::alloc::{AllocError, Global};
 
-/// Deals nodes out to so many shares: node `k` goes to the share that `share` names for it, behind the nodes of smaller
+/// Deals nodes out to so many shares: node `k` goes to the share that `share` names for it, after the nodes of smaller
 /// numbers.
 ///
 /// Its only error is that memory was refused.

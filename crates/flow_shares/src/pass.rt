@@ -41,7 +41,7 @@ pub fn pass<T: Transducer, E: Ends>(
     ensures stuck { IfOk result (λ any. any ≡ false → AreStuck (E.view ends.old) nodes.old.items ×
         AreStuck (E.view ends.new) nodes.new.items) }
 {
-    // Nodes mostly end in order. Behind one that is not over, a test of each would cost more than it spares.
+    // Nodes mostly end in order. After one that is not over, a test of each would cost more than it spares.
     let (mut moved, mut running) = (false, false);
     for k in 0..nodes.len() {
         if running || !is_over(&nodes[k]) {

@@ -142,7 +142,7 @@ fn moves<T: Transducer>(
     Ok(true)
 }
 
-// Writes the word of a message behind others: a vector as it is printed.
+// Writes the word of a message after others: a vector as it is printed.
 fn append(alloc: Global, text: &mut Vec<u8>, message: &Msg) -> Result<(), AllocError> {
     if !text.is_empty() {
         text.push(b' ')?;
@@ -193,7 +193,7 @@ fn words_of(alloc: Global, want: Want) -> Result<String, AllocError> {
     }
 }
 
-// Adds a line behind others: a field, and its words, if it has any.
+// Adds a line after others: a field, and its words, if it has any.
 fn add_line(text: &mut Vec<u8>, field: &str, words: &[u8]) -> Result<(), AllocError> {
     if !text.is_empty() {
         text.push(b'\n')?;

@@ -1,4 +1,4 @@
-// Nodes made of words: a kind, and behind it what that kind has for parameters.
+// Nodes made of words: a kind, and after it what that kind has for parameters.
 
 ghost use Rattle.std.specs.Prelude.{◌≡◌, ◌≤◌, IfOk};
 ghost use Rattle.flow_nodes.specs.StreamNodes.{node_behaviour, state_of};
@@ -80,7 +80,7 @@ enum Work {
     Length,
 }
 
-// The dialect of a node that computes, and what: its operator stands behind the dialect, if it has one.
+// The dialect of a node that computes, and what: its operator stands after the dialect, if it has one.
 fn work_of(kind: &str, words: &str) -> Result<(Dialect, Work), WordError> {
     let (dialect, word) = words.split_once(' ').unwrap_or((words, ""));
     let work = match kind {

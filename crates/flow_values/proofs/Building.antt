@@ -23,7 +23,7 @@ use Rattle.flow_values.specs.laws.PartFits.{part_kind, in_first, in_second, get_
 use Rattle.flow_base.specs.Machines.{state_after_read, with_parameters}
 use Rattle.flow_values.specs.TabMachine.{TabState, Makes, at_flag, at_item, closed, grown, item_given, item_port, tab_move}
 
--- one more item that fits behind those that do
+-- one more item that fits after those that do
 pub parts_more : (ty : Ty) (got : List Cell) (x : Cell) → PartsFit ty got → part_fits ty (length got) x ≡ true → PartsFit ty (got ++ x ∷ [])
 parts_more ty got x fit next = record { each = at }
   where
@@ -41,7 +41,7 @@ parts_more ty got x fit next = record { each = at }
           subst (λ z. part_fits ty k z ≡ true) same (subst (λ n. part_fits ty n x ≡ true) (sym last) next)
     ]
 
--- the place behind the items in memory
+-- the place after the items in memory
 pub fits_behind : (ty : Ty) (items : List Item) (x : Item) (n : ℕ) → n ≡ length items → true ≡ part_fits ty n (cell_of x) → part_fits ty (length (map cell_of items)) (cell_of x) ≡ true
 fits_behind ty items x n all fits = ap (λ k. part_fits ty k (cell_of x)) (length-map items cell_of ∙ sym all) ∙ sym fits
 
@@ -51,7 +51,7 @@ parts_pushed ty old new x true fit next is =
     subst (λ l. PartsFit ty l) (sym (ap (map cell_of) is ∙ map-append cell_of old (x ∷ []))) (parts_more ty (map cell_of old) (cell_of x) fit next)
 parts_pushed ty old new x false fit next is = subst (λ l. PartsFit ty (map cell_of l)) (sym is) fit
 
--- no item fits behind the last place
+-- no item fits after the last place
 fits_within : (ty : Ty) (k : ℕ) (x : Cell) → part_fits ty k x ≡ true → k < width ty
 fits_within int zero x e = omega arith
 fits_within int (suc k) x e = absurd (cc)

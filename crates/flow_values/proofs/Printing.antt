@@ -66,7 +66,7 @@ module _ (first second : Ty) (p c : ℕ) (x : Cell) (old between new : Ahead) (s
   leads_pair (Err (Stopped kind)) h = (h.0, λ after before. h.1 (whole true second (p + width first) (suc c) ∷ after) (before ++ codes "("))
   leads_pair (Err OutOfMemory) h = tt
 
--- the same behind another text
+-- the same after another text
 abbrev in_front : List ℕ → Option Reading → Option Reading
 in_front u None = None
 in_front u (Some r) = Some (reading r.pending (u ++ r.text))

@@ -39,7 +39,7 @@ one_more item p (x ∷ ds) (suc i) d lt at =
     let first = due p F ∷ dues_of item (p + 1) (value_of x) in
     ap (before item p (x ∷ ds)) next ∙ ap (λ l. first ++ l) (one_more item p ds i d (omega arith) at) ∙ sym (append_assoc first (before item p ds i) (due p F ∷ dues_of item (p + 1) (value_of d)))
 
--- one element more, behind what was due before
+-- one element more, after what was due before
 pub element_added : (item : Ty) (p : ℕ) (ds : List Datum) (i : ℕ) (d : Datum) (old so_far flagged now : List DueCell) → i < length ds → d ≡ get_or ds i d →
     so_far ≡ old ++ before item p ds i → flagged ≡ so_far ++ due p F ∷ [] → now ≡ flagged ++ dues_of item (p + 1) (value_of d) → now ≡ old ++ before item p ds (i + 1)
 element_added item p ds i d old so_far flagged now lt at a b c =

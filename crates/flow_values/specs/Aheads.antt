@@ -28,7 +28,7 @@ Leads there (Ok _) old new = (after : List Pending) → there (stack old.pending
 Leads there (Err (Faulted kind)) old new = (kind ≡ Shape) × ((after : List Pending) (before : List ℕ) → there after before ≡ None)
 Leads there (Err OutOfMemory) old new = Unit {0}
 
--- what is found to be ahead of such a call, behind any text
+-- what is found to be ahead of such a call, after any text
 abbrev pub Finds : (List Pending → List ℕ → Option Reading) → Result Ahead Stop → Type 0
 Finds there (Ok ahead) = (after : List Pending) (before : List ℕ) → there after before ≡ Some (reading (stack ahead.pending.items after) (before ++ ahead.text.items))
 Finds there (Err (Faulted kind)) = (kind ≡ Shape) × ((after : List Pending) (before : List ℕ) → there after before ≡ None)

@@ -29,7 +29,7 @@ abbrev pub element_dues : ℕ → (Value → List DueCell) → Value → List Du
 element_dues p dues e = due p F ∷ dues e
 
 -- What a value of the type puts on its edges, the first of which is port p, in the order in which it is written: of a
--- pair the first part and then the second, and of a sequence each element behind its flag, and then the last flag.
+-- pair the first part and then the second, and of a sequence each element after its flag, and then the last flag.
 abbrev pub dues_of : Ty → ℕ → Value → List DueCell
 dues_of (pair first second) p v = dues_of first p (first_of v) ++ dues_of second (p + width first) (second_of v)
 dues_of (seq item) p v = concatenation_by (element_dues p (λ e. dues_of item (p + 1) e)) (elements_of v) ++ (due p T ∷ [])

@@ -34,7 +34,7 @@ flat (seq item) p vs = only_at p (flags (lengths (map elements_of vs))) ⊕ flat
 flat _ p vs = only_at p (map cell_for vs)
 
 -- what a value of the type puts on its edges, the first of which is port p: a scalar or a vector one item, a pair what
--- its parts put there, and a sequence a segment of flags, and then what each element puts on the edges behind
+-- its parts put there, and a sequence a segment of flags, and then what each element puts on the edges after
 abbrev pub spread : Ty → ℕ → Value → Lists Cell
 spread (pair first second) p v = spread first p (first_of v) ⊕ spread second (p + width first) (second_of v)
 spread (seq item) p v = only_at p (elements (length (elements_of v)) (T ∷ [])) ⊕ (λ q. concatenation_by (λ e. spread item (p + 1) e q) (elements_of v))

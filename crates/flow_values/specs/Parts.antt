@@ -12,7 +12,7 @@ abbrev pub parts : Ty → Value → List Cell
 parts (pair first second) v = parts first (first_of v) ++ parts second (second_of v)
 parts _ v = cell_for v ∷ []
 
--- a value and the items that are left behind its own
+-- a value and the items that are left after its own
 abbrev pub Built : Type 0
 Built = Option (Value × List Cell)
 

@@ -20,7 +20,7 @@ use Rattle.flow_values.specs.Rows.{TabRow}
 use Rattle.flow_values.specs.declared.tab.Stage.{Stage}
 use Rattle.flow_values.specs.declared.tab.Stage.TheVariants.{Start, Flag, Item as ItemStage, End}
 
--- how far an instance is: it begins; or, behind these elements, a flag is due, or an item of the next element behind
+-- how far an instance is: it begins; or, after these elements, a flag is due, or an item of the next element after
 -- these of its items; or a vector of these elements is to be written
 pub data TabState : Type 0 where
   start : TabState
@@ -40,7 +40,7 @@ abbrev pub staged : List Value → Result Stage FaultKind → Result TabState Fa
 staged es (Ok stage) = Ok (tab_state stage es [])
 staged es (Err kind) = Err kind
 
--- where a flag leads, behind these elements
+-- where a flag leads, after these elements
 abbrev pub flag_taking : Ty → List Value → Taking TabState
 flag_taking ty es = on_flag (cond (is_concrete ty) (Ok (at_item es [])) (Err Shape)) (cond (is_concrete ty) (Ok (at_end es)) (Err Shape))
 
@@ -49,7 +49,7 @@ abbrev pub closed : List Value → Built → Result TabState FaultKind
 closed es (Some (e, [])) = Ok (at_flag (es ++ e ∷ []))
 closed es _ = Err Shape
 
--- a call answers the value that was made and leaves the items behind its own, or there is none and it answers so
+-- a call answers the value that was made and leaves the items after its own, or there is none and it answers so
 abbrev pub Makes : Built → Result Datum Stop → List Item → Type 0
 Makes (Some (e, rest)) (Ok d) items = (value_of d ≡ e) × (map cell_of items ≡ rest)
 Makes (Some made) (Err (Faulted kind)) items = ⊥
@@ -73,7 +73,7 @@ item_port ty got = cond (nat_lt (length got) (width ty)) (suc (length got)) 0
 abbrev pub vector_cell : List Value → Cell
 vector_cell es = datum (a_vec (values_of es))
 
--- flags are due, behind each F the items of an element, and behind T the vector is written
+-- flags are due, after each F the items of an element, and after T the vector is written
 abbrev pub tab_move : Ty → TabState → Move TabState
 tab_move ty start = begins (flag_taking ty [])
 tab_move ty (at_flag es) = takes 0 (flag_taking ty es)

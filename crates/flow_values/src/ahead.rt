@@ -81,7 +81,7 @@ impl Ahead {
         self.text.extend_from_slice(bytes)
     }
 
-    // The last text of a value, and the brackets closed behind it.
+    // The last text of a value, and the brackets closed after it.
     fn finish(&mut self, bytes: &[u8], brackets: usize) -> Result<(), AllocError>
         ensures text { OnOk result (self.new.text.items ≡
             self.old.text.items ++ (bytes.now ++ closes brackets)) }
@@ -94,7 +94,7 @@ impl Ahead {
         Ok(())
     }
 
-    // A text, and an element that is to be read, and further ones behind it.
+    // A text, and an element that is to be read, and further ones after it.
     fn element(
         &mut self,
         alloc: Global,

@@ -1,7 +1,7 @@
 //! Transducers that read or write whole values of a type: the items of a value go over the edges of its type.
 //!
 //! A scalar or a vector has one edge. A pair has the edges of both parts. A sequence has an edge of flags, `false` for
-//! each of its elements and then `true`, and behind it the edges of its elements.
+//! each of its elements and then `true`, and after it the edges of its elements.
 #![tactic(auto)]
 
 mod ahead;

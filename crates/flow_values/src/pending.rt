@@ -5,7 +5,7 @@ ghost use Rattle.flow_values.specs.Places.{Fits};
 
 use snesl_data::Ty;
 
-/// The edges of a type from a port on, and the brackets that are closed behind a value that comes there.
+/// The edges of a type from a port on, and the brackets that are closed after a value that comes there.
 #[derive(Drop)]
 pub struct Place {
     pub ty: Ty,
@@ -14,7 +14,7 @@ pub struct Place {
     ghost fits: { Fits (ty_of ty) port brackets },
 }
 
-/// The flags of a sequence at a port, the type of its elements, and the brackets that are closed behind it.
+/// The flags of a sequence at a port, the type of its elements, and the brackets that are closed after it.
 #[derive(Drop)]
 pub struct Flags {
     pub item: Ty,
@@ -28,7 +28,7 @@ pub struct Flags {
 pub enum Pending {
     /// A value.
     Whole(Place),
-    /// A value behind a comma.
+    /// A value after a comma.
     Second(Place),
     /// Further elements of a sequence.
     Further(Flags),

@@ -22,7 +22,7 @@ use std::alloc::{AllocError, Global};
 /// the order of the ports. It writes nothing.
 ///
 /// Its inputs are the edges of the type. Fault: `Shape` where an item is not the next one of such a value, and where an
-/// input ends inside the value or does not end behind it.
+/// input ends inside the value or does not end after it.
 ///
 /// The text grows with each item, which takes memory; where it is refused, the transducer is unchanged.
 ///

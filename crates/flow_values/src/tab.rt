@@ -20,8 +20,8 @@ use std::mem;
 
 /// Writes the elements of each sequence as a vector. Each sequence is an instance.
 ///
-/// Reads port 0, flags: `false` for each element and then `true`. Behind each `false` it reads what the element puts on
-/// the edges of its type, at the ports from 1 on, one item at each. Behind `true` it writes the vector to port 0. Fault:
+/// Reads port 0, flags: `false` for each element and then `true`. After each `false` it reads what the element puts on
+/// the edges of its type, at the ports from 1 on, one item at each. After `true` it writes the vector to port 0. Fault:
 /// `Shape` where the type is not concrete, and where an item is not of its port's kind or type.
 ///
 /// It keeps the items of an element and lays out its value, which takes memory. Where it is refused, nothing was taken.

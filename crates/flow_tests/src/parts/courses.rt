@@ -108,7 +108,7 @@ const BLOCKS_OVER_RINGS: Course = Course {
     ],
 };
 
-// A box shows as slices what has come to it, also where some was left before. Units behind a truth value come by themselves.
+// A box shows as slices what has come to it, also where some was left before. Units after a truth value come by themselves.
 const BLOCKS_OVER_BOXES: Course = Course {
     name: "blocks over boxes",
     shares: Shares::One,

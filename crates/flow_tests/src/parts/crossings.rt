@@ -47,7 +47,7 @@ fn find_between(alloc: Global) -> Result<bool, AllocError> {
     Ok(there && back)
 }
 
-// What the two ends of an edge in one share find behind the put of an `End`, and behind its take. Nothing where one of these does
+// What the two ends of an edge in one share find after the put of an `End`, and after its take. Nothing where one of these does
 // not go.
 fn found_within(share: &mut Rings) -> Option<(Found, Found)>
     requires { Joins (writer_at share.old 0) (reader_at share.old 0) }

@@ -58,7 +58,7 @@ fn assert_goes(rt: &impl Abort, ends: (EdgeWriter, EdgeReader), steps: &[ThreadS
     }
 }
 
-// What is done at an edge of integers. A block has these numbers, and `End` behind them where it closes.
+// What is done at an edge of integers. A block has these numbers, and `End` after them where it closes.
 #[derive(Clone, Copy)]
 enum BlockStep {
     One(ThreadStep),

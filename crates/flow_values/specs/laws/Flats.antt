@@ -13,7 +13,7 @@ use Rattle.flow_values.specs.Shapes.{cell_for, first_of, second_of, elements_of}
 use Rattle.flow_values.specs.Flats.{nothing, only_at, ◌⊕◌, width, flat, spread, spread_all}
 use Rattle.flow_values.specs.laws.Sides.{only_here, only_there, only_moves, sides_assoc, nothing_more, both_empty, spread_below, spread_above, all_below, all_none}
 
--- lists at one port, one behind the other
+-- lists at one port, one after the other
 only_append : {A : Type 0} (p : ℕ) (xs ys : List A) → only_at p (xs ++ ys) ≡ only_at p xs ⊕ only_at p ys
 only_append p xs ys =
     fun_ext (by_port (λ q. only_at p (xs ++ ys) q ≡ only_at p xs q ++ only_at p ys q) p

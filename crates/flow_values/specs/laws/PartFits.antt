@@ -45,7 +45,7 @@ part_kind (pair first second) k x e = elim (cases_lt k (width first)) [
       in_second first second k x le ∙ part_kind second j x (ap (λ kind. is_of kind x) (sym same) ∙ e)
 ]
 
--- what stands at a place of one list behind another
+-- what stands at a place of one list after another
 pub get_left : (xs ys : List Cell) (k : ℕ) → k < length xs → slice_get (xs ++ ys) k ≡ slice_get xs k
 get_left [] ys k lt = absurd (omega arith)
 get_left (x ∷ xs) ys zero lt = refl
@@ -83,7 +83,7 @@ fits_at (pair first second) (a_pair a b) k x c is e =
 fits_at (pair first second) _ k x c is e = absurd (cc)
 fits_at (seq item) v k x c is e = absurd (cc)
 
--- the next item of a value fits behind these of its items
+-- the next item of a value fits after these of its items
 pub part_is : (ty : Ty) (v : Value) (got : List Cell) (x : Cell) (cells : List Cell) → is_concrete ty ≡ true → is_a ty v ≡ true → parts ty v ≡ got ++ x ∷ cells → part_fits ty (length got) x ≡ true
 part_is ty v got x cells c is are =
     let place : length got ≡ length got + 0 = omega arith in

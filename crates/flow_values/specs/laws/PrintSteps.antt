@@ -100,7 +100,7 @@ module _ (p c : ℕ) (after : List Pending) (before t : List ℕ) (i : Lists Cel
 pub none_is : (item : Ty) (p : ℕ) (rest : Lists Cell) → segment item p no_values ⊕ rest ≡ push p T rest
 none_is item p rest = ap (λ l. l ⊕ rest) (nothing_more (only_at p (T ∷ []))) ∙ push_is p T rest
 
--- a first element, behind its flag
+-- a first element, after its flag
 pub more_is : (item : Ty) (p : ℕ) (e : Value) (es : Values) (rest : Lists Cell) → segment item p (more_values e es) ⊕ rest ≡ push p F (spread item (p + 1) e ⊕ (segment item p es ⊕ rest))
 more_is item p e es rest =
     let one = spread item (p + 1) e in

@@ -48,7 +48,7 @@ first_only p x xs ys =
     (ap (λ l. l ++ ys p) (only_here p (x ∷ xs)) ∙ ap (λ l. x ∷ (l ++ ys p)) (sym (only_here p xs)) ∙ sym (at_port p (x ∷ less p) less))
     (λ q n. ap (λ l. l ++ ys q) (only_there p q (x ∷ xs) n ∙ sym (only_there p q xs n)) ∙ sym (off_port p q (x ∷ less p) less n)))
 
--- what is at one port alone may stand behind what has nothing there
+-- what is at one port alone may stand after what has nothing there
 pub only_moves : {A : Type 0} (p : ℕ) (xs : List A) (ys : Lists A) → ys p ≡ [] → only_at p xs ⊕ ys ≡ ys ⊕ only_at p xs
 only_moves p xs ys none =
     let here = only_at p xs in
@@ -77,7 +77,7 @@ spread_below (seq item) p v q lt =
 pub all_below : (ty : Ty) (p : ℕ) (vs : List Value) (q : ℕ) → q < p → spread_all ty p vs q ≡ []
 all_below ty p vs q lt = all_none ty p q (λ v. spread_below ty p v q lt) vs
 
--- nor behind its last
+-- nor after its last
 pub spread_above : (ty : Ty) (p : ℕ) (v : Value) (q : ℕ) → p + width ty ≤ q → spread ty p v q ≡ []
 spread_above int p v q le = let n : q ≢ p = omega arith in only_there p q _ n
 spread_above bool p v q le = let n : q ≢ p = omega arith in only_there p q _ n

@@ -139,7 +139,7 @@ module _ (ty : Ty) where
   place : (got : List Cell) (x : Cell) → suc (length got) + 1 ≡ suc (length (got ++ x ∷ []))
   place got x = let size = length-append got (x ∷ []) in omega (arith, size)
 
-  -- the items of an element, and its segment behind
+  -- the items of an element, and its segment after
 
   -- an item that leads on, and then a run, is a run
   item_run : (es : List Value) (got : List Cell) (x : Cell) (s : TabState) (l : Lists Cell) (o : List Cell) → length got < width ty → part_fits ty (length got) x ≡ true → item_given ty es got x ≡ Ok s → Does s l o → Does (at_item es got) (push (suc (length got)) x l) o
@@ -213,7 +213,7 @@ module _ (ty : Ty) where
       subst (λ v. Does start (all_edges (a_vec vs ∷ vectors)) (datum (a_vec v) ∷ map datum vectors)) (values_listed vs) r
   runs (_ ∷ vectors) are = let never = are.1 in absurd (cc)
 
-  -- What a run reads and writes: further sequences and vectors, behind these elements; there are further ones, or a next
+  -- What a run reads and writes: further sequences and vectors, after these elements; there are further ones, or a next
   -- element has these of its items left.
   data Owes : TabState → Columns → Columns → Type 0 where
     started : (vectors : List Value) → AreTabs ty vectors → Owes start (edges (all_edges vectors)) (map datum vectors ∷ [])

@@ -7,7 +7,7 @@ use Rattle.flow_assembly.proofs.Laying.{get_front, get_back}
 use Rattle.flow_assembly.proofs.Refused.{none_given}
 use Rattle.flow_assembly.proofs.nodes.kinds_written.Goals as goal
 
--- a list of what stands at each place, and one more behind it
+-- a list of what stands at each place, and one more after it
 one_more : {A : Type 0} (xs ys : List A) (y : A) (p : ℕ) (f : ℕ → A) → ys ≡ xs ++ y ∷ [] → length xs ≡ p → y ≡ f p → ((q : ℕ) → q < p → slice_get xs q ≡ Some (f q))
     → (q : ℕ) → q < p + 1 → slice_get ys q ≡ Some (f q)
 one_more xs ys y p f pushed count is all q lt =

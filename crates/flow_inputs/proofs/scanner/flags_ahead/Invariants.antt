@@ -4,7 +4,7 @@ use Rattle.flow_inputs.specs.Turns.{depth_of}
 use Rattle.flow_inputs.specs.Left.{left}
 use Rattle.flow_inputs.proofs.scanner.flags_ahead.Given as goal
 
--- the items so far, and what is left behind them
+-- the items so far, and what is left after them
 abbrev pub invariant-loop-count : goal.invariant-loop-count
 invariant-loop-count l = record {
   first : left l.text l.way l.leaf l.fn.at l.fn.state ≡ map Flag (take l.count l.flags) ++ left l.text l.way l.leaf l.at l.state;

@@ -6,7 +6,7 @@ use Rattle.flow_inputs.specs.Left.{left}
 use Rattle.flow_inputs.proofs.Lefts.{behind_turn, left_done, left_found, left_unfound, turn_deeper}
 use Rattle.flow_inputs.proofs.scanner.scan.Goals as goal
 
--- where nothing was written, what is left is left behind
+-- where nothing was written, what is left is left after
 unwritten : (o : Option Piece) → is_some o ≡ false → option_to_list o ≡ []
 unwritten None e = refl
 unwritten (Some x) e = absurd (cc)
