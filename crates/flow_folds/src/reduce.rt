@@ -315,6 +315,56 @@ impl Reduce {
         (count, Stage::Flag(more))
     }
 
+    // The sum so far, where a flag comes and the sum fits 64 bits.
+    #[inline(always)]
+    fn small_sum(&self) -> Option<i64>
+        ensures sum { IfSome result (λ n. self.now.reduction ≡ SumOf) }
+        ensures so_far { IfSome result (λ n.
+            AwaitsFlag self.now.reduction self.now.stage (Some (IntScalar n))) }
+    {
+        if !matches!(self.reduction, Reduction::Sum) {
+            return None;
+        }
+        let Some(total) = self.stage.int(self.reduction) else {
+            return None;
+        };
+        match i64::try_from(total) {
+            Ok(small) => Some(small),
+            Err(_) => None,
+        }
+    }
+
+    // Reads the elements that are shown, each after its flag, while they are added up in 64 bits. How many steps. Most visits
+    // of a sum end here, and carry one word of all that a state may be.
+    #[inline(always)]
+    fn add_elements<E: Ends>(&mut self, inputs: &[usize], ends: &mut E, most: usize) -> usize
+        requires two { length inputs.now ≡ 2 }
+        requires apart { edge_of inputs.now 0 ≢ edge_of inputs.now 1 }
+        requires reads { All (λ e. (E.view ends.old).reads e ≡ true) inputs.now }
+        ensures same { E.same ends.old ends.new }
+        ensures ends { SameEnds (E.view ends.old) (E.view ends.new) }
+        ensures within { result ≤ most }
+        ensures went { (outputs : List ℕ) (at : ℕ) → Went inputs.now outputs
+            (behaviour_of reduce_machine) (node_state (reduce_view self.old) Working at)
+            (E.view ends.old) (node_state (reduce_view self.new) Working at)
+            (E.view ends.new) result }
+    {
+        let (flags, elements) = (inputs[0], inputs[1]);
+        let Some(total) = self.small_sum() else {
+            return 0;
+        };
+        let block = ends.ints(elements);
+        let ahead = elements_ahead(ends.flags(flags), block.len().min(most / 2));
+        let (count, reached) = small_sum_of(total, &block[..ahead]);
+        if count == 0 {
+            return 0;
+        }
+        ends.skip(flags, count);
+        ends.skip(elements, count);
+        self.stage = Stage::Flag(Some(Scalar::Int(reached as i128)));
+        2 * count
+    }
+
     // Reads the flag that ends a segment and writes the segment's value, an integer of 64 bits, where both can be. Whether it did.
     #[inline(always)]
     fn end_segment<E: Ends>(
@@ -353,6 +403,44 @@ impl Reduce {
         ends.put_ints(to, &[narrow]);
         ends.skip(flags, 1);
         true
+    }
+
+    // Rounds, at most `most` steps. Each is a block of flags with their elements, and the end of their segment with its value.
+    // How many steps.
+    #[inline(never)]
+    fn rounds<E: Ends>(
+        &mut self,
+        inputs: &[usize],
+        outputs: &[usize],
+        ends: &mut E,
+        most: usize,
+    ) -> usize
+        requires apart { edge_of inputs.now 0 ≢ edge_of inputs.now 1 }
+        requires wired { IsWired inputs.now outputs.now 2 1 (E.view ends.old) }
+        ensures same { E.same ends.old ends.new }
+        ensures ends { SameEnds (E.view ends.old) (E.view ends.new) }
+        ensures within { result ≤ most }
+        ensures went { (at : ℕ) → Went inputs.now outputs.now
+            (behaviour_of reduce_machine) (node_state (reduce_view self.old) Working at)
+            (E.view ends.old) (node_state (reduce_view self.new) Working at)
+            (E.view ends.new) result }
+    {
+        let mut stage = self.stage;
+        let mut made = 0;
+        // Where no flag is shown, or no two steps are left, nothing else is looked at.
+        while most - made >= 2 && !ends.flags(inputs[0]).is_empty() {
+            let (count, reached) = self.take_elements(stage, inputs, ends, most - made);
+            stage = reached;
+            made += 2 * count;
+            if most - made >= 2 && self.end_segment(stage, inputs, outputs, ends) {
+                stage = Stage::Start;
+                made += 2;
+            } else if count == 0 {
+                break;
+            }
+        }
+        self.stage = stage;
+        made
     }
 }
 
@@ -424,7 +512,7 @@ impl Worker for Reduce {
         matches!(self.stage, Stage::Start | Stage::Flag(_))
     }
 
-    // Each round is a block of flags with their elements, and the end of their segment with its value.
+    // The elements of a sum that is small first, and then rounds.
     #[inline(always)]
     fn blocks<E: Ends>(
         &mut self,
@@ -437,22 +525,12 @@ impl Worker for Reduce {
         if inputs[0] == inputs[1] {
             return 0;
         }
-        let mut stage = self.stage;
-        let mut made = 0;
-        // Where no flag is shown, or no two steps are left, nothing else is looked at.
-        while most - made >= 2 && !ends.flags(inputs[0]).is_empty() {
-            let (count, reached) = self.take_elements(stage, inputs, ends, most - made);
-            stage = reached;
-            made += 2 * count;
-            if most - made >= 2 && self.end_segment(stage, inputs, outputs, ends) {
-                stage = Stage::Start;
-                made += 2;
-            } else if count == 0 {
-                break;
-            }
+        let first = self.add_elements(inputs, ends, most);
+        if ends.flags(inputs[0]).is_empty() {
+            return first;
         }
-        self.stage = stage;
-        made
+        let more = self.rounds(inputs, outputs, ends, most - first);
+        first + more
     }
 
     // Each round is two steps: a flag with its element, or the end of a segment with its value.

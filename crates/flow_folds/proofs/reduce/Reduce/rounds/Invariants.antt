@@ -4,7 +4,7 @@ use Rattle.flow_base.specs.Nodes.{behaviour_of, node_state}
 use Rattle.flow_base.specs.Visits.{Went}
 use Rattle.flow_base.specs.declared.node.Phase.TheVariants.{Working}
 use Rattle.flow_folds.specs.ReduceMachine.{reduce_machine, reduce_view}
-use Rattle.flow_folds.proofs.reduce.ReduceWorker.blocks.Given as goal
+use Rattle.flow_folds.proofs.reduce.Reduce.rounds.Given as goal
 
 -- the steps so far
 abbrev pub invariant-loop-made : goal.invariant-loop-made
