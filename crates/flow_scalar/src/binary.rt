@@ -247,7 +247,7 @@ impl Binary {
     }
 
     // Whole rounds over integers, to integers, through a block that is lent.
-    #[inline(never)]
+    #[inline(always)]
     fn int_blocks<E: Ends>(
         &self,
         inputs: &[usize],
@@ -287,8 +287,52 @@ impl Binary {
         }
     }
 
+    // The same through a short block, in short visits. It stands alone, so that such a visit pays for no longer one.
+    #[inline(never)]
+    fn few_ints<E: Ends>(
+        &self,
+        inputs: &[usize],
+        outputs: &[usize],
+        ends: &mut E,
+        most: usize,
+    ) -> usize
+        requires start { self.now.progress ≡ Start }
+        requires apart { edge_of inputs.now 0 ≢ edge_of inputs.now 1 }
+        requires wired { IsWired inputs.now outputs.now 2 1 (E.view ends.old) }
+        ensures same { E.same ends.old ends.new }
+        ensures ends { SameEnds (E.view ends.old) (E.view ends.new) }
+        ensures within { result ≤ most }
+        ensures went { (at : ℕ) → Went inputs.now outputs.now (behaviour_of binary_machine)
+            (node_state (binary_view self.now) Working at) (E.view ends.old)
+            (node_state (binary_view self.now) Working at) (E.view ends.new) result }
+    {
+        self.int_blocks(inputs, outputs, ends, most, &mut [0; SHORT_BLOCK])
+    }
+
+    // The same in long visits.
+    #[inline(never)]
+    fn many_ints<E: Ends>(
+        &self,
+        inputs: &[usize],
+        outputs: &[usize],
+        ends: &mut E,
+        most: usize,
+    ) -> usize
+        requires start { self.now.progress ≡ Start }
+        requires apart { edge_of inputs.now 0 ≢ edge_of inputs.now 1 }
+        requires wired { IsWired inputs.now outputs.now 2 1 (E.view ends.old) }
+        ensures same { E.same ends.old ends.new }
+        ensures ends { SameEnds (E.view ends.old) (E.view ends.new) }
+        ensures within { result ≤ most }
+        ensures went { (at : ℕ) → Went inputs.now outputs.now (behaviour_of binary_machine)
+            (node_state (binary_view self.now) Working at) (E.view ends.old)
+            (node_state (binary_view self.now) Working at) (E.view ends.new) result }
+    {
+        self.int_blocks(inputs, outputs, ends, most, &mut [0; BLOCK])
+    }
+
     // Whole rounds over blocks of integers, to a block of truth values.
-    #[inline(always)]
+    #[inline(never)]
     fn flag_blocks<E: Ends>(
         &self,
         inputs: &[usize],
@@ -418,10 +462,8 @@ impl Worker for Binary {
             return 0;
         }
         match self.operator.result() {
-            ScalarType::Int if most < BLOCK => {
-                self.int_blocks(inputs, outputs, ends, most, &mut [0; SHORT_BLOCK])
-            }
-            ScalarType::Int => self.int_blocks(inputs, outputs, ends, most, &mut [0; BLOCK]),
+            ScalarType::Int if most < BLOCK => self.few_ints(inputs, outputs, ends, most),
+            ScalarType::Int => self.many_ints(inputs, outputs, ends, most),
             ScalarType::Bool => self.flag_blocks(inputs, outputs, ends, most),
         }
     }

@@ -6,14 +6,13 @@ ghost use Rattle.std.specs.List.{All};
 ghost use Rattle.flow_messages.specs.Cells.{cell_of, is_of};
 ghost use Rattle.flow_messages.specs.Ends.{View, SameEnds};
 ghost use Rattle.flow_messages.specs.Signals.{carry, signal_of};
-ghost use Rattle.flow_messages.specs.Blocks.{unit_signals, flag_signals, int_signals};
 ghost use Rattle.flow_base.specs.Machines.{Leads, on_kind};
 ghost use Rattle.flow_base.specs.Nodes.{NodeState, behaviour_of, node_state};
 ghost use Rattle.flow_base.specs.Visits.{edge_of, IsWired, Went, Wrote};
 ghost use Rattle.flow_base.specs.declared.node.Phase.TheVariants.{Working};
-ghost use Rattle.flow_scalar.specs.ForkCopies.{PutOnEach, CopiedOn};
 ghost use Rattle.flow_scalar.specs.ForkMachine.{ForkPorts, ForkState, fork_ports, fork_machine, idle, holding};
 
+use crate::copies::block_to_each;
 use flow_base::{Ask, BLOCK, SHORT_BLOCK, Stop, Worker, put_in_space, take_front};
 use flow_messages::{Ends, Item, Kind, Msg};
 use snesl_data::FaultKind;
@@ -173,10 +172,11 @@ impl Fork {
         made
     }
 
-    // Copies items that are shown to each output, through blocks that are lent, at most so many. How many.
-    #[inline(never)]
+    // Copies items of its kind that are shown to each output, through blocks that are lent, at most so many. How many.
+    #[inline(always)]
     fn instances<E: Ends>(
         &self,
+        kind: Kind,
         inputs: &[usize],
         outputs: &[usize],
         ends: &mut E,
@@ -185,6 +185,7 @@ impl Fork {
         ints: &mut [i64],
     ) -> usize
         requires idle { self.now.held ≡ None }
+        requires kind { self.now.kind ≡ kind }
         requires outputs { suc (fork_ports self.now.kind self.now.outputs).others ≡
             length outputs.now }
         requires wired { IsWired inputs.now outputs.now 1 (length outputs.now)
@@ -204,13 +205,184 @@ impl Fork {
         let mut made = 0;
         while made < whole {
             let left = whole - made;
-            let count = block_to_each(ends, self.kind, inputs[0], outputs, left, flags, ints);
+            let count = block_to_each(ends, kind, inputs[0], outputs, left, flags, ints);
             if count == 0 {
                 return made;
             }
             made += count;
         }
         made
+    }
+
+    // Whole instances over slices, through blocks that are lent, at most `most` steps. How many steps. The kind is its own;
+    // where the caller knows it, nothing is asked of the others.
+    #[inline(always)]
+    fn copies<E: Ends>(
+        &self,
+        kind: Kind,
+        inputs: &[usize],
+        outputs: &[usize],
+        ends: &mut E,
+        most: usize,
+        flags: &mut [bool],
+        ints: &mut [i64],
+    ) -> usize
+        requires kind { self.now.kind ≡ kind }
+        requires outputs { suc (fork_ports self.now.kind self.now.outputs).others ≡
+            length outputs.now }
+        requires wired { IsWired inputs.now outputs.now 1 (length outputs.now)
+            (E.view ends.old) }
+        ensures same { E.same ends.old ends.new }
+        ensures ends { SameEnds (E.view ends.old) (E.view ends.new) }
+        ensures within { result ≤ most }
+        ensures went { (at : ℕ) → Went inputs.now outputs.now (behaviour_of fork_machine)
+            (node_state (⟦<Fork as Worker>⟧.state self.now) Working at) (E.view ends.old)
+            (node_state (⟦<Fork as Worker>⟧.state self.now) Working at) (E.view ends.new)
+            result }
+    {
+        // Where nothing is shown, no output is looked at.
+        if self.held.is_some() || !shows(ends, inputs[0], kind) {
+            return 0;
+        }
+        // The room of an edge is certain for one output alone.
+        if !rise(outputs) {
+            return 0;
+        }
+        // An instance is a step for each output and one more.
+        let steps = outputs.len() + 1;
+        let whole = least_space(ends, outputs).min(instances_within(most, outputs.len()));
+        steps * self.instances(kind, inputs, outputs, ends, whole, flags, ints)
+    }
+
+    // The copies of integers in a short visit. It stands alone, as do the next three, so that a visit pays for one block.
+    #[inline(never)]
+    fn few_ints<E: Ends>(
+        &self,
+        inputs: &[usize],
+        outputs: &[usize],
+        ends: &mut E,
+        most: usize,
+    ) -> usize
+        requires kind { self.now.kind ≡ Kind.Int }
+        requires outputs { suc (fork_ports self.now.kind self.now.outputs).others ≡
+            length outputs.now }
+        requires wired { IsWired inputs.now outputs.now 1 (length outputs.now)
+            (E.view ends.old) }
+        ensures same { E.same ends.old ends.new }
+        ensures ends { SameEnds (E.view ends.old) (E.view ends.new) }
+        ensures within { result ≤ most }
+        ensures went { (at : ℕ) → Went inputs.now outputs.now (behaviour_of fork_machine)
+            (node_state (⟦<Fork as Worker>⟧.state self.now) Working at) (E.view ends.old)
+            (node_state (⟦<Fork as Worker>⟧.state self.now) Working at) (E.view ends.new)
+            result }
+    {
+        self.copies(
+            Kind::Int,
+            inputs,
+            outputs,
+            ends,
+            most,
+            &mut [],
+            &mut [0; SHORT_BLOCK],
+        )
+    }
+
+    // The copies of integers in a long visit.
+    #[inline(never)]
+    fn many_ints<E: Ends>(
+        &self,
+        inputs: &[usize],
+        outputs: &[usize],
+        ends: &mut E,
+        most: usize,
+    ) -> usize
+        requires kind { self.now.kind ≡ Kind.Int }
+        requires outputs { suc (fork_ports self.now.kind self.now.outputs).others ≡
+            length outputs.now }
+        requires wired { IsWired inputs.now outputs.now 1 (length outputs.now)
+            (E.view ends.old) }
+        ensures same { E.same ends.old ends.new }
+        ensures ends { SameEnds (E.view ends.old) (E.view ends.new) }
+        ensures within { result ≤ most }
+        ensures went { (at : ℕ) → Went inputs.now outputs.now (behaviour_of fork_machine)
+            (node_state (⟦<Fork as Worker>⟧.state self.now) Working at) (E.view ends.old)
+            (node_state (⟦<Fork as Worker>⟧.state self.now) Working at) (E.view ends.new)
+            result }
+    {
+        self.copies(
+            Kind::Int,
+            inputs,
+            outputs,
+            ends,
+            most,
+            &mut [],
+            &mut [0; BLOCK],
+        )
+    }
+
+    // The copies of truth values and of units.
+    #[inline(never)]
+    fn flags_or_units<E: Ends>(
+        &self,
+        inputs: &[usize],
+        outputs: &[usize],
+        ends: &mut E,
+        most: usize,
+    ) -> usize
+        requires outputs { suc (fork_ports self.now.kind self.now.outputs).others ≡
+            length outputs.now }
+        requires wired { IsWired inputs.now outputs.now 1 (length outputs.now)
+            (E.view ends.old) }
+        ensures same { E.same ends.old ends.new }
+        ensures ends { SameEnds (E.view ends.old) (E.view ends.new) }
+        ensures within { result ≤ most }
+        ensures went { (at : ℕ) → Went inputs.now outputs.now (behaviour_of fork_machine)
+            (node_state (⟦<Fork as Worker>⟧.state self.now) Working at) (E.view ends.old)
+            (node_state (⟦<Fork as Worker>⟧.state self.now) Working at) (E.view ends.new)
+            result }
+    {
+        self.copies(
+            self.kind,
+            inputs,
+            outputs,
+            ends,
+            most,
+            &mut [false; BLOCK],
+            &mut [],
+        )
+    }
+
+    // The copies of truth values in a short visit.
+    #[inline(never)]
+    fn few_flags<E: Ends>(
+        &self,
+        inputs: &[usize],
+        outputs: &[usize],
+        ends: &mut E,
+        most: usize,
+    ) -> usize
+        requires kind { self.now.kind ≡ Kind.Bool }
+        requires outputs { suc (fork_ports self.now.kind self.now.outputs).others ≡
+            length outputs.now }
+        requires wired { IsWired inputs.now outputs.now 1 (length outputs.now)
+            (E.view ends.old) }
+        ensures same { E.same ends.old ends.new }
+        ensures ends { SameEnds (E.view ends.old) (E.view ends.new) }
+        ensures within { result ≤ most }
+        ensures went { (at : ℕ) → Went inputs.now outputs.now (behaviour_of fork_machine)
+            (node_state (⟦<Fork as Worker>⟧.state self.now) Working at) (E.view ends.old)
+            (node_state (⟦<Fork as Worker>⟧.state self.now) Working at) (E.view ends.new)
+            result }
+    {
+        self.copies(
+            Kind::Bool,
+            inputs,
+            outputs,
+            ends,
+            most,
+            &mut [false; SHORT_BLOCK],
+            &mut [],
+        )
     }
 }
 
@@ -316,189 +488,6 @@ fn put_on_each<E: Ends>(ends: &mut E, outputs: &[usize], item: &Item)
 {
     for port in 0..outputs.len() {
         put_in_space(ends, outputs[port], Msg::Item(copy_of(item)));
-    }
-}
-
-// Puts these units on each output, where there is room.
-#[inline(always)]
-fn put_units_on_each<E: Ends>(ends: &mut E, outputs: &[usize], count: usize)
-    requires writes { All (λ e. (E.view ends.old).writes e ≡ true) outputs.now }
-    requires rise { (p q : ℕ) → p < q → q < length outputs.now →
-        edge_of outputs.now p < edge_of outputs.now q }
-    requires room { (q : ℕ) → q < length outputs.now →
-        count ≤ (E.view ends.old).room (edge_of outputs.now q) }
-    ensures same { E.same ends.old ends.new }
-    ensures put { PutOnEach outputs.now (length outputs.now) (unit_signals count)
-        (E.view ends.old) (E.view ends.new) }
-{
-    for port in 0..outputs.len() {
-        ends.put_units(outputs[port], count);
-    }
-}
-
-// Puts these truth values on each output, where there is room.
-#[inline(always)]
-fn put_flags_on_each<E: Ends>(ends: &mut E, outputs: &[usize], flags: &[bool])
-    requires writes { All (λ e. (E.view ends.old).writes e ≡ true) outputs.now }
-    requires rise { (p q : ℕ) → p < q → q < length outputs.now →
-        edge_of outputs.now p < edge_of outputs.now q }
-    requires room { (q : ℕ) → q < length outputs.now →
-        length flags.now ≤ (E.view ends.old).room (edge_of outputs.now q) }
-    ensures same { E.same ends.old ends.new }
-    ensures put { PutOnEach outputs.now (length outputs.now) (flag_signals flags.now)
-        (E.view ends.old) (E.view ends.new) }
-{
-    for port in 0..outputs.len() {
-        ends.put_flags(outputs[port], flags);
-    }
-}
-
-// Puts these integers on each output, where there is room.
-#[inline(always)]
-fn put_ints_on_each<E: Ends>(ends: &mut E, outputs: &[usize], ints: &[i64])
-    requires writes { All (λ e. (E.view ends.old).writes e ≡ true) outputs.now }
-    requires rise { (p q : ℕ) → p < q → q < length outputs.now →
-        edge_of outputs.now p < edge_of outputs.now q }
-    requires room { (q : ℕ) → q < length outputs.now →
-        length ints.now ≤ (E.view ends.old).room (edge_of outputs.now q) }
-    ensures same { E.same ends.old ends.new }
-    ensures put { PutOnEach outputs.now (length outputs.now) (int_signals ints.now)
-        (E.view ends.old) (E.view ends.new) }
-{
-    for port in 0..outputs.len() {
-        ends.put_ints(outputs[port], ints);
-    }
-}
-
-// Copies the units that are shown to each output, where there is room. How many.
-#[inline(always)]
-fn units_to_each<E: Ends>(ends: &mut E, from: usize, outputs: &[usize], most: usize) -> usize
-    requires reads { (E.view ends.old).reads from ≡ true }
-    requires writes { All (λ e. (E.view ends.old).writes e ≡ true) outputs.now }
-    requires rise { (p q : ℕ) → p < q → q < length outputs.now →
-        edge_of outputs.now p < edge_of outputs.now q }
-    requires room { (q : ℕ) → q < length outputs.now →
-        most ≤ (E.view ends.old).room (edge_of outputs.now q) }
-    ensures same { E.same ends.old ends.new }
-    ensures ends { SameEnds (E.view ends.old) (E.view ends.new) }
-    ensures within { result ≤ most }
-    ensures room { (q : ℕ) → q < length outputs.now →
-        (E.view ends.old).room (edge_of outputs.now q) ≤
-        (E.view ends.new).room (edge_of outputs.now q) + result }
-    ensures copied { CopiedOn Kind.Unit from outputs.now (E.view ends.old)
-        (E.view ends.new) result }
-{
-    let count = ends.units(from).min(most);
-    if count == 0 {
-        return 0;
-    }
-    ends.skip(from, count);
-    put_units_on_each(ends, outputs, count);
-    count
-}
-
-// Copies the truth values that are shown to each output, where there is room. How many.
-#[inline(always)]
-fn flags_to_each<E: Ends>(
-    ends: &mut E,
-    from: usize,
-    outputs: &[usize],
-    most: usize,
-    block: &mut [bool],
-) -> usize
-    requires reads { (E.view ends.old).reads from ≡ true }
-    requires writes { All (λ e. (E.view ends.old).writes e ≡ true) outputs.now }
-    requires rise { (p q : ℕ) → p < q → q < length outputs.now →
-        edge_of outputs.now p < edge_of outputs.now q }
-    requires room { (q : ℕ) → q < length outputs.now →
-        most ≤ (E.view ends.old).room (edge_of outputs.now q) }
-    ensures same { E.same ends.old ends.new }
-    ensures ends { SameEnds (E.view ends.old) (E.view ends.new) }
-    ensures within { result ≤ most }
-    ensures room { (q : ℕ) → q < length outputs.now →
-        (E.view ends.old).room (edge_of outputs.now q) ≤
-        (E.view ends.new).room (edge_of outputs.now q) + result }
-    ensures copied { CopiedOn Kind.Bool from outputs.now (E.view ends.old)
-        (E.view ends.new) result }
-{
-    let shown = ends.flags(from);
-    let count = shown.len().min(most).min(block.len());
-    if count == 0 {
-        return 0;
-    }
-    block[..count].copy_from_slice(&shown[..count]);
-    ends.skip(from, count);
-    put_flags_on_each(ends, outputs, &block[..count]);
-    count
-}
-
-// Copies the integers that are shown to each output, where there is room. How many.
-#[inline(always)]
-fn ints_to_each<E: Ends>(
-    ends: &mut E,
-    from: usize,
-    outputs: &[usize],
-    most: usize,
-    block: &mut [i64],
-) -> usize
-    requires reads { (E.view ends.old).reads from ≡ true }
-    requires writes { All (λ e. (E.view ends.old).writes e ≡ true) outputs.now }
-    requires rise { (p q : ℕ) → p < q → q < length outputs.now →
-        edge_of outputs.now p < edge_of outputs.now q }
-    requires room { (q : ℕ) → q < length outputs.now →
-        most ≤ (E.view ends.old).room (edge_of outputs.now q) }
-    ensures same { E.same ends.old ends.new }
-    ensures ends { SameEnds (E.view ends.old) (E.view ends.new) }
-    ensures within { result ≤ most }
-    ensures room { (q : ℕ) → q < length outputs.now →
-        (E.view ends.old).room (edge_of outputs.now q) ≤
-        (E.view ends.new).room (edge_of outputs.now q) + result }
-    ensures copied { CopiedOn Kind.Int from outputs.now (E.view ends.old)
-        (E.view ends.new) result }
-{
-    let shown = ends.ints(from);
-    let count = shown.len().min(most).min(block.len());
-    if count == 0 {
-        return 0;
-    }
-    block[..count].copy_from_slice(&shown[..count]);
-    ends.skip(from, count);
-    put_ints_on_each(ends, outputs, &block[..count]);
-    count
-}
-
-// Copies items of this kind that are shown to each output, where there is room: the units, or the others as far as the
-// blocks that they are copied through. How many.
-#[inline(always)]
-fn block_to_each<E: Ends>(
-    ends: &mut E,
-    kind: Kind,
-    from: usize,
-    outputs: &[usize],
-    most: usize,
-    flags: &mut [bool],
-    ints: &mut [i64],
-) -> usize
-    requires reads { (E.view ends.old).reads from ≡ true }
-    requires writes { All (λ e. (E.view ends.old).writes e ≡ true) outputs.now }
-    requires rise { (p q : ℕ) → p < q → q < length outputs.now →
-        edge_of outputs.now p < edge_of outputs.now q }
-    requires room { (q : ℕ) → q < length outputs.now →
-        most ≤ (E.view ends.old).room (edge_of outputs.now q) }
-    ensures same { E.same ends.old ends.new }
-    ensures ends { SameEnds (E.view ends.old) (E.view ends.new) }
-    ensures within { result ≤ most }
-    ensures room { (q : ℕ) → q < length outputs.now →
-        (E.view ends.old).room (edge_of outputs.now q) ≤
-        (E.view ends.new).room (edge_of outputs.now q) + result }
-    ensures copied { CopiedOn kind from outputs.now (E.view ends.old) (E.view ends.new)
-        result }
-{
-    match kind {
-        Kind::Unit => units_to_each(ends, from, outputs, most),
-        Kind::Bool => flags_to_each(ends, from, outputs, most, flags),
-        Kind::Int => ints_to_each(ends, from, outputs, most, ints),
-        Kind::Vec => 0,
     }
 }
 
@@ -630,26 +619,12 @@ impl Worker for Fork {
         if most / 2 <= outputs.len() {
             return self.step_on(inputs, outputs, ends, most);
         }
-        let from = inputs[0];
-        // Where nothing is shown, no output is looked at.
-        if self.held.is_some() || !shows(ends, from, self.kind) {
-            return 0;
+        match self.kind {
+            Kind::Int if most < BLOCK => self.few_ints(inputs, outputs, ends, most),
+            Kind::Int => self.many_ints(inputs, outputs, ends, most),
+            Kind::Bool if most < BLOCK => self.few_flags(inputs, outputs, ends, most),
+            _ => self.flags_or_units(inputs, outputs, ends, most),
         }
-        // The room of an edge is certain for one output alone.
-        if !rise(outputs) {
-            return 0;
-        }
-        // An instance is a step for each output and one more.
-        let steps = outputs.len() + 1;
-        let whole = least_space(ends, outputs).min(instances_within(most, outputs.len()));
-        let made = match self.kind {
-            Kind::Int if most < BLOCK => {
-                self.instances(inputs, outputs, ends, whole, &mut [], &mut [0; SHORT_BLOCK])
-            }
-            Kind::Int => self.instances(inputs, outputs, ends, whole, &mut [], &mut [0; BLOCK]),
-            _ => self.instances(inputs, outputs, ends, whole, &mut [false; BLOCK], &mut []),
-        };
-        steps * made
     }
 
     #[inline(always)]

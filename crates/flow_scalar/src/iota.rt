@@ -175,7 +175,7 @@ impl Iota {
 
     // Rounds through a block that is lent. Each is a block of flags and numbers, or the flag that ends a segment and the next
     // integer. How many steps.
-    #[inline(never)]
+    #[inline(always)]
     fn rounds<E: Ends>(
         &mut self,
         inputs: &[usize],
@@ -219,6 +219,48 @@ impl Iota {
         }
         *self = Iota::Flag { next, end };
         made
+    }
+
+    // The same through a short block, in short visits. It stands alone, so that such a visit pays for no longer one.
+    #[inline(never)]
+    fn few_rounds<E: Ends>(
+        &mut self,
+        inputs: &[usize],
+        outputs: &[usize],
+        ends: &mut E,
+        most: usize,
+    ) -> usize
+        requires apart { edge_of outputs.now 0 ≢ edge_of outputs.now 1 }
+        requires wired { IsWired inputs.now outputs.now 1 2 (E.view ends.old) }
+        ensures same { E.same ends.old ends.new }
+        ensures ends { SameEnds (E.view ends.old) (E.view ends.new) }
+        ensures within { result ≤ most }
+        ensures went { (at : ℕ) → Went inputs.now outputs.now (behaviour_of iota_machine)
+            (node_state (iota_view self.old) Working at) (E.view ends.old)
+            (node_state (iota_view self.new) Working at) (E.view ends.new) result }
+    {
+        self.rounds(inputs, outputs, ends, most, &mut [0; SHORT_BLOCK])
+    }
+
+    // The same in long visits.
+    #[inline(never)]
+    fn many_rounds<E: Ends>(
+        &mut self,
+        inputs: &[usize],
+        outputs: &[usize],
+        ends: &mut E,
+        most: usize,
+    ) -> usize
+        requires apart { edge_of outputs.now 0 ≢ edge_of outputs.now 1 }
+        requires wired { IsWired inputs.now outputs.now 1 2 (E.view ends.old) }
+        ensures same { E.same ends.old ends.new }
+        ensures ends { SameEnds (E.view ends.old) (E.view ends.new) }
+        ensures within { result ≤ most }
+        ensures went { (at : ℕ) → Went inputs.now outputs.now (behaviour_of iota_machine)
+            (node_state (iota_view self.old) Working at) (E.view ends.old)
+            (node_state (iota_view self.new) Working at) (E.view ends.new) result }
+    {
+        self.rounds(inputs, outputs, ends, most, &mut [0; BLOCK])
     }
 }
 
@@ -318,9 +360,9 @@ impl Worker for Iota {
             return 0;
         }
         if most < BLOCK {
-            return self.rounds(inputs, outputs, ends, most, &mut [0; SHORT_BLOCK]);
+            return self.few_rounds(inputs, outputs, ends, most);
         }
-        self.rounds(inputs, outputs, ends, most, &mut [0; BLOCK])
+        self.many_rounds(inputs, outputs, ends, most)
     }
 
     // Each round is two steps: a flag and a number, or the flag that ends a segment and the next integer.

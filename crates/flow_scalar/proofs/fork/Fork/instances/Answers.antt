@@ -48,7 +48,7 @@ returns-then-count-eq0-clause-went g c =
     let on : ForkState → NodeState (ForkPorts × ForkState) = λ s. node_state (p, s) Working at in
     let s = node_state (fork_view n) Working at in
     let at_start : on idle ≡ s = ap (λ o. on (fork_state n.outputs n.next o)) (sym none) in
-    let copied = subst (λ k. Went ins outs b k v k w ((length outs + 1) * count)) at_start (c.block_to_each-count.ensures.copied ins reads refl p refl c.requires.outputs at) in
+    let copied = subst (λ k. Went ins outs b k v k w ((length outs + 1) * count)) at_start (c.block_to_each-count.ensures.copied ins reads refl p c.requires.kind c.requires.outputs at) in
     subst (Went ins outs b s (view c.args.ends.now) s w) (instances_none (length outs + 1) c.loop-made.made count c.if-count-eq0.true) (went_further b ins outs (c.loop-made.invariant.went at) copied)
 
 pub loop-made-preserved : goal.loop-made-preserved
@@ -76,6 +76,6 @@ loop-made-preserved g c =
           let on : ForkState → NodeState (ForkPorts × ForkState) = λ s. node_state (p, s) Working at in
           let s = node_state (fork_view n) Working at in
           let at_start : on idle ≡ s = ap (λ o. on (fork_state n.outputs n.next o)) (sym none) in
-          let copied = subst (λ k. Went ins outs b k v k w ((length outs + 1) * count)) at_start (block.copied ins reads refl p refl c.requires.outputs at) in
+          let copied = subst (λ k. Went ins outs b k v k w ((length outs + 1) * count)) at_start (block.copied ins reads refl p c.requires.kind c.requires.outputs at) in
           subst (Went ins outs b s a s w) (instances_more (length outs + 1) c.loop-made.made count) (went_further b ins outs (inv.went at) copied);
     }

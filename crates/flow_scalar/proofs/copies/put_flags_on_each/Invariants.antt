@@ -1,6 +1,6 @@
 use Rattle.flow_messages.specs.Blocks.{flag_signals}
 use Rattle.flow_scalar.specs.ForkCopies.{PutOnEach}
-use Rattle.flow_scalar.proofs.fork.put_flags_on_each.Given as goal
+use Rattle.flow_scalar.proofs.copies.put_flags_on_each.Given as goal
 
 -- the outputs so far got them
 abbrev pub invariant-loop-port : goal.invariant-loop-port

@@ -4,7 +4,7 @@ use Rattle.flow_messages.specs.Ends.{TakenAll}
 use Rattle.flow_messages.specs.Blocks.{unit_signals}
 use Rattle.flow_base.proofs.Batches.{ended_units, take_units, length_units, skipped}
 use Rattle.flow_scalar.proofs.ForkBlocks.{copies_units, copies_went, copied_none}
-use Rattle.flow_scalar.proofs.fork.units_to_each.Goals as goal
+use Rattle.flow_scalar.proofs.copies.units_to_each.Goals as goal
 
 -- it made no step
 pub returns-then-count-eq0-clause-copied : goal.returns-then-count-eq0-clause-copied

@@ -3,7 +3,7 @@ use Rattle.std.proofs.lemmas.List.Elements.{All-get_or}
 use Rattle.flow_messages.specs.Blocks.{flag_signals}
 use Rattle.flow_base.proofs.Batches.{ended_flags}
 use Rattle.flow_scalar.proofs.ForkBlocks.{put_on_none, put_on_more}
-use Rattle.flow_scalar.proofs.fork.put_flags_on_each.Goals as goal
+use Rattle.flow_scalar.proofs.copies.put_flags_on_each.Goals as goal
 
 pub loop-port-init : goal.loop-port-init
 loop-port-init g c = record {

@@ -6,7 +6,7 @@ use Rattle.flow_messages.specs.Blocks.{int_signals}
 use Rattle.flow_base.proofs.Batches.{ended_ints, take_ints, length_ints, skipped}
 use Rattle.flow_scalar.specs.ForkCopies.{PutOnEach}
 use Rattle.flow_scalar.proofs.ForkBlocks.{Copies, copies_ints, copies_went, copied_none, filled}
-use Rattle.flow_scalar.proofs.fork.ints_to_each.Goals as goal
+use Rattle.flow_scalar.proofs.copies.ints_to_each.Goals as goal
 
 -- it made no step
 pub returns-then-count-eq0-clause-copied : goal.returns-then-count-eq0-clause-copied

@@ -1,5 +1,5 @@
 use Rattle.flow_scalar.proofs.ForkBlocks.{copied_none}
-use Rattle.flow_scalar.proofs.fork.block_to_each.Goals as goal
+use Rattle.flow_scalar.proofs.copies.block_to_each.Goals as goal
 
 -- a vector is not copied in blocks
 pub returns-in-Vec-clause-copied : goal.returns-in-Vec-clause-copied

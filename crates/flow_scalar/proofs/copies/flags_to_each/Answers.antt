@@ -6,7 +6,7 @@ use Rattle.flow_messages.specs.Blocks.{flag_signals}
 use Rattle.flow_base.proofs.Batches.{ended_flags, take_flags, length_flags, skipped}
 use Rattle.flow_scalar.specs.ForkCopies.{PutOnEach}
 use Rattle.flow_scalar.proofs.ForkBlocks.{Copies, copies_flags, copies_went, copied_none, filled}
-use Rattle.flow_scalar.proofs.fork.flags_to_each.Goals as goal
+use Rattle.flow_scalar.proofs.copies.flags_to_each.Goals as goal
 
 -- it made no step
 pub returns-then-count-eq0-clause-copied : goal.returns-then-count-eq0-clause-copied
