@@ -1,5 +1,5 @@
--- What each transducer's function makes of what is encoded: the equations that proofs on networks cite.
-use Rattle.std.specs.Prelude.{◌≡◌, ℕ, zero, suc, ◌+◌, ℤ, pos, Bool, true, false, List, [], ◌∷◌, ◌++◌, map, sum, sum_by, replicate, Some, option_map, refl}
+-- What a transducer's function makes of what is encoded: the equations that proofs on programs cite.
+use Rattle.std.specs.Prelude.{◌≡◌, ℕ, zero, suc, ◌+◌, ℤ, pos, Bool, true, false, List, [], ◌∷◌, ◌++◌, map, sum, replicate, Some, option_map, refl}
 use Rattle.std.specs.Result.{result_ok}
 use Rattle.std.proofs.Common.{arith, sym, ◌∙◌, ap}
 use Rattle.std.proofs.lemmas.List.Sums.{sum_by-cons}
@@ -17,22 +17,18 @@ use Rattle.flow_messages.specs.declared.message.Kind.{Kind}
 use Rattle.flow_base.specs.Flags.{F, T, elements, flags, concatenation, lengths}
 use Rattle.flow_base.specs.Ranges.{AllOf}
 use Rattle.flow_folds.specs.Scalars.{cell_of_scalar}
-use Rattle.flow_scalar.specs.Rows.{numbers_below, units_for}
+use Rattle.flow_scalar.specs.Rows.{units_for}
 use Rattle.flow_segment.specs.Rows.{one_if}
 use Rattle.flow_values.specs.Shapes.{is_a}
 use Rattle.flow_rows.specs.Lists.{bind, each, paired, cut, dist, pack, interleave, concat_flags, append_flags}
 use Rattle.flow_rows.specs.Decoded.{a_seq_of}
-use Rattle.flow_rows.specs.Made.{one, scalar_cells, integer_cells, columns_of_values, source_made, const_made, unary_made, binary_made, fork_made, sink_made, iota_made, units_of_made, scan_add_made, reduce_made, length_made, dist_made, pack_made, pack_groups_made, flag_of_bool_made, same_flags_made, concat_flags_made, part_flags_made, the_check_made, append_flags_made, interleave_made, interleave_groups_made, of_one, print_made, tab_of, tab_made, seq_made, picked, index_made}
+use Rattle.flow_rows.specs.Made.{one, scalar_cells, integer_cells, columns_of_values, const_made, unary_made, binary_made, units_of_made, scan_add_made, reduce_made, length_made, dist_made, pack_made, pack_groups_made, flag_of_bool_made, same_flags_made, concat_flags_made, the_check_made, append_flags_made, interleave_made, interleave_groups_made, of_one, print_made, tab_of, tab_made, seq_made, picked, index_made}
 use Rattle.flow_rows.proofs.Decoding.{numbers_forth, truths_forth, integers_forth, scalars_forth, units_forth, items_forth}
-use Rattle.flow_rows.proofs.FlagRows.{same_flags_forth, part_flags_forth, the_check_forth}
-use Rattle.flow_rows.proofs.ScalarRows.{each_natural}
+use Rattle.flow_rows.proofs.FlagRows.{same_flags_forth, the_check_forth}
 use Rattle.flow_rows.proofs.Edges.{laid_seq}
 use Rattle.flow_rows.proofs.ValueDecoding.{AllAre, elements_made, all_cons, grouped_forth, data_vectors_forth, values_forth}
 
 -- Scalars
-
-pub source_makes : (cells : List Cell) → source_made cells [] ≡ Some (cells ∷ [])
-source_makes cells = refl
 
 pub const_makes : (k : Scalar) (n : ℕ) → const_made k (replicate n unit ∷ []) ≡ Some (replicate n (cell_of_scalar k) ∷ [])
 const_makes k n = rw (units_forth n) refl
@@ -44,15 +40,6 @@ pub binary_makes : (dialect : Dialect) (op : BinaryOperator) (xs ys : List Scala
     binary_made dialect op (scalar_cells xs ∷ scalar_cells ys ∷ []) ≡ one scalar_cells (bind (paired xs ys) (each (λ p. result_ok (binary_value dialect op p.0 p.1))))
 binary_makes dialect op xs ys = rw (scalars_forth xs, scalars_forth ys) refl
 
-pub fork_makes : (kind : Kind) (outputs : ℕ) (a : List Cell) → AllOf kind a → fork_made kind outputs (a ∷ []) ≡ Some (replicate outputs a)
-fork_makes kind outputs a h = rw (items_forth kind a h) refl
-
-pub sink_makes : (kind : Kind) (a : List Cell) → AllOf kind a → sink_made kind (a ∷ []) ≡ Some []
-sink_makes kind a h = rw (items_forth kind a h) refl
-
-pub iota_makes : (ns : List ℕ) → iota_made (integer_cells (map pos ns) ∷ []) ≡ Some (flags ns ∷ concatenation (map numbers_below ns) ∷ [])
-iota_makes ns = rw (integers_forth (map pos ns), each_natural ns) refl
-
 copies_more : (n k : ℕ) → replicate n unit ++ replicate k unit ≡ replicate (n + k) unit
 copies_more zero k = let e : k ≡ zero + k = omega arith in ap (λ k. replicate k unit) e
 copies_more (suc n) k = let e : suc (n + k) ≡ suc n + k = omega arith in ap (λ l. unit ∷ l) (copies_more n k) ∙ ap (λ k. replicate k unit) e
@@ -62,7 +49,7 @@ segment_truths zero l bs e = (true ∷ bs, ap (λ l. T ∷ l) e, refl)
 segment_truths (suc n) l bs e = let g = segment_truths n l bs e in (false ∷ g.0, ap (λ l. F ∷ l) g.1, ap (λ l. unit ∷ l) g.2)
 
 -- flags are truth values, and there is a Unit for each element
-pub flags_are_truths : (ns : List ℕ) → (bs : List Bool) × (flags ns ≡ map flag bs) × (units_for bs ≡ replicate (sum ns) unit)
+flags_are_truths : (ns : List ℕ) → (bs : List Bool) × (flags ns ≡ map flag bs) × (units_for bs ≡ replicate (sum ns) unit)
 flags_are_truths [] = ([], refl, refl)
 flags_are_truths (n ∷ ns) =
     let g = flags_are_truths ns in
@@ -102,9 +89,6 @@ same_flags_makes ns = let g = flags_are_truths ns in ap (λ f. same_flags_made (
 
 pub concat_flags_makes : (ns ms : List ℕ) → concat_flags_made (flags ns ∷ flags ms ∷ []) ≡ one flags (concat_flags ns ms)
 concat_flags_makes ns ms = rw (numbers_forth ns, numbers_forth ms) refl
-
-pub part_flags_makes : (groups : List (List ℕ)) → part_flags_made (flags (map (sum_by suc) groups) ∷ flags (concatenation groups) ∷ flags (map sum groups) ∷ []) ≡ Some (flags (lengths groups) ∷ flags (concatenation groups) ∷ [])
-part_flags_makes groups = part_flags_forth groups
 
 pub the_check_makes : (n : ℕ) → the_check_made (flags (replicate n 1) ∷ []) ≡ Some []
 the_check_makes n = the_check_forth n

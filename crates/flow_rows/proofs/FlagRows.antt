@@ -70,7 +70,7 @@ same_numbers ns = same_lists_forth ◌==◌ (λ n. eq-eqb n n refl) ns
 pub same_numbers_back : (ns ms : List ℕ) → same_lists ◌==◌ ns ms ≡ true → ns ≡ ms
 same_numbers_back ns ms e = same_lists_back ◌==◌ eqb-true ns ms e
 
-pub part_flags_forth : (groups : List (List ℕ)) → part_flags_made (part_flags_reads groups) ≡ Some (part_flags_writes groups)
+part_flags_forth : (groups : List (List ℕ)) → part_flags_made (part_flags_reads groups) ≡ Some (part_flags_writes groups)
 part_flags_forth groups = rw (numbers_forth (map (sum_by suc) groups), segments_cut groups, each_numbers groups, numbers_forth (map sum groups), same_numbers (map sum groups)) refl
 
 part_flags_back : (g b f : List Cell) (o : Columns) → part_flags_made (g ∷ b ∷ f ∷ []) ≡ Some o → (groups : List (List ℕ)) × (g ∷ b ∷ f ∷ [] ≡ part_flags_reads groups) × (o ≡ part_flags_writes groups)

@@ -125,7 +125,7 @@ sink_row kind i o = (
 
 -- Iota
 
-pub each_natural : (ns : List ℕ) → each natural (map pos ns) ≡ Some ns
+each_natural : (ns : List ℕ) → each natural (map pos ns) ≡ Some ns
 each_natural ns = each_forth natural pos (λ n. n) (λ n. refl) ns ∙ ap Some (map-id ns)
 
 natural_is : (m : ℤ) (n : ℕ) → natural m ≡ Some n → (k : ℕ) × (m ≡ pos k) × (n ≡ k)
