@@ -1,1 +1,2 @@
+pub mod PortRows
 pub mod StreamNodes
