@@ -26,7 +26,7 @@ module _ (t : NodeKind) (s : (member t).State) (u : (k : NodeKind) × (member k)
   pub writes_node : IsWrite (node_behaviour.process.want u) → IsWrite ((member t).behaviour.process.want s)
   writes_node writes = subst (λ x. IsWrite (node_behaviour.process.want x)) is writes
 
-  -- the answer where it wrote, with s' the state of its kind behind it
+  -- the answer where it wrote, with s' the state of its kind after it
   pub sent_node : (s' : (member t).State) (r : Result Msg AllocError) → IfOk r (λ m. (signal_of m ≡ (member t).behaviour.process.written s) × (s' ≡ (member t).behaviour.process.wrote s)) →
       IfOk r (λ m. (signal_of m ≡ node_behaviour.process.written u) × (◌≡◌ {A = (k : NodeKind) × (member k).State} (t, s') (node_behaviour.process.wrote u)))
   sent_node s' (Ok m) (told, new) = (told ∙ sym (ap node_behaviour.process.written is), ap (λ x. (t, x)) new ∙ sym (ap node_behaviour.process.wrote is))

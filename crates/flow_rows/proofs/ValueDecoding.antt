@@ -165,7 +165,7 @@ data_vectors_back item xs vs e =
     let g = vectors_back item s1.0 vs s1.2 in
     (data_back xs s1.0 s1.1 ∙ ap (map datum) g.0, g.1)
 
--- the columns of two types, one behind the other
+-- the columns of two types, one after the other
 
 front_columns : (n : ℕ) (xs ys : Columns) → length xs ≡ n → take n (xs ++ ys) ≡ xs
 front_columns n xs ys e = ap (λ k. take k (xs ++ ys)) (sym e) ∙ take-append_seam xs ys

@@ -17,7 +17,7 @@ abbrev pub one_more : List ℕ → Option (List ℕ)
 one_more [] = None
 one_more (n ∷ ns) = Some (suc n ∷ ns)
 
--- the numbers whose flags these are: T is a segment of no more elements, and F one element more of the segment behind it
+-- the numbers whose flags these are: T is a segment of no more elements, and F one element more of the segment after it
 abbrev pub numbers : List Cell → Option (List ℕ)
 numbers [] = Some []
 numbers (flag true ∷ xs) = option_map (λ ns. zero ∷ ns) (numbers xs)

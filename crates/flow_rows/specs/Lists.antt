@@ -27,7 +27,7 @@ paired [] [] = Some []
 paired (x ∷ xs) (y ∷ ys) = option_map (λ ps. (x, y) ∷ ps) (paired xs ys)
 paired _ _ = None
 
--- the first n items, and those behind them
+-- the first n items, and those after them
 abbrev pub front : {A : Type 0} → ℕ → List A → Option (List A × List A)
 front zero xs = Some ([], xs)
 front (suc n) [] = None

@@ -43,7 +43,7 @@ first_sum dialect so_far x (y ∷ xs) sums e = go (ranged dialect (so_far +ℤ x
     go (Ok sum) e = behind (scan_from dialect sum (y ∷ xs)) e
     go (Err kind) e = absurd (cc)
 
--- the sums behind the first are those after the next sum
+-- the sums after the first are those after the next sum
 sums_behind : (dialect : Dialect) (so_far : ℤ) (sum : Result ℤ FaultKind) (xs sums : List ℤ) → and_then sum (λ next. and_sums so_far (scan_from dialect next xs)) ≡ Ok (so_far ∷ sums) → sums_after dialect sum xs ≡ Ok sums
 sums_behind dialect so_far (Ok sum) xs sums e = go (scan_from dialect sum xs) e
   where
