@@ -1,4 +1,4 @@
--- The transducers of a layout: those of steps, and those that stand behind a stream and copy it, as often as it has uses.
+-- The transducers of a layout: those of steps, and those that stand after a stream and copy it, as often as it has uses.
 use Rattle.std.specs.Prelude.{◌≡◌, ℕ, zero, suc, List, [], ◌∷◌, ◌++◌, length, replicate, option_map, refl}
 use Rattle.std.proofs.lemmas.List.{length-replicate}
 use Rattle.flow_messages.specs.Cells.{Cell}

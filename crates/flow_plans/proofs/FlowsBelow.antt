@@ -61,7 +61,7 @@ module _ {S : Type 0} {b : Behaviour S} {plan : List Step} {states : List S} {ed
         let port : q < copy.count = omega (arith, port_out given k placed there e inside is, copy.kinds_written) in
         ap (λ o. bind o (slice_get streams)) (stream_out given k placed there e is ∙ ap (λ l. slice_get l q) copy.writes ∙ replicate_place copy.count copy.stream q port) ∙ came
 
-  -- where what holds below a copy holds behind it, it holds behind all copies that stand in a row
+  -- where what holds below a copy holds after it, it holds after all copies that stand in a row
   pub behind_all : (Holds : ℕ → Type 0) → ((k : ℕ) (placed : Placed) → slice_get (layout plan) k ≡ Some placed → IsCopy placed → Holds k → Holds (suc k))
       → (before copies rest : List Placed) → AreCopies copies → layout plan ≡ before ++ (copies ++ rest) → Holds (length before) → Holds (length (before ++ copies))
   behind_all Holds next before [] rest all is holds = subst (λ (l : List Placed). Holds (length l)) (sym (append-nil before)) holds

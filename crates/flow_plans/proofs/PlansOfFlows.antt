@@ -75,7 +75,7 @@ module _ {S : Type 0} {b : Behaviour S} {plan : List Step} {states : List S} {ed
         ap (λ o. bind o (slice_get (streams ++ written step k))) (stream_out given k (node_of step s) there e is ∙ numbered_place s kinds q port)
         ∙ get_right streams (written step k) (s + q) q (omega (arith, long)) ∙ columns_place (length kinds) (bodies_out edges bodies k) q port ∙ ap Some (out_is k e inside is))
 
-  -- behind the nodes before some step, the steps from there on run
+  -- after the nodes before some step, the steps from there on run
   runs_from : (steps : List Step) (before : List Placed) (s : ℕ) (streams : Columns) → layout plan ≡ before ++ layout_from plan s steps → length streams ≡ s
       → AreCarriedBelow plan edges bodies streams (length before) → (all : Columns) × (run steps streams ≡ Some all) × AreCarried plan all edges bodies
   runs_from [] before s streams is long below =

@@ -43,7 +43,7 @@ set_right (x ∷ xs) ys j y =
     let same : length (x ∷ xs) + j ≡ suc (length xs + j) = omega arith in
     ap (λ k. slice_set (x ∷ (xs ++ ys)) k y) same ∙ ap (λ l. x ∷ l) (set_right xs ys j y)
 
--- a step that reads the same leaves each stream its uses, and so all that stands behind streams
+-- a step that reads the same leaves each stream its uses, and so all that stands after streams
 
 uses_set : (t : ℕ) (steps : List Step) (i : ℕ) (step other : Step) → slice_get steps i ≡ Some step → other.reads ≡ step.reads → uses t (slice_set steps i other) ≡ uses t steps
 uses_set t [] i step other at_i same = absurd (cc)

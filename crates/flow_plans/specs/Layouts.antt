@@ -1,6 +1,6 @@
 -- From a plan to a network: where the transducers of its steps stand, and what joins a stream to all that read it. A stream
 -- with no use goes into a Sink, one with one use straight to its reader, and one with several into a Fork with so many
--- outputs; these stand right behind the transducer that writes the stream.
+-- outputs; these stand right after the transducer that writes the stream.
 use Rattle.std.specs.Prelude.{◌≡◌, ℕ, zero, suc, ◌+◌, ◌<◌, ◌==◌, List, [], ◌∷◌, ◌++◌, length, replicate, Option, Some, if◌then◌else◌}
 use Rattle.std.specs.List.{slice_get}
 use Rattle.flow_messages.specs.Cells.{Cell}
@@ -33,7 +33,7 @@ abbrev pub uses : ℕ → List Step → ℕ
 uses s [] = zero
 uses s (step ∷ steps) = times s step.reads + uses s steps
 
--- what stands behind a stream of the kind that has so many uses
+-- what stands after a stream of the kind that has so many uses
 abbrev pub behind : (at s : ℕ) → Kind → ℕ → List Placed
 behind at s kind zero = record { at = at; operation = sink kind; reads = s ∷ []; writes = [] } ∷ []
 behind at s kind (suc zero) = []
@@ -45,7 +45,7 @@ numbered s [] = []
 numbered s (kind ∷ kinds) = s ∷ numbered (suc s) kinds
 
 module _ (plan : List Step) where
-  -- what stands behind the streams of these kinds, the first of which has this number
+  -- what stands after the streams of these kinds, the first of which has this number
   abbrev pub all_behind : (at s : ℕ) → List Kind → List Placed
   all_behind at s [] = []
   all_behind at s (kind ∷ kinds) = behind at s kind (uses s plan) ++ all_behind at (suc s) kinds
@@ -126,7 +126,7 @@ edges_from [] outputs = []
 edges_from (input ∷ inputs) outputs = edge_between (first_at input.stream input outputs) input ∷ edges_from inputs (without_first input.stream outputs)
 
 -- The edges of a network of these transducers: one for each input port, numbered as these are, node by node and port by port.
--- So what stands behind a stream reads it where it is written, and the outputs of a Fork go to the ports that read the
+-- So what stands after a stream reads it where it is written, and the outputs of a Fork go to the ports that read the
 -- stream in the order of these.
 abbrev pub edges_between : List Placed → List Edge
 edges_between nodes = edges_from (inputs_from zero nodes) (outputs_from zero nodes)
