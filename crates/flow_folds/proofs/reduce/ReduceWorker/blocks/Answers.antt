@@ -1,7 +1,5 @@
-use Rattle.std.proofs.Common.{arith}
 use Rattle.flow_base.specs.Nodes.{behaviour_of, node_state}
 use Rattle.flow_base.specs.declared.node.Phase.TheVariants.{Working}
-use Rattle.flow_base.proofs.Carried.{same_ends_then}
 use Rattle.flow_base.proofs.Kernels.{went_none, went_further}
 use Rattle.flow_folds.specs.ReduceMachine.{reduce_machine, reduce_view}
 use Rattle.flow_folds.proofs.reduce.ReduceWorker.blocks.Goals as goal
