@@ -11,10 +11,10 @@ use Rattle.flow_messages.specs.declared.message.Msg.{Msg}
 use Rattle.flow_base.specs.Visits.{read_from, sent_after, longer, Wrote}
 
 pub same_ends_refl : (a : View) → SameEnds a a
-same_ends_refl a = record { writes = λ k. refl; reads = λ k. refl }
+same_ends_refl a = record { kinds = λ k. refl; writes = λ k. refl; reads = λ k. refl }
 
 pub same_ends_then : (a b c : View) → SameEnds a b → SameEnds b c → SameEnds a c
-same_ends_then a b c h g = record { writes = λ k. g.writes k ∙ h.writes k; reads = λ k. g.reads k ∙ h.reads k }
+same_ends_then a b c h g = record { kinds = λ k. g.kinds k ∙ h.kinds k; writes = λ k. g.writes k ∙ h.writes k; reads = λ k. g.reads k ∙ h.reads k }
 
 pub prefix_same : {X : Type 0} (xs ys : List X) → ys ≡ xs → IsPrefix xs ys
 prefix_same xs ys is = ([], append-nil xs ∙ sym is)

@@ -82,6 +82,15 @@ alone_looked inputs outputs v w p there looked = record {
   room = λ e none. looked.room e;
 }
 
+pub alone_room : (inputs outputs : List ℕ) (v w : View) (q : ℕ) → q < length outputs → LookedForRoom v (edge_of outputs q) w → LeavesAlone inputs outputs v w
+alone_room inputs outputs v w q there looked = record {
+  traffic = looked.traffic;
+  more_coming = λ e. prefix_same (v.coming e) (w.coming e) (looked.coming e);
+  more_room = λ e. looked_room v w (edge_of outputs q) e looked;
+  coming = λ e none. looked.coming e;
+  room = λ e none. looked.room e (not_at outputs e q none there);
+}
+
 -- one event more
 one_longer : {X : Type 0} (h : List X) (x : X) (n : ℕ) → length h ≡ n → length (h ++ x ∷ []) ≡ n + 1
 one_longer h x n counts = length-append h (x ∷ []) ∙ ap (λ l. l + 1) counts

@@ -8,13 +8,15 @@ use Rattle.kahn.specs.Processes.{Event, Reads, Writes, Does}
 use Rattle.kahn.proofs.History.{does_then}
 use Rattle.flow_messages.specs.Signals.{Signal, signal_of, ended}
 use Rattle.flow_messages.specs.Ends.{View, SameEnds, LookedForRoom, LookedForMessages, Put, Taken}
+use Rattle.flow_messages.specs.Kinds.{FitsEdge, TakesKind}
+use Rattle.flow_messages.proofs.Fitting.{kind_fits, fits_still, takes_still}
 use Rattle.flow_messages.specs.declared.ends.Refused.{Refused}
 use Rattle.flow_messages.specs.declared.ends.Why.TheVariants.{Closed}
 use Rattle.flow_messages.specs.declared.message.Msg.{Msg}
 use Rattle.flow_base.specs.Transducers.{Behaviour, BehaviourLaws}
 use Rattle.flow_base.specs.Visits.{read_from, sent_after, longer, Wrote, edge_of, IsNone, Carried, SparesOthers, LeavesAlone, IsStuck, Visited, BrokeOff, IsReached, IsPlaced}
 use Rattle.flow_base.proofs.Carried.{looked_coming, looked_room, same_ends_refl, same_ends_then, prefix_same, prefix_then, read_append, sent_append, taken_received, taken_room, put_wrote}
-use Rattle.flow_base.proofs.Reached.{opening_does, reached_does, opening_read, opening_wrote, reached_read, reached_wrote, wants_input, wants_output}
+use Rattle.flow_base.proofs.Reached.{opening_does, reached_does, opening_read, opening_wrote, reached_read, reached_wrote, written_fits, wants_input, wants_output}
 
 pub not_nil : {X : Type 0} (h : List X) (x : X) → h ++ x ∷ [] ≡ [] → ⊥
 not_nil [] x e = absurd (cc)
@@ -106,6 +108,7 @@ module _ {S : Type 0} {b : Behaviour S} (laws : BehaviourLaws b) {inputs outputs
       each_output = placed.each_output ∙ sym (laws.same_outputs s) ∙ ap b.outputs (sym made.opening) ∙ laws.same_outputs t;
       reads = All-weaker (λ e. a.reads e ≡ true) (λ e. v.reads e ≡ true) (λ e is. made.ends.reads e ∙ is) inputs placed.reads;
       writes = All-weaker (λ e. a.writes e ≡ true) (λ e. v.writes e ≡ true) (λ e is. made.ends.writes e ∙ is) outputs placed.writes;
+      kinds = λ q l. takes_still a v (edge_of outputs q) (b.kind_out t q) made.ends (subst (TakesKind (a.kind (edge_of outputs q))) (sym (laws.same_kinds_out s q) ∙ ap (λ o. b.kind_out o q) (sym made.opening) ∙ laws.same_kinds_out t q) (placed.kinds q l));
     }
 
     -- a port that is wanted has its edge, and the end is there
@@ -114,6 +117,10 @@ module _ {S : Type 0} {b : Behaviour S} (laws : BehaviourLaws b) {inputs outputs
 
     pub output_there : (q : ℕ) → b.process.want t ≡ Write q → q < length outputs
     output_there q wants = subst (λ n. q < n) (sym placed_on.each_output) (wants_output b laws t q wants made.reached)
+
+    -- what it writes may be put on the edge of its port
+    pub put_fits : (q : ℕ) (w : View) → SameEnds v w → b.process.want t ≡ Write q → FitsEdge (w.kind (edge_of outputs q)) (b.process.written t)
+    put_fits q w same wants = fits_still v w (edge_of outputs q) (b.process.written t) same (kind_fits (v.kind (edge_of outputs q)) (b.kind_out t q) (b.process.written t) (placed_on.kinds q (output_there q wants)) (written_fits b laws t q wants made.reached))
 
     pub reads_at : (p : ℕ) → p < length inputs → v.reads (edge_of inputs p) ≡ true
     reads_at p l = All-get_or (λ e. v.reads e ≡ true) inputs p 0 l placed_on.reads

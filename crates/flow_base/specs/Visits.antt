@@ -1,11 +1,13 @@
 -- What a visit of a transducer does over the edges at its ports.
-use Rattle.std.specs.Prelude.{◌≡◌, ◌≢◌, ℕ, ◌+◌, ◌≤◌, Bool, true, false, cond, eqb, List, [], ◌∷◌, ◌++◌, length, slice_index_or, nat_lt}
+use Rattle.std.specs.Prelude.{◌≡◌, ◌≢◌, ℕ, ◌+◌, ◌<◌, ◌≤◌, Bool, true, false, cond, eqb, List, [], ◌∷◌, ◌++◌, length, slice_index_or, nat_lt}
 use Rattle.std.specs.List.{All}
 use mathlib.Core.List.{IsPrefix}
 use Rattle.kahn.specs.declared.want.Want.{Want}
 use Rattle.kahn.specs.declared.want.Want.TheVariants.{Read, Write, Ended, Faulted}
 use Rattle.kahn.specs.Basics.{Begins}
 use Rattle.kahn.specs.Processes.{Event, Reads, Writes, Does}
+use Rattle.flow_messages.specs.declared.message.Kind.{Kind}
+use Rattle.flow_messages.specs.Kinds.{TakesKind}
 use Rattle.flow_messages.specs.Signals.{Signal, ended}
 use Rattle.flow_messages.specs.Ends.{View, held, SameEnds, SameTraffic}
 use Rattle.flow_base.specs.Transducers.{Behaviour}
@@ -33,6 +35,10 @@ IsNone edges e = All (λ f. e ≢ f) edges
 -- a list with one message more, unless it has ended
 abbrev pub longer : List Signal → Signal → List Signal
 longer sent m = cond (ended sent) sent (sent ++ m ∷ [])
+
+-- each output port has an edge that takes items of the port's kind
+abbrev pub TakeKinds : List ℕ → (ℕ → Kind) → View → Type 0
+TakeKinds outputs kind_out v = (q : ℕ) → q < length outputs → TakesKind (v.kind (edge_of outputs q)) (kind_out q)
 
 -- m was put on edge f, unless that edge had ended
 pub record Wrote (v : View) (f : ℕ) (m : Signal) (w : View) : Type 0 where
@@ -118,6 +124,7 @@ module _ {S : Type 0} (b : Behaviour S) where
     pub each_output : length outputs ≡ b.outputs s
     pub reads : All (λ e. v.reads e ≡ true) inputs
     pub writes : All (λ e. v.writes e ≡ true) outputs
+    pub kinds : TakeKinds outputs (b.kind_out s) v
 
 -- so many input ports and output ports have these edges, and their ends are there
 pub record IsWired (inputs outputs : List ℕ) (reads_from writes_to : ℕ) (v : View) : Type 0 where

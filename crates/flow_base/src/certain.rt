@@ -5,6 +5,7 @@ ghost use Rattle.std.specs.List.{All};
 ghost use mathlib.Core.List.{IsPrefix};
 ghost use Rattle.flow_messages.specs.Signals.{Signal, signal_of};
 ghost use Rattle.flow_messages.specs.Ends.{SameEnds, Taken};
+ghost use Rattle.flow_messages.specs.Kinds.{FitsEdge};
 ghost use Rattle.flow_base.specs.Visits.{LeavesAlone, Wrote};
 
 use flow_messages::{Ends, Msg};
@@ -24,6 +25,7 @@ pub fn take_front<E: Ends>(ends: &mut E, edge: usize)
 #[inline(always)]
 pub fn put_in_space<E: Ends>(ends: &mut E, edge: usize, message: Msg)
     requires writes { (E.view ends.old).writes edge ≡ true }
+    requires fits { FitsEdge ((E.view ends.old).kind edge) (signal_of message) }
     requires certain { 0 < (E.view ends.old).room edge }
     ensures same { E.same ends.old ends.new }
     ensures wrote { Wrote (E.view ends.old) edge (signal_of message) (E.view ends.new) }

@@ -63,7 +63,7 @@ pub trait Worker {
     ghost use Rattle.flow_messages.specs.Cells.{cell_of};
     ghost use Rattle.flow_messages.specs.Ends.{SameEnds};
     ghost use Rattle.flow_base.specs.Nodes.{behaviour_of, node_state};
-    ghost use Rattle.flow_base.specs.Visits.{IsWired, Went};
+    ghost use Rattle.flow_base.specs.Visits.{IsWired, TakeKinds, Went};
     ghost use Rattle.flow_base.specs.declared.node.Phase.TheVariants.{Working};
     ghost use Rattle.flow_base.specs.Workers.{Takes, IsReading, IsWriting};
     ghost use Rattle.flow_base.specs.Machines.{Machine, MachineLaws, move_of, ask_of, state_after_read, written_cell, state_after_write, with_parameters};
@@ -140,6 +140,8 @@ pub trait Worker {
     ) -> usize
         requires wired { IsWired inputs.now outputs.now (machine.inputs (state self.old).0)
             (machine.outputs (state self.old).0) (E.view ends.old) }
+        requires kinds { TakeKinds outputs.now (machine.kind_out (state self.old).0)
+            (E.view ends.old) }
         ensures same { E.same ends.old ends.new }
         ensures ends { SameEnds (E.view ends.old) (E.view ends.new) }
         ensures within { result ≤ most }
@@ -163,6 +165,8 @@ pub trait Worker {
     ) -> usize
         requires wired { IsWired inputs.now outputs.now (machine.inputs (state self.old).0)
             (machine.outputs (state self.old).0) (E.view ends.old) }
+        requires kinds { TakeKinds outputs.now (machine.kind_out (state self.old).0)
+            (E.view ends.old) }
         ensures same { E.same ends.old ends.new }
         ensures ends { SameEnds (E.view ends.old) (E.view ends.new) }
         ensures within { result ≤ most }

@@ -16,7 +16,7 @@ use Rattle.flow_boxes.proofs.Changed.{everywhere, writer_boxes, writer_others, h
 pub carries-trans : (a b c : Contents) (e : ℕ) → CarriesAt e a b → CarriesAt e b c → CarriesAt e a c
 carries-trans a b c e p q = record {
   boxes = record {
-    ends = record { writes = λ k. q.boxes.ends.writes k ∙ p.boxes.ends.writes k; reads = λ k. q.boxes.ends.reads k ∙ p.boxes.ends.reads k };
+    ends = record { kinds = λ k. q.boxes.ends.kinds k ∙ p.boxes.ends.kinds k; writes = λ k. q.boxes.ends.writes k ∙ p.boxes.ends.writes k; reads = λ k. q.boxes.ends.reads k ∙ p.boxes.ends.reads k };
     count = q.boxes.count ∙ p.boxes.count;
     capacity = q.boxes.capacity ∙ p.boxes.capacity;
   };
@@ -29,6 +29,7 @@ carries-trans a b c e p q = record {
     coming = λ k ne. q.others.coming k ne ∙ p.others.coming k ne;
     room = λ k ne. q.others.room k ne ∙ p.others.room k ne;
     leaving = λ k ne. q.others.leaving k ne ∙ p.others.leaving k ne;
+    kinds = λ k. q.others.kinds k ∙ p.others.kinds k;
     count = q.others.count ∙ p.others.count;
     capacity = q.others.capacity ∙ p.others.capacity;
   };

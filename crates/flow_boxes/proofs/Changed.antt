@@ -56,7 +56,7 @@ module _ (capacity : ℕ) (os : List (Option Outbox)) (is : List (Option Inbox))
 
   pub writer_boxes : SameBoxes before after
   writer_boxes = record {
-    ends = record { writes = at_line-kept writes_in os e false old (Some n) h at (sym (ap writes_in was)); reads = λ k. refl };
+    ends = record { kinds = λ k. refl; writes = at_line-kept writes_in os e false old (Some n) h at (sym (ap writes_in was)); reads = λ k. refl };
     count = length-set os e (Some n);
     capacity = refl;
   }
@@ -88,6 +88,7 @@ module _ (capacity : ℕ) (os : List (Option Outbox)) (is : List (Option Inbox))
     coming = λ k ne. refl;
     room = at_line-other room_in os e 0 (Some n);
     leaving = at_line-other leaving_in os e [] (Some n);
+    kinds = λ k. refl;
     count = writer_boxes.count;
     capacity = refl;
   }
@@ -213,7 +214,7 @@ module _ (capacity : ℕ) (os : List (Option Outbox)) (is : List (Option Inbox))
 
   pub reader_boxes : SameBoxes from till
   reader_boxes = record {
-    ends = record { reads = at_line-kept reads_in is e false old (Some n) h at (sym (ap reads_in was)); writes = λ k. refl };
+    ends = record { kinds = λ k. refl; reads = at_line-kept reads_in is e false old (Some n) h at (sym (ap reads_in was)); writes = λ k. refl };
     count = refl;
     capacity = refl;
   }
@@ -239,6 +240,7 @@ module _ (capacity : ℕ) (os : List (Option Outbox)) (is : List (Option Inbox))
     coming = at_line-other coming_in is e [] (Some n);
     room = λ k ne. refl;
     leaving = λ k ne. refl;
+    kinds = λ k. refl;
     count = refl;
     capacity = refl;
   }

@@ -64,6 +64,7 @@ reader-elsewhere w r r' e k linked ne same = record {
 pub outbox-beside : (a b : Contents) (e k : ℕ) → FreshOutbox k a → OpensReader e a b → FreshOutbox k b
 outbox-beside a b e k fresh opens = record {
   writes = opens.writes k ∙ fresh.writes;
+  kind = opens.others.kinds k ∙ fresh.kind;
   sent = opens.sent k ∙ fresh.sent;
   leaving = opens.leaving k ∙ fresh.leaving;
   room = opens.room k ∙ fresh.room ∙ sym opens.others.capacity;
@@ -79,6 +80,7 @@ inbox-beside a b e k fresh opens = record {
 pub outbox-elsewhere : (a b : Contents) (e k : ℕ) → FreshOutbox k a → k ≢ e → OthersSame e a b → FreshOutbox k b
 outbox-elsewhere a b e k fresh ne same = record {
   writes = same.writes k ne ∙ fresh.writes;
+  kind = same.kinds k ∙ fresh.kind;
   sent = same.sent k ne ∙ fresh.sent;
   leaving = same.leaving k ne ∙ fresh.leaving;
   room = same.room k ne ∙ fresh.room ∙ sym same.capacity;

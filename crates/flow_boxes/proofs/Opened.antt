@@ -17,6 +17,7 @@ module _ (capacity : ℕ) (os : List (Option Outbox)) (is : List (Option Inbox))
   opens-writer n h sent held room = record {
     fresh = record {
       writes = at_line-same writes_in os e false (Some n) h;
+      kind = refl;
       sent = at_line-same sent_in os e [] (Some n) h ∙ ap signals sent ∙ signals-nil;
       leaving = at_line-same leaving_in os e [] (Some n) h ∙ ap signals held ∙ signals-nil;
       room = at_line-same room_in os e 0 (Some n) h ∙ room;
@@ -29,6 +30,7 @@ module _ (capacity : ℕ) (os : List (Option Outbox)) (is : List (Option Inbox))
       coming = λ k ne. refl;
       room = at_line-other room_in os e 0 (Some n);
       leaving = at_line-other leaving_in os e [] (Some n);
+      kinds = λ k. refl;
       count = length-set os e (Some n);
       capacity = refl;
     };
@@ -52,6 +54,7 @@ module _ (capacity : ℕ) (os : List (Option Outbox)) (is : List (Option Inbox))
       coming = at_line-other coming_in is e [] (Some n);
       room = λ k ne. refl;
       leaving = λ k ne. refl;
+      kinds = λ k. refl;
       count = refl;
       capacity = refl;
     };

@@ -51,6 +51,7 @@ contents_of capacity os is = record {
     received = λ e. at_line received_in is e [];
     coming = λ e. at_line coming_in is e [];
     room = λ e. at_line room_in os e 0;
+    kind = λ e. None;
     writes = λ e. at_line writes_in os e false;
     reads = λ e. at_line reads_in is e false;
   };

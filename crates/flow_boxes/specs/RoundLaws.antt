@@ -5,7 +5,7 @@ use Rattle.flow_boxes.specs.Contents.{Contents}
 use Rattle.flow_boxes.specs.Rounds.{SameBoxes, KeepsRound, GrowAlike}
 
 pub same_boxes_refl : (a : Contents) → SameBoxes a a
-same_boxes_refl a = record { ends = record { writes = λ k. refl; reads = λ k. refl }; count = refl; capacity = refl }
+same_boxes_refl a = record { ends = record { kinds = λ k. refl; writes = λ k. refl; reads = λ k. refl }; count = refl; capacity = refl }
 
 pub keeps_refl : (a : Contents) → KeepsRound a a
 keeps_refl a = record {
@@ -26,7 +26,7 @@ grow_trans s q s' q' s'' q'' (m, g, h) (n, i, j) = (
 pub keeps_trans : (a b c : Contents) → KeepsRound a b → KeepsRound b c → KeepsRound a c
 keeps_trans a b c p q = record {
   boxes = record {
-    ends = record { writes = λ k. q.boxes.ends.writes k ∙ p.boxes.ends.writes k; reads = λ k. q.boxes.ends.reads k ∙ p.boxes.ends.reads k };
+    ends = record { kinds = λ k. q.boxes.ends.kinds k ∙ p.boxes.ends.kinds k; writes = λ k. q.boxes.ends.writes k ∙ p.boxes.ends.writes k; reads = λ k. q.boxes.ends.reads k ∙ p.boxes.ends.reads k };
     count = q.boxes.count ∙ p.boxes.count;
     capacity = q.boxes.capacity ∙ p.boxes.capacity;
   };

@@ -1,5 +1,5 @@
 -- What happens within a round, and between two.
-use Rattle.std.specs.Prelude.{◌≡◌, ◌≢◌, ℕ, ◌+◌, ◌≤◌, true, false, List, [], ◌++◌, length, drop}
+use Rattle.std.specs.Prelude.{◌≡◌, ◌≢◌, ℕ, ◌+◌, ◌≤◌, true, false, List, [], ◌++◌, length, drop, None}
 use Rattle.flow_messages.specs.Signals.{Signal}
 use Rattle.flow_messages.specs.Ends.{held, SameEnds, SameTraffic}
 use Rattle.flow_boxes.specs.Contents.{Contents}
@@ -29,6 +29,7 @@ pub record KeepsRound (a b : Contents) : Type 0 where
 
 -- nothing changed at any edge but e
 pub record OthersSame (e : ℕ) (a b : Contents) : Type 0 where
+  pub kinds : (k : ℕ) → b.ends.kind k ≡ a.ends.kind k
   pub writes : (k : ℕ) → k ≢ e → b.ends.writes k ≡ a.ends.writes k
   pub reads : (k : ℕ) → k ≢ e → b.ends.reads k ≡ a.ends.reads k
   pub sent : (k : ℕ) → k ≢ e → b.ends.sent k ≡ a.ends.sent k
@@ -46,9 +47,10 @@ pub record HasNone (edges most : ℕ) (b : Contents) : Type 0 where
   pub count : b.count ≡ edges
   pub capacity : b.capacity ≡ most
 
--- the writer's box of edge e is there, nothing was sent, and there is room for the capacity
+-- the writer's box of edge e is there, items of every kind may be put, nothing was sent, and there is room for the capacity
 pub record FreshOutbox (e : ℕ) (b : Contents) : Type 0 where
   pub writes : b.ends.writes e ≡ true
+  pub kind : b.ends.kind e ≡ None
   pub sent : b.ends.sent e ≡ []
   pub leaving : b.leaving e ≡ []
   pub room : b.ends.room e ≡ b.capacity

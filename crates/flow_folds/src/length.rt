@@ -3,11 +3,12 @@
 ghost use Rattle.std.specs.Prelude.{◌≡◌, ◌+◌, ◌≤◌, ℕ, true, List, length, take, IfSome};
 ghost use Rattle.std.specs.List.{All};
 ghost use Rattle.snesl_data.specs.Integers.{greatest_integer};
+ghost use Rattle.flow_messages.specs.declared.message.Kind.TheVariants.{Int as IntKind};
 ghost use Rattle.flow_messages.specs.Ends.{SameEnds};
 ghost use Rattle.flow_messages.specs.Signals.{signal_of};
 ghost use Rattle.flow_base.specs.Machines.{Leads};
 ghost use Rattle.flow_base.specs.Nodes.{behaviour_of, node_state};
-ghost use Rattle.flow_base.specs.Visits.{IsWired, Went};
+ghost use Rattle.flow_base.specs.Visits.{IsWired, TakeKinds, Went};
 ghost use Rattle.flow_base.specs.declared.node.Phase.TheVariants.{Working};
 ghost use Rattle.flow_folds.specs.LengthMachine.{one_more, length_at_end, length_counts, length_machine, length_view};
 ghost use Rattle.flow_folds.specs.LengthBlocks.{LengthsAlong};
@@ -142,6 +143,7 @@ impl Length {
     fn write_due<E: Ends>(&mut self, outputs: &[usize], ends: &mut E, most: usize) -> usize
         requires outputs { length outputs.now ≡ 1 }
         requires writes { All (λ e. (E.view ends.old).writes e ≡ true) outputs.now }
+        requires kinds { TakeKinds outputs.now (λ _. IntKind) (E.view ends.old) }
         ensures same { E.same ends.old ends.new }
         ensures ends { SameEnds (E.view ends.old) (E.view ends.new) }
         ensures within { result ≤ most }
@@ -175,6 +177,7 @@ impl Length {
         lengths: &mut [i64],
     ) -> usize
         requires wired { IsWired inputs.now outputs.now 1 1 (E.view ends.old) }
+        requires kinds { TakeKinds outputs.now (λ _. IntKind) (E.view ends.old) }
         ensures same { E.same ends.old ends.new }
         ensures ends { SameEnds (E.view ends.old) (E.view ends.new) }
         ensures within { result ≤ most }
@@ -218,6 +221,7 @@ impl Length {
         lengths: &mut [i64],
     ) -> usize
         requires wired { IsWired inputs.now outputs.now 1 1 (E.view ends.old) }
+        requires kinds { TakeKinds outputs.now (λ _. IntKind) (E.view ends.old) }
         ensures same { E.same ends.old ends.new }
         ensures ends { SameEnds (E.view ends.old) (E.view ends.new) }
         ensures within { result ≤ most }

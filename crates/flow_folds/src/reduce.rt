@@ -3,16 +3,19 @@
 ghost use Rattle.std.specs.Prelude.{◌≡◌, ◌≢◌, ◌+ℤ◌, ◌≤◌, ◌<◌, ◌*◌, ℕ, true, false, List, length, take, get_or, int_lt, if◌then◌else◌, Some, IfSome, Ok};
 ghost use Rattle.std.specs.List.{All};
 ghost use Rattle.std.specs.Option.{IsSomeAnd};
+ghost use Rattle.flow_messages.specs.declared.message.Kind.TheVariants.{Int as IntKind};
 ghost use Rattle.flow_messages.specs.Ends.{SameEnds};
 ghost use Rattle.flow_messages.specs.Signals.{signal_of};
 ghost use Rattle.flow_base.specs.Machines.{Leads, on_kind};
 ghost use Rattle.flow_base.specs.Nodes.{behaviour_of, node_state};
-ghost use Rattle.flow_base.specs.Visits.{edge_of, IsWired, Went};
+ghost use Rattle.flow_base.specs.Visits.{edge_of, IsWired, TakeKinds, Went};
 ghost use Rattle.flow_base.specs.declared.node.Phase.TheVariants.{Working};
 ghost use Rattle.flow_folds.specs.Scalars.{scalar_in};
 ghost use Rattle.flow_folds.specs.ReduceMachine.{at_element, reduced_kind, reduce_machine, reduce_view};
 ghost use Rattle.flow_folds.specs.ReduceBlocks.{reduction_of_ints, AwaitsFlag};
 ghost use Rattle.snesl_data.specs.declared.dialect.Dialect.{Dialect};
+ghost use Rattle.snesl_operators.specs.Operators.{type_of};
+ghost use Rattle.snesl_operators.specs.Reductions.{reduction_type};
 ghost use Rattle.snesl_operators.specs.declared.operator.Reduction.TheVariants.{Sum as SumOf, Max as MaxOf};
 ghost use Rattle.snesl_operators.specs.declared.scalar.Scalar.TheVariants.{Int as IntScalar};
 ghost use Rattle.flow_folds.specs.declared.reduce.Stage.TheVariants.{Start as StartState, Flag as FlagState};
@@ -100,11 +103,15 @@ impl Stage {
         }
     }
 
-    // The integer that the elements so far reduce to, where a flag comes and there is one.
+    // The integer that the elements so far reduce to, where a flag comes and integers are reduced.
     #[inline(always)]
     fn int(self, reduction: Reduction) -> Option<i128>
-        ensures { IfSome result (λ n. AwaitsFlag reduction self (Some (IntScalar n))) }
+        ensures so_far { IfSome result (λ n. AwaitsFlag reduction self (Some (IntScalar n))) }
+        ensures kind { IfSome result (λ n. reduced_kind reduction ≡ IntKind) }
     {
+        if matches!(reduction, Reduction::All | Reduction::Any) {
+            return None;
+        }
         match self.so_far(reduction) {
             Some(Some(Scalar::Int(number))) => Some(number),
             _ => None,
@@ -315,6 +322,14 @@ impl Reduce {
         (count, Stage::Flag(more))
     }
 
+    // Whether the value is of the reduction's type, as each is that it comes to.
+    #[inline(always)]
+    fn is_of_type(&self, value: Scalar) -> bool
+        ensures { result ≡ true → type_of value ≡ reduction_type self.now.reduction }
+    {
+        value.scalar_type() == self.reduction.scalar_type()
+    }
+
     // The sum so far, where a flag comes and the sum fits 64 bits.
     #[inline(always)]
     fn small_sum(&self) -> Option<i64>
@@ -343,6 +358,7 @@ impl Reduce {
         requires reads { All (λ e. (E.view ends.old).reads e ≡ true) inputs.now }
         ensures same { E.same ends.old ends.new }
         ensures ends { SameEnds (E.view ends.old) (E.view ends.new) }
+        ensures reduction { self.new.reduction ≡ self.old.reduction }
         ensures within { result ≤ most }
         ensures went { (outputs : List ℕ) (at : ℕ) → Went inputs.now outputs
             (behaviour_of reduce_machine) (node_state (reduce_view self.old) Working at)
@@ -375,6 +391,8 @@ impl Reduce {
         ends: &mut E,
     ) -> bool
         requires wired { IsWired inputs.now outputs.now 2 1 (E.view ends.old) }
+        requires kinds { TakeKinds outputs.now (λ _. reduced_kind self.now.reduction)
+            (E.view ends.old) }
         ensures same { E.same ends.old ends.new }
         ensures ends { SameEnds (E.view ends.old) (E.view ends.new) }
         ensures ended { result ≡ true → (at : ℕ) → Went inputs.now outputs.now
@@ -417,6 +435,8 @@ impl Reduce {
     ) -> usize
         requires apart { edge_of inputs.now 0 ≢ edge_of inputs.now 1 }
         requires wired { IsWired inputs.now outputs.now 2 1 (E.view ends.old) }
+        requires kinds { TakeKinds outputs.now (λ _. reduced_kind self.old.reduction)
+            (E.view ends.old) }
         ensures same { E.same ends.old ends.new }
         ensures ends { SameEnds (E.view ends.old) (E.view ends.new) }
         ensures within { result ≤ most }
@@ -564,6 +584,9 @@ impl Worker for Reduce {
                     Stage::Flag(more)
                 }
                 Stage::Value(value) => {
+                    if !self.is_of_type(value) {
+                        return 2 * made;
+                    }
                     take_front(ends, flags);
                     put_in_space(ends, to, Msg::Item(item_of(value)));
                     Stage::Start

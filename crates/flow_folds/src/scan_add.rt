@@ -4,12 +4,13 @@ ghost use Rattle.std.specs.Prelude.{◌≡◌, ◌≢◌, ◌+ℤ◌, ◌≤◌,
 ghost use mathlib.Core.List.{IsPrefix};
 ghost use Rattle.snesl_operators.specs.Operators.{ranged};
 ghost use Rattle.flow_messages.specs.Cells.{flag, int};
+ghost use Rattle.flow_messages.specs.declared.message.Kind.TheVariants.{Int as IntKind};
 ghost use Rattle.flow_messages.specs.Ends.{SameEnds};
 ghost use Rattle.flow_messages.specs.Signals.{carry};
 ghost use Rattle.flow_base.specs.Flags.{F};
 ghost use Rattle.flow_base.specs.Machines.{state_after_read};
 ghost use Rattle.flow_base.specs.Nodes.{behaviour_of, node_state};
-ghost use Rattle.flow_base.specs.Visits.{edge_of, IsWired, Went};
+ghost use Rattle.flow_base.specs.Visits.{edge_of, IsWired, TakeKinds, Went};
 ghost use Rattle.flow_base.specs.declared.node.Phase.TheVariants.{Working};
 ghost use Rattle.flow_folds.specs.ScanAddMachine.{scan_add_move, scan_add_machine, scan_add_view};
 ghost use Rattle.flow_folds.specs.ScanAddBlocks.{SumsAlong};
@@ -192,6 +193,7 @@ impl ScanAdd {
         sums: &mut [i64],
     ) -> usize
         requires wired { IsWired inputs.now outputs.now 2 1 (E.view ends.old) }
+        requires kinds { TakeKinds outputs.now (λ _. IntKind) (E.view ends.old) }
         requires apart { edge_of inputs.now 0 ≢ edge_of inputs.now 1 }
         ensures same { E.same ends.old ends.new }
         ensures ends { SameEnds (E.view ends.old) (E.view ends.new) }
@@ -234,6 +236,7 @@ impl ScanAdd {
     ) -> usize
         requires apart { edge_of inputs.now 0 ≢ edge_of inputs.now 1 }
         requires wired { IsWired inputs.now outputs.now 2 1 (E.view ends.old) }
+        requires kinds { TakeKinds outputs.now (λ _. IntKind) (E.view ends.old) }
         ensures same { E.same ends.old ends.new }
         ensures ends { SameEnds (E.view ends.old) (E.view ends.new) }
         ensures within { result ≤ most }

@@ -15,7 +15,7 @@ use Rattle.flow_graph.specs.Edges.{in_edge, out_edge}
 use Rattle.flow_graph.specs.Steps.{PutInRoom, Moves}
 
 pub same_ends_then : (a b c : View) → SameEnds a b → SameEnds b c → SameEnds a c
-same_ends_then a b c h g = record { writes = λ k. g.writes k ∙ h.writes k; reads = λ k. g.reads k ∙ h.reads k }
+same_ends_then a b c h g = record { kinds = λ k. g.kinds k ∙ h.kinds k; writes = λ k. g.writes k ∙ h.writes k; reads = λ k. g.reads k ∙ h.reads k }
 
 pub looked_twice : (a : View) (e : ℕ) (b c : View) → LookedForRoom a e b → LookedForRoom b e c → LookedForRoom a e c
 looked_twice a e b c h g = record {
@@ -29,7 +29,7 @@ looked_twice a e b c h g = record {
 -- a put after a look for room
 pub put_looked : (before : View) (e : ℕ) (m : Signal) (after : View) → PutInRoom before e m after → Put before e m after
 put_looked before e m after h = record {
-  ends = record { writes = λ k. h.put.ends.writes k ∙ h.looked.ends.writes k; reads = λ k. h.put.ends.reads k ∙ h.looked.ends.reads k };
+  ends = record { kinds = λ k. h.put.ends.kinds k ∙ h.looked.ends.kinds k; writes = λ k. h.put.ends.writes k ∙ h.looked.ends.writes k; reads = λ k. h.put.ends.reads k ∙ h.looked.ends.reads k };
   sent = h.put.sent ∙ ap (λ l. l ++ m ∷ []) (h.looked.traffic.sent e);
   others = λ k ne. h.put.others k ne ∙ h.looked.traffic.sent k;
   received = λ k. h.put.received k ∙ h.looked.traffic.received k;

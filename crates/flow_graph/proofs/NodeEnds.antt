@@ -1,14 +1,17 @@
 -- The ends of the edges at the ports of one node.
-use Rattle.std.proofs.Common.{◌≡◌, ℕ, ◌<◌, true, List, length, get_or, sym, ◌∙◌, ap, arith}
+use Rattle.std.proofs.Common.{◌≡◌, ℕ, ◌<◌, true, List, length, get_or, sym, ◌∙◌, ap, subst, refl, arith}
 use Rattle.std.specs.List.{All}
 use Rattle.std.proofs.lemmas.List.{get_or_default}
+use Rattle.std.specs.Prelude.{None}
+use Rattle.flow_messages.specs.declared.message.Kind.{Kind}
+use Rattle.flow_messages.specs.Kinds.{TakesKind}
 use Rattle.flow_messages.specs.Ends.{View}
 use Rattle.flow_base.specs.Transducers.{Behaviour}
 use Rattle.flow_base.specs.declared.transducer.Transducer.{Ghosts}
 use Rattle.flow_graph.specs.declared.edge.Edge.{Edge}
 use Rattle.flow_graph.specs.declared.placed.Placed.{Placed}
 use Rattle.flow_graph.specs.Edges.{in_edge, out_edge}
-use Rattle.flow_graph.specs.Networks.{inputs_at, outputs_at, IsJoined, HasEnds}
+use Rattle.flow_graph.specs.Networks.{state_at, inputs_at, outputs_at, IsJoined, HasEnds, EdgesTake}
 use Rattle.flow_graph.specs.Visits.{HasAllEnds}
 use Rattle.flow_graph.specs.Places.{states_in, AreSeated}
 use Rattle.flow_graph.proofs.Seats.{inputs_here, outputs_here, input_here, output_here}
@@ -34,3 +37,10 @@ module _ {X : Type 0} {t : Ghosts X} (nodes : List (Placed X t)) (k : ℕ) (x : 
   ends_writes ends q d l =
       let port : q < outputs_at t.behaviour (states_in nodes) k = omega (arith, l, outputs_here nodes k x inside is) in
       ap view.writes (get_or_default x.outputs.items q d 0 l ∙ output_here nodes k x inside is edges joined seated q port) ∙ ends.writes q port
+
+-- an edge of no kind takes all items
+pub any_kind : (v : View) (e : ℕ) (k : Kind) → ((e : ℕ) → v.kind e ≡ None) → TakesKind (v.kind e) k
+any_kind v e k any = subst (λ of. TakesKind of k) (sym (any e)) (λ s is. refl)
+
+pub any_takes : {S : Type 0} (b : Behaviour S) (states : List S) (edges : List Edge) (k : ℕ) (view : View) → ((e : ℕ) → view.kind e ≡ None) → EdgesTake b states edges k view
+any_takes b states edges k view any q l = any_kind view (out_edge edges k q) (b.kind_out (state_at b states k) q) any

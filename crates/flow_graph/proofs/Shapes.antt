@@ -16,7 +16,7 @@ module _ {X Y : Type 0} {t : Ghosts X} (Same : Y → Y → Type 0) (view : Y →
 
   -- nothing happened
   pub shape_refl : ((x : Y) → Same x x) → (graph : Graph X t) (ends : Y) → KeepsShape Same view graph ends graph ends
-  shape_refl refls graph ends = shape_alone graph ends ends (refls ends) (record { writes = λ k. refl; reads = λ k. refl })
+  shape_refl refls graph ends = shape_alone graph ends ends (refls ends) (record { kinds = λ k. refl; writes = λ k. refl; reads = λ k. refl })
 
   -- the nodes opened alike
   pub shape_opened : BehaviourLaws t.behaviour → (graph : Graph X t) (ends : Y) (graph' : Graph X t) (ends' : Y) → Same ends ends' → SameEnds (view ends) (view ends')

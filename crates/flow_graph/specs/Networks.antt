@@ -3,6 +3,7 @@
 use Rattle.std.specs.Prelude.{◌≡◌, ◌≢◌, ℕ, ◌<◌, ◌≤◌, true, List, length, map, slice_index_or}
 use Rattle.std.specs.List.{All}
 use Rattle.flow_messages.specs.Ends.{View}
+use Rattle.flow_messages.specs.Kinds.{TakesKind}
 use Rattle.flow_messages.specs.Signals.{Signal}
 use Rattle.flow_messages.specs.declared.message.Kind.{Kind}
 use Rattle.flow_messages.specs.declared.message.Kind.TheVariants.{Unit as UnitKind}
@@ -59,6 +60,10 @@ module _ {S : Type 0} (b : Behaviour S) where
   pub record HasEnds (states : List S) (edges : List Edge) (k : ℕ) (view : View) : Type 0 where
     pub reads : (p : ℕ) → p < inputs_at states k → view.reads (in_edge edges k p) ≡ true
     pub writes : (q : ℕ) → q < outputs_at states k → view.writes (out_edge edges k q) ≡ true
+
+  -- the edge at each output port of node k takes items of the port's kind
+  abbrev pub EdgesTake : List S → List Edge → ℕ → View → Type 0
+  EdgesTake states edges k view = (q : ℕ) → q < outputs_at states k → TakesKind (view.kind (out_edge edges k q)) (b.kind_out (state_at states k) q)
 
   -- the network of the nodes that have these states, joined by these edges
   abbrev pub network_of : List S → List Edge → Network S

@@ -5,7 +5,7 @@ ghost use Rattle.kahn.specs.declared.want.Want.TheVariants.{Read};
 ghost use Rattle.flow_messages.specs.Signals.{signal_of};
 ghost use Rattle.flow_messages.specs.Ends.{SameEnds};
 ghost use Rattle.flow_base.specs.Transducers.{IsWrite};
-ghost use Rattle.flow_base.specs.Visits.{LeavesAlone, IsStuck, Visited, BrokeOff};
+ghost use Rattle.flow_base.specs.Visits.{TakeKinds, LeavesAlone, IsStuck, Visited, BrokeOff};
 ghost use Rattle.flow_graph.specs.Places.{placed_state, IsSamePlace};
 
 use crate::placed::Placed;
@@ -134,6 +134,8 @@ impl<T: Transducer> Placed<T> {
         requires some { 0 < chunk }
         requires reads { All (λ e. (E.view ends.old).reads e ≡ true) self.old.inputs.items }
         requires writes { All (λ e. (E.view ends.old).writes e ≡ true) self.old.outputs.items }
+        requires kinds { TakeKinds self.old.outputs.items
+            (T.behaviour.kind_out (placed_state self.old)) (E.view ends.old) }
         ensures place { IsSamePlace self.old self.new }
         ensures same { E.same ends.old ends.new }
         ensures ends { SameEnds (E.view ends.old) (E.view ends.new) }

@@ -1,10 +1,11 @@
 // Single steps of the nodes of a graph.
-ghost use Rattle.std.specs.Prelude.{◌≡◌, ◌<◌, false, map, length, slice_set, IsOk, IfOk, OnOk, OnErr};
+ghost use Rattle.std.specs.Prelude.{◌≡◌, ◌<◌, true, false, map, length, slice_set, IsOk, IfOk, OnOk, OnErr};
 ghost use Rattle.kahn.specs.declared.want.Want.TheVariants.{Read, Write};
 ghost use Rattle.flow_messages.specs.Signals.{signal_of};
 ghost use Rattle.flow_base.specs.Transducers.{IsWrite};
 ghost use Rattle.flow_graph.specs.Edges.{in_edge, out_edge};
-ghost use Rattle.flow_graph.specs.Networks.{state_at, inputs_at, outputs_at, HasEnds};
+ghost use Rattle.flow_messages.specs.Kinds.{fits};
+ghost use Rattle.flow_graph.specs.Networks.{state_at, inputs_at, outputs_at, HasEnds, EdgesTake};
 ghost use Rattle.flow_graph.specs.Graphs.{states_of, edges_of};
 ghost use Rattle.flow_graph.specs.Shapes.{KeepsShape};
 ghost use Rattle.flow_graph.specs.Turns.{TakesTurn};
@@ -52,6 +53,8 @@ impl<T: Transducer> Graph<T> {
             Write port }
         ensures port { port < outputs_at T.behaviour (states_of self.now) node }
         ensures edge { result ≡ out_edge (edges_of self.now) node port }
+        ensures fits { let s = state_at T.behaviour (states_of self.now) node in
+            fits (T.behaviour.kind_out s port) (T.behaviour.process.written s) ≡ true }
     {
         self.nodes[node].outputs[port]
     }
@@ -109,6 +112,8 @@ pub fn step_once<T: Transducer, E: Ends>(
 ) -> Result<Moved, AllocError>
     requires inside { node < length (states_of graph.old) }
     requires ends { HasEnds T.behaviour (states_of graph.old) (edges_of graph.old) node
+        (E.view ends.old) }
+    requires kinds { EdgesTake T.behaviour (states_of graph.old) (edges_of graph.old) node
         (E.view ends.old) }
     ensures shape { KeepsShape E.same E.view graph.old ends.old graph.new ends.new }
     ensures turn { TakesTurn E.view node graph.old ends.old graph.new ends.new result }

@@ -7,16 +7,17 @@ ghost use Rattle.snesl_data.specs.Types.{ty_of};
 ghost use Rattle.flow_messages.specs.Cells.{cell_of, is_of};
 ghost use Rattle.flow_messages.specs.Blocks.{flag_signals, int_signals};
 ghost use Rattle.flow_messages.specs.Ends.{SameEnds};
+ghost use Rattle.flow_messages.specs.Kinds.{TakesKind};
 ghost use Rattle.flow_messages.specs.Signals.{signal_of};
-ghost use Rattle.flow_messages.specs.declared.message.Kind.TheVariants.{Vec as VecKind};
-ghost use Rattle.flow_base.specs.Visits.{IsPlaced, Went, Visited, BrokeOff};
+ghost use Rattle.flow_messages.specs.declared.message.Kind.TheVariants.{Bool as BoolKind, Int as IntKind, Vec as VecKind};
+ghost use Rattle.flow_base.specs.Visits.{edge_of, IsPlaced, Went, Visited, BrokeOff};
 ghost use Rattle.flow_values.specs.Flats.{width};
 ghost use Rattle.flow_scalar.specs.SourceBehaviour.{source_opening, source_behaviour};
 ghost use Rattle.flow_inputs.specs.Left.{left, cell};
 ghost use Rattle.snesl_values.specs.Places.{value_at};
 ghost use Rattle.flow_inputs.specs.Turns.{depth_of};
 ghost use Rattle.flow_inputs.specs.Ways.{way_to, leaf_at};
-ghost use Rattle.flow_inputs.specs.Items.{items_at, opening_state, IsRest};
+ghost use Rattle.flow_inputs.specs.Items.{items_at, leaf_kind, opening_state, IsRest};
 ghost use Rattle.flow_inputs.specs.Sends.{Sends};
 
 use crate::scanner::{BLOCK, flags_ahead, ints_ahead, scan};
@@ -121,6 +122,7 @@ impl TextSource {
         requires sending { self.old.ended ≡ false }
         requires one { length outputs.now ≡ 1 }
         requires writes { All (λ e. (E.view ends.old).writes e ≡ true) outputs.now }
+        requires kind { TakesKind ((E.view ends.old).kind (edge_of outputs.now 0)) IntKind }
         ensures same { E.same ends.old ends.new }
         ensures ends { SameEnds (E.view ends.old) (E.view ends.new) }
         ensures within { result ≤ most }
@@ -167,6 +169,7 @@ impl TextSource {
         requires sending { self.old.ended ≡ false }
         requires one { length outputs.now ≡ 1 }
         requires writes { All (λ e. (E.view ends.old).writes e ≡ true) outputs.now }
+        requires kind { TakesKind ((E.view ends.old).kind (edge_of outputs.now 0)) BoolKind }
         ensures same { E.same ends.old ends.new }
         ensures ends { SameEnds (E.view ends.old) (E.view ends.new) }
         ensures within { result ≤ most }
@@ -195,6 +198,8 @@ impl TextSource {
     fn write_blocks<E: Ends>(&mut self, outputs: &[usize], ends: &mut E, most: usize) -> usize
         requires one { length outputs.now ≡ 1 }
         requires writes { All (λ e. (E.view ends.old).writes e ≡ true) outputs.now }
+        requires kind { TakesKind ((E.view ends.old).kind (edge_of outputs.now 0))
+            (leaf_kind self.old.leaf) }
         ensures same { E.same ends.old ends.new }
         ensures ends { SameEnds (E.view ends.old) (E.view ends.new) }
         ensures within { result ≤ most }

@@ -1,7 +1,8 @@
 -- The nodes that were dealt out to a share, and its fresh ends, make a share.
-use Rattle.std.proofs.Common.{◌≡◌, ℕ, ◌<◌, ◌≤◌, true, List, [], ◌∷◌, length, map, get_or, ◌⊎◌, inl, inr, sym, ◌∙◌, ap, subst, arith}
+use Rattle.std.proofs.Common.{◌≡◌, ℕ, ◌<◌, ◌≤◌, true, List, [], ◌∷◌, length, map, get_or, ◌⊎◌, inl, inr, refl, sym, ◌∙◌, ap, subst, arith}
 use Rattle.std.proofs.lemmas.Bool.{cases_lt}
 use Rattle.std.proofs.lemmas.List.{get_or-map, get_or_default, get_or_past, length-map}
+use Rattle.flow_messages.specs.Kinds.{TakesKind}
 use Rattle.flow_messages.specs.Ends.{View}
 use Rattle.flow_base.specs.declared.transducer.Transducer.{Ghosts}
 use Rattle.flow_graph.specs.declared.edge.Edge.{Edge}
@@ -111,6 +112,7 @@ module _ {X : Type 0} {t : Ghosts X} (share : List ℕ) (edges : List Edge) (nod
     has_ends = record {
       reads = λ p e l. ap v.reads (get_or_default x.inputs.items p e 0 l) ∙ reads_here p l;
       writes = λ q e l. ap v.writes (get_or_default x.outputs.items q e 0 l) ∙ writes_here q l;
+      kinds = λ q l. subst (λ of. TakesKind of (t.behaviour.kind_out (t.behaviour.opening (placed_state x)) q)) (sym (fresh.kind (get_or x.outputs.items q 0) (writes_here q l))) (λ s is. refl);
     }
 
     has_history : HasHistory v x

@@ -4,6 +4,7 @@ use Rattle.std.specs.List.{All}
 use Rattle.std.proofs.lemmas.Bool.{eq-eqb}
 use Rattle.std.proofs.lemmas.List.{get_or-map, get_or_push, get_or_append_left, length_push}
 use Rattle.flow_messages.specs.Signals.{Signal}
+use Rattle.std.specs.Prelude.{None}
 use Rattle.flow_messages.specs.Ends.{View}
 use Rattle.flow_messages.specs.Tables.{at_line}
 use Rattle.flow_boxes.proofs.Changed.{everywhere}
@@ -80,6 +81,7 @@ fresh_more owners owner capacity s a b was opens =
       reads = reads;
       sent = now_fresh n w a.writes b.writes elsewhere.writes [] a.sent b.sent w_at opens.sent elsewhere.sent was.sent;
       room = now_fresh n w a.writes b.writes elsewhere.writes capacity a.room b.room w_at opens.room elsewhere.room was.room;
+      kind = now_fresh n w a.writes b.writes elsewhere.writes None a.kind b.kind w_at opens.kind elsewhere.kind was.kind;
       received = now_fresh n r a.reads b.reads elsewhere.reads [] a.received b.received r_at opens.received elsewhere.received was.received;
       coming = now_fresh n r a.reads b.reads elsewhere.reads [] a.coming b.coming r_at opens.coming elsewhere.coming was.coming;
     }
@@ -99,6 +101,7 @@ fresh_none capacity s v none = record {
   reads = λ e. (none e).1;
   sent = λ e h. let l = (none e).0 in cc;
   room = λ e h. let l = (none e).0 in cc;
+  kind = λ e h. let l = (none e).0 in cc;
   received = λ e h. let l = (none e).1 in cc;
   coming = λ e h. let l = (none e).1 in cc;
 }

@@ -10,9 +10,9 @@ use Rattle.flow_boxes.specs.Rounds.{IsLinked, OthersSame, OpensWriter, OpensRead
 use Rattle.flow_boxes.proofs.Linking.{fresh-linked, outbox-beside}
 use Rattle.flow_rings.specs.declared.ring.EdgeWriter.{EdgeWriter}
 use Rattle.flow_rings.specs.declared.ring.EdgeReader.{EdgeReader}
-use Rattle.flow_rings.specs.Edge.{sent, received, certain_room, certain_held}
+use Rattle.flow_rings.specs.Edge.{kind_of, sent, received, certain_room, certain_held}
 use Rattle.flow_rings.specs.declared.rings.Rings.{Rings}
-use Rattle.flow_rings.specs.Rings.{sent_of, room_of, writes_of, received_of, coming_of, reads_of, view_of_rings, ends_of}
+use Rattle.flow_rings.specs.Rings.{kind_seen, sent_of, room_of, writes_of, received_of, coming_of, reads_of, view_of_rings, ends_of}
 use Rattle.flow_meetings.specs.Opens.{ElsewhereSame, OpensAt}
 use Rattle.flow_meetings.specs.RingOpenings.{RingsOpen}
 
@@ -26,10 +26,12 @@ both_opened e capacity a m b w r = record {
     received = λ k ne. r.elsewhere.received k ne ∙ w.elsewhere.received k ne;
     coming = λ k ne. r.elsewhere.coming k ne ∙ w.elsewhere.coming k ne;
     room = λ k ne. r.elsewhere.room k ne ∙ w.elsewhere.room k ne;
+    kind = λ k ne. r.elsewhere.kind k ne ∙ w.elsewhere.kind k ne;
   };
   writes = r.writes ∙ w.writes;
   sent = r.sent ∙ w.sent;
   room = r.room ∙ w.room;
+  kind = r.kind ∙ w.kind;
   reads = r.reads;
   received = r.received;
   coming = r.coming;
@@ -37,7 +39,7 @@ both_opened e capacity a m b w r = record {
 
 module _ (e : ℕ) where
   elsewhere : (a b : Contents) → OthersSame e a b → ElsewhereSame e a.ends b.ends
-  elsewhere a b o = record { writes = o.writes; reads = o.reads; sent = o.sent; received = o.received; coming = o.coming; room = o.room }
+  elsewhere a b o = record { writes = o.writes; reads = o.reads; sent = o.sent; received = o.received; coming = o.coming; room = o.room; kind = λ k ne. o.kinds k }
 
   pub others_then : (a m b : Contents) → OthersSame e a m → OthersSame e m b → OthersSame e a b
   others_then a m b p q = record {
@@ -48,6 +50,7 @@ module _ (e : ℕ) where
     coming = λ k ne. q.coming k ne ∙ p.coming k ne;
     room = λ k ne. q.room k ne ∙ p.room k ne;
     leaving = λ k ne. q.leaving k ne ∙ p.leaving k ne;
+    kinds = λ k. q.kinds k ∙ p.kinds k;
     count = q.count ∙ p.count;
     capacity = q.capacity ∙ p.capacity;
   }
@@ -59,6 +62,7 @@ module _ (e : ℕ) where
       writes = o.fresh.writes;
       sent = o.fresh.sent;
       room = o.fresh.room ∙ o.others.capacity ∙ is;
+      kind = o.fresh.kind;
       reads = o.reads e;
       received = o.received e;
       coming = o.coming e;
@@ -70,6 +74,7 @@ module _ (e : ℕ) where
       writes = o.writes e;
       sent = o.sent e;
       room = o.room e;
+      kind = o.others.kinds e;
       reads = o.fresh.reads;
       received = o.fresh.received;
       coming = o.fresh.coming;
@@ -100,7 +105,7 @@ no_reader_there ws (r ∷ rs) (suc e) none = no_reader_there ws rs e none
 
 -- a writer is put among rings, and a reader
 module _ (ws : List (Option EdgeWriter)) (rs : List (Option EdgeReader)) (e capacity : ℕ) where
-  module _ (w : EdgeWriter) (h : e < length ws) (none : sent w ≡ []) (room : certain_room w ≡ capacity) where
+  module _ (w : EdgeWriter) (h : e < length ws) (none : sent w ≡ []) (room : certain_room w ≡ capacity) (any : kind_of w ≡ None) where
     pub ring_writer : OpensAt e capacity true false (view_of_rings ws rs) (view_of_rings (set ws e (Some w)) rs)
     ring_writer = record {
       elsewhere = record {
@@ -110,7 +115,9 @@ module _ (ws : List (Option EdgeWriter)) (rs : List (Option EdgeReader)) (e capa
         received = λ k ne. refl;
         coming = λ k ne. refl;
         room = at_line-other room_of ws e 0 (Some w);
+        kind = at_line-other kind_seen ws e None (Some w);
       };
+      kind = at_line-same kind_seen ws e None (Some w) h ∙ any;
       writes = at_line-same writes_of ws e false (Some w) h;
       sent = at_line-same sent_of ws e [] (Some w) h ∙ ap signals none ∙ signals-nil;
       room = at_line-same room_of ws e 0 (Some w) h ∙ room;
@@ -129,7 +136,9 @@ module _ (ws : List (Option EdgeWriter)) (rs : List (Option EdgeReader)) (e capa
         received = at_line-other received_of rs e [] (Some r);
         coming = at_line-other coming_of rs e [] (Some r);
         room = λ k ne. refl;
+        kind = λ k ne. refl;
       };
+      kind = refl;
       writes = refl;
       sent = refl;
       room = refl;
@@ -147,8 +156,8 @@ rings_then e a m b p q = record {
 }
 
 module _ (a b : Rings) (e capacity : ℕ) where
-  pub rings_writer : (w : EdgeWriter) → b.writers.items ≡ set a.writers.items e (Some w) → b.readers.items ≡ a.readers.items → e < length a.writers.items → sent w ≡ [] → certain_room w ≡ capacity → RingsOpen e a b × OpensAt e capacity true false (ends_of a) (ends_of b)
-  rings_writer w put same h none room = (
+  pub rings_writer : (w : EdgeWriter) → b.writers.items ≡ set a.writers.items e (Some w) → b.readers.items ≡ a.readers.items → e < length a.writers.items → sent w ≡ [] → certain_room w ≡ capacity → kind_of w ≡ None → RingsOpen e a b × OpensAt e capacity true false (ends_of a) (ends_of b)
+  rings_writer w put same h none room any = (
     record {
       writer_count = ap length put ∙ length-set a.writers.items e (Some w);
       reader_count = ap length same;
@@ -156,7 +165,7 @@ module _ (a b : Rings) (e capacity : ℕ) where
       readers = λ k ne. ap (λ l. get_or l k None) same;
     },
     subst (λ ws. OpensAt e capacity true false (ends_of a) (view_of_rings ws b.readers.items)) (sym put)
-        (subst (λ rs. OpensAt e capacity true false (ends_of a) (view_of_rings (set a.writers.items e (Some w)) rs)) (sym same) (ring_writer a.writers.items a.readers.items e capacity w h none room)),
+        (subst (λ rs. OpensAt e capacity true false (ends_of a) (view_of_rings (set a.writers.items e (Some w)) rs)) (sym same) (ring_writer a.writers.items a.readers.items e capacity w h none room any)),
   )
 
   pub rings_reader : (r : EdgeReader) → b.readers.items ≡ set a.readers.items e (Some r) → b.writers.items ≡ a.writers.items → e < length a.readers.items → received r ≡ [] → certain_held r ≡ [] → RingsOpen e a b × OpensAt e capacity false true (ends_of a) (ends_of b)

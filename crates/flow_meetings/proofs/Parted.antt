@@ -1,7 +1,7 @@
 -- One end in the front and one in the back of a list that was split.
-use Rattle.std.proofs.Common.{◌≡◌, ◌≢◌, ◌==◌, ℕ, ◌-◌, ◌<◌, Bool, true, false, suc, List, [], ◌∷◌, length, ◌++◌, get_or, set, refl, sym, ap, ◌∙◌, subst, arith, length-set, get_or-set_same, get_or-set_other}
+use Rattle.std.proofs.Common.{◌≡◌, ◌≢◌, ◌==◌, ℕ, ◌-◌, ◌<◌, Bool, true, false, suc, List, [], ◌∷◌, length, ◌++◌, get_or, set, refl, sym, ap, ◌∙◌, subst, arith, length-set, get_or-set_same, get_or-set_other, ◌⊎◌, inl, inr}
 use Rattle.std.specs.Prelude.{Result, Ok, Err, OnOk}
-use Rattle.std.proofs.lemmas.Bool.{eq-eqb, ne_eqb}
+use Rattle.std.proofs.lemmas.Bool.{cases_eq, eq-eqb, ne_eqb}
 use Rattle.std.proofs.lemmas.List.{get_or_default, get_or_append_left, get_or-append-add, set-append_left, set-append_right, length-append}
 use Rattle.flow_messages.specs.Ends.{View}
 use Rattle.flow_boxes.proofs.Changed.{everywhere}
@@ -12,7 +12,8 @@ use Rattle.flow_meetings.specs.Opens.{OpensAt, OpensEdge}
 none_opened : (e capacity : ℕ) (w r : Bool) (a : View) → w ≡ false → r ≡ false → OpensAt e capacity w r a a
 none_opened e capacity w r a no_writer no_reader =
     subst (λ w. OpensAt e capacity w r a a) (sym no_writer) (subst (λ r. OpensAt e capacity false r a a) (sym no_reader) (record {
-      elsewhere = record { writes = λ k ne. refl; reads = λ k ne. refl; sent = λ k ne. refl; received = λ k ne. refl; coming = λ k ne. refl; room = λ k ne. refl };
+      elsewhere = record { writes = λ k ne. refl; reads = λ k ne. refl; sent = λ k ne. refl; received = λ k ne. refl; coming = λ k ne. refl; room = λ k ne. refl; kind = λ k ne. refl };
+      kind = refl;
       writes = refl;
       sent = refl;
       room = refl;
@@ -76,6 +77,10 @@ pub on_all : {X E : Type 0} {P Q R S T : Type 0} (r : Result X E) → (P → Q �
 on_all (Ok x) f p q joined room = f p q joined room
 on_all (Err e) f p q joined room = tt
 
+pub on_three : {X E : Type 0} {P Q R S : Type 0} (r : Result X E) → (P → Q → R → S) → OnOk r P → OnOk r Q → OnOk r R → OnOk r S
+on_three (Ok x) f p q s = f p q s
+on_three (Err e) f p q s = tt
+
 -- Edge e is opened, and its owner names these shares.
 module _ {X : Type 0} (view : X → View) (joins : X → X → ℕ → Type 0) (slots_of : X → ℕ → ℕ) (opens_at : ℕ → X → X → Type 0) (opens_refl : (e : ℕ) (a : X) → opens_at e a a) (owner : EdgeOwners) (e capacity : ℕ) where
   abbrev w : ℕ
@@ -108,6 +113,22 @@ module _ {X : Type 0} (view : X → View) (joins : X → X → ℕ → Type 0) (
     joined = λ d. rw (at_w d) (rw (at_r d) joined);
     places = λ d. rw (at_w d) room;
   }
+
+  -- both ends come to one share
+  pub opened_own : (old : List X) (x a : X) → w ≡ r → w < length old → OpensHere true true (get_or old w x) a → joins a a e → slots_of a e ≡ capacity → Whole old (set old w a)
+  opened_own old x a same inside step joined room = whole old (set old w a) a a (λ s d. each s d (cases_eq s w)) at_w (λ d. ap (λ k. get_or (set old w a) k d) (sym same) ∙ at_w d) joined room
+    where
+      at_w : (d : X) → get_or (set old w a) w d ≡ a
+      at_w d = get_or-set_same old w a d inside
+
+      was : (d : X) → get_or old w x ≡ get_or old w d
+      was d = get_or_default old w x d inside
+
+      each : (s : ℕ) (d : X) → (s ≡ w) ⊎ (s ≡ w → ⊥) → Each s (get_or old s d) (get_or (set old w a) s d)
+      each s d (inl at) =
+          subst (λ k. Each k (get_or old k d) (get_or (set old w a) k d)) (sym at)
+          (subst (λ z. Each w (get_or old w d) z) (sym (at_w d)) (subst (λ z. Each w z a) (was d) (here w true true (get_or old w x) a (eq-eqb w w refl) (eq-eqb r w (sym same)) step)))
+      each s d (inr ne) = subst (λ z. Each s (get_or old s d) z) (sym (get_or-set_other old w s a d ne)) (other s (get_or old s d) ne (λ h. ne (h ∙ sym same)))
 
   module _ (old front back : List X) (is : old ≡ front ++ back) (x y a b : X) where
     -- the writer's end comes to the front, and the reader's to the back

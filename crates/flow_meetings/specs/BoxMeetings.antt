@@ -37,6 +37,7 @@ carries_refl e a = record {
     coming = λ k ne. refl;
     room = λ k ne. refl;
     leaving = λ k ne. refl;
+    kinds = λ k. refl;
     count = refl;
     capacity = refl;
   };
@@ -62,7 +63,7 @@ boxes_same_stay a b keeps = keeps.boxes
 
 pub boxes_stay_trans : (a b c : Boxes) → BoxesStay a b → BoxesStay b c → BoxesStay a c
 boxes_stay_trans a b c p q = record {
-  ends = record { writes = λ k. q.ends.writes k ∙ p.ends.writes k; reads = λ k. q.ends.reads k ∙ p.ends.reads k };
+  ends = record { kinds = λ k. q.ends.kinds k ∙ p.ends.kinds k; writes = λ k. q.ends.writes k ∙ p.ends.writes k; reads = λ k. q.ends.reads k ∙ p.ends.reads k };
   count = q.count ∙ p.count;
   capacity = q.capacity ∙ p.capacity;
 }

@@ -1,5 +1,5 @@
 -- What shares make together: one configuration of the network of their graph.
-use Rattle.std.specs.Prelude.{◌≡◌, ℕ, ◌<◌, false, cond, ltb, List, [], length, map, slice_index_or}
+use Rattle.std.specs.Prelude.{◌≡◌, ℕ, ◌<◌, false, cond, ltb, List, [], length, map, slice_index_or, None}
 use Rattle.flow_messages.specs.Ends.{View}
 use Rattle.flow_base.specs.declared.transducer.Transducer.{Ghosts}
 use Rattle.flow_graph.specs.declared.edge.Edge.{Edge}
@@ -13,7 +13,7 @@ use Rattle.flow_shares.specs.Deals.{share_of, AreDealt}
 
 -- no ends
 abbrev pub no_ends : View
-no_ends = record { sent = λ e. []; received = λ e. []; coming = λ e. []; room = λ e. 0; writes = λ e. false; reads = λ e. false }
+no_ends = record { kind = λ e. None; sent = λ e. []; received = λ e. []; coming = λ e. []; room = λ e. 0; writes = λ e. false; reads = λ e. false }
 
 -- no boxes
 abbrev pub no_contents : Contents
@@ -47,6 +47,7 @@ module _ (share : List ℕ) (edges : List Edge) (view_at : ℕ → View) where
     received = λ e. at_edge e ((reader_view e).received e) [];
     coming = λ e. at_edge e ((reader_view e).coming e) [];
     room = λ e. at_edge e ((writer_view e).room e) 0;
+    kind = λ e. at_edge e ((writer_view e).kind e) None;
     writes = λ e. at_edge e ((writer_view e).writes e) false;
     reads = λ e. at_edge e ((reader_view e).reads e) false;
   }

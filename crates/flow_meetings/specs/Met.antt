@@ -35,7 +35,7 @@ prefix_trans xs ys zs p q = (p.0 ++ q.0, sym (append_assoc xs p.0 q.0) ∙ ap (�
 
 pub kept_refl : (a : View) → Kept a a
 kept_refl a = record {
-  ends = record { writes = λ k. refl; reads = λ k. refl };
+  ends = record { kinds = λ k. refl; writes = λ k. refl; reads = λ k. refl };
   traffic = record { sent = λ k. refl; received = λ k. refl };
   coming = λ k. ([], append-nil (a.coming k));
   room = λ k. omega arith;
@@ -43,7 +43,7 @@ kept_refl a = record {
 
 pub kept_trans : (a b c : View) → Kept a b → Kept b c → Kept a c
 kept_trans a b c p q = record {
-  ends = record { writes = λ k. q.ends.writes k ∙ p.ends.writes k; reads = λ k. q.ends.reads k ∙ p.ends.reads k };
+  ends = record { kinds = λ k. q.ends.kinds k ∙ p.ends.kinds k; writes = λ k. q.ends.writes k ∙ p.ends.writes k; reads = λ k. q.ends.reads k ∙ p.ends.reads k };
   traffic = record { sent = λ k. q.traffic.sent k ∙ p.traffic.sent k; received = λ k. q.traffic.received k ∙ p.traffic.received k };
   coming = λ k. prefix_trans (a.coming k) (b.coming k) (c.coming k) (p.coming k) (q.coming k);
   room = λ k. omega (arith, p.room k, q.room k);

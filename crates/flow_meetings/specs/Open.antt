@@ -1,5 +1,5 @@
 -- Fresh ends of all edges, each in the share that its owner names.
-use Rattle.std.specs.Prelude.{◌≡◌, ◌==◌, ℕ, ◌<◌, true, false, List, [], length, slice_index_or}
+use Rattle.std.specs.Prelude.{◌≡◌, ◌==◌, ℕ, ◌<◌, true, false, List, [], length, slice_index_or, None}
 use Rattle.flow_messages.specs.Ends.{View}
 use Rattle.flow_messages.specs.Tables.{at_line}
 use Rattle.flow_graph.specs.declared.edge.Edge.{Edge}
@@ -20,7 +20,8 @@ pub record HasFreshEnds (owners : List EdgeOwners) (capacity s : ℕ) (v : View)
   pub writes : (e : ℕ) → v.writes e ≡ at_line (λ (owner : EdgeOwners). owner.writer == s) owners e false
   -- a reader's end is there of each edge that s reads, and of no other
   pub reads : (e : ℕ) → v.reads e ≡ at_line (λ (owner : EdgeOwners). owner.reader == s) owners e false
-  -- the writer has sent nothing, and has room for the capacity
+  -- the writer takes items of every kind, has sent nothing, and has room for the capacity
+  pub kind : (e : ℕ) → v.writes e ≡ true → v.kind e ≡ None
   pub sent : (e : ℕ) → v.writes e ≡ true → v.sent e ≡ []
   pub room : (e : ℕ) → v.writes e ≡ true → v.room e ≡ capacity
   -- the reader has received nothing, and nothing is coming

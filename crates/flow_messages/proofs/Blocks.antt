@@ -16,7 +16,7 @@ prefix_then : {X : Type 0} (xs ys zs : List X) → IsPrefix xs ys → IsPrefix y
 prefix_then xs ys zs (more, is) (rest, all) = (more ++ rest, sym (append_assoc xs more rest) ∙ ap (λ l. l ++ rest) is ∙ all)
 
 same_ends_then : (a b c : View) → SameEnds a b → SameEnds b c → SameEnds a c
-same_ends_then a b c h g = record { writes = λ k. g.writes k ∙ h.writes k; reads = λ k. g.reads k ∙ h.reads k }
+same_ends_then a b c h g = record { kinds = λ k. g.kinds k ∙ h.kinds k; writes = λ k. g.writes k ∙ h.writes k; reads = λ k. g.reads k ∙ h.reads k }
 
 -- one more of what was certain: it is the next, and the rest still comes
 next_is : (c v w : List Signal) (i : ℕ) (m : Signal) → i < length c → IsPrefix c (take i c ++ v) → IsPrefix v (m ∷ w) → take (suc i) c ≡ take i c ++ m ∷ []
@@ -33,7 +33,7 @@ more_waits c v i low (more, is) = omega (arith, ap length is, length-append c mo
 -- nothing was taken yet
 pub taken_none : (a : View) (e : ℕ) → TakenAll a e [] a
 taken_none a e = record {
-  ends = record { writes = λ k. refl; reads = λ k. refl };
+  ends = record { kinds = λ k. refl; writes = λ k. refl; reads = λ k. refl };
   received = sym (append-nil (a.received e));
   others = λ k ne. refl;
   sent = λ k. refl;
@@ -63,7 +63,7 @@ taken_next a v w e i (Some x) low all some succeeds =
 -- nothing was put yet
 pub put_none : (a : View) (e : ℕ) → PutAll a e [] a
 put_none a e = record {
-  ends = record { writes = λ k. refl; reads = λ k. refl };
+  ends = record { kinds = λ k. refl; writes = λ k. refl; reads = λ k. refl };
   sent = elim (cases_Bool (ended (a.sent e))) [
     | inl shut ↦ rw shut refl
     | inr free ↦ rw free (sym (append-nil (a.sent e)))

@@ -1,4 +1,5 @@
 pub mod Signals
+pub mod Fitting
 pub mod Counts
 pub mod Tables
 pub mod Waiting

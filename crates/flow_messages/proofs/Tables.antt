@@ -66,7 +66,7 @@ module _ (ls : List Line) (e : ℕ) (old new : Line) (h : e < length ls) (is : o
   after = view_of_lines (set ls e new)
 
   pub same_ends : SameEnds before after
-  same_ends = record { writes = λ k. rw (length-set ls e new); reads = λ k. rw (length-set ls e new) }
+  same_ends = record { kinds = λ k. refl; writes = λ k. rw (length-set ls e new); reads = λ k. rw (length-set ls e new) }
 
   -- these messages were put on it
   module _ (ms : List Msg) (sent : new.sent.items ≡ old.sent.items ++ ms) (held : content_of new.store ≡ content_of old.store ++ ms) (capacity : new.store.capacity ≡ old.store.capacity) where
@@ -205,7 +205,7 @@ first_queued (n ∷ ms) m some is = (signals ms, ap (λ x. signal_of x ∷ signa
 -- a look that finds no more
 pub looked-same : (v : View) (e : ℕ) → LookedForMessages v e v
 looked-same v e = record {
-  ends = record { writes = λ k. refl; reads = λ k. refl };
+  ends = record { kinds = λ k. refl; writes = λ k. refl; reads = λ k. refl };
   traffic = record { sent = λ k. refl; received = λ k. refl };
   room = λ k. refl;
   coming = λ k _. refl;

@@ -1,6 +1,7 @@
 -- What a contract sees of the ends of a set of edges, each by its number.
-use Rattle.std.specs.Prelude.{◌≡◌, ◌≢◌, ℕ, ◌+◌, ◌≤◌, Bool, cond, List, [], ◌∷◌, ◌++◌, length}
+use Rattle.std.specs.Prelude.{◌≡◌, ◌≢◌, ℕ, ◌+◌, ◌≤◌, Bool, cond, List, [], ◌∷◌, ◌++◌, length, Option}
 use mathlib.Core.List.{IsPrefix}
+use Rattle.flow_messages.specs.declared.message.Kind.{Kind}
 use Rattle.flow_messages.specs.Signals.{Signal, ended}
 
 pub record View : Type 0 where
@@ -8,6 +9,7 @@ pub record View : Type 0 where
   pub received : ℕ → List Signal  -- what was taken, the oldest first
   pub coming : ℕ → List Signal  -- what the next takes are certain to give, the oldest first
   pub room : ℕ → ℕ  -- how many puts are certain of room
+  pub kind : ℕ → Option Kind  -- the kind of the items that may be put, or none where each may be
   pub writes : ℕ → Bool  -- whether the writer's end is there
   pub reads : ℕ → Bool  -- whether the reader's end is there
 
@@ -17,6 +19,7 @@ held v e = length (v.coming e)
 
 -- the same ends are there
 pub record SameEnds (a b : View) : Type 0 where
+  pub kinds : (k : ℕ) → b.kind k ≡ a.kind k
   pub writes : (k : ℕ) → b.writes k ≡ a.writes k
   pub reads : (k : ℕ) → b.reads k ≡ a.reads k
 

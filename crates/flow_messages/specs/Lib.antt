@@ -1,5 +1,6 @@
 pub mod Cells
 pub mod Signals
+pub mod Kinds
 pub mod Ends
 pub mod Blocks
 pub mod Contents

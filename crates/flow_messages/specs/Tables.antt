@@ -1,5 +1,5 @@
 -- A table as the ends of all its edges.
-use Rattle.std.specs.Prelude.{◌≡◌, ℕ, ◌-◌, List, [], length, map, slice_index_or, nat_lt}
+use Rattle.std.specs.Prelude.{◌≡◌, ℕ, ◌-◌, List, [], length, map, slice_index_or, nat_lt, None}
 use Rattle.flow_messages.specs.declared.line.Line.{Line}
 use Rattle.flow_messages.specs.declared.table.Table.{Table}
 use Rattle.flow_messages.specs.Signals.{signals}
@@ -18,6 +18,7 @@ view_of_lines lines = record {
   received = λ e. at_line (λ l. signals (gone l.sent.items (content_of l.store))) lines e [];
   coming = λ e. at_line (λ l. signals (content_of l.store)) lines e [];
   room = λ e. at_line (λ l. l.store.capacity - length (content_of l.store)) lines e 0;
+  kind = λ e. None;
   writes = λ e. nat_lt e (length lines);
   reads = λ e. nat_lt e (length lines);
 }

@@ -25,6 +25,8 @@ pub trait Ends {
     ghost use Rattle.std.specs.Prelude.{◌≡◌, ◌<◌, ◌≤◌, ◌↔◌, true, false, [], ◌∷◌, IsTrue, IsOk, IsSome, IfSome, IfNone, OnOk, IfErr, IsErrAnd, length, take};
     ghost use mathlib.Core.List.{IsPrefix};
     ghost use Rattle.flow_messages.specs.Signals.{signal_of, ended};
+    ghost use Rattle.flow_messages.specs.Kinds.{FitsEdge, TakesKind};
+    ghost use Rattle.flow_messages.specs.declared.message.Kind.TheVariants.{Unit as UnitKind, Bool as BoolKind, Int as IntKind};
     ghost use Rattle.flow_messages.specs.Ends.{View, held, LookedForRoom, LookedForMessages, Put, Taken, TakenAll, PutAll};
     ghost use Rattle.flow_messages.specs.Blocks.{unit_signals, flag_signals, int_signals};
     ghost use Rattle.flow_messages.specs.declared.ends.Why.TheVariants.{Full, Closed};
@@ -81,7 +83,8 @@ pub trait Ends {
     /// It is refused as `Closed` exactly where `End` was put on the edge before, and as `Full` only
     /// where no room was certain. Then nothing was put, and the message comes back.
     fn put(&mut self, edge: usize, message: Msg) -> Result<(), Refused>
-        requires { (view self.old).writes edge ≡ true }
+        requires writes { (view self.old).writes edge ≡ true }
+        requires fits { FitsEdge ((view self.old).kind edge) (signal_of message) }
         ensures same { same self.old self.new }
         ensures ok { OnOk result (Put (view self.old) edge (signal_of message) (view self.new)) }
         ensures refused { IfErr result (λ e. (e.message ≡ message) ×
@@ -145,6 +148,7 @@ pub trait Ends {
     /// Puts so many units where room is certain. They are dropped where `End` was put on the edge before.
     fn put_units(&mut self, edge: usize, count: usize)
         requires writes { (view self.old).writes edge ≡ true }
+        requires kind { TakesKind ((view self.old).kind edge) UnitKind }
         requires certain { count ≤ (view self.old).room edge }
         ensures same { same self.old self.new }
         ensures put { PutAll (view self.old) edge (unit_signals count) (view self.new) }
@@ -157,6 +161,7 @@ pub trait Ends {
     /// Puts these truth values where room is certain. They are dropped where `End` was put on the edge before.
     fn put_flags(&mut self, edge: usize, flags: &[bool])
         requires writes { (view self.old).writes edge ≡ true }
+        requires kind { TakesKind ((view self.old).kind edge) BoolKind }
         requires certain { length flags.now ≤ (view self.old).room edge }
         ensures same { same self.old self.new }
         ensures put { PutAll (view self.old) edge (flag_signals flags.now) (view self.new) }
@@ -169,6 +174,7 @@ pub trait Ends {
     /// Puts these integers of 64 bits where room is certain. They are dropped where `End` was put on the edge before.
     fn put_ints(&mut self, edge: usize, ints: &[i64])
         requires writes { (view self.old).writes edge ≡ true }
+        requires kind { TakesKind ((view self.old).kind edge) IntKind }
         requires certain { length ints.now ≤ (view self.old).room edge }
         ensures same { same self.old self.new }
         ensures put { PutAll (view self.old) edge (int_signals ints.now) (view self.new) }

@@ -15,7 +15,8 @@ use Rattle.flow_messages.proofs.Signals.{ended-more, ended-snoc}
 use Rattle.flow_rings.specs.declared.flat.Flat.{Flat}
 use Rattle.flow_rings.specs.declared.flat.Flat.TheVariants.{Unit as UnitFlat, Bool as BoolFlat, Int as IntFlat, End as EndFlat}
 use Rattle.flow_rings.specs.Ring.{Which, place}
-use Rattle.flow_rings.specs.Flats.{message_of, messages_of, fits, MayFollow}
+use Rattle.flow_messages.specs.Kinds.{fits}
+use Rattle.flow_rings.specs.Flats.{message_of, messages_of, MayFollow}
 
 -- what stands for a message that fits may follow an unended list
 pub may_follow : (k : Kind) (before : List Flat) (m : Msg) → ended (signals (messages_of before)) ≡ false → fits k (signal_of m) ≡ true → (x : Flat) → message_of x ≡ m → MayFollow k before x

@@ -1,6 +1,6 @@
 pub mod Lists
 pub mod Flats
-pub mod PutsAll
+pub mod InPlace
 pub mod RingLines
 pub mod Meetings
 pub mod Sends

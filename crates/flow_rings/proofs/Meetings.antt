@@ -13,7 +13,7 @@ use Rattle.flow_rings.specs.declared.ring.EdgeReader.{EdgeReader}
 use Rattle.flow_rings.specs.declared.ring.Held.{Held}
 use Rattle.flow_rings.specs.declared.rings.Rings.{Rings}
 use Rattle.flow_rings.specs.Edge.{sent, received, certain_room, certain_held, edge_capacity, IsEdge, SameWriter, SameReader}
-use Rattle.flow_rings.specs.Rings.{sent_of, room_of, writes_of, received_of, coming_of, reads_of, capacity_of, ends_of, writer_at, reader_at, capacity_at, SameWriters, SameReaders, SameRings, Joins, Kept, RingsHaveMet}
+use Rattle.flow_rings.specs.Rings.{kind_seen, sent_of, room_of, writes_of, received_of, coming_of, reads_of, capacity_of, ends_of, writer_at, reader_at, capacity_at, SameWriters, SameReaders, SameRings, Joins, Kept, RingsHaveMet}
 use Rattle.flow_rings.proofs.RingLines.{signals-append}
 
 prefix-refl : (xs ys : List Signal) → ys ≡ xs → IsPrefix xs ys
@@ -43,7 +43,7 @@ kept-messages a b e l = record { ends = l.ends; traffic = l.traffic; room = λ k
 
 pub kept-trans : (a b c : View) → Kept a b → Kept b c → Kept a c
 kept-trans a b c p q = record {
-  ends = record { writes = λ k. q.ends.writes k ∙ p.ends.writes k; reads = λ k. q.ends.reads k ∙ p.ends.reads k };
+  ends = record { kinds = λ k. q.ends.kinds k ∙ p.ends.kinds k; writes = λ k. q.ends.writes k ∙ p.ends.writes k; reads = λ k. q.ends.reads k ∙ p.ends.reads k };
   traffic = record { sent = λ k. q.traffic.sent k ∙ p.traffic.sent k; received = λ k. q.traffic.received k ∙ p.traffic.received k };
   coming = λ k. prefix-trans (a.coming k) (b.coming k) (c.coming k) (p.coming k) (q.coming k);
   room = λ k. (let x = p.room k in let y = q.room k in omega arith);
@@ -136,6 +136,12 @@ same-writes None (Some v) p = absurd p
 same-writes (Some w) None p = absurd p
 same-writes (Some w) (Some v) p = (refl, p.1)
 
+same-kind : (w v : Option EdgeWriter) → SameWriters w v → kind_seen v ≡ kind_seen w
+same-kind None None p = refl
+same-kind None (Some v) p = absurd p
+same-kind (Some w) None p = absurd p
+same-kind (Some w) (Some v) p = ap (λ of. of.0) p.0
+
 same-reads : (r v : Option EdgeReader) → SameReaders r v → reads_of v ≡ reads_of r
 same-reads None None p = refl
 same-reads None (Some v) p = absurd p
@@ -151,6 +157,7 @@ joins-seen a b e j =
 -- the same ends stay at their numbers, and their edges keep their capacities
 pub ends-kept : (a b : Rings) → SameRings a b → SameEnds (ends_of a) (ends_of b)
 ends-kept a b p = record {
+  kinds = λ k. at_line-end kind_seen b.writers.items k ∙ same-kind (writer_at a k) (writer_at b k) (p.writers k) ∙ sym (at_line-end kind_seen a.writers.items k);
   writes = λ k. at_line-end writes_of b.writers.items k ∙ (same-writes (writer_at a k) (writer_at b k) (p.writers k)).0 ∙ sym (at_line-end writes_of a.writers.items k);
   reads = λ k. at_line-end reads_of b.readers.items k ∙ same-reads (reader_at a k) (reader_at b k) (p.readers k) ∙ sym (at_line-end reads_of a.readers.items k);
 }

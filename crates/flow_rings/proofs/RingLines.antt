@@ -1,6 +1,6 @@
 -- One end of a share's rings, and the others.
 use Rattle.std.proofs.Common.{◌≡◌, ℕ, zero, suc, ◌+◌, ◌<◌, ◌≤◌, Bool, true, false, List, [], ◌∷◌, ◌++◌, length, refl, ap, sym, ◌∙◌, get_or, set, arith, append-nil}
-use Rattle.std.specs.Prelude.{Option, Some}
+use Rattle.std.specs.Prelude.{Option, Some, None}
 use mathlib.Core.List.{IsPrefix}
 use Rattle.flow_messages.specs.declared.message.Msg.{Msg}
 use Rattle.flow_messages.specs.Signals.{signals, signal_of}
@@ -11,8 +11,8 @@ use Rattle.flow_messages.proofs.Signals.{signals-nil, signals-cons, signals-snoc
 use Rattle.flow_messages.proofs.Tables.{at_line-here, at_line-same, at_line-other, at_line-kept}
 use Rattle.flow_rings.specs.declared.ring.EdgeWriter.{EdgeWriter}
 use Rattle.flow_rings.specs.declared.ring.EdgeReader.{EdgeReader}
-use Rattle.flow_rings.specs.Edge.{sent, received, certain_room, certain_held}
-use Rattle.flow_rings.specs.Rings.{sent_of, room_of, writes_of, received_of, coming_of, reads_of, view_of_rings}
+use Rattle.flow_rings.specs.Edge.{sent, received, certain_room, certain_held, kind_of, SameWriter}
+use Rattle.flow_rings.specs.Rings.{kind_seen, sent_of, room_of, writes_of, received_of, coming_of, reads_of, view_of_rings}
 
 pub signals-append : (ms ns : List Msg) → signals (ms ++ ns) ≡ signals ms ++ signals ns
 unfolding signals
@@ -23,7 +23,7 @@ signals-append (m ∷ ms) ns = ap (λ l. signal_of m ∷ l) (signals-append ms n
 pub signals-prefix : (ms ns : List Msg) → IsPrefix ms ns → IsPrefix (signals ms) (signals ns)
 signals-prefix ms ns p = (signals p.0, sym (signals-append ms p.0) ∙ ap signals p.1)
 
-module _ (ws : List (Option EdgeWriter)) (rs : List (Option EdgeReader)) (e : ℕ) (old : Option EdgeWriter) (w v : EdgeWriter) (h : e < length ws) (is : old ≡ get_or ws e old) (was : old ≡ Some w) where
+module _ (ws : List (Option EdgeWriter)) (rs : List (Option EdgeReader)) (e : ℕ) (old : Option EdgeWriter) (w v : EdgeWriter) (h : e < length ws) (is : old ≡ get_or ws e old) (was : old ≡ Some w) (alike : SameWriter w v) where
   abbrev before : View
   before = view_of_rings ws rs
 
@@ -31,10 +31,13 @@ module _ (ws : List (Option EdgeWriter)) (rs : List (Option EdgeReader)) (e : �
   after = view_of_rings (set ws e (Some v)) rs
 
   writer_ends : SameEnds before after
-  writer_ends = record { writes = at_line-kept writes_of ws e false old (Some v) h is (sym (ap writes_of was)); reads = λ k. refl }
+  writer_ends = record { kinds = at_line-kept kind_seen ws e None old (Some v) h is (ap (λ of. of.0) alike.0 ∙ sym (ap kind_seen was)); writes = at_line-kept writes_of ws e false old (Some v) h is (sym (ap writes_of was)); reads = λ k. refl }
 
   pub writer-room : after.room e ≡ certain_room v
   writer-room = at_line-same room_of ws e 0 (Some v) h
+
+  pub had_kind : before.kind e ≡ kind_of w
+  had_kind = at_line-here kind_seen ws e None old h is ∙ ap kind_seen was
 
   pub had_room : before.room e ≡ certain_room w
   had_room = at_line-here room_of ws e 0 old h is ∙ ap room_of was
@@ -71,7 +74,7 @@ module _ (ws : List (Option EdgeWriter)) (rs : List (Option EdgeReader)) (e : �
   till = view_of_rings ws (set rs e (Some v))
 
   reader_ends : SameEnds from till
-  reader_ends = record { reads = at_line-kept reads_of rs e false old (Some v) h is (sym (ap reads_of was)); writes = λ k. refl }
+  reader_ends = record { kinds = λ k. refl; reads = at_line-kept reads_of rs e false old (Some v) h is (sym (ap reads_of was)); writes = λ k. refl }
 
   now_coming : till.coming e ≡ signals (certain_held v)
   now_coming = at_line-same coming_of rs e [] (Some v) h

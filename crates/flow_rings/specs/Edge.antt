@@ -1,5 +1,5 @@
 -- What a contract sees of the two ends of an edge.
-use Rattle.std.specs.Prelude.{ℕ, Bool, true, false, List, Option, Some, None}
+use Rattle.std.specs.Prelude.{ℕ, List, Option, Some, None}
 use Rattle.flow_messages.specs.declared.message.Kind.{Kind}
 use Rattle.flow_messages.specs.declared.message.Msg.{Msg}
 use Rattle.flow_rings.specs.declared.ring.EdgeWriter.{EdgeWriter}
@@ -34,16 +34,6 @@ kind_of w = ring.writer_kind w.ring
 -- the kind of the items that this reader takes, or none where they may be of any
 abbrev pub reader_kind : EdgeReader → Option Kind
 reader_kind r = ring.reader_kind r.ring
-
--- whether it is no kind
-abbrev pub is_any : Option Kind → Bool
-is_any None = true
-is_any (Some k) = false
-
--- whether the writer, where it is there, may put items of every kind
-abbrev pub puts_all : Option EdgeWriter → Bool
-puts_all None = true
-puts_all (Some w) = is_any (kind_of w)
 
 -- the two are the ends of one edge
 abbrev pub IsEdge : EdgeWriter → EdgeReader → Type 0

@@ -7,6 +7,7 @@ use Rattle.flow_messages.specs.declared.message.Msg.TheVariants.{Item as ItemMsg
 use Rattle.flow_messages.specs.declared.message.Item.TheVariants.{Unit as UnitItem, Bool as BoolItem, Int as IntItem}
 use Rattle.flow_messages.specs.Cells.{unit, flag, int, datum, is_of}
 use Rattle.flow_messages.specs.Signals.{Signal, carry, stop, signal_of, signals, ended}
+use Rattle.flow_messages.specs.Kinds.{fits}
 use Rattle.flow_rings.specs.declared.flat.Flat.{Flat}
 use Rattle.flow_rings.specs.declared.flat.Flat.TheVariants.{Unit as UnitFlat, Bool as BoolFlat, Int as IntFlat, End as EndFlat}
 
@@ -28,16 +29,6 @@ is_scalar (carry unit) = true
 is_scalar (carry (flag b)) = true
 is_scalar (carry (int n)) = true
 is_scalar stop = true
-
--- whether it is an item of the kind, or the end of the stream
-abbrev pub fits : Kind → Signal → Bool
-fits k (carry c) = is_of k c
-fits k stop = true
-
--- an edge of this kind takes it, and an edge of no kind takes everything
-abbrev pub FitsEdge : Option Kind → Signal → Type 0
-FitsEdge None s = ⊤
-FitsEdge (Some k) s = fits k s ≡ true
 
 -- on an edge of the kind x may follow these: none of them is an end, and x fits
 abbrev pub MayFollow : Kind → List Flat → Flat → Type 0

@@ -8,7 +8,8 @@ use Rattle.flow_rings.specs.declared.ring.EdgeWriter.{EdgeWriter}
 use Rattle.flow_rings.specs.declared.ring.EdgeReader.{EdgeReader}
 use Rattle.flow_rings.specs.declared.ring.Held.{Held}
 use Rattle.flow_rings.specs.declared.rings.Rings.{Rings}
-use Rattle.flow_rings.specs.Edge.{sent, received, certain_room, certain_held, edge_capacity, SameWriter, SameReader, IsEdge}
+use Rattle.flow_messages.specs.declared.message.Kind.{Kind}
+use Rattle.flow_rings.specs.Edge.{kind_of, sent, received, certain_room, certain_held, edge_capacity, SameWriter, SameReader, IsEdge}
 
 -- what was put, where the writer is there
 abbrev pub sent_of : Option EdgeWriter → List Signal
@@ -24,6 +25,11 @@ room_of (Some w) = certain_room w
 abbrev pub writes_of : Option EdgeWriter → Bool
 writes_of None = false
 writes_of (Some w) = true
+
+-- the kind of the items that the writer may put, or none where each may be put
+abbrev pub kind_seen : Option EdgeWriter → Option Kind
+kind_seen None = None
+kind_seen (Some w) = kind_of w
 
 -- how many messages the writer's edge holds at most
 abbrev pub capacity_of : Option EdgeWriter → ℕ
@@ -52,6 +58,7 @@ view_of_rings ws rs = record {
   received = λ e. at_line received_of rs e [];
   coming = λ e. at_line coming_of rs e [];
   room = λ e. at_line room_of ws e 0;
+  kind = λ e. at_line kind_seen ws e None;
   writes = λ e. at_line writes_of ws e false;
   reads = λ e. at_line reads_of rs e false;
 }

@@ -6,7 +6,8 @@ ghost use Rattle.arrayvec.specs.ArrayVec.{array_vec_len};
 ghost use Rattle.rtrb.specs.Ring as port;
 ghost use Rattle.rtrb.specs.Fifo.{Allowed};
 ghost use Rattle.flow_messages.specs.Signals.{signals, signal_of, ended, orderly};
-ghost use Rattle.flow_rings.specs.Flats.{message_of, messages_of, flats_appended, FitsEdge};
+ghost use Rattle.flow_rings.specs.Flats.{message_of, messages_of, flats_appended};
+ghost use Rattle.flow_messages.specs.Kinds.{FitsEdge};
 ghost use Rattle.flow_rings.specs.Ring.{sent, received, known_free, known_items, all_sent, reader_kind, SameProducer, SameConsumer, IsPair, IsFinishedOf};
 ghost use Rattle.flow_rings.specs.declared.flat.Flat.{Flat as Scalar};
 

@@ -1,6 +1,5 @@
 // What is called at the ring ends that a share of a network owns.
 ghost use Rattle.std.specs.Prelude.{◌≡◌, ◌<◌, ℕ, Some, None, length, slice_set, IfOk};
-ghost use Rattle.flow_rings.specs.Edge.{kind_of};
 ghost use Rattle.flow_rings.specs.Rings.{ends_of, writer_at, reader_at, SameRings, Joins, Kept, RingsHaveMet};
 
 use crate::making::meet;
@@ -122,7 +121,6 @@ impl Rings {
     pub fn put_writer(&mut self, edge: usize, writer: EdgeWriter)
         requires there { edge < length self.old.writers.items }
         requires free { writer_at self.old edge ≡ None }
-        requires any { kind_of writer ≡ None }
         ensures put { self.new.writers.items ≡ slice_set self.old.writers.items edge (Some writer) }
         ensures readers { self.new.readers.items ≡ self.old.readers.items }
     {

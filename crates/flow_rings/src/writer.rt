@@ -4,7 +4,8 @@ ghost use Rattle.std.specs.List.{All};
 ghost use Rattle.flow_messages.specs.Signals.{signals, signal_of, ended, orderly};
 ghost use Rattle.flow_messages.specs.declared.ends.Why.TheVariants.{Full, Closed};
 ghost use Rattle.flow_rings.specs.Edge.{sent, certain_room, kind_of, SameWriter, Finishes};
-ghost use Rattle.flow_rings.specs.Flats.{message_of, messages_of, FitsEdge};
+ghost use Rattle.flow_rings.specs.Flats.{message_of, messages_of};
+ghost use Rattle.flow_messages.specs.Kinds.{FitsEdge};
 
 use crate::flat::{Block, Flat};
 use crate::ring::{EdgeWriter, FinishedMark};

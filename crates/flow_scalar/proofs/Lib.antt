@@ -1,6 +1,7 @@
 pub mod BinaryBlocks
 pub mod ConstBlocks
 pub mod ForkBlocks
+pub mod ForkKinds
 pub mod IotaBlocks
 pub mod Leading
 pub mod Sending
@@ -8,3 +9,4 @@ pub mod SinkBlocks
 pub mod UnaryBlocks
 pub mod UnitsOfBlocks
 pub mod ValueBlocks
+pub mod ValueTypes

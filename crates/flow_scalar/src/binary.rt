@@ -3,8 +3,9 @@
 ghost use Rattle.std.specs.Prelude.{◌≡◌, ◌≢◌, ◌*ℤ◌, ℕ, ◌≤◌, length, Ok, IfSome};
 ghost use Rattle.flow_base.specs.Machines.{Leads};
 ghost use Rattle.flow_base.specs.Nodes.{behaviour_of, node_state};
-ghost use Rattle.flow_base.specs.Visits.{edge_of, IsWired, Went};
+ghost use Rattle.flow_base.specs.Visits.{edge_of, IsWired, TakeKinds, Went};
 ghost use Rattle.flow_base.specs.declared.node.Phase.TheVariants.{Working};
+ghost use Rattle.flow_messages.specs.declared.message.Kind.TheVariants.{Bool as BoolKind, Int as IntKind};
 ghost use Rattle.flow_messages.specs.Ends.{SameEnds};
 ghost use Rattle.flow_messages.specs.Signals.{signal_of};
 ghost use Rattle.snesl_operators.specs.Operators.{binary_operand, binary_value};
@@ -259,6 +260,7 @@ impl Binary {
         requires start { self.now.progress ≡ Start }
         requires apart { edge_of inputs.now 0 ≢ edge_of inputs.now 1 }
         requires wired { IsWired inputs.now outputs.now 2 1 (E.view ends.old) }
+        requires kinds { TakeKinds outputs.now (λ _. IntKind) (E.view ends.old) }
         ensures same { E.same ends.old ends.new }
         ensures ends { SameEnds (E.view ends.old) (E.view ends.new) }
         ensures within { result ≤ most }
@@ -299,6 +301,7 @@ impl Binary {
         requires start { self.now.progress ≡ Start }
         requires apart { edge_of inputs.now 0 ≢ edge_of inputs.now 1 }
         requires wired { IsWired inputs.now outputs.now 2 1 (E.view ends.old) }
+        requires kinds { TakeKinds outputs.now (λ _. IntKind) (E.view ends.old) }
         ensures same { E.same ends.old ends.new }
         ensures ends { SameEnds (E.view ends.old) (E.view ends.new) }
         ensures within { result ≤ most }
@@ -321,6 +324,7 @@ impl Binary {
         requires start { self.now.progress ≡ Start }
         requires apart { edge_of inputs.now 0 ≢ edge_of inputs.now 1 }
         requires wired { IsWired inputs.now outputs.now 2 1 (E.view ends.old) }
+        requires kinds { TakeKinds outputs.now (λ _. IntKind) (E.view ends.old) }
         ensures same { E.same ends.old ends.new }
         ensures ends { SameEnds (E.view ends.old) (E.view ends.new) }
         ensures within { result ≤ most }
@@ -343,6 +347,7 @@ impl Binary {
         requires start { self.now.progress ≡ Start }
         requires apart { edge_of inputs.now 0 ≢ edge_of inputs.now 1 }
         requires wired { IsWired inputs.now outputs.now 2 1 (E.view ends.old) }
+        requires kinds { TakeKinds outputs.now (λ _. BoolKind) (E.view ends.old) }
         ensures same { E.same ends.old ends.new }
         ensures ends { SameEnds (E.view ends.old) (E.view ends.new) }
         ensures within { result ≤ most }

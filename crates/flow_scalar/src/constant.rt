@@ -2,7 +2,9 @@
 
 ghost use Rattle.std.specs.Prelude.{◌≡◌, ◌≤◌, true, false, length, replicate};
 ghost use Rattle.flow_messages.specs.Cells.{unit};
+ghost use Rattle.flow_messages.specs.declared.message.Kind.TheVariants.{Bool as BoolKind, Int as IntKind};
 ghost use Rattle.flow_messages.specs.Ends.{SameEnds};
+ghost use Rattle.flow_messages.specs.Kinds.{TakesKind};
 ghost use Rattle.flow_messages.specs.Signals.{carry, signal_of};
 ghost use Rattle.flow_scalar.specs.ConstCopies.{WrittenFor};
 
@@ -46,6 +48,7 @@ fn ints_for_units<E: Ends>(
     requires copies { copies.now ≡ replicate (length copies.now) number }
     requires reads { (E.view ends.old).reads from ≡ true }
     requires writes { (E.view ends.old).writes to ≡ true }
+    requires kind { TakesKind ((E.view ends.old).kind to) IntKind }
     ensures same { E.same ends.old ends.new }
     ensures ends { SameEnds (E.view ends.old) (E.view ends.new) }
     ensures within { result ≤ most }
@@ -74,6 +77,7 @@ fn ints_for_units<E: Ends>(
 fn flags_for_units<E: Ends>(ends: &mut E, from: usize, to: usize, truth: bool, most: usize) -> usize
     requires reads { (E.view ends.old).reads from ≡ true }
     requires writes { (E.view ends.old).writes to ≡ true }
+    requires kind { TakesKind ((E.view ends.old).kind to) BoolKind }
     ensures same { E.same ends.old ends.new }
     ensures ends { SameEnds (E.view ends.old) (E.view ends.new) }
     ensures within { result ≤ most }

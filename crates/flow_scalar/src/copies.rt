@@ -2,9 +2,10 @@
 
 ghost use Rattle.std.specs.Prelude.{◌≡◌, ◌+◌, ◌<◌, ◌≤◌, ℕ, true, length};
 ghost use Rattle.std.specs.List.{All};
+ghost use Rattle.flow_messages.specs.declared.message.Kind.TheVariants.{Unit as UnitKind, Bool as BoolKind, Int as IntKind};
 ghost use Rattle.flow_messages.specs.Ends.{SameEnds};
 ghost use Rattle.flow_messages.specs.Blocks.{unit_signals, flag_signals, int_signals};
-ghost use Rattle.flow_base.specs.Visits.{edge_of};
+ghost use Rattle.flow_base.specs.Visits.{edge_of, TakeKinds};
 ghost use Rattle.flow_scalar.specs.ForkCopies.{PutOnEach, CopiedOn};
 
 use flow_messages::{Ends, Kind};
@@ -13,6 +14,7 @@ use flow_messages::{Ends, Kind};
 #[inline(always)]
 fn put_units_on_each<E: Ends>(ends: &mut E, outputs: &[usize], count: usize)
     requires writes { All (λ e. (E.view ends.old).writes e ≡ true) outputs.now }
+    requires kinds { TakeKinds outputs.now (λ _. UnitKind) (E.view ends.old) }
     requires rise { (p q : ℕ) → p < q → q < length outputs.now →
         edge_of outputs.now p < edge_of outputs.now q }
     requires room { (q : ℕ) → q < length outputs.now →
@@ -30,6 +32,7 @@ fn put_units_on_each<E: Ends>(ends: &mut E, outputs: &[usize], count: usize)
 #[inline(always)]
 fn put_flags_on_each<E: Ends>(ends: &mut E, outputs: &[usize], flags: &[bool])
     requires writes { All (λ e. (E.view ends.old).writes e ≡ true) outputs.now }
+    requires kinds { TakeKinds outputs.now (λ _. BoolKind) (E.view ends.old) }
     requires rise { (p q : ℕ) → p < q → q < length outputs.now →
         edge_of outputs.now p < edge_of outputs.now q }
     requires room { (q : ℕ) → q < length outputs.now →
@@ -47,6 +50,7 @@ fn put_flags_on_each<E: Ends>(ends: &mut E, outputs: &[usize], flags: &[bool])
 #[inline(always)]
 fn put_ints_on_each<E: Ends>(ends: &mut E, outputs: &[usize], ints: &[i64])
     requires writes { All (λ e. (E.view ends.old).writes e ≡ true) outputs.now }
+    requires kinds { TakeKinds outputs.now (λ _. IntKind) (E.view ends.old) }
     requires rise { (p q : ℕ) → p < q → q < length outputs.now →
         edge_of outputs.now p < edge_of outputs.now q }
     requires room { (q : ℕ) → q < length outputs.now →
@@ -65,6 +69,7 @@ fn put_ints_on_each<E: Ends>(ends: &mut E, outputs: &[usize], ints: &[i64])
 fn units_to_each<E: Ends>(ends: &mut E, from: usize, outputs: &[usize], most: usize) -> usize
     requires reads { (E.view ends.old).reads from ≡ true }
     requires writes { All (λ e. (E.view ends.old).writes e ≡ true) outputs.now }
+    requires kinds { TakeKinds outputs.now (λ _. UnitKind) (E.view ends.old) }
     requires rise { (p q : ℕ) → p < q → q < length outputs.now →
         edge_of outputs.now p < edge_of outputs.now q }
     requires room { (q : ℕ) → q < length outputs.now →
@@ -98,6 +103,7 @@ fn flags_to_each<E: Ends>(
 ) -> usize
     requires reads { (E.view ends.old).reads from ≡ true }
     requires writes { All (λ e. (E.view ends.old).writes e ≡ true) outputs.now }
+    requires kinds { TakeKinds outputs.now (λ _. BoolKind) (E.view ends.old) }
     requires rise { (p q : ℕ) → p < q → q < length outputs.now →
         edge_of outputs.now p < edge_of outputs.now q }
     requires room { (q : ℕ) → q < length outputs.now →
@@ -133,6 +139,7 @@ fn ints_to_each<E: Ends>(
 ) -> usize
     requires reads { (E.view ends.old).reads from ≡ true }
     requires writes { All (λ e. (E.view ends.old).writes e ≡ true) outputs.now }
+    requires kinds { TakeKinds outputs.now (λ _. IntKind) (E.view ends.old) }
     requires rise { (p q : ℕ) → p < q → q < length outputs.now →
         edge_of outputs.now p < edge_of outputs.now q }
     requires room { (q : ℕ) → q < length outputs.now →
@@ -171,6 +178,7 @@ pub fn block_to_each<E: Ends>(
 ) -> usize
     requires reads { (E.view ends.old).reads from ≡ true }
     requires writes { All (λ e. (E.view ends.old).writes e ≡ true) outputs.now }
+    requires kinds { TakeKinds outputs.now (λ _. kind) (E.view ends.old) }
     requires rise { (p q : ℕ) → p < q → q < length outputs.now →
         edge_of outputs.now p < edge_of outputs.now q }
     requires room { (q : ℕ) → q < length outputs.now →

@@ -5,10 +5,11 @@ ghost use mathlib.Core.List.{IsPrefix};
 ghost use Rattle.std.specs.List.{All};
 ghost use Rattle.flow_messages.specs.Cells.{cell_of, is_of};
 ghost use Rattle.flow_messages.specs.Ends.{View, SameEnds};
+ghost use Rattle.flow_messages.specs.Kinds.{FitsEdge};
 ghost use Rattle.flow_messages.specs.Signals.{carry, signal_of};
 ghost use Rattle.flow_base.specs.Machines.{Leads, on_kind};
 ghost use Rattle.flow_base.specs.Nodes.{NodeState, behaviour_of, node_state};
-ghost use Rattle.flow_base.specs.Visits.{edge_of, IsWired, Went, Wrote};
+ghost use Rattle.flow_base.specs.Visits.{edge_of, IsWired, TakeKinds, Went, Wrote};
 ghost use Rattle.flow_base.specs.declared.node.Phase.TheVariants.{Working};
 ghost use Rattle.flow_scalar.specs.ForkMachine.{ForkPorts, ForkState, fork_ports, fork_machine, idle, holding};
 
@@ -58,6 +59,7 @@ impl Fork {
     fn item_at(&self, message: &Msg) -> Option<Item>
         requires scalar { self.now.kind ≢ Kind.Vec }
         ensures scalar { IfSome result (λ x. is_of Kind.Vec (cell_of x) ≡ false) }
+        ensures kind { IfSome result (λ x. is_of self.now.kind (cell_of x) ≡ true) }
         ensures leads { IfSome result (λ x. (others : ℕ) →
             Leads (on_kind self.now.kind (λ y. Ok (holding y others))) (signal_of message.now)
             (holding (cell_of x) others)) }
@@ -79,10 +81,12 @@ impl Fork {
     fn give_on<E: Ends>(&mut self, outputs: &[usize], ends: &mut E, most: usize) -> usize
         requires outputs { self.old.outputs ≡ length outputs.now }
         requires writes { All (λ e. (E.view ends.old).writes e ≡ true) outputs.now }
+        requires kinds { TakeKinds outputs.now (λ _. self.old.kind) (E.view ends.old) }
         ensures same { E.same ends.old ends.new }
         ensures ends { SameEnds (E.view ends.old) (E.view ends.new) }
         ensures within { result ≤ most }
         ensures ports { self.new.outputs ≡ self.old.outputs }
+        ensures kind { self.new.kind ≡ self.old.kind }
         ensures went { (inputs : List ℕ) → (at : ℕ) →
             Went inputs outputs.now (behaviour_of fork_machine)
             (node_state (⟦<Fork as Worker>⟧.state self.old) Working at) (E.view ends.old)
@@ -93,6 +97,10 @@ impl Fork {
             None | Some(Item::Vec(_)) => return 0,
             Some(item) => copy_of(item),
         };
+        // An item of another kind is left to single steps; it holds none.
+        if !self.kind.fits(&item) {
+            return 0;
+        }
         for made in 0..most {
             let edge = outputs[self.next];
             if ends.space(edge) == 0 {
@@ -123,6 +131,7 @@ impl Fork {
         ensures ends { SameEnds (E.view ends.old) (E.view ends.new) }
         ensures within { result ≤ most }
         ensures ports { self.new.outputs ≡ self.old.outputs }
+        ensures kind { self.new.kind ≡ self.old.kind }
         ensures went { (at : ℕ) → Went inputs.now outputs.now (behaviour_of fork_machine)
             (node_state (⟦<Fork as Worker>⟧.state self.old) Working at) (E.view ends.old)
             (node_state (⟦<Fork as Worker>⟧.state self.new) Working at) (E.view ends.new)
@@ -152,6 +161,7 @@ impl Fork {
         requires outputs { self.old.outputs ≡ length outputs.now }
         requires wired { IsWired inputs.now outputs.now 1 (length outputs.now)
             (E.view ends.old) }
+        requires kinds { TakeKinds outputs.now (λ _. self.old.kind) (E.view ends.old) }
         ensures same { E.same ends.old ends.new }
         ensures ends { SameEnds (E.view ends.old) (E.view ends.new) }
         ensures within { result ≤ most }
@@ -190,6 +200,7 @@ impl Fork {
             length outputs.now }
         requires wired { IsWired inputs.now outputs.now 1 (length outputs.now)
             (E.view ends.old) }
+        requires kinds { TakeKinds outputs.now (λ _. self.now.kind) (E.view ends.old) }
         requires rise { (p q : ℕ) → p < q → q < length outputs.now →
             edge_of outputs.now p < edge_of outputs.now q }
         requires room { (q : ℕ) → q < length outputs.now →
@@ -232,6 +243,7 @@ impl Fork {
             length outputs.now }
         requires wired { IsWired inputs.now outputs.now 1 (length outputs.now)
             (E.view ends.old) }
+        requires kinds { TakeKinds outputs.now (λ _. self.now.kind) (E.view ends.old) }
         ensures same { E.same ends.old ends.new }
         ensures ends { SameEnds (E.view ends.old) (E.view ends.new) }
         ensures within { result ≤ most }
@@ -268,6 +280,7 @@ impl Fork {
             length outputs.now }
         requires wired { IsWired inputs.now outputs.now 1 (length outputs.now)
             (E.view ends.old) }
+        requires kinds { TakeKinds outputs.now (λ _. self.now.kind) (E.view ends.old) }
         ensures same { E.same ends.old ends.new }
         ensures ends { SameEnds (E.view ends.old) (E.view ends.new) }
         ensures within { result ≤ most }
@@ -301,6 +314,7 @@ impl Fork {
             length outputs.now }
         requires wired { IsWired inputs.now outputs.now 1 (length outputs.now)
             (E.view ends.old) }
+        requires kinds { TakeKinds outputs.now (λ _. self.now.kind) (E.view ends.old) }
         ensures same { E.same ends.old ends.new }
         ensures ends { SameEnds (E.view ends.old) (E.view ends.new) }
         ensures within { result ≤ most }
@@ -333,6 +347,7 @@ impl Fork {
             length outputs.now }
         requires wired { IsWired inputs.now outputs.now 1 (length outputs.now)
             (E.view ends.old) }
+        requires kinds { TakeKinds outputs.now (λ _. self.now.kind) (E.view ends.old) }
         ensures same { E.same ends.old ends.new }
         ensures ends { SameEnds (E.view ends.old) (E.view ends.new) }
         ensures within { result ≤ most }
@@ -366,6 +381,7 @@ impl Fork {
             length outputs.now }
         requires wired { IsWired inputs.now outputs.now 1 (length outputs.now)
             (E.view ends.old) }
+        requires kinds { TakeKinds outputs.now (λ _. self.now.kind) (E.view ends.old) }
         ensures same { E.same ends.old ends.new }
         ensures ends { SameEnds (E.view ends.old) (E.view ends.new) }
         ensures within { result ≤ most }
@@ -450,6 +466,7 @@ fn copy_of(item: &Item) -> Item
 fn put_copy<E: Ends>(ends: &mut E, edge: usize, item: &Item)
     requires scalar { is_of Kind.Vec (cell_of item.now) ≡ false }
     requires writes { (E.view ends.old).writes edge ≡ true }
+    requires fits { FitsEdge ((E.view ends.old).kind edge) (carry (cell_of item.now)) }
     requires certain { 0 < (E.view ends.old).room edge }
     ensures same { E.same ends.old ends.new }
     ensures wrote { Wrote (E.view ends.old) edge (carry (cell_of item.now)) (E.view ends.new) }
@@ -470,6 +487,8 @@ fn put_copy<E: Ends>(ends: &mut E, edge: usize, item: &Item)
 fn put_on_each<E: Ends>(ends: &mut E, outputs: &[usize], item: &Item)
     requires scalar { is_of Kind.Vec (cell_of item.now) ≡ false }
     requires writes { All (λ e. (E.view ends.old).writes e ≡ true) outputs.now }
+    requires fits { (q : ℕ) → q < length outputs.now →
+        FitsEdge ((E.view ends.old).kind (edge_of outputs.now q)) (carry (cell_of item.now)) }
     requires rise { (p q : ℕ) → p < q → q < length outputs.now →
         edge_of outputs.now p < edge_of outputs.now q }
     requires room { (q : ℕ) → q < length outputs.now →

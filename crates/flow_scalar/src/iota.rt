@@ -7,9 +7,9 @@ ghost use Rattle.flow_messages.specs.Cells.{int};
 ghost use Rattle.flow_messages.specs.Ends.{SameEnds};
 ghost use Rattle.flow_messages.specs.Signals.{carry, signal_of};
 ghost use Rattle.flow_base.specs.Nodes.{behaviour_of, node_state};
-ghost use Rattle.flow_base.specs.Visits.{edge_of, IsWired, Went};
+ghost use Rattle.flow_base.specs.Visits.{edge_of, IsWired, TakeKinds, Went};
 ghost use Rattle.flow_base.specs.declared.node.Phase.TheVariants.{Working};
-ghost use Rattle.flow_scalar.specs.IotaMachine.{number_after, iota_machine, iota_view};
+ghost use Rattle.flow_scalar.specs.IotaMachine.{number_after, iota_kind_out, iota_machine, iota_view};
 ghost use Rattle.flow_scalar.specs.declared.iota.Iota.TheVariants.{Flag};
 
 use flow_base::{Ask, BLOCK, SHORT_BLOCK, Stop, Worker, put_in_space, take_front};
@@ -98,6 +98,7 @@ fn put_numbers<E: Ends>(
     requires two { length outputs.now ≡ 2 }
     requires apart { edge_of outputs.now 0 ≢ edge_of outputs.now 1 }
     requires writes { All (λ e. (E.view ends.old).writes e ≡ true) outputs.now }
+    requires kinds { TakeKinds outputs.now iota_kind_out (E.view ends.old) }
     ensures same { E.same ends.old ends.new }
     ensures ends { SameEnds (E.view ends.old) (E.view ends.new) }
     ensures within { 2 * result ≤ most }
@@ -134,6 +135,7 @@ fn next_segment<E: Ends>(
     ends: &mut E,
 ) -> Option<i128>
     requires wired { IsWired inputs.now outputs.now 1 2 (E.view ends.old) }
+    requires kinds { TakeKinds outputs.now iota_kind_out (E.view ends.old) }
     requires at_end { end ≤ℤ next }
     ensures same { E.same ends.old ends.new }
     ensures ends { SameEnds (E.view ends.old) (E.view ends.new) }
@@ -186,6 +188,7 @@ impl Iota {
     ) -> usize
         requires apart { edge_of outputs.now 0 ≢ edge_of outputs.now 1 }
         requires wired { IsWired inputs.now outputs.now 1 2 (E.view ends.old) }
+        requires kinds { TakeKinds outputs.now iota_kind_out (E.view ends.old) }
         ensures same { E.same ends.old ends.new }
         ensures ends { SameEnds (E.view ends.old) (E.view ends.new) }
         ensures within { result ≤ most }
@@ -232,6 +235,7 @@ impl Iota {
     ) -> usize
         requires apart { edge_of outputs.now 0 ≢ edge_of outputs.now 1 }
         requires wired { IsWired inputs.now outputs.now 1 2 (E.view ends.old) }
+        requires kinds { TakeKinds outputs.now iota_kind_out (E.view ends.old) }
         ensures same { E.same ends.old ends.new }
         ensures ends { SameEnds (E.view ends.old) (E.view ends.new) }
         ensures within { result ≤ most }
@@ -253,6 +257,7 @@ impl Iota {
     ) -> usize
         requires apart { edge_of outputs.now 0 ≢ edge_of outputs.now 1 }
         requires wired { IsWired inputs.now outputs.now 1 2 (E.view ends.old) }
+        requires kinds { TakeKinds outputs.now iota_kind_out (E.view ends.old) }
         ensures same { E.same ends.old ends.new }
         ensures ends { SameEnds (E.view ends.old) (E.view ends.new) }
         ensures within { result ≤ most }

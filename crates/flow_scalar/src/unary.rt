@@ -3,8 +3,9 @@
 ghost use Rattle.std.specs.Prelude.{◌≡◌, ℕ, ◌≤◌, length, Ok, Some, None, IfSome};
 ghost use Rattle.flow_base.specs.Machines.{Leads};
 ghost use Rattle.flow_base.specs.Nodes.{behaviour_of, node_state};
-ghost use Rattle.flow_base.specs.Visits.{IsWired, Went};
+ghost use Rattle.flow_base.specs.Visits.{IsWired, TakeKinds, Went};
 ghost use Rattle.flow_base.specs.declared.node.Phase.TheVariants.{Working};
+ghost use Rattle.flow_messages.specs.declared.message.Kind.TheVariants.{Bool as BoolKind, Int as IntKind};
 ghost use Rattle.flow_messages.specs.Ends.{SameEnds};
 ghost use Rattle.flow_messages.specs.Signals.{signal_of};
 ghost use Rattle.snesl_operators.specs.Operators.{unary_operand, unary_value};
@@ -121,6 +122,7 @@ impl Unary {
     ) -> usize
         requires start { self.now.value ≡ None }
         requires wired { IsWired inputs.now outputs.now 1 1 (E.view ends.old) }
+        requires kinds { TakeKinds outputs.now (λ _. IntKind) (E.view ends.old) }
         ensures same { E.same ends.old ends.new }
         ensures ends { SameEnds (E.view ends.old) (E.view ends.new) }
         ensures within { result ≤ most }
@@ -158,6 +160,7 @@ impl Unary {
     ) -> usize
         requires start { self.now.value ≡ None }
         requires wired { IsWired inputs.now outputs.now 1 1 (E.view ends.old) }
+        requires kinds { TakeKinds outputs.now (λ _. BoolKind) (E.view ends.old) }
         ensures same { E.same ends.old ends.new }
         ensures ends { SameEnds (E.view ends.old) (E.view ends.new) }
         ensures within { result ≤ most }

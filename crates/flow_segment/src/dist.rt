@@ -4,10 +4,11 @@ ghost use Rattle.std.specs.Prelude.{◌≡◌, ◌*◌, ◌<◌, ◌≤◌, ℕ,
 ghost use Rattle.std.specs.Int.{w64};
 ghost use Rattle.flow_messages.specs.Cells.{cell_of, int, is_of};
 ghost use Rattle.flow_messages.specs.Ends.{SameEnds, PutAll, TakenAll};
+ghost use Rattle.flow_messages.specs.Kinds.{FitsEdge, TakesKind};
 ghost use Rattle.flow_messages.specs.Signals.{carry};
 ghost use Rattle.flow_messages.specs.declared.message.Kind.TheVariants.{Vec as VecKind};
 ghost use Rattle.flow_base.specs.Nodes.{behaviour_of, node_state};
-ghost use Rattle.flow_base.specs.Visits.{IsWired, Went};
+ghost use Rattle.flow_base.specs.Visits.{edge_of, IsWired, Went};
 ghost use Rattle.flow_base.specs.declared.node.Phase.TheVariants.{Working};
 ghost use Rattle.flow_segment.specs.DistMachine.{dist_machine, dist_view};
 
@@ -77,16 +78,17 @@ fn ends_at(flags: &[bool], place: usize) -> bool
     place < flags.len() && flags[place]
 }
 
-// Whether copies of the item can be put in a block: it is no vector, and no integer of more than 64 bits.
+// Whether copies of the item can be put in a block: it is of this kind, no vector, and no integer of more than 64 bits.
 #[inline(always)]
-fn fits_a_block(item: &Item) -> bool
+fn fits_a_block(item: &Item, kind: Kind) -> bool
+    ensures kind { result ≡ true → is_of kind (cell_of item.now) ≡ true }
     ensures scalar { result ≡ true → is_of VecKind (cell_of item.now) ≡ false }
     ensures narrow { result ≡ true → (n : ℤ) → cell_of item.now ≡ int n → FitsSigned w64 n }
 {
-    match item {
-        Item::Int(value) => i64::try_from(*value).is_ok(),
-        Item::Unit | Item::Bool(_) => true,
-        Item::Vec(_) => false,
+    match (kind, item) {
+        (Kind::Int, Item::Int(value)) => i64::try_from(*value).is_ok(),
+        (Kind::Unit, Item::Unit) | (Kind::Bool, Item::Bool(_)) => true,
+        _ => false,
     }
 }
 
@@ -98,6 +100,7 @@ fn put_copies<E: Ends>(item: &Item, to: usize, count: usize, ends: &mut E, block
     requires block { count ≤ 64 }
     requires lent { count ≤ length block.old }
     requires writes { (E.view ends.old).writes to ≡ true }
+    requires kind { FitsEdge ((E.view ends.old).kind to) (carry (cell_of item.now)) }
     requires certain { count ≤ (E.view ends.old).room to }
     ensures same { E.same ends.old ends.new }
     ensures put { PutAll (E.view ends.old) to (replicate count (carry (cell_of item.now)))
@@ -181,6 +184,7 @@ impl Dist {
         requires idle { self.old.copies ≡ false }
         requires wired { IsWired inputs.now outputs.now 2 1 (E.view ends.old) }
         ensures idle { self.new.copies ≡ false }
+        ensures kind { self.new.kind ≡ self.old.kind }
         ensures same { E.same ends.old ends.new }
         ensures ends { SameEnds (E.view ends.old) (E.view ends.new) }
         ensures within { result ≤ 1 }
@@ -209,7 +213,9 @@ impl Dist {
         requires idle { self.old.copies ≡ false }
         requires some { 0 < most }
         requires wired { IsWired inputs.now outputs.now 2 1 (E.view ends.old) }
+        requires kind { TakesKind ((E.view ends.old).kind (edge_of outputs.now 0)) self.old.kind }
         ensures idle { self.new.copies ≡ false }
+        ensures kind { self.new.kind ≡ self.old.kind }
         ensures same { E.same ends.old ends.new }
         ensures ends { SameEnds (E.view ends.old) (E.view ends.new) }
         ensures within { result ≤ most }
@@ -222,7 +228,7 @@ impl Dist {
         };
         let (flags, to) = (inputs[1], outputs[0]);
         // Other copies are left to single steps.
-        if !fits_a_block(item) {
+        if !fits_a_block(item, self.kind) {
             return 0;
         }
         let room = ends.space(to).min(BLOCK).min(block.len()).min(most / 2);
@@ -255,6 +261,7 @@ impl Dist {
     ) -> usize
         requires idle { self.old.copies ≡ false }
         requires wired { IsWired inputs.now outputs.now 2 1 (E.view ends.old) }
+        requires kind { TakesKind ((E.view ends.old).kind (edge_of outputs.now 0)) self.old.kind }
         ensures same { E.same ends.old ends.new }
         ensures ends { SameEnds (E.view ends.old) (E.view ends.new) }
         ensures within { result ≤ most }
@@ -406,7 +413,7 @@ impl Worker for Dist {
                 made += 1;
                 continue;
             }
-            let Some(copy) = scalar_copy(held) else {
+            let Some(copy) = scalar_copy(held, self.kind) else {
                 return made;
             };
             take_front(ends, flags);

@@ -36,15 +36,16 @@ pub(crate) fn scalar_in_front<E: Ends>(ends: &E, edge: usize, kind: Kind) -> Opt
     }
 }
 
-// A copy of the item, where it is no vector.
+// A copy of the item, where it is of this kind and no vector.
 #[inline(always)]
-pub(crate) fn scalar_copy(item: &Item) -> Option<Item>
-    ensures { IfSome result (λ copy. cell_of copy ≡ cell_of item.now) }
+pub(crate) fn scalar_copy(item: &Item, kind: Kind) -> Option<Item>
+    ensures { IfSome result (λ copy. (cell_of copy ≡ cell_of item.now) ×
+        (is_of kind (cell_of copy) ≡ true)) }
 {
-    match item {
-        Item::Unit => Some(Item::Unit),
-        Item::Bool(truth) => Some(Item::Bool(*truth)),
-        Item::Int(number) => Some(Item::Int(*number)),
-        Item::Vec(_) => None,
+    match (kind, item) {
+        (Kind::Unit, Item::Unit) => Some(Item::Unit),
+        (Kind::Bool, Item::Bool(truth)) => Some(Item::Bool(*truth)),
+        (Kind::Int, Item::Int(number)) => Some(Item::Int(*number)),
+        _ => None,
     }
 }

@@ -5,9 +5,10 @@ ghost use mathlib.Core.List.{IsPrefix};
 ghost use Rattle.flow_messages.specs.Cells.{flag};
 ghost use Rattle.flow_messages.specs.Ends.{SameEnds};
 ghost use Rattle.flow_messages.specs.Signals.{Signal, carry};
+ghost use Rattle.flow_messages.specs.declared.message.Kind.TheVariants.{Bool as BoolKind};
 ghost use Rattle.flow_base.specs.Machines.{Leads, on_flag};
 ghost use Rattle.flow_base.specs.Nodes.{behaviour_of, node_state};
-ghost use Rattle.flow_base.specs.Visits.{edge_of, IsWired, Went};
+ghost use Rattle.flow_base.specs.Visits.{edge_of, IsWired, TakeKinds, Went};
 ghost use Rattle.flow_base.specs.declared.node.Phase.TheVariants.{Working};
 ghost use Rattle.flow_segment.specs.FlagTables.{over_flags, stage_view};
 ghost use Rattle.flow_segment.specs.FlagBlocks.{RunsOver};
@@ -84,6 +85,7 @@ impl<S: Stage> OverFlags<S> {
         requires apart { S.table.inputs ≡ 2 → edge_of inputs.now 0 ≢ edge_of inputs.now 1 }
         requires wired { IsWired inputs.now outputs.now S.table.inputs S.table.outputs
             (E.view ends.old) }
+        requires kinds { TakeKinds outputs.now (λ _. BoolKind) (E.view ends.old) }
         ensures same { E.same ends.old ends.new }
         ensures ends { SameEnds (E.view ends.old) (E.view ends.new) }
         ensures within { result ≤ most }

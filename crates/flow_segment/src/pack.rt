@@ -2,6 +2,7 @@
 
 ghost use Rattle.std.specs.Prelude.{◌≡◌, ◌≢◌, ◌≤◌, ℕ, length, take};
 ghost use Rattle.flow_messages.specs.Ends.{SameEnds};
+ghost use Rattle.flow_messages.specs.Kinds.{TakesKind};
 ghost use Rattle.flow_base.specs.Nodes.{behaviour_of, node_state};
 ghost use Rattle.flow_base.specs.Visits.{edge_of, IsWired, Went};
 ghost use Rattle.flow_base.specs.declared.node.Phase.TheVariants.{Working};
@@ -93,6 +94,7 @@ impl Pack {
         requires start { self.now.pair ≡ StartState }
         requires apart { edge_of inputs.now 0 ≢ edge_of inputs.now 1 }
         requires wired { IsWired inputs.now outputs.now 2 1 (E.view ends.old) }
+        requires kind { TakesKind ((E.view ends.old).kind (edge_of outputs.now 0)) self.now.kind }
         ensures same { E.same ends.old ends.new }
         ensures ends { SameEnds (E.view ends.old) (E.view ends.new) }
         ensures within { result ≤ most }
@@ -157,6 +159,7 @@ impl Pack {
         requires start { self.now.pair ≡ StartState }
         requires apart { edge_of inputs.now 0 ≢ edge_of inputs.now 1 }
         requires wired { IsWired inputs.now outputs.now 2 1 (E.view ends.old) }
+        requires kind { TakesKind ((E.view ends.old).kind (edge_of outputs.now 0)) self.now.kind }
         ensures same { E.same ends.old ends.new }
         ensures ends { SameEnds (E.view ends.old) (E.view ends.new) }
         ensures within { result ≤ most }

@@ -7,8 +7,10 @@ use Rattle.std.proofs.lemmas.List.Elements.{at_read}
 use Rattle.flow_messages.specs.Ends.{View, SameEnds}
 use Rattle.flow_base.specs.declared.transducer.Transducer.{Ghosts}
 use Rattle.flow_graph.specs.declared.placed.Placed.{Placed}
-use Rattle.flow_graph.specs.Places.{IsSamePlace}
+use Rattle.flow_graph.specs.Places.{IsSamePlace, placed_state}
 use Rattle.flow_graph.specs.Skeletons.{AreSamePlaces}
+use Rattle.flow_messages.proofs.Fitting.{takes_still}
+use Rattle.flow_base.specs.Visits.{edge_of, TakeKinds}
 use Rattle.flow_shares.specs.Shares.{StandOnce, inputs_of, outputs_of, HasItsEnds, AreApart}
 
 -- lists that f does not tell apart
@@ -72,4 +74,11 @@ module _ {X : Type 0} {t : Ghosts X} where
         record {
           reads = subst (All (λ e. v.reads e ≡ true)) (sym (same.each k d l').inputs) (λ p e m. ends.reads _ ∙ has.reads p e m);
           writes = subst (All (λ e. v.writes e ≡ true)) (sym (same.each k d l').outputs) (λ p e m. ends.writes _ ∙ has.writes p e m);
+          kinds =
+              let b = t.behaviour in
+              let one = get_or nodes k d in
+              let other = get_or later k d in
+              subst (λ os. TakeKinds os (b.kind_out (b.opening (placed_state other))) v) (sym (same.each k d l').outputs)
+              (subst (λ o. TakeKinds (outputs_of one) (b.kind_out o) v) (sym (same.each k d l').opening)
+              (λ q m. takes_still a v (edge_of (outputs_of one) q) (b.kind_out (b.opening (placed_state one)) q) ends (has.kinds q m)));
         }

@@ -7,7 +7,7 @@ use Rattle.kahn.specs.Basics.{Begins, total}
 use Rattle.kahn.specs.Processes.{Event, Does, reads, writes}
 use Rattle.flow_messages.specs.Signals.{Signal}
 use Rattle.flow_messages.specs.Ends.{View}
-use Rattle.flow_base.specs.Visits.{edge_of, IsNone, IsStuck}
+use Rattle.flow_base.specs.Visits.{TakeKinds, edge_of, IsNone, IsStuck}
 use Rattle.flow_base.specs.declared.transducer.Transducer.{Ghosts}
 use Rattle.flow_graph.specs.declared.placed.Placed.{Placed}
 use Rattle.flow_graph.specs.Over.{is_over}
@@ -38,10 +38,11 @@ module _ {X : Type 0} {t : Ghosts X} where
   abbrev pub outputs_of : Placed X t → List ℕ
   outputs_of placed = placed.outputs.items
 
-  -- The ends of the edges at its ports are there.
+  -- The ends of the edges at its ports are there, and its output edges take items of their ports' kinds.
   pub record HasItsEnds (view : View) (placed : Placed X t) : Type 0 where
     pub reads : All (λ e. view.reads e ≡ true) (inputs_of placed)
     pub writes : All (λ e. view.writes e ≡ true) (outputs_of placed)
+    pub kinds : TakeKinds (outputs_of placed) (t.behaviour.kind_out (t.behaviour.opening (placed_state placed))) view
 
   -- It came to where it stands by reads and writes that are just what its edges received and sent.
   pub record HasHistory (view : View) (placed : Placed X t) : Type 0 where

@@ -1,4 +1,7 @@
-use Rattle.std.proofs.Common.{◌≡◌, ◌<◌, sym, ◌∙◌}
+use Rattle.std.proofs.Common.{◌≡◌, ◌<◌, sym, ◌∙◌, subst}
+use Rattle.flow_messages.specs.Kinds.{FitsEdge}
+use Rattle.flow_messages.proofs.Fitting.{kind_fits, fits_still}
+use Rattle.flow_graph.specs.Edges.{out_edge}
 use Rattle.kahn.specs.declared.want.Want.TheVariants.{Read, Write}
 use Rattle.flow_messages.specs.Signals.{signal_of}
 use Rattle.flow_messages.specs.Ends.{Taken}
@@ -34,6 +37,21 @@ returns-in_ok-give-in-Read-clause-turn g c =
       others = same_but b laws states states' c.give.ensures.openings c.args.node (b.process.read s message) given;
       step = moves_read b (edges_of c.args.graph.now) c.args.node s s' before after c.in-Read.port edge message wants c.wanted_input-edge.ensures.edge taken read;
     }
+
+pub put-requires-clause-fits : goal.put-requires-clause-fits
+put-requires-clause-fits g c =
+    let b = g.T.Transducer.behaviour in
+    let states = states_of c.args.graph.now in
+    let k = c.args.node in
+    let before = g.E.Ends.view c.args.ends.now in
+    let seen = g.E.Ends.view c.room.new.self in
+    let q = c.in-Write.port in
+    let edge = c.wanted_output-edge in
+    let out = out_edge (edges_of c.args.graph.now) k q in
+    let message = c.in_ok-message-in-Write.message in
+    let takes = kind_fits (before.kind out) (b.kind_out (state_at b states k) q) (b.process.written (state_at b states k)) (c.requires.kinds q edge.ensures.port) edge.ensures.fits in
+    let here = subst (λ e. FitsEdge (before.kind e) (b.process.written (state_at b states k))) (sym edge.ensures.edge) takes in
+    subst (FitsEdge (seen.kind edge.result)) (sym c.in_ok-message-in-Write.ensures.message) (fits_still before seen edge.result (b.process.written (state_at b states k)) c.room.ensures.looked.ends here)
 
 pub returns-in_ok-message-in-Write-clause-shape : goal.returns-in_ok-message-in-Write-clause-shape
 returns-in_ok-message-in-Write-clause-shape g c =

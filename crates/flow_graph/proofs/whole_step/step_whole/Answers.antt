@@ -1,7 +1,12 @@
 use Rattle.std.proofs.Common.{subst}
 use Rattle.flow_messages.specs.Whole.{IsWhole}
+use Rattle.flow_graph.specs.Graphs.{states_of, edges_of}
+use Rattle.flow_graph.proofs.NodeEnds.{any_takes}
 use Rattle.flow_graph.proofs.Turns.{turns_network}
 use Rattle.flow_graph.proofs.whole_step.step_whole.Goals as goal
+
+pub step_once-requires-clause-kinds : goal.step_once-requires-clause-kinds
+step_once-requires-clause-kinds g c = any_takes g.T.Transducer.behaviour (states_of c.args.graph.now) (edges_of c.args.graph.now) c.args.node (g.E.Ends.view c.args.ends.now) (g.met.E.WholeEnds.whole c.args.ends.now).any
 
 pub returns-clause-network : goal.returns-clause-network
 returns-clause-network g c =

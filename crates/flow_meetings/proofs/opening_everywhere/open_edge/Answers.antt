@@ -1,6 +1,14 @@
 use Rattle.std.proofs.Common.{arith}
-use Rattle.flow_meetings.proofs.Parted.{on_all, opened_before, opened_behind}
+use Rattle.flow_meetings.proofs.Parted.{on_all, on_three, opened_own, opened_before, opened_behind}
 use Rattle.flow_meetings.proofs.opening_everywhere.open_edge.Goals as goal
+
+pub returns-then-owner : goal.returns-then-owner
+returns-then-owner g c =
+    let done = c.open_own.ensures in
+    on_three c.open_own.result (λ both joined room. (
+    opened_own g.E.Ends.view g.E.Meeting.joins g.E.Meeting.slots g.E.Opening.opens g.met.E.Opening.opens_refl c.args.owner c.args.edge c.args.capacity
+    c.args.ends.now c.index-ends-owner.result c.open_own.new.self c.if-owner.true c.requires.writer both joined room
+    )) done.both done.joined done.places
 
 pub returns-then-owner-2 : goal.returns-then-owner-2
 returns-then-owner-2 g c =

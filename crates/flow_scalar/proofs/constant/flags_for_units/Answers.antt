@@ -2,6 +2,8 @@ use Rattle.std.proofs.Common.{◌<◌, ◌≤◌, subst, arith}
 use Rattle.snesl_operators.specs.declared.scalar.Scalar.TheVariants.{Bool as Truth}
 use Rattle.flow_messages.specs.Ends.{PutAll}
 use Rattle.flow_messages.specs.Blocks.{unit_signals}
+use Rattle.flow_messages.specs.declared.message.Kind.TheVariants.{Bool as BoolKind}
+use Rattle.flow_messages.proofs.Fitting.{takes_still}
 use Rattle.flow_base.proofs.Carried.{same_ends_refl, same_ends_then}
 use Rattle.flow_base.proofs.Batches.{take_units, length_units, skipped}
 use Rattle.flow_folds.specs.Scalars.{cell_of_scalar}
@@ -50,3 +52,12 @@ loop-block-preserved g c =
       within = omega (arith, inv.within, c.min-in-loop-block.ensures, c.min-count.ensures);
       written = written_more k from to a u x w c.loop-block.made count looked some taken put;
     }
+
+pub put_flags-requires-clause-kind : goal.put_flags-requires-clause-kind
+put_flags-requires-clause-kind g c =
+    let to = c.args.to in
+    let view = g.E.Ends.view in
+    let v = view c.loop-block.ends in
+    let u = view c.space-room.new.self in
+    let looked = takes_still v u to BoolKind c.space-room.ensures.looked.ends (takes_still (view c.args.ends.now) v to BoolKind c.loop-block.invariant.ends c.requires.kind) in
+    takes_still u (view c.skip.new.self) to BoolKind c.skip.ensures.taken.ends looked

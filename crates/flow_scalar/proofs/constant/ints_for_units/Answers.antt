@@ -3,6 +3,8 @@ use mir.Syntax.{w64}
 use Rattle.snesl_operators.specs.declared.scalar.Scalar.TheVariants.{Int}
 use Rattle.flow_messages.specs.Ends.{PutAll}
 use Rattle.flow_messages.specs.Blocks.{unit_signals, int_signals}
+use Rattle.flow_messages.specs.declared.message.Kind.TheVariants.{Int as IntKind}
+use Rattle.flow_messages.proofs.Fitting.{takes_still}
 use Rattle.flow_base.proofs.Carried.{same_ends_refl, same_ends_then}
 use Rattle.flow_base.proofs.Batches.{take_units, length_units, skipped}
 use Rattle.flow_scalar.specs.ConstCopies.{WrittenFor}
@@ -61,3 +63,12 @@ rounds-preserved g c =
       within = omega (arith, inv.within, c.min-in-rounds.ensures, c.min-count.ensures);
       written = written_more k from to a u x w c.rounds.made count looked some taken put;
     }
+
+pub put_ints-requires-clause-kind : goal.put_ints-requires-clause-kind
+put_ints-requires-clause-kind g c =
+    let to = c.args.to in
+    let view = g.E.Ends.view in
+    let v = view c.rounds.ends in
+    let u = view c.space-room.new.self in
+    let looked = takes_still v u to IntKind c.space-room.ensures.looked.ends (takes_still (view c.args.ends.now) v to IntKind c.rounds.invariant.ends c.requires.kind) in
+    takes_still u (view c.skip.new.self) to IntKind c.skip.ensures.taken.ends looked

@@ -1,6 +1,9 @@
 use Rattle.std.proofs.Common.{◌≡◌, true, ◌∙◌, arith}
 use Rattle.std.proofs.lemmas.List.Elements.{All-get_or}
 use Rattle.flow_messages.specs.Blocks.{int_signals}
+use Rattle.flow_messages.specs.declared.message.Kind.TheVariants.{Int as IntKind}
+use Rattle.flow_messages.proofs.Fitting.{takes_still}
+use Rattle.flow_base.specs.Visits.{edge_of}
 use Rattle.flow_base.proofs.Batches.{ended_ints}
 use Rattle.flow_scalar.proofs.ForkBlocks.{put_on_none, put_on_more}
 use Rattle.flow_scalar.proofs.copies.put_ints_on_each.Goals as goal
@@ -28,3 +31,8 @@ loop-port-preserved g c =
       same = g.met.E.Ends.same_trans c.args.ends.now c.loop-port.ends c.put_ints.new.self c.loop-port.invariant.same c.put_ints.ensures.same;
       put = put_on_more c.args.outputs.now (int_signals c.args.ints.now) c.requires.rise (ended_ints c.args.ints.now) c.loop-port.port c.loop-port-test.true (view c.args.ends.now) v w c.loop-port.invariant.put c.put_ints.ensures.put;
     }
+
+pub put_ints-requires-clause-kind : goal.put_ints-requires-clause-kind
+put_ints-requires-clause-kind g c =
+    let view = g.E.Ends.view in
+    takes_still (view c.args.ends.now) (view c.loop-port.ends) (edge_of c.args.outputs.now c.loop-port.port) IntKind c.loop-port.invariant.put.ends (c.requires.kinds c.loop-port.port c.loop-port-test.true)

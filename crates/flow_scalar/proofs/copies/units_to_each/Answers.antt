@@ -2,6 +2,9 @@ use Rattle.std.proofs.Common.{◌+◌, ◌*◌, ◌<◌, ◌≤◌, length, sym,
 use Rattle.flow_messages.specs.Cells.{unit, is_of}
 use Rattle.flow_messages.specs.Ends.{TakenAll}
 use Rattle.flow_messages.specs.Blocks.{unit_signals}
+use Rattle.flow_messages.specs.declared.message.Kind.TheVariants.{Unit as UnitKind}
+use Rattle.flow_messages.proofs.Fitting.{takes_still}
+use Rattle.flow_base.specs.Visits.{edge_of}
 use Rattle.flow_base.proofs.Batches.{ended_units, take_units, length_units, skipped}
 use Rattle.flow_scalar.proofs.ForkBlocks.{copies_units, copies_went, copied_none}
 use Rattle.flow_scalar.proofs.copies.units_to_each.Goals as goal
@@ -25,3 +28,8 @@ returns-clause-copied g c = λ ins there is p kind counts at.
     let some : 0 < (length outs + 1) * count = grind (arith, c.if-count-eq0.false) in
     let copies = copies_units ins outs p at c.requires.rise counts (ap (λ k. is_of k unit) kind) count in
     copies_went ins outs p at (unit_signals count) ((length outs + 1) * count) there copies some (ended_units count) a u w here c.put_units_on_each.ensures.put
+
+pub put_units_on_each-requires-clause-kinds : goal.put_units_on_each-requires-clause-kinds
+put_units_on_each-requires-clause-kinds g c = λ q lt.
+    let view = g.E.Ends.view in
+    takes_still (view c.args.ends.now) (view c.skip.new.self) (edge_of c.args.outputs.now q) UnitKind c.skip.ensures.taken.ends (c.requires.kinds q lt)

@@ -1,4 +1,4 @@
-use Rattle.std.proofs.Common.{◌≡◌, ◌<◌, ◌∷◌, [], pos, slice_index_or, length, sym, subst, rules}
+use Rattle.std.proofs.Common.{◌<◌, ◌∷◌, [], pos, slice_index_or, length, sym, subst, rules}
 use mathlib.Core.List.{IsPrefix}
 use mir.Val.{SFits}
 use mir.Syntax.{w64}

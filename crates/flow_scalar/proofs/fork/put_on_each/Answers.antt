@@ -2,6 +2,8 @@ use Rattle.std.proofs.Common.{◌≡◌, ◌≢◌, ℕ, suc, ◌+◌, ◌-◌, 
 use Rattle.std.proofs.lemmas.Bool.{cases_eq}
 use Rattle.flow_messages.specs.Cells.{cell_of}
 use Rattle.flow_messages.specs.Signals.{carry}
+use Rattle.flow_messages.specs.Kinds.{FitsEdge}
+use Rattle.flow_messages.proofs.Fitting.{fits_still}
 use Rattle.flow_base.specs.Nodes.{behaviour_of, node_state}
 use Rattle.flow_base.specs.Visits.{edge_of, Went, Wrote}
 use Rattle.flow_base.specs.declared.node.Phase.TheVariants.{Working}
@@ -41,3 +43,11 @@ loop-port-preserved g c =
           let more : (n + port) + 1 ≡ n + (port + 1) = omega arith in
           subst (Went ins outs b s a (node_state (p, owing x left) Working at) w) more (one_copy_more ins outs p x left port at there is so_far put);
     }
+
+pub put_in_space-requires-clause-fits : goal.put_in_space-requires-clause-fits
+put_in_space-requires-clause-fits g c =
+    let view = g.E.Ends.view in
+    let a = view c.args.ends.now in
+    let v = view c.loop-port.ends in
+    let to = edge_of c.args.outputs.now c.loop-port.port in
+    fits_still a v to _ c.loop-port.invariant.ends (subst (λ y. FitsEdge (a.kind to) (carry y)) (sym c.copy_of.ensures) (c.requires.fits c.loop-port.port c.loop-port-test.true))

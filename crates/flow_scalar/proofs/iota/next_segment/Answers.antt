@@ -9,6 +9,8 @@ use Rattle.flow_messages.specs.Cells.{flag, int}
 use Rattle.flow_messages.specs.Ends.{TakenAll}
 use Rattle.flow_messages.specs.Blocks.{int_signals}
 use Rattle.flow_messages.specs.Signals.{carry}
+use Rattle.flow_messages.specs.declared.message.Kind.TheVariants.{Bool as BoolKind}
+use Rattle.flow_messages.proofs.Fitting.{takes_still}
 use Rattle.flow_base.specs.Nodes.{behaviour_of}
 use Rattle.flow_base.specs.Visits.{edge_of, Went}
 use Rattle.flow_base.proofs.Carried.{prefix_then}
@@ -62,3 +64,8 @@ returns-clause-went g c = λ at.
     let one : take 1 (u.coming from) ≡ carry (int count) ∷ [] = first_shown c.ints.result.now (u.coming from) c.in-len1-up.len_at_least seen ∙ ap (λ k. carry (int k) ∷ []) (sym back) in
     let taken = subst (λ ms. TakenAll u from ms w) one c.skip.ensures.taken in
     segment_went ins outs (omega (arith, c.requires.wired.each_input)) (omega (arith, c.requires.wired.each_output)) at c.args.next c.args.end count test natural a v u w looked c.put_flags.ensures.put taken
+
+pub put_flags-requires-clause-kind : goal.put_flags-requires-clause-kind
+put_flags-requires-clause-kind g c =
+    let view = g.E.Ends.view in
+    takes_still (view c.args.ends.now) (view c.space.new.self) (edge_of c.args.outputs.now 0) BoolKind c.space.ensures.looked.ends (c.requires.kinds 0 (omega (arith, c.requires.wired.each_output)))

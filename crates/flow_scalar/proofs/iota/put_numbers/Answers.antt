@@ -4,6 +4,8 @@ use Rattle.std.proofs.lemmas.Int.{ints, to_z-of_z}
 use mir.Val.{SFits}
 use Rattle.flow_messages.specs.Ends.{PutAll}
 use Rattle.flow_messages.specs.Blocks.{flag_signals, int_signals}
+use Rattle.flow_messages.specs.declared.message.Kind.TheVariants.{Bool as BoolKind, Int as IntKind}
+use Rattle.flow_messages.proofs.Fitting.{takes_still}
 use Rattle.flow_base.specs.Nodes.{behaviour_of}
 use Rattle.flow_base.specs.Visits.{edge_of, Went}
 use Rattle.flow_base.proofs.Carried.{same_ends_then}
@@ -78,3 +80,21 @@ returns-clause-went g c = λ ins at.
     let flagged = subst (λ bs. PutAll (view c.space-2.new.self) (edge_of outs 0) (flag_signals bs) u) (elements_are n 64 within) c.put_flags.ensures.put in
     let numbered = subst (λ ns. PutAll u (edge_of outs 1) (int_signals ns) w) block c.put_ints.ensures.put in
     numbers_went ins outs c.requires.apart (omega (arith, c.requires.two)) at c.args.end n c.args.next fits some a (view c.space-2.new.self) u w looked flagged numbered
+
+pub put_flags-requires-clause-kind : goal.put_flags-requires-clause-kind
+put_flags-requires-clause-kind g c =
+    let to = edge_of c.args.outputs.now 0 in
+    let view = g.E.Ends.view in
+    let v = view c.space.new.self in
+    let there = c.requires.kinds 0 (omega (arith, c.requires.two)) in
+    takes_still v (view c.space-2.new.self) to BoolKind c.space-2.ensures.looked.ends (takes_still (view c.args.ends.now) v to BoolKind c.space.ensures.looked.ends there)
+
+pub put_ints-requires-clause-kind : goal.put_ints-requires-clause-kind
+put_ints-requires-clause-kind g c =
+    let to = edge_of c.args.outputs.now 1 in
+    let view = g.E.Ends.view in
+    let v = view c.space.new.self in
+    let u = view c.space-2.new.self in
+    let there = c.requires.kinds 1 (omega (arith, c.requires.two)) in
+    let looked = takes_still v u to IntKind c.space-2.ensures.looked.ends (takes_still (view c.args.ends.now) v to IntKind c.space.ensures.looked.ends there) in
+    takes_still u (view c.put_flags.new.self) to IntKind c.put_flags.ensures.put.ends looked

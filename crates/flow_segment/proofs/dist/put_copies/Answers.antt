@@ -1,15 +1,37 @@
-use Rattle.std.proofs.Common.{◌≡◌, ℕ, ◌<◌, true, false, pos, length, take, get_or, to_z, of_z, sym, ◌∙◌, ap, subst, arith, rules}
+use Rattle.std.proofs.Common.{◌≡◌, ℕ, ◌<◌, true, false, pos, length, take, get_or, to_z, of_z, refl, sym, ◌∙◌, ap, subst, arith, rules}
 use Rattle.std.specs.Int.{w64, w128}
 use Rattle.std.proofs.lemmas.Int.{to_z-of_z}
 use mir.Val.{SFits}
 use Rattle.std.specs.Prelude.{replicate}
 use Rattle.std.proofs.lemmas.List.{take-replicate, take_all, length-take-le}
-use Rattle.flow_messages.specs.Cells.{cell_of, flag}
+use Rattle.flow_messages.specs.Cells.{cell_of, unit, flag, int}
 use Rattle.flow_messages.specs.Ends.{PutAll}
+use Rattle.flow_messages.specs.Kinds.{FitsEdge}
+use Rattle.flow_messages.specs.declared.message.Kind.TheVariants.{Unit as UnitKind, Bool as BoolKind, Int as IntKind}
 use Rattle.flow_messages.specs.Blocks.{flag_signals, int_signals}
 use Rattle.flow_messages.specs.Signals.{carry}
-use Rattle.flow_segment.proofs.DistBlocks.{same_block, flags_same, ints_same}
+use Rattle.flow_segment.proofs.DistBlocks.{fits_takes, same_block, flags_same, ints_same}
 use Rattle.flow_segment.proofs.dist.put_copies.Goals as goal
+
+pub put_units-requires-clause-kind : goal.put_units-requires-clause-kind
+put_units-requires-clause-kind g c =
+    let edge = (g.E.Ends.view c.args.ends.now).kind c.args.to in
+    fits_takes edge UnitKind unit refl (subst (λ i. FitsEdge edge (carry (cell_of i))) c.in-Unit.is c.requires.kind)
+
+pub put_flags-requires-clause-kind : goal.put_flags-requires-clause-kind
+put_flags-requires-clause-kind g c =
+    let edge = (g.E.Ends.view c.args.ends.now).kind c.args.to in
+    fits_takes edge BoolKind (flag c.in-Bool.truth) refl (subst (λ i. FitsEdge edge (carry (cell_of i))) c.in-Bool.is c.requires.kind)
+
+pub put_flags-requires-else-truth-clause-kind : goal.put_flags-requires-else-truth-clause-kind
+put_flags-requires-else-truth-clause-kind g c =
+    let edge = (g.E.Ends.view c.args.ends.now).kind c.args.to in
+    fits_takes edge BoolKind (flag c.in-Bool.truth) refl (subst (λ i. FitsEdge edge (carry (cell_of i))) c.in-Bool.is c.requires.kind)
+
+pub put_ints-requires-clause-kind : goal.put_ints-requires-clause-kind
+put_ints-requires-clause-kind g c =
+    let edge = (g.E.Ends.view c.args.ends.now).kind c.args.to in
+    fits_takes edge IntKind (int c.in-Int.value) refl (subst (λ i. FitsEdge edge (carry (cell_of i))) c.in-Int.is c.requires.kind)
 
 pub returns-then-truth-clause-put : goal.returns-then-truth-clause-put
 returns-then-truth-clause-put g c =

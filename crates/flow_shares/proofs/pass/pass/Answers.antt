@@ -1,4 +1,8 @@
 use Rattle.std.proofs.Common.{◌+◌, ◌<◌, ◌≤◌, ◌||◌, length, set, sym, ◌∙◌, ap, subst, arith}
+use Rattle.flow_messages.specs.Kinds.{TakesKind}
+use Rattle.flow_base.specs.Visits.{edge_of}
+use Rattle.flow_graph.specs.Places.{placed_state}
+use Rattle.flow_shares.specs.Shares.{outputs_of}
 use Rattle.flow_base.proofs.Visits.{on_err}
 use Rattle.flow_shares.proofs.Passes.{passed_none, passed_out, passed_by, node_there, passed_next, passed_lost, passed_starves}
 use Rattle.flow_shares.proofs.Calm.{calm_end}
@@ -24,6 +28,17 @@ run-requires-clause-writes g c =
     let inside : c.loop-k.k < length mid = omega arith in
     (node_there g.met.T.Transducer.laws c.args.nodes.now.items (g.E.Ends.view c.args.ends.now) c.requires.there c.requires.apart c.requires.own mid (g.E.Ends.view c.loop-k.ends) c.loop-k.k c.loop-k.moved c.loop-k.invariant.passed
     c.index_mut.result.now inside c.index_mut.ensures.value).writes
+
+pub run-requires-clause-kinds : goal.run-requires-clause-kinds
+run-requires-clause-kinds g c =
+    let b = g.T.Transducer.behaviour in
+    let laws = g.met.T.Transducer.laws in
+    let mid = c.loop-k.nodes.items in
+    let x = c.index_mut.result.now in
+    let v = g.E.Ends.view c.loop-k.ends in
+    let inside : c.loop-k.k < length mid = omega arith in
+    λ q l. subst (TakesKind (v.kind (edge_of (outputs_of x) q))) (laws.same_kinds_out (placed_state x) q) ((node_there laws c.args.nodes.now.items (g.E.Ends.view c.args.ends.now) c.requires.there c.requires.apart c.requires.own mid v c.loop-k.k c.loop-k.moved c.loop-k.invariant.passed
+        x inside c.index_mut.ensures.value).kinds q l)
 
 pub returns-in_err-moved-clause-lost : goal.returns-in_err-moved-clause-lost
 returns-in_err-moved-clause-lost g c =

@@ -15,7 +15,7 @@ returns-then-chunk-lt-LEAST_FOR_BLOCKS-clause-went g c =
 pub blocks-requires : goal.blocks-requires
 blocks-requires g c =
     let node = node_of g.W.Worker.state g.W.Worker.machine g.met.W.Worker.laws in
-    record { wired = wired node.behaviour c.args.inputs.now c.args.outputs.now (node.state c.args.self.now) (g.E.Ends.view c.args.ends.now) c.requires.placed }
+    record { wired = wired node.behaviour c.args.inputs.now c.args.outputs.now (node.state c.args.self.now) (g.E.Ends.view c.args.ends.now) c.requires.placed; kinds = c.requires.placed.kinds }
 
 pub returns-then-chunk-outputs-clause-went : goal.returns-then-chunk-outputs-clause-went
 returns-then-chunk-outputs-clause-went g c =

@@ -1,9 +1,10 @@
 use Rattle.std.proofs.Common.{◌≡◌, ◌<◌, true, sym, ◌∙◌, subst, arith, inl, inr}
 use Rattle.kahn.specs.declared.want.Want.TheVariants.{Read, Write}
 use Rattle.flow_messages.specs.Signals.{signal_of}
+use Rattle.flow_messages.specs.Kinds.{FitsEdge}
 use Rattle.flow_base.specs.Visits.{edge_of, IsStuck}
 use Rattle.flow_base.specs.Members.{node_of}
-use Rattle.flow_base.proofs.Visits.{made_none, input_there, output_there, made_read, made_put, made_looked, made_room, visited, broke_off, broke_reading, starves_err, no_room, on_err}
+use Rattle.flow_base.proofs.Visits.{made_none, input_there, output_there, put_fits, made_read, made_put, made_looked, made_room, visited, broke_off, broke_reading, starves_err, no_room, on_err}
 use Rattle.flow_base.proofs.node.Node.step.Goals as goal
 
 pub prove-unreachable-requires : goal.prove-unreachable-requires
@@ -102,6 +103,17 @@ returns-in_ok-give-in-Read-clause-visited g c =
     let w = view c.take.new.self in
     let after = made_read laws placed made c.in-Read.port (signal_of c.in-Some.message) t w wants c.in-Some.ensures.some c.in_ok-give-in-Read.ensures.ok in
     visited laws placed after (λ h. cc)
+
+pub put-requires-clause-fits : goal.put-requires-clause-fits
+put-requires-clause-fits g c =
+    let node = node_of g.W.Worker.state g.W.Worker.machine g.met.W.Worker.laws in
+    let b = node.behaviour in
+    let laws = node.laws in
+    let s = node.state c.args.self.now in
+    let placed = c.requires.placed in
+    let u = g.E.Ends.view c.room.new.self in
+    let wants : b.process.want s ≡ Write c.in-Write.port = sym c.want.ensures ∙ c.in-Write.is in
+    subst (FitsEdge (u.kind (edge_of c.args.outputs.now c.in-Write.port))) (sym c.in_ok-message-in-Write.ensures.ok.0) (put_fits laws placed (made_none laws placed) c.in-Write.port u c.room.ensures.looked.ends wants)
 
 pub returns-in_ok-message-in-Write-clause-visited : goal.returns-in_ok-message-in-Write-clause-visited
 returns-in_ok-message-in-Write-clause-visited g c =

@@ -14,7 +14,7 @@ blocks-whole-requires g c =
     let ins = c.args.inputs.now in
     let outs = c.args.outputs.now in
     let v = g.E.Ends.view c.finish.new.ends in
-    record { wired = wired b ins outs (node.state c.finish.new.self) v (placed_on node.laws c.requires.placed (made_went c.in_ok-first.ensures.went node.laws c.requires.placed c.finish.ensures.ends)) }
+    record { wired = wired b ins outs (node.state c.finish.new.self) v (placed_on node.laws c.requires.placed (made_went c.in_ok-first.ensures.went node.laws c.requires.placed c.finish.ensures.ends)); kinds = (placed_on node.laws c.requires.placed (made_went c.in_ok-first.ensures.went node.laws c.requires.placed c.finish.ensures.ends)).kinds }
 
 -- the steps to where an instance may begin, and those over slices
 pub returns-in-Working-clause-went : goal.returns-in-Working-clause-went

@@ -27,7 +27,7 @@ blocks-whole-requires g c =
     let w = view c.look_for_messages.new.ends in
     let ends = same_ends_then (view c.args.ends.now) v w c.finish.ensures.ends c.look_for_messages.ensures.ends in
     let went = went_on_alone b ins outs c.in_ok-first.first c.in_ok-first.ensures.went w (c.look_for_messages.ensures.looked outs) in
-    record { wired = wired b ins outs (node.state c.finish.new.self) w (placed_on node.laws placed (made_went went node.laws placed ends)) }
+    record { wired = wired b ins outs (node.state c.finish.new.self) w (placed_on node.laws placed (made_went went node.laws placed ends)); kinds = (placed_on node.laws placed (made_went went node.laws placed ends)).kinds }
 
 -- and where it has gone over slices
 pub kernel-more-requires : goal.kernel-more-requires
@@ -49,7 +49,7 @@ kernel-more-requires g c =
     let first = went_on_alone b ins outs c.in_ok-first.first c.in_ok-first.ensures.went w (c.look_for_messages.ensures.looked outs) in
     let next = subst (λ p. Went ins outs b (node_state (state n.worker) p n.at) w (node_state (state whole.new.self) p n.at) x whole.result) (sym c.in-Working.is) (whole.ensures.went n.at) in
     let went = went_then b ins outs c.in_ok-first.first first next in
-    record { wired = wired b ins outs (node_state (state whole.new.self) n.phase n.at) x (placed_on node.laws placed (made_went went node.laws placed ends)) }
+    record { wired = wired b ins outs (node_state (state whole.new.self) n.phase n.at) x (placed_on node.laws placed (made_went went node.laws placed ends)); kinds = (placed_on node.laws placed (made_went went node.laws placed ends)).kinds }
 
 -- the steps to where an instance may begin, those over slices, and those of the kernel
 pub returns-in-Working-clause-went : goal.returns-in-Working-clause-went

@@ -3,12 +3,13 @@ use Rattle.std.proofs.lemmas.Bool.Decides.{nat_tests}
 use Rattle.kahn.specs.declared.want.Want.TheVariants.{Read, Write}
 use Rattle.flow_messages.specs.Signals.{signal_of, carry}
 use Rattle.flow_messages.specs.declared.message.Msg.TheVariants as msg
+use Rattle.flow_messages.specs.Kinds.{FitsEdge}
 use Rattle.flow_base.specs.Machines.{move_of, written_cell}
 use Rattle.flow_base.specs.Nodes.{node_state, want_in, written_signal, after_in, memory_in}
 use Rattle.flow_base.specs.Members.{node_of}
 use Rattle.flow_base.specs.Visits.{edge_of, IsStuck, Visited}
 use Rattle.flow_base.proofs.Carried.{same_ends_then}
-use Rattle.flow_base.proofs.Visits.{Made, input_there, output_there, reads_at, made_none, made_read, made_put, made_looked, made_room, visited, broke_off, broke_reading, starves_err, no_room, on_err}
+use Rattle.flow_base.proofs.Visits.{Made, input_there, output_there, put_fits, reads_at, made_none, made_read, made_put, made_looked, made_room, visited, broke_off, broke_reading, starves_err, no_room, on_err}
 use Rattle.flow_base.proofs.node.Node.work.Goals.{in-Read+else-prove+in-Some+in_ok-read_on-in-Read+else-not-branch, in-Write+else-prove-2+else-not-room+in_ok-item-in-Write+in-Err+in-Item+in-Vec-1, in-Write+else-prove-2+else-not-room+in_ok-item-in-Write+in-Err+in-Item+in-Unit-1, in-Write+else-prove-2+else-not-room+in_ok-item-in-Write+in-Err+in-End-1, in-Write+else-prove-2+else-not-room+in_ok-item-in-Write+in-Ok-1}
 use Rattle.flow_base.proofs.node.Node.work.Goals as goal
 
@@ -134,6 +135,21 @@ returns-in_err-item-in-Write-clause-broke g c =
     let starves : b.takes_memory t ≡ true = ap (λ p. memory_in m p t) works ∙ starves_err (m.takes_memory t.worker.1) c.give.result c.in_err-item-in-Write.field-0.0 c.in_err-item-in-Write.was c.give.ensures.sure in
     let looked = made_room laws placed made c.in-Write.port u wants c.room.ensures.looked in
     on_err c.from_residual-in_err-item-in-Write.result (broke_off laws placed looked (node_state (g.W.Worker.state c.give.new.self) c.loop-made.self.phase c.loop-made.self.at) (ap (λ x. node_state x c.loop-made.self.phase c.loop-made.self.at) c.in_err-item-in-Write.ensures.err) starves)
+
+pub put-requires-clause-fits : goal.put-requires-clause-fits
+put-requires-clause-fits g c =
+    let m = g.W.Worker.machine in
+    let node = node_of g.W.Worker.state m g.met.W.Worker.laws in
+    let b = node.behaviour in
+    let laws = node.laws in
+    let t = node.state c.loop-made.self in
+    let placed = c.requires.placed in
+    let made = c.loop-made.invariant.made in
+    let works = c.loop-made.invariant.works in
+    let u = g.E.Ends.view c.room.new.self in
+    let wants : b.process.want t ≡ Write c.in-Write.port = ap (λ p. want_in m p t) works ∙ sym c.want_on.ensures ∙ c.in-Write.is in
+    let told : carry (written_cell (move_of m t.worker)) ≡ b.process.written t = sym (ap (λ p. written_signal m p t) works) in
+    subst (FitsEdge (u.kind (edge_of c.args.outputs.now c.in-Write.port))) (sym (ap carry c.in_ok-item-in-Write.ensures.ok.0 ∙ told)) (put_fits laws placed made c.in-Write.port u c.room.ensures.looked.ends wants)
 
 pub loop-made-preserved : goal.loop-made-preserved
 loop-made-preserved g c =

@@ -1,9 +1,10 @@
 use Rattle.std.proofs.Common.{◌≡◌, ◌<◌, true, refl, sym, ◌∙◌, ap, subst, arith}
 use Rattle.kahn.specs.declared.want.Want.TheVariants.{Read, Write}
 use Rattle.flow_messages.specs.Signals.{signal_of}
+use Rattle.flow_messages.specs.Kinds.{FitsEdge}
 use Rattle.flow_base.specs.Visits.{edge_of, IsStuck}
 use Rattle.flow_base.proofs.Carried.{same_ends_then}
-use Rattle.flow_base.proofs.Visits.{Made, made_none, input_there, output_there, reads_at, made_read, made_put, made_looked, made_room, visited, broke_off, broke_reading, starves_err, no_room, on_err}
+use Rattle.flow_base.proofs.Visits.{Made, made_none, input_there, output_there, put_fits, reads_at, made_read, made_put, made_looked, made_room, visited, broke_off, broke_reading, starves_err, no_room, on_err}
 use Rattle.flow_base.proofs.transducer.Transducer.run.Goals.{in-Read+else-prove+in-Some+in_ok-give-in-Read, in-Write+else-prove-2+else-not-room+in_ok-message-in-Write+in-Err+in-Item+in-Vec-1, in-Write+else-prove-2+else-not-room+in_ok-message-in-Write+in-Err+in-Item+in-Unit-1, in-Write+else-prove-2+else-not-room+in_ok-message-in-Write+in-Err+in-End-1, in-Write+else-prove-2+else-not-room+in_ok-message-in-Write+in-Ok-1}
 use Rattle.flow_base.proofs.transducer.Transducer.run.Goals as goal
 
@@ -54,6 +55,16 @@ returns-in_err-give-in-Read-clause-broke g c =
     let made = c.loop.invariant.made in
     let starves : b.takes_memory t ≡ true = starves_err (b.takes_memory t) c.give.result c.in_err-give-in-Read.field-0.0 c.in_err-give-in-Read.was c.give.ensures.sure in
     on_err c.from_residual.result (broke_reading laws placed made c.in-Read.port (signal_of c.in-Some.message) (state c.give.new.self) (view c.take.new.self) (sym c.want.ensures ∙ c.in-Read.is) c.in-Some.ensures.some c.in_err-give-in-Read.ensures.err starves)
+
+pub put-requires-clause-fits : goal.put-requires-clause-fits
+put-requires-clause-fits g c =
+    let b = g.Self.Transducer.behaviour in
+    let laws = g.met.Self.Transducer.laws in
+    let t = g.Self.Transducer.state c.loop.self in
+    let placed = c.requires.placed in
+    let u = g.E.Ends.view c.room.new.self in
+    let wants : b.process.want t ≡ Write c.in-Write.port = sym c.want.ensures ∙ c.in-Write.is in
+    subst (FitsEdge (u.kind (edge_of c.args.outputs.now c.in-Write.port))) (sym c.in_ok-message-in-Write.ensures.ok.0) (put_fits laws placed c.loop.invariant.made c.in-Write.port u c.room.ensures.looked.ends wants)
 
 pub returns-in_err-message-in-Write-clause-broke : goal.returns-in_err-message-in-Write-clause-broke
 returns-in_err-message-in-Write-clause-broke g c =

@@ -4,6 +4,8 @@ use Rattle.snesl_data.specs.declared.dialect.Dialect.{Dialect}
 use Rattle.snesl_data.specs.Integers.{greatest_integer}
 use Rattle.flow_messages.specs.Blocks.{flag_signals, int_signals}
 use Rattle.flow_messages.specs.Ends.{TakenAll}
+use Rattle.flow_messages.specs.declared.message.Kind.TheVariants.{Int as IntKind}
+use Rattle.flow_messages.proofs.Fitting.{takes_still}
 use Rattle.flow_base.specs.Nodes.{NodeState, behaviour_of, node_state}
 use Rattle.flow_base.specs.Visits.{edge_of, Went}
 use Rattle.flow_base.specs.declared.node.Phase.TheVariants.{Working}
@@ -85,3 +87,14 @@ returns-clause-went g c = λ at.
     let went = singles_went ins outs b (flag_signals (take n bs)) (int_signals lengths) reads writes looked rounds (omega (arith, long, c.if-passed-eq0.false)) (ended_ints lengths) v w taken c.put_ints.ensures.put in
     let steps : 0 + (length (take n bs) + length lengths) ≡ n + k = omega (arith, long, written) in
     subst (λ q. Went ins outs b q a t w (n + k)) (sym (ap on c.in-Counting.is)) (subst (Went ins outs b s a t w) steps went)
+
+-- the edge of its output is the one that it was
+pub put_ints-requires-clause-kind : goal.put_ints-requires-clause-kind
+put_ints-requires-clause-kind g c =
+    let outs = c.args.outputs.now in
+    let to = edge_of outs 0 in
+    let view = g.E.Ends.view in
+    let u = view c.space.new.self in
+    let v = view c.skip.new.self in
+    let there : 0 < length outs = omega (arith, c.requires.wired.each_output) in
+    takes_still u v to IntKind c.skip.ensures.taken.ends (takes_still (view c.args.ends.now) u to IntKind c.space.ensures.looked.ends (c.requires.kinds 0 there))

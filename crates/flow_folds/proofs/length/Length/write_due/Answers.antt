@@ -6,6 +6,8 @@ use Rattle.snesl_data.specs.declared.dialect.Dialect.{Dialect}
 use Rattle.flow_messages.specs.Cells.{int}
 use Rattle.flow_messages.specs.Ends.{PutAll}
 use Rattle.flow_messages.specs.Signals.{carry}
+use Rattle.flow_messages.specs.declared.message.Kind.TheVariants.{Int as IntKind}
+use Rattle.flow_messages.proofs.Fitting.{takes_still}
 use Rattle.flow_base.specs.Nodes.{NodeState, behaviour_of, node_state}
 use Rattle.flow_base.specs.Visits.{edge_of, Went}
 use Rattle.flow_base.specs.declared.node.Phase.TheVariants.{Working}
@@ -57,3 +59,10 @@ returns-clause-went g c = λ ins at.
     let looked = went_looked b ins outs (went_none b ins outs due a) 0 v there c.space.ensures.looked in
     let put = subst (λ k. PutAll v (edge_of outs 0) (carry (int k) ∷ []) w) back c.put_ints.ensures.put in
     subst (λ s. Went ins outs b s a (counting ins outs d at 0) w 1) (sym (ap on c.in-Due.is)) (due_went ins outs d at there number a v w looked put)
+
+pub put_ints-requires-clause-kind : goal.put_ints-requires-clause-kind
+put_ints-requires-clause-kind g c =
+    let outs = c.args.outputs.now in
+    let view = g.E.Ends.view in
+    let there : 0 < length outs = omega (arith, c.requires.outputs) in
+    takes_still (view c.args.ends.now) (view c.space.new.self) (edge_of outs 0) IntKind c.space.ensures.looked.ends (c.requires.kinds 0 there)

@@ -5,6 +5,8 @@ use Rattle.snesl_data.specs.declared.dialect.Dialect.{Dialect}
 use Rattle.flow_messages.specs.Cells.{int}
 use Rattle.flow_messages.specs.Ends.{SameEnds}
 use Rattle.flow_messages.specs.Signals.{signal_of, carry}
+use Rattle.flow_messages.specs.declared.message.Kind.TheVariants.{Int as IntKind}
+use Rattle.flow_messages.proofs.Fitting.{kind_fits, fits_still}
 use Rattle.flow_base.specs.Nodes.{NodeState, behaviour_of, node_state}
 use Rattle.flow_base.specs.Visits.{edge_of, Went, Wrote}
 use Rattle.flow_base.specs.declared.node.Phase.TheVariants.{Working}
@@ -32,6 +34,13 @@ loop-made-init g c =
       held = refl;
       went = λ at. let s = node_state (length_view c.args.self.now) Working at in went_looked b ins outs (went_none b ins outs s a) 0 u there c.space-room.ensures.looked;
     }
+
+pub put_in_space-requires-clause-fits : goal.put_in_space-requires-clause-fits
+put_in_space-requires-clause-fits g c =
+    let outs = c.args.outputs.now in
+    let a = g.E.Ends.view c.args.ends.now in
+    let there : 0 < length outs = omega (arith, c.requires.wired.each_output) in
+    fits_still a (g.E.Ends.view c.loop-made.ends) (edge_of outs 0) _ c.loop-made.invariant.ends (kind_fits (a.kind (edge_of outs 0)) IntKind _ (c.requires.kinds 0 there) refl)
 
 pub loop-made-preserved : goal.loop-made-preserved
 loop-made-preserved g c =

@@ -9,6 +9,9 @@ use Rattle.flow_messages.specs.Cells.{int}
 use Rattle.flow_messages.specs.Ends.{TakenAll, PutAll}
 use Rattle.flow_messages.specs.Blocks.{flag_signals}
 use Rattle.flow_messages.specs.Signals.{carry}
+use Rattle.flow_messages.specs.declared.message.Kind.TheVariants.{Int as IntKind}
+use Rattle.flow_messages.proofs.Fitting.{takes_still}
+use Rattle.flow_messages.specs.Kinds.{TakesKind}
 use Rattle.flow_base.specs.Nodes.{behaviour_of}
 use Rattle.flow_base.specs.Visits.{edge_of, Went}
 use Rattle.flow_base.proofs.Carried.{prefix_then}
@@ -66,4 +69,13 @@ returns-clause-ended g c = λ is at.
     let seen = prefix_then (flag_signals bs) (v.coming from) (u.coming from) still (coming_still v u (edge_of outs 0) from (carry (int value) ∷ []) put) in
     let at_end : get_or bs 0 false ≡ true = c.begins_with_end.ensures (search rules) in
     let taken = subst (λ ms. TakenAll u from ms w) (first_flag_taken bs (u.coming from) seen at_end) c.skip.ensures.taken in
-    end_went ins outs (omega (arith, c.requires.wired.each_input)) there p at c.args.stage value c.in-Some.ensures a v u w looked put taken
+    end_went ins outs (omega (arith, c.requires.wired.each_input)) there p at c.args.stage value c.in-Some.ensures.so_far a v u w looked put taken
+
+-- integers are reduced
+pub put_ints-requires-clause-kind : goal.put_ints-requires-clause-kind
+put_ints-requires-clause-kind g c =
+    let outs = c.args.outputs.now in
+    let to = edge_of outs 0 in
+    let a = g.E.Ends.view c.args.ends.now in
+    let there : 0 < length outs = omega (arith, c.requires.wired.each_output) in
+    takes_still a (g.E.Ends.view c.space.new.self) to IntKind c.space.ensures.looked.ends (subst (TakesKind (a.kind to)) c.in-Some.ensures.kind (c.requires.kinds 0 there))

@@ -5,10 +5,12 @@ use mathlib.Core.List.{IsPrefix}
 use Rattle.kahn.specs.declared.want.Want.TheVariants.{Read}
 use Rattle.snesl_data.specs.declared.dialect.Dialect.{Dialect}
 use Rattle.snesl_operators.specs.declared.operator.Reduction.{Reduction}
-use Rattle.snesl_operators.specs.Reductions.{reduced_nothing}
+use Rattle.snesl_operators.specs.Reductions.{reduction_type, reduced_nothing}
 use Rattle.flow_messages.specs.Ends.{SameEnds}
 use Rattle.flow_messages.specs.Signals.{Signal, signal_of, carry}
 use Rattle.flow_messages.specs.declared.message.Msg.{Msg}
+use Rattle.flow_messages.proofs.Fitting.{kind_fits, fits_still}
+use Rattle.flow_messages.specs.Kinds.{FitsEdge}
 use Rattle.flow_base.specs.Machines.{Leads, on_kind}
 use Rattle.flow_base.specs.Nodes.{NodeState, behaviour_of, node_state, node_after_read}
 use Rattle.flow_base.specs.Visits.{edge_of, Went, Wrote}
@@ -16,11 +18,12 @@ use Rattle.flow_base.specs.declared.node.Phase.TheVariants.{Working}
 use Rattle.flow_base.proofs.Carried.{same_ends_then, taken_room}
 use Rattle.flow_base.proofs.Kernels.{went_none, went_looked, went_read, went_write, leads_on}
 use Rattle.flow_folds.specs.Scalars.{cell_of_scalar, scalar_in}
+use Rattle.flow_folds.specs.ScalarCells.{is_of-cell}
 use Rattle.flow_folds.specs.ReduceMachine.{at_flag, at_element, reduced_kind, LeadsAtFlag, reduce_machine, reduce_view}
 use Rattle.flow_folds.specs.declared.reduce.Stage.{Stage}
 use Rattle.flow_folds.specs.declared.reduce.Stage.TheVariants.{Start, Flag, Element, Value}
 use Rattle.flow_folds.proofs.SegmentBlocks.{two_more}
-use Rattle.flow_folds.proofs.reduce.ReduceWorker.kernel.Goals.{in-Element+in-Some-more_at, in-Value}
+use Rattle.flow_folds.proofs.reduce.ReduceWorker.kernel.Goals.{in-Element+in-Some-more_at, in-Value+else-not-is_of_type}
 use Rattle.flow_folds.proofs.reduce.ReduceWorker.kernel.Goals as goal
 
 -- the message at the front is there, and leads on
@@ -58,6 +61,7 @@ loop-made-init g c =
       ends = c.space.ensures.looked.ends;
       room = omega (arith, c.space.ensures.value, c.min-whole.ensures);
       held = refl;
+      kept = refl;
       went = λ at. let s = node_state (reduce_view c.args.self.now) Working at in went_looked b ins outs (went_none b ins outs s a) 0 u there c.space.ensures.looked;
     }
 
@@ -80,6 +84,25 @@ put_in_space-requires-clause-writes g c =
     let seen = front_leads c.front.result (v.coming (edge_of c.args.inputs.now 0)) (λ x. LeadsAtFlag c.loop-made.self.reduction c.loop-made.stage x c.in-Some.reached) c.front.ensures c.in-Some.ensures in
     let first = c.take_front-in-Value.ensures.taken seen.0 seen.1 in
     first.ends.writes _ ∙ c.loop-made.invariant.ends.writes _ ∙ All-get_or (λ e. a.writes e ≡ true) outs 0 0 there c.requires.wired.writes
+
+-- the value is of the reduction's type
+pub put_in_space-requires-clause-fits : goal.put_in_space-requires-clause-fits
+put_in_space-requires-clause-fits g c =
+    let outs = c.args.outputs.now in
+    let to = edge_of outs 0 in
+    let view = g.E.Ends.view in
+    let a = view c.args.ends.now in
+    let v = view c.loop-made.ends in
+    let u = view c.take_front-in-Value.new.ends in
+    let n = c.loop-made.self in
+    let value = c.in-Value.value in
+    let there : 0 < length outs = omega (arith, c.requires.wired.each_output) in
+    let seen = front_leads c.front.result (v.coming (edge_of c.args.inputs.now 0)) (λ x. LeadsAtFlag n.reduction c.loop-made.stage x c.in-Some.reached) c.front.ensures c.in-Some.ensures in
+    let first = c.take_front-in-Value.ensures.taken seen.0 seen.1 in
+    let same = same_ends_then a v u c.loop-made.invariant.ends first.ends in
+    let of_type = c.is_of_type.ensures c.if-not-is_of_type.false ∙ ap reduction_type c.loop-made.invariant.kept in
+    let told : FitsEdge (u.kind to) (carry (cell_of_scalar value)) = fits_still a u to _ same (kind_fits (a.kind to) (reduced_kind c.args.self.now.reduction) (carry (cell_of_scalar value)) (c.requires.kinds 0 there) (is_of-cell value (reduction_type c.args.self.now.reduction) of_type)) in
+    subst (λ x. FitsEdge (u.kind to) (carry x)) (sym c.item_of.ensures) told
 
 pub put_in_space-requires-clause-certain : goal.put_in_space-requires-clause-certain
 put_in_space-requires-clause-certain g c =
@@ -129,13 +152,14 @@ loop-made-preserved g c =
             ends = subst (λ q. SameEnds a (view q)) (sym w.ends-is) (same_ends_then a u z (same_ends_then a v u inv.ends first.ends) second.ends);
             room = subst (λ q. c.min-whole.result ≤ (view q).room to + (made + 1)) (sym w.ends-is) (omega (arith, inv.room, taken_room v u _ to _ first, taken_room u z _ to _ second));
             held = refl;
+            kept = inv.kept;
             went = λ at.
                 let one = went_read b ins outs (inv.went at) 0 x (on at (Element before)) u (omega arith) (flag_wanted p n.stage (Element before) at x flag_leads) first (flag_read p n.stage (Element before) at x flag_leads) in
                 let two = went_read b ins outs one 1 y (on at (Flag more)) z reads refl second (leads_on m p (Element before) (Flag more) at taking y (λ k. refl) next.2) in
                 let all = subst (Went ins outs b (began at) a (on at (Flag more)) z) (two_more made) two in
                 subst (λ q. Went ins outs b (began at) a (on at q) (view c.match-reached.ends) (2 * (made + 1))) (sym w.stage-is) (subst (λ q. Went ins outs b (began at) a (on at (Flag more)) (view q) (2 * (made + 1))) (sym w.ends-is) all);
           })
-      | in-Value w ↦ (let u = view w.take_front-in-Value.new.ends in
+      | in-Value+else-not-is_of_type w ↦ (let u = view w.take_front-in-Value.new.ends in
           let z = view w.put_in_space.new.ends in
           let value = w.in-Value.value in
           let first = w.take_front-in-Value.ensures.taken x seen.1 in
@@ -145,6 +169,7 @@ loop-made-preserved g c =
             ends = subst (λ q. SameEnds a (view q)) (sym w.ends-is) (same_ends_then a u z (same_ends_then a v u inv.ends first.ends) w.put_in_space.ensures.wrote.ends);
             room = subst (λ q. c.min-whole.result ≤ (view q).room to + (made + 1)) (sym w.ends-is) (omega (arith, inv.room, taken_room v u _ to _ first, w.put_in_space.ensures.room));
             held = refl;
+            kept = inv.kept;
             went = λ at.
                 let one = went_read b ins outs (inv.went at) 0 x (on at (Value value)) u (omega arith) (flag_wanted p n.stage (Value value) at x flag_leads) first (flag_read p n.stage (Value value) at x flag_leads) in
                 let wrote = went_write b ins outs one 0 (carry (cell_of_scalar value)) (on at Start) z writes refl refl (subst (λ k. Wrote u to k z) (ap carry w.item_of.ensures) w.put_in_space.ensures.wrote) refl in

@@ -13,5 +13,6 @@ invariant-loop-made g l = let view = g.E.Ends.view in record {
   ends : SameEnds (view l.fn.ends) (view l.ends);
   room : l.whole ≤ (view l.ends).room l.to + l.made;
   held : l.stage ≡ l.self.stage;
+  kept : l.self.reduction ≡ l.fn.self.reduction;
   went : (at : ℕ) → Went l.fn.inputs l.fn.outputs (behaviour_of reduce_machine) (node_state (reduce_view l.fn.self) Working at) (view l.fn.ends) (node_state (reduce_view l.self) Working at) (view l.ends) (2 * l.made);
 }

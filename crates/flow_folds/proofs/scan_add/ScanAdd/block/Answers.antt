@@ -1,6 +1,8 @@
 use Rattle.std.proofs.Common.{◌≡◌, ◌≢◌, ◌+◌, ◌<◌, ◌≤◌, ◌*◌, length, take, sym, ◌∙◌, ap, subst, arith}
 use Rattle.std.proofs.lemmas.List.{take-take, length-take-le}
 use Rattle.flow_messages.specs.Ends.{TakenAll}
+use Rattle.flow_messages.specs.declared.message.Kind.TheVariants.{Int as IntKind}
+use Rattle.flow_messages.proofs.Fitting.{takes_still}
 use Rattle.flow_base.specs.Nodes.{behaviour_of, node_state}
 use Rattle.flow_base.specs.Visits.{edge_of, Went}
 use Rattle.flow_base.specs.declared.node.Phase.TheVariants.{Working}
@@ -74,3 +76,14 @@ returns-clause-went g c = λ at.
     let went = sums_went ins outs c.requires.apart reads writes d at s along.result.2 (take n bs) (take k xs) sums is (omega (arith, long, c.if-passed-eq0.false)) a u v w z looked first second c.put_ints.ensures.put in
     let steps : length (take n bs) + 2 * length (take k xs) ≡ n + 2 * k = omega (arith, long, read) in
     subst (Went ins outs b (stage_on d at s) a (stage_on d at along.result.2) z) steps went
+
+-- the edge of its output is the one that it was
+pub put_ints-requires-clause-kind : goal.put_ints-requires-clause-kind
+put_ints-requires-clause-kind g c =
+    let outs = c.args.outputs.now in
+    let to = edge_of outs 0 in
+    let view = g.E.Ends.view in
+    let u = view c.space.new.self in
+    let v = view c.skip.new.self in
+    let there : 0 < length outs = omega (arith, c.requires.wired.each_output) in
+    takes_still v (view c.skip-2.new.self) to IntKind c.skip-2.ensures.taken.ends (takes_still u v to IntKind c.skip.ensures.taken.ends (takes_still (view c.args.ends.now) u to IntKind c.space.ensures.looked.ends (c.requires.kinds 0 there)))

@@ -7,6 +7,8 @@ use Rattle.snesl_operators.specs.Operators.{ranged}
 use Rattle.flow_messages.specs.Cells.{flag, int}
 use Rattle.flow_messages.specs.Ends.{SameEnds}
 use Rattle.flow_messages.specs.Signals.{carry}
+use Rattle.flow_messages.specs.declared.message.Kind.TheVariants.{Int as IntKind}
+use Rattle.flow_messages.proofs.Fitting.{kind_fits, fits_still}
 use Rattle.flow_base.specs.Flags.{F, T}
 use Rattle.flow_base.specs.Machines.{state_after_read, on_int}
 use Rattle.flow_base.specs.Nodes.{NodeState, behaviour_of, node_state, moved}
@@ -65,6 +67,24 @@ put_in_space-requires-clause-writes g c =
     let second = c.take_front-else-segment_ends-2.ensures.taken y (subst (IsPrefix (y ∷ [])) (sym (first.coming (edge_of ins 1) apart)) c.in-Some-held_after.ensures.element) in
     let there : 0 < length outs = omega (arith, c.requires.wired.each_output) in
     second.ends.writes _ ∙ first.ends.writes _ ∙ c.loop.invariant.ends.writes _ ∙ All-get_or (λ e. a.writes e ≡ true) outs 0 0 there c.requires.wired.writes
+
+pub put_in_space-requires-clause-fits : goal.put_in_space-requires-clause-fits
+put_in_space-requires-clause-fits g c =
+    let ins = c.args.inputs.now in
+    let outs = c.args.outputs.now in
+    let to = edge_of outs 0 in
+    let view = g.E.Ends.view in
+    let a = view c.args.ends.now in
+    let v = view c.loop.ends in
+    let u = view c.take_front-else-segment_ends.new.ends in
+    let w = view c.take_front-else-segment_ends-2.new.ends in
+    let y = carry (int c.in-Some-held_after.next.1) in
+    let apart : edge_of ins 1 ≢ edge_of ins 0 = λ e. c.if-flags-elements.false (sym e) in
+    let first = c.take_front-else-segment_ends.ensures.taken (carry (flag c.in-Some-flag_at.segment_ends)) c.in-Some-flag_at.ensures in
+    let second = c.take_front-else-segment_ends-2.ensures.taken y (subst (IsPrefix (y ∷ [])) (sym (first.coming (edge_of ins 1) apart)) c.in-Some-held_after.ensures.element) in
+    let there : 0 < length outs = omega (arith, c.requires.wired.each_output) in
+    let same = same_ends_then a u w (same_ends_then a v u c.loop.invariant.ends first.ends) second.ends in
+    fits_still a w to _ same (kind_fits (a.kind to) IntKind _ (c.requires.kinds 0 there) refl)
 
 pub put_in_space-requires-clause-certain : goal.put_in_space-requires-clause-certain
 put_in_space-requires-clause-certain g c =

@@ -3,7 +3,7 @@ use Rattle.std.proofs.lemmas.List.{length-map}
 use Rattle.flow_messages.specs.Whole.{IsWhole}
 use Rattle.flow_graph.specs.Graphs.{states_of, edges_of}
 use Rattle.flow_graph.specs.Places.{placed_state}
-use Rattle.flow_graph.proofs.NodeEnds.{all_node_ends, ends_reads, ends_writes}
+use Rattle.flow_graph.proofs.NodeEnds.{all_node_ends, any_kind, ends_reads, ends_writes}
 use Rattle.flow_graph.proofs.Reached.{if_ok_if}
 use Rattle.flow_graph.proofs.Seats.{openings_same, built_same, seated_same}
 use Rattle.flow_graph.proofs.Shapes.{shape_opened}
@@ -27,6 +27,9 @@ run-requires-clause-writes g c =
     let l : c.args.node < length nodes = omega (arith, c.requires.inside, length-map nodes placed_state) in
     ends_writes nodes c.args.node c.index_mut.result.now l c.index_mut.ensures.value graph.edges.items graph.built.joined graph.seated view
     (all_node_ends g.T.Transducer.behaviour (states_of graph) (edges_of graph) view graph.built.joined c.requires.ends c.args.node)
+
+pub run-requires-clause-kinds : goal.run-requires-clause-kinds
+run-requires-clause-kinds g c q l = any_kind (g.E.Ends.view c.args.ends.now) _ _ (g.met.E.WholeEnds.whole c.args.ends.now).any
 
 pub invariant_of-self : goal.invariant_of-self
 invariant_of-self g c =

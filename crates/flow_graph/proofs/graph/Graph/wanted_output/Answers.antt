@@ -1,4 +1,6 @@
-use Rattle.std.proofs.Common.{◌<◌, length, ◌∙◌, ap, arith}
+use Rattle.std.proofs.Common.{◌≡◌, ◌<◌, true, length, ◌∙◌, ap, subst, arith}
+use Rattle.flow_messages.specs.Kinds.{fits}
+use Rattle.flow_base.proofs.Reached.{written_fits}
 use Rattle.std.proofs.lemmas.List.{length-map, get_or_default}
 use Rattle.flow_graph.specs.Places.{placed_state, states_in}
 use Rattle.flow_graph.specs.Networks.{outputs_at}
@@ -21,6 +23,15 @@ returns-clause-port g c =
     let x = c.index.result.now in
     let l : c.args.node < length nodes = omega (arith, c.requires.inside, length-map nodes placed_state) in
     omega (arith, wants_output b g.met.T.Transducer.laws (placed_state x) c.args.port (ap b.process.want (state_here nodes c.args.node x l c.index.ensures) ∙ c.requires.wants) x.reached, x.each_output, outputs_here nodes c.args.node x l c.index.ensures)
+
+pub returns-clause-fits : goal.returns-clause-fits
+returns-clause-fits g c =
+    let b = g.T.Transducer.behaviour in
+    let nodes = c.args.self.now.nodes.items in
+    let x = c.index.result.now in
+    let l : c.args.node < length nodes = omega (arith, c.requires.inside, length-map nodes placed_state) in
+    let here = state_here nodes c.args.node x l c.index.ensures in
+    subst (λ s. fits (b.kind_out s c.args.port) (b.process.written s) ≡ true) here (written_fits b g.met.T.Transducer.laws (placed_state x) c.args.port (ap b.process.want here ∙ c.requires.wants) x.reached)
 
 pub returns-clause-edge : goal.returns-clause-edge
 returns-clause-edge g c =

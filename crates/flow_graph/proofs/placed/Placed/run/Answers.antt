@@ -1,4 +1,5 @@
-use Rattle.std.proofs.Common.{refl}
+use Rattle.std.proofs.Common.{◌≡◌, refl, sym, subst}
+use Rattle.flow_base.specs.Visits.{IsPlaced}
 use Rattle.flow_graph.proofs.Reached.{Follows, follows_inputs, follows_outputs}
 use Rattle.flow_graph.proofs.Carried.{follows_visit}
 use Rattle.flow_graph.proofs.placed.Placed.run.Goals as goal
@@ -25,3 +26,14 @@ returns-clause-place g c =
     let s' = g.T.Transducer.state c.run.new.self in
     let follows : Follows b laws s s' = follows_visit b laws _ _ s _ s' _ c.run.result c.run.ensures.visited c.run.ensures.broke in
     record { number = refl; inputs = refl; outputs = refl; opening = follows.opening }
+
+pub run-requires-clause-placed : goal.run-requires-clause-placed
+run-requires-clause-placed g c =
+    let x = c.args.self.now in
+    let b = g.T.Transducer.behaviour in
+    let s = g.T.Transducer.state x.node in
+    let v = g.E.Ends.view c.args.ends.now in
+    let ins : c.deref.result.now ≡ x.inputs.items = cc in
+    let outs : c.deref-2.result.now ≡ x.outputs.items = cc in
+    let placed : IsPlaced b x.inputs.items x.outputs.items s v = record { reached = x.reached; each_input = x.each_input; each_output = x.each_output; reads = c.requires.reads; writes = c.requires.writes; kinds = c.requires.kinds } in
+    subst (λ l. IsPlaced b l c.deref-2.result.now s v) (sym ins) (subst (λ l. IsPlaced b x.inputs.items l s v) (sym outs) placed)

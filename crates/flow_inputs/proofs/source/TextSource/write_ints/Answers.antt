@@ -1,5 +1,7 @@
-use Rattle.std.proofs.Common.{◌≡◌, ◌<◌, ◌≤◌, take, length, ◌∙◌, subst, arith}
+use Rattle.std.proofs.Common.{◌≡◌, ◌<◌, ◌≤◌, take, length, sym, ◌∙◌, subst, arith}
 use Rattle.std.proofs.lemmas.List.{length-take-le}
+use Rattle.flow_messages.specs.declared.message.Kind.TheVariants.{Int as IntKind}
+use Rattle.flow_messages.specs.Kinds.{TakesKind}
 use Rattle.flow_messages.specs.Blocks.{int_signals}
 use Rattle.flow_base.proofs.Carried.{same_ends_refl, same_ends_then}
 use Rattle.flow_base.proofs.Kernels.{went_none}
@@ -21,6 +23,11 @@ loop-made-init g c =
       sending = c.requires.sending;
       went = λ ins. went_none source_behaviour ins c.args.outputs.now (text_source_state c.args.self.now) a;
     }
+
+pub put_ints-requires-clause-kind : goal.put_ints-requires-clause-kind
+put_ints-requires-clause-kind g c =
+    let same = c.space.ensures.looked.ends.kinds _ ∙ c.loop-made.invariant.ends.kinds _ in
+    subst (λ of. TakesKind of IntKind) (sym same) c.requires.kind
 
 -- one block more
 pub loop-made-preserved : goal.loop-made-preserved

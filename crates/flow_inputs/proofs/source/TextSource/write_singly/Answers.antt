@@ -1,8 +1,9 @@
 use Rattle.std.proofs.Common.{◌≡◌, true, refl, sym, subst, arith}
 use Rattle.kahn.specs.declared.want.Want.TheVariants.{Write}
 use Rattle.flow_messages.specs.Signals.{signal_of}
+use Rattle.flow_messages.specs.Kinds.{FitsEdge}
 use Rattle.flow_base.specs.Visits.{edge_of, IsStuck}
-use Rattle.flow_base.proofs.Visits.{made_none, made_write, made_room, visited, broke_off, starves_err, no_room, on_err}
+use Rattle.flow_base.proofs.Visits.{made_none, made_write, made_room, put_fits, visited, broke_off, starves_err, no_room, on_err}
 use Rattle.flow_scalar.specs.SourceBehaviour.{source_want, source_takes_memory}
 use Rattle.flow_scalar.specs.laws.Source.{source_laws}
 use Rattle.flow_inputs.specs.TextSources.{text_source_state}
@@ -25,6 +26,13 @@ returns-in_err-message-clause-broke g c =
     let starves : source_takes_memory t ≡ true = starves_err (source_takes_memory t) c.emit.result c.in_err-message.field-0.0 c.in_err-message.was c.emit.ensures.sure in
     let looked = made_room source_laws placed c.loop.invariant.made 0 u wants c.room.ensures.looked in
     on_err c.from_residual.result (broke_off source_laws placed looked (text_source_state c.emit.new.self) c.in_err-message.ensures.err starves)
+
+pub put_in_space-requires-clause-fits : goal.put_in_space-requires-clause-fits
+put_in_space-requires-clause-fits g c =
+    let u = g.E.Ends.view c.room.new.self in
+    let wants : source_want (text_source_state c.loop.self) ≡ Write 0 = wants_write c.loop.self c.if-self.false in
+    let fits = put_fits source_laws c.requires.placed c.loop.invariant.made 0 u c.room.ensures.looked.ends wants in
+    subst (FitsEdge (u.kind (edge_of c.args.outputs.now 0))) (sym c.in_ok-message.ensures.ok.0) fits
 
 pub loop-preserved : goal.loop-preserved
 loop-preserved g c =

@@ -1,10 +1,28 @@
-use Rattle.std.proofs.Common.{◌≡◌, ◌<◌, ◌≤◌, nat_lt, true, false, arith}
+use Rattle.std.proofs.Common.{◌≡◌, ◌<◌, ◌≤◌, nat_lt, Bool, true, false, ℕ, List, refl, subst, arith}
 use Rattle.std.proofs.lemmas.Bool.Decides.{nat_tests}
 use Rattle.std.proofs.lemmas.Result.{IfOk-weaker, on_err_weaker}
+use Rattle.flow_messages.specs.Kinds.{TakesKind}
+use Rattle.flow_base.specs.Visits.{edge_of}
 use Rattle.flow_base.proofs.Visits.{placed_on, visited, visited_on, broke_on}
 use Rattle.flow_base.proofs.Kernels.{made_went}
 use Rattle.flow_scalar.specs.laws.Source.{source_laws}
+use Rattle.flow_scalar.specs.SourceBehaviour.{source_items}
+use Rattle.flow_inputs.specs.declared.turns.Component.{Component}
+use Rattle.flow_inputs.specs.declared.turns.Leaf.{Leaf}
+use Rattle.flow_inputs.specs.declared.turns.State.{State}
+use Rattle.flow_inputs.specs.Items.{leaf_kind, text_state}
 use Rattle.flow_inputs.proofs.source.TextSourceTransducer.run.Goals as goal
+
+-- all its items are of the kind of its edge
+of_leaf : (text : List ℕ) (way : List Component) (leaf : Leaf) (place at : ℕ) (s : State) (ended : Bool) → (source_items (text_state text way leaf place at s ended)).kind ≡ leaf_kind leaf
+of_leaf text way leaf place at s true = refl
+of_leaf text way leaf place at s false = refl
+
+pub write_blocks-requires-clause-kind : goal.write_blocks-requires-clause-kind
+write_blocks-requires-clause-kind g c =
+    let n = c.args.self.now in
+    let edge = (g.E.Ends.view c.args.ends.now).kind (edge_of c.args.outputs.now 0) in
+    subst (TakesKind edge) (of_leaf _ n.way.items n.leaf n.place n.at n.state n.ended) (c.requires.placed.kinds 0 (omega (arith, c.requires.placed.each_output)))
 
 pub returns-then-write_blocks-gt0-clause-visited : goal.returns-then-write_blocks-gt0-clause-visited
 returns-then-write_blocks-gt0-clause-visited g c =

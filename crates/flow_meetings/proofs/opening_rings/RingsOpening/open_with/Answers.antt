@@ -4,7 +4,7 @@ use Rattle.flow_meetings.proofs.opening_rings.RingsOpening.open_with.Goals as go
 pub returns-clause-writer : goal.returns-clause-writer
 returns-clause-writer c =
     let w = c.in_ok-writer.ensures.writer in
-    rings_writer c.args.self.now c.put_writer.new.self c.args.edge c.args.capacity c.in_ok-writer.writer c.put_writer.ensures.put c.put_writer.ensures.readers c.requires.writer_place.0 w.0 w.1
+    rings_writer c.args.self.now c.put_writer.new.self c.args.edge c.args.capacity c.in_ok-writer.writer c.put_writer.ensures.put c.put_writer.ensures.readers c.requires.writer_place.0 w.0 w.1 c.in_ok-writer.ensures.any.0
 
 pub returns-clause-reader : goal.returns-clause-reader
 returns-clause-reader c =

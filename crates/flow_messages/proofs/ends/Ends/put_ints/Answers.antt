@@ -6,6 +6,8 @@ use Rattle.flow_messages.specs.Cells.{int}
 use Rattle.flow_messages.specs.Signals.{carry}
 use Rattle.flow_messages.specs.Ends.{PutAll}
 use Rattle.flow_messages.specs.Blocks.{int_signals}
+use Rattle.flow_messages.specs.declared.message.Kind.TheVariants.{Int as IntKind}
+use Rattle.flow_messages.proofs.Fitting.{kind_fits, fits_still}
 use Rattle.flow_messages.proofs.Blocks.{put_none, put_next, block_next, items_go_on}
 use Rattle.flow_messages.proofs.Widened.{widened}
 use Rattle.flow_messages.proofs.ends.Ends.put_ints.Goals as goal
@@ -13,8 +15,11 @@ use Rattle.flow_messages.proofs.ends.Ends.put_ints.Goals as goal
 pub loop-int-init : goal.loop-int-init
 loop-int-init g c = record { same = g.met.Self.Ends.same_refl c.args.self.now; put = put_none (g.Self.Ends.view c.args.self.now) c.args.edge }
 
-pub put-requires : goal.put-requires
-put-requires g c = c.loop-int.invariant.put.ends.writes c.args.edge ∙ c.requires.writes
+pub put-requires-clause-writes : goal.put-requires-clause-writes
+put-requires-clause-writes g c = c.loop-int.invariant.put.ends.writes c.args.edge ∙ c.requires.writes
+
+pub put-requires-clause-fits : goal.put-requires-clause-fits
+put-requires-clause-fits g c = fits_still _ _ c.args.edge _ c.loop-int.invariant.put.ends (kind_fits ((g.Self.Ends.view c.args.self.now).kind c.args.edge) IntKind _ c.requires.kind refl)
 
 pub loop-int-preserved : goal.loop-int-preserved
 loop-int-preserved g c =

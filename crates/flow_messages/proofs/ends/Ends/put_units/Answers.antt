@@ -4,14 +4,19 @@ use Rattle.flow_messages.specs.Cells.{unit}
 use Rattle.flow_messages.specs.Signals.{carry, ended}
 use Rattle.flow_messages.specs.Ends.{PutAll}
 use Rattle.flow_messages.specs.Blocks.{unit_signals}
+use Rattle.flow_messages.specs.declared.message.Kind.TheVariants.{Unit as UnitKind}
+use Rattle.flow_messages.proofs.Fitting.{kind_fits, fits_still}
 use Rattle.flow_messages.proofs.Blocks.{put_none, put_next, units_go_on}
 use Rattle.flow_messages.proofs.ends.Ends.put_units.Goals as goal
 
 pub loop-init : goal.loop-init
 loop-init g c = record { same = g.met.Self.Ends.same_refl c.args.self.now; put = put_none (g.Self.Ends.view c.args.self.now) c.args.edge }
 
-pub put-requires : goal.put-requires
-put-requires g c = c.loop.invariant.put.ends.writes c.args.edge ∙ c.requires.writes
+pub put-requires-clause-writes : goal.put-requires-clause-writes
+put-requires-clause-writes g c = c.loop.invariant.put.ends.writes c.args.edge ∙ c.requires.writes
+
+pub put-requires-clause-fits : goal.put-requires-clause-fits
+put-requires-clause-fits g c = fits_still _ _ c.args.edge _ c.loop.invariant.put.ends (kind_fits ((g.Self.Ends.view c.args.self.now).kind c.args.edge) UnitKind _ c.requires.kind refl)
 
 pub loop-preserved : goal.loop-preserved
 loop-preserved g c =

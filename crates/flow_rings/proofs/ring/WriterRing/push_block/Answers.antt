@@ -2,7 +2,8 @@ use Rattle.std.proofs.Common.{◌≡◌, false, subst}
 use Rattle.std.specs.List.{All}
 use Rattle.flow_messages.specs.declared.message.Kind.TheVariants.{Unit, Bool, Int}
 use Rattle.flow_messages.specs.Signals.{signals, signal_of, ended}
-use Rattle.flow_rings.specs.Flats.{message_of, FitsEdge}
+use Rattle.flow_messages.specs.Kinds.{FitsEdge}
+use Rattle.flow_rings.specs.Flats.{message_of}
 use Rattle.flow_rings.specs.Ring.{sent, writer_kind}
 use Rattle.flow_rings.proofs.Flats.{each_follows}
 use Rattle.flow_rings.proofs.ring.WriterRing.push_block.Goals as goal

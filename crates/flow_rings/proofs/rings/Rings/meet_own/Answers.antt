@@ -3,7 +3,7 @@ use Rattle.std.specs.Prelude.{Some}
 use Rattle.flow_rings.specs.Rings.{view_of_rings}
 use Rattle.flow_rings.proofs.RingLines.{writer-looked, reader-looked}
 use Rattle.flow_rings.proofs.Meetings.{kept-room, kept-messages, kept-trans, joins-writer, joins-reader, met_here}
-use Rattle.flow_rings.proofs.PutsAll.{all_kept, any_here, any_after, same_both, joined_in_place}
+use Rattle.flow_rings.proofs.InPlace.{same_both, joined_in_place}
 use Rattle.flow_rings.proofs.rings.Rings.meet_own.Goals as goal
 
 pub returns-clause-kept : goal.returns-clause-kept
@@ -14,7 +14,7 @@ returns-clause-kept c =
     let m = c.meet.ensures in
     let ws' = set ws e (Some c.meet.new.writer) in
     kept-trans (view_of_rings ws rs) (view_of_rings ws' rs) _
-    (kept-room _ _ e (writer-looked ws rs e _ c.in-Some-Some.writer c.meet.new.writer (joins-writer ws e _ c.requires) c.index_mut.ensures.value c.in-Some-Some.is-0 m.writer.1 m.looked.0))
+    (kept-room _ _ e (writer-looked ws rs e _ c.in-Some-Some.writer c.meet.new.writer (joins-writer ws e _ c.requires) c.index_mut.ensures.value c.in-Some-Some.is-0 m.writer.0 m.writer.1 m.looked.0))
     (kept-messages _ _ e (reader-looked ws' rs e _ c.in-Some-Some.reader c.meet.new.reader (joins-reader _ rs e c.requires) c.index_mut-2.ensures.value c.in-Some-Some.is-1 m.reader.1 m.looked.1))
 
 pub returns-clause-met : goal.returns-clause-met
@@ -23,13 +23,6 @@ returns-clause-met c =
     let rs = c.args.self.now.readers.items in
     let m = c.meet.ensures in
     met_here ws rs _ _ c.args.edge c.meet.new.writer c.meet.new.reader c.meet.result (joins-writer ws c.args.edge _ c.requires) (joins-reader _ rs c.args.edge c.requires) refl refl m.fifo m.count m.room m.whole
-
-pub invariant_of-self : goal.invariant_of-self
-invariant_of-self c =
-    let ws = c.args.self.now.writers.items in
-    let e = c.args.edge in
-    let any = any_here ws e _ _ c.in-Some-Some.writer (joins-writer ws e _ c.requires) c.index_mut.ensures.value c.in-Some-Some.is-0 c.args.self.now.any in
-    record { any = all_kept ws e (Some c.meet.new.writer) (any_after c.in-Some-Some.writer c.meet.new.writer c.meet.ensures.writer.0 any) c.args.self.now.any }
 
 pub returns-clause-same : goal.returns-clause-same
 returns-clause-same c =

@@ -2,14 +2,14 @@ use Rattle.std.proofs.Common.{refl}
 use Rattle.std.specs.Prelude.{Some}
 use Rattle.flow_rings.proofs.RingLines.{writer-looked, reader-looked}
 use Rattle.flow_rings.proofs.Meetings.{kept-room, kept-messages, joins-writer, joins-reader, met_here}
-use Rattle.flow_rings.proofs.PutsAll.{all_kept, any_here, any_after, same_writers, same_readers, joined_in_place}
+use Rattle.flow_rings.proofs.InPlace.{same_writers, same_readers, joined_in_place}
 use Rattle.flow_rings.proofs.rings.Rings.meet_with.Goals as goal
 
 pub returns-clause-writer_kept : goal.returns-clause-writer_kept
 returns-clause-writer_kept c =
     let ws = c.args.self.now.writers.items in
     let m = c.meet.ensures in
-    kept-room _ _ c.args.edge (writer-looked ws c.args.self.now.readers.items c.args.edge _ c.in-Some-Some.writer c.meet.new.writer (joins-writer ws c.args.edge _ c.requires) c.index_mut.ensures.value c.in-Some-Some.is-0 m.writer.1 m.looked.0)
+    kept-room _ _ c.args.edge (writer-looked ws c.args.self.now.readers.items c.args.edge _ c.in-Some-Some.writer c.meet.new.writer (joins-writer ws c.args.edge _ c.requires) c.index_mut.ensures.value c.in-Some-Some.is-0 m.writer.0 m.writer.1 m.looked.0)
 
 pub returns-clause-reader_kept : goal.returns-clause-reader_kept
 returns-clause-reader_kept c =
@@ -23,13 +23,6 @@ returns-clause-met c =
     let rs = c.args.other.now.readers.items in
     let m = c.meet.ensures in
     met_here ws rs _ _ c.args.edge c.meet.new.writer c.meet.new.reader c.meet.result (joins-writer ws c.args.edge _ c.requires) (joins-reader _ rs c.args.edge c.requires) refl refl m.fifo m.count m.room m.whole
-
-pub invariant_of-self : goal.invariant_of-self
-invariant_of-self c =
-    let ws = c.args.self.now.writers.items in
-    let e = c.args.edge in
-    let any = any_here ws e _ _ c.in-Some-Some.writer (joins-writer ws e _ c.requires) c.index_mut.ensures.value c.in-Some-Some.is-0 c.args.self.now.any in
-    record { any = all_kept ws e (Some c.meet.new.writer) (any_after c.in-Some-Some.writer c.meet.new.writer c.meet.ensures.writer.0 any) c.args.self.now.any }
 
 pub returns-clause-writer : goal.returns-clause-writer
 returns-clause-writer c =

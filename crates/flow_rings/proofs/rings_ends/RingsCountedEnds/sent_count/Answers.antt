@@ -1,3 +1,4 @@
+use Rattle.std.proofs.Common.{refl}
 use Rattle.flow_messages.proofs.Counts.{count-said}
 use Rattle.flow_rings.specs.Edge.{sent}
 use Rattle.flow_rings.specs.Rings.{writes_of}
@@ -9,4 +10,4 @@ returns c =
     let s = c.args.self.now in
     let ws = s.writers.items in
     let w = c.in-Some.writer in
-    count-said (sent w) (had_sent ws s.readers.items c.args.edge _ w w (at_line-there writes_of ws c.args.edge c.requires) c.index.ensures c.in-Some.is) w.counts
+    count-said (sent w) (had_sent ws s.readers.items c.args.edge _ w w (at_line-there writes_of ws c.args.edge c.requires) c.index.ensures c.in-Some.is (refl, refl)) w.counts

@@ -1,7 +1,9 @@
 use Rattle.std.proofs.Common.{◌≡◌, ◌+◌, ◌*◌, ◌<◌, length, pos, sym, ap, subst, arith}
 use Rattle.snesl_operators.specs.declared.scalar.Scalar.TheVariants.{Int}
+use Rattle.flow_messages.specs.declared.message.Kind.TheVariants.{Int as IntKind}
+use Rattle.flow_messages.proofs.Fitting.{takes_still}
 use Rattle.flow_base.specs.Nodes.{NodeState, behaviour_of, node_state}
-use Rattle.flow_base.specs.Visits.{Went}
+use Rattle.flow_base.specs.Visits.{edge_of, Went}
 use Rattle.flow_base.specs.declared.node.Phase.TheVariants.{Working}
 use Rattle.flow_base.proofs.Carried.{same_ends_refl, same_ends_then}
 use Rattle.flow_base.proofs.Kernels.{went_none, went_looked}
@@ -63,3 +65,14 @@ rounds-preserved g c =
           let began = subst (λ k. Went ins outs (behaviour_of binary_machine) k a k v c.rounds.made) (sym at_start) (inv.went at) in
           subst (λ k. Went ins outs (behaviour_of binary_machine) k a k w (c.rounds.made + 3 * count)) at_start (block_went n.dialect n.operator ins outs at Int (pos 0) c.requires.apart u c.ints.result.now c.ints-in-rounds.result.now c.ints_of-count.new.values count w1 w2 w reads writes began c.space.ensures.looked (omega arith) made.lefts made.rights (omega arith) made.values c.ints.ensures c.ints-in-rounds.ensures c.skip.ensures.taken c.skip-in-rounds.ensures.taken c.put_ints.ensures.put);
     }
+
+pub put_ints-requires-clause-kind : goal.put_ints-requires-clause-kind
+put_ints-requires-clause-kind g c =
+    let to = edge_of c.args.outputs.now 0 in
+    let view = g.E.Ends.view in
+    let v = view c.rounds.ends in
+    let u = view c.space.new.self in
+    let r = view c.skip.new.self in
+    let there = c.requires.kinds 0 (omega (arith, c.requires.wired.each_output)) in
+    let looked = takes_still v u to IntKind c.space.ensures.looked.ends (takes_still (view c.args.ends.now) v to IntKind c.rounds.invariant.ends there) in
+    takes_still r (view c.skip-in-rounds.new.self) to IntKind c.skip-in-rounds.ensures.taken.ends (takes_still u r to IntKind c.skip.ensures.taken.ends looked)

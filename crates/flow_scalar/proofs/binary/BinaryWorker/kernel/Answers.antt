@@ -3,8 +3,12 @@ use Rattle.std.proofs.lemmas.List.Elements.{All-get_or}
 use mathlib.Core.List.{IsPrefix}
 use Rattle.snesl_data.specs.declared.dialect.Dialect.{Dialect}
 use Rattle.snesl_operators.specs.declared.operator.BinaryOperator.{BinaryOperator}
-use Rattle.snesl_operators.specs.Operators.{binary_operand}
+use Rattle.snesl_operators.specs.Operators.{binary_operand, binary_result}
 use Rattle.flow_messages.specs.Signals.{signal_of, carry}
+use Rattle.flow_messages.specs.Kinds.{FitsEdge}
+use Rattle.flow_messages.proofs.Fitting.{kind_fits, fits_still}
+use Rattle.flow_folds.specs.ScalarCells.{is_of-cell}
+use Rattle.flow_scalar.proofs.ValueTypes.{binary_value_type}
 use Rattle.flow_base.specs.Nodes.{NodeState, behaviour_of, node_state}
 use Rattle.flow_base.specs.Visits.{edge_of, Went, Wrote}
 use Rattle.flow_base.specs.declared.node.Phase.TheVariants.{Working}
@@ -12,7 +16,7 @@ use Rattle.flow_base.proofs.Carried.{same_ends_then, taken_room}
 use Rattle.flow_base.proofs.Kernels.{went_none, went_looked, went_read, went_write, leads_on}
 use Rattle.std.specs.Prelude.{Ok}
 use Rattle.flow_scalar.specs.Operands.{on_operand}
-use Rattle.flow_folds.specs.Scalars.{cell_of_scalar}
+use Rattle.flow_folds.specs.Scalars.{kind_of_type, cell_of_scalar}
 use Rattle.flow_scalar.specs.declared.binary.Progress.{Progress}
 use Rattle.flow_scalar.specs.declared.binary.Progress.TheVariants.{Start, Left, Value}
 use Rattle.flow_scalar.specs.BinaryMachine.{binary_next, binary_machine, binary_view}
@@ -89,6 +93,29 @@ put_in_space-requires-clause-writes g c =
     let second = c.take_front-in-loop-made.ensures.taken y (subst (IsPrefix (y ∷ [])) (sym (first.coming (edge_of ins 1) apart)) c.in-Some-front.ensures) in
     let there : 0 < length outs = omega (arith, c.requires.wired.each_output) in
     second.ends.writes _ ∙ first.ends.writes _ ∙ c.loop-made.invariant.ends.writes _ ∙ All-get_or (λ e. a.writes e ≡ true) outs 0 0 there c.requires.wired.writes
+
+-- the value is of the operator's type
+pub put_in_space-requires-clause-fits : goal.put_in_space-requires-clause-fits
+put_in_space-requires-clause-fits g c =
+    let ins = c.args.inputs.now in
+    let to = edge_of c.args.outputs.now 0 in
+    let view = g.E.Ends.view in
+    let a = view c.args.ends.now in
+    let v = view c.loop-made.ends in
+    let u = view c.take_front.new.ends in
+    let w = view c.take_front-in-loop-made.new.ends in
+    let n = c.args.self.now in
+    let value = c.in-Some-value_at.value in
+    let x = signal_of c.in-Some.first.now in
+    let y = signal_of c.in-Some-front.second.now in
+    let apart : edge_of ins 1 ≢ edge_of ins 0 = λ e. c.if-lefts-rights.false (sym e) in
+    let first = c.take_front.ensures.taken x c.in-Some.ensures in
+    let second = c.take_front-in-loop-made.ensures.taken y (subst (IsPrefix (y ∷ [])) (sym (first.coming (edge_of ins 1) apart)) c.in-Some-front.ensures) in
+    let there = c.requires.kinds 0 (omega (arith, c.requires.wired.each_output)) in
+    let same = same_ends_then a u w (same_ends_then a v u c.loop-made.invariant.ends first.ends) second.ends in
+    let is = is_of-cell value (binary_result n.operator) (binary_value_type n.dialect n.operator c.in-Some-left_at.left y value c.in-Some-value_at.ensures) in
+    let told : FitsEdge (w.kind to) (carry (cell_of_scalar value)) = fits_still a w to _ same (kind_fits (a.kind to) (kind_of_type (binary_result n.operator)) (carry (cell_of_scalar value)) there is) in
+    subst (λ x. FitsEdge (w.kind to) (carry x)) (sym c.item_of.ensures) told
 
 pub put_in_space-requires-clause-certain : goal.put_in_space-requires-clause-certain
 put_in_space-requires-clause-certain g c =

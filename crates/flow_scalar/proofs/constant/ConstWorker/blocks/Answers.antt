@@ -4,8 +4,11 @@ use mir.Val.{SFits}
 use mir.Syntax.{w64, w128}
 use Rattle.snesl_operators.specs.declared.scalar.Scalar.{Scalar}
 use Rattle.snesl_operators.specs.declared.scalar.Scalar.TheVariants.{Int, Bool as Truth}
+use Rattle.snesl_operators.specs.Operators.{type_of}
+use Rattle.flow_messages.specs.Kinds.{TakesKind}
+use Rattle.flow_folds.specs.Scalars.{kind_of_type}
 use Rattle.flow_base.specs.Nodes.{NodeState, behaviour_of, node_state}
-use Rattle.flow_base.specs.Visits.{Went}
+use Rattle.flow_base.specs.Visits.{edge_of, Went}
 use Rattle.flow_base.specs.declared.node.Phase.TheVariants.{Working}
 use Rattle.flow_base.proofs.Kernels.{went_none}
 use Rattle.flow_scalar.specs.ConstMachine.{const_machine, const_view}
@@ -68,3 +71,24 @@ returns-in-Bool-clause-went g c =
     let on : Scalar → Bool → NodeState (Scalar × Bool) = λ k due. node_state (k, due) Working at in
     let at_start : on (Truth c.in-Bool.truth) false ≡ on n.scalar n.due = ap (λ k. on k false) (sym c.in-Bool.is) ∙ ap (on n.scalar) (sym c.if-self.false) in
     subst (λ s. Went ins outs (behaviour_of const_machine) s (view c.args.ends.now) s (view c.flags_for_units.new.ends) c.flags_for_units.result) at_start (c.flags_for_units.ensures.written ins outs reads refl writes refl at)
+
+pub ints_for_units-requires-clause-kind : goal.ints_for_units-requires-clause-kind
+ints_for_units-requires-clause-kind g c =
+    let edge = edge_of c.args.outputs.now 0 in
+    let k = (g.E.Ends.view c.args.ends.now).kind edge in
+    let there = c.requires.kinds 0 (omega (arith, c.requires.wired.each_output)) in
+    subst (λ x. TakesKind k (kind_of_type (type_of x))) c.in-Int.is there
+
+pub ints_for_units-requires-in-Ok-2-clause-kind : goal.ints_for_units-requires-in-Ok-2-clause-kind
+ints_for_units-requires-in-Ok-2-clause-kind g c =
+    let edge = edge_of c.args.outputs.now 0 in
+    let k = (g.E.Ends.view c.args.ends.now).kind edge in
+    let there = c.requires.kinds 0 (omega (arith, c.requires.wired.each_output)) in
+    subst (λ x. TakesKind k (kind_of_type (type_of x))) c.in-Int.is there
+
+pub flags_for_units-requires-clause-kind : goal.flags_for_units-requires-clause-kind
+flags_for_units-requires-clause-kind g c =
+    let edge = edge_of c.args.outputs.now 0 in
+    let k = (g.E.Ends.view c.args.ends.now).kind edge in
+    let there = c.requires.kinds 0 (omega (arith, c.requires.wired.each_output)) in
+    subst (λ x. TakesKind k (kind_of_type (type_of x))) c.in-Bool.is there

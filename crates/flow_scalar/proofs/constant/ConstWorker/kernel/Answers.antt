@@ -2,13 +2,17 @@ use Rattle.std.proofs.Common.{◌≡◌, ◌+◌, ◌<◌, ◌*◌, Bool, true, 
 use Rattle.std.proofs.lemmas.List.Elements.{All-get_or}
 use Rattle.flow_messages.specs.Cells.{unit}
 use Rattle.flow_messages.specs.Signals.{signal_of, carry}
+use Rattle.flow_messages.specs.Kinds.{FitsEdge}
+use Rattle.flow_messages.proofs.Fitting.{kind_fits, fits_still}
+use Rattle.snesl_operators.specs.Operators.{type_of}
+use Rattle.flow_folds.specs.ScalarCells.{is_of-cell}
 use Rattle.flow_base.specs.Nodes.{NodeState, behaviour_of, node_state}
 use Rattle.flow_base.specs.Visits.{edge_of, Went, Wrote}
 use Rattle.flow_base.specs.declared.node.Phase.TheVariants.{Working}
 use Rattle.flow_base.proofs.Carried.{same_ends_then, taken_room}
 use Rattle.flow_base.proofs.Kernels.{went_none, went_looked, went_read, went_write}
 use Rattle.snesl_operators.specs.declared.scalar.Scalar.{Scalar}
-use Rattle.flow_folds.specs.Scalars.{cell_of_scalar}
+use Rattle.flow_folds.specs.Scalars.{kind_of_type, cell_of_scalar}
 use Rattle.flow_scalar.specs.ConstMachine.{const_machine, const_view}
 use Rattle.flow_folds.proofs.SegmentBlocks.{two_more}
 use Rattle.flow_scalar.proofs.constant.ConstWorker.kernel.Goals as goal
@@ -47,6 +51,19 @@ put_in_space-requires-clause-writes g c =
     let there : 0 < length outs = omega (arith, c.requires.wired.each_output) in
     let taken = c.take_front.ensures.taken (signal_of c.in-Some.message.now) c.in-Some.ensures in
     taken.ends.writes _ ∙ c.loop-made.invariant.ends.writes _ ∙ All-get_or (λ e. a.writes e ≡ true) outs 0 0 there c.requires.wired.writes
+
+pub put_in_space-requires-clause-fits : goal.put_in_space-requires-clause-fits
+put_in_space-requires-clause-fits g c =
+    let to = edge_of c.args.outputs.now 0 in
+    let view = g.E.Ends.view in
+    let a = view c.args.ends.now in
+    let u = view c.take_front.new.ends in
+    let k = c.args.self.now.scalar in
+    let there = c.requires.kinds 0 (omega (arith, c.requires.wired.each_output)) in
+    let taken = c.take_front.ensures.taken (signal_of c.in-Some.message.now) c.in-Some.ensures in
+    let same = same_ends_then a (view c.loop-made.ends) u c.loop-made.invariant.ends taken.ends in
+    let told : FitsEdge (u.kind to) (carry (cell_of_scalar k)) = fits_still a u to _ same (kind_fits (a.kind to) (kind_of_type (type_of k)) (carry (cell_of_scalar k)) there (is_of-cell k (type_of k) refl)) in
+    subst (λ x. FitsEdge (u.kind to) (carry x)) (sym c.item_of.ensures) told
 
 pub put_in_space-requires-clause-certain : goal.put_in_space-requires-clause-certain
 put_in_space-requires-clause-certain g c =

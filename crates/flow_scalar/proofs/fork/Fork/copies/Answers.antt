@@ -1,6 +1,7 @@
 use Rattle.std.proofs.Common.{◌≡◌, ℕ, ◌+◌, ◌*◌, length, subst, arith}
+use Rattle.flow_messages.proofs.Fitting.{takes_still}
 use Rattle.flow_base.specs.Nodes.{behaviour_of, node_state}
-use Rattle.flow_base.specs.Visits.{Went}
+use Rattle.flow_base.specs.Visits.{edge_of, Went}
 use Rattle.flow_base.specs.declared.node.Phase.TheVariants.{Working}
 use Rattle.flow_base.proofs.Kernels.{went_none, went_further}
 use Rattle.flow_scalar.specs.ForkMachine.{fork_machine}
@@ -28,3 +29,8 @@ returns-clause-went g c = λ at.
     let steps = length outs + 1 in
     let looked = c.least_space.ensures.went ins s in
     subst (Went ins outs b s (view c.args.ends.now) s (view c.instances.new.ends)) (none_first (steps * c.instances.result)) (went_further b ins outs looked (c.instances.ensures.went at))
+
+pub instances-requires-clause-kinds : goal.instances-requires-clause-kinds
+instances-requires-clause-kinds g c = λ q lt.
+    let view = g.E.Ends.view in
+    takes_still (view c.args.ends.now) (view c.least_space.new.ends) (edge_of c.args.outputs.now q) c.args.self.now.kind c.least_space.ensures.ends (c.requires.kinds q lt)

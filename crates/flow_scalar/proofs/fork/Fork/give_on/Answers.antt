@@ -1,6 +1,7 @@
 use Rattle.std.proofs.Common.{◌+◌, ◌<◌, length, refl, sym, ◌∙◌, subst, arith, rules}
 use Rattle.flow_messages.specs.Cells.{cell_of}
 use Rattle.flow_messages.specs.Signals.{carry}
+use Rattle.flow_messages.proofs.Fitting.{kind_fits, fits_still}
 use Rattle.flow_base.specs.Nodes.{NodeState, behaviour_of, node_state}
 use Rattle.flow_base.specs.Visits.{edge_of, Went, Wrote}
 use Rattle.flow_base.specs.declared.node.Phase.TheVariants.{Working}
@@ -17,6 +18,9 @@ returns-in-None-clause-went g c = λ ins at. went_none (behaviour_of fork_machin
 pub returns-in-None-2-clause-went : goal.returns-in-None-2-clause-went
 returns-in-None-2-clause-went g c = λ ins at. went_none (behaviour_of fork_machine) ins c.args.outputs.now (node_state (fork_view c.args.self.now) Working at) (g.E.Ends.view c.args.ends.now)
 
+pub returns-then-not-fits-clause-went : goal.returns-then-not-fits-clause-went
+returns-then-not-fits-clause-went g c = λ ins at. went_none (behaviour_of fork_machine) ins c.args.outputs.now (node_state (fork_view c.args.self.now) Working at) (g.E.Ends.view c.args.ends.now)
+
 pub loop-made-init : goal.loop-made-init
 loop-made-init g c = record {
   same = g.met.E.Ends.same_refl c.args.ends.now;
@@ -26,6 +30,7 @@ loop-made-init g c = record {
   next = search rules;
   held = (c.in-Some.item, c.in-Some.is, sym c.copy_of-item.ensures);
   scalar = search rules;
+  of_kind = search rules;
   went = λ ins at. went_none (behaviour_of fork_machine) ins c.args.outputs.now (node_state (fork_view c.args.self.now) Working at) (g.E.Ends.view c.args.ends.now);
 }
 
@@ -76,6 +81,7 @@ loop-made-preserved g c =
       next = more;
       held = inv.held;
       scalar = inv.scalar;
+      of_kind = inv.of_kind;
       went = λ ins at.
           let on : ForkState → NodeState (ForkPorts × ForkState) = λ s. node_state (p, s) Working at in
           let s = node_state (fork_view c.args.self.now) Working at in
@@ -85,3 +91,16 @@ loop-made-preserved g c =
           let holds = subst (λ o. Went ins outs b s a (on o) w (c.loop-made.made + 1)) (owing_more x n.outputs n.next more) given in
           subst (λ o. Went ins outs b s a (on (fork_state n.outputs (n.next + 1) o)) w (c.loop-made.made + 1)) (sym inv.held.1) holds;
     }
+
+-- the item is of the kind of the outputs
+pub put_copy-requires-clause-fits : goal.put_copy-requires-clause-fits
+put_copy-requires-clause-fits g c =
+    let outs = c.args.outputs.now in
+    let view = g.E.Ends.view in
+    let a = view c.args.ends.now in
+    let u = view c.space.new.self in
+    let next = c.loop-made.self.next in
+    let to = edge_of outs next in
+    let there : next < length outs = omega (arith, c.loop-made.invariant.next, c.loop-made.invariant.outputs, c.requires.outputs) in
+    let same = same_ends_then a (view c.loop-made.ends) u c.loop-made.invariant.ends c.space.ensures.looked.ends in
+    fits_still a u to _ same (kind_fits (a.kind to) c.args.self.now.kind _ (c.requires.kinds next there) c.loop-made.invariant.of_kind)

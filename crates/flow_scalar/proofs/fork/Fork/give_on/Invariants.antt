@@ -1,4 +1,4 @@
-use Rattle.std.proofs.Common.{◌≡◌, ℕ, ◌<◌, false, Some, List}
+use Rattle.std.proofs.Common.{◌≡◌, ℕ, ◌<◌, true, false, Some, List}
 use Rattle.flow_messages.specs.Cells.{cell_of, is_of}
 use Rattle.flow_messages.specs.Ends.{SameEnds}
 use Rattle.flow_messages.specs.declared.message.Item.{Item}
@@ -20,5 +20,6 @@ invariant-loop-made g l = let view = g.E.Ends.view in record {
   next : l.self.next < l.self.outputs;
   held : (x : Item) × (l.self.held ≡ Some x) × (cell_of x ≡ cell_of l.item);
   scalar : is_of VecKind (cell_of l.item) ≡ false;
+  of_kind : is_of l.fn.self.kind (cell_of l.item) ≡ true;
   went : (inputs : List ℕ) (at : ℕ) → Went inputs l.fn.outputs (behaviour_of fork_machine) (node_state (fork_view l.fn.self) Working at) (view l.fn.ends) (node_state (fork_view l.self) Working at) (view l.ends) l.made;
 }

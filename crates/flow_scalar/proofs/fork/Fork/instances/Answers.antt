@@ -1,6 +1,8 @@
 use Rattle.std.proofs.Common.{◌≡◌, ℕ, ◌+◌, ◌<◌, ◌*◌, length, refl, sym, ap, subst, arith}
+use Rattle.flow_messages.specs.Kinds.{TakesKind}
+use Rattle.flow_messages.proofs.Fitting.{takes_still}
 use Rattle.flow_base.specs.Nodes.{NodeState, behaviour_of, node_state}
-use Rattle.flow_base.specs.Visits.{Went}
+use Rattle.flow_base.specs.Visits.{edge_of, Went}
 use Rattle.flow_base.specs.declared.node.Phase.TheVariants.{Working}
 use Rattle.flow_base.proofs.Carried.{same_ends_refl, same_ends_then}
 use Rattle.flow_base.proofs.Kernels.{went_none, went_further}
@@ -79,3 +81,10 @@ loop-made-preserved g c =
           let copied = subst (λ k. Went ins outs b k v k w ((length outs + 1) * count)) at_start (block.copied ins reads refl p c.requires.kind c.requires.outputs at) in
           subst (Went ins outs b s a s w) (instances_more (length outs + 1) c.loop-made.made count) (went_further b ins outs (inv.went at) copied);
     }
+
+pub block_to_each-count-requires-clause-kinds : goal.block_to_each-count-requires-clause-kinds
+block_to_each-count-requires-clause-kinds g c = λ q lt.
+    let view = g.E.Ends.view in
+    let v = view c.loop-made.ends in
+    let to = edge_of c.args.outputs.now q in
+    subst (TakesKind (v.kind to)) c.requires.kind (takes_still (view c.args.ends.now) v to c.args.self.now.kind c.loop-made.invariant.ends (c.requires.kinds q lt))

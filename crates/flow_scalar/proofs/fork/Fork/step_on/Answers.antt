@@ -1,6 +1,8 @@
-use Rattle.std.proofs.Common.{◌≡◌, ◌+◌, refl, ◌∙◌, subst, arith}
+use Rattle.std.proofs.Common.{◌≡◌, ◌+◌, refl, sym, ◌∙◌, subst, arith}
+use Rattle.flow_messages.specs.Kinds.{TakesKind}
+use Rattle.flow_messages.proofs.Fitting.{takes_still}
 use Rattle.flow_base.specs.Nodes.{behaviour_of, node_state}
-use Rattle.flow_base.specs.Visits.{Went}
+use Rattle.flow_base.specs.Visits.{edge_of, Went}
 use Rattle.flow_base.specs.declared.node.Phase.TheVariants.{Working}
 use Rattle.flow_base.proofs.Carried.{same_ends_refl, same_ends_then}
 use Rattle.flow_base.proofs.Kernels.{went_none, went_further}
@@ -14,6 +16,7 @@ loop-init g c = record {
   ends = same_ends_refl (g.E.Ends.view c.args.ends.now);
   within = omega arith;
   ports = refl;
+  kind = refl;
   went = λ at. went_none (behaviour_of fork_machine) c.args.inputs.now c.args.outputs.now (node_state (fork_view c.args.self.now) Working at) (g.E.Ends.view c.args.ends.now);
 }
 
@@ -51,5 +54,16 @@ loop-preserved g c =
       ends = same_ends_then (view a) (view u) (view w) (same_ends_then (view a) (view v) (view u) inv.ends took.ends) gave.ends;
       within = omega (arith, inv.within, took.within, gave.within);
       ports = gave.ports ∙ took.ports ∙ inv.ports;
+      kind = gave.kind ∙ took.kind ∙ inv.kind;
       went = λ at. went_further b ins outs (went_further b ins outs (inv.went at) (took.went at)) (gave.went ins at);
     }
+
+pub give_on-given-requires-clause-kinds : goal.give_on-given-requires-clause-kinds
+give_on-given-requires-clause-kinds g c = λ q lt.
+    let view = g.E.Ends.view in
+    let a = view c.args.ends.now in
+    let u = view c.take_on-made.new.ends in
+    let to = edge_of c.args.outputs.now q in
+    let took = c.take_on-made.ensures in
+    let same = same_ends_then a (view c.loop.ends) u c.loop.invariant.ends took.ends in
+    subst (TakesKind (u.kind to)) (sym (took.kind ∙ c.loop.invariant.kind)) (takes_still a u to c.args.self.now.kind same (c.requires.kinds q lt))

@@ -2,6 +2,7 @@ use Rattle.std.proofs.Common.{◌≡◌, ℕ, ◌+◌, ◌<◌, ◌*◌, true, O
 use Rattle.std.proofs.lemmas.List.Elements.{All-get_or}
 use Rattle.flow_messages.specs.Cells.{cell_of}
 use Rattle.flow_messages.specs.Signals.{signal_of}
+use Rattle.flow_messages.proofs.Fitting.{kind_fits, fits_still}
 use Rattle.flow_base.specs.Machines.{on_kind}
 use Rattle.flow_base.specs.Nodes.{NodeState, behaviour_of, node_state}
 use Rattle.flow_base.specs.Visits.{edge_of, Went}
@@ -47,6 +48,16 @@ put_on_each-requires-clause-writes g c =
     let a = g.E.Ends.view c.args.ends.now in
     let taken = c.take_front.ensures.taken (signal_of c.in-Some.message.now) c.in-Some.ensures in
     λ k d lt. taken.ends.writes _ ∙ c.loop-made.invariant.ends.writes _ ∙ All-get_or (λ e. a.writes e ≡ true) outs k d lt c.requires.wired.writes
+
+pub put_on_each-requires-clause-fits : goal.put_on_each-requires-clause-fits
+put_on_each-requires-clause-fits g c = λ q lt.
+    let view = g.E.Ends.view in
+    let a = view c.args.ends.now in
+    let u = view c.take_front.new.ends in
+    let to = edge_of c.args.outputs.now q in
+    let taken = c.take_front.ensures.taken (signal_of c.in-Some.message.now) c.in-Some.ensures in
+    let same = same_ends_then a (view c.loop-made.ends) u c.loop-made.invariant.ends taken.ends in
+    fits_still a u to _ same (kind_fits (a.kind to) c.args.self.now.kind _ (c.requires.kinds q lt) c.in-Some-item_at.ensures.kind)
 
 pub put_on_each-requires-clause-room : goal.put_on_each-requires-clause-room
 put_on_each-requires-clause-room g c =

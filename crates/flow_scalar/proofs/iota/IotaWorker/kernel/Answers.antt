@@ -5,6 +5,8 @@ use Rattle.std.proofs.lemmas.Int.{ints}
 use Rattle.flow_messages.specs.Signals.{carry}
 use Rattle.flow_messages.specs.Cells.{flag, int}
 use Rattle.flow_messages.specs.Ends.{SameEnds}
+use Rattle.flow_messages.specs.declared.message.Kind.TheVariants.{Bool as BoolKind, Int as IntKind}
+use Rattle.flow_messages.proofs.Fitting.{kind_fits, fits_still}
 use Rattle.flow_base.specs.Machines.{on_int}
 use Rattle.flow_base.specs.Nodes.{NodeState, behaviour_of, node_state}
 use Rattle.flow_base.specs.Visits.{edge_of, Went}
@@ -74,6 +76,32 @@ returns-clause-went g c =
     let s = node_state (iota_view c.args.self.now) Working at in
     let t = node_state (iota_view (Flag (to_z w128 c.loop-made.next-bits) (to_z w128 c.loop-made.end-bits))) Working at in
     subst (Went c.args.inputs.now c.args.outputs.now (behaviour_of iota_machine) s (view c.args.ends.now) t (view c.loop-made.ends)) (ap (λ n. 2 * n) all) (c.loop-made.invariant.went at)
+
+-- flags go to the first output, and numbers to the second
+pub put_in_space-requires-clause-fits : goal.put_in_space-requires-clause-fits
+put_in_space-requires-clause-fits g c =
+    let to = edge_of c.args.outputs.now 0 in
+    let a = g.E.Ends.view c.args.ends.now in
+    let there = c.requires.kinds 0 (omega (arith, c.requires.wired.each_output)) in
+    fits_still a (g.E.Ends.view c.loop-made.ends) to _ c.loop-made.invariant.ends (kind_fits (a.kind to) BoolKind _ there refl)
+
+pub put_in_space-requires-then-next-end-clause-fits : goal.put_in_space-requires-then-next-end-clause-fits
+put_in_space-requires-then-next-end-clause-fits g c =
+    let to = edge_of c.args.outputs.now 1 in
+    let view = g.E.Ends.view in
+    let a = view c.args.ends.now in
+    let v = view c.loop-made.ends in
+    let u = view c.put_in_space.new.ends in
+    let there = c.requires.kinds 1 (omega (arith, c.requires.wired.each_output)) in
+    let same = same_ends_then a v u c.loop-made.invariant.ends c.put_in_space.ensures.wrote.ends in
+    fits_still a u to _ same (kind_fits (a.kind to) IntKind _ there refl)
+
+pub put_in_space-requires-else-next-end-clause-fits : goal.put_in_space-requires-else-next-end-clause-fits
+put_in_space-requires-else-next-end-clause-fits g c =
+    let to = edge_of c.args.outputs.now 0 in
+    let a = g.E.Ends.view c.args.ends.now in
+    let there = c.requires.kinds 0 (omega (arith, c.requires.wired.each_output)) in
+    fits_still a (g.E.Ends.view c.loop-made.ends) to _ c.loop-made.invariant.ends (kind_fits (a.kind to) BoolKind _ there refl)
 
 pub loop-made-preserved : goal.loop-made-preserved
 loop-made-preserved g c =

@@ -1,6 +1,9 @@
 use Rattle.std.proofs.Common.{◌≡◌, ◌+◌, ◌<◌, ◌*◌, true, length, refl, sym, ◌∙◌, ap, subst, arith, Some, None}
 use Rattle.std.proofs.lemmas.List.Elements.{All-get_or}
 use Rattle.flow_messages.specs.Signals.{signal_of, carry}
+use Rattle.flow_messages.specs.Kinds.{FitsEdge}
+use Rattle.flow_messages.proofs.Fitting.{kind_fits, fits_still}
+use Rattle.flow_folds.specs.ScalarCells.{is_of-cell}
 use Rattle.flow_base.specs.Nodes.{behaviour_of, node_state}
 use Rattle.flow_base.specs.Visits.{edge_of, Went, Wrote}
 use Rattle.flow_base.specs.declared.node.Phase.TheVariants.{Working}
@@ -10,10 +13,11 @@ use Rattle.snesl_data.specs.declared.dialect.Dialect.{Dialect}
 use Rattle.snesl_operators.specs.declared.operator.UnaryOperator.{UnaryOperator}
 use Rattle.snesl_operators.specs.Operators.{unary_operand}
 use Rattle.flow_scalar.specs.Operands.{on_operand}
-use Rattle.flow_folds.specs.Scalars.{cell_of_scalar}
+use Rattle.flow_folds.specs.Scalars.{kind_of_type, cell_of_scalar}
 use Rattle.flow_scalar.specs.UnaryMachine.{unary_next, unary_machine, unary_view}
 use Rattle.flow_folds.proofs.SegmentBlocks.{two_more}
 use Rattle.flow_scalar.proofs.Leading.{nothing}
+use Rattle.flow_scalar.proofs.ValueTypes.{unary_value_type}
 use Rattle.flow_scalar.proofs.unary.UnaryWorker.kernel.Goals as goal
 
 -- it made no step
@@ -60,6 +64,23 @@ put_in_space-requires-clause-writes g c =
     let there : 0 < length outs = omega (arith, c.requires.wired.each_output) in
     let taken = c.take_front.ensures.taken (signal_of c.in-Some.message.now) c.in-Some.ensures in
     taken.ends.writes _ ∙ c.loop-made.invariant.ends.writes _ ∙ All-get_or (λ e. a.writes e ≡ true) outs 0 0 there c.requires.wired.writes
+
+-- the value is of the operator's type
+pub put_in_space-requires-clause-fits : goal.put_in_space-requires-clause-fits
+put_in_space-requires-clause-fits g c =
+    let to = edge_of c.args.outputs.now 0 in
+    let view = g.E.Ends.view in
+    let a = view c.args.ends.now in
+    let u = view c.take_front.new.ends in
+    let n = c.args.self.now in
+    let v = c.in-Some-value_at.value in
+    let x = signal_of c.in-Some.message.now in
+    let there = c.requires.kinds 0 (omega (arith, c.requires.wired.each_output)) in
+    let taken = c.take_front.ensures.taken x c.in-Some.ensures in
+    let same = same_ends_then a (view c.loop-made.ends) u c.loop-made.invariant.ends taken.ends in
+    let is = is_of-cell v (unary_operand n.operator) (unary_value_type n.dialect n.operator x v c.in-Some-value_at.ensures) in
+    let told : FitsEdge (u.kind to) (carry (cell_of_scalar v)) = fits_still a u to _ same (kind_fits (a.kind to) (kind_of_type (unary_operand n.operator)) (carry (cell_of_scalar v)) there is) in
+    subst (λ x. FitsEdge (u.kind to) (carry x)) (sym c.item_of.ensures) told
 
 pub put_in_space-requires-clause-certain : goal.put_in_space-requires-clause-certain
 put_in_space-requires-clause-certain g c =

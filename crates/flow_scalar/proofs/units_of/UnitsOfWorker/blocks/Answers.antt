@@ -3,6 +3,8 @@ use Rattle.std.proofs.lemmas.List.{length-take-le}
 use Rattle.std.proofs.lemmas.List.Sums.{count_by-le-length}
 use Rattle.flow_messages.specs.Ends.{PutAll}
 use Rattle.flow_messages.specs.Blocks.{unit_signals, flag_signals}
+use Rattle.flow_messages.specs.declared.message.Kind.TheVariants.{Unit as UnitKind}
+use Rattle.flow_messages.proofs.Fitting.{takes_still}
 use Rattle.flow_base.specs.Nodes.{behaviour_of, node_state}
 use Rattle.flow_base.specs.Visits.{edge_of, Went}
 use Rattle.flow_base.specs.declared.node.Phase.TheVariants.{Working}
@@ -76,3 +78,13 @@ loop-ends-preserved g c =
           let went = singles_went ins outs b (flag_signals flags) (unit_signals (elements flags)) reads writes looked (units_of_rounds ins outs at flags) some (ended_units (elements flags)) v w taken put in
           subst (λ k. Went ins outs b s a k w (done + (whole + units))) at_start (subst (Went ins outs b s a (on ins outs at false) w) steps went);
     }
+
+pub put_units-requires-clause-kind : goal.put_units-requires-clause-kind
+put_units-requires-clause-kind g c =
+    let to = edge_of c.args.outputs.now 0 in
+    let view = g.E.Ends.view in
+    let v = view c.loop-ends.ends in
+    let u = view c.space-room.new.self in
+    let there = c.requires.kinds 0 (omega (arith, c.requires.wired.each_output)) in
+    let looked = takes_still v u to UnitKind c.space-room.ensures.looked.ends (takes_still (view c.args.ends.now) v to UnitKind c.loop-ends.invariant.ends there) in
+    takes_still u (view c.skip.new.self) to UnitKind c.skip.ensures.taken.ends looked

@@ -3,6 +3,8 @@ use Rattle.std.proofs.lemmas.List.Elements.{All-get_or}
 use Rattle.flow_messages.specs.Cells.{flag, unit}
 use Rattle.flow_messages.specs.Ends.{SameEnds}
 use Rattle.flow_messages.specs.Signals.{signal_of, carry}
+use Rattle.flow_messages.specs.declared.message.Kind.TheVariants.{Unit as UnitKind}
+use Rattle.flow_messages.proofs.Fitting.{kind_fits, fits_still}
 use Rattle.flow_base.specs.Nodes.{NodeState, behaviour_of, node_state}
 use Rattle.flow_base.specs.Visits.{edge_of, Went}
 use Rattle.flow_base.specs.declared.node.Phase.TheVariants.{Working}
@@ -39,6 +41,17 @@ put_in_space-requires-clause-writes g c =
     let there : 0 < length outs = omega (arith, c.requires.wired.each_output) in
     let taken = c.take_front.ensures.taken (signal_of c.in-Some.message.now) c.in-Some.ensures in
     taken.ends.writes _ ∙ c.loop.invariant.ends.writes _ ∙ All-get_or (λ e. a.writes e ≡ true) outs 0 0 there c.requires.wired.writes
+
+pub put_in_space-requires-clause-fits : goal.put_in_space-requires-clause-fits
+put_in_space-requires-clause-fits g c =
+    let to = edge_of c.args.outputs.now 0 in
+    let view = g.E.Ends.view in
+    let a = view c.args.ends.now in
+    let u = view c.take_front.new.ends in
+    let there = c.requires.kinds 0 (omega (arith, c.requires.wired.each_output)) in
+    let taken = c.take_front.ensures.taken (signal_of c.in-Some.message.now) c.in-Some.ensures in
+    let same = same_ends_then a (view c.loop.ends) u c.loop.invariant.ends taken.ends in
+    fits_still a u to _ same (kind_fits (a.kind to) UnitKind _ there refl)
 
 pub put_in_space-requires-clause-certain : goal.put_in_space-requires-clause-certain
 put_in_space-requires-clause-certain g c =

@@ -3,6 +3,8 @@ use Rattle.std.specs.Prelude.{replicate}
 use Rattle.flow_messages.specs.Cells.{cell_of, flag}
 use Rattle.flow_messages.specs.Blocks.{flag_signals}
 use Rattle.flow_messages.specs.Signals.{carry}
+use Rattle.flow_messages.specs.Kinds.{TakesKind}
+use Rattle.flow_messages.proofs.Fitting.{kind_fits}
 use Rattle.flow_base.specs.Nodes.{behaviour_of, node_state}
 use Rattle.flow_base.specs.Visits.{edge_of, Went}
 use Rattle.flow_base.specs.declared.node.Phase.TheVariants.{Working}
@@ -11,6 +13,19 @@ use Rattle.flow_base.proofs.Batches.{take_flags, length_flags, skipped}
 use Rattle.flow_segment.specs.DistMachine.{at_start, dist_machine, dist_view}
 use Rattle.flow_segment.proofs.DistBlocks.{held_at, same_block, segment_block, copies_rounds, segment_rounds, copies_went}
 use Rattle.flow_segment.proofs.dist.Dist.round.Goals as goal
+
+-- what is held is of the kind of the edge
+pub put_copies-requires-clause-kind : goal.put_copies-requires-clause-kind
+put_copies-requires-clause-kind g c =
+    let k = c.args.self.now.kind in
+    let same = c.skip.ensures.taken.ends.kinds _ ∙ c.space.ensures.looked.ends.kinds _ in
+    kind_fits _ k (carry (cell_of c.in-Some.item)) (subst (λ of. TakesKind of k) (sym same) c.requires.kind) (c.fits_a_block.ensures.kind c.if-not-fits_a_block.false)
+
+pub put_copies-requires-2-clause-kind : goal.put_copies-requires-2-clause-kind
+put_copies-requires-2-clause-kind g c =
+    let k = c.args.self.now.kind in
+    let same = c.skip-2.ensures.taken.ends.kinds _ ∙ c.space.ensures.looked.ends.kinds _ in
+    kind_fits _ k (carry (cell_of c.in-Some.item)) (subst (λ of. TakesKind of k) (sym same) c.requires.kind) (c.fits_a_block.ensures.kind c.if-not-fits_a_block.false)
 
 -- it made no step
 pub returns-then-not-fits_a_block-clause-went : goal.returns-then-not-fits_a_block-clause-went

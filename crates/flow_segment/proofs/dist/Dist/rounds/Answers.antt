@@ -1,6 +1,8 @@
-use Rattle.std.proofs.Common.{◌≡◌, ◌+◌, subst, arith}
+use Rattle.std.proofs.Common.{◌≡◌, ◌+◌, refl, sym, ◌∙◌, subst, arith}
+use Rattle.flow_messages.specs.Kinds.{TakesKind}
+use Rattle.flow_messages.proofs.Fitting.{takes_still}
 use Rattle.flow_base.specs.Nodes.{behaviour_of, node_state}
-use Rattle.flow_base.specs.Visits.{Went}
+use Rattle.flow_base.specs.Visits.{edge_of, Went}
 use Rattle.flow_base.specs.declared.node.Phase.TheVariants.{Working}
 use Rattle.flow_base.proofs.Carried.{same_ends_refl, same_ends_then}
 use Rattle.flow_base.proofs.Kernels.{went_none, went_further}
@@ -12,11 +14,19 @@ rounds-init g c =
     let a = g.E.Ends.view c.args.ends.now in
     record {
       idle = c.requires.idle;
+      kind = refl;
       same = g.met.E.Ends.same_refl c.args.ends.now;
       ends = same_ends_refl a;
       within = omega arith;
       went = λ at. went_none (behaviour_of dist_machine) c.args.inputs.now c.args.outputs.now (node_state (dist_view c.args.self.now) Working at) a;
     }
+
+pub round-steps-requires-clause-kind : goal.round-steps-requires-clause-kind
+round-steps-requires-clause-kind g c =
+    let view = g.E.Ends.view in
+    let to = edge_of c.args.outputs.now 0 in
+    let inv = c.rounds.invariant in
+    takes_still (view c.args.ends.now) (view c.rounds.ends) to c.rounds.self.kind inv.ends (subst (TakesKind ((view c.args.ends.now).kind to)) (sym inv.kind) c.requires.kind)
 
 -- nothing went on
 pub returns-then-steps-eq0-clause-went : goal.returns-then-steps-eq0-clause-went
@@ -39,6 +49,7 @@ rounds-preserved g c =
     let made = c.round-steps.ensures in
     record {
       idle = made.idle;
+      kind = made.kind ∙ inv.kind;
       same = g.met.E.Ends.same_trans c.args.ends.now c.rounds.ends z inv.same made.same;
       ends = same_ends_then (view c.args.ends.now) (view c.rounds.ends) (view z) inv.ends made.ends;
       within = omega (arith, inv.within, made.within);

@@ -10,6 +10,7 @@ use Rattle.flow_segment.proofs.dist.Dist.rounds.Given as goal
 abbrev pub invariant-rounds : goal.invariant-rounds
 invariant-rounds g l = let view = g.E.Ends.view in record {
   idle : l.self.copies ≡ false;
+  kind : l.self.kind ≡ l.fn.self.kind;
   same : g.E.Ends.same l.fn.ends l.ends;
   ends : SameEnds (view l.fn.ends) (view l.ends);
   within : l.made ≤ l.most;

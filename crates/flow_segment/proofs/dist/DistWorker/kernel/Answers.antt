@@ -4,6 +4,8 @@ use Rattle.flow_messages.specs.Cells.{cell_of, flag}
 use Rattle.flow_messages.specs.Signals.{carry}
 use Rattle.flow_messages.specs.declared.message.Item.{Item}
 use Rattle.flow_messages.specs.declared.message.Kind.{Kind}
+use Rattle.flow_messages.specs.Kinds.{TakesKind}
+use Rattle.flow_messages.proofs.Fitting.{kind_fits}
 use Rattle.flow_base.specs.Machines.{on_kind}
 use Rattle.flow_base.specs.Nodes.{NodeState, behaviour_of, node_state}
 use Rattle.flow_base.specs.Visits.{edge_of, Went, Wrote}
@@ -35,6 +37,7 @@ loop-init g c =
     let there : 0 < length outs = omega (arith, c.requires.wired.each_output) in
     record {
       idle = c.if-self.false;
+      kind = refl;
       same = c.space.ensures.same;
       ends = c.space.ensures.looked.ends;
       steps = omega arith;
@@ -63,6 +66,7 @@ loop-preserved-in_default g c =
     let E = g.met.E.Ends in
     record {
       idle = inv.idle;
+      kind = inv.kind;
       same = E.same_trans c.args.ends.now c.loop.ends c.take_front.new.ends inv.same c.take_front.ensures.same;
       ends = same_ends_then a v u inv.ends taken.ends;
       steps = omega (arith, inv.steps);
@@ -97,6 +101,7 @@ loop-preserved-then-last g c =
     let E = g.met.E.Ends in
     record {
       idle = inv.idle;
+      kind = inv.kind;
       same = E.same_trans c.args.ends.now c.loop.ends c.take_front-then-last.new.ends inv.same c.take_front-then-last.ensures.same;
       ends = same_ends_then a v u inv.ends taken.ends;
       steps = omega (arith, inv.steps);
@@ -115,6 +120,16 @@ put_in_space-requires-clause-writes g c =
     let there : 0 < length outs = omega (arith, c.requires.wired.each_output) in
     let taken = c.take_front-in-loop.ensures.taken (carry (flag c.in-Some-flag_in_front.last)) c.in-Some-flag_in_front.ensures in
     taken.ends.writes _ ∙ c.loop.invariant.ends.writes _ ∙ All-get_or (λ e. a.writes e ≡ true) outs 0 0 there c.requires.wired.writes
+
+pub put_in_space-requires-clause-fits : goal.put_in_space-requires-clause-fits
+put_in_space-requires-clause-fits g c =
+    let a = g.E.Ends.view c.args.ends.now in
+    let k = c.loop.self.kind in
+    let to = edge_of c.args.outputs.now 0 in
+    let inv = c.loop.invariant in
+    let taken = c.take_front-in-loop.ensures.taken (carry (flag c.in-Some-flag_in_front.last)) c.in-Some-flag_in_front.ensures in
+    let takes = subst (TakesKind (a.kind to)) (sym inv.kind) (c.requires.kinds 0 (omega (arith, c.requires.wired.each_output))) in
+    kind_fits _ k (carry (cell_of c.in-Some-scalar_copy.copy)) (subst (λ of. TakesKind of k) (sym (taken.ends.kinds _ ∙ inv.ends.kinds _)) takes) c.in-Some-scalar_copy.ensures.1
 
 pub put_in_space-requires-clause-certain : goal.put_in_space-requires-clause-certain
 put_in_space-requires-clause-certain g c =
@@ -147,6 +162,7 @@ loop-preserved g c =
     let E = g.met.E.Ends in
     record {
       idle = inv.idle;
+      kind = inv.kind;
       same = E.same_trans c.args.ends.now c.take_front-in-loop.new.ends c.put_in_space.new.ends (E.same_trans c.args.ends.now c.loop.ends c.take_front-in-loop.new.ends inv.same c.take_front-in-loop.ensures.same) c.put_in_space.ensures.same;
       ends = same_ends_then a u z (same_ends_then a v u inv.ends taken.ends) c.put_in_space.ensures.wrote.ends;
       steps = omega (arith, inv.steps);
@@ -157,7 +173,7 @@ loop-preserved g c =
           let here = holds n.held n.copies c.in-Some.held c.in-Some.is inv.idle in
           let began = subst (λ q. Went ins outs b s a (on q) v c.loop.made) here (inv.went at) in
           let one = went_read b ins outs began 1 x (on (at_copy held)) u reads refl taken (sym (ap (b.process.read (on (at_flag held))) read_as)) in
-          let wrote = subst (λ m. Wrote u to m z) (ap carry c.in-Some-scalar_copy.ensures) c.put_in_space.ensures.wrote in
+          let wrote = subst (λ m. Wrote u to m z) (ap carry c.in-Some-scalar_copy.ensures.0) c.put_in_space.ensures.wrote in
           let two = went_write b ins outs one 0 (carry held) (on (at_flag held)) z writes refl refl wrote refl in
           subst (λ q. Went ins outs b s a (on q) z (c.loop.made + 2)) (sym here) (subst (Went ins outs b s a (on (at_flag held)) z) more two);
     }

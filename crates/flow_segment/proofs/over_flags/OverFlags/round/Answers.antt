@@ -1,5 +1,7 @@
 use Rattle.std.proofs.Common.{◌≡◌, ◌≢◌, ◌≤◌, ◌<◌, ◌+◌, [], length, take, sym, ◌∙◌, ap, subst, arith}
 use Rattle.std.proofs.lemmas.List.{length-take-le}
+use Rattle.flow_messages.specs.declared.message.Kind.TheVariants.{Bool as BoolKind}
+use Rattle.flow_messages.specs.Kinds.{TakesKind}
 use Rattle.flow_base.specs.Nodes.{behaviour_of, node_state}
 use Rattle.flow_base.specs.Visits.{edge_of, Went}
 use Rattle.flow_base.specs.declared.node.Phase.TheVariants.{Working}
@@ -7,6 +9,12 @@ use Rattle.flow_base.proofs.Kernels.{went_none, went_looked}
 use Rattle.flow_segment.specs.FlagTables.{over_flags, stage_view}
 use Rattle.flow_segment.proofs.FlagBlocks.{apart_blocks, both_taken, reads_went, writes_went}
 use Rattle.flow_segment.proofs.over_flags.OverFlags.round.Goals as goal
+
+pub put_flags-requires-clause-kind : goal.put_flags-requires-clause-kind
+put_flags-requires-clause-kind g c =
+    let there : 0 < length c.args.outputs.now = omega (arith, c.in-len1-up.len_at_least) in
+    let same = c.skip-then-steps-gt0-2-2.ensures.taken.ends.kinds _ ∙ c.skip-then-steps-gt0-2.ensures.taken.ends.kinds _ ∙ c.space.ensures.looked.ends.kinds _ in
+    subst (λ of. TakesKind of BoolKind) (sym same) (c.requires.kinds 0 there)
 
 -- it made no step
 pub returns-else-steps-gt0-clause-went : goal.returns-else-steps-gt0-clause-went

@@ -1,6 +1,8 @@
 use Rattle.std.proofs.Common.{◌≡◌, ◌+◌, subst, arith}
+use Rattle.flow_messages.specs.declared.message.Kind.TheVariants.{Bool as BoolKind}
+use Rattle.flow_messages.proofs.Fitting.{takes_still}
 use Rattle.flow_base.specs.Nodes.{behaviour_of, node_state}
-use Rattle.flow_base.specs.Visits.{Went}
+use Rattle.flow_base.specs.Visits.{edge_of, Went}
 use Rattle.flow_base.specs.declared.node.Phase.TheVariants.{Working}
 use Rattle.flow_base.proofs.Carried.{same_ends_refl, same_ends_then}
 use Rattle.flow_base.proofs.Kernels.{went_none, went_further}
@@ -23,6 +25,11 @@ rounds-init g c =
       within = omega arith;
       went = λ at. went_none (behaviour_of (over_flags g.S.Stage.table)) c.args.inputs.now c.args.outputs.now (node_state (stage_view c.args.self.now) Working at) a;
     }
+
+pub round-steps-requires-clause-kinds : goal.round-steps-requires-clause-kinds
+round-steps-requires-clause-kinds g c = λ q there.
+    let view = g.E.Ends.view in
+    takes_still (view c.args.ends.now) (view c.rounds.ends) (edge_of c.args.outputs.now q) BoolKind c.rounds.invariant.ends (c.requires.kinds q there)
 
 -- nothing went on
 pub returns-then-steps-eq0-clause-went : goal.returns-then-steps-eq0-clause-went

@@ -1,9 +1,12 @@
-use Rattle.std.proofs.Common.{◌≡◌, ℕ, ◌+◌, ◌<◌, true, List, length, sym, ◌∙◌, ap, subst, arith, rules}
+use Rattle.std.proofs.Common.{◌≡◌, ℕ, ◌+◌, ◌<◌, true, List, length, refl, sym, ◌∙◌, ap, subst, arith, rules}
 use Rattle.std.proofs.lemmas.List.Elements.{All-get_or}
 use Rattle.kahn.specs.declared.want.Want.TheVariants.{Read}
 use Rattle.flow_messages.specs.Cells.{Cell, flag}
 use Rattle.flow_messages.specs.Ends.{View, SameEnds, Taken}
 use Rattle.flow_messages.specs.Signals.{Signal, carry}
+use Rattle.flow_messages.specs.declared.message.Kind.TheVariants.{Bool as BoolKind}
+use Rattle.flow_messages.specs.Kinds.{TakesKind}
+use Rattle.flow_messages.proofs.Fitting.{kind_fits}
 use Rattle.flow_base.specs.Machines.{Taking, on_flag, state_after_item, begins, takes, gives, ask_of, state_after_read, written_cell, state_after_write, Leads}
 use Rattle.flow_base.specs.Nodes.{NodeState, behaviour_of, node_state, want_for}
 use Rattle.flow_base.specs.Visits.{edge_of, Went, Wrote}
@@ -82,6 +85,12 @@ put_in_space-requires-clause-writes g c =
     let a = g.E.Ends.view c.args.ends.now in
     let there = output_there g.S.Stage.table g.S.Stage.laws c.loop-made.self.stage _ _ _ c.in-Give.ensures in
     c.space.ensures.looked.ends.writes _ ∙ c.loop-made.invariant.ends.writes _ ∙ All-get_or (λ e. a.writes e ≡ true) c.args.outputs.now c.in-Give.port 0 (omega (arith, there, c.requires.wired.each_output)) c.requires.wired.writes
+
+pub put_in_space-requires-clause-fits : goal.put_in_space-requires-clause-fits
+put_in_space-requires-clause-fits g c =
+    let there = output_there g.S.Stage.table g.S.Stage.laws c.loop-made.self.stage _ _ _ c.in-Give.ensures in
+    let same = c.space.ensures.looked.ends.kinds _ ∙ c.loop-made.invariant.ends.kinds _ in
+    kind_fits _ BoolKind (carry (flag c.in-Give.flag)) (subst (λ of. TakesKind of BoolKind) (sym same) (c.requires.kinds c.in-Give.port (omega (arith, there, c.requires.wired.each_output)))) refl
 
 pub offset_bounds-inputs-port : goal.offset_bounds-inputs-port
 offset_bounds-inputs-port g c =

@@ -7,6 +7,8 @@ use Rattle.flow_messages.specs.Ends.{PutAll}
 use Rattle.flow_messages.specs.Blocks.{unit_signals, flag_signals, int_signals}
 use Rattle.flow_messages.specs.Signals.{carry}
 use Rattle.flow_messages.specs.declared.message.Kind.{Kind}
+use Rattle.flow_messages.specs.declared.message.Kind.TheVariants.{Unit as UnitKind, Bool as BoolKind, Int as IntKind}
+use Rattle.flow_messages.specs.Kinds.{TakesKind}
 use Rattle.flow_base.specs.Nodes.{NodeState, behaviour_of, node_state}
 use Rattle.flow_base.specs.Visits.{edge_of, Went}
 use Rattle.flow_base.specs.declared.node.Phase.TheVariants.{Working}
@@ -47,6 +49,21 @@ returns-in-Vec-clause-went g c =
     let outs = c.args.outputs.now in
     let there : 0 < length outs = omega (arith, c.requires.wired.each_output) in
     λ at. went_looked b ins outs (went_none b ins outs (node_state (pack_view c.args.self.now) Working at) (g.E.Ends.view c.args.ends.now)) 0 (g.E.Ends.view c.space.new.self) there c.space.ensures.looked
+
+pub put_ints-requires-clause-kind : goal.put_ints-requires-clause-kind
+put_ints-requires-clause-kind g c =
+    let same = c.skip-in-Int.ensures.taken.ends.kinds _ ∙ c.skip.ensures.taken.ends.kinds _ ∙ c.space.ensures.looked.ends.kinds _ in
+    subst (λ of. TakesKind of IntKind) (sym same) (subst (TakesKind ((g.E.Ends.view c.args.ends.now).kind (edge_of c.args.outputs.now 0))) c.in-Int.is c.requires.kind)
+
+pub put_flags-requires-clause-kind : goal.put_flags-requires-clause-kind
+put_flags-requires-clause-kind g c =
+    let same = c.skip-in-Bool-2.ensures.taken.ends.kinds _ ∙ c.skip-in-Bool.ensures.taken.ends.kinds _ ∙ c.space.ensures.looked.ends.kinds _ in
+    subst (λ of. TakesKind of BoolKind) (sym same) (subst (TakesKind ((g.E.Ends.view c.args.ends.now).kind (edge_of c.args.outputs.now 0))) c.in-Bool.is c.requires.kind)
+
+pub put_units-requires-clause-kind : goal.put_units-requires-clause-kind
+put_units-requires-clause-kind g c =
+    let same = c.skip-in-Unit-2.ensures.taken.ends.kinds _ ∙ c.skip-in-Unit.ensures.taken.ends.kinds _ ∙ c.space.ensures.looked.ends.kinds _ in
+    subst (λ of. TakesKind of UnitKind) (sym same) (subst (TakesKind ((g.E.Ends.view c.args.ends.now).kind (edge_of c.args.outputs.now 0))) c.in-Unit.is c.requires.kind)
 
 pub returns-else-whole-eq0-clause-same : goal.returns-else-whole-eq0-clause-same
 returns-else-whole-eq0-clause-same g c =

@@ -1,6 +1,7 @@
 use Rattle.std.proofs.Common.{◌≡◌, ◌+◌, subst, arith}
+use Rattle.flow_messages.proofs.Fitting.{takes_still}
 use Rattle.flow_base.specs.Nodes.{behaviour_of, node_state}
-use Rattle.flow_base.specs.Visits.{Went}
+use Rattle.flow_base.specs.Visits.{edge_of, Went}
 use Rattle.flow_base.specs.declared.node.Phase.TheVariants.{Working}
 use Rattle.flow_base.proofs.Carried.{same_ends_refl, same_ends_then}
 use Rattle.flow_base.proofs.Kernels.{went_none, went_further}
@@ -16,6 +17,11 @@ rounds-init g c =
       within = omega arith;
       went = λ at. went_none (behaviour_of pack_machine) c.args.inputs.now c.args.outputs.now (node_state (pack_view c.args.self.now) Working at) a;
     }
+
+pub round-steps-requires-clause-kind : goal.round-steps-requires-clause-kind
+round-steps-requires-clause-kind g c =
+    let view = g.E.Ends.view in
+    takes_still (view c.args.ends.now) (view c.rounds.ends) (edge_of c.args.outputs.now 0) c.args.self.now.kind c.rounds.invariant.ends c.requires.kind
 
 -- nothing went on
 pub returns-then-steps-eq0-clause-went : goal.returns-then-steps-eq0-clause-went

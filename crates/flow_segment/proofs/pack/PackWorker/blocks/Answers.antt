@@ -19,3 +19,9 @@ returns-in_default g c =
 
 pub returns-then-inputs-clause-went : goal.returns-then-inputs-clause-went
 returns-then-inputs-clause-went g c = λ at. went_none (behaviour_of pack_machine) c.args.inputs.now c.args.outputs.now (node_state (pack_view c.args.self.now) Working at) (g.E.Ends.view c.args.ends.now)
+
+pub rounds-requires-clause-kind : goal.rounds-requires-clause-kind
+rounds-requires-clause-kind g c = c.requires.kinds 0 (omega (arith, c.requires.wired.each_output))
+
+pub rounds-requires-2-clause-kind : goal.rounds-requires-2-clause-kind
+rounds-requires-2-clause-kind g c = c.requires.kinds 0 (omega (arith, c.requires.wired.each_output))

@@ -4,6 +4,8 @@ use mathlib.Core.List.{IsPrefix}
 use Rattle.flow_messages.specs.Cells.{cell_of, flag}
 use Rattle.flow_messages.specs.Signals.{carry}
 use Rattle.flow_messages.specs.declared.message.Kind.{Kind}
+use Rattle.flow_messages.specs.Kinds.{TakesKind}
+use Rattle.flow_messages.proofs.Fitting.{kind_fits}
 use Rattle.flow_base.specs.Machines.{on_kind}
 use Rattle.flow_base.specs.Nodes.{NodeState, behaviour_of, node_state}
 use Rattle.flow_base.specs.Visits.{edge_of, Went}
@@ -57,6 +59,17 @@ put_in_space-requires-clause-writes g c =
     let second = c.take_front-in-loop.ensures.taken y (subst (IsPrefix (y ∷ [])) (sym (first.coming (edge_of ins 1) apart)) c.in-Some-scalar_in_front.ensures.0) in
     let there : 0 < length outs = omega (arith, c.requires.wired.each_output) in
     second.ends.writes _ ∙ first.ends.writes _ ∙ c.loop.invariant.ends.writes _ ∙ All-get_or (λ e. a.writes e ≡ true) outs 0 0 there c.requires.wired.writes
+
+pub put_in_space-requires-clause-fits : goal.put_in_space-requires-clause-fits
+put_in_space-requires-clause-fits g c =
+    let ins = c.args.inputs.now in
+    let k = c.args.self.now.kind in
+    let y = carry (cell_of c.in-Some-scalar_in_front.item) in
+    let apart : edge_of ins 1 ≢ edge_of ins 0 = λ e. c.if-truths-items.false (sym e) in
+    let first = c.take_front.ensures.taken (carry (flag c.in-Some.keep)) c.in-Some.ensures in
+    let second = c.take_front-in-loop.ensures.taken y (subst (IsPrefix (y ∷ [])) (sym (first.coming (edge_of ins 1) apart)) c.in-Some-scalar_in_front.ensures.0) in
+    let same = second.ends.kinds _ ∙ first.ends.kinds _ ∙ c.loop.invariant.ends.kinds _ in
+    kind_fits _ k y (subst (λ of. TakesKind of k) (sym same) (c.requires.kinds 0 (omega (arith, c.requires.wired.each_output)))) c.in-Some-scalar_in_front.ensures.1
 
 pub put_in_space-requires-clause-certain : goal.put_in_space-requires-clause-certain
 put_in_space-requires-clause-certain g c =

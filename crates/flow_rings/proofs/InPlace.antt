@@ -1,40 +1,14 @@
--- The writers of a share, which may put items of every kind.
+-- The ends of a share, where one of them changed.
 use Rattle.std.proofs.Common.{◌≡◌, ℕ, zero, suc, ◌<◌, true, List, [], ◌∷◌, length, refl, ap, sym, ◌∙◌, get_or, set, arith}
 use Rattle.std.specs.Prelude.{Option, Some, None}
 use Rattle.std.proofs.Common.{subst}
 use Rattle.std.proofs.lemmas.List.{get_or-set_same, length-set}
-use Rattle.flow_messages.specs.declared.message.Kind.{Kind}
 use Rattle.flow_rings.specs.declared.ring.EdgeWriter.{EdgeWriter}
 use Rattle.flow_rings.specs.declared.ring.EdgeReader.{EdgeReader}
 use Rattle.flow_rings.specs.declared.rings.Rings.{Rings}
-use Rattle.flow_rings.specs.Edge.{kind_of, is_any, puts_all, IsEdge, SameWriter, SameReader}
+use Rattle.flow_rings.specs.Edge.{IsEdge, SameWriter, SameReader}
 use Rattle.flow_rings.specs.Rings.{SameRings, SameWriters, SameReaders, Joins, writer_at, reader_at}
 use Rattle.flow_rings.specs.SameEnds.{same_writers_refl, same_readers_refl}
-
-pub no_kind : (k : Option Kind) → is_any k ≡ true → k ≡ None
-no_kind None is = refl
-no_kind (Some k) is = cc
-
--- another writer of no kind in a place keeps it so
-pub all_kept : (ws : List (Option EdgeWriter)) (e : ℕ) (v : Option EdgeWriter) → puts_all v ≡ true → ((k : ℕ) → puts_all (get_or ws k None) ≡ true) → (k : ℕ) → puts_all (get_or (set ws e v) k None) ≡ true
-all_kept [] e v new all k = all k
-all_kept (w ∷ ws) zero v new all zero = new
-all_kept (w ∷ ws) zero v new all (suc k) = all (suc k)
-all_kept (w ∷ ws) (suc e) v new all zero = all zero
-all_kept (w ∷ ws) (suc e) v new all (suc k) = all_kept ws e v new (λ n. all (suc n)) k
-
-at_place : (ws : List (Option EdgeWriter)) (e : ℕ) (d old : Option EdgeWriter) → e < length ws → old ≡ get_or ws e d → ((k : ℕ) → puts_all (get_or ws k None) ≡ true) → puts_all old ≡ true
-at_place [] e d old h is all = absurd (omega (arith, h))
-at_place (w ∷ ws) zero d old h is all = ap puts_all is ∙ all zero
-at_place (w ∷ ws) (suc e) d old h is all = let up : suc e < suc (length ws) = h in at_place ws e d old (omega arith) is (λ n. all (suc n))
-
--- the writer that stands in a place is of no kind
-pub any_here : (ws : List (Option EdgeWriter)) (e : ℕ) (d old : Option EdgeWriter) (w : EdgeWriter) → e < length ws → old ≡ get_or ws e d → old ≡ Some w → ((k : ℕ) → puts_all (get_or ws k None) ≡ true) → kind_of w ≡ None
-any_here ws e d old w h is was all = no_kind (kind_of w) (sym (ap puts_all was) ∙ at_place ws e d old h is all)
-
--- the writer that took a writer's place is of its kind
-pub any_after : (w v : EdgeWriter) → SameWriter w v → kind_of w ≡ None → puts_all (Some v) ≡ true
-any_after w v same any = ap is_any (ap (λ p. p.0) same.0 ∙ any)
 
 writers_after : (ws : List (Option EdgeWriter)) (e : ℕ) (d old : Option EdgeWriter) (w v : EdgeWriter) → old ≡ get_or ws e d → old ≡ Some w → e < length ws → SameWriter w v → (k : ℕ) → SameWriters (get_or ws k None) (get_or (set ws e (Some v)) k None)
 writers_after [] e d old w v is was h same k = absurd (omega (arith, h))
