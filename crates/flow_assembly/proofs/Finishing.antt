@@ -14,7 +14,7 @@ use Rattle.flow_nodes.specs.StreamNodes.{NodeKind, member, node_behaviour}
 use Rattle.flow_plans.specs.Plans.{Step}
 use Rattle.flow_plans.specs.Ports.{kinds_read}
 use Rattle.flow_plans.specs.Views.{step_of}
-use Rattle.flow_plans.specs.Layouts.{Placed, uses, layout, layout_from, places, places_from, edges_needed, edges_between, Performs, IsNetworkOf}
+use Rattle.flow_plans.specs.Layouts.{Placed, uses, layout, layout_from, places, places_from, edges_needed, edges_between, Performs, IsNetworkOfPlan}
 use Rattle.flow_assembly.specs.declared.network.Port.{Port}
 use Rattle.flow_assembly.specs.Openings.{AllOpen, OpeningsPerform}
 use Rattle.flow_assembly.specs.declared.counted_steps.CountedSteps.{CountedSteps}
@@ -91,7 +91,7 @@ module _ (plan : List Step) (n : ℕ) (supply : List Port) (found : List ℕ) (s
     pub are_opened : AreOpened node_behaviour states
     are_opened = All-from_get_or (λ s. node_behaviour.opening s ≡ s) states node_behaviour.sample (λ k lt. let node = stands_at (layout plan) k (omega (arith, all_nodes)) in (does k node.0 node.1).opened)
 
-    pub is_network : IsNetworkOf node_behaviour plan states edges
+    pub is_network : IsNetworkOfPlan node_behaviour plan states edges
     is_network = record {
       nodes = all_nodes;
       performs = does;

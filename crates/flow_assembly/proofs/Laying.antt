@@ -11,7 +11,7 @@ use Rattle.flow_plans.specs.declared.operation.Step.{Step as StepData}
 use Rattle.flow_plans.specs.Plans.{Step}
 use Rattle.flow_plans.specs.Ports.{kinds_read, kinds_written, AreWired, kinds_after}
 use Rattle.flow_plans.specs.Views.{operation_of, steps_of}
-use Rattle.flow_plans.specs.Layouts.{Placed, uses, behind, numbered, all_behind, layout_from}
+use Rattle.flow_plans.specs.Layouts.{Placed, uses, places_after, numbered, all_behind, layout_from}
 use Rattle.flow_assembly.specs.Openings.{IsUsable}
 use Rattle.flow_assembly.proofs.Fitting.{FitsKinds, bound, changed, some_same}
 
@@ -78,7 +78,7 @@ replicate_each f s k (suc n) at = ap (λ o. bind o (λ y. option_map (λ zs. y �
 
 -- The transducers
 
-behind_fits : (kinds : List Kind) (at s : ℕ) (kind : Kind) (n : ℕ) → slice_get kinds s ≡ Some kind → (k : ℕ) (placed : Placed) → slice_get (behind at s kind n) k ≡ Some placed → FitsKinds kinds placed
+behind_fits : (kinds : List Kind) (at s : ℕ) (kind : Kind) (n : ℕ) → slice_get kinds s ≡ Some kind → (k : ℕ) (placed : Placed) → slice_get (places_after at s kind n) k ≡ Some placed → FitsKinds kinds placed
 behind_fits kinds at s kind zero is zero placed there = subst (FitsKinds kinds) (some_same there) (record {
   usable = tt;
   reads = ap (λ o. bind o (λ y. Some (y ∷ []))) is;
@@ -99,7 +99,7 @@ module _ (plan : List Step) where
   all_behind_fits kinds at s [] is k placed there = absurd (cc)
   all_behind_fits kinds at s (kind ∷ written) is k placed there =
       let e : s + zero ≡ s = omega arith in
-      all_append (FitsKinds kinds) (behind at s kind (uses s plan)) (all_behind plan at (suc s) written)
+      all_append (FitsKinds kinds) (places_after at s kind (uses s plan)) (all_behind plan at (suc s) written)
       (behind_fits kinds at s kind (uses s plan) (subst (λ t. slice_get kinds t ≡ Some kind) e (is zero kind refl)))
       (all_behind_fits kinds at (suc s) written (λ q j there. let e : s + suc q ≡ suc s + q = omega arith in subst (λ t. slice_get kinds t ≡ Some j) e (is (suc q) j there)))
       k placed there

@@ -11,7 +11,7 @@ use Rattle.flow_nodes.specs.StreamNodes.{NodeKind, member}
 use Rattle.flow_plans.specs.Plans.{Step}
 use Rattle.flow_plans.specs.Ports.{kinds_written}
 use Rattle.flow_plans.specs.Layouts.{Placed, times, uses, layout, layout_from, all_behind, edges_needed}
-use Rattle.flow_assembly.specs.Ready.{IsTooBig, IsWithin}
+use Rattle.flow_assembly.specs.Ready.{IsTooBig, KeepsLimits}
 use Rattle.flow_assembly.proofs.Fitting.{some_same}
 
 abbrev State : Type 0
@@ -24,8 +24,8 @@ drop_at (y ∷ xs) zero x at = ap (λ z. z ∷ xs) (some_same at)
 drop_at (y ∷ xs) (suc n) x at = drop_at xs n x at
 
 module _ (plan : List Step) (states : List State) (edges : List Edge) where
-  pub node_within : (placed : Placed) (s : State) → IsWithin plan states edges 0 → slice_get (layout plan) (length states) ≡ Some placed → (length states ≡ most_nodes → ⊥)
-      → IsWithin plan (states ++ s ∷ []) edges (length placed.reads)
+  pub node_within : (placed : Placed) (s : State) → KeepsLimits plan states edges 0 → slice_get (layout plan) (length states) ≡ Some placed → (length states ≡ most_nodes → ⊥)
+      → KeepsLimits plan (states ++ s ∷ []) edges (length placed.reads)
   node_within placed s within at room =
       let longer = length_push states s in
       let next = drop_at (layout plan) (length states) placed at in
@@ -34,7 +34,7 @@ module _ (plan : List Step) (states : List State) (edges : List Edge) where
       let rest : edges_needed (drop (length (states ++ s ∷ [])) (layout plan)) ≡ edges_needed (drop (suc (length states)) (layout plan)) = ap (λ n. edges_needed (drop n (layout plan))) same in
       record { few_nodes = omega (arith, within.few_nodes, room, longer); few_edges = within.few_edges; all_edges = omega (arith, within.all_edges, count, rest) }
 
-  pub edge_within : (due : ℕ) (edge : Edge) → IsWithin plan states edges (suc due) → (length edges ≡ most_edges → ⊥) → IsWithin plan states (edges ++ edge ∷ []) due
+  pub edge_within : (due : ℕ) (edge : Edge) → KeepsLimits plan states edges (suc due) → (length edges ≡ most_edges → ⊥) → KeepsLimits plan states (edges ++ edge ∷ []) due
   edge_within due edge within room =
       let longer = length_push edges edge in
       record { few_nodes = within.few_nodes; few_edges = omega (arith, within.few_edges, room, longer); all_edges = omega (arith, within.all_edges, longer) }
@@ -43,13 +43,13 @@ module _ (plan : List Step) (states : List State) (edges : List Edge) where
   too_many_nodes placed at full = inl (omega (arith, slice_get_within (layout plan) (length states) placed at))
 
   -- the last edge is refused where one is due at the node to come
-  pub too_many_behind : (placed : Placed) (s : ℕ) → IsWithin plan states edges 0 → slice_get (layout plan) (length states) ≡ Some placed → placed.reads ≡ s ∷ [] → length edges ≡ most_edges → IsTooBig plan
+  pub too_many_behind : (placed : Placed) (s : ℕ) → KeepsLimits plan states edges 0 → slice_get (layout plan) (length states) ≡ Some placed → placed.reads ≡ s ∷ [] → length edges ≡ most_edges → IsTooBig plan
   too_many_behind placed s within at one_read full =
       let count : edges_needed (drop (length states) (layout plan)) ≡ length placed.reads + edges_needed (drop (suc (length states)) (layout plan)) = ap edges_needed (drop_at (layout plan) (length states) placed at) in
       let one : length placed.reads ≡ 1 = ap length one_read in
       inr (omega (arith, within.all_edges, count, one))
 
-  pub too_many_edges : (due : ℕ) → IsWithin plan states edges (suc due) → length edges ≡ most_edges → IsTooBig plan
+  pub too_many_edges : (due : ℕ) → KeepsLimits plan states edges (suc due) → length edges ≡ most_edges → IsTooBig plan
   too_many_edges due within full = inr (omega (arith, within.all_edges))
 
 -- The edges of a network are at least as many as the uses of a stream

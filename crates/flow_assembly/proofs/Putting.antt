@@ -13,12 +13,12 @@ use Rattle.flow_nodes.specs.StreamNodes.{NodeKind, member, node_behaviour}
 use Rattle.flow_rows.specs.Lists.{bind}
 use Rattle.flow_plans.specs.Plans.{Step, fork, sink}
 use Rattle.flow_plans.specs.Ports.{AreWired, kinds_after}
-use Rattle.flow_plans.specs.Layouts.{Placed, uses, behind, layout, stream_from, stream_to}
+use Rattle.flow_plans.specs.Layouts.{Placed, uses, places_after, layout, stream_from, stream_to}
 use Rattle.flow_assembly.specs.declared.network.Port.{Port}
 use Rattle.flow_assembly.specs.Openings.{Opens, OpeningsPerform}
 use Rattle.flow_assembly.specs.Joined.{supplier, edge_from, port_after, IsJoinedTo}
 use Rattle.flow_assembly.specs.declared.counted_steps.CountedSteps.{CountedSteps}
-use Rattle.flow_assembly.specs.Ready.{plan_of, left_before, ComeNext, IsPutTo, IsWithin, IsTooBig}
+use Rattle.flow_assembly.specs.Ready.{plan_of, left_before, ComeNext, IsPutTo, KeepsLimits, IsTooBig}
 use Rattle.flow_assembly.proofs.Fitting.{FitsKinds, some_same}
 use Rattle.flow_assembly.proofs.Laying.{layout_fits, steps_usable}
 use Rattle.flow_assembly.proofs.Limiting.{node_within, edge_within, too_many_nodes, too_many_behind}
@@ -167,26 +167,26 @@ module _ (nodes : List Placed) (steps : List Step) (s : ℕ) (supply : List Port
 
 -- What comes next after a stream
 
-pub sink_next : (plan : List Step) (states : List State) (at s : ℕ) (kind : Kind) → ComeNext plan states (behind at s kind (uses s plan)) → uses s plan ≡ 0
+pub sink_next : (plan : List Step) (states : List State) (at s : ℕ) (kind : Kind) → ComeNext plan states (places_after at s kind (uses s plan)) → uses s plan ≡ 0
     → slice_get (layout plan) (length states) ≡ Some (record { at = at; operation = sink kind; reads = s ∷ []; writes = [] })
 sink_next plan states at s kind next none =
-    let first = next 0 (record { at = at; operation = sink kind; reads = s ∷ []; writes = [] }) (ap (λ n. slice_get (behind at s kind n) 0) none) in
+    let first = next 0 (record { at = at; operation = sink kind; reads = s ∷ []; writes = [] }) (ap (λ n. slice_get (places_after at s kind n) 0) none) in
     let e : length states + 0 ≡ length states = omega arith in
     ap (slice_get (layout plan)) (sym e) ∙ first
 
-fork_behind : (at s : ℕ) (kind : Kind) (n : ℕ) → 2 ≤ n → slice_get (behind at s kind n) 0 ≡ Some (record { at = at; operation = fork kind n; reads = s ∷ []; writes = replicate n s })
+fork_behind : (at s : ℕ) (kind : Kind) (n : ℕ) → 2 ≤ n → slice_get (places_after at s kind n) 0 ≡ Some (record { at = at; operation = fork kind n; reads = s ∷ []; writes = replicate n s })
 fork_behind at s kind zero le = absurd (omega arith)
 fork_behind at s kind (suc zero) le = absurd (omega arith)
 fork_behind at s kind (suc (suc n)) le = refl
 
-pub fork_next : (plan : List Step) (states : List State) (at s : ℕ) (kind : Kind) (n : ℕ) → ComeNext plan states (behind at s kind (uses s plan)) → uses s plan ≡ n → 2 ≤ n
+pub fork_next : (plan : List Step) (states : List State) (at s : ℕ) (kind : Kind) (n : ℕ) → ComeNext plan states (places_after at s kind (uses s plan)) → uses s plan ≡ n → 2 ≤ n
     → slice_get (layout plan) (length states) ≡ Some (record { at = at; operation = fork kind n; reads = s ∷ []; writes = replicate n s })
 fork_next plan states at s kind n next many le =
-    let first = next 0 (record { at = at; operation = fork kind n; reads = s ∷ []; writes = replicate n s }) (ap (λ m. slice_get (behind at s kind m) 0) many ∙ fork_behind at s kind n le) in
+    let first = next 0 (record { at = at; operation = fork kind n; reads = s ∷ []; writes = replicate n s }) (ap (λ m. slice_get (places_after at s kind m) 0) many ∙ fork_behind at s kind n le) in
     let e : length states + 0 ≡ length states = omega arith in
     ap (slice_get (layout plan)) (sym e) ∙ first
 
-pub one_behind : (at s : ℕ) (kind : Kind) (n : ℕ) → 2 ≤ n → length (behind at s kind n) ≡ 1
+pub one_behind : (at s : ℕ) (kind : Kind) (n : ℕ) → 2 ≤ n → length (places_after at s kind n) ≡ 1
 one_behind at s kind zero le = absurd (omega arith)
 one_behind at s kind (suc zero) le = absurd (omega arith)
 one_behind at s kind (suc (suc n)) le = refl
@@ -195,15 +195,15 @@ one_behind at s kind (suc (suc n)) le = refl
 
 module _ (plan : List Step) (found : List ℕ) (at s : ℕ) (kind : Kind) (supply : List Port) (states : List State) (edges : List Edge)
     (is : IsPutTo plan s supply found states edges) (there : s < length supply) (later : uses s plan ≡ uses s (drop (length found) plan))
-    (next : ComeNext plan states (behind at s kind (uses s plan))) where
+    (next : ComeNext plan states (places_after at s kind (uses s plan))) where
   abbrev steps : List Step
   steps = drop (length found) plan
 
   within_more : (placed : Placed) (state : State) (edge : Edge) → slice_get (layout plan) (length states) ≡ Some placed → placed.reads ≡ s ∷ [] → (length states ≡ most_nodes → ⊥) → (length edges ≡ most_edges → ⊥)
-      → IsWithin plan (states ++ state ∷ []) (edges ++ edge ∷ []) 0
+      → KeepsLimits plan (states ++ state ∷ []) (edges ++ edge ∷ []) 0
   within_more placed state edge is_at one_read room room_for_edge =
       edge_within plan (states ++ state ∷ []) edges 0 edge
-      (subst (λ l. IsWithin plan (states ++ state ∷ []) edges (length l)) one_read (node_within plan states edges placed state is.within is_at room)) room_for_edge
+      (subst (λ l. KeepsLimits plan (states ++ state ∷ []) edges (length l)) one_read (node_within plan states edges placed state is.within is_at room)) room_for_edge
 
   at_length : (left : ℕ → ℕ) (supply' : List Port) (state : State) (edges' : List Edge) → IsJoinedTo (layout plan) left supply' (suc (length states)) 0 (states ++ state ∷ []) edges'
       → IsJoinedTo (layout plan) left supply' (length (states ++ state ∷ [])) 0 (states ++ state ∷ []) edges'

@@ -19,7 +19,7 @@ use Rattle.flow_plans.specs.Layouts.{Placed, times, uses, numbered, all_behind, 
 use Rattle.flow_assembly.specs.declared.network.Port.{Port}
 use Rattle.flow_assembly.specs.Openings.{Opens}
 use Rattle.flow_assembly.specs.Joined.{supplier, IsJoinedTo}
-use Rattle.flow_assembly.specs.Ready.{left_before, ports_of, ComeNext, IsPutTo, IsWithin, IsBuiltTo, WritesKinds}
+use Rattle.flow_assembly.specs.Ready.{left_before, ports_of, ComeNext, IsPutTo, KeepsLimits, IsBuiltTo, WritesKinds}
 use Rattle.flow_assembly.proofs.Fitting.{bound, changed, some_same, each_at, each_length, stands_at}
 use Rattle.flow_assembly.proofs.Laying.{get_front}
 use Rattle.flow_assembly.proofs.Limiting.{node_within}
@@ -182,9 +182,9 @@ module _ (plan : List Step) (i : ℕ) (step : Step) (now : drop i plan ≡ step 
   step_found node found2 same = ap length same ∙ length_push found node ∙ ap (λ m. m + 1) built.steps
 
   pub step_within : (state : State) (reads : List ℕ) (states2 : List State) (edges2 : List Edge) → reads ≡ step.reads → states2 ≡ states ++ state ∷ [] → edges2 ≡ edges → (length states ≡ most_nodes → ⊥)
-      → IsWithin plan states2 edges2 (length reads)
+      → KeepsLimits plan states2 edges2 (length reads)
   step_within state reads states2 edges2 same one two room =
-      subst (λ x. IsWithin plan states2 edges2 (length x)) (sym same) (subst (λ x. IsWithin plan x edges2 (length step.reads)) (sym one) (subst (λ x. IsWithin plan (states ++ state ∷ []) x (length step.reads)) (sym two)
+      subst (λ x. KeepsLimits plan states2 edges2 (length x)) (sym same) (subst (λ x. KeepsLimits plan x edges2 (length step.reads)) (sym one) (subst (λ x. KeepsLimits plan (states ++ state ∷ []) x (length step.reads)) (sym two)
       (node_within plan states edges placed state built.within placed_at room)))
 
   pub step_joined : (state : State) (node : ℕ) (reads found2 : List ℕ) (states2 : List State) (edges2 : List Edge) → Opens step.at step.operation state → node ≡ length states → reads ≡ step.reads → found2 ≡ found ++ node ∷ []
@@ -270,7 +270,7 @@ module _ (plan : List Step) (i : ℕ) (step : Step) (now : drop i plan ≡ step 
     all_read : (q s : ℕ) → stream_to (layout plan) node q ≡ Some s → q < length reads
     all_read q s to = slice_get_within reads q s (sym (step_reads node reads at same_reads q) ∙ to)
 
-    pub step_put : (states4 : List State) (edges4 : List Edge) (found4 : List ℕ) (first : ℕ) → first ≡ length supply → states4 ≡ states3 → edges4 ≡ edges3 → found4 ≡ found2 → length states3 ≡ node + 1 → IsWithin plan states3 edges3 0
+    pub step_put : (states4 : List State) (edges4 : List Edge) (found4 : List ℕ) (first : ℕ) → first ≡ length supply → states4 ≡ states3 → edges4 ≡ edges3 → found4 ≡ found2 → length states3 ≡ node + 1 → KeepsLimits plan states3 edges3 0
         → IsPutTo plan first supply4 found4 states4 edges4
     step_put states4 edges4 found4 first here one two three last within =
         subst (λ x. IsPutTo plan x supply4 found4 states4 edges4) (sym here) (subst (λ x. IsPutTo plan (length supply) x found4 states4 edges4) (sym longer) (subst (λ x. IsPutTo plan (length supply) supplied x states4 edges4) (sym three)

@@ -26,7 +26,7 @@ abbrev pub IsTooBig : List Step → Type 0
 IsTooBig plan = (most_nodes < length (layout plan)) ⊎ (most_edges < edges_needed (layout plan))
 
 -- Nothing of the limits is passed, and beside these edges so many are due at these nodes, and all those at the nodes to come.
-pub record IsWithin (plan : List Step) (states : List ((t : NodeKind) × (member t).State)) (edges : List Edge) (due : ℕ) : Type 0 where
+pub record KeepsLimits (plan : List Step) (states : List ((t : NodeKind) × (member t).State)) (edges : List Edge) (due : ℕ) : Type 0 where
   pub few_nodes : length states ≤ most_nodes
   pub few_edges : length edges ≤ most_edges
   pub all_edges : length edges + (due + edges_needed (drop (length states) (layout plan))) ≡ edges_needed (layout plan)
@@ -38,7 +38,7 @@ pub record IsBuiltTo (plan : List Step) (i : ℕ) (supply : List Port) (found : 
   pub streams : length supply ≡ length (kinds_after [] (take i plan))
   pub steps : length found ≡ i
   pub places : found ++ places_from plan (length states) (length supply) (drop i plan) ≡ places plan
-  pub within : IsWithin plan states edges 0
+  pub within : KeepsLimits plan states edges 0
   pub joined : IsJoinedTo (layout plan) (λ s. uses s (drop i plan)) supply (length states) 0 states edges
 
 -- how many uses a stream has left once these steps are left, where what stands after the streams from this one on is to come
@@ -47,7 +47,7 @@ left_before steps stream s = if nat_lt s stream then uses s steps else 1
 
 -- What stands after the streams before this one is built.
 pub record IsPutTo (plan : List Step) (stream : ℕ) (supply : List Port) (found : List ℕ) (states : List ((t : NodeKind) × (member t).State)) (edges : List Edge) : Type 0 where
-  pub within : IsWithin plan states edges 0
+  pub within : KeepsLimits plan states edges 0
   pub joined : IsJoinedTo (layout plan) (left_before (drop (length found) plan) stream) supply (length states) 0 states edges
 
 -- so many output ports of a node, from its first on

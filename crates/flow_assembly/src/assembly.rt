@@ -6,7 +6,7 @@ ghost use Rattle.flow_graph.specs.Graphs.{states_of, edges_of, states_so_far, ed
 ghost use Rattle.flow_graph.specs.Limits.{most_nodes, most_edges};
 ghost use Rattle.flow_graph.specs.Networks.{AreOpened};
 ghost use Rattle.flow_nodes.specs.StreamNodes.{node_behaviour};
-ghost use Rattle.flow_plans.specs.Layouts.{layout, places, edges_needed, edges_between, IsNetworkOf};
+ghost use Rattle.flow_plans.specs.Layouts.{layout, places, edges_needed, edges_between, IsNetworkOfPlan};
 ghost use Rattle.flow_plans.specs.Ports.{AreWired};
 ghost use Rattle.flow_plans.specs.Views.{steps_of};
 ghost use Rattle.flow_assembly.specs.Openings.{AllOpen};
@@ -38,7 +38,7 @@ pub struct Assembled {
 /// `TooBig` only where the network has more nodes or more edges than a graph may have, and else `NoMemory`.
 pub fn assemble(alloc: Global, dialect: Dialect, steps: Vec<Step>) -> Result<Assembled, Refusal>
     requires wired { AreWired [] (steps_of dialect steps.items) }
-    ensures network { IfOk result (λ a. IsNetworkOf node_behaviour (steps_of dialect steps.items)
+    ensures network { IfOk result (λ a. IsNetworkOfPlan node_behaviour (steps_of dialect steps.items)
         (states_of a.graph) (edges_of a.graph)) }
     ensures edges { IfOk result (λ a. edges_of a.graph ≡
         edges_between (layout (steps_of dialect steps.items))) }
@@ -67,7 +67,7 @@ fn finished(network: Network, plan: &CountedSteps) -> Assembled
     requires built { IsBuiltTo (plan_of plan.now)
         (length plan.now.steps.items) network.supply.items network.places.items
         (states_so_far network.builder) (edges_so_far network.builder) }
-    ensures network { IsNetworkOf node_behaviour (plan_of plan.now) (states_of result.graph)
+    ensures network { IsNetworkOfPlan node_behaviour (plan_of plan.now) (states_of result.graph)
         (edges_of result.graph) }
     ensures edges { edges_of result.graph ≡ edges_between (layout (plan_of plan.now)) }
     ensures opens { AllOpen (layout (plan_of plan.now)) (states_of result.graph) }

@@ -4,10 +4,10 @@ ghost use Rattle.std.specs.Prelude.{◌≡◌, ℕ, ◌+◌, ◌<◌, ◌≤◌,
 ghost use Rattle.std.specs.List.{slice_get};
 ghost use Rattle.snesl_data.specs.declared.refusal.Refusal.TheVariants.{TooBig, NoMemory};
 ghost use Rattle.flow_graph.specs.Graphs.{states_so_far, edges_so_far};
-ghost use Rattle.flow_plans.specs.Layouts.{times, uses, behind, all_behind, layout, stream_to};
+ghost use Rattle.flow_plans.specs.Layouts.{times, uses, places_after, all_behind, layout, stream_to};
 ghost use Rattle.flow_plans.specs.Ports.{AreWired, kinds_after};
 ghost use Rattle.flow_assembly.specs.Joined.{IsJoinedTo};
-ghost use Rattle.flow_assembly.specs.Ready.{plan_of, IsCounted, IsTooBig, IsWithin, IsBuiltTo, IsPutTo, ComeNext};
+ghost use Rattle.flow_assembly.specs.Ready.{plan_of, IsCounted, IsTooBig, KeepsLimits, IsBuiltTo, IsPutTo, ComeNext};
 
 use crate::counted_steps::CountedSteps;
 use crate::laws::openings_perform;
@@ -58,7 +58,7 @@ impl Network {
             slice_get reads.now q }
         requires there { (q s : ℕ) → slice_get reads.now q ≡ Some s → s <
             length self.old.supply.items }
-        requires within { IsWithin (plan_of plan.now) (states_so_far self.old.builder)
+        requires within { KeepsLimits (plan_of plan.now) (states_so_far self.old.builder)
             (edges_so_far self.old.builder) (length reads.now) }
         requires joined { IsJoinedTo (layout (plan_of plan.now))
             (λ s. times s reads.now + uses s
@@ -68,7 +68,7 @@ impl Network {
             (λ s. uses s (drop (length self.old.places.items)
             (plan_of plan.now))) self.new.supply.items node (length reads.now)
             (states_so_far self.new.builder) (edges_so_far self.new.builder)) }
-        ensures within { OnOk result (IsWithin (plan_of plan.now) (states_so_far self.new.builder)
+        ensures within { OnOk result (KeepsLimits (plan_of plan.now) (states_so_far self.new.builder)
             (edges_so_far self.new.builder) 0) }
         ensures nodes { states_so_far self.new.builder ≡ states_so_far self.old.builder }
         ensures supply { OnOk result (length self.new.supply.items ≡ length self.old.supply.items) }
@@ -132,7 +132,7 @@ impl Network {
         requires later { uses stream (plan_of plan.now) ≡
             uses stream (drop (length self.old.places.items) (plan_of plan.now)) }
         requires next { ComeNext (plan_of plan.now) (states_so_far self.old.builder)
-            (behind at stream kind (uses stream (plan_of plan.now))) }
+            (places_after at stream kind (uses stream (plan_of plan.now))) }
         requires so_far { IsPutTo
             (plan_of plan.now) stream self.old.supply.items self.old.places.items
             (states_so_far self.old.builder) (edges_so_far self.old.builder) }
@@ -141,7 +141,7 @@ impl Network {
             (states_so_far self.new.builder) (edges_so_far self.new.builder)) }
         ensures nodes { OnOk result (length (states_so_far self.new.builder) ≡
             length (states_so_far self.old.builder) + length
-            (behind at stream kind (uses stream (plan_of plan.now)))) }
+            (places_after at stream kind (uses stream (plan_of plan.now)))) }
         ensures supply { OnOk result (length self.new.supply.items ≡ length self.old.supply.items) }
         ensures places { self.new.places.items ≡ self.old.places.items }
         ensures big { result ≡ Err TooBig → IsTooBig (plan_of plan.now) }

@@ -5,7 +5,7 @@ use Rattle.snesl_data.specs.declared.dialect.Dialect.{Dialect}
 use Rattle.snesl_data.specs.declared.fault.FaultKind.{FaultKind}
 use Rattle.snesl_data.specs.declared.fault.FaultKind.TheVariants.{Shape}
 use Rattle.flow_messages.specs.Cells.{Cell, flag, int, is_of}
-use Rattle.flow_base.specs.Lists.{Lists, push, with_port, First, First-full, IsFull, NothingAt}
+use Rattle.flow_base.specs.Lists.{Lists, push, with_port, First, First-full, HasFirst, NothingAt}
 use Rattle.flow_base.specs.Ports.{at_port, take_away, nothing_at, first_of_list, First-from}
 use Rattle.flow_base.specs.Ranges.{CellInRange}
 use Rattle.flow_base.specs.Columns.{Columns, columns, At, at_first, first_at, all_read, nothing_read}
@@ -104,7 +104,7 @@ module _ {P S : Type 0} (m : Machine P S) (p : P) where
   begin_none t i o no_ins no_outs = (zero, (nothing_read (m.inputs p) i no_ins, nothing_read (m.outputs p) o no_outs))
 
   -- within an instance there is a first item
-  pub take_full : (q : ℕ) (t : Taking S) (i o : Lists Cell) → q < m.inputs p → Body (takes q t) i o → IsFull (i q)
+  pub take_full : (q : ℕ) (t : Taking S) (i o : Lists Cell) → q < m.inputs p → Body (takes q t) i o → HasFirst (i q)
   take_full q t i o lt (zero, h) = absurd h
   take_full q t i o lt (suc n, h) = First-full (i q) (λ x r. Next n t o x (Ins (with_port q r i))) (at_first (m.inputs p) q i (Next n t o) lt h)
 

@@ -4,7 +4,7 @@ use Rattle.std.proofs.Common.{inl, inr, sym, ◌∙◌, ap, arith}
 use Rattle.std.proofs.lemmas.Bool.Decides.{nat_tests}
 use Rattle.flow_messages.specs.Cells.{Cell}
 use Rattle.flow_messages.specs.Signals.{Signal, carry, stop}
-use Rattle.flow_base.specs.Lists.{Lists, push, with_port, IsFull}
+use Rattle.flow_base.specs.Lists.{Lists, push, with_port, HasFirst}
 use Rattle.flow_base.specs.Ports.{ports, at_port, off_port, First-from}
 use Rattle.flow_base.specs.Transducers.{closed}
 
@@ -16,7 +16,7 @@ AreClosed n xs bodies = (p : ℕ) → p < n → xs p ≡ closed (bodies p)
 abbrev pub EndsFrom : ℕ → ℕ → Lists Signal → Type 0
 EndsFrom p n xs = (r : ℕ) → r < n → xs r ≡ cond (nat_lt r p) [] (stop ∷ [])
 
-pub closed_full : (xs : List Signal) (body : List Cell) → xs ≡ closed body → IsFull xs
+pub closed_full : (xs : List Signal) (body : List Cell) → xs ≡ closed body → HasFirst xs
 closed_full xs [] e = First-from xs stop [] (λ _ _. Unit {0}) e tt
 closed_full xs (x ∷ body) e = First-from xs (carry x) (closed body) (λ _ _. Unit {0}) e tt
 

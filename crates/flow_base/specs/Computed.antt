@@ -11,9 +11,9 @@ use Rattle.flow_base.specs.MachineRuns.{reading, writing, Then, run_is}
 use Rattle.flow_base.specs.declared.worker.Ask.TheVariants.{Begin}
 
 -- the number of items
-abbrev pub items : Columns → ℕ
-items [] = 0
-items (l ∷ cs) = length l + items cs
+abbrev pub item_count : Columns → ℕ
+item_count [] = 0
+item_count (l ∷ cs) = length l + item_count cs
 
 -- what the first item leads to, and the others
 abbrev pub on_item : List Cell → (Cell → List Cell → Option Columns) → Option Columns
@@ -47,7 +47,7 @@ module _ {P S : Type 0} (m : Machine P S) (p : P) where
 
   -- what whole instances write that read these columns, where there are any
   abbrev pub computed : Columns → Option Columns
-  computed i = after_writes (answer (items i)) (m.move p m.start) (m.debt p m.start) i
+  computed i = after_writes (answer (item_count i)) (m.move p m.start) (m.debt p m.start) i
 
   -- the row is what is computed
   abbrev pub ComputesRow : Type 0
@@ -75,23 +75,23 @@ width_with q r [] = refl
 width_with zero r (l ∷ cs) = refl
 width_with (suc q) r (l ∷ cs) = ap suc (width_with q r cs)
 
-items_nothing : (n : ℕ) → items (nothing n) ≡ 0
+items_nothing : (n : ℕ) → item_count (nothing n) ≡ 0
 items_nothing zero = refl
 items_nothing (suc n) = let there = items_nothing n in omega arith
 
-no_items : (cs : Columns) → items cs ≡ 0 → cs ≡ nothing (width cs)
+no_items : (cs : Columns) → item_count cs ≡ 0 → cs ≡ nothing (width cs)
 no_items [] e = refl
 no_items ([] ∷ cs) e = ap (λ r. [] ∷ r) (no_items cs (omega arith))
 no_items ((x ∷ l) ∷ cs) e = absurd (omega arith)
 
-items_push : (q : ℕ) (x : Cell) (cs : Columns) → q < width cs → items (push_column q x cs) ≡ suc (items cs)
+items_push : (q : ℕ) (x : Cell) (cs : Columns) → q < width cs → item_count (push_column q x cs) ≡ suc (item_count cs)
 items_push q x [] lt = absurd (omega arith)
 items_push zero x (l ∷ cs) lt = omega arith
 items_push (suc q) x (l ∷ cs) lt = let there = items_push q x cs (omega arith) in omega arith
 
-items_less : (q : ℕ) (x : Cell) (r : List Cell) (cs : Columns) → each_port cs q ≡ x ∷ r → items cs ≡ suc (items (with_column q r cs))
+items_less : (q : ℕ) (x : Cell) (r : List Cell) (cs : Columns) → each_port cs q ≡ x ∷ r → item_count cs ≡ suc (item_count (with_column q r cs))
 items_less q x r [] e = absurd (cc)
-items_less zero x r (l ∷ cs) e = ap (λ k. length k + items cs) e ∙ omega arith
+items_less zero x r (l ∷ cs) e = ap (λ k. length k + item_count cs) e ∙ omega arith
 items_less (suc q) x r (l ∷ cs) e = let there = items_less q x r cs e in omega arith
 
 -- the item that was put in front comes first, and the others are what was there
@@ -120,21 +120,21 @@ module _ {P S : Type 0} (m : Machine P S) (laws : MachineLaws m) (p : P) where
 
   -- what a run writes is what is computed
   abbrev Computes : S → Columns → Columns → Type 0
-  Computes s i o = width i ≡ m.inputs p → width o ≡ m.outputs p → (bound : ℕ) → m.debt p s ≤ bound → From (items i) s bound i ≡ Some o
+  Computes s i o = width i ≡ m.inputs p → width o ≡ m.outputs p → (bound : ℕ) → m.debt p s ≤ bound → From (item_count i) s bound i ≡ Some o
 
   read_computes : (q : ℕ) (t : Taking S) (x : Cell) (i o : Columns) → q < width i → width i ≡ m.inputs p → width o ≡ m.outputs p → OnNext (state_after_item t x) (λ next. Computes next i o) →
-      on_item (each_port (push_column q x i) q) (λ y l. on_next (state_after_item t y) (λ s. From (items i) s (m.debt p s) (with_column q l (push_column q x i)))) ≡ Some o
+      on_item (each_port (push_column q x i) q) (λ y l. on_next (state_after_item t y) (λ s. From (item_count i) s (m.debt p s) (with_column q l (push_column q x i)))) ≡ Some o
   read_computes q t x i o lt wi wo h =
-      ap (λ l. on_item l (λ y l. on_next (state_after_item t y) (λ s. From (items i) s (m.debt p s) (with_column q l (push_column q x i))))) (port_push q x i lt)
-      ∙ ap (λ c. on_next (state_after_item t x) (λ s. From (items i) s (m.debt p s) c)) (taken_away q x i)
+      ap (λ l. on_item l (λ y l. on_next (state_after_item t y) (λ s. From (item_count i) s (m.debt p s) (with_column q l (push_column q x i))))) (port_push q x i lt)
+      ∙ ap (λ c. on_next (state_after_item t x) (λ s. From (item_count i) s (m.debt p s) c)) (taken_away q x i)
       ∙ next (state_after_item t x) h
     where
-      next : (r : Result S FaultKind) → OnNext r (λ next. Computes next i o) → on_next r (λ s. From (items i) s (m.debt p s) i) ≡ Some o
+      next : (r : Result S FaultKind) → OnNext r (λ next. Computes next i o) → on_next r (λ s. From (item_count i) s (m.debt p s) i) ≡ Some o
       next (Ok s) h = h wi wo (m.debt p s) (omega arith)
       next (Err kind) h = absurd h
 
   step_computes : (s : S) (v : Move S) → SoundAt m p s v → (x : Cell) (i o : Columns) → Then (λ next. Computes next i o) v x → width (reading v x i) ≡ m.inputs p → width (writing v o) ≡ m.outputs p →
-      (bound : ℕ) → m.debt p s ≤ bound → after_writes m p (answer m p (items (reading v x i))) v bound (reading v x i) ≡ Some (writing v o)
+      (bound : ℕ) → m.debt p s ≤ bound → after_writes m p (answer m p (item_count (reading v x i))) v bound (reading v x i) ≡ Some (writing v o)
   step_computes s (begins t) law x i o h wi wo bound le =
       let w : width i ≡ m.inputs p = sym (width_push 0 x i) ∙ wi in
       let lt : 0 < width i = subst (λ n. 0 < n) (sym w) law.1.0 in
@@ -149,7 +149,7 @@ module _ {P S : Type 0} (m : Machine P S) (laws : MachineLaws m) (p : P) where
   none_computes : Computes m.start (nothing (m.inputs p)) (nothing (m.outputs p))
   none_computes wi wo bound le = go (m.move p m.start) (laws.begins_at_start p)
     where
-      go : (v : Move S) → ask_of v ≡ Begin → after_writes m p (answer m p (items (nothing (m.inputs p)))) v bound (nothing (m.inputs p)) ≡ Some (nothing (m.outputs p))
+      go : (v : Move S) → ask_of v ≡ Begin → after_writes m p (answer m p (item_count (nothing (m.inputs p)))) v bound (nothing (m.inputs p)) ≡ Some (nothing (m.outputs p))
       go (begins t) e = ap (λ n. answer m p n (begins t) (nothing (m.inputs p))) (items_nothing (m.inputs p))
       go (takes q t) e = absurd (cc)
       go (gives q c s) e = absurd (cc)
@@ -162,9 +162,9 @@ module _ {P S : Type 0} (m : Machine P S) (laws : MachineLaws m) (p : P) where
   Reaches v i o = (width o ≡ m.outputs p) × ((n : ℕ) × RunOf m p n v i o)
 
   abbrev AnswersRun : ℕ → Type 0
-  AnswersRun n = (s : S) (v : Move S) → SoundAt m p s v → (i o : Columns) → items i ≡ n → width i ≡ m.inputs p → answer m p n v i ≡ Some o → Reaches v i o
+  AnswersRun n = (s : S) (v : Move S) → SoundAt m p s v → (i o : Columns) → item_count i ≡ n → width i ≡ m.inputs p → answer m p n v i ≡ Some o → Reaches v i o
 
-  writes_run : (n : ℕ) → AnswersRun n → (bound : ℕ) (s : S) (v : Move S) → SoundAt m p s v → (i o : Columns) → items i ≡ n → width i ≡ m.inputs p → after_writes m p (answer m p n) v bound i ≡ Some o → Reaches v i o
+  writes_run : (n : ℕ) → AnswersRun n → (bound : ℕ) (s : S) (v : Move S) → SoundAt m p s v → (i o : Columns) → item_count i ≡ n → width i ≡ m.inputs p → after_writes m p (answer m p n) v bound i ≡ Some o → Reaches v i o
   writes_run n reads bound s (begins t) law i o e w h = reads s (begins t) law i o e w h
   writes_run n reads bound s (takes q t) law i o e w h = reads s (takes q t) law i o e w h
   writes_run n reads zero s (gives q c next) law i o e w h = absurd (cc)
@@ -174,12 +174,12 @@ module _ {P S : Type 0} (m : Machine P S) (laws : MachineLaws m) (p : P) where
       let lt : q < width g.0 = subst (λ k. q < k) (sym there.0) law.0 in
       (ap width g.2 ∙ width_push q c g.0 ∙ there.0, (suc there.1.0, subst (λ r. At q r (λ x r. (x ≡ c) × RunOf m p there.1.0 (m.move p next) i r)) (sym g.2) (at_push q c g.0 (λ x r. (x ≡ c) × RunOf m p there.1.0 (m.move p next) i r) lt (refl, there.1.1))))
 
-  read_run : (n q : ℕ) (t : Taking S) (i o : Columns) → AnswersRun n → items i ≡ suc n → width i ≡ m.inputs p →
+  read_run : (n q : ℕ) (t : Taking S) (i o : Columns) → AnswersRun n → item_count i ≡ suc n → width i ≡ m.inputs p →
       on_item (each_port i q) (λ x l. on_next (state_after_item t x) (λ s. From n s (m.debt p s) (with_column q l i))) ≡ Some o →
       (width o ≡ m.outputs p) × ((k : ℕ) × At q i (λ x r. OnNext (state_after_item t x) (λ s. RunOf m p k (m.move p s) r o)))
   read_run n q t i o reads e w h = go (each_port i q) refl h
     where
-      next : (r : Result S FaultKind) (c : Columns) → items c ≡ n → width c ≡ m.inputs p → on_next r (λ s. From n s (m.debt p s) c) ≡ Some o →
+      next : (r : Result S FaultKind) (c : Columns) → item_count c ≡ n → width c ≡ m.inputs p → on_next r (λ s. From n s (m.debt p s) c) ≡ Some o →
           (width o ≡ m.outputs p) × ((k : ℕ) × OnNext r (λ s. RunOf m p k (m.move p s) c o))
       next (Ok s) c e w h = writes_run n reads (m.debt p s) s (m.move p s) (laws.sound p s) c o e w h
       next (Err kind) c e w h = absurd (cc)
@@ -204,5 +204,5 @@ module _ {P S : Type 0} (m : Machine P S) (laws : MachineLaws m) (p : P) where
       let ins = columns (m.inputs p) i in
       let outs = columns (m.outputs p) o in (
         λ row. run_computes m.start ins outs ((laws.rows p i o).0 row) (width_columns (m.inputs p) i) (width_columns (m.outputs p) o) (m.debt p m.start) (omega arith),
-        λ e. (laws.rows p i o).1 (writes_run (items ins) (answers_run (items ins)) (m.debt p m.start) m.start (m.move p m.start) (laws.sound p m.start) ins outs refl (width_columns (m.inputs p) i) e).1,
+        λ e. (laws.rows p i o).1 (writes_run (item_count ins) (answers_run (item_count ins)) (m.debt p m.start) m.start (m.move p m.start) (laws.sound p m.start) ins outs refl (width_columns (m.inputs p) i) e).1,
       )

@@ -24,10 +24,10 @@ First [] P = ⊥
 First (x ∷ rest) P = P x rest
 
 -- there is a first item
-abbrev pub IsFull : {A : Type 0} → List A → Type 0
-IsFull xs = First xs (λ _ _. Unit {0})
+abbrev pub HasFirst : {A : Type 0} → List A → Type 0
+HasFirst xs = First xs (λ _ _. Unit {0})
 
-pub First-full : {A : Type 0} (xs : List A) (P : A → List A → Type 0) → First xs P → IsFull xs
+pub First-full : {A : Type 0} (xs : List A) (P : A → List A → Type 0) → First xs P → HasFirst xs
 First-full [] P h = h
 First-full (x ∷ rest) P h = tt
 

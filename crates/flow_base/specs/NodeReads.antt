@@ -6,7 +6,7 @@ use Rattle.snesl_data.specs.declared.fault.FaultKind.{FaultKind}
 use Rattle.snesl_data.specs.declared.fault.FaultKind.TheVariants.{Shape}
 use Rattle.flow_messages.specs.Cells.{Cell, is_of}
 use Rattle.flow_messages.specs.Signals.{Signal, carry, stop}
-use Rattle.flow_base.specs.Lists.{Lists, push, with_port, IsFull}
+use Rattle.flow_base.specs.Lists.{Lists, push, with_port, HasFirst}
 use Rattle.flow_base.specs.Ports.{at_port, put_back, nothing_at, NothingAt-from}
 use Rattle.flow_base.specs.Ranges.{CellInRange, SignalInRange}
 use Rattle.flow_base.specs.Machines.{Taking, Move, begins, takes, Machine, ask_of, state_after_read, OfNext, SoundRead}
@@ -132,7 +132,7 @@ module _ {P S : Type 0} (m : Machine P S) (p : P) (s : S) (at : ℕ) where
       never : (i o : Lists Signal) → Remains m p (takes q t) (push q stop i) o → ⊥
       never i o h =
           let ended = stopped (i q) (h.ins q) (sym (at_port q (stop ∷ i q) i) ∙ h.closed_ins q law.0) in
-          subst (λ l. IsFull l) ended.0 (take_full m p q t h.ins h.outs law.0 h.body)
+          subst (λ l. HasFirst l) ended.0 (take_full m p q t h.ins h.outs law.0 h.body)
 
   -- a read between two instances
   pub begin_keeps : (t : Taking S) → m.move p s ≡ begins t → SoundRead m p s 0 t → KeepsRead (behaviour_of m) (promise_of m) (node_state (p, s) Working at) 0

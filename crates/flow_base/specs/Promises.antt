@@ -7,7 +7,7 @@ use Rattle.kahn.specs.declared.want.Want.{Want}
 use Rattle.kahn.specs.declared.want.Want.TheVariants.{Read, Write, Ended, Faulted}
 use Rattle.flow_messages.specs.Cells.{Cell, is_of}
 use Rattle.flow_messages.specs.Signals.{Signal, carry, stop}
-use Rattle.flow_base.specs.Lists.{Lists, push, with_port, First, IsFull}
+use Rattle.flow_base.specs.Lists.{Lists, push, with_port, First, HasFirst}
 use Rattle.flow_base.specs.Ranges.{SignalInRange, SignalOfKind}
 use Rattle.flow_base.specs.Transducers.{Behaviour, IsLawfulTraffic}
 
@@ -24,7 +24,7 @@ module _ {S : Type 0} (b : Behaviour S) (promise : Promise S) where
   pub record KeepsRead (s : S) (p : ℕ) : Type 0 where
     pub port : p < b.inputs s
     -- a message is owed at the port
-    pub full : (i o : Lists Signal) → promise.owes s i o → IsFull (i p)
+    pub full : (i o : Lists Signal) → promise.owes s i o → HasFirst (i p)
     -- a message comes first at the port exactly where the state that it leads to is owed the others
     pub steps : (m : Signal) (i o : Lists Signal) → promise.owes s (push p m i) o ↔ promise.owes (b.process.read s m) i o
     pub stays : (m : Signal) → b.opening (b.process.read s m) ≡ b.opening s

@@ -20,7 +20,7 @@ use Rattle.flow_shares.specs.Deals.{share_of}
 use Rattle.flow_meetings.specs.Joints.{no_contents, boxes_at, views_of, writer_boxes, reader_boxes, end_view, BoxesHaveMet}
 use Rattle.flow_meetings.specs.EndTheorems.{EdgesHaveMet}
 use Rattle.flow_meetings.specs.SharedNetworks.{SharedNetwork, moves_by}
-use Rattle.flow_rounds.specs.Standing.{seen}
+use Rattle.flow_rounds.specs.Standing.{boxes_seen}
 use Rattle.flow_rounds.proofs.RoundGathers.{HaveComeToRest}
 use Rattle.flow_drive.specs.declared.all_ends.SharedEnds.{SharedEnds}
 use Rattle.flow_drive.specs.declared.all_ends.AllEnds.{AllEnds}
@@ -39,7 +39,7 @@ all_seen : (boxes : List Boxes) → views_of (map contents boxes) ≡ seen_by vi
 all_seen boxes = fun_ext (seen_of boxes)
 
 -- boxes that have met are joined
-module _ (share : List ℕ) (edges : List Edge) (boxes : List Boxes) (most : ℕ) (met : BoxesHaveMet share edges (seen boxes) most) where
+module _ (share : List ℕ) (edges : List Edge) (boxes : List Boxes) (most : ℕ) (met : BoxesHaveMet share edges (boxes_seen boxes) most) where
   abbrev writer : ℕ → ℕ
   writer e = share_of share (edge_at edges e).writer
 
@@ -47,13 +47,13 @@ module _ (share : List ℕ) (edges : List Edge) (boxes : List Boxes) (most : ℕ
   reader e = share_of share (edge_at edges e).reader
 
   -- a share that has an end of an edge is among the shares
-  there : (s e : ℕ) → ((boxes_at (seen boxes) s).ends.writes e ≡ true) ⊎ ((boxes_at (seen boxes) s).ends.reads e ≡ true) → s < length boxes
-  there s e has = at has (cases_lt s (length (seen boxes)))
+  there : (s e : ℕ) → ((boxes_at (boxes_seen boxes) s).ends.writes e ≡ true) ⊎ ((boxes_at (boxes_seen boxes) s).ends.reads e ≡ true) → s < length boxes
+  there s e has = at has (cases_lt s (length (boxes_seen boxes)))
     where
-      at : ((boxes_at (seen boxes) s).ends.writes e ≡ true) ⊎ ((boxes_at (seen boxes) s).ends.reads e ≡ true) → (s < length (seen boxes)) ⊎ (length (seen boxes) ≤ s) → s < length boxes
+      at : ((boxes_at (boxes_seen boxes) s).ends.writes e ≡ true) ⊎ ((boxes_at (boxes_seen boxes) s).ends.reads e ≡ true) → (s < length (boxes_seen boxes)) ⊎ (length (boxes_seen boxes) ≤ s) → s < length boxes
       at has (inl l) = omega (arith, l, length-map boxes contents)
-      at (inl writes) (inr above) = absurd (cc (ap (λ (b : Contents). b.ends.writes e) (get_or_past (seen boxes) s no_contents above), writes))
-      at (inr reads) (inr above) = absurd (cc (ap (λ (b : Contents). b.ends.reads e) (get_or_past (seen boxes) s no_contents above), reads))
+      at (inl writes) (inr above) = absurd (cc (ap (λ (b : Contents). b.ends.writes e) (get_or_past (boxes_seen boxes) s no_contents above), writes))
+      at (inr reads) (inr above) = absurd (cc (ap (λ (b : Contents). b.ends.reads e) (get_or_past (boxes_seen boxes) s no_contents above), reads))
 
   module _ (e : ℕ) (l : e < length edges) where
     writer_there : writer e < length boxes
@@ -65,12 +65,12 @@ module _ (share : List ℕ) (edges : List Edge) (boxes : List Boxes) (most : ℕ
     joined_at : (d : Boxes) → BoxesJoin (get_or boxes (writer e) d) (get_or boxes (reader e) d) e
     joined_at d =
         subst (λ (a : Contents). IsLinked a (contents (get_or boxes (reader e) d)) e) (get_or-map contents boxes (writer e) d no_contents writer_there)
-        (subst (λ (b : Contents). IsLinked (writer_boxes share edges (seen boxes) e) b e) (get_or-map contents boxes (reader e) d no_contents reader_there) (met.linked e l))
+        (subst (λ (b : Contents). IsLinked (writer_boxes share edges (boxes_seen boxes) e) b e) (get_or-map contents boxes (reader e) d no_contents reader_there) (met.linked e l))
 
-  boxes_met : EdgesHaveMet share edges (views_of (seen boxes)) most
+  boxes_met : EdgesHaveMet share edges (views_of (boxes_seen boxes)) most
   boxes_met e l =
-      let w = (writer_boxes share edges (seen boxes) e).ends in
-      let r = (reader_boxes share edges (seen boxes) e).ends in
+      let w = (writer_boxes share edges (boxes_seen boxes) e).ends in
+      let r = (reader_boxes share edges (boxes_seen boxes) e).ends in
       let arrived = ap length (met.carried e l).arrived in
       let both = length-append (r.received e) (r.coming e) in
       record {
@@ -101,7 +101,7 @@ module _ {X : Type 0} {t : Ghosts X} (network : SharedNetwork t) (share : List �
 -- over boxes
 module _ {X : Type 0} {t : Ghosts X} (network : SharedNetwork t) (graph : Graph X t) (shared : SharedEnds Boxes)
     (same : IsSameNetwork t.behaviour (states_in network.nodes) network.edges (states_of graph) (edges_of graph))
-    (rested : HaveComeToRest network (states_of graph) (seen shared.ends.items))
+    (rested : HaveComeToRest network (states_of graph) (boxes_seen shared.ends.items))
     (share : shared.share.items ≡ network.share) (capacity : shared.capacity ≡ network.capacity) where
   abbrev boxes : List Boxes
   boxes = shared.ends.items
@@ -127,7 +127,7 @@ module _ {X : Type 0} {t : Ghosts X} (network : SharedNetwork t) (graph : Graph 
       (rested.reaches.0, record { run = rested.reaches.1; rest = rested.rest }))
 
   -- as many messages went over the edges of the graph
-  pub boxes_moved : (Q : ℕ → Type 0) → Q (moves_by network (views_of (seen boxes))) → Q (moves_over (edges_of graph) traffic)
+  pub boxes_moved : (Q : ℕ → Type 0) → Q (moves_by network (views_of (boxes_seen boxes))) → Q (moves_over (edges_of graph) traffic)
   boxes_moved Q q =
       of_lines network shared.share.items (edges_of graph) shared.capacity share same.same_edges capacity (λ s e n. Q (moves_over e (traffic_by view_of s e boxes)))
       (subst (λ v. Q (moves_by network v)) (all_seen boxes) q)

@@ -15,7 +15,7 @@ use Rattle.flow_base.specs.Visits.{edge_of, Went}
 use Rattle.flow_base.specs.declared.node.Phase.TheVariants.{Working}
 use Rattle.flow_base.proofs.Kernels.{leads_on}
 use Rattle.flow_base.proofs.Batches.{batch_none, batch_write, shifted_none, shifted_put, went_batch, ended_one}
-use Rattle.flow_folds.specs.LengthMachine.{one_more, length_counts, length_move, length_machine}
+use Rattle.flow_folds.specs.LengthMachine.{one_element_more, length_counts, length_move, length_machine}
 use Rattle.flow_folds.specs.LengthBlocks.{LengthsAlong}
 use Rattle.flow_folds.specs.declared.length.Count.{Count}
 use Rattle.flow_folds.specs.declared.length.Count.TheVariants.{Counting, Due}
@@ -58,7 +58,7 @@ module _ (ins outs : List ℕ) (d : Dialect) (at : ℕ) where
   element_round : (n : ℕ) → n < greatest_integer d → Singles ins outs (behaviour_of length_machine) (counting n) (counting (suc n)) (carry (flag false) ∷ []) [] 1
   element_round n within =
       let b = behaviour_of length_machine in
-      let leads : state_after_item (length_counts d n) (flag false) ≡ Ok (Counting (suc n)) = let least : one_more d n ≡ suc n = omega arith in ap (λ k. Ok (Counting k)) least in
+      let leads : state_after_item (length_counts d n) (flag false) ≡ Ok (Counting (suc n)) = let least : one_element_more d n ≡ suc n = omega arith in ap (λ k. Ok (Counting k)) least in
       singles_read ins outs b (counting n) (counting (suc n)) (carry (flag false)) (counts_want d n at) (leads_on length_machine d (Counting n) (Counting (suc n)) at (length_counts d n) (carry (flag false)) (counts_read d n) leads)
 
   -- the end of a segment, with its length

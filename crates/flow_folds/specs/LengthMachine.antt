@@ -15,8 +15,8 @@ use Rattle.flow_folds.specs.declared.length.Count.TheVariants.{Counting, Due}
 use Rattle.flow_folds.specs.declared.length.Length.{Length}
 
 -- one element more; a count over the range of the dialect stays the least one over it
-abbrev pub one_more : Dialect → ℕ → ℕ
-one_more dialect n = suc (min n (greatest_integer dialect))
+abbrev pub one_element_more : Dialect → ℕ → ℕ
+one_element_more dialect n = suc (min n (greatest_integer dialect))
 
 -- at the end of a segment of n elements the number n is due, if it lies in the range
 abbrev pub length_at_end : Dialect → ℕ → Result Count FaultKind
@@ -24,7 +24,7 @@ length_at_end dialect n = cond (is_integer dialect (pos n)) (Ok (Due (pos n))) (
 
 -- after n elements, F counts, and T ends the segment
 abbrev pub length_counts : Dialect → ℕ → Taking Count
-length_counts dialect n = on_flag (Ok (Counting (one_more dialect n))) (length_at_end dialect n)
+length_counts dialect n = on_flag (Ok (Counting (one_element_more dialect n))) (length_at_end dialect n)
 
 -- the stream may end where no element of a segment came
 abbrev pub length_move : Dialect → Count → Move Count

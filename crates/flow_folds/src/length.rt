@@ -10,7 +10,7 @@ ghost use Rattle.flow_base.specs.Machines.{Leads};
 ghost use Rattle.flow_base.specs.Nodes.{behaviour_of, node_state};
 ghost use Rattle.flow_base.specs.Visits.{IsWired, TakeKinds, Went};
 ghost use Rattle.flow_base.specs.declared.node.Phase.TheVariants.{Working};
-ghost use Rattle.flow_folds.specs.LengthMachine.{one_more, length_at_end, length_counts, length_machine, length_view};
+ghost use Rattle.flow_folds.specs.LengthMachine.{one_element_more, length_at_end, length_counts, length_machine, length_view};
 ghost use Rattle.flow_folds.specs.LengthBlocks.{LengthsAlong};
 
 use flow_base::{Ask, BLOCK, SHORT_BLOCK, Stop, Worker, put_in_space, take_front};
@@ -43,7 +43,7 @@ impl Count {
     // Where one element more leads after so many. A count over the range of the dialect stays over it.
     #[inline(always)]
     fn after_element(dialect: Dialect, count: u128) -> Count
-        ensures { result ≡ Count.Counting (one_more dialect count) }
+        ensures { result ≡ Count.Counting (one_element_more dialect count) }
     {
         Count::Counting(count.min(dialect.greatest() as u128) + 1)
     }

@@ -20,7 +20,7 @@ use Rattle.flow_inputs.specs.declared.turns.Piece.{Piece}
 use Rattle.flow_inputs.specs.declared.turns.Piece.TheVariants.{Flag, Int}
 use Rattle.flow_inputs.specs.Left.{left, cell}
 use Rattle.snesl_values.specs.Places.{value_at}
-use Rattle.flow_inputs.specs.Items.{items_at, opening_state, written_of, IsRest, text_state}
+use Rattle.flow_inputs.specs.Items.{items_from, opening_state, written_of, IsRest, text_state}
 use Rattle.flow_inputs.specs.declared.source.TextSource.{TextSource}
 use Rattle.flow_inputs.specs.TextSources.{text_source_state}
 use Rattle.flow_inputs.specs.Sends.{Sends}
@@ -52,10 +52,10 @@ rest_behind all rest (x ∷ pieces) others is e = rest_behind all (pieces ++ oth
 
 -- and the pieces are what is written next
 sends_pieces : (text : List ℕ) (way : List Component) (leaf : Leaf) (place : ℕ) (rest pieces others : List Piece) → IsRest (left text way leaf place opening_state) rest → rest ≡ pieces ++ others
-    → Sends (sending (items_at text way leaf place) (written_of (left text way leaf place opening_state) rest)) (said (value_at text) pieces) (sending (items_at text way leaf place) (written_of (left text way leaf place opening_state) others))
-sends_pieces text way leaf place rest [] others is e = ap (λ l. sending (items_at text way leaf place) (written_of (left text way leaf place opening_state) l)) e
+    → Sends (sending (items_from text way leaf place) (written_of (left text way leaf place opening_state) rest)) (said (value_at text) pieces) (sending (items_from text way leaf place) (written_of (left text way leaf place opening_state) others))
+sends_pieces text way leaf place rest [] others is e = ap (λ l. sending (items_from text way leaf place) (written_of (left text way leaf place opening_state) l)) e
 sends_pieces text way leaf place rest (x ∷ pieces) others is e =
-    let items = items_at text way leaf place in
+    let items = items_from text way leaf place in
     let all = left text way leaf place opening_state in
     let count = written_of all rest in
     let next = nexts all rest x (pieces ++ others) is e in

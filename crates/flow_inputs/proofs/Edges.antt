@@ -6,7 +6,7 @@ use Rattle.std.proofs.lemmas.Bool.Decides.{nat_tests}
 use Rattle.snesl_data.specs.declared.dialect.Dialect.{Dialect}
 use Rattle.snesl_data.specs.Types.{Ty, int, bool, pair, vec, seq}
 use Rattle.snesl_data.specs.Values.{Value, HasType}
-use Rattle.snesl_values.specs.InputTokens.{Reads}
+use Rattle.snesl_values.specs.InputTokens.{HasTokens}
 use Rattle.snesl_values.specs.Inputs.{value_tokens}
 use Rattle.flow_messages.specs.Cells.{Cell}
 use Rattle.flow_messages.specs.declared.message.Kind.{Kind}
@@ -24,7 +24,7 @@ use Rattle.flow_inputs.specs.Turns.{state}
 use Rattle.flow_inputs.specs.Left.{left, cell}
 use Rattle.snesl_values.specs.Places.{value_at}
 use Rattle.flow_inputs.specs.Items.{leaf_kind}
-use Rattle.flow_inputs.specs.Ways.{way_to, leaf_at, items, Leads, to_int, to_bool, to_vector, to_flags, by_elements, by_first, by_second, Ahead}
+use Rattle.flow_inputs.specs.Ways.{way_to, leaf_at, items_on_edge, LeadsToEdge, to_int, to_bool, to_vector, to_flags, by_elements, by_first, by_second, Ahead}
 use Rattle.flow_inputs.proofs.Lefts.{left_done}
 use Rattle.flow_inputs.proofs.Main.{law}
 use Rattle.snesl_values.proofs.Tells.{value_at-tells}
@@ -36,14 +36,14 @@ not_below : (m n : ℕ) → nat_lt m n ≡ false → n ≤ m
 not_below m n e = grind (arith, nat_tests)
 
 -- each edge has a way
-pub leads : (t : Ty) (edge : ℕ) → edge < width t → Leads t (way_to t edge) (leaf_at t edge)
+pub leads : (t : Ty) (edge : ℕ) → edge < width t → LeadsToEdge t (way_to t edge) (leaf_at t edge)
 leads int edge lt = to_int
 leads bool edge lt = to_bool
 leads (vec a) edge lt = to_vector
 leads (pair a b) edge lt = by_side (nat_lt edge (width a)) refl (λ h. leads a edge h) (λ h. leads b (edge - width a) h)
   where
-    by_side : (side : Bool) → nat_lt edge (width a) ≡ side → (edge < width a → Leads a (way_to a edge) (leaf_at a edge)) → (edge - width a < width b → Leads b (way_to b (edge - width a)) (leaf_at b (edge - width a)))
-        → Leads (pair a b) (cond side (First ∷ way_to a edge) (Second ∷ way_to b (edge - width a))) (cond side (leaf_at a edge) (leaf_at b (edge - width a)))
+    by_side : (side : Bool) → nat_lt edge (width a) ≡ side → (edge < width a → LeadsToEdge a (way_to a edge) (leaf_at a edge)) → (edge - width a < width b → LeadsToEdge b (way_to b (edge - width a)) (leaf_at b (edge - width a)))
+        → LeadsToEdge (pair a b) (cond side (First ∷ way_to a edge) (Second ∷ way_to b (edge - width a))) (cond side (leaf_at a edge) (leaf_at b (edge - width a)))
     by_side true e one two = by_first (one (below edge (width a) e))
     by_side false e one two = by_second (two (let size = length-append (kinds_of a) (kinds_of b) in let h = not_below edge (width a) e in omega (arith, size, h)))
 leads (seq a) zero lt = to_flags
@@ -54,7 +54,7 @@ joined_same f g same [] = refl
 joined_same f g same (v ∷ vs) = ap₂ (λ a b. a ++ b) (same v) (joined_same f g same vs)
 
 -- the items at the end of the way to an edge are those that the value puts there
-pub items_are : (t : Ty) (edge : ℕ) → edge < width t → (p : ℕ) (v : Value) → items (way_to t edge) (leaf_at t edge) v ≡ spread t p v (p + edge)
+pub items_are : (t : Ty) (edge : ℕ) → edge < width t → (p : ℕ) (v : Value) → items_on_edge (way_to t edge) (leaf_at t edge) v ≡ spread t p v (p + edge)
 items_are int edge lt p v = let e : p + edge ≡ p = omega arith in sym (ap (only_at p (cell_for v ∷ [])) e ∙ only_here p (cell_for v ∷ []))
 items_are bool edge lt p v = let e : p + edge ≡ p = omega arith in sym (ap (only_at p (cell_for v ∷ [])) e ∙ only_here p (cell_for v ∷ []))
 items_are (vec a) edge lt p v = let e : p + edge ≡ p = omega arith in sym (ap (only_at p (cell_for v ∷ [])) e ∙ only_here p (cell_for v ∷ []))
@@ -62,9 +62,9 @@ items_are (pair a b) edge lt p v =
     by_side (nat_lt edge (width a)) refl (λ h. items_are a edge h p (first_of v)) (λ h. items_are b (edge - width a) h (p + width a) (second_of v))
   where
     by_side : (side : Bool) → nat_lt edge (width a) ≡ side
-        → (edge < width a → items (way_to a edge) (leaf_at a edge) (first_of v) ≡ spread a p (first_of v) (p + edge))
-        → (edge - width a < width b → items (way_to b (edge - width a)) (leaf_at b (edge - width a)) (second_of v) ≡ spread b (p + width a) (second_of v) ((p + width a) + (edge - width a)))
-        → items (cond side (First ∷ way_to a edge) (Second ∷ way_to b (edge - width a))) (cond side (leaf_at a edge) (leaf_at b (edge - width a))) v
+        → (edge < width a → items_on_edge (way_to a edge) (leaf_at a edge) (first_of v) ≡ spread a p (first_of v) (p + edge))
+        → (edge - width a < width b → items_on_edge (way_to b (edge - width a)) (leaf_at b (edge - width a)) (second_of v) ≡ spread b (p + width a) (second_of v) ((p + width a) + (edge - width a)))
+        → items_on_edge (cond side (First ∷ way_to a edge) (Second ∷ way_to b (edge - width a))) (cond side (leaf_at a edge) (leaf_at b (edge - width a))) v
         ≡ spread a p (first_of v) (p + edge) ++ spread b (p + width a) (second_of v) (p + edge)
     by_side true e one two =
         let h = below edge (width a) e in
@@ -84,7 +84,7 @@ items_are (seq a) (suc edge) lt p v =
     let n : p + suc edge ≢ p = omega arith in
     let there : (p + 1) + edge ≡ p + suc edge = omega arith in
     let h : edge < width a = omega arith in
-    joined_same (items (way_to a edge) (leaf_at a edge)) (λ e. spread a (p + 1) e (p + suc edge)) (λ e. items_are a edge h (p + 1) e ∙ ap (spread a (p + 1) e) there) (elements_of v)
+    joined_same (items_on_edge (way_to a edge) (leaf_at a edge)) (λ e. spread a (p + 1) e (p + suc edge)) (λ e. items_are a edge h (p + 1) e ∙ ap (spread a (p + 1) e) there) (elements_of v)
     ∙ ap (λ l. l ++ spread_all a (p + 1) (elements_of v) (p + suc edge)) (sym (only_there p (p + suc edge) _ n))
 
 -- the way lies ahead
@@ -104,7 +104,7 @@ ahead_from before (step ∷ rest) =
     here (x ∷ xs) = here xs
 
 -- What is left to write on an edge where a value begins: the edge's part of what the value puts on the edges of its type.
-pub opens : (dialect : Dialect) (t : Ty) (edge : ℕ) (text : List ℕ) (from end : ℕ) (v : Value) → edge < width t → HasType dialect v t → from ≤ length text → Reads text from (value_tokens v) end
+pub opens : (dialect : Dialect) (t : Ty) (edge : ℕ) (text : List ℕ) (from end : ℕ) (v : Value) → edge < width t → HasType dialect v t → from ≤ length text → HasTokens text from (value_tokens v) end
     → map (cell (value_at text)) (left text (way_to t edge) (leaf_at t edge) from (state 0 ValueNext)) ≡ flat t 0 (v ∷ []) edge
 opens dialect t edge text from end v lt typed inside r =
     let way = way_to t edge in
@@ -112,8 +112,8 @@ opens dialect t edge text from end v lt typed inside r =
     let vector = value_at text in
     let zero_edge : 0 + edge ≡ edge = omega arith in
     law (leads t edge lt) dialect vector text (λ dialect t from end v typed inside r. value_at-tells dialect text t from end v typed inside r) way 0 (ahead_from [] way) v typed from end inside r
-    ∙ ap (λ l. items way leaf v ++ map (cell vector) l) (left_done text way leaf end (state 0 Behind) refl)
-    ∙ append-nil (items way leaf v)
+    ∙ ap (λ l. items_on_edge way leaf v ++ map (cell vector) l) (left_done text way leaf end (state 0 Behind) refl)
+    ∙ append-nil (items_on_edge way leaf v)
     ∙ items_are t edge lt 0 v
     ∙ ap (spread t 0 v) zero_edge
     ∙ sym (ap (λ l. l edge) (flat_one t 0 v))

@@ -12,7 +12,7 @@ use Rattle.flow_inputs.specs.declared.turns.Leaf.TheVariants.{Ints}
 use Rattle.flow_inputs.specs.declared.turns.Mode.TheVariants.{Value, Behind, Counting}
 use Rattle.flow_inputs.specs.declared.turns.State.{State}
 use Rattle.flow_inputs.specs.declared.turns.Piece.TheVariants.{Flag, Int}
-use Rattle.flow_inputs.specs.Turns.{state, behind, at_value, at_leaf, made}
+use Rattle.flow_inputs.specs.Turns.{state, turn_after_value, at_value, at_leaf, made}
 use Rattle.flow_inputs.specs.Left.{left}
 use Rattle.flow_inputs.proofs.Lefts.{behind_turn, left_found}
 
@@ -22,7 +22,7 @@ two_tokens : (text : List ℕ) (way : List Component) (at level : ℕ) (n : ℤ)
     → left text way Ints at (state level Behind) ≡ Int n ∷ left text way Ints f.end (state level Behind)
 two_tokens text way at level n f within elements last comma number is =
     left_found text way Ints at (state level Behind) (record { mark = Comma; end = at + 1 }) (omega (arith, within)) comma
-    ∙ ap (λ o. behind_turn text way Ints (behind o level Comma) (at + 1)) elements
+    ∙ ap (λ o. behind_turn text way Ints (turn_after_value o level Comma) (at + 1)) elements
     ∙ left_found text way Ints (at + 1) (state level Value) f within number
     ∙ ap (λ o. behind_turn text way Ints (at_value o Ints level f.mark (at + 1)) f.end) last
     ∙ ap (λ m. behind_turn text way Ints (at_leaf Ints level m (at + 1)) f.end) is

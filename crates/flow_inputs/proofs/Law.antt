@@ -5,7 +5,7 @@ use Rattle.std.proofs.lemmas.Bool.Decides.{nat_tests}
 use Rattle.snesl_data.specs.declared.dialect.Dialect.TheVariants.{Two}
 use Rattle.snesl_data.specs.Integers.{is_integer}
 use Rattle.snesl_data.specs.Values.{Value, Values, an_int, a_bool, a_pair, a_vec, a_seq, no_values, more_values}
-use Rattle.snesl_values.specs.InputTokens.{Token, integer, next_at, Reads}
+use Rattle.snesl_values.specs.InputTokens.{Token, integer, next_at, HasTokens}
 use Rattle.snesl_values.specs.Inputs.{value_tokens, items_tokens, further_tokens}
 use Rattle.flow_messages.specs.Cells.{Cell}
 use Rattle.snesl_values.specs.declared.marks.Bracket.TheVariants.{Round, Square, Curly}
@@ -17,7 +17,7 @@ use Rattle.flow_inputs.specs.declared.turns.Mode.{Mode}
 use Rattle.flow_inputs.specs.declared.turns.Mode.TheVariants.{Passing, Counting, Within}
 use Rattle.flow_inputs.specs.declared.turns.State.{State}
 use Rattle.flow_inputs.specs.declared.turns.Piece.{Piece}
-use Rattle.flow_inputs.specs.Turns.{Turn, turn, state, moved, wrote, passed, made}
+use Rattle.flow_inputs.specs.Turns.{Turn, turn, state, writes_nothing, wrote, passed, made}
 use Rattle.snesl_values.specs.Marks.{mark_of}
 use Rattle.flow_inputs.specs.Left.{left, cell}
 use Rattle.snesl_values.proofs.Spots.{unread}
@@ -29,10 +29,10 @@ use Rattle.flow_inputs.proofs.Lefts.{left_turn, behind_turn}
 pub record Turned (text : List ℕ) (from : ℕ) (t : Token) (ts : List Token) (end : ℕ) : Type 0 where
   pub at : ℕ
   pub inside : at ≤ length text
-  pub rest : Reads text at ts end
+  pub rest : HasTokens text at ts end
   pub turns : (way : List Component) (leaf : Leaf) (s : State) → left text way leaf from s ≡ behind_turn text way leaf (turn way leaf s (mark_of t) from) at
 
-pub turned : {text : List ℕ} {from end : ℕ} {t : Token} {ts : List Token} → from ≤ length text → Reads text from (t ∷ ts) end → Turned text from t ts end
+pub turned : {text : List ℕ} {from end : ℕ} {t : Token} {ts : List Token} → from ≤ length text → HasTokens text from (t ∷ ts) end → Turned text from t ts end
 turned {text = text} {from = from} {t = t} inside r =
     let w = read inside r in
     record {
@@ -48,23 +48,23 @@ cells vector text way leaf at s = map (cell vector) (left text way leaf at s)
 
 -- by what the turn does
 pub then_moved : {text : List ℕ} {from end : ℕ} {t : Token} {ts : List Token} (vector : ℕ → Value) (way : List Component) (leaf : Leaf) (s : State) (level : ℕ) (mode : Mode) (w : Turned text from t ts end)
-    → turn way leaf s (mark_of t) from ≡ moved level mode → cells vector text way leaf from s ≡ cells vector text way leaf w.at (state level mode)
+    → turn way leaf s (mark_of t) from ≡ writes_nothing level mode → cells vector text way leaf from s ≡ cells vector text way leaf w.at (state level mode)
 then_moved {text = text} vector way leaf s level mode w e = ap (map (cell vector)) (w.turns way leaf s ∙ ap (λ (u : Turn). behind_turn text way leaf u w.at) e)
 
 pub then_wrote : {text : List ℕ} {from end : ℕ} {t : Token} {ts : List Token} (vector : ℕ → Value) (way : List Component) (leaf : Leaf) (s : State) (piece : Piece) (level : ℕ) (mode : Mode) (w : Turned text from t ts end)
     → turn way leaf s (mark_of t) from ≡ wrote piece level mode → cells vector text way leaf from s ≡ cell vector piece ∷ cells vector text way leaf w.at (state level mode)
 then_wrote {text = text} vector way leaf s piece level mode w e = ap (map (cell vector)) (w.turns way leaf s ∙ ap (λ (u : Turn). behind_turn text way leaf u w.at) e)
 
-number_passes : {way : List Component} {leaf : Leaf} {level : ℕ} {mode : ℕ → Mode} → Passes way leaf level mode → (depth place : ℕ) (n : ℤ) → turn way leaf (state level (mode depth)) (mark_of (integer n)) place ≡ moved level (mode depth)
+number_passes : {way : List Component} {leaf : Leaf} {level : ℕ} {mode : ℕ → Mode} → Passes way leaf level mode → (depth place : ℕ) (n : ℤ) → turn way leaf (state level (mode depth)) (mark_of (integer n)) place ≡ writes_nothing level (mode depth)
 number_passes {way = way} {leaf = leaf} {level = level} {mode = mode} p depth place n = by_range (is_integer Two n)
   where
-    by_range : (b : Bool) → turn way leaf (state level (mode depth)) (cond b (Number n) Other) place ≡ moved level (mode depth)
+    by_range : (b : Bool) → turn way leaf (state level (mode depth)) (cond b (Number n) Other) place ≡ writes_nothing level (mode depth)
     by_range true = p.numbers depth place n
     by_range false = p.others depth place
 
 -- a value is passed over
 mutual
-  pub over_value : (vector : ℕ → Value) {text : List ℕ} (way : List Component) (leaf : Leaf) (level : ℕ) (mode : ℕ → Mode) → Passes way leaf level mode → (v : Value) {from end : ℕ} (depth : ℕ) → from ≤ length text → Reads text from (value_tokens v) end
+  pub over_value : (vector : ℕ → Value) {text : List ℕ} (way : List Component) (leaf : Leaf) (level : ℕ) (mode : ℕ → Mode) → Passes way leaf level mode → (v : Value) {from end : ℕ} (depth : ℕ) → from ≤ length text → HasTokens text from (value_tokens v) end
       → cells vector text way leaf from (state level (mode depth)) ≡ cells vector text way leaf end (state level (mode depth))
   over_value vector {text = text} way leaf level mode p (an_int n) depth inside r =
       let w = turned inside r in
@@ -109,7 +109,7 @@ mutual
       ∙ ap (λ at. cells vector text way leaf at (state level (mode depth))) (unread closing.rest)
 
   -- the items of a vector or a sequence
-  pub over_items : (vector : ℕ → Value) {text : List ℕ} (way : List Component) (leaf : Leaf) (level : ℕ) (mode : ℕ → Mode) → Passes way leaf level mode → (vs : Values) {from end : ℕ} (depth : ℕ) → PassesParts way leaf level mode depth → from ≤ length text → Reads text from (items_tokens vs) end
+  pub over_items : (vector : ℕ → Value) {text : List ℕ} (way : List Component) (leaf : Leaf) (level : ℕ) (mode : ℕ → Mode) → Passes way leaf level mode → (vs : Values) {from end : ℕ} (depth : ℕ) → PassesParts way leaf level mode depth → from ≤ length text → HasTokens text from (items_tokens vs) end
       → cells vector text way leaf from (state level (mode depth)) ≡ cells vector text way leaf end (state level (mode depth))
   over_items vector {text = text} way leaf level mode p no_values depth q inside r = ap (λ at. cells vector text way leaf at (state level (mode depth))) (unread r)
   over_items vector way leaf level mode p (more_values v vs) depth q inside r =
@@ -117,7 +117,7 @@ mutual
       over_value vector way leaf level mode p v depth inside first.1
       ∙ over_further vector way leaf level mode p vs depth q (ends_inside (value_tokens v) inside first.1) first.2
 
-  over_further : (vector : ℕ → Value) {text : List ℕ} (way : List Component) (leaf : Leaf) (level : ℕ) (mode : ℕ → Mode) → Passes way leaf level mode → (vs : Values) {from end : ℕ} (depth : ℕ) → PassesParts way leaf level mode depth → from ≤ length text → Reads text from (further_tokens vs) end
+  over_further : (vector : ℕ → Value) {text : List ℕ} (way : List Component) (leaf : Leaf) (level : ℕ) (mode : ℕ → Mode) → Passes way leaf level mode → (vs : Values) {from end : ℕ} (depth : ℕ) → PassesParts way leaf level mode depth → from ≤ length text → HasTokens text from (further_tokens vs) end
       → cells vector text way leaf from (state level (mode depth)) ≡ cells vector text way leaf end (state level (mode depth))
   over_further vector {text = text} way leaf level mode p no_values depth q inside r = ap (λ at. cells vector text way leaf at (state level (mode depth))) (unread r)
   over_further vector way leaf level mode p (more_values v vs) depth q inside r =
@@ -131,35 +131,35 @@ mutual
 not_zero : (n : ℕ) → eqb (n + 1) 0 ≡ false
 not_zero n = grind (arith, nat_tests)
 
-passed_truth : (step : Option Component) (level : ℕ) (b : Bool) → passed step level (Truth b) ≡ moved level (Passing 0)
+passed_truth : (step : Option Component) (level : ℕ) (b : Bool) → passed step level (Truth b) ≡ writes_nothing level (Passing 0)
 passed_truth None level b = refl
 passed_truth (Some Elements) level b = refl
 passed_truth (Some First) level b = refl
 passed_truth (Some Second) level b = refl
 
-passed_number : (step : Option Component) (level : ℕ) (n : ℤ) → passed step level (Number n) ≡ moved level (Passing 0)
+passed_number : (step : Option Component) (level : ℕ) (n : ℤ) → passed step level (Number n) ≡ writes_nothing level (Passing 0)
 passed_number None level n = refl
 passed_number (Some Elements) level n = refl
 passed_number (Some First) level n = refl
 passed_number (Some Second) level n = refl
 
-passed_other : (step : Option Component) (level : ℕ) → passed step level Other ≡ moved level (Passing 0)
+passed_other : (step : Option Component) (level : ℕ) → passed step level Other ≡ writes_nothing level (Passing 0)
 passed_other None level = refl
 passed_other (Some Elements) level = refl
 passed_other (Some First) level = refl
 passed_other (Some Second) level = refl
 
-stays : (level depth : ℕ) (u : Turn) → u ≡ moved level (Passing 0) → cond (eqb depth 0) u (moved level (Passing depth)) ≡ moved level (Passing depth)
+stays : (level depth : ℕ) (u : Turn) → u ≡ writes_nothing level (Passing 0) → cond (eqb depth 0) u (writes_nothing level (Passing depth)) ≡ writes_nothing level (Passing depth)
 stays level depth u e = by_test (eqb depth 0) refl
   where
-    by_test : (b : Bool) → eqb depth 0 ≡ b → cond b u (moved level (Passing depth)) ≡ moved level (Passing depth)
-    by_test true h = e ∙ ap (λ n. moved level (Passing n)) (sym (eqb-true depth 0 h))
+    by_test : (b : Bool) → eqb depth 0 ≡ b → cond b u (writes_nothing level (Passing depth)) ≡ writes_nothing level (Passing depth)
+    by_test true h = e ∙ ap (λ n. writes_nothing level (Passing n)) (sym (eqb-true depth 0 h))
     by_test false h = refl
 
 pub passing_passes : (way : List Component) (leaf : Leaf) (level : ℕ) → Passes way leaf level Passing
 passing_passes way leaf level = record {
   opens = λ depth place b. refl;
-  closes = λ depth place b. cond-false _ _ _ (not_zero depth) ∙ ap (λ n. moved level (Passing n)) (omega arith);
+  closes = λ depth place b. cond-false _ _ _ (not_zero depth) ∙ ap (λ n. writes_nothing level (Passing n)) (omega arith);
   parts = λ depth place. cond-false _ _ _ (not_zero depth);
   truths = λ depth place b. stays level depth _ (passed_truth (made way level) level b);
   numbers = λ depth place n. stays level depth _ (passed_number (made way level) level n);
@@ -170,7 +170,7 @@ passing_passes way leaf level = record {
 pub counting_passes : (way : List Component) (leaf : Leaf) (level : ℕ) → Passes way leaf level Counting
 counting_passes way leaf level = record {
   opens = λ depth place b. refl;
-  closes = λ depth place b. cond-false _ _ _ (not_zero depth) ∙ ap (λ n. moved level (Counting n)) (omega arith);
+  closes = λ depth place b. cond-false _ _ _ (not_zero depth) ∙ ap (λ n. writes_nothing level (Counting n)) (omega arith);
   parts = λ depth place. cond-false _ _ _ (not_zero depth);
   truths = λ depth place b. refl;
   numbers = λ depth place n. refl;
@@ -181,7 +181,7 @@ counting_passes way leaf level = record {
 pub within_passes : (way : List Component) (leaf : Leaf) (level : ℕ) → Passes way leaf level Within
 within_passes way leaf level = record {
   opens = λ depth place b. refl;
-  closes = λ depth place b. cond-false _ _ _ (not_zero depth) ∙ ap (λ n. moved level (Within n)) (omega arith);
+  closes = λ depth place b. cond-false _ _ _ (not_zero depth) ∙ ap (λ n. writes_nothing level (Within n)) (omega arith);
   parts = λ depth place. refl;
   truths = λ depth place b. refl;
   numbers = λ depth place n. refl;

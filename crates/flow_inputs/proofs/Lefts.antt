@@ -2,7 +2,7 @@
 use Rattle.std.proofs.Common.{◌≡◌, ℕ, ◌+◌, ◌≤◌, Bool, true, false, cond, List, [], ◌∷◌, ◌++◌, length, Option, Some, None, refl, ap, ◌∙◌, arith}
 use Rattle.std.specs.Prelude.{option_to_list, ◌==◌}
 use Rattle.std.proofs.lemmas.Bool.{eqb-true}
-use Rattle.snesl_values.specs.InputTokens.{Lexeme, next_at, next}
+use Rattle.snesl_values.specs.InputTokens.{SizedToken, next_at, next}
 use Rattle.snesl_values.specs.declared.marks.Found.{Found}
 use Rattle.snesl_values.specs.declared.marks.Bracket.TheVariants.{Round, Square, Curly}
 use Rattle.snesl_values.specs.declared.marks.Mark.{Mark}
@@ -15,9 +15,9 @@ use Rattle.flow_inputs.specs.declared.turns.Mode.{Mode}
 use Rattle.flow_inputs.specs.declared.turns.Mode.TheVariants.{Value, Opened, Behind, Passing, Flagging, Counting, Within, Lost}
 use Rattle.flow_inputs.specs.declared.turns.State.{State}
 use Rattle.flow_inputs.specs.declared.turns.Piece.{Piece}
-use Rattle.flow_inputs.specs.Turns.{Turn, turn, turn_by, state, at_leaf, at_value, at_opened, behind, passed, passing, flagging, counting, within, made, depth_of, is_done, is_done_by}
+use Rattle.flow_inputs.specs.Turns.{Turn, turn, turn_by, state, at_leaf, at_value, at_opened, turn_after_value, passed, passing, flagging, counting, inside_vector, made, depth_of, is_done, is_done_by}
 use Rattle.snesl_values.specs.Marks.{mark_of, Spot, spots, found_from}
-use Rattle.flow_inputs.specs.Left.{run, left}
+use Rattle.flow_inputs.specs.Left.{written_from, left}
 use Rattle.snesl_values.proofs.Spots.{spots_none, spots_some}
 
 -- what is written by a turn and after it
@@ -25,25 +25,25 @@ abbrev pub behind_turn : List ℕ → List Component → Leaf → Turn → ℕ �
 behind_turn text way leaf u end = option_to_list u.0 ++ left text way leaf end u.1
 
 -- at the next token, and where there is none
-pub left_turn : (text : List ℕ) (way : List Component) (leaf : Leaf) (at : ℕ) (s : State) (l : Lexeme) → at ≤ length text → next text at ≡ Some l
+pub left_turn : (text : List ℕ) (way : List Component) (leaf : Leaf) (at : ℕ) (s : State) (l : SizedToken) → at ≤ length text → next text at ≡ Some l
     → left text way leaf at s ≡ behind_turn text way leaf (turn way leaf s (mark_of l.0) at) (next_at text at + l.1)
 unfolding left
-left_turn text way leaf at s l within e = ap (run way leaf s) (spots_some text at l within e)
+left_turn text way leaf at s l inside_vector e = ap (written_from way leaf s) (spots_some text at l inside_vector e)
 
 pub left_none : (text : List ℕ) (way : List Component) (leaf : Leaf) (at : ℕ) (s : State) → next text at ≡ None → left text way leaf at s ≡ []
 unfolding left
-left_none text way leaf at s e = ap (run way leaf s) (spots_none text at e)
+left_none text way leaf at s e = ap (written_from way leaf s) (spots_none text at e)
 
 -- where nothing is written any more
-lost_run : (way : List Component) (leaf : Leaf) (spots : List Spot) → run way leaf (state 0 Lost) spots ≡ []
+lost_run : (way : List Component) (leaf : Leaf) (spots : List Spot) → written_from way leaf (state 0 Lost) spots ≡ []
 lost_run way leaf [] = refl
 lost_run way leaf (x ∷ xs) = lost_run way leaf xs
 
-lost_at : (way : List Component) (leaf : Leaf) (level : ℕ) (spots : List Spot) → run way leaf (state level Lost) spots ≡ []
+lost_at : (way : List Component) (leaf : Leaf) (level : ℕ) (spots : List Spot) → written_from way leaf (state level Lost) spots ≡ []
 lost_at way leaf level [] = refl
 lost_at way leaf level (x ∷ xs) = lost_run way leaf xs
 
-behind_all : (way : List Component) (leaf : Leaf) (spots : List Spot) → run way leaf (state 0 Behind) spots ≡ []
+behind_all : (way : List Component) (leaf : Leaf) (spots : List Spot) → written_from way leaf (state 0 Behind) spots ≡ []
 behind_all way leaf [] = refl
 behind_all way leaf (x ∷ xs) = lost_run way leaf xs
 
@@ -51,27 +51,27 @@ pub left_done : (text : List ℕ) (way : List Component) (leaf : Leaf) (at : ℕ
 unfolding left
 left_done text way leaf at s done = by_mode s.mode s.level done
   where
-    by_mode : (mode : Mode) (level : ℕ) → is_done_by mode level ≡ true → run way leaf (state level mode) (spots text at) ≡ []
-    by_mode Behind level e = ap (λ n. run way leaf (state n Behind) (spots text at)) (eqb-true level 0 e) ∙ behind_all way leaf (spots text at)
+    by_mode : (mode : Mode) (level : ℕ) → is_done_by mode level ≡ true → written_from way leaf (state level mode) (spots text at) ≡ []
+    by_mode Behind level e = ap (λ n. written_from way leaf (state n Behind) (spots text at)) (eqb-true level 0 e) ∙ behind_all way leaf (spots text at)
     by_mode Lost level e = lost_at way leaf level (spots text at)
     by_mode _ level e = absurd (cc)
 
 -- by what was found
 pub left_found : (text : List ℕ) (way : List Component) (leaf : Leaf) (at : ℕ) (s : State) (f : Found) → at ≤ length text → Some f ≡ found_from (next_at text at) (next text at)
     → left text way leaf at s ≡ behind_turn text way leaf (turn way leaf s f.mark at) f.end
-left_found text way leaf at s f within e = by_next (next text at) refl e
+left_found text way leaf at s f inside_vector e = by_next (next text at) refl e
   where
-    by_next : (o : Option Lexeme) → next text at ≡ o → Some f ≡ found_from (next_at text at) o → left text way leaf at s ≡ behind_turn text way leaf (turn way leaf s f.mark at) f.end
+    by_next : (o : Option SizedToken) → next text at ≡ o → Some f ≡ found_from (next_at text at) o → left text way leaf at s ≡ behind_turn text way leaf (turn way leaf s f.mark at) f.end
     by_next None is e = absurd (cc)
     by_next (Some l) is e =
         let g : Found = record { mark = mark_of l.0; end = next_at text at + l.1 } in
         let same : g ≡ f = cc in
-        left_turn text way leaf at s l within is ∙ ap (λ (f : Found). behind_turn text way leaf (turn way leaf s f.mark at) f.end) same
+        left_turn text way leaf at s l inside_vector is ∙ ap (λ (f : Found). behind_turn text way leaf (turn way leaf s f.mark at) f.end) same
 
 pub left_unfound : (text : List ℕ) (way : List Component) (leaf : Leaf) (at : ℕ) (s : State) → None ≡ found_from (next_at text at) (next text at) → left text way leaf at s ≡ []
 left_unfound text way leaf at s e = by_next (next text at) refl e
   where
-    by_next : (o : Option Lexeme) → next text at ≡ o → None ≡ found_from (next_at text at) o → left text way leaf at s ≡ []
+    by_next : (o : Option SizedToken) → next text at ≡ o → None ≡ found_from (next_at text at) o → left text way leaf at s ≡ []
     by_next None is e = left_none text way leaf at s is
     by_next (Some l) is e = absurd (cc)
 
@@ -97,7 +97,7 @@ opened_deeper : (step : Option Component) (leaf : Leaf) (level : ℕ) (mark : Ma
 opened_deeper step leaf level (Close Curly) place = omega arith
 opened_deeper step leaf level mark place = value_deeper step leaf level mark place
 
-behind_deeper : (step : Option Component) (level : ℕ) (mark : Mark) → OneDeeper 0 (behind step level mark)
+behind_deeper : (step : Option Component) (level : ℕ) (mark : Mark) → OneDeeper 0 (turn_after_value step level mark)
 behind_deeper (Some Elements) level Comma = omega arith
 behind_deeper (Some First) level Comma = omega arith
 behind_deeper (Some Elements) level (Close Curly) = omega arith
@@ -129,7 +129,7 @@ counting_deeper level depth (Close b) = by_depth depth depth _ _ (omega arith) (
 counting_deeper level depth Comma = by_depth depth depth _ _ (omega arith) (omega arith) (depth == 0)
 counting_deeper level depth mark = omega arith
 
-within_deeper : (level depth : ℕ) (mark : Mark) → OneDeeper depth (within level depth mark)
+within_deeper : (level depth : ℕ) (mark : Mark) → OneDeeper depth (inside_vector level depth mark)
 within_deeper level depth (Open b) = omega arith
 within_deeper level depth (Close b) = by_depth depth depth _ _ (omega arith) (omega arith) (depth == 0)
 within_deeper level depth mark = omega arith

@@ -13,7 +13,7 @@ use Rattle.flow_inputs.specs.declared.turns.State.{State}
 use Rattle.flow_inputs.specs.declared.turns.Piece.{Piece}
 use Rattle.flow_inputs.specs.Left.{left, cell}
 use Rattle.snesl_values.specs.Places.{value_at}
-use Rattle.flow_inputs.specs.Items.{items_at, opening_state, written_of, IsRest, text_state}
+use Rattle.flow_inputs.specs.Items.{items_from, opening_state, written_of, IsRest, text_state}
 
 get_first : (all rest : List Piece) (n : ℕ) (x : Piece) → drop n all ≡ x ∷ rest → slice_get all n ≡ Some x
 get_first [] rest zero x e = absurd (cc)
@@ -48,7 +48,7 @@ nexts all rest x others is e =
 
 -- what is written next
 next_cell : (text : List ℕ) (way : List Component) (leaf : Leaf) (place at : ℕ) (s : State) (x : Piece) (others : List Piece) → Nexts (left text way leaf place opening_state) (left text way leaf at s) x others
-    → slice_get (items_at text way leaf place).cells (written_of (left text way leaf place opening_state) (left text way leaf at s)) ≡ Some (cell (value_at text) x)
+    → slice_get (items_from text way leaf place).cells (written_of (left text way leaf place opening_state) (left text way leaf at s)) ≡ Some (cell (value_at text) x)
 next_cell text way leaf place at s x others n =
     slice_get-map (cell (value_at text)) (left text way leaf place opening_state) _ ∙ ap (option_map (cell (value_at text))) n.next
 
@@ -57,16 +57,16 @@ pub sends_piece : (text : List ℕ) (way : List Component) (leaf : Leaf) (place 
     → (carry c ≡ source_signal (text_state text way leaf place at s ended)) × (text_state text way leaf place end u ended ≡ source_after_write (text_state text way leaf place at s ended))
 sends_piece text way leaf place at end s u true x c h n e = absurd h
 sends_piece text way leaf place at end s u false x c h n e =
-    let items = items_at text way leaf place in
+    let items = items_from text way leaf place in
     let count = written_of (left text way leaf place opening_state) (left text way leaf at s) in
     let here = next_cell text way leaf place at s x (left text way leaf end u) n in
     (ap carry e ∙ sym (ap next_signal here), ap (sending items) n.more ∙ sym (ap (next_state items count) here))
 
 pub sends_end : (text : List ℕ) (way : List Component) (leaf : Leaf) (place at : ℕ) (s : State) (ended : Bool) → IsWrite (source_want (text_state text way leaf place at s ended)) → left text way leaf at s ≡ []
-    → (stop ≡ source_signal (text_state text way leaf place at s ended)) × (finished (items_at text way leaf place) ≡ source_after_write (text_state text way leaf place at s ended))
+    → (stop ≡ source_signal (text_state text way leaf place at s ended)) × (finished (items_from text way leaf place) ≡ source_after_write (text_state text way leaf place at s ended))
 sends_end text way leaf place at s true h e = absurd h
 sends_end text way leaf place at s false h e =
-    let items = items_at text way leaf place in
+    let items = items_from text way leaf place in
     let all = left text way leaf place opening_state in
     let count = written_of all (left text way leaf at s) in
     let size : length (left text way leaf at s) ≡ 0 = ap length e in

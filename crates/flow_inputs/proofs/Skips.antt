@@ -13,7 +13,7 @@ use Rattle.snesl_data.specs.Blanks.{is_blank}
 use Rattle.snesl_data.specs.Characters.{is_word, value_from}
 use Rattle.snesl_data.specs.declared.dialect.Dialect.TheVariants.{Two}
 use Rattle.snesl_data.specs.Integers.{is_integer}
-use Rattle.snesl_values.specs.InputTokens.{Lexeme, word, integer, sign, bad, is_sign, negated, minus_lexeme, first, next, next_at}
+use Rattle.snesl_values.specs.InputTokens.{SizedToken, word, integer, sign, bad, is_sign, negated, minus_lexeme, first, next, next_at}
 use Rattle.snesl_values.specs.declared.marks.Mark.{Mark}
 use Rattle.snesl_values.specs.declared.marks.Mark.TheVariants.{Truth, Number, Open, Close, Comma, Other}
 use Rattle.snesl_values.specs.Marks.{found_from, mark_of, sign_mark, word_mark}
@@ -24,8 +24,8 @@ use Rattle.flow_inputs.specs.declared.turns.Component.{Component}
 use Rattle.flow_inputs.specs.declared.turns.Leaf.{Leaf}
 use Rattle.flow_inputs.specs.declared.turns.Mode.{Mode}
 use Rattle.flow_inputs.specs.declared.turns.Piece.{Piece}
-use Rattle.flow_inputs.specs.Turns.{Turn, turn, state, moved}
-use Rattle.flow_inputs.specs.Passing.{Passes, PassesParts, depth_behind, SameLeft}
+use Rattle.flow_inputs.specs.Turns.{Turn, turn, state, writes_nothing}
+use Rattle.flow_inputs.specs.Passing.{Passes, PassesParts, depth_after, SameLeft}
 use Rattle.flow_inputs.specs.Left.{left}
 use Rattle.flow_inputs.proofs.Lefts.{behind_turn, left_turn, left_none}
 
@@ -96,8 +96,8 @@ calm_sign : (b : ℕ) → is_plain b ≡ true → Calm (sign_mark b)
 calm_sign b plain = subst Calm (sym (other_sign b plain)) tt
 
 -- a token of plain bytes
-record IsPlain (bytes : List ℕ) (o : Option Lexeme) : Type 0 where
-  token : Lexeme
+record IsPlain (bytes : List ℕ) (o : Option SizedToken) : Type 0 where
+  token : SizedToken
   is : o ≡ Some token
   most : token.1 ≤ prefix_len is_plain bytes
   calm : Calm (mark_of token.0)
@@ -143,10 +143,10 @@ plain_first b bs plain = by_class (is_ascii_alphabetic b) (is_ascii_digit b) (eq
     by_class false false false false = record { token = (bad, 1); is = refl; most = omega (arith, some); calm = tt }
 
 -- what comes next ends in the text
-comes_is : (text : List ℕ) (at : ℕ) (l : Lexeme) → at ≤ length text → next text at ≡ Some l → Comes text at l
+comes_is : (text : List ℕ) (at : ℕ) (l : SizedToken) → at ≤ length text → next text at ≡ Some l → Comes text at l
 comes_is text at l within e = by_next (next text at) (next_is text at within) e
   where
-    by_next : (o : Option Lexeme) → Next text at o → o ≡ Some l → Comes text at l
+    by_next : (o : Option SizedToken) → Next text at o → o ≡ Some l → Comes text at l
     by_next None nothing f = absurd (cc)
     by_next (Some x) (lexeme _ there) f = let same : x ≡ l = cc in subst (Comes text at) same there
 
@@ -168,7 +168,7 @@ module _ (text : List ℕ) (way : List Component) (leaf : Leaf) (level : ℕ) (m
   abbrev Skips : ℕ → Type 0
   Skips at = left_from at ≡ left_from (end_of is_plain text at)
 
-  calm_turn : (mark : Mark) → Calm mark → (place : ℕ) → turn way leaf (state level (mode depth)) mark place ≡ moved level (mode depth)
+  calm_turn : (mark : Mark) → Calm mark → (place : ℕ) → turn way leaf (state level (mode depth)) mark place ≡ writes_nothing level (mode depth)
   calm_turn (Truth b) h place = passes.truths depth place b
   calm_turn (Number n) h place = passes.numbers depth place n
   calm_turn Other h place = passes.others depth place
@@ -178,7 +178,7 @@ module _ (text : List ℕ) (way : List Component) (leaf : Leaf) (level : ℕ) (m
   left_same : (at other : ℕ) → at ≤ length text → other ≤ length text → next_at text at ≡ next_at text other → left_from at ≡ left_from other
   left_same at other within inside e = by_next (next text at) refl
     where
-      by_next : (o : Option Lexeme) → next text at ≡ o → left_from at ≡ left_from other
+      by_next : (o : Option SizedToken) → next text at ≡ o → left_from at ≡ left_from other
       by_next None f =
           left_none text way leaf at (state level (mode depth)) f
           ∙ sym (left_none text way leaf other (state level (mode depth)) (sym (next-same text at other e) ∙ f))
@@ -189,7 +189,7 @@ module _ (text : List ℕ) (way : List Component) (leaf : Leaf) (level : ℕ) (m
           ∙ sym (left_turn text way leaf other (state level (mode depth)) l inside (sym (next-same text at other e) ∙ f))
 
   -- after a token that is passed over
-  left_behind : (at : ℕ) (l : Lexeme) → at ≤ length text → next_at text at ≡ at → next text at ≡ Some l → Calm (mark_of l.0) → left_from at ≡ left_from (at + l.1)
+  left_behind : (at : ℕ) (l : SizedToken) → at ≤ length text → next_at text at ≡ at → next text at ≡ Some l → Calm (mark_of l.0) → left_from at ≡ left_from (at + l.1)
   left_behind at l within here e calm =
       left_turn text way leaf at (state level (mode depth)) l within e
       ∙ ap (λ (u : Turn). behind_turn text way leaf u (next_at text at + l.1)) (calm_turn (mark_of l.0) calm at)
@@ -207,7 +207,7 @@ module _ (text : List ℕ) (way : List Component) (leaf : Leaf) (level : ℕ) (m
       by_byte b bs e false h = none_plain (ap (prefix_len is_plain) e ∙ cond-false _ _ _ h)
       by_byte b bs e true h =
           let w = plain_first b bs h in
-          let l : Lexeme = w.token in
+          let l : SizedToken = w.token in
           let is : next text at ≡ Some l = next-first text at here ∙ ap first e ∙ w.is in
           let comes = comes_is text at l within is in
           let most : l.1 ≤ prefix_len is_plain (drop at text) = subst (λ bytes. l.1 ≤ prefix_len is_plain bytes) (sym e) w.most in
@@ -255,8 +255,8 @@ some_same : {A : Type 0} {a b : A} → Some a ≡ Some b → a ≡ b
 some_same e = cc
 
 -- the token that such a byte is
-record IsSign (b : ℕ) (o : Option Lexeme) : Type 0 where
-  token : Lexeme
+record IsSign (b : ℕ) (o : Option SizedToken) : Type 0 where
+  token : SizedToken
   is : o ≡ Some token
   mark : mark_of token.0 ≡ sign_mark b
   one : token.1 ≡ 1
@@ -264,7 +264,7 @@ record IsSign (b : ℕ) (o : Option Lexeme) : Type 0 where
 sign_first : (b : ℕ) (bs : List ℕ) → is_plain b ≡ false → IsSign b (first (b ∷ bs))
 sign_first b bs h = by_first (first (b ∷ bs)) (a_sign (b ∷ bs) (omega arith) (not_letter b h) (not_digit b h) (not_minus b h))
   where
-    by_first : (o : Option Lexeme) → Some (sign_mark b, 1) ≡ option_map seen o → IsSign b o
+    by_first : (o : Option SizedToken) → Some (sign_mark b, 1) ≡ option_map seen o → IsSign b o
     by_first None e = absurd (cc)
     by_first (Some l) e = let f = some_same e in record { token = l; is = refl; mark = sym (ap (λ s. s.0) f); one = sym (ap (λ s. s.1) f) }
 
@@ -310,23 +310,23 @@ behind_comma depth deeper false e = (refl, some_same e)
 
 -- a turn by a mark that is passed over
 turn_past : (way : List Component) (leaf : Leaf) (level : ℕ) (mode : ℕ → Mode) → Passes way leaf level mode → (commas : Bool) → (IsTrue commas → PassesParts way leaf level mode 0)
-    → (mark : Mark) (depth deeper place : ℕ) → depth_behind mark depth commas ≡ Some deeper → turn way leaf (state level (mode depth)) mark place ≡ moved level (mode deeper)
-turn_past way leaf level mode p commas q (Open b) depth deeper place e = p.opens depth place b ∙ ap (λ n. moved level (mode n)) (some_same e)
+    → (mark : Mark) (depth deeper place : ℕ) → depth_after mark depth commas ≡ Some deeper → turn way leaf (state level (mode depth)) mark place ≡ writes_nothing level (mode deeper)
+turn_past way leaf level mode p commas q (Open b) depth deeper place e = p.opens depth place b ∙ ap (λ n. writes_nothing level (mode n)) (some_same e)
 turn_past way leaf level mode p commas q (Close b) depth deeper place e = ap (λ n. turn way leaf (state level (mode n)) (Close b) place) (behind_close depth deeper e) ∙ p.closes deeper place b
 turn_past way leaf level mode p commas q Comma depth deeper place e =
     let w = behind_comma depth deeper (depth == 0 && not commas) e in
-    by_depth depth commas q w.0 ∙ ap (λ n. moved level (mode n)) w.1
+    by_depth depth commas q w.0 ∙ ap (λ n. writes_nothing level (mode n)) w.1
   where
-    by_depth : (depth : ℕ) (commas : Bool) → (IsTrue commas → PassesParts way leaf level mode 0) → (depth == 0 && not commas) ≡ false → turn way leaf (state level (mode depth)) Comma place ≡ moved level (mode depth)
+    by_depth : (depth : ℕ) (commas : Bool) → (IsTrue commas → PassesParts way leaf level mode 0) → (depth == 0 && not commas) ≡ false → turn way leaf (state level (mode depth)) Comma place ≡ writes_nothing level (mode depth)
     by_depth zero true q e = q refl place
     by_depth zero false q e = absurd (cc)
-    by_depth (suc depth) commas q e = let one : depth + 1 ≡ suc depth = omega arith in subst (λ n. turn way leaf (state level (mode n)) Comma place ≡ moved level (mode n)) one (p.parts depth place)
-turn_past way leaf level mode p commas q (Truth b) depth deeper place e = p.truths depth place b ∙ ap (λ n. moved level (mode n)) (some_same e)
-turn_past way leaf level mode p commas q (Number n) depth deeper place e = p.numbers depth place n ∙ ap (λ n. moved level (mode n)) (some_same e)
-turn_past way leaf level mode p commas q Other depth deeper place e = p.others depth place ∙ ap (λ n. moved level (mode n)) (some_same e)
+    by_depth (suc depth) commas q e = let one : depth + 1 ≡ suc depth = omega arith in subst (λ n. turn way leaf (state level (mode n)) Comma place ≡ writes_nothing level (mode n)) one (p.parts depth place)
+turn_past way leaf level mode p commas q (Truth b) depth deeper place e = p.truths depth place b ∙ ap (λ n. writes_nothing level (mode n)) (some_same e)
+turn_past way leaf level mode p commas q (Number n) depth deeper place e = p.numbers depth place n ∙ ap (λ n. writes_nothing level (mode n)) (some_same e)
+turn_past way leaf level mode p commas q Other depth deeper place e = p.others depth place ∙ ap (λ n. writes_nothing level (mode n)) (some_same e)
 
 -- after a byte that a scanner passes over
-pub byte_past : (text : List ℕ) (commas : Bool) (at depth deeper : ℕ) → at < length text → Some deeper ≡ depth_behind (sign_mark (get_or text at 0)) depth commas → SameLeft text commas at depth (at + 1) deeper
+pub byte_past : (text : List ℕ) (commas : Bool) (at depth deeper : ℕ) → at < length text → Some deeper ≡ depth_after (sign_mark (get_or text at 0)) depth commas → SameLeft text commas at depth (at + 1) deeper
 byte_past text commas at depth deeper inside e way leaf level mode p q = by_test (is_plain b) refl
   where
     b : ℕ
@@ -341,7 +341,7 @@ byte_past text commas at depth deeper inside e way leaf level mode p q = by_test
     by_test : (t : Bool) → is_plain b ≡ t → left text way leaf at (state level (mode depth)) ≡ left text way leaf (at + 1) (state level (mode deeper))
     by_test true plain =
         skips_byte text way leaf level mode p depth at b bs inside here plain
-        ∙ ap (λ n. left text way leaf (at + 1) (state level (mode n))) (some_same (sym (e ∙ ap (λ m. depth_behind m depth commas) (other_sign b plain))))
+        ∙ ap (λ n. left text way leaf (at + 1) (state level (mode n))) (some_same (sym (e ∙ ap (λ m. depth_after m depth commas) (other_sign b plain))))
     by_test false h =
         let w = sign_first b bs h in
         let blanks : next_at text at ≡ at = none_blank text at b bs here (not_blank b h) in
@@ -351,7 +351,7 @@ byte_past text commas at depth deeper inside e way leaf level mode p q = by_test
         ∙ ap (λ n. left text way leaf n (state level (mode deeper))) (omega (arith, blanks, w.one))
 
 -- such a byte opens one bracket at most
-pub behind_deeper : (mark : Mark) (depth deeper : ℕ) (commas : Bool) → Some deeper ≡ depth_behind mark depth commas → deeper ≤ depth + 1
+pub behind_deeper : (mark : Mark) (depth deeper : ℕ) (commas : Bool) → Some deeper ≡ depth_after mark depth commas → deeper ≤ depth + 1
 behind_deeper (Open b) depth deeper commas e = omega (arith, some_same e)
 behind_deeper (Close b) depth deeper commas e = omega (arith, behind_close depth deeper (sym e))
 behind_deeper Comma depth deeper commas e = omega (arith, (behind_comma depth deeper (depth == 0 && not commas) (sym e)).1)

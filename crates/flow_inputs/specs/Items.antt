@@ -19,9 +19,9 @@ use Rattle.flow_inputs.specs.declared.turns.Mode.{Mode}
 use Rattle.flow_inputs.specs.declared.turns.Mode.TheVariants.{Value as ValueNext, Opened, Behind, Passing, Flagging, Counting, Within, Lost}
 use Rattle.flow_inputs.specs.declared.turns.State.{State}
 use Rattle.flow_inputs.specs.declared.turns.Piece.{Piece}
-use Rattle.flow_inputs.specs.Turns.{Turn, turn, turn_by, state, at_leaf, at_value, at_opened, behind, passed, passing, flagging, counting, within, made}
+use Rattle.flow_inputs.specs.Turns.{Turn, turn, turn_by, state, at_leaf, at_value, at_opened, turn_after_value, passed, passing, flagging, counting, inside_vector, made}
 use Rattle.snesl_values.specs.Marks.{Spot, spots}
-use Rattle.flow_inputs.specs.Left.{run, left, cell}
+use Rattle.flow_inputs.specs.Left.{written_from, left, cell}
 use Rattle.snesl_values.specs.Places.{value_at}
 
 -- the kind of the items of an edge that carries this
@@ -64,7 +64,7 @@ module _ (vector : ℕ → Value) where
   opened_fine step leaf level mark place = value_fine step leaf level mark place
 
   -- after a value
-  behind_fine : (step : Option Component) (leaf : Leaf) (level : ℕ) (mark : Mark) → Fine leaf (behind step level mark)
+  behind_fine : (step : Option Component) (leaf : Leaf) (level : ℕ) (mark : Mark) → Fine leaf (turn_after_value step level mark)
   behind_fine (Some Elements) leaf level Comma = (tt, tt)
   behind_fine (Some First) leaf level Comma = (tt, tt)
   behind_fine (Some Elements) leaf level (Close Curly) = (tt, tt)
@@ -106,7 +106,7 @@ module _ (vector : ℕ → Value) where
   counting_fine leaf level depth mark e = (e, tt)
 
   -- in a vector
-  within_fine : (leaf : Leaf) (level depth : ℕ) (mark : Mark) → Fine leaf (within level depth mark)
+  within_fine : (leaf : Leaf) (level depth : ℕ) (mark : Mark) → Fine leaf (inside_vector level depth mark)
   within_fine leaf level depth (Open b) = (tt, tt)
   within_fine leaf level depth (Close b) = either_fine leaf _ _ (tt, tt) (tt, tt) (depth == 0)
   within_fine leaf level depth mark = (tt, tt)
@@ -128,12 +128,12 @@ module _ (vector : ℕ → Value) where
   with_rest kind (Some x) rest h k = (h.0, k)
 
   -- what is written at some tokens
-  run_all_of : (way : List Component) (leaf : Leaf) (tokens : List Spot) (s : State) → FlagsOnly leaf s.mode → AllOf (leaf_kind leaf) (map (cell vector) (run way leaf s tokens))
+  run_all_of : (way : List Component) (leaf : Leaf) (tokens : List Spot) (s : State) → FlagsOnly leaf s.mode → AllOf (leaf_kind leaf) (map (cell vector) (written_from way leaf s tokens))
   run_all_of way leaf [] s e = tt
   run_all_of way leaf (x ∷ xs) s e =
       let u = turn way leaf s x.0 x.1 in
       let fine = turn_fine s.mode way leaf s.level x.0 x.1 e in
-      with_rest (leaf_kind leaf) u.0 (run way leaf u.1 xs) fine.1 (run_all_of way leaf xs u.1 fine.0)
+      with_rest (leaf_kind leaf) u.0 (written_from way leaf u.1 xs) fine.1 (run_all_of way leaf xs u.1 fine.0)
 
   -- all that is written on the edge is of its kind
   pub left_all_of : (text : List ℕ) (way : List Component) (leaf : Leaf) (at : ℕ) (s : State) → FlagsOnly leaf s.mode → AllOf (leaf_kind leaf) (map (cell vector) (left text way leaf at s))
@@ -149,8 +149,8 @@ abbrev pub opening_state : State
 opening_state = state 0 ValueNext
 
 -- all items of a source whose value is read from this place on
-abbrev pub items_at : List ℕ → List Component → Leaf → ℕ → Items
-items_at text way leaf place = record {
+abbrev pub items_from : List ℕ → List Component → Leaf → ℕ → Items
+items_from text way leaf place = record {
   kind = leaf_kind leaf;
   cells = cells_left text way leaf place opening_state;
   all_of = left_all_of (value_at text) text way leaf place opening_state tt;
@@ -166,5 +166,5 @@ IsRest whole rest = drop (written_of whole rest) whole ≡ rest
 
 -- what the laws see of a source over a text
 abbrev pub text_state : List ℕ → List Component → Leaf → ℕ → ℕ → State → Bool → SourceState
-text_state text way leaf place at s true = finished (items_at text way leaf place)
-text_state text way leaf place at s false = sending (items_at text way leaf place) (written_of (left text way leaf place opening_state) (left text way leaf at s))
+text_state text way leaf place at s true = finished (items_from text way leaf place)
+text_state text way leaf place at s false = sending (items_from text way leaf place) (written_of (left text way leaf place opening_state) (left text way leaf at s))

@@ -11,13 +11,13 @@ use Rattle.flow_inputs.specs.Turns.{turn}
 use Rattle.snesl_values.specs.Marks.{Spot, spots}
 
 -- what is written from this state on at these tokens
-abbrev pub run : List Component → Leaf → State → List Spot → List Piece
-run way leaf s [] = []
-run way leaf s (spot ∷ rest) = (let u = turn way leaf s spot.0 spot.1 in option_to_list u.0 ++ run way leaf u.1 rest)
+abbrev pub written_from : List Component → Leaf → State → List Spot → List Piece
+written_from way leaf s [] = []
+written_from way leaf s (spot ∷ rest) = (let u = turn way leaf s spot.0 spot.1 in option_to_list u.0 ++ written_from way leaf u.1 rest)
 
 -- what is written from this state and this offset on
 unfoldable pub left : List ℕ → List Component → Leaf → ℕ → State → List Piece
-left text way leaf at s = run way leaf s (spots text at)
+left text way leaf at s = written_from way leaf s (spots text at)
 
 -- the item that a piece is, where `vector` gives the vector at a place
 abbrev pub cell : (ℕ → Value) → Piece → Cell

@@ -3,11 +3,11 @@ use Rattle.std.specs.Arc.{arc_value}
 use Rattle.flow_scalar.specs.Streams.{Items}
 use Rattle.flow_scalar.specs.SourceBehaviour.{SourceState}
 use Rattle.flow_inputs.specs.declared.source.TextSource.{TextSource}
-use Rattle.flow_inputs.specs.Items.{items_at, text_state}
+use Rattle.flow_inputs.specs.Items.{items_from, text_state}
 
 -- all items that it writes
 abbrev pub items_in : TextSource → Items
-items_in source = items_at (arc_value source.text).items source.way.items source.leaf source.place
+items_in source = items_from (arc_value source.text).items source.way.items source.leaf source.place
 
 -- these, and how many of them it has written
 abbrev pub text_source_state : TextSource → SourceState

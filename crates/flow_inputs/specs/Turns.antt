@@ -22,8 +22,8 @@ abbrev pub state : ℕ → Mode → State
 state level mode = record { level = level; mode = mode }
 
 -- nothing is written
-abbrev pub moved : ℕ → Mode → Turn
-moved level mode = (None, state level mode)
+abbrev pub writes_nothing : ℕ → Mode → Turn
+writes_nothing level mode = (None, state level mode)
 
 -- this is written
 abbrev pub wrote : Piece → ℕ → Mode → Turn
@@ -31,11 +31,11 @@ wrote piece level mode = (Some piece, state level mode)
 
 -- nothing will be written any more
 abbrev pub lost : Turn
-lost = moved 0 Lost
+lost = writes_nothing 0 Lost
 
 -- a token at the end of the way
 abbrev pub at_leaf : Leaf → ℕ → Mark → ℕ → Turn
-at_leaf Flags level (Open Curly) place = moved level Flagging
+at_leaf Flags level (Open Curly) place = writes_nothing level Flagging
 at_leaf Bools level (Truth b) place = wrote (Flag b) level Behind
 at_leaf Ints level (Number n) place = wrote (Int n) level Behind
 at_leaf Vectors level (Open Square) place = wrote (VectorAt place) level (Within 0)
@@ -44,35 +44,35 @@ at_leaf _ level mark place = lost
 -- a token where a value comes next, by the next step of the way
 abbrev pub at_value : Option Component → Leaf → ℕ → Mark → ℕ → Turn
 at_value None leaf level mark place = at_leaf leaf level mark place
-at_value (Some Elements) leaf level (Open Curly) place = moved (level + 1) Opened
-at_value (Some First) leaf level (Open Round) place = moved (level + 1) Value
-at_value (Some Second) leaf level (Open Round) place = moved (level + 1) (Passing 0)
+at_value (Some Elements) leaf level (Open Curly) place = writes_nothing (level + 1) Opened
+at_value (Some First) leaf level (Open Round) place = writes_nothing (level + 1) Value
+at_value (Some Second) leaf level (Open Round) place = writes_nothing (level + 1) (Passing 0)
 at_value _ leaf level mark place = lost
 
 -- a token where a sequence was opened on the way
 abbrev pub at_opened : Option Component → Leaf → ℕ → Mark → ℕ → Turn
-at_opened step leaf level (Close Curly) place = moved (level - 1) Behind
+at_opened step leaf level (Close Curly) place = writes_nothing (level - 1) Behind
 at_opened step leaf level mark place = at_value step leaf level mark place
 
 -- a token after a value, by the innermost step that was made
-abbrev pub behind : Option Component → ℕ → Mark → Turn
-behind (Some Elements) level Comma = moved level Value
-behind (Some First) level Comma = moved level (Passing 0)
-behind (Some Elements) level (Close Curly) = moved (level - 1) Behind
-behind (Some Second) level (Close Round) = moved (level - 1) Behind
-behind _ level mark = lost
+abbrev pub turn_after_value : Option Component → ℕ → Mark → Turn
+turn_after_value (Some Elements) level Comma = writes_nothing level Value
+turn_after_value (Some First) level Comma = writes_nothing level (Passing 0)
+turn_after_value (Some Elements) level (Close Curly) = writes_nothing (level - 1) Behind
+turn_after_value (Some Second) level (Close Round) = writes_nothing (level - 1) Behind
+turn_after_value _ level mark = lost
 
 -- a token in a part that is passed over, outside its brackets: `,` ends a first part, `)` a pair
 abbrev pub passed : Option Component → ℕ → Mark → Turn
-passed (Some Second) level Comma = moved level Value
-passed (Some First) level (Close Round) = moved (level - 1) Behind
-passed _ level mark = moved level (Passing 0)
+passed (Some Second) level Comma = writes_nothing level Value
+passed (Some First) level (Close Round) = writes_nothing (level - 1) Behind
+passed _ level mark = writes_nothing level (Passing 0)
 
 -- a token in a part that is passed over, in so many brackets of it
 abbrev pub passing : Option Component → ℕ → ℕ → Mark → Turn
-passing step level depth (Open b) = moved level (Passing (depth + 1))
-passing step level depth (Close b) = cond (depth == 0) (passed step level (Close b)) (moved level (Passing (depth - 1)))
-passing step level depth mark = cond (depth == 0) (passed step level mark) (moved level (Passing depth))
+passing step level depth (Open b) = writes_nothing level (Passing (depth + 1))
+passing step level depth (Close b) = cond (depth == 0) (passed step level (Close b)) (writes_nothing level (Passing (depth - 1)))
+passing step level depth mark = cond (depth == 0) (passed step level mark) (writes_nothing level (Passing depth))
 
 -- a token where a sequence was opened whose flags are written
 abbrev pub flagging : ℕ → Mark → Turn
@@ -82,16 +82,16 @@ flagging level mark = wrote (Flag false) level (Counting 0)
 
 -- a token in the elements of that sequence, in so many brackets of them
 abbrev pub counting : ℕ → ℕ → Mark → Turn
-counting level depth (Open b) = moved level (Counting (depth + 1))
-counting level depth (Close b) = cond (depth == 0) (wrote (Flag true) level Behind) (moved level (Counting (depth - 1)))
-counting level depth Comma = cond (depth == 0) (wrote (Flag false) level (Counting 0)) (moved level (Counting depth))
-counting level depth mark = moved level (Counting depth)
+counting level depth (Open b) = writes_nothing level (Counting (depth + 1))
+counting level depth (Close b) = cond (depth == 0) (wrote (Flag true) level Behind) (writes_nothing level (Counting (depth - 1)))
+counting level depth Comma = cond (depth == 0) (wrote (Flag false) level (Counting 0)) (writes_nothing level (Counting depth))
+counting level depth mark = writes_nothing level (Counting depth)
 
 -- a token in a vector, in so many brackets of it
-abbrev pub within : ℕ → ℕ → Mark → Turn
-within level depth (Open b) = moved level (Within (depth + 1))
-within level depth (Close b) = cond (depth == 0) (moved level Behind) (moved level (Within (depth - 1)))
-within level depth mark = moved level (Within depth)
+abbrev pub inside_vector : ℕ → ℕ → Mark → Turn
+inside_vector level depth (Open b) = writes_nothing level (Within (depth + 1))
+inside_vector level depth (Close b) = cond (depth == 0) (writes_nothing level Behind) (writes_nothing level (Within (depth - 1)))
+inside_vector level depth mark = writes_nothing level (Within depth)
 
 -- the innermost step that was made
 abbrev pub made : List Component → ℕ → Option Component
@@ -101,11 +101,11 @@ made way level = cond (level == 0) None (slice_get way (level - 1))
 abbrev pub turn_by : Mode → List Component → Leaf → ℕ → Mark → ℕ → Turn
 turn_by Value way leaf level mark place = at_value (slice_get way level) leaf level mark place
 turn_by Opened way leaf level mark place = at_opened (slice_get way level) leaf level mark place
-turn_by Behind way leaf level mark place = behind (made way level) level mark
+turn_by Behind way leaf level mark place = turn_after_value (made way level) level mark
 turn_by (Passing depth) way leaf level mark place = passing (made way level) level depth mark
 turn_by Flagging way leaf level mark place = flagging level mark
 turn_by (Counting depth) way leaf level mark place = counting level depth mark
-turn_by (Within depth) way leaf level mark place = within level depth mark
+turn_by (Within depth) way leaf level mark place = inside_vector level depth mark
 turn_by Lost way leaf level mark place = lost
 
 -- what a token makes of a state, where it was looked for from a place on

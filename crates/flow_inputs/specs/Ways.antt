@@ -3,7 +3,7 @@ use Rattle.std.specs.Prelude.{◌≡◌, ℕ, zero, suc, ◌+◌, ◌-◌, ◌�
 use Rattle.snesl_data.specs.declared.dialect.Dialect.{Dialect}
 use Rattle.snesl_data.specs.Types.{Ty, int, bool, pair, vec, seq}
 use Rattle.snesl_data.specs.Values.{Value, HasType}
-use Rattle.snesl_values.specs.InputTokens.{Reads}
+use Rattle.snesl_values.specs.InputTokens.{HasTokens}
 use Rattle.snesl_values.specs.Inputs.{value_tokens}
 use Rattle.flow_messages.specs.Cells.{Cell}
 use Rattle.flow_base.specs.Flags.{T, elements}
@@ -32,22 +32,22 @@ leaf_at (seq a) zero = Flags
 leaf_at (seq a) (suc edge) = leaf_at a edge
 
 -- what a value puts on the edge at the end of the way
-abbrev pub items : List Component → Leaf → Value → List Cell
-items [] Flags v = elements (length (elements_of v)) (T ∷ [])
-items [] leaf v = cell_for v ∷ []
-items (Elements ∷ way) leaf v = concatenation_by (items way leaf) (elements_of v)
-items (First ∷ way) leaf v = items way leaf (first_of v)
-items (Second ∷ way) leaf v = items way leaf (second_of v)
+abbrev pub items_on_edge : List Component → Leaf → Value → List Cell
+items_on_edge [] Flags v = elements (length (elements_of v)) (T ∷ [])
+items_on_edge [] leaf v = cell_for v ∷ []
+items_on_edge (Elements ∷ way) leaf v = concatenation_by (items_on_edge way leaf) (elements_of v)
+items_on_edge (First ∷ way) leaf v = items_on_edge way leaf (first_of v)
+items_on_edge (Second ∷ way) leaf v = items_on_edge way leaf (second_of v)
 
 -- these steps lead from the type to an edge that carries this
-pub data Leads : Ty → List Component → Leaf → Type 0 where
-  to_int : Leads int [] Ints
-  to_bool : Leads bool [] Bools
-  to_vector : {a : Ty} → Leads (vec a) [] Vectors
-  to_flags : {a : Ty} → Leads (seq a) [] Flags
-  by_elements : {a : Ty} {way : List Component} {leaf : Leaf} → Leads a way leaf → Leads (seq a) (Elements ∷ way) leaf
-  by_first : {a b : Ty} {way : List Component} {leaf : Leaf} → Leads a way leaf → Leads (pair a b) (First ∷ way) leaf
-  by_second : {a b : Ty} {way : List Component} {leaf : Leaf} → Leads b way leaf → Leads (pair a b) (Second ∷ way) leaf
+pub data LeadsToEdge : Ty → List Component → Leaf → Type 0 where
+  to_int : LeadsToEdge int [] Ints
+  to_bool : LeadsToEdge bool [] Bools
+  to_vector : {a : Ty} → LeadsToEdge (vec a) [] Vectors
+  to_flags : {a : Ty} → LeadsToEdge (seq a) [] Flags
+  by_elements : {a : Ty} {way : List Component} {leaf : Leaf} → LeadsToEdge a way leaf → LeadsToEdge (seq a) (Elements ∷ way) leaf
+  by_first : {a b : Ty} {way : List Component} {leaf : Leaf} → LeadsToEdge a way leaf → LeadsToEdge (pair a b) (First ∷ way) leaf
+  by_second : {a b : Ty} {way : List Component} {leaf : Leaf} → LeadsToEdge b way leaf → LeadsToEdge (pair a b) (Second ∷ way) leaf
 
 -- these are the steps of the whole way from this level on
 abbrev pub Ahead : List Component → ℕ → List Component → Type 0
@@ -55,5 +55,5 @@ Ahead whole level [] = slice_get whole level ≡ None
 Ahead whole level (step ∷ way) = (slice_get whole level ≡ Some step) × Ahead whole (level + 1) way
 
 -- at each offset from which the text spells a value, `vector` gives that value
-abbrev pub Tells : (ℕ → Value) → List ℕ → Type 0
-Tells vector text = (dialect : Dialect) (t : Ty) (from end : ℕ) (v : Value) → HasType dialect v t → from ≤ length text → Reads text from (value_tokens v) end → vector from ≡ v
+abbrev pub TellsValues : (ℕ → Value) → List ℕ → Type 0
+TellsValues vector text = (dialect : Dialect) (t : Ty) (from end : ℕ) (v : Value) → HasType dialect v t → from ≤ length text → HasTokens text from (value_tokens v) end → vector from ≡ v

@@ -6,7 +6,7 @@ ghost use Rattle.flow_inputs.specs.declared.turns.Component.{Component};
 ghost use Rattle.flow_inputs.specs.declared.turns.Leaf.{Leaf};
 ghost use Rattle.flow_inputs.specs.Turns.{state, depth_of};
 ghost use Rattle.flow_inputs.specs.Left.{left};
-ghost use Rattle.flow_inputs.specs.Passing.{depth_behind, SameLeft};
+ghost use Rattle.flow_inputs.specs.Passing.{depth_after, SameLeft};
 
 use crate::turns::Mode;
 use snesl_values::{Mark, sign_mark};
@@ -15,9 +15,9 @@ use snesl_values::{Mark, sign_mark};
 // byte closes the brackets in which it stands, and at a comma outside the brackets that it counts,
 // unless it passes over commas.
 #[inline(always)]
-fn depth_behind(byte: u8, depth: usize, passes_commas: bool) -> Option<usize>
+fn depth_after(byte: u8, depth: usize, passes_commas: bool) -> Option<usize>
     requires { depth + 1 < 2 ^ 64 }
-    ensures { result ≡ depth_behind (sign_mark byte) depth passes_commas }
+    ensures { result ≡ depth_after (sign_mark byte) depth passes_commas }
 {
     match sign_mark(byte) {
         Mark::Open(_) => Some(depth + 1),
@@ -47,7 +47,7 @@ fn past_brackets(text: &[u8], from: usize, opened: usize, passes_commas: bool) -
     let mut at = from;
     let mut depth = opened;
     'bytes: while at < text.len() {
-        match depth_behind(text[at], depth, passes_commas) {
+        match depth_after(text[at], depth, passes_commas) {
             Some(behind) => {
                 depth = behind;
                 at += 1;

@@ -17,7 +17,7 @@ ghost use Rattle.flow_inputs.specs.Left.{left, cell};
 ghost use Rattle.snesl_values.specs.Places.{value_at};
 ghost use Rattle.flow_inputs.specs.Turns.{depth_of};
 ghost use Rattle.flow_inputs.specs.Ways.{way_to, leaf_at};
-ghost use Rattle.flow_inputs.specs.Items.{items_at, leaf_kind, opening_state, IsRest};
+ghost use Rattle.flow_inputs.specs.Items.{items_from, leaf_kind, opening_state, IsRest};
 ghost use Rattle.flow_inputs.specs.Sends.{Sends};
 
 use crate::scanner::{BLOCK, flags_ahead, ints_ahead, scan};
@@ -78,7 +78,7 @@ impl TextSource {
         ensures opens { IfOk result (λ source.
             text_source_state source ≡ source_opening (items_in source)) }
         ensures items { IfOk result (λ source. items_in source ≡
-            items_at (arc_value text).items
+            items_from (arc_value text).items
             (way_to (ty_of ty.now) edge) (leaf_at (ty_of ty.now) edge) place) }
     {
         let mut way = Vec::new(alloc);

@@ -2,7 +2,7 @@
 
 ghost use Rattle.std.specs.Prelude.{◌≡◌, ◌+◌, ◌<◌, ◌^◌, slice_get, IfSome};
 ghost use Rattle.flow_inputs.specs.Items.{leaf_kind};
-ghost use Rattle.flow_inputs.specs.Turns.{moved, wrote, lost, at_leaf, at_value, at_opened, behind, passed, passing, flagging, counting, within, made, turn, depth_of, is_done};
+ghost use Rattle.flow_inputs.specs.Turns.{writes_nothing, wrote, lost, at_leaf, at_value, at_opened, turn_after_value, passed, passing, flagging, counting, inside_vector, made, turn, depth_of, is_done};
 
 use flow_messages::Kind;
 use snesl_values::{Bracket, Mark};
@@ -89,8 +89,8 @@ pub(crate) type Turn = (Option<Piece>, State);
 
 // Nothing is written.
 #[inline(always)]
-fn moved(level: usize, mode: Mode) -> Turn
-    ensures { result ≡ moved level mode }
+fn writes_nothing(level: usize, mode: Mode) -> Turn
+    ensures { result ≡ writes_nothing level mode }
 {
     (None, State { level, mode })
 }
@@ -108,7 +108,7 @@ fn wrote(piece: Piece, level: usize, mode: Mode) -> Turn
 fn lost() -> Turn
     ensures { result ≡ lost }
 {
-    moved(0, Mode::Lost)
+    writes_nothing(0, Mode::Lost)
 }
 
 // A token at the end of the way.
@@ -117,7 +117,7 @@ fn at_leaf(leaf: Leaf, level: usize, mark: Mark, place: usize) -> Turn
     ensures { result ≡ at_leaf leaf level mark place }
 {
     match (leaf, mark) {
-        (Leaf::Flags, Mark::Open(Bracket::Curly)) => moved(level, Mode::Flagging),
+        (Leaf::Flags, Mark::Open(Bracket::Curly)) => writes_nothing(level, Mode::Flagging),
         (Leaf::Bools, Mark::Truth(truth)) => wrote(Piece::Flag(truth), level, Mode::Behind),
         (Leaf::Ints, Mark::Number(number)) => wrote(Piece::Int(number), level, Mode::Behind),
         (Leaf::Vectors, Mark::Open(Bracket::Square)) => {
@@ -135,24 +135,33 @@ fn at_value(step: Option<Component>, leaf: Leaf, level: usize, mark: Mark, place
 {
     match (step, mark) {
         (None, _) => at_leaf(leaf, level, mark, place),
-        (Some(Component::Elements), Mark::Open(Bracket::Curly)) => moved(level + 1, Mode::Opened),
-        (Some(Component::First), Mark::Open(Bracket::Round)) => moved(level + 1, Mode::Value),
-        (Some(Component::Second), Mark::Open(Bracket::Round)) => moved(level + 1, Mode::Passing(0)),
+        (Some(Component::Elements), Mark::Open(Bracket::Curly)) => writes_nothing(
+            level + 1,
+            Mode::Opened,
+        ),
+        (Some(Component::First), Mark::Open(Bracket::Round)) => writes_nothing(
+            level + 1,
+            Mode::Value,
+        ),
+        (Some(Component::Second), Mark::Open(Bracket::Round)) => writes_nothing(
+            level + 1,
+            Mode::Passing(0),
+        ),
         _ => lost(),
     }
 }
 
 // A token after a value, by the innermost step that was made.
 #[inline(always)]
-fn behind(step: Option<Component>, level: usize, mark: Mark) -> Turn
-    ensures { result ≡ behind step level mark }
+fn turn_after_value(step: Option<Component>, level: usize, mark: Mark) -> Turn
+    ensures { result ≡ turn_after_value step level mark }
 {
     match (step, mark) {
-        (Some(Component::Elements), Mark::Comma) => moved(level, Mode::Value),
-        (Some(Component::First), Mark::Comma) => moved(level, Mode::Passing(0)),
+        (Some(Component::Elements), Mark::Comma) => writes_nothing(level, Mode::Value),
+        (Some(Component::First), Mark::Comma) => writes_nothing(level, Mode::Passing(0)),
         (Some(Component::Elements), Mark::Close(Bracket::Curly))
         | (Some(Component::Second), Mark::Close(Bracket::Round)) => {
-            moved(level.saturating_sub(1), Mode::Behind)
+            writes_nothing(level.saturating_sub(1), Mode::Behind)
         }
         _ => lost(),
     }
@@ -165,7 +174,7 @@ fn at_opened(step: Option<Component>, leaf: Leaf, level: usize, mark: Mark, plac
     ensures { result ≡ at_opened step leaf level mark place }
 {
     match mark {
-        Mark::Close(Bracket::Curly) => moved(level.saturating_sub(1), Mode::Behind),
+        Mark::Close(Bracket::Curly) => writes_nothing(level.saturating_sub(1), Mode::Behind),
         _ => at_value(step, leaf, level, mark, place),
     }
 }
@@ -177,11 +186,11 @@ fn passed(step: Option<Component>, level: usize, mark: Mark) -> Turn
     ensures { result ≡ passed step level mark }
 {
     match (step, mark) {
-        (Some(Component::Second), Mark::Comma) => moved(level, Mode::Value),
+        (Some(Component::Second), Mark::Comma) => writes_nothing(level, Mode::Value),
         (Some(Component::First), Mark::Close(Bracket::Round)) => {
-            moved(level.saturating_sub(1), Mode::Behind)
+            writes_nothing(level.saturating_sub(1), Mode::Behind)
         }
-        _ => moved(level, Mode::Passing(0)),
+        _ => writes_nothing(level, Mode::Passing(0)),
     }
 }
 
@@ -192,19 +201,19 @@ fn passing(step: Option<Component>, level: usize, depth: usize, mark: Mark) -> T
     ensures { result ≡ passing step level depth mark }
 {
     match mark {
-        Mark::Open(_) => moved(level, Mode::Passing(depth + 1)),
+        Mark::Open(_) => writes_nothing(level, Mode::Passing(depth + 1)),
         Mark::Close(_) => {
             if depth == 0 {
                 passed(step, level, mark)
             } else {
-                moved(level, Mode::Passing(depth - 1))
+                writes_nothing(level, Mode::Passing(depth - 1))
             }
         }
         _ => {
             if depth == 0 {
                 passed(step, level, mark)
             } else {
-                moved(level, Mode::Passing(depth))
+                writes_nothing(level, Mode::Passing(depth))
             }
         }
     }
@@ -229,41 +238,41 @@ fn counting(level: usize, depth: usize, mark: Mark) -> Turn
     ensures { result ≡ counting level depth mark }
 {
     match mark {
-        Mark::Open(_) => moved(level, Mode::Counting(depth + 1)),
+        Mark::Open(_) => writes_nothing(level, Mode::Counting(depth + 1)),
         Mark::Close(_) => {
             if depth == 0 {
                 wrote(Piece::Flag(true), level, Mode::Behind)
             } else {
-                moved(level, Mode::Counting(depth - 1))
+                writes_nothing(level, Mode::Counting(depth - 1))
             }
         }
         Mark::Comma => {
             if depth == 0 {
                 wrote(Piece::Flag(false), level, Mode::Counting(0))
             } else {
-                moved(level, Mode::Counting(depth))
+                writes_nothing(level, Mode::Counting(depth))
             }
         }
-        _ => moved(level, Mode::Counting(depth)),
+        _ => writes_nothing(level, Mode::Counting(depth)),
     }
 }
 
 // A token in a vector.
 #[inline(always)]
-fn within(level: usize, depth: usize, mark: Mark) -> Turn
+fn inside_vector(level: usize, depth: usize, mark: Mark) -> Turn
     requires { depth + 1 < 2 ^ 64 }
-    ensures { result ≡ within level depth mark }
+    ensures { result ≡ inside_vector level depth mark }
 {
     match mark {
-        Mark::Open(_) => moved(level, Mode::Within(depth + 1)),
+        Mark::Open(_) => writes_nothing(level, Mode::Within(depth + 1)),
         Mark::Close(_) => {
             if depth == 0 {
-                moved(level, Mode::Behind)
+                writes_nothing(level, Mode::Behind)
             } else {
-                moved(level, Mode::Within(depth - 1))
+                writes_nothing(level, Mode::Within(depth - 1))
             }
         }
-        _ => moved(level, Mode::Within(depth)),
+        _ => writes_nothing(level, Mode::Within(depth)),
     }
 }
 
@@ -301,11 +310,11 @@ pub(crate) fn turn(way: &[Component], leaf: Leaf, state: State, mark: Mark, plac
     match state.mode {
         Mode::Value => at_value(step_at(way, level), leaf, level, mark, place),
         Mode::Opened => at_opened(step_at(way, level), leaf, level, mark, place),
-        Mode::Behind => behind(made(way, level), level, mark),
+        Mode::Behind => turn_after_value(made(way, level), level, mark),
         Mode::Passing(depth) => passing(made(way, level), level, depth, mark),
         Mode::Flagging => flagging(level, mark),
         Mode::Counting(depth) => counting(level, depth, mark),
-        Mode::Within(depth) => within(level, depth, mark),
+        Mode::Within(depth) => inside_vector(level, depth, mark),
         Mode::Lost => lost(),
     }
 }

@@ -3,10 +3,10 @@ use Rattle.std.specs.Prelude.{◌≡◌, ℕ, zero, suc, List, [], ◌∷◌, �
 use Rattle.std.proofs.lemmas.List.{length-replicate}
 use Rattle.flow_messages.specs.Cells.{Cell}
 use Rattle.flow_messages.specs.declared.message.Kind.{Kind}
-use Rattle.flow_rows.specs.Decoded.{items}
+use Rattle.flow_rows.specs.Decoded.{items_of_kind}
 use Rattle.flow_plans.specs.Plans.{Step, made_by}
 use Rattle.flow_plans.specs.Ports.{kinds_read, kinds_written}
-use Rattle.flow_plans.specs.Layouts.{Placed, behind, uses, numbered, all_behind}
+use Rattle.flow_plans.specs.Layouts.{Placed, places_after, uses, numbered, all_behind}
 
 -- the transducer of a step, the first stream of which has this number
 abbrev pub node_of : Step → ℕ → Placed
@@ -21,7 +21,7 @@ pub record IsCopy (placed : Placed) : Type 0 where
   pub writes : placed.writes ≡ replicate count stream
   pub kinds_read : kinds_read placed.operation ≡ kind ∷ []
   pub kinds_written : length (kinds_written placed.operation) ≡ count
-  pub made : (a : List Cell) → made_by placed.operation (a ∷ []) ≡ option_map (λ xs. replicate count xs) (items kind a)
+  pub made : (a : List Cell) → made_by placed.operation (a ∷ []) ≡ option_map (λ xs. replicate count xs) (items_of_kind kind a)
 
 abbrev pub AreCopies : List Placed → Type 0
 AreCopies [] = Unit {0}
@@ -31,7 +31,7 @@ copies_append : (xs ys : List Placed) → AreCopies xs → AreCopies ys → AreC
 copies_append [] ys h g = g
 copies_append (x ∷ xs) ys h g = (h.0, copies_append xs ys h.1 g)
 
-behind_copies : (at s : ℕ) (kind : Kind) (n : ℕ) → AreCopies (behind at s kind n)
+behind_copies : (at s : ℕ) (kind : Kind) (n : ℕ) → AreCopies (places_after at s kind n)
 behind_copies at s kind zero = (record { kind = kind; stream = s; count = zero; reads = refl; writes = refl; kinds_read = refl; kinds_written = refl; made = λ a. refl }, tt)
 behind_copies at s kind (suc zero) = tt
 behind_copies at s kind (suc (suc n)) =
@@ -40,4 +40,4 @@ behind_copies at s kind (suc (suc n)) =
 pub all_behind_copies : (plan : List Step) (at s : ℕ) (kinds : List Kind) → AreCopies (all_behind plan at s kinds)
 all_behind_copies plan at s [] = tt
 all_behind_copies plan at s (kind ∷ kinds) =
-    copies_append (behind at s kind (uses s plan)) (all_behind plan at (suc s) kinds) (behind_copies at s kind (uses s plan)) (all_behind_copies plan at (suc s) kinds)
+    copies_append (places_after at s kind (uses s plan)) (all_behind plan at (suc s) kinds) (behind_copies at s kind (uses s plan)) (all_behind_copies plan at (suc s) kinds)

@@ -20,14 +20,14 @@ use Rattle.flow_graph.specs.Laws.{IsNetwork, IsWithinLimits}
 use Rattle.flow_graph.specs.Flows.{bodies_in, bodies_out, HasRow}
 use Rattle.flow_plans.specs.Plans.{Step, made_by}
 use Rattle.flow_plans.specs.Ports.{kinds_written}
-use Rattle.flow_plans.specs.Layouts.{Placed, layout, stream_from, stream_to, Performs, IsNetworkOf}
+use Rattle.flow_plans.specs.Layouts.{Placed, layout, stream_from, stream_to, Performs, IsNetworkOfPlan}
 
 -- A graph is the network of a plan.
 pub record IsPlanned {S : Type 0} (b : Behaviour S) (plan : List Step) (states : List S) (edges : List Edge) : Type 0 where
   pub laws : BehaviourLaws b
   pub net : IsNetwork b states edges
   pub limits : IsWithinLimits b states edges
-  pub of : IsNetworkOf b plan states edges
+  pub of : IsNetworkOfPlan b plan states edges
 
 -- the stream that an edge joins
 abbrev pub stream_on : List Step → List Edge → ℕ → Option ℕ

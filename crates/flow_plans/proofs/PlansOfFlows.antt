@@ -7,7 +7,7 @@ use Rattle.flow_messages.specs.Cells.{Cell}
 use Rattle.flow_base.specs.Columns.{Columns, columns}
 use Rattle.flow_base.specs.Transducers.{Behaviour, BehaviourLaws}
 use Rattle.flow_rows.specs.Lists.{bind}
-use Rattle.flow_rows.specs.Decoded.{items}
+use Rattle.flow_rows.specs.Decoded.{items_of_kind}
 use Rattle.flow_rows.proofs.Edges.{columns_length}
 use Rattle.flow_rows.proofs.Options.{map_gives}
 use Rattle.flow_rows.proofs.Decoding.{items_back}
@@ -39,9 +39,9 @@ module _ {S : Type 0} {b : Behaviour S} {plan : List Step} {states : List S} {ed
   copy_writes k placed there copy q lt =
       let ins = bodies_in edges bodies k in
       let outs = bodies_out edges bodies k in
-      let made : option_map (λ xs. replicate copy.count xs) (items copy.kind (ins 0)) ≡ Some (columns copy.count outs) =
+      let made : option_map (λ xs. replicate copy.count xs) (items_of_kind copy.kind (ins 0)) ≡ Some (columns copy.count outs) =
       sym (copy.made (ins 0)) ∙ ap (λ l. made_by placed.operation (columns (length l) ins)) (sym copy.reads) ∙ made_at k placed there ∙ ap (λ n. Some (columns n outs)) copy.kinds_written in
-      let g = map_gives (λ xs. replicate copy.count xs) (items copy.kind (ins 0)) made in
+      let g = map_gives (λ xs. replicate copy.count xs) (items_of_kind copy.kind (ins 0)) made in
       let same : ins 0 ≡ g.0 = (items_back copy.kind (ins 0) g.0 g.1).0 in
       columns_replicate copy.count outs g.0 g.2 q lt ∙ sym same
 

@@ -18,7 +18,7 @@ use Rattle.flow_graph.specs.Networks.{state_at}
 use Rattle.flow_graph.specs.Replacements.{MayReplace}
 use Rattle.flow_plans.specs.Plans.{Operation, Step, source}
 use Rattle.flow_plans.specs.Ports.{kinds_read, kinds_written}
-use Rattle.flow_plans.specs.Layouts.{Placed, times, uses, behind, numbered, all_behind, layout_from, places_from, layout, places, stream_from, stream_to, ports_from, inputs_from, outputs_from, edges_from, edges_between, Performs, IsNetworkOf}
+use Rattle.flow_plans.specs.Layouts.{Placed, times, uses, places_after, numbered, all_behind, layout_from, places_from, layout, places, stream_from, stream_to, ports_from, inputs_from, outputs_from, edges_from, edges_between, Performs, IsNetworkOfPlan}
 use Rattle.flow_plans.specs.Settings.{with_source, IsLaidBut, SourceIsSet}
 use Rattle.flow_plans.proofs.Places.{get_right}
 use Rattle.flow_plans.proofs.Behind.{node_of}
@@ -53,7 +53,7 @@ uses_set t (x ∷ steps) (suc i) step other at_i same = ap (λ n. times t x.read
 module _ (plan other : List Step) (same : (t : ℕ) → uses t plan ≡ uses t other) where
   behind_same : (at s : ℕ) (kinds : List Kind) → all_behind plan at s kinds ≡ all_behind other at s kinds
   behind_same at s [] = refl
-  behind_same at s (kind ∷ kinds) = ap₂ (λ n l. behind at s kind n ++ l) (same s) (behind_same at (suc s) kinds)
+  behind_same at s (kind ∷ kinds) = ap₂ (λ n l. places_after at s kind n ++ l) (same s) (behind_same at (suc s) kinds)
 
   layout_same : (s : ℕ) (steps : List Step) → layout_from plan s steps ≡ layout_from other s steps
   layout_same s [] = refl
@@ -163,7 +163,7 @@ edges_stay : (nodes : List Placed) (j : ℕ) (placed : Placed) (operation : Oper
     → edges_between (slice_set nodes j (record placed { operation = operation })) ≡ edges_between nodes
 edges_stay nodes j placed operation there = ap₂ edges_from (inputs_stay zero nodes j placed operation there) (outputs_stay zero nodes j placed operation there)
 
-module _ {S : Type 0} (b : Behaviour S) (states : List S) (edges : List Edge) (plan : List Step) (of : IsNetworkOf b plan states edges) (i : ℕ) (step : Step) (kind : Kind) (before cells : List Cell) (at_i : slice_get plan i ≡ Some step) (is_source : step.operation ≡ source kind before) (s : S) (does : Performs b (source kind cells) s) where
+module _ {S : Type 0} (b : Behaviour S) (states : List S) (edges : List Edge) (plan : List Step) (of : IsNetworkOfPlan b plan states edges) (i : ℕ) (step : Step) (kind : Kind) (before cells : List Cell) (at_i : slice_get plan i ≡ Some step) (is_source : step.operation ≡ source kind before) (s : S) (does : Performs b (source kind cells) s) where
   abbrev operation : Operation
   operation = source kind cells
 
@@ -219,7 +219,7 @@ module _ {S : Type 0} (b : Behaviour S) (states : List S) (edges : List Edge) (p
         | inr other ↦ of.reads k x (was_there k x e other)
       ]
 
-      network : IsNetworkOf b plan' states' edges
+      network : IsNetworkOfPlan b plan' states' edges
       network = record {
         nodes = length-set states j s ∙ of.nodes ∙ sym (length-set (layout plan) j new) ∙ ap length (sym laid);
         performs = does_at;
@@ -233,7 +233,7 @@ module _ {S : Type 0} (b : Behaviour S) (states : List S) (edges : List Edge) (p
       }
 
   set : let k = slice_index_or (places plan) i 0 in
-      MayReplace b states k s × IsNetworkOf b (with_source i step kind cells plan) (slice_set states k s) edges × (places (with_source i step kind cells plan) ≡ places plan)
+      MayReplace b states k s × IsNetworkOfPlan b (with_source i step kind cells plan) (slice_set states k s) edges × (places (with_source i step kind cells plan) ≡ places plan)
       × IsLaidBut k (source kind cells) plan (with_source i step kind cells plan)
   set =
       let plan' = with_source i step kind cells plan in
@@ -243,7 +243,7 @@ module _ {S : Type 0} (b : Behaviour S) (states : List S) (edges : List Edge) (p
       let laid : layout plan' ≡ slice_set (layout plan) j (record stand.placed { operation = operation }) = layout_same plan' plan same 0 plan' ∙ stand.is_set in
       let stay : places plan' ≡ places plan = places_same plan' plan same 0 0 plan' ∙ places_set plan 0 0 plan i step operation at_i (sym (ap kinds_written is_source)) in
       let is : j ≡ slice_index_or (places plan) i 0 = omega (arith, stand.number) in
-      subst (λ k. MayReplace b states k s × IsNetworkOf b plan' (slice_set states k s) edges × (places plan' ≡ places plan) × IsLaidBut k operation plan plan') is
+      subst (λ k. MayReplace b states k s × IsNetworkOfPlan b plan' (slice_set states k s) edges × (places plan' ≡ places plan) × IsLaidBut k operation plan plan') is
       (may_replace j stand.placed stand.there was, network j stand.placed stand.there was plan' laid, stay, record { placed = stand.placed; there = stand.there; laid = laid })
 
 pub source_is_set : {S : Type 0} (b : Behaviour S) (states : List S) (edges : List Edge) → SourceIsSet b states edges

@@ -9,7 +9,7 @@ use Rattle.flow_messages.specs.Cells.{Cell}
 use Rattle.flow_base.specs.Flags.{flags, concatenation, lengths}
 use Rattle.flow_base.specs.Columns.{Columns}
 use Rattle.flow_rows.specs.Lists.{each, same_lists, cut}
-use Rattle.flow_rows.specs.Decoded.{numbers, truths, items, values}
+use Rattle.flow_rows.specs.Decoded.{numbers, truths, items_of_kind, values}
 use Rattle.flow_rows.specs.Made.{one, columns_of_values, of_one}
 use Rattle.flow_rows.proofs.Options.{bind_gives, map_gives, only_if_gives, some_same}
 use Rattle.flow_rows.proofs.Edges.{laid_length}
@@ -59,6 +59,6 @@ written_length (print ty) all written e = let s = bind_gives (values ty all) of_
 written_length (tab ty) (f ∷ others) written e = one_column _ _ written e
 written_length (seq_of ty) (v ∷ []) written e = let g = map_gives (columns_of_values (seq ty)) _ e in ap length g.2 ∙ laid_length (seq ty) g.0
 written_length (index ty) (v ∷ i ∷ []) written e = let g = map_gives (columns_of_values ty) _ e in ap length g.2 ∙ laid_length ty g.0
-written_length (fork kind outputs) (a ∷ []) written e = let g = map_gives _ (items kind a) e in ap length g.2 ∙ length-replicate outputs g.0 ∙ sym (length-replicate outputs kind)
-written_length (sink kind) (a ∷ []) written e = let g = map_gives _ (items kind a) e in ap length g.2
+written_length (fork kind outputs) (a ∷ []) written e = let g = map_gives _ (items_of_kind kind a) e in ap length g.2 ∙ length-replicate outputs g.0 ∙ sym (length-replicate outputs kind)
+written_length (sink kind) (a ∷ []) written e = let g = map_gives _ (items_of_kind kind a) e in ap length g.2
 written_length _ _ written e = absurd (cc)

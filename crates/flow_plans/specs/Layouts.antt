@@ -34,10 +34,10 @@ uses s [] = zero
 uses s (step ∷ steps) = times s step.reads + uses s steps
 
 -- what stands after a stream of the kind that has so many uses
-abbrev pub behind : (at s : ℕ) → Kind → ℕ → List Placed
-behind at s kind zero = record { at = at; operation = sink kind; reads = s ∷ []; writes = [] } ∷ []
-behind at s kind (suc zero) = []
-behind at s kind (suc (suc n)) = record { at = at; operation = fork kind (suc (suc n)); reads = s ∷ []; writes = replicate (suc (suc n)) s } ∷ []
+abbrev pub places_after : (at s : ℕ) → Kind → ℕ → List Placed
+places_after at s kind zero = record { at = at; operation = sink kind; reads = s ∷ []; writes = [] } ∷ []
+places_after at s kind (suc zero) = []
+places_after at s kind (suc (suc n)) = record { at = at; operation = fork kind (suc (suc n)); reads = s ∷ []; writes = replicate (suc (suc n)) s } ∷ []
 
 -- as many numbers as there are kinds, from this one on
 abbrev pub numbered : ℕ → List Kind → List ℕ
@@ -48,7 +48,7 @@ module _ (plan : List Step) where
   -- what stands after the streams of these kinds, the first of which has this number
   abbrev pub all_behind : (at s : ℕ) → List Kind → List Placed
   all_behind at s [] = []
-  all_behind at s (kind ∷ kinds) = behind at s kind (uses s plan) ++ all_behind at (suc s) kinds
+  all_behind at s (kind ∷ kinds) = places_after at s kind (uses s plan) ++ all_behind at (suc s) kinds
 
   -- the transducers of these steps of the plan, the first of which writes the stream of this number
   abbrev pub layout_from : ℕ → List Step → List Placed
@@ -143,7 +143,7 @@ pub record Performs {S : Type 0} (b : Behaviour S) (operation : Operation) (s : 
 
 -- The nodes are those of the plan, in order, each reads as many streams as it has inputs, each edge joins two ports of one
 -- stream, and the edges are just those between the plan's transducers.
-pub record IsNetworkOf {S : Type 0} (b : Behaviour S) (plan : List Step) (states : List S) (edges : List Edge) : Type 0 where
+pub record IsNetworkOfPlan {S : Type 0} (b : Behaviour S) (plan : List Step) (states : List S) (edges : List Edge) : Type 0 where
   pub nodes : length states ≡ length (layout plan)
   pub performs : (k : ℕ) (placed : Placed) → slice_get (layout plan) k ≡ Some placed → Performs b placed.operation (state_at b states k)
   pub reads : (k : ℕ) (placed : Placed) → slice_get (layout plan) k ≡ Some placed → length placed.reads ≡ length (kinds_read placed.operation)

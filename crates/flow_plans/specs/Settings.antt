@@ -7,7 +7,7 @@ use Rattle.flow_base.specs.Transducers.{Behaviour}
 use Rattle.flow_graph.specs.declared.edge.Edge.{Edge}
 use Rattle.flow_graph.specs.Replacements.{MayReplace}
 use Rattle.flow_plans.specs.Plans.{Operation, Step, source}
-use Rattle.flow_plans.specs.Layouts.{Placed, layout, places, Performs, IsNetworkOf}
+use Rattle.flow_plans.specs.Layouts.{Placed, layout, places, Performs, IsNetworkOfPlan}
 
 -- the plan, where its step i is a source of these cells
 abbrev pub with_source : ℕ → Step → Kind → List Cell → List Step → List Step
@@ -23,10 +23,10 @@ pub record IsLaidBut (k : ℕ) (operation : Operation) (plan other : List Step) 
 -- that of the plan with the other source, whose steps have their nodes where they were; all other nodes are laid out as before.
 abbrev pub SourceIsSet : {S : Type 0} → Behaviour S → List S → List Edge → Type 0
 SourceIsSet {S = S} b states edges =
-    (plan : List Step) → IsNetworkOf b plan states edges
+    (plan : List Step) → IsNetworkOfPlan b plan states edges
     → (i : ℕ) (step : Step) (kind : Kind) (before cells : List Cell) → slice_get plan i ≡ Some step → step.operation ≡ source kind before
     → (s : S) → Performs b (source kind cells) s
     → let k = slice_index_or (places plan) i 0 in
-    MayReplace b states k s × IsNetworkOf b (with_source i step kind cells plan) (slice_set states k s) edges
+    MayReplace b states k s × IsNetworkOfPlan b (with_source i step kind cells plan) (slice_set states k s) edges
     × (places (with_source i step kind cells plan) ≡ places plan)
     × IsLaidBut k (source kind cells) plan (with_source i step kind cells plan)

@@ -16,10 +16,10 @@ use Rattle.flow_rings.specs.declared.flat.Flat.{Flat}
 use Rattle.flow_rings.specs.declared.flat.Flat.TheVariants.{Unit as UnitFlat, Bool as BoolFlat, Int as IntFlat, End as EndFlat}
 use Rattle.flow_rings.specs.Ring.{Which, place}
 use Rattle.flow_messages.specs.Kinds.{fits}
-use Rattle.flow_rings.specs.Flats.{message_of, messages_of, MayFollow}
+use Rattle.flow_rings.specs.Flats.{message_of, messages_of, MayBePut}
 
 -- what stands for a message that fits may follow an unended list
-pub may_follow : (k : Kind) (before : List Flat) (m : Msg) → ended (signals (messages_of before)) ≡ false → fits k (signal_of m) ≡ true → (x : Flat) → message_of x ≡ m → MayFollow k before x
+pub may_follow : (k : Kind) (before : List Flat) (m : Msg) → ended (signals (messages_of before)) ≡ false → fits k (signal_of m) ≡ true → (x : Flat) → message_of x ≡ m → MayBePut k before x
 may_follow k before m unended fit x is = (unended, ap (λ (n : Msg). fits k (signal_of n)) is ∙ fit)
 
 -- in an orderly list no message but the last is an end
@@ -34,14 +34,14 @@ open_take (BoolFlat b ∷ xs) (suc i) low h = let up : suc i < suc (length xs) =
 open_take (IntFlat n ∷ xs) (suc i) low h = let up : suc i < suc (length xs) = low in open_take xs i (omega arith) h
 
 -- each message of an orderly block that fits may follow
-pub each_follows : (k : Kind) (before xs : List Flat) → ended (signals (messages_of before)) ≡ false → All (λ x. fits k (signal_of (message_of x)) ≡ true) xs → orderly (signals (messages_of xs)) ≡ true → EachAllowed (MayFollow k) before xs
+pub each_follows : (k : Kind) (before xs : List Flat) → ended (signals (messages_of before)) ≡ false → All (λ x. fits k (signal_of (message_of x)) ≡ true) xs → orderly (signals (messages_of xs)) ≡ true → EachAllowed (MayBePut k) before xs
 each_follows k before xs unended fit last i d low = (
   ap (λ (ms : List Msg). ended (signals ms)) (map-append message_of before (take i xs)) ∙ ended-more (messages_of before) (messages_of (take i xs)) unended ∙ open_take xs i low last,
   fit i d low,
 )
 
 -- what followed fits
-pub followed_fit : (k : Kind) (before xs : List Flat) → Allowed (MayFollow k) before xs → All (λ x. fits k (signal_of (message_of x)) ≡ true) xs
+pub followed_fit : (k : Kind) (before xs : List Flat) → Allowed (MayBePut k) before xs → All (λ x. fits k (signal_of (message_of x)) ≡ true) xs
 followed_fit k before [] all i d low = absurd (omega (arith, low))
 followed_fit k before (x ∷ xs) all zero d low = all.0.1
 followed_fit k before (x ∷ xs) all (suc i) d low = let up : suc i < suc (length xs) = low in followed_fit k (before ++ x ∷ []) xs all.1 i d (omega arith)
@@ -50,7 +50,7 @@ not_behind : (before : List Flat) → ended (signals (messages_of before)) ≡ f
 not_behind before unended = ap (λ (ms : List Msg). ended (signals ms)) (map-append message_of before (EndFlat ∷ [])) ∙ ended-snoc (messages_of before) (message_of EndFlat) unended
 
 -- what followed has its end last
-pub followed_last : (k : Kind) (before xs : List Flat) → Allowed (MayFollow k) before xs → orderly (signals (messages_of xs)) ≡ true
+pub followed_last : (k : Kind) (before xs : List Flat) → Allowed (MayBePut k) before xs → orderly (signals (messages_of xs)) ≡ true
 unfolding signals orderly
 followed_last k before [] all = refl
 followed_last k before (EndFlat ∷ []) all = refl
@@ -60,7 +60,7 @@ followed_last k before (BoolFlat b ∷ xs) all = followed_last k (before ++ Bool
 followed_last k before (IntFlat n ∷ xs) all = followed_last k (before ++ IntFlat n ∷ []) xs all.1
 
 -- where something followed, the list was unended
-pub followed_open : (k : Kind) (before xs : List Flat) → Allowed (MayFollow k) before xs → 0 < length xs → ended (signals (messages_of before)) ≡ false
+pub followed_open : (k : Kind) (before xs : List Flat) → Allowed (MayBePut k) before xs → 0 < length xs → ended (signals (messages_of before)) ≡ false
 followed_open k before [] all some = absurd (omega (arith, some))
 followed_open k before (x ∷ xs) all some = all.0.0
 

@@ -31,8 +31,8 @@ is_scalar (carry (int n)) = true
 is_scalar stop = true
 
 -- on an edge of the kind x may follow these: none of them is an end, and x fits
-abbrev pub MayFollow : Kind → List Flat → Flat → Type 0
-MayFollow k before x =
+abbrev pub MayBePut : Kind → List Flat → Flat → Type 0
+MayBePut k before x =
     (ended (signals (messages_of before)) ≡ false) × (fits k (signal_of (message_of x)) ≡ true)
 
 -- what was appended to a block

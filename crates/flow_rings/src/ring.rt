@@ -25,9 +25,9 @@ pub struct ClosingUnits;
 
 impl Protocol<Flat> for ClosingUnits {
     ghost use Rattle.flow_messages.specs.declared.message.Kind.TheVariants.{Unit as UnitKind};
-    ghost use Rattle.flow_rings.specs.Flats.{MayFollow};
+    ghost use Rattle.flow_rings.specs.Flats.{MayBePut};
 
-    ghost allows = { MayFollow UnitKind };
+    ghost allows = { MayBePut UnitKind };
 }
 
 /// What the writer of an edge of truth values promises: truth values, and nothing follows an `End`.
@@ -36,9 +36,9 @@ pub struct ClosingFlags;
 
 impl Protocol<Flat> for ClosingFlags {
     ghost use Rattle.flow_messages.specs.declared.message.Kind.TheVariants.{Bool as BoolKind};
-    ghost use Rattle.flow_rings.specs.Flats.{MayFollow};
+    ghost use Rattle.flow_rings.specs.Flats.{MayBePut};
 
-    ghost allows = { MayFollow BoolKind };
+    ghost allows = { MayBePut BoolKind };
 }
 
 /// What the writer of an edge of integers promises: integers, and nothing follows an `End`.
@@ -47,9 +47,9 @@ pub struct ClosingInts;
 
 impl Protocol<Flat> for ClosingInts {
     ghost use Rattle.flow_messages.specs.declared.message.Kind.TheVariants.{Int as IntKind};
-    ghost use Rattle.flow_rings.specs.Flats.{MayFollow};
+    ghost use Rattle.flow_rings.specs.Flats.{MayBePut};
 
-    ghost allows = { MayFollow IntKind };
+    ghost allows = { MayBePut IntKind };
 }
 
 // The ring of a writer: of messages, or of scalars of one kind.

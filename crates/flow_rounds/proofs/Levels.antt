@@ -18,7 +18,7 @@ use Rattle.flow_meetings.specs.Joints.{no_contents, boxes_at, writer_boxes, read
 use Rattle.flow_meetings.specs.RoundTheorems.{NothingMoved}
 use Rattle.flow_meetings.proofs.Parts.{any_of, no_length}
 use Rattle.flow_meetings.specs.Open.{AreOwners}
-use Rattle.flow_rounds.specs.Standing.{seen, AreLinked}
+use Rattle.flow_rounds.specs.Standing.{boxes_seen, AreLinked}
 
 -- boxes that are linked and have met are carried
 pub are_carried : (w r : Contents) (e : ℕ) → IsLinked w r e → Met w.ends r.ends w.capacity e → IsCarried w r e
@@ -34,11 +34,11 @@ are_carried w r e linked met =
       room = omega (arith, linked.bound, met.room, ap length none, ap length arrived, came);
     }
 
-pub seen_at : (boxes : List Boxes) (s : ℕ) (d : Boxes) → s < length boxes → boxes_at (seen boxes) s ≡ contents (get_or boxes s d)
+pub seen_at : (boxes : List Boxes) (s : ℕ) (d : Boxes) → s < length boxes → boxes_at (boxes_seen boxes) s ≡ contents (get_or boxes s d)
 seen_at boxes s d l = get_or-map contents boxes s d no_contents l
 
-module _ (share : List ℕ) (edges : List Edge) (owners : List EdgeOwners) (are : AreOwners share edges owners) (boxes : List Boxes) (capacity : ℕ) (linked : AreLinked share edges (seen boxes) capacity) where
-  long : length (seen boxes) ≡ length boxes
+module _ (share : List ℕ) (edges : List Edge) (owners : List EdgeOwners) (are : AreOwners share edges owners) (boxes : List Boxes) (capacity : ℕ) (linked : AreLinked share edges (boxes_seen boxes) capacity) where
+  long : length (boxes_seen boxes) ≡ length boxes
   long = length-map boxes contents
 
   abbrev writer : ℕ → ℕ
@@ -58,16 +58,16 @@ module _ (share : List ℕ) (edges : List Edge) (owners : List EdgeOwners) (are 
 
   -- the boxes that the owner names are those of the edge
   module _ (now : List Boxes) (same : length now ≡ length boxes) (e : ℕ) (w : EdgeOwners) (d : Boxes) (l : e < length owners) where
-    pub writer_is : writer_boxes share edges (seen now) e ≡ contents (get_or now (get_or owners e w).writer d)
+    pub writer_is : writer_boxes share edges (boxes_seen now) e ≡ contents (get_or now (get_or owners e w).writer d)
     writer_is = seen_at now (writer e) d (omega (arith, linked.writers e (inside e l), long, same)) ∙ ap (λ s. contents (get_or now s d)) (sym (are.writers e w (inside e l)))
 
-    pub reader_is : reader_boxes share edges (seen now) e ≡ contents (get_or now (get_or owners e w).reader d)
+    pub reader_is : reader_boxes share edges (boxes_seen now) e ≡ contents (get_or now (get_or owners e w).reader d)
     reader_is = seen_at now (reader e) d (omega (arith, linked.readers e (inside e l), long, same)) ∙ ap (λ s. contents (get_or now s d)) (sym (are.readers e w (inside e l)))
 
   pub all_join : (e : ℕ) (w : EdgeOwners) (d : Boxes) → e < length owners → BoxesJoin (get_or boxes (get_or owners e w).writer d) (get_or boxes (get_or owners e w).reader d) e
   all_join e w d l =
       subst (λ a. IsLinked a (contents (get_or boxes (get_or owners e w).reader d)) e) (writer_is boxes refl e w d l)
-      (subst (λ b. IsLinked (writer_boxes share edges (seen boxes) e) b e) (reader_is boxes refl e w d l) (linked.linked e (inside e l)))
+      (subst (λ b. IsLinked (writer_boxes share edges (boxes_seen boxes) e) b e) (reader_is boxes refl e w d l) (linked.linked e (inside e l)))
 
   module _ (now : List Boxes) (same : length now ≡ length boxes)
       (kept : (k : ℕ) (d : Boxes) → k < length boxes → Kept (view_of (get_or boxes k d)) (view_of (get_or now k d)))
@@ -84,13 +84,13 @@ module _ (share : List ℕ) (edges : List Edge) (owners : List EdgeOwners) (are 
     some : (e : ℕ) → e < length edges → Boxes
     some e l = any_of boxes (writer e) (omega (arith, linked.writers e l, long))
 
-    pub have_met : BoxesHaveMet share edges (seen now) capacity
+    pub have_met : BoxesHaveMet share edges (boxes_seen now) capacity
     have_met = record {
       linked = linked_at;
       carried = λ e l.
           let d = some e l in
           let h = owner e l in
-          subst (λ a. IsCarried a (reader_boxes share edges (seen now) e) e) (sym (writer_is now same e none d h))
+          subst (λ a. IsCarried a (reader_boxes share edges (boxes_seen now) e) e) (sym (writer_is now same e none d h))
           (subst (λ b. IsCarried (contents (get_or now (get_or owners e none).writer d)) b e) (sym (reader_is now same e none d h)) (are_carried _ _ e (joined e none d h) (met e none d h)));
       capacity = λ e l.
           let d = some e l in
@@ -101,16 +101,16 @@ module _ (share : List ℕ) (edges : List Edge) (owners : List EdgeOwners) (are 
           ∙ linked.capacity e l;
     }
       where
-        linked_at : (e : ℕ) → e < length edges → IsLinked (writer_boxes share edges (seen now) e) (reader_boxes share edges (seen now) e) e
+        linked_at : (e : ℕ) → e < length edges → IsLinked (writer_boxes share edges (boxes_seen now) e) (reader_boxes share edges (boxes_seen now) e) e
         linked_at e l =
             let d = some e l in
             let h = owner e l in
-            subst (λ a. IsLinked a (reader_boxes share edges (seen now) e) e) (sym (writer_is now same e none d h))
+            subst (λ a. IsLinked a (reader_boxes share edges (boxes_seen now) e) e) (sym (writer_is now same e none d h))
             (subst (λ b. IsLinked (contents (get_or now (get_or owners e none).writer d)) b e) (sym (reader_is now same e none d h)) (joined e none d h))
 
-    pub nothing_moved : NothingMoved (length (seen boxes)) (seen boxes) (seen now)
+    pub nothing_moved : NothingMoved (length (boxes_seen boxes)) (boxes_seen boxes) (boxes_seen now)
     nothing_moved s l =
         let h : s < length boxes = omega (arith, l, long) in
         let d = any_of boxes s h in
-        subst (λ (a : Contents). SameTraffic a.ends (boxes_at (seen now) s).ends) (sym (seen_at boxes s d h))
+        subst (λ (a : Contents). SameTraffic a.ends (boxes_at (boxes_seen now) s).ends) (sym (seen_at boxes s d h))
         (subst (λ (b : Contents). SameTraffic (view_of (get_or boxes s d)) b.ends) (sym (seen_at now s d (omega (arith, h, same)))) (kept s d h).traffic)

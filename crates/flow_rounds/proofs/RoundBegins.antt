@@ -30,7 +30,7 @@ use Rattle.flow_meetings.proofs.Meetings.{fresh_shares_start}
 use Rattle.flow_meetings.proofs.Views.{sent_at, received_at}
 use Rattle.flow_meetings.specs.SharedNetworks.{shared_network, AreFed}
 use Rattle.flow_meetings.proofs.Lists.{total_none}
-use Rattle.flow_rounds.specs.Standing.{seen, AreLinked, boxes_of, moved_in, StandBetweenRounds}
+use Rattle.flow_rounds.specs.Standing.{boxes_seen, AreLinked, boxes_of, moved_in, StandBetweenRounds}
 use Rattle.flow_rounds.proofs.Levels.{seen_at, have_met}
 use Rattle.flow_rounds.proofs.RoundMeets.{seen_is}
 
@@ -86,12 +86,12 @@ module _ {X : Type 0} {t : Ghosts X} {u : EndsGhosts Boxes} (sees : u.view ≡ v
       (subst (λ s. Q (get_or boxes (get_or owners e none).writer (some e l)) (get_or boxes s (some e l))) (is.owners.readers e none l) q)
 
   -- and what holds of these boxes holds of those that are seen at the edge
-  of_seen : (e : ℕ) (l : e < length edges) (Q : Contents → Contents → Type 0) → Q (contents (get_or boxes (writer e) (some e l))) (contents (get_or boxes (reader e) (some e l))) → Q (writer_boxes share edges (seen boxes) e) (reader_boxes share edges (seen boxes) e)
+  of_seen : (e : ℕ) (l : e < length edges) (Q : Contents → Contents → Type 0) → Q (contents (get_or boxes (writer e) (some e l))) (contents (get_or boxes (reader e) (some e l))) → Q (writer_boxes share edges (boxes_seen boxes) e) (reader_boxes share edges (boxes_seen boxes) e)
   of_seen e l Q q =
-      subst (λ a. Q a (reader_boxes share edges (seen boxes) e)) (sym (seen_at boxes (writer e) (some e l) (writes e l)))
+      subst (λ a. Q a (reader_boxes share edges (boxes_seen boxes) e)) (sym (seen_at boxes (writer e) (some e l) (writes e l)))
       (subst (λ b. Q (contents (get_or boxes (writer e) (some e l))) b) (sym (seen_at boxes (reader e) (some e l) (reads e l))) q)
 
-  linked : AreLinked share edges (seen boxes) capacity
+  linked : AreLinked share edges (boxes_seen boxes) capacity
   linked = record {
     writers = λ e l. omega (arith, writes e l, length-map boxes contents);
     readers = λ e l. omega (arith, reads e l, length-map boxes contents);
@@ -132,7 +132,7 @@ module _ {X : Type 0} {t : Ghosts X} {u : EndsGhosts Boxes} (sees : u.view ≡ v
       fresh_reader : (view_of (get_or boxes (reader e) (some e l))).reads e ≡ true → (view_of (get_or boxes (reader e) (some e l))).received e ≡ []
       fresh_reader = subst (λ (v : Boxes → View). (v (get_or boxes (reader e) (some e l))).reads e ≡ true → (v (get_or boxes (reader e) (some e l))).received e ≡ []) sees ((is.ends.fresh (reader e) (some e l) (reads e l)).received e)
 
-      at_both : IsLinked (writer_boxes share edges (seen boxes) e) (reader_boxes share edges (seen boxes) e) e → ((contents (get_or boxes (writer e) (some e l))).ends.sent e ≡ []) × ((contents (get_or boxes (reader e) (some e l))).ends.received e ≡ [])
+      at_both : IsLinked (writer_boxes share edges (boxes_seen boxes) e) (reader_boxes share edges (boxes_seen boxes) e) e → ((contents (get_or boxes (writer e) (some e l))).ends.sent e ≡ []) × ((contents (get_or boxes (reader e) (some e l))).ends.received e ≡ [])
       at_both link = (
         fresh_writer (ap (λ (a : Contents). a.ends.writes e) (sym (seen_at boxes (writer e) (some e l) (writes e l))) ∙ link.writes),
         fresh_reader (ap (λ (a : Contents). a.ends.reads e) (sym (seen_at boxes (reader e) (some e l) (reads e l))) ∙ link.reads),

@@ -14,7 +14,7 @@ use Rattle.flow_meetings.specs.SharedNetworks.{SharedNetwork}
 use Rattle.flow_meetings.specs.Joints.{BoxesHaveMet, AreStates}
 use Rattle.flow_meetings.specs.RoundTheorems.{net_of, box_configuration}
 use Rattle.flow_meetings.proofs.States.{states_are_one}
-use Rattle.flow_rounds.specs.Standing.{seen, boxes_of, RestBetweenRounds}
+use Rattle.flow_rounds.specs.Standing.{boxes_seen, boxes_of, RestBetweenRounds}
 use Rattle.flow_rounds.proofs.RoundMeets.{seen_is}
 
 -- A run of the network led to where the nodes have these states and the boxes say this, no node can step there, and all
@@ -30,7 +30,7 @@ module _ {X : Type 0} {t : Ghosts X} {u : EndsGhosts Boxes} (network : SharedNet
   are_the_states : rest.stand.states ≡ states
   are_the_states = states_are_one network.share network.edges network.nodes network.fit (nodes_in shares) rest.stand.deals rest.stand.deals rest.stand.states states rest.stand.are_states (are rest.stand.deals)
 
-  pub come_to_rest : (boxes : List Boxes) → boxes ≡ ends_in shares → HaveComeToRest network states (seen boxes)
+  pub come_to_rest : (boxes : List Boxes) → boxes ≡ ends_in shares → HaveComeToRest network states (boxes_seen boxes)
   come_to_rest boxes taken =
       subst (λ b. HaveComeToRest network states b) (sym (seen_is shares boxes taken))
       (subst (λ s. HaveComeToRest network s (boxes_of shares)) are_the_states

@@ -17,7 +17,7 @@ use Rattle.flow_meetings.specs.Open.{AreOwners}
 use Rattle.flow_meetings.specs.Deals.{nodes_in}
 use Rattle.flow_meetings.specs.SharedNetworks.{SharedNetwork, numbers_of, AreFed}
 use Rattle.flow_meetings.proofs.Lists.{mapped_twice, all_zipped}
-use Rattle.flow_rounds.specs.Standing.{seen, AreLinked, boxes_of, HaveMetSince}
+use Rattle.flow_rounds.specs.Standing.{boxes_seen, AreLinked, boxes_of, HaveMetSince}
 use Rattle.flow_rounds.proofs.Levels.{have_met, nothing_moved}
 
 -- what lost no certainty did not, whatever the boxes were part of
@@ -33,12 +33,12 @@ zip_kept {A} ends_of parts boxes now is same kept = all_zipped _ parts now (same
         subst (λ (a : Boxes). Kept (view_of a) (view_of (get_or now k b))) (ap (λ xs. get_or xs k b) is ∙ get_or-map ends_of parts k p b l) (kept k b (omega (arith, l, long)))
 
 module _ {X : Type 0} {t : Ghosts X} {u : EndsGhosts Boxes} where
-  pub seen_is : (shares : List (Share X Boxes t u)) (boxes : List Boxes) → boxes ≡ map (λ share. share.ends) shares → seen boxes ≡ boxes_of shares
-  seen_is shares boxes is = ap seen is ∙ mapped_twice contents (λ (share : Share X Boxes t u). share.ends) shares
+  pub seen_is : (shares : List (Share X Boxes t u)) (boxes : List Boxes) → boxes ≡ map (λ share. share.ends) shares → boxes_seen boxes ≡ boxes_of shares
+  seen_is shares boxes is = ap boxes_seen is ∙ mapped_twice contents (λ (share : Share X Boxes t u). share.ends) shares
 
   module _ (network : SharedNetwork t) (owners : List EdgeOwners) (are : AreOwners network.share network.edges owners) (shares : List (Share X Boxes t u)) (linked : AreLinked network.share network.edges (boxes_of shares) network.capacity)
       (boxes : List Boxes) (taken : boxes ≡ map (λ share. share.ends) shares) where
-    pub their_links : AreLinked network.share network.edges (seen boxes) network.capacity
+    pub their_links : AreLinked network.share network.edges (boxes_seen boxes) network.capacity
     their_links = subst (λ b. AreLinked network.share network.edges b network.capacity) (sym (seen_is shares boxes taken)) linked
 
     pub are_met : (now : List Boxes) (same : length now ≡ length boxes)
@@ -48,12 +48,12 @@ module _ {X : Type 0} {t : Ghosts X} {u : EndsGhosts Boxes} where
         → ((e : ℕ) (w : EdgeOwners) (d : Boxes) → e < length owners → Met (view_of (get_or now (get_or owners e w).writer d)) (view_of (get_or now (get_or owners e w).reader d)) (contents (get_or now (get_or owners e w).writer d)).capacity e)
         → (after : List (Share X Boxes t u)) → numbers_of after ≡ numbers_of shares → nodes_in after ≡ nodes_in shares → map (λ share. share.ends) after ≡ now → AreFed after → HaveMetSince network shares after
     are_met now same kept places joined met after numbers nodes ends fed =
-        let is : seen now ≡ boxes_of after = seen_is after now (sym ends) in
+        let is : boxes_seen now ≡ boxes_of after = seen_is after now (sym ends) in
         record {
           numbers = numbers;
           nodes = nodes;
           fed = fed;
           traffic = subst (λ b. NothingMoved (length b) b (boxes_of after)) (seen_is shares boxes taken)
-              (subst (λ b. NothingMoved (length (seen boxes)) (seen boxes) b) is (nothing_moved network.share network.edges owners are boxes network.capacity their_links now same kept places joined met));
+              (subst (λ b. NothingMoved (length (boxes_seen boxes)) (boxes_seen boxes) b) is (nothing_moved network.share network.edges owners are boxes network.capacity their_links now same kept places joined met));
           met = subst (λ b. BoxesHaveMet network.share network.edges b network.capacity) is (have_met network.share network.edges owners are boxes network.capacity their_links now same kept places joined met);
         }

@@ -25,8 +25,8 @@ pub record AreLinked (share : List ℕ) (edges : List Edge) (boxes : List Conten
   pub capacity : (e : ℕ) → e < length edges → (writer_boxes share edges boxes e).capacity ≡ most
 
 -- what is seen of each of these boxes
-abbrev pub seen : List Boxes → List Contents
-seen boxes = map contents boxes
+abbrev pub boxes_seen : List Boxes → List Contents
+boxes_seen boxes = map contents boxes
 
 module _ {X : Type 0} {t : Ghosts X} {u : EndsGhosts Boxes} where
   -- what is seen of the boxes of each share

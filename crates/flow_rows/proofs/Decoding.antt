@@ -12,16 +12,16 @@ use Rattle.flow_folds.specs.Scalars.{cell_of_scalar, scalar_in}
 use Rattle.flow_folds.specs.ScalarCells.{scalar_in-cell, scalar_in-some}
 use Rattle.flow_values.specs.laws.Kinds.{both_true}
 use Rattle.flow_rows.specs.Lists.{bind, each}
-use Rattle.flow_rows.specs.Decoded.{one_more, numbers, truth_in, integer_in, value_in, truths, integers, scalars, units, items}
+use Rattle.flow_rows.specs.Decoded.{one_in_segment, numbers, truth_in, integer_in, value_in, truths, integers, scalars, units, items_of_kind}
 use Rattle.flow_rows.proofs.Options.{bind_gives, map_gives, only_if_gives, only_if_true, some_same, each_forth, each_back}
 
 -- numbers
 
 numbers_elements : (n : ℕ) (xs : List Cell) → numbers (elements n (T ∷ xs)) ≡ option_map (λ ns. n ∷ ns) (numbers xs)
 numbers_elements zero xs = refl
-numbers_elements (suc n) xs = ap (λ o. bind o one_more) (numbers_elements n xs) ∙ go (numbers xs)
+numbers_elements (suc n) xs = ap (λ o. bind o one_in_segment) (numbers_elements n xs) ∙ go (numbers xs)
   where
-    go : (o : Option (List ℕ)) → bind (option_map (λ ns. n ∷ ns) o) one_more ≡ option_map (λ ns. suc n ∷ ns) o
+    go : (o : Option (List ℕ)) → bind (option_map (λ ns. n ∷ ns) o) one_in_segment ≡ option_map (λ ns. suc n ∷ ns) o
     go None = refl
     go (Some ns) = refl
 
@@ -29,7 +29,7 @@ pub numbers_forth : (ns : List ℕ) → numbers (flags ns) ≡ Some ns
 numbers_forth [] = refl
 numbers_forth (n ∷ ns) = numbers_elements n (flags ns) ∙ ap (option_map (λ ns. n ∷ ns)) (numbers_forth ns)
 
-more_back : (xs : List Cell) (ms ns : List ℕ) → xs ≡ flags ms → one_more ms ≡ Some ns → F ∷ xs ≡ flags ns
+more_back : (xs : List Cell) (ms ns : List ℕ) → xs ≡ flags ms → one_in_segment ms ≡ Some ns → F ∷ xs ≡ flags ns
 more_back xs [] ns is e = absurd (cc)
 more_back xs (m ∷ ms) ns is e = let same : suc m ∷ ms ≡ ns = cc in ap (λ l. F ∷ l) is ∙ ap flags same
 
@@ -38,7 +38,7 @@ numbers_back [] ns e = let same : [] ≡ ns = cc in ap flags same
 numbers_back (flag true ∷ xs) ns e =
     let g = map_gives (λ ns. zero ∷ ns) (numbers xs) e in
     ap (λ l. T ∷ l) (numbers_back xs g.0 g.1) ∙ ap flags (sym g.2)
-numbers_back (flag false ∷ xs) ns e = let g = bind_gives (numbers xs) one_more e in more_back xs g.0 ns (numbers_back xs g.0 g.1) g.2
+numbers_back (flag false ∷ xs) ns e = let g = bind_gives (numbers xs) one_in_segment e in more_back xs g.0 ns (numbers_back xs g.0 g.1) g.2
 numbers_back (unit ∷ xs) ns e = absurd (cc)
 numbers_back (int n ∷ xs) ns e = absurd (cc)
 numbers_back (datum v ∷ xs) ns e = absurd (cc)
@@ -114,10 +114,10 @@ all_of_back kind (x ∷ xs) e =
     let both = both_true (is_of kind x) (list_all (is_of kind) xs) e in
     (both.0, all_of_back kind xs both.1)
 
-pub items_forth : (kind : Kind) (xs : List Cell) → AllOf kind xs → items kind xs ≡ Some xs
+pub items_forth : (kind : Kind) (xs : List Cell) → AllOf kind xs → items_of_kind kind xs ≡ Some xs
 items_forth kind xs h = only_if_true (list_all (is_of kind) xs) xs (all_of_forth kind xs h)
 
-pub items_back : (kind : Kind) (xs ys : List Cell) → items kind xs ≡ Some ys → (xs ≡ ys) × AllOf kind ys
+pub items_back : (kind : Kind) (xs ys : List Cell) → items_of_kind kind xs ≡ Some ys → (xs ≡ ys) × AllOf kind ys
 items_back kind xs ys e =
     let g = only_if_gives (list_all (is_of kind) xs) xs e in
     (sym g.1, subst (AllOf kind) (sym g.1) (all_of_back kind xs g.0))

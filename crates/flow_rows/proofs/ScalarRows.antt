@@ -26,7 +26,7 @@ use Rattle.flow_folds.specs.ScalarCells.{scalar_in-cell}
 use Rattle.flow_scalar.specs.Rows.{SourceRow, const_reads, const_writes, ConstRow, UnaryCase, unary_reads, unary_writes, UnaryRow, BinaryCase, binary_reads, binary_writes, BinaryRow, ForkRow, SinkRow, iota_reads, iota_writes, IotaRow, units_of_reads, units_of_writes, UnitsOfRow}
 use Rattle.flow_folds.specs.Rows.{Scanned, scan_add_reads, scan_add_writes, ScanAddRow, Reduced, reduce_reads, reduce_writes, ReduceRow, LengthRow}
 use Rattle.flow_rows.specs.Lists.{each, paired, cut}
-use Rattle.flow_rows.specs.Decoded.{numbers, integer_in, integers, scalars, truths, units, items}
+use Rattle.flow_rows.specs.Decoded.{numbers, integer_in, integers, scalars, truths, units, items_of_kind}
 use Rattle.flow_rows.specs.Made.{scalar_cells, integer_cells, source_made, const_made, unary_made, binary_made, fork_made, sink_made, natural, iota_made, units_of_made, scan_add_made, reduce_made, length_made}
 use Rattle.flow_rows.specs.RowsAreFunctions.{IsFunction}
 use Rattle.flow_rows.proofs.Options.{bind_gives, map_gives, ok_gives, some_same, each_forth, each_back, paired_map, paired_back, cut_forth, cut_back, lengths_map, map_map, map_joined}
@@ -106,7 +106,7 @@ pub fork_row : (kind : Kind) (outputs : ℕ) → IsFunction (ForkRow kind output
 fork_row kind outputs i o = (
   λ h. rw (items_forth kind (i 0) h.0) (ap Some (sym (columns_same outputs o (λ _. i 0) h.1 ∙ columns_of_one outputs (i 0)))),
   λ e.
-      let g = map_gives (λ xs. replicate outputs xs) (items kind (i 0)) e in
+      let g = map_gives (λ xs. replicate outputs xs) (items_of_kind kind (i 0)) e in
       let k = items_back kind (i 0) g.0 g.1 in
       let all : columns outputs o ≡ columns outputs (λ _. i 0) = g.2 ∙ ap (replicate outputs) (sym k.0) ∙ sym (columns_of_one outputs (i 0)) in
       (subst (AllOf kind) (sym k.0) k.1, λ q lt. sym (column_is outputs o q lt) ∙ ap (λ cs. each_port cs q) all ∙ column_is outputs (λ _. i 0) q lt),
@@ -118,7 +118,7 @@ pub sink_row : (kind : Kind) → IsFunction (λ i _. SinkRow kind (i 0)) (sink_m
 sink_row kind i o = (
   λ h. rw (items_forth kind (i 0) h) refl,
   λ e.
-      let g = map_gives (λ xs. []) (items kind (i 0)) e in
+      let g = map_gives (λ xs. []) (items_of_kind kind (i 0)) e in
       let k = items_back kind (i 0) g.0 g.1 in
       subst (AllOf kind) (sym k.0) k.1,
 )

@@ -10,7 +10,7 @@ use Rattle.flow_base.specs.Ranges.{AllOf}
 use Rattle.flow_base.specs.Columns.{Columns}
 use Rattle.flow_segment.specs.Rows.{repeated, DistRow, Pairs, pair_items, pack_reads, items_kept, PackRow, Sides, lefts, rights, alternated, AllOfSides, interleave_reads, InterleaveRow}
 use Rattle.flow_rows.specs.Lists.{paired, copied, dist, kept}
-use Rattle.flow_rows.specs.Decoded.{numbers, truth_in, truths, items}
+use Rattle.flow_rows.specs.Decoded.{numbers, truth_in, truths, items_of_kind}
 use Rattle.flow_rows.specs.Made.{dist_made, pack_made, interleave_made}
 use Rattle.flow_rows.specs.RowsAreFunctions.{IsFunction}
 use Rattle.flow_rows.proofs.Options.{bind_gives, map_gives, each_forth, paired_forth, paired_back, interleave_forth, interleave_back, map_map}
@@ -53,7 +53,7 @@ dist_from kind a f r row =
 dist_to : (kind : Kind) (a f r : List Cell) → dist_made kind (a ∷ f ∷ []) ≡ Some (r ∷ []) → DistRow kind a f r
 dist_to kind a f r e =
     let s0 = map_gives _ _ e in
-    let s1 = bind_gives (items kind a) _ s0.1 in
+    let s1 = bind_gives (items_of_kind kind a) _ s0.1 in
     let s2 = bind_gives (numbers f) _ s1.2 in
     let g = dist_back s2.0 s1.0 s0.0 s2.2 in
     let k = items_back kind a s1.0 s1.1 in
@@ -85,7 +85,7 @@ pack_back : (kind : Kind) (b a : List Cell) (o : Columns) → pack_made kind (b 
 pack_back kind b a o e =
     let s0 = map_gives _ _ e in
     let s1 = bind_gives (truths b) _ s0.1 in
-    let s2 = bind_gives (items kind a) _ s1.2 in
+    let s2 = bind_gives (items_of_kind kind a) _ s1.2 in
     let s3 = map_gives kept (paired s1.0 s2.0) s2.2 in
     let p = paired_back s1.0 s2.0 s3.0 s3.1 in
     let k = items_back kind a s2.0 s2.1 in
@@ -132,8 +132,8 @@ interleave_row_back kind f g a b o e =
     let s0 = map_gives _ _ e in
     let s1 = bind_gives (numbers f) _ s0.1 in
     let s2 = bind_gives (numbers g) _ s1.2 in
-    let s3 = bind_gives (items kind a) _ s2.2 in
-    let s4 = bind_gives (items kind b) _ s3.2 in
+    let s3 = bind_gives (items_of_kind kind a) _ s2.2 in
+    let s4 = bind_gives (items_of_kind kind b) _ s3.2 in
     let h = interleave_back s1.0 s2.0 s3.0 s4.0 s0.0 s4.2 in
     let k = items_back kind a s3.0 s3.1 in
     let l = items_back kind b s4.0 s4.1 in

@@ -13,15 +13,15 @@ use Rattle.flow_values.specs.Flats.{width}
 use Rattle.flow_rows.specs.Lists.{bind, only_if, each, paired, cut}
 
 -- one element more in the first segment
-abbrev pub one_more : List ℕ → Option (List ℕ)
-one_more [] = None
-one_more (n ∷ ns) = Some (suc n ∷ ns)
+abbrev pub one_in_segment : List ℕ → Option (List ℕ)
+one_in_segment [] = None
+one_in_segment (n ∷ ns) = Some (suc n ∷ ns)
 
 -- the numbers whose flags these are: T is a segment of no more elements, and F one element more of the segment after it
 abbrev pub numbers : List Cell → Option (List ℕ)
 numbers [] = Some []
 numbers (flag true ∷ xs) = option_map (λ ns. zero ∷ ns) (numbers xs)
-numbers (flag false ∷ xs) = bind (numbers xs) one_more
+numbers (flag false ∷ xs) = bind (numbers xs) one_in_segment
 numbers _ = None
 
 -- what single cells carry
@@ -56,8 +56,8 @@ units (unit ∷ xs) = option_map suc (units xs)
 units _ = None
 
 -- the cells themselves, where all are of the kind
-abbrev pub items : Kind → List Cell → Option (List Cell)
-items kind xs = only_if (list_all (is_of kind) xs) xs
+abbrev pub items_of_kind : Kind → List Cell → Option (List Cell)
+items_of_kind kind xs = only_if (list_all (is_of kind) xs) xs
 
 -- the value, where it is of the type
 abbrev pub of_type : Ty → Value → Option Value

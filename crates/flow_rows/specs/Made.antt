@@ -21,7 +21,7 @@ use Rattle.flow_segment.specs.Rows.{one_if}
 use Rattle.flow_values.specs.Flats.{width, flat}
 use Rattle.flow_values.specs.Rows.{element_at}
 use Rattle.flow_rows.specs.Lists.{bind, only_if, each, same_lists, paired, cut, dist, pack, interleave, concat_flags, append_flags}
-use Rattle.flow_rows.specs.Decoded.{numbers, truths, integers, scalars, units, items, grouped, values}
+use Rattle.flow_rows.specs.Decoded.{numbers, truths, integers, scalars, units, items_of_kind, grouped, values}
 
 -- one column, made of what there is
 abbrev pub one : {A : Type 0} → (A → List Cell) → Option A → Option Columns
@@ -63,12 +63,12 @@ binary_made dialect op _ = None
 
 -- items of the kind, to so many outputs
 abbrev pub fork_made : Kind → ℕ → Columns → Option Columns
-fork_made kind outputs (a ∷ []) = option_map (λ xs. replicate outputs xs) (items kind a)
+fork_made kind outputs (a ∷ []) = option_map (λ xs. replicate outputs xs) (items_of_kind kind a)
 fork_made kind outputs _ = None
 
 -- nothing of items of the kind
 abbrev pub sink_made : Kind → Columns → Option Columns
-sink_made kind (a ∷ []) = option_map (λ xs. []) (items kind a)
+sink_made kind (a ∷ []) = option_map (λ xs. []) (items_of_kind kind a)
 sink_made kind _ = None
 
 -- the integer as a number that is not negative
@@ -107,12 +107,12 @@ length_made dialect _ = None
 
 -- each item of the kind as often as its number
 abbrev pub dist_made : Kind → Columns → Option Columns
-dist_made kind (a ∷ f ∷ []) = one (λ r. r) (bind (items kind a) (λ xs. bind (numbers f) (λ ns. dist ns xs)))
+dist_made kind (a ∷ f ∷ []) = one (λ r. r) (bind (items_of_kind kind a) (λ xs. bind (numbers f) (λ ns. dist ns xs)))
 dist_made kind _ = None
 
 -- the items of the kind whose truth values are true
 abbrev pub pack_made : Kind → Columns → Option Columns
-pack_made kind (b ∷ a ∷ []) = one (λ r. r) (bind (truths b) (λ bs. bind (items kind a) (λ xs. pack bs xs)))
+pack_made kind (b ∷ a ∷ []) = one (λ r. r) (bind (truths b) (λ bs. bind (items_of_kind kind a) (λ xs. pack bs xs)))
 pack_made kind _ = None
 
 -- flags of the numbers whose truth values are true
@@ -157,7 +157,7 @@ append_flags_made _ = None
 -- the groups of both lists of items of the kind, taken alternately
 abbrev pub interleave_made : Kind → Columns → Option Columns
 interleave_made kind (f ∷ g ∷ a ∷ b ∷ []) =
-    one (λ r. r) (bind (numbers f) (λ ns. bind (numbers g) (λ ms. bind (items kind a) (λ xs. bind (items kind b) (λ ys. interleave ns ms xs ys)))))
+    one (λ r. r) (bind (numbers f) (λ ns. bind (numbers g) (λ ms. bind (items_of_kind kind a) (λ xs. bind (items_of_kind kind b) (λ ys. interleave ns ms xs ys)))))
 interleave_made kind _ = None
 
 -- flags of the groups of both lists of numbers, taken alternately

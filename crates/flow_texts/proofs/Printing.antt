@@ -18,7 +18,7 @@ use Rattle.flow_base.specs.Sums.{sum_does}
 use Rattle.flow_values.specs.Shapes.{is_a}
 use Rattle.flow_values.specs.Flats.{width, flat}
 use Rattle.flow_values.specs.PrintMachine.{print_opening, print_behaviour}
-use Rattle.flow_values.specs.laws.Print.{Printed, prints_text}
+use Rattle.flow_values.specs.laws.Print.{PrintedValue, prints_text}
 use Rattle.flow_rows.proofs.ValueDecoding.{all_cons, laid_injective}
 use Rattle.flow_nodes.specs.StreamNodes.{a_source, a_print, member, node_behaviour, text_in}
 use Rattle.flow_graph.specs.declared.edge.Edge.{Edge}
@@ -64,7 +64,7 @@ module _ (states : List NodeState) (edges : List Edge) (is_net : IsNetwork node_
         subst (λ s. Does node_behaviour.process s r.history (c.state k)) (opening_is k l ∙ is) r.does in
         let d = sum_does a_source (λ t. (member t).behaviour) a_print r.history (print_opening ty at) (c.state k) does in
         let ended : print_behaviour.process.want d.0 ≡ Ended = subst (λ s. node_behaviour.process.want s ≡ Ended) d.1 (all.ended k l) in
-        let printed : Printed ty (λ p. reads p r.history) d.0.text = prints_text (print_opening ty at) refl r.history d.0 d.2 ended in
+        let printed : PrintedValue ty (λ p. reads p r.history) d.0.text = prints_text (print_opening ty at) refl r.history d.0 d.2 ended in
         let ports : inputs_at node_behaviour states k ≡ width ty = get_or-map node_behaviour.inputs states k node_behaviour.sample 0 l ∙ ap node_behaviour.inputs is in
         record {
           value = printed.value;

@@ -21,7 +21,7 @@ use Rattle.flow_values.specs.Flats.{width}
 use Rattle.flow_values.specs.Parts.{built, and_then, with_first, part_fits, PartsFit}
 use Rattle.flow_values.specs.laws.PartFits.{part_kind, in_first, in_second, get_left, get_right}
 use Rattle.flow_base.specs.Machines.{state_after_read, with_parameters}
-use Rattle.flow_values.specs.TabMachine.{TabState, Makes, at_flag, at_item, closed, grown, item_given, item_port, tab_move}
+use Rattle.flow_values.specs.TabMachine.{TabState, MakesDatum, at_flag, at_item, with_element, grown, item_given, item_port, tab_move}
 
 -- one more item that fits after those that do
 pub parts_more : (ty : Ty) (got : List Cell) (x : Cell) → PartsFit ty got → part_fits ty (length got) x ≡ true → PartsFit ty (got ++ x ∷ [])
@@ -127,23 +127,23 @@ module _ (ty : Ty) (es : List Value) (got : List Cell) (fit : PartsFit ty got) (
   grows =
       let outside : nat_lt (length got) (width ty) ≡ false = grind (arith, nat_tests, le) in
       let h = parts_made ty got fit le in
-      (h.0, ap (λ b. cond b (Ok (at_item es got)) (closed es (built ty got))) outside ∙ ap (closed es) h.1)
+      (h.0, ap (λ b. cond b (Ok (at_item es got)) (with_element es (built ty got))) outside ∙ ap (with_element es) h.1)
 
   pub refused_grows : Takes (with_parameters ty (grown ty es got)) old (Err OutOfMemory) new
   refused_grows = subst (λ r. Takes (with_parameters ty r) old (Err OutOfMemory) new) (sym grows.1) same
 
-  pub stopped_grows : (e : Stop) (items : List Item) → Makes (built ty got) (Err e) items → Takes (with_parameters ty (grown ty es got)) old (Err e) new
+  pub stopped_grows : (e : Stop) (items : List Item) → MakesDatum (built ty got) (Err e) items → Takes (with_parameters ty (grown ty es got)) old (Err e) new
   stopped_grows OutOfMemory items h = refused_grows
   stopped_grows (Faulted kind) items h =
       let made = parts_made ty got fit le in
-      absurd (subst (λ r. Makes r (Err (Faulted kind)) items) made.1 h)
+      absurd (subst (λ r. MakesDatum r (Err (Faulted kind)) items) made.1 h)
 
   -- the same of what a `?` passes on
   pub refused_answer : (r : Result (Unit {0}) Stop) → IsErrAnd r (λ e. e ≡ OutOfMemory) → Takes (with_parameters ty (grown ty es got)) old r new
   refused_answer (Ok u) h = absurd h
   refused_answer (Err e) h = subst (λ e. Takes (with_parameters ty (grown ty es got)) old (Err e) new) (sym h) refused_grows
 
-  pub stopped_answer : (r : Result (Unit {0}) Stop) (e : Stop) (items : List Item) → Makes (built ty got) (Err e) items → IsErrAnd r (λ d. d ≡ e) → Takes (with_parameters ty (grown ty es got)) old r new
+  pub stopped_answer : (r : Result (Unit {0}) Stop) (e : Stop) (items : List Item) → MakesDatum (built ty got) (Err e) items → IsErrAnd r (λ d. d ≡ e) → Takes (with_parameters ty (grown ty es got)) old r new
   stopped_answer (Ok u) e items h is = absurd is
   stopped_answer (Err d) e items h is = subst (λ d. Takes (with_parameters ty (grown ty es got)) old (Err d) new) (sym is) (stopped_grows e items h)
 
@@ -165,7 +165,7 @@ refused_item ty es got x fit next old new same =
     subst (λ r. Takes (with_parameters ty r) old (Err OutOfMemory) new) (sym led) (elim (cases_lt (length (got ++ x ∷ [])) (width ty)) [
       | inl more ↦
           let further : nat_lt (length (got ++ x ∷ [])) (width ty) ≡ true = grind (arith, nat_tests, more) in
-          subst (λ b. Takes (with_parameters ty (cond b (Ok (at_item es (got ++ x ∷ []))) (closed es (built ty (got ++ x ∷ []))))) old (Err OutOfMemory) new) (sym further) same
+          subst (λ b. Takes (with_parameters ty (cond b (Ok (at_item es (got ++ x ∷ []))) (with_element es (built ty (got ++ x ∷ []))))) old (Err OutOfMemory) new) (sym further) same
       | inr le ↦ refused_grows ty es (got ++ x ∷ []) (parts_more ty got x fit next) le old new same
     ])
 

@@ -12,15 +12,15 @@ use Rattle.flow_base.specs.declared.worker.Stop.{Stop}
 use Rattle.flow_base.specs.declared.worker.Stop.TheVariants.{Faulted as Stopped, OutOfMemory}
 use Rattle.flow_values.specs.Shapes.{kinds_of, is_a, kind_at}
 use Rattle.flow_values.specs.Flats.{width}
-use Rattle.flow_values.specs.Places.{Fits}
-use Rattle.flow_values.specs.PrintMachine.{closes, Pending, whole, Reading, reading, entered, next, checked, port_of, print_stage, print_state, want_at, read_at, memory_at, print_behaviour}
-use Rattle.flow_values.specs.Aheads.{pending_of, stack, Leads, Finds, Reaches, found, stage_in, state_in}
+use Rattle.flow_values.specs.Places.{PortsFit}
+use Rattle.flow_values.specs.PrintMachine.{closing_brackets, Pending, whole, PrintReading, reading, entered_value, next, checked, port_of, print_stage, print_state, want_at, read_at, memory_at, print_behaviour}
+use Rattle.flow_values.specs.Aheads.{pending_of, stack, LeadsAhead, Finds, Reaches, where_led, stage_in, state_in}
 use Rattle.flow_values.specs.declared.pending.Pending.{Pending as PendingInMemory}
 use Rattle.flow_values.specs.declared.ahead.Ahead.{Ahead}
 
-pub closes-more : (c : ℕ) → closes (c + 1) ≡ closes c ++ codes ")"
+pub closes-more : (c : ℕ) → closing_brackets (c + 1) ≡ closing_brackets c ++ codes ")"
 closes-more zero = refl
-closes-more (suc c) = let e : suc c + 1 ≡ suc (c + 1) = omega arith in ap closes e ∙ ap (λ l. codes ")" ++ l) (closes-more c)
+closes-more (suc c) = let e : suc c + 1 ≡ suc (c + 1) = omega arith in ap closing_brackets e ∙ ap (λ l. codes ")" ++ l) (closes-more c)
 
 pub stack-append : (xs ys : List PendingInMemory) (after : List Pending) → stack (xs ++ ys) after ≡ stack ys (stack xs after)
 stack-append [] ys after = refl
@@ -44,7 +44,7 @@ some_edge (pair first second) = let size = length-append (kinds_of first) (kinds
 some_edge (seq item) = omega arith
 
 -- where the edges of a pair are, those of its parts are
-pub second_fits : (first second : Ty) (p c : ℕ) → Fits (pair first second) p c → Fits second (p + width first) (c + 1)
+pub second_fits : (first second : Ty) (p c : ℕ) → PortsFit (pair first second) p c → PortsFit second (p + width first) (c + 1)
 second_fits first second p c h =
     let size = length-append (kinds_of first) (kinds_of second) in
     let some = some_edge first in
@@ -52,14 +52,14 @@ second_fits first second p c h =
     let b = h.1 in
     (omega (arith, size, a), omega (arith, size, some, b))
 
-pub bracket_fits : (ty : Ty) (p c : ℕ) → Fits ty p c → c + 1 < 2 ^ 64
+pub bracket_fits : (ty : Ty) (p c : ℕ) → PortsFit ty p c → c + 1 < 2 ^ 64
 bracket_fits ty p c h = let some = some_edge ty in let b = h.1 in omega (arith, some, b)
 
 -- an item that goes to the first of a pair
 module _ (first second : Ty) (p c : ℕ) (x : Cell) (old between new : Ahead) (start : List PendingInMemory) (y : PendingInMemory) (said : between.text.items ≡ old.text.items ++ codes "(") (same : start ≡ old.pending.items) (there : between.pending.items ≡ start ++ y ∷ []) (is : pending_of y ≡ whole true second (p + width first) (suc c)) where
-  pub leads_pair : (r : Result (Unit {0}) Stop) → Leads (entered first p 0 x) r between new → Leads (entered (pair first second) p c x) r old new
+  pub leads_pair : (r : Result (Unit {0}) Stop) → LeadsAhead (entered_value first p 0 x) r between new → LeadsAhead (entered_value (pair first second) p c x) r old new
   leads_pair (Ok u) h =
-      λ after. ap₂ (λ a b. entered first p 0 x a b)
+      λ after. ap₂ (λ a b. entered_value first p 0 x a b)
       (sym (one_next start between.pending.items y (whole true second (p + width first) (suc c)) after there is ∙ ap (λ l. whole true second (p + width first) (suc c) ∷ stack l after) same))
       (sym said)
       ∙ h after
@@ -67,18 +67,18 @@ module _ (first second : Ty) (p c : ℕ) (x : Cell) (old between new : Ahead) (s
   leads_pair (Err OutOfMemory) h = tt
 
 -- the same after another text
-abbrev in_front : List ℕ → Option Reading → Option Reading
+abbrev in_front : List ℕ → Option PrintReading → Option PrintReading
 in_front u None = None
 in_front u (Some r) = Some (reading r.pending (u ++ r.text))
 
-front-cond : (u : List ℕ) (b : Bool) (r : Reading) → cond b (Some (reading r.pending (u ++ r.text))) None ≡ in_front u (cond b (Some r) None)
+front-cond : (u : List ℕ) (b : Bool) (r : PrintReading) → cond b (Some (reading r.pending (u ++ r.text))) None ≡ in_front u (cond b (Some r) None)
 front-cond u true r = refl
 front-cond u false r = refl
 
 said_behind : (u v w : List ℕ) (after : List Pending) → Some (reading after ((u ++ v) ++ w)) ≡ Some (reading after (u ++ (v ++ w)))
 said_behind u v w after = ap (λ l. Some (reading after l)) (append_assoc u v w)
 
-entered_behind : (ty : Ty) (p c : ℕ) (x : Cell) (after : List Pending) (u v : List ℕ) → entered ty p c x after (u ++ v) ≡ in_front u (entered ty p c x after v)
+entered_behind : (ty : Ty) (p c : ℕ) (x : Cell) (after : List Pending) (u v : List ℕ) → entered_value ty p c x after (u ++ v) ≡ in_front u (entered_value ty p c x after v)
 entered_behind int p c (int_cell n) after u v = said_behind u v _ after
 entered_behind int p c _ after u v = refl
 entered_behind bool p c (flag true) after u v = said_behind u v _ after
@@ -86,17 +86,17 @@ entered_behind bool p c (flag false) after u v = said_behind u v _ after
 entered_behind bool p c _ after u v = refl
 entered_behind (vec item) p c (datum a) after u v = ap (λ l. cond (is_a (vec item) a) (Some (reading after l)) None) (append_assoc u v _) ∙ front-cond u (is_a (vec item) a) (reading after _)
 entered_behind (vec item) p c _ after u v = refl
-entered_behind (pair first second) p c x after u v = ap (entered first p 0 x _) (append_assoc u v (codes "(")) ∙ entered_behind first p 0 x _ u (v ++ codes "(")
+entered_behind (pair first second) p c x after u v = ap (entered_value first p 0 x _) (append_assoc u v (codes "(")) ∙ entered_behind first p 0 x _ u (v ++ codes "(")
 entered_behind (seq item) p c (flag false) after u v = said_behind u v _ _
 entered_behind (seq item) p c (flag true) after u v = said_behind u v _ _
 entered_behind (seq item) p c _ after u v = refl
 
 -- what leads from no text leads from any
-pub finds_entered : (ty : Ty) (p c : ℕ) (x : Cell) (said : List ℕ) (old new : Ahead) → old.pending.items ≡ [] → old.text.items ≡ said → ((after : List Pending) → entered ty p c x (stack old.pending.items after) old.text.items ≡ Some (reading (stack new.pending.items after) new.text.items)) →
-    (after : List Pending) (before : List ℕ) → entered ty p c x after (before ++ said) ≡ Some (reading (stack new.pending.items after) (before ++ new.text.items))
+pub finds_entered : (ty : Ty) (p c : ℕ) (x : Cell) (said : List ℕ) (old new : Ahead) → old.pending.items ≡ [] → old.text.items ≡ said → ((after : List Pending) → entered_value ty p c x (stack old.pending.items after) old.text.items ≡ Some (reading (stack new.pending.items after) new.text.items)) →
+    (after : List Pending) (before : List ℕ) → entered_value ty p c x after (before ++ said) ≡ Some (reading (stack new.pending.items after) (before ++ new.text.items))
 finds_entered ty p c x said old new none is leads after before =
     entered_behind ty p c x after before said
-    ∙ ap (in_front before) (ap₂ (λ l u. entered ty p c x (stack l after) u) (sym none) (sym is) ∙ leads after)
+    ∙ ap (in_front before) (ap₂ (λ l u. entered_value ty p c x (stack l after) u) (sym none) (sym is) ∙ leads after)
 
 -- the last of a list that has one
 last_at : {A : Type 0} (n : ℕ) (xs : List A) (x : A) → length xs ≡ suc n → slice_get xs n ≡ Some x → (rest : List A) × (xs ≡ rest ++ x ∷ [])
@@ -165,13 +165,13 @@ wants_fault ty pending text port stuck at x n p free e size is le =
 
 -- where an item leads that is given to the last
 pub found_last : (ty : Ty) (pending : List PendingInMemory) (text : List ℕ) (port : ℕ) (stuck : Bool) (at : ℕ) (x : PendingInMemory) (free : stuck ≡ false) (e : slice_get pending (length pending - 1) ≡ Some x) (c : Cell) →
-    found (stage_in stuck port (stack pending [])) (state_in ty pending text port stuck at) c ≡ checked (is_of (kind_at (kinds_of ty) (port_of (pending_of x))) c) (next (pending_of x) c (stack (last_of pending x e).0 []) text)
+    where_led (stage_in stuck port (stack pending [])) (state_in ty pending text port stuck at) c ≡ checked (is_of (kind_at (kinds_of ty) (port_of (pending_of x))) c) (next (pending_of x) c (stack (last_of pending x e).0 []) text)
 found_last ty pending text port stuck at x free e c =
-    ap₂ (λ b l. found (stage_in b port l) (print_state ty (stage_in b port l) text at) c) free (stack_last pending x e)
+    ap₂ (λ b l. where_led (stage_in b port l) (print_state ty (stage_in b port l) text at) c) free (stack_last pending x e)
 
 -- an item of another kind than the port's leads nowhere
 pub found_none : (ty : Ty) (pending : List PendingInMemory) (text : List ℕ) (port : ℕ) (stuck : Bool) (at : ℕ) (x : PendingInMemory) → stuck ≡ false → slice_get pending (length pending - 1) ≡ Some x → (c : Cell) →
-    is_of (kind_at (kinds_of ty) (port_of (pending_of x))) c ≡ false → found (stage_in stuck port (stack pending [])) (state_in ty pending text port stuck at) c ≡ None
+    is_of (kind_at (kinds_of ty) (port_of (pending_of x))) c ≡ false → where_led (stage_in stuck port (stack pending [])) (state_in ty pending text port stuck at) c ≡ None
 found_none ty pending text port stuck at x free e c other = found_last ty pending text port stuck at x free e c ∙ ap (λ b. checked b (next (pending_of x) c (stack (last_of pending x e).0 []) text)) other
 
 not_empty : {A : Type 0} (xs rest : List A) (x : A) → xs ≡ rest ++ x ∷ [] → xs ≡ [] → ⊥
@@ -183,16 +183,16 @@ not_empty xs rest x e none = go rest (sym none ∙ e)
 
 -- what was found ahead of the last is where the item leads
 pub found_ahead : (ty : Ty) (pending : List PendingInMemory) (text : List ℕ) (port : ℕ) (stuck : Bool) (at : ℕ) (x : PendingInMemory) → stuck ≡ false → slice_get pending (length pending - 1) ≡ Some x → (c : Cell) →
-    is_of (kind_at (kinds_of ty) (port_of (pending_of x))) c ≡ true → (result : Result Ahead Stop) → Finds (next (pending_of x) c) result → Reaches (found (stage_in stuck port (stack pending [])) (state_in ty pending text port stuck at) c) pending text result
+    is_of (kind_at (kinds_of ty) (port_of (pending_of x))) c ≡ true → (result : Result Ahead Stop) → Finds (next (pending_of x) c) result → Reaches (where_led (stage_in stuck port (stack pending [])) (state_in ty pending text port stuck at) c) pending text result
 found_ahead ty pending text port stuck at x free e c fits result finds = go result finds
   where
     rest : List PendingInMemory
     rest = (last_of pending x e).0
 
-    there : found (stage_in stuck port (stack pending [])) (state_in ty pending text port stuck at) c ≡ next (pending_of x) c (stack (last_of pending x e).0 []) text
+    there : where_led (stage_in stuck port (stack pending [])) (state_in ty pending text port stuck at) c ≡ next (pending_of x) c (stack (last_of pending x e).0 []) text
     there = found_last ty pending text port stuck at x free e c ∙ ap (λ b. checked b (next (pending_of x) c (stack (last_of pending x e).0 []) text)) fits
 
-    go : (result : Result Ahead Stop) → Finds (next (pending_of x) c) result → Reaches (found (stage_in stuck port (stack pending [])) (state_in ty pending text port stuck at) c) pending text result
+    go : (result : Result Ahead Stop) → Finds (next (pending_of x) c) result → Reaches (where_led (stage_in stuck port (stack pending [])) (state_in ty pending text port stuck at) c) pending text result
     go (Ok ahead) h = ((last_of pending x e).0, x, (last_of pending x e).1, there ∙ h (stack (last_of pending x e).0 []) text)
     go (Err (Stopped kind)) h = there ∙ h.1 (stack (last_of pending x e).0 []) text
     go (Err OutOfMemory) h = not_empty pending (last_of pending x e).0 x (last_of pending x e).1
@@ -231,5 +231,5 @@ no_more_ends ty pending text port stuck at n p none size le e =
     absurd (cc)
 
 -- memory is refused only where something is still to be read
-pub refused : (there : Option Reading) (pending : List PendingInMemory) (text : List ℕ) (e : Stop) → e ≡ OutOfMemory → Reaches there pending text (Err e) → pending ≡ [] → ⊥
+pub refused : (there : Option PrintReading) (pending : List PendingInMemory) (text : List ℕ) (e : Stop) → e ≡ OutOfMemory → Reaches there pending text (Err e) → pending ≡ [] → ⊥
 refused there pending text e is h = subst (λ e. Reaches there pending text (Err e)) is h

@@ -10,7 +10,7 @@ use Rattle.flow_base.specs.Flags.{F, T}
 use Rattle.flow_base.specs.Ranges.{CellInRange}
 use Rattle.flow_base.specs.Segments.{concatenation_by}
 use Rattle.flow_values.specs.Shapes.{cell_for, first_of, second_of, elements_of, kind_at}
-use Rattle.flow_values.specs.Flats.{nothing, width}
+use Rattle.flow_values.specs.Flats.{no_cells, width}
 use Rattle.flow_values.specs.declared.dues.Due.{Due}
 
 -- What a due item carries, and the number of the output that it goes to.
@@ -44,9 +44,9 @@ abbrev pub output_of : ℕ → ℕ → ℕ
 output_of outputs port = cond (nat_lt port outputs) port 0
 
 -- the due items of each of so many outputs
-abbrev pub items_at : ℕ → List DueCell → Lists Cell
-items_at outputs [] = nothing
-items_at outputs (d ∷ ds) = push (output_of outputs d.port) d.cell (items_at outputs ds)
+abbrev pub due_items_at : ℕ → List DueCell → Lists Cell
+due_items_at outputs [] = no_cells
+due_items_at outputs (d ∷ ds) = push (output_of outputs d.port) d.cell (due_items_at outputs ds)
 
 -- each due item is of the kind of its output
 abbrev pub DuesOfKind : List Kind → List DueCell → Type 0

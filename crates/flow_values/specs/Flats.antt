@@ -9,8 +9,8 @@ use Rattle.flow_base.specs.Segments.{concatenation_by}
 use Rattle.flow_values.specs.Shapes.{kinds_of, cell_for, first_of, second_of, elements_of}
 
 -- nothing at any port
-abbrev pub nothing : {A : Type 0} → Lists A
-nothing _ = []
+abbrev pub no_cells : {A : Type 0} → Lists A
+no_cells _ = []
 
 -- the list at this port, and nothing at others
 abbrev pub only_at : {A : Type 0} → ℕ → List A → Lists A

@@ -15,14 +15,14 @@ use Rattle.flow_values.specs.Flats.{width}
 use Rattle.flow_values.specs.Rows.{PrintRow}
 
 -- c closing brackets
-abbrev pub closes : ℕ → List ℕ
-closes zero = []
-closes (suc c) = codes ")" ++ closes c
+abbrev pub closing_brackets : ℕ → List ℕ
+closing_brackets zero = []
+closing_brackets (suc c) = codes ")" ++ closing_brackets c
 
 -- a comma, or none
-abbrev pub comma : Bool → List ℕ
-comma true = codes ","
-comma false = []
+abbrev pub comma_if : Bool → List ℕ
+comma_if true = codes ","
+comma_if false = []
 
 -- What is still to be read of a value.
 pub data Pending : Type 0 where
@@ -37,33 +37,33 @@ port_of (whole behind ty p c) = p
 port_of (further ty p c) = p
 
 -- What is still to be read, and the text so far.
-pub record Reading : Type 0 where
+pub record PrintReading : Type 0 where
   pub pending : List Pending
   pub text : List ℕ
 
-abbrev pub reading : List Pending → List ℕ → Reading
+abbrev pub reading : List Pending → List ℕ → PrintReading
 reading pending text = record { pending = pending; text = text }
 
 -- where the first item of a value leads, if it is one: what comes after the value, and the text before it
-abbrev pub entered : Ty → ℕ → ℕ → Cell → List Pending → List ℕ → Option Reading
-entered int p c (int_cell n) after before = Some (reading after (before ++ (signed_decimal n ++ closes c)))
-entered bool p c (flag true) after before = Some (reading after (before ++ (codes "true" ++ closes c)))
-entered bool p c (flag false) after before = Some (reading after (before ++ (codes "false" ++ closes c)))
-entered (vec item) p c (datum v) after before = cond (is_a (vec item) v) (Some (reading after (before ++ (text v ++ closes c)))) None
-entered (pair first second) p c x after before = entered first p 0 x (whole true second (p + width first) (suc c) ∷ after) (before ++ codes "(")
-entered (seq item) p c (flag false) after before = Some (reading (whole false item (p + 1) 0 ∷ further item p c ∷ after) (before ++ codes "{"))
-entered (seq item) p c (flag true) after before = Some (reading after (before ++ (codes "{}" ++ closes c)))
-entered _ p c x after before = None
+abbrev pub entered_value : Ty → ℕ → ℕ → Cell → List Pending → List ℕ → Option PrintReading
+entered_value int p c (int_cell n) after before = Some (reading after (before ++ (signed_decimal n ++ closing_brackets c)))
+entered_value bool p c (flag true) after before = Some (reading after (before ++ (codes "true" ++ closing_brackets c)))
+entered_value bool p c (flag false) after before = Some (reading after (before ++ (codes "false" ++ closing_brackets c)))
+entered_value (vec item) p c (datum v) after before = cond (is_a (vec item) v) (Some (reading after (before ++ (text v ++ closing_brackets c)))) None
+entered_value (pair first second) p c x after before = entered_value first p 0 x (whole true second (p + width first) (suc c) ∷ after) (before ++ codes "(")
+entered_value (seq item) p c (flag false) after before = Some (reading (whole false item (p + 1) 0 ∷ further item p c ∷ after) (before ++ codes "{"))
+entered_value (seq item) p c (flag true) after before = Some (reading after (before ++ (codes "{}" ++ closing_brackets c)))
+entered_value _ p c x after before = None
 
 -- where a flag between two elements leads
-abbrev pub continued : Ty → ℕ → ℕ → Cell → List Pending → List ℕ → Option Reading
+abbrev pub continued : Ty → ℕ → ℕ → Cell → List Pending → List ℕ → Option PrintReading
 continued item p c (flag false) after before = Some (reading (whole false item (p + 1) 0 ∷ further item p c ∷ after) (before ++ codes ","))
-continued item p c (flag true) after before = Some (reading after (before ++ (codes "}" ++ closes c)))
+continued item p c (flag true) after before = Some (reading after (before ++ (codes "}" ++ closing_brackets c)))
 continued item p c x after before = None
 
 -- where an item leads
-abbrev pub next : Pending → Cell → List Pending → List ℕ → Option Reading
-next (whole behind ty p c) x after before = entered ty p c x after (before ++ comma behind)
+abbrev pub next : Pending → Cell → List Pending → List ℕ → Option PrintReading
+next (whole behind ty p c) x after before = entered_value ty p c x after (before ++ comma_if behind)
 next (further item p c) x after before = continued item p c x after before
 
 -- how far it is: some of the value is to be read, or the end of this input comes next, if there is such an input, or it
@@ -100,12 +100,12 @@ want_at (within first others) s = cond (nat_lt (port_of first) (width s.ty)) (Re
 want_at (closing p) s = cond (nat_lt p (width s.ty)) (Read p) Ended
 want_at stuck s = print_fault s
 
-abbrev pub moved : PrintState → Option Reading → PrintState
+abbrev pub moved : PrintState → Option PrintReading → PrintState
 moved s (Some r) = record s { step = print_stage r.pending; text = r.text }
 moved s None = record s { step = stuck }
 
 -- an item of another kind than the port's leads nowhere
-abbrev pub checked : Bool → Option Reading → Option Reading
+abbrev pub checked : Bool → Option PrintReading → Option PrintReading
 checked true r = r
 checked false r = None
 

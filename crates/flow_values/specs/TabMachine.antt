@@ -45,21 +45,21 @@ abbrev pub flag_taking : Ty → List Value → Taking TabState
 flag_taking ty es = on_flag (cond (is_concrete ty) (Ok (at_item es [])) (Err Shape)) (cond (is_concrete ty) (Ok (at_end es)) (Err Shape))
 
 -- an element that its items make, and no others, is added
-abbrev pub closed : List Value → Built → Result TabState FaultKind
-closed es (Some (e, [])) = Ok (at_flag (es ++ e ∷ []))
-closed es _ = Err Shape
+abbrev pub with_element : List Value → Built → Result TabState FaultKind
+with_element es (Some (e, [])) = Ok (at_flag (es ++ e ∷ []))
+with_element es _ = Err Shape
 
 -- a call answers the value that was made and leaves the items after its own, or there is none and it answers so
-abbrev pub Makes : Built → Result Datum Stop → List Item → Type 0
-Makes (Some (e, rest)) (Ok d) items = (value_of d ≡ e) × (map cell_of items ≡ rest)
-Makes (Some made) (Err (Faulted kind)) items = ⊥
-Makes None (Ok d) items = ⊥
-Makes None (Err (Faulted kind)) items = kind ≡ Shape
-Makes made (Err OutOfMemory) items = Unit {0}
+abbrev pub MakesDatum : Built → Result Datum Stop → List Item → Type 0
+MakesDatum (Some (e, rest)) (Ok d) items = (value_of d ≡ e) × (map cell_of items ≡ rest)
+MakesDatum (Some made) (Err (Faulted kind)) items = ⊥
+MakesDatum None (Ok d) items = ⊥
+MakesDatum None (Err (Faulted kind)) items = kind ≡ Shape
+MakesDatum made (Err OutOfMemory) items = Unit {0}
 
 -- where these items of an element lead: to the next, or they make the element
 abbrev pub grown : Ty → List Value → List Cell → Result TabState FaultKind
-grown ty es got = cond (nat_lt (length got) (width ty)) (Ok (at_item es got)) (closed es (built ty got))
+grown ty es got = cond (nat_lt (length got) (width ty)) (Ok (at_item es got)) (with_element es (built ty got))
 
 -- where the next item of an element leads: it is of the kind and the type of its edge
 abbrev pub item_given : Ty → List Value → List Cell → Cell → Result TabState FaultKind

@@ -3,10 +3,10 @@
 ghost use Rattle.std.specs.Prelude.{◌≡◌, ◌+◌, ◌++◌, [], ◌∷◌, false, true, List, IfOk, OnOk, Result};
 ghost use Rattle.snesl_data.specs.Types.{ty_of, seq};
 ghost use Rattle.flow_messages.specs.Cells.{cell_of};
-ghost use Rattle.flow_values.specs.Places.{Fits};
-ghost use Rattle.flow_values.specs.PrintMachine.{closes, entered, next};
+ghost use Rattle.flow_values.specs.Places.{PortsFit};
+ghost use Rattle.flow_values.specs.PrintMachine.{closing_brackets, entered_value, next};
 ghost use Rattle.flow_values.specs.PrintMachine as machine;
-ghost use Rattle.flow_values.specs.Aheads.{pending_of, stack, Leads, Finds};
+ghost use Rattle.flow_values.specs.Aheads.{pending_of, stack, LeadsAhead, Finds};
 
 use crate::pending::{Flags, Pending, Place};
 use crate::shapes::{edge_count, is_value};
@@ -84,7 +84,7 @@ impl Ahead {
     // The last text of a value, and the brackets closed after it.
     fn finish(&mut self, bytes: &[u8], brackets: usize) -> Result<(), AllocError>
         ensures text { OnOk result (self.new.text.items ≡
-            self.old.text.items ++ (bytes.now ++ closes brackets)) }
+            self.old.text.items ++ (bytes.now ++ closing_brackets brackets)) }
         ensures pending { self.new.pending.items ≡ self.old.pending.items }
     {
         self.text.extend_from_slice(bytes)?;
@@ -103,7 +103,7 @@ impl Ahead {
         port: usize,
         brackets: usize,
     ) -> Result<(), AllocError>
-        requires { Fits (seq (ty_of item.now)) port brackets }
+        requires { PortsFit (seq (ty_of item.now)) port brackets }
         ensures text { OnOk result (self.new.text.items ≡ self.old.text.items ++ bytes.now) }
         ensures pending { OnOk result ((after : List machine.Pending) →
             stack self.new.pending.items after ≡
@@ -136,8 +136,8 @@ impl Ahead {
         brackets: usize,
         item: &Item,
     ) -> Result<(), Stop>
-        requires { Fits (ty_of ty.now) port brackets }
-        ensures { Leads (entered (ty_of ty.now) port brackets (cell_of item.now))
+        requires { PortsFit (ty_of ty.now) port brackets }
+        ensures { LeadsAhead (entered_value (ty_of ty.now) port brackets (cell_of item.now))
             result self.old self.new }
     {
         match (ty, item) {

@@ -1,7 +1,7 @@
 // What is still to be read of a value that is printed.
 
 ghost use Rattle.snesl_data.specs.Types.{ty_of, seq};
-ghost use Rattle.flow_values.specs.Places.{Fits};
+ghost use Rattle.flow_values.specs.Places.{PortsFit};
 
 use snesl_data::Ty;
 
@@ -11,7 +11,7 @@ pub struct Place {
     pub ty: Ty,
     pub port: usize,
     pub brackets: usize,
-    ghost fits: { Fits (ty_of ty) port brackets },
+    ghost fits: { PortsFit (ty_of ty) port brackets },
 }
 
 /// The flags of a sequence at a port, the type of its elements, and the brackets that are closed after it.
@@ -20,7 +20,7 @@ pub struct Flags {
     pub item: Ty,
     pub port: usize,
     pub brackets: usize,
-    ghost fits: { Fits (seq (ty_of item)) port brackets },
+    ghost fits: { PortsFit (seq (ty_of item)) port brackets },
 }
 
 /// What is still to be read of a value.

@@ -6,7 +6,7 @@ ghost use Rattle.flow_messages.specs.Cells.{cell_of};
 ghost use Rattle.flow_messages.specs.Signals.{signal_of};
 ghost use Rattle.flow_values.specs.Shapes.{kinds_of};
 ghost use Rattle.flow_values.specs.PrintMachine.{print_opening, print_behaviour, reading, moved};
-ghost use Rattle.flow_values.specs.Aheads.{stack, found, Reaches};
+ghost use Rattle.flow_values.specs.Aheads.{stack, where_led, Reaches};
 ghost use Rattle.flow_values.specs.laws.Print.{PrintsText};
 
 use crate::ahead::Ahead;
@@ -87,7 +87,7 @@ impl Print {
     fn ahead(&self, item: &Item) -> Result<Ahead, Stop>
         requires { self.now.stuck ≡ false }
         ensures { let state = ⟦<Print as Transducer>⟧.state self.now in
-            Reaches (found state.step state (cell_of item.now))
+            Reaches (where_led state.step state (cell_of item.now))
             self.now.pending.items self.now.text.items result }
     {
         match self.pending.last() {

@@ -8,7 +8,7 @@ ghost use Rattle.flow_base.specs.Workers.{Takes};
 ghost use Rattle.flow_values.specs.Shapes.{kinds_of};
 ghost use Rattle.flow_values.specs.Parts.{built, PartsFit};
 ghost use Rattle.flow_base.specs.Machines.{state_after_item, with_parameters};
-ghost use Rattle.flow_values.specs.TabMachine.{TabState, start, tab_state, staged, flag_taking, grown, item_given, item_port, Makes};
+ghost use Rattle.flow_values.specs.TabMachine.{TabState, start, tab_state, staged, flag_taking, grown, item_given, item_port, MakesDatum};
 
 use crate::shapes::{add_kinds, is_value, kind_at, part_fits};
 use flow_base::{Ask, Stop, Worker};
@@ -168,7 +168,7 @@ fn paired(alloc: Global, a: Datum, b: Datum) -> Result<Datum, AllocError>
 
 // The value of the type whose items come first, which are taken away. `Shape` where they are not those of such a value.
 fn build(alloc: Global, ty: &Ty, items: &mut VecDeque<Item>) -> Result<Datum, Stop>
-    ensures { Makes (built (ty_of ty.now) (map cell_of items.old.items)) result items.new.items }
+    ensures { MakesDatum (built (ty_of ty.now) (map cell_of items.old.items)) result items.new.items }
 {
     match ty {
         Ty::Int => match items.pop_front() {

@@ -7,7 +7,7 @@ use Rattle.kahn.specs.Processes.{Process, Event, Does, reads, writes}
 use Rattle.kahn.specs.Networks.{Network, IsWired, AllLawful}
 use Rattle.kahn.specs.Configurations.{Configuration, moved}
 use Rattle.kahn.specs.Runs.{Run, Reaches}
-use Rattle.kahn.specs.HistoryTheorems.{IsWithin, on_edges, after_history, after_histories, IsOwnRun, AllHistoriesAreOneRun}
+use Rattle.kahn.specs.HistoryTheorems.{MayHold, on_edges, after_history, after_histories, IsOwnRun, AllHistoriesAreOneRun}
 use Rattle.kahn.proofs.Basics.{updated_at, updated_other, begins_more, begins_trans}
 use Rattle.kahn.proofs.Finite.{run_then}
 use Rattle.kahn.proofs.Histories.{extended_same, histories_are_runs}
@@ -108,7 +108,7 @@ module _ {State Message : Type 0} (net : Network State) (c : Configuration State
         state k (inr other) = joined_above c.state t net.nodes k other ∙ sym (others k other)
 
 module _ {State Message : Type 0} (P : Process State Message) (net : Network State) (wired : IsWired net) (lawful : AllLawful P net) (limit : Option ℕ) (c : Configuration State Message) (before h : ℕ → List (Event Message)) (t : ℕ → State) where
-  module _ (from : (k : ℕ) → k < net.nodes → Does P (net.opening k) (before k) (c.state k)) (does : (k : ℕ) → k < net.nodes → Does P (c.state k) (h k) (t k)) (had : (e : ℕ) → e < net.edges → Begins (c.received e ++ reads (net.reader_port e) (h (net.reader e))) (c.sent e)) (room : (e : ℕ) → e < net.edges → IsWithin limit (length (c.sent e ++ writes (net.writer_port e) (h (net.writer e))) - length (c.received e))) where
+  module _ (from : (k : ℕ) → k < net.nodes → Does P (net.opening k) (before k) (c.state k)) (does : (k : ℕ) → k < net.nodes → Does P (c.state k) (h k) (t k)) (had : (e : ℕ) → e < net.edges → Begins (c.received e ++ reads (net.reader_port e) (h (net.reader e))) (c.sent e)) (room : (e : ℕ) → e < net.edges → MayHold limit (length (c.sent e ++ writes (net.writer_port e) (h (net.writer e))) - length (c.received e))) where
     -- what node n reads had been sent to it, also after the nodes below n
     has_sent : (n e : ℕ) → e < net.edges → net.reader e ≡ n → Begins ((so_far net c h t n).received e ++ reads (net.reader_port e) (h n)) ((so_far net c h t n).sent e)
     has_sent n e inside at =
@@ -117,15 +117,15 @@ module _ {State Message : Type 0} (P : Process State Message) (net : Network Sta
         still_begins (ltb e net.edges) _ (c.sent e) _ (subst (λ l. Begins (l ++ reads (net.reader_port e) (h n)) (c.sent e)) (sym still) begins)
 
     -- what it writes finds room, also after the nodes below n: none of them is at an edge from n
-    finds_room : (n e : ℕ) → e < net.edges → net.writer e ≡ n → Begins ((so_far net c h t n).received e) ((so_far net c h t n).sent e) × IsWithin limit (length ((so_far net c h t n).sent e ++ writes (net.writer_port e) (h n)) - length ((so_far net c h t n).received e))
+    finds_room : (n e : ℕ) → e < net.edges → net.writer e ≡ n → Begins ((so_far net c h t n).received e) ((so_far net c h t n).sent e) × MayHold limit (length ((so_far net c h t n).sent e ++ writes (net.writer_port e) (h n)) - length ((so_far net c h t n).received e))
     finds_room n e inside at =
         let forward : net.writer e < net.reader e = wired.forward e inside in
         let sent : (so_far net c h t n).sent e ≡ c.sent e = sent_is net c h t n e (omega arith) in
         let received : (so_far net c h t n).received e ≡ c.received e = received_is net c h t n e (omega arith) in
-        let fits : IsWithin limit (length (c.sent e ++ writes (net.writer_port e) (h n)) - length (c.received e)) = subst (λ k. IsWithin limit (length (c.sent e ++ writes (net.writer_port e) (h k)) - length (c.received e))) at (room e inside) in (
+        let fits : MayHold limit (length (c.sent e ++ writes (net.writer_port e) (h n)) - length (c.received e)) = subst (λ k. MayHold limit (length (c.sent e ++ writes (net.writer_port e) (h k)) - length (c.received e))) at (room e inside) in (
           still_begins (ltb e net.edges) _ (c.sent e) _ (subst (λ l. Begins l (c.sent e)) (sym received) (begins_first (c.received e) _ (c.sent e) (had e inside))),
-          subst (λ l. IsWithin limit (length (l ++ writes (net.writer_port e) (h n)) - length ((so_far net c h t n).received e))) (sym sent)
-              (subst (λ l. IsWithin limit (length (c.sent e ++ writes (net.writer_port e) (h n)) - length l)) (sym received) fits),
+          subst (λ l. MayHold limit (length (l ++ writes (net.writer_port e) (h n)) - length ((so_far net c h t n).received e))) (sym sent)
+              (subst (λ l. MayHold limit (length (c.sent e ++ writes (net.writer_port e) (h n)) - length l)) (sym received) fits),
         )
 
     -- node n makes its history after the nodes below n

@@ -7,13 +7,13 @@ use Rattle.kahn.specs.Processes.{Process, Event, Reads, Writes, Does, reads, wri
 use Rattle.kahn.specs.Networks.{Network, IsWired, AllLawful, AllBy}
 use Rattle.kahn.specs.Configurations.{Configuration}
 use Rattle.kahn.specs.Runs.{Can, next, Run, HasRoom}
-use Rattle.kahn.specs.HistoryTheorems.{IsWithin, extended, goes_in, comes_out, on_edges, after_history, HistoriesAreRuns}
+use Rattle.kahn.specs.HistoryTheorems.{MayHold, extended, goes_in, comes_out, on_edges, after_history, HistoriesAreRuns}
 use Rattle.kahn.proofs.Basics.{updated_at, updated_other, begins_more}
 use Rattle.kahn.proofs.History.{does_then}
 use Rattle.kahn.proofs.Traffic.{moved_run}
 
 -- where it may hold what was sent after one more, there was room for that one
-room_for : (limit : Option ℕ) (sent received after : ℕ) → received ≤ sent → suc sent ≤ after → IsWithin limit (after - received) → HasRoom limit (sent - received)
+room_for : (limit : Option ℕ) (sent received after : ℕ) → received ≤ sent → suc sent ≤ after → MayHold limit (after - received) → HasRoom limit (sent - received)
 room_for None sent received after had more fits = tt
 room_for (Some capacity) sent received after had more fits = omega arith
 
@@ -86,7 +86,7 @@ module _ {State Message : Type 0} (P : Process State Message) (net : Network Sta
 
   -- what it writes finds room
   abbrev FindsRoom : Option ℕ → Configuration State Message → List (Event Message) → Type 0
-  FindsRoom limit c h = (e : ℕ) → e < net.edges → net.writer e ≡ k → Begins (c.received e) (c.sent e) × IsWithin limit (length (c.sent e ++ writes (net.writer_port e) h) - length (c.received e))
+  FindsRoom limit c h = (e : ℕ) → e < net.edges → net.writer e ≡ k → Begins (c.received e) (c.sent e) × MayHold limit (length (c.sent e ++ writes (net.writer_port e) h) - length (c.received e))
 
   module _ (limit : Option ℕ) (c : Configuration State Message) (e : ℕ) (inside : e < net.edges) (m : Message) (h : List (Event Message)) (t : State) where
     -- a read at the edge, and the rest of the history
@@ -140,7 +140,7 @@ module _ {State Message : Type 0} (P : Process State Message) (net : Network Sta
       write_room : FindsRoom limit c (Writes q m ∷ h) → FindsRoom limit (next P net c (Writes e m)) h
       write_room room f inside_f at_f = (
         still_begins f (room f inside_f at_f).0,
-        subst (λ l. IsWithin limit (length l - length (c.received f))) (sym (write_grown f inside_f at_f)) (room f inside_f at_f).1,
+        subst (λ l. MayHold limit (length l - length (c.received f))) (sym (write_grown f inside_f at_f)) (room f inside_f at_f).1,
       )
 
       write_after : after_history net (next P net c (Writes e m)) k h t ≡ after_history net c k (Writes q m ∷ h) t
@@ -155,7 +155,7 @@ module _ {State Message : Type 0} (P : Process State Message) (net : Network Sta
       write_can : P.want (c.state k) ≡ Write q → P.written (c.state k) ≡ m → FindsRoom limit c (Writes q m ∷ h) → Can P net limit c (Writes e m)
       write_can wants is room =
           let (some, fits) = room e inside at in
-          let whole : IsWithin limit (length (c.sent e ++ m ∷ writes (net.writer_port e) h) - length (c.received e)) = subst (λ b. IsWithin limit (length (c.sent e ++ cond b (m ∷ writes (net.writer_port e) h) (writes (net.writer_port e) h)) - length (c.received e))) (eq-eqb (net.writer_port e) q port) fits in (
+          let whole : MayHold limit (length (c.sent e ++ m ∷ writes (net.writer_port e) h) - length (c.received e)) = subst (λ b. MayHold limit (length (c.sent e ++ cond b (m ∷ writes (net.writer_port e) h) (writes (net.writer_port e) h)) - length (c.received e))) (eq-eqb (net.writer_port e) q port) fits in (
             inside,
             ap (λ x. P.want (c.state x)) at ∙ wants ∙ ap Write (sym port),
             ap (λ x. P.written (c.state x)) at ∙ is,

@@ -17,8 +17,8 @@ abbrev pub held : {State Message : Type 0} → Configuration State Message → �
 held c e = length (c.sent e) - length (c.received e)
 
 -- c has these states, and its edges hold these messages
-abbrev pub Fits : {State Message : Type 0} → (ℕ → State) → (ℕ → List Message) → Configuration State Message → Type 0
-Fits state holds c = (c.state ≡ state) × ((e : ℕ) → c.received e ++ holds e ≡ c.sent e)
+abbrev pub IsConfigurationOf : {State Message : Type 0} → (ℕ → State) → (ℕ → List Message) → Configuration State Message → Type 0
+IsConfigurationOf state holds c = (c.state ≡ state) × ((e : ℕ) → c.received e ++ holds e ≡ c.sent e)
 
 module _ {State : Type 0} (net : Network State) where
   -- the nodes before any step, and empty edges

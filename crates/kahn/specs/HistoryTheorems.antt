@@ -8,9 +8,9 @@ use Rattle.kahn.specs.Configurations.{Configuration, moved}
 use Rattle.kahn.specs.Runs.{Run, Reaches}
 
 -- whether an edge may hold this many; None: edges are not bounded
-abbrev pub IsWithin : Option ℕ → ℕ → Type 0
-IsWithin None count = Unit {0}
-IsWithin (Some capacity) count = count ≤ capacity
+abbrev pub MayHold : Option ℕ → ℕ → Type 0
+MayHold None count = Unit {0}
+MayHold (Some capacity) count = count ≤ capacity
 
 -- these lists, and at the edges of my own what came after
 abbrev pub extended : {Message : Type 0} → (ℕ → Bool) → (ℕ → List Message) → (ℕ → List Message) → ℕ → List Message
@@ -65,7 +65,7 @@ module _ {State Message : Type 0} (P : Process State Message) (net : Network Sta
       (limit : Option ℕ) (c : Configuration State Message) (k : ℕ) (before h : List (Event Message)) (t : State)
       → k < net.nodes → Does P (net.opening k) before (c.state k) → Does P (c.state k) h t
       → ((e : ℕ) → e < net.edges → net.reader e ≡ k → Begins (c.received e ++ reads (net.reader_port e) h) (c.sent e))
-      → ((e : ℕ) → e < net.edges → net.writer e ≡ k → Begins (c.received e) (c.sent e) × IsWithin limit (length (c.sent e ++ writes (net.writer_port e) h) - length (c.received e)))
+      → ((e : ℕ) → e < net.edges → net.writer e ≡ k → Begins (c.received e) (c.sent e) × MayHold limit (length (c.sent e ++ writes (net.writer_port e) h) - length (c.received e)))
       → IsOwnRun limit c k h t
 
   -- where each node came to its state by events of its own, and makes more of them from c, what it reads had been
@@ -78,5 +78,5 @@ module _ {State Message : Type 0} (P : Process State Message) (net : Network Sta
       → ((k : ℕ) → k < net.nodes → Does P (c.state k) (h k) (t k))
       → ((k : ℕ) → net.nodes ≤ k → t k ≡ c.state k)
       → ((e : ℕ) → e < net.edges → Begins (c.received e ++ reads (net.reader_port e) (h (net.reader e))) (c.sent e))
-      → ((e : ℕ) → e < net.edges → IsWithin limit (length (c.sent e ++ writes (net.writer_port e) (h (net.writer e))) - length (c.received e)))
+      → ((e : ℕ) → e < net.edges → MayHold limit (length (c.sent e ++ writes (net.writer_port e) (h (net.writer e))) - length (c.received e)))
       → Reaches P net limit c (after_histories net c h t) × (moved net (after_histories net c h t) ≡ moved net c + total (λ k. length (h k)) net.nodes)

@@ -5,7 +5,7 @@ use Rattle.snesl_data.specs.declared.refusal.Refusal.{Refusal}
 use Rattle.snesl_data.specs.declared.refusal.Refusal.TheVariants.{Output}
 use Rattle.snesl_data.specs.Faults.{number_of_fault}
 use Rattle.snesl_data.specs.Refusals.{number_of_refusal, offset_of_refusal, is_of_the_system, status_of_refusal}
-use Rattle.snesl_console.specs.Streams.{WriteEffect, IsWhole, IsCutOff, WasTold}
+use Rattle.snesl_console.specs.Streams.{WriteEffect, IsWrittenWhole, IsCutOff, WasTold}
 
 -- ` at K` where there is an offset
 abbrev pub place_text : Option ℕ → List ℕ
@@ -27,7 +27,7 @@ stalled_line = codes "stalled\n"
 -- a line was printed on standard output, and this is the exit status
 pub data Prints (out err : WriteEffect) (line : List ℕ) (status : ℕ) : ℕ → Type 0 where
   -- all of it was written, and nothing on standard error
-  written : IsWhole out line → err.nothing → Prints out err line status status
+  written : IsWrittenWhole out line → err.nothing → Prints out err line status status
   -- a write failed, which is said on standard error
   cut_off : IsCutOff out line → WasTold err (refusal_line Output) → Prints out err line status (status_of_refusal Output)
 

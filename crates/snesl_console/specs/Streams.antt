@@ -48,8 +48,8 @@ read_effect remaining old new = record {
 }
 
 -- the writer took all bytes, and no call failed
-abbrev pub IsWhole : WriteEffect → List ℕ → Type 0
-IsWhole out bytes = out.these bytes × out.worked
+abbrev pub IsWrittenWhole : WriteEffect → List ℕ → Type 0
+IsWrittenWhole out bytes = out.these bytes × out.worked
 
 -- the writer took a beginning of the bytes and not all of them, and one call failed
 abbrev pub IsCutOff : WriteEffect → List ℕ → Type 0
@@ -58,9 +58,9 @@ IsCutOff out bytes =
 
 -- all bytes were taken, or they were cut off
 abbrev pub HasSent : WriteEffect → List ℕ → Bool → Type 0
-HasSent out bytes true = IsWhole out bytes
+HasSent out bytes true = IsWrittenWhole out bytes
 HasSent out bytes false = IsCutOff out bytes
 
 -- an attempt to send the bytes was made: all were taken, or they were cut off
 abbrev pub WasTold : WriteEffect → List ℕ → Type 0
-WasTold out bytes = IsWhole out bytes ⊎ IsCutOff out bytes
+WasTold out bytes = IsWrittenWhole out bytes ⊎ IsCutOff out bytes

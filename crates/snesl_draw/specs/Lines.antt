@@ -5,8 +5,8 @@ use Rattle.snesl_draw.specs.Words.{kind_word}
 use Rattle.snesl_draw.specs.declared.drawing.DrawnEdge.{DrawnEdge}
 
 -- `2:5`: the line and the column of an offset
-abbrev pub place : List ℕ → ℕ → List ℕ
-place program at = decimal (line_of program at) ++ codes ":" ++ decimal (column_of program at)
+abbrev pub line_and_column : List ℕ → ℕ → List ℕ
+line_and_column program at = decimal (line_of program at) ++ codes ":" ++ decimal (column_of program at)
 
 -- the form at an offset: what stands there in its line, at most 40 bytes
 abbrev pub form_at : List ℕ → ℕ → List ℕ
@@ -18,8 +18,8 @@ messages_part None = []
 messages_part (Some messages) = codes " " ++ decimal messages
 
 -- what goes over an edge: the kind of its items, and how many messages
-abbrev pub carried : DrawnEdge → List ℕ
-carried edge = kind_word edge.kind ++ messages_part edge.messages
+abbrev pub edge_label : DrawnEdge → List ℕ
+edge_label edge = kind_word edge.kind ++ messages_part edge.messages
 
 -- an edge is as thick as the number of its messages has digits, and at most 5
 abbrev pub width_of : ℕ → ℕ

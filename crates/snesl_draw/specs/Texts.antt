@@ -2,7 +2,7 @@
 use Rattle.std.specs.Prelude.{ℕ, ◌++◌, ◌==◌, List, [], ◌∷◌, codes, decimal, flat_map, fold, if◌then◌else◌}
 use Rattle.std.specs.List.{list_any}
 use Rattle.flow_messages.specs.declared.message.Kind.{Kind}
-use Rattle.snesl_draw.specs.Lines.{carried, form_at, place, width_part}
+use Rattle.snesl_draw.specs.Lines.{edge_label, form_at, line_and_column, width_part}
 use Rattle.snesl_draw.specs.Quoting.{quoted}
 use Rattle.snesl_draw.specs.Words.{kind_colour}
 use Rattle.snesl_draw.specs.declared.drawing.DrawnEdge.{DrawnEdge}
@@ -15,17 +15,17 @@ node_title node = decimal node.number ++ codes " " ++ node.word.now
 -- an edge that ends in a node: ` <- `, where it begins, and what goes over it
 abbrev pub read_by : ℕ → DrawnEdge → List ℕ
 read_by number edge =
-    if edge.edge.reader == number then codes " <- " ++ decimal edge.edge.writer ++ codes " " ++ carried edge else []
+    if edge.edge.reader == number then codes " <- " ++ decimal edge.edge.writer ++ codes " " ++ edge_label edge else []
 
 -- an edge that begins in a node: ` -> `, where it ends, and what goes over it
 abbrev pub written_by : ℕ → DrawnEdge → List ℕ
 written_by number edge =
-    if edge.edge.writer == number then codes " -> " ++ decimal edge.edge.reader ++ codes " " ++ carried edge else []
+    if edge.edge.writer == number then codes " -> " ++ decimal edge.edge.reader ++ codes " " ++ edge_label edge else []
 
 -- a node's line: its title, its place, the edges that it reads, and those that it writes
 abbrev pub node_text : List ℕ → List DrawnEdge → DrawnNode → List ℕ
 node_text program edges node =
-    node_title node ++ codes " " ++ place program node.at ++ flat_map (read_by node.number) edges
+    node_title node ++ codes " " ++ line_and_column program node.at ++ flat_map (read_by node.number) edges
     ++ flat_map (written_by node.number) edges ++ codes "\n"
 
 -- a line for each node
@@ -39,7 +39,7 @@ node_of_form at node =
 
 -- what a form is called: its place, and its text
 abbrev pub form_title : List ℕ → ℕ → List ℕ
-form_title program at = place program at ++ codes "  " ++ quoted (form_at program at)
+form_title program at = line_and_column program at ++ codes "  " ++ quoted (form_at program at)
 
 -- the beginning of its frame
 abbrev pub frame_head : List ℕ → ℕ → List ℕ
@@ -68,7 +68,7 @@ colours kind = codes ", color=\"" ++ kind_colour kind ++ codes "\", fontcolor=\"
 -- an edge in DOT: with what goes over it, in the colour of its kind
 abbrev pub edge_line : DrawnEdge → List ℕ
 edge_line edge =
-    arrow edge ++ codes " [label=\"" ++ carried edge ++ codes "\"" ++ colours edge.kind ++ width_part edge.messages ++ codes "];\n"
+    arrow edge ++ codes " [label=\"" ++ edge_label edge ++ codes "\"" ++ colours edge.kind ++ width_part edge.messages ++ codes "];\n"
 
 -- the settings of the picture
 abbrev pub head : List ℕ

@@ -1,7 +1,7 @@
 // The parts of a drawing.
 
 ghost use Rattle.std.specs.Prelude.{◌≡◌, ◌++◌, OnOk, decimal};
-ghost use Rattle.snesl_draw.specs.Lines.{carried, form_at, place, width_of, width_part};
+ghost use Rattle.snesl_draw.specs.Lines.{edge_label, form_at, line_and_column, width_of, width_part};
 ghost use Rattle.snesl_draw.specs.Texts.{node_title};
 
 use crate::drawing::{DrawnEdge, DrawnNode};
@@ -31,7 +31,7 @@ pub(crate) fn append_number(text: &mut Vec<u8>, number: usize) -> Result<(), All
 
 // The line and the column of an offset.
 pub(crate) fn append_place(text: &mut Vec<u8>, program: &[u8], at: usize) -> Result<(), AllocError>
-    ensures { OnOk result (text.new.items ≡ text.old.items ++ place program.now at) }
+    ensures { OnOk result (text.new.items ≡ text.old.items ++ line_and_column program.now at) }
 {
     let position = position_of(program, at);
     append_number(text, position.line)?;
@@ -61,7 +61,7 @@ pub(crate) fn append_title(text: &mut Vec<u8>, node: DrawnNode) -> Result<(), Al
 
 // What goes over an edge.
 pub(crate) fn append_carried(text: &mut Vec<u8>, edge: DrawnEdge) -> Result<(), AllocError>
-    ensures { OnOk result (text.new.items ≡ text.old.items ++ carried edge) }
+    ensures { OnOk result (text.new.items ≡ text.old.items ++ edge_label edge) }
 {
     append_text(text, kind_word(edge.kind))?;
     match edge.messages {

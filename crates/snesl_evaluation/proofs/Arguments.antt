@@ -10,7 +10,7 @@ use Rattle.snesl_evaluation.specs.declared.scope.Scope.{Scope}
 use Rattle.snesl_evaluation.specs.declared.scope.ProgramContext.{ProgramContext}
 use Rattle.snesl_evaluation.specs.Answer.{Answer, gives, faults, go}
 use Rattle.snesl_evaluation.specs.Builtins.{items_at}
-use Rattle.snesl_evaluation.specs.Eval.{Columns}
+use Rattle.snesl_evaluation.specs.Eval.{BoundItems}
 use Rattle.snesl_evaluation.specs.Scopes.{all_in, binders_in, eval_in}
 use Rattle.snesl_evaluation.proofs.Reading.{behind, one_more, append_nothing}
 
@@ -47,12 +47,12 @@ module _ (context : ProgramContext) (scope : Scope) where
   values_all done (x ∷ exprs) (suc i) l = values_all done exprs i (omega arith)
 
   -- what a binder and those after it give
-  abbrev with_binders : Binder → List Binder → Answer Value → Answer Columns
+  abbrev with_binders : Binder → List Binder → Answer Value → Answer BoundItems
   with_binders binder others answer =
       go answer (λ v. go (items_at binder.name.at v) (λ vs.
       go (binders_in context scope (binders_of others)) (λ columns. gives ((spelling context.text.now binder.name, vs) ∷ columns))))
 
-  columns_next : (done : Columns) (binders : List Binder) (i : ℕ) (binder : Binder) (v : Value) (vs : List Value) → i < length binders → binder ≡ get_or binders i binder
+  columns_next : (done : BoundItems) (binders : List Binder) (i : ℕ) (binder : Binder) (v : Value) (vs : List Value) → i < length binders → binder ≡ get_or binders i binder
       → eval_in context scope (tree_of binder.source) ≡ gives v → items_at binder.name.at v ≡ gives vs
       → behind done (binders_in context scope (binders_of (drop i binders))) ≡ behind (done ++ (spelling context.text.now binder.name, vs) ∷ []) (binders_in context scope (binders_of (drop (suc i) binders)))
   columns_next done [] i binder v vs l is e f = absurd (omega arith)
@@ -63,7 +63,7 @@ module _ (context : ProgramContext) (scope : Scope) where
       ∙ one_more done (spelling context.text.now binder.name, vs) (binders_in context scope (binders_of binders))
   columns_next done (x ∷ binders) (suc i) binder v vs l is e f = columns_next done binders i binder v vs (omega arith) is e f
 
-  pub columns_given : (done : Columns) (binders : List Binder) (i : ℕ) (binder : Binder) (v : Value) (vs : List Value) → i < length binders → binder ≡ get_or binders i binder
+  pub columns_given : (done : BoundItems) (binders : List Binder) (i : ℕ) (binder : Binder) (v : Value) (vs : List Value) → i < length binders → binder ≡ get_or binders i binder
       → eval_in context scope (tree_of binder.source) ≡ gives v → items_at binder.name.at v ≡ gives vs
       → behind done (binders_in context scope (binders_of (drop i binders))) ≡ behind (done ++ (spelling context.text.now binder.name, vs) ∷ []) (binders_in context scope (binders_of (drop (i + 1) binders)))
   columns_given done binders i binder v vs l is e f =
@@ -72,7 +72,7 @@ module _ (context : ProgramContext) (scope : Scope) where
       ∙ ap (λ j. behind (done ++ (spelling context.text.now binder.name, vs) ∷ []) (binders_in context scope (binders_of (drop j binders)))) same
 
   -- the sequence of a binder faults, or is none
-  pub columns_faults : (done : Columns) (binders : List Binder) (i : ℕ) (binder : Binder) (kind : FaultKind) (at : ℕ) → i < length binders → binder ≡ get_or binders i binder
+  pub columns_faults : (done : BoundItems) (binders : List Binder) (i : ℕ) (binder : Binder) (kind : FaultKind) (at : ℕ) → i < length binders → binder ≡ get_or binders i binder
       → go (eval_in context scope (tree_of binder.source)) (items_at binder.name.at) ≡ faults kind at → behind done (binders_in context scope (binders_of (drop i binders))) ≡ faults kind at
   columns_faults done [] i binder kind at l is e = absurd (omega arith)
   columns_faults done (x ∷ binders) zero binder kind at l is e =
@@ -84,7 +84,7 @@ module _ (context : ProgramContext) (scope : Scope) where
       in_two (faults k place) e' = cc
   columns_faults done (x ∷ binders) (suc i) binder kind at l is e = columns_faults done binders i binder kind at (omega arith) is e
 
-  pub columns_all : (done : Columns) (binders : List Binder) (i : ℕ) → length binders ≤ i → behind done (binders_in context scope (binders_of (drop i binders))) ≡ gives done
+  pub columns_all : (done : BoundItems) (binders : List Binder) (i : ℕ) → length binders ≤ i → behind done (binders_in context scope (binders_of (drop i binders))) ≡ gives done
   columns_all done [] zero l = ap gives (append_nothing done)
   columns_all done [] (suc i) l = ap gives (append_nothing done)
   columns_all done (x ∷ binders) zero l = absurd (omega arith)

@@ -13,7 +13,7 @@ use Rattle.snesl_tree.specs.Tree.{Tree, Trees, none, both}
 use Rattle.snesl_grammar.specs.Expressions.{added}
 use Rattle.snesl_evaluation.specs.Answer.{Answer, gives, faults, go, go_all, go_join, or_fault}
 use Rattle.snesl_evaluation.specs.Builtins.{append_answer, applied, items_at, prefix_answer, seq_answer, sequence, truth_at}
-use Rattle.snesl_evaluation.specs.Eval.{Calls, Columns, eval, eval_all, eval_binders, in_step, kept, named}
+use Rattle.snesl_evaluation.specs.Eval.{Calls, BoundItems, eval, eval_all, eval_binders, in_step, kept, named}
 use Rattle.snesl_evaluation.specs.Derived.{ChoiceMeaning, ConditionMeaning, OneItemMeaning, LiteralMeaning}
 use Rattle.snesl_evaluation.proofs.Passed.{filter_seen}
 
@@ -55,7 +55,7 @@ condition_meaning at item condition binders dialect text calls environment = by_
     by_rows (faults kind place) = refl
     by_rows (gives rows) = ap seq_answer (join_each at f g same rows) ∙ concat_each dialect at (go_all g rows)
 
-    by_columns : (columns : Answer Columns) → go columns (λ columns. go (in_step at columns) (λ rows. seq_answer (go_join f rows)))
+    by_columns : (columns : Answer BoundItems) → go columns (λ columns. go (in_step at columns) (λ rows. seq_answer (go_join f rows)))
         ≡ go (go (go columns (λ columns. go (in_step at columns) (λ rows. seq_answer (go_all g rows)))) (λ v. gives (v ∷ []))) (applied dialect at Concat)
     by_columns (faults kind place) = refl
     by_columns (gives columns) = by_rows (in_step at columns)

@@ -9,8 +9,8 @@ use Rattle.snesl_values.specs.Inputs.{Environment, value_in}
 use Rattle.snesl_data.specs.Values.{Value, value_of}
 use Rattle.snesl_evaluation.specs.declared.scope.Column.{Column}
 use Rattle.snesl_evaluation.specs.Answer.{gives, faults}
-use Rattle.snesl_evaluation.specs.Eval.{Columns, beside, height, rows_of, in_step}
-use Rattle.snesl_evaluation.specs.Scopes.{are_level, column_of, first_height, row_at}
+use Rattle.snesl_evaluation.specs.Eval.{BoundItems, beside, height, rows_of, in_step}
+use Rattle.snesl_evaluation.specs.Scopes.{are_level, bound_items_of, first_height, names_at}
 
 pub value_in-some : (bytes : List ℕ) (front back : Environment) (v : Value) → value_in bytes front ≡ Some v → value_in bytes (front ++ back) ≡ Some v
 value_in-some bytes [] back v e = cc
@@ -31,45 +31,45 @@ value_in-none bytes (entry ∷ front) back e = by_test (bytes_eq bytes entry.0) 
     by_test false f h = h f
 
 -- the first column of a row, where it has the name and where not
-pub in_column-some : (bytes : List ℕ) (index : ℕ) (column : List ℕ × List Value) (columns : Columns) (v : Value)
-    → (if bytes_eq bytes column.0 then slice_get column.1 index else None) ≡ Some v → value_in bytes (row_at index (column ∷ columns)) ≡ Some v
+pub in_column-some : (bytes : List ℕ) (index : ℕ) (column : List ℕ × List Value) (columns : BoundItems) (v : Value)
+    → (if bytes_eq bytes column.0 then slice_get column.1 index else None) ≡ Some v → value_in bytes (names_at index (column ∷ columns)) ≡ Some v
 in_column-some bytes index column columns v e = by_cell (slice_get column.1 index) refl (bytes_eq bytes column.0) refl e
   where
     by_cell : (o : Option Value) → slice_get column.1 index ≡ o → (t : Bool) → bytes_eq bytes column.0 ≡ t
-        → (if t then o else None) ≡ Some v → value_in bytes (row_at index (column ∷ columns)) ≡ Some v
+        → (if t then o else None) ≡ Some v → value_in bytes (names_at index (column ∷ columns)) ≡ Some v
     by_cell (Some w) o true t f = rw o (rw t f)
     by_cell o p false t f = cc
     by_cell None p true t f = cc
 
-pub in_column-none : (bytes : List ℕ) (index : ℕ) (column : List ℕ × List Value) (columns : Columns)
-    → (if bytes_eq bytes column.0 then slice_get column.1 index else None) ≡ None → value_in bytes (row_at index (column ∷ columns)) ≡ value_in bytes (row_at index columns)
+pub in_column-none : (bytes : List ℕ) (index : ℕ) (column : List ℕ × List Value) (columns : BoundItems)
+    → (if bytes_eq bytes column.0 then slice_get column.1 index else None) ≡ None → value_in bytes (names_at index (column ∷ columns)) ≡ value_in bytes (names_at index columns)
 in_column-none bytes index column columns e = by_cell (slice_get column.1 index) refl (bytes_eq bytes column.0) refl e
   where
     by_cell : (o : Option Value) → slice_get column.1 index ≡ o → (t : Bool) → bytes_eq bytes column.0 ≡ t
-        → (if t then o else None) ≡ None → value_in bytes (row_at index (column ∷ columns)) ≡ value_in bytes (row_at index columns)
+        → (if t then o else None) ≡ None → value_in bytes (names_at index (column ∷ columns)) ≡ value_in bytes (names_at index columns)
     by_cell None o t p f = rw o refl
     by_cell (Some w) o false t f = rw o (rw t refl)
     by_cell (Some w) o true t f = cc
 
-height_seen : (text : List ℕ) (columns : List Column) → height (map (column_of text) columns) ≡ first_height columns
+height_seen : (text : List ℕ) (columns : List Column) → height (map (bound_items_of text) columns) ≡ first_height columns
 height_seen text [] = refl
 height_seen text (column ∷ columns) = length-map column.items.items value_of
 
-pub level_seen : (text : List ℕ) (n : ℕ) (columns : List Column) → list_all (λ column. length column.1 == n) (map (column_of text) columns) ≡ are_level n columns
+pub level_seen : (text : List ℕ) (n : ℕ) (columns : List Column) → list_all (λ column. length column.1 == n) (map (bound_items_of text) columns) ≡ are_level n columns
 level_seen text n [] = refl
 level_seen text n (column ∷ columns) =
-    ap (λ m. m == n && list_all (λ other. length other.1 == n) (map (column_of text) columns)) (length-map column.items.items value_of)
+    ap (λ m. m == n && list_all (λ other. length other.1 == n) (map (bound_items_of text) columns)) (length-map column.items.items value_of)
     ∙ ap (λ b. length column.items.items == n && b) (level_seen text n columns)
 
 pub in_step_seen : (at : ℕ) (text : List ℕ) (columns : List Column) (n : ℕ) (b : Bool) → n ≡ first_height columns → b ≡ are_level n columns
-    → in_step at (map (column_of text) columns) ≡ (if b then gives (rows_of n (map (column_of text) columns)) else faults Length at)
+    → in_step at (map (bound_items_of text) columns) ≡ (if b then gives (rows_of n (map (bound_items_of text) columns)) else faults Length at)
 in_step_seen at text columns n b tall level =
-    let seen = map (column_of text) columns in
+    let seen = map (bound_items_of text) columns in
     ap (λ m. if list_all (λ column. length column.1 == m) seen then gives (rows_of m seen) else faults Length at) (height_seen text columns ∙ sym tall)
     ∙ ap (λ t. if t then gives (rows_of n seen) else faults Length at) (level_seen text n columns ∙ sym level)
 
 -- whether all columns have this length
-abbrev pub is_level : ℕ → Columns → Bool
+abbrev pub is_level : ℕ → BoundItems → Bool
 is_level n columns = list_all (λ column. length column.1 == n) columns
 
 abbrev nothing : Environment
@@ -101,18 +101,18 @@ slice_get-exists (v ∷ vs) zero l = (v, refl)
 slice_get-exists (v ∷ vs) (suc i) l = slice_get-exists vs i (omega arith)
 
 -- the rows from an index on
-pub drop_rows : (n : ℕ) (columns : Columns) (i : ℕ) → is_level n columns ≡ true → i < n → drop i (rows_of n columns) ≡ row_at i columns ∷ drop (suc i) (rows_of n columns)
+pub drop_rows : (n : ℕ) (columns : BoundItems) (i : ℕ) → is_level n columns ≡ true → i < n → drop i (rows_of n columns) ≡ names_at i columns ∷ drop (suc i) (rows_of n columns)
 drop_rows n [] i level l = drop_empty n i l
 drop_rows n (column ∷ columns) i level l =
     let h = both_true (length column.1 == n) (is_level n columns) level in
     let tall : length column.1 ≡ n = eqb-true _ _ h.0 in
     by_item (slice_get column.1 i) refl (slice_get-exists column.1 i (omega arith)) (drop_rows n columns i h.1 l)
   where
-    by_item : (o : Option Value) → slice_get column.1 i ≡ o → (v : Value) × (slice_get column.1 i ≡ Some v) → drop i (rows_of n columns) ≡ row_at i columns ∷ drop (suc i) (rows_of n columns)
-        → drop i (rows_of n (column ∷ columns)) ≡ row_at i (column ∷ columns) ∷ drop (suc i) (rows_of n (column ∷ columns))
+    by_item : (o : Option Value) → slice_get column.1 i ≡ o → (v : Value) × (slice_get column.1 i ≡ Some v) → drop i (rows_of n columns) ≡ names_at i columns ∷ drop (suc i) (rows_of n columns)
+        → drop i (rows_of n (column ∷ columns)) ≡ names_at i (column ∷ columns) ∷ drop (suc i) (rows_of n (column ∷ columns))
     by_item o p (v, e) f =
-        drop_beside column.0 column.1 (rows_of n columns) i v (row_at i columns) e f
-        ∙ ap (λ q. cons_option (option_map (λ w. (column.0, w)) q) (row_at i columns) ∷ drop (suc i) (rows_of n (column ∷ columns))) (sym e)
+        drop_beside column.0 column.1 (rows_of n columns) i v (names_at i columns) e f
+        ∙ ap (λ q. cons_option (option_map (λ w. (column.0, w)) q) (names_at i columns) ∷ drop (suc i) (rows_of n (column ∷ columns))) (sym e)
 
 beside_none : (bytes : List ℕ) (vs : List Value) (rows : List Environment) (i : ℕ) → drop i rows ≡ [] → drop i (beside bytes vs rows) ≡ []
 beside_none bytes [] rows zero e = refl
@@ -127,6 +127,6 @@ empty_none zero = refl
 empty_none (suc n) = empty_none n
 
 -- no row is left behind the last
-pub no_rows : (n : ℕ) (columns : Columns) → drop n (rows_of n columns) ≡ []
+pub no_rows : (n : ℕ) (columns : BoundItems) → drop n (rows_of n columns) ≡ []
 no_rows n [] = empty_none n
 no_rows n (column ∷ columns) = beside_none column.0 column.1 (rows_of n columns) n (no_rows n columns)

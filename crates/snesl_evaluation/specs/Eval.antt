@@ -25,11 +25,11 @@ kept true answer = go answer (λ v. gives (v ∷ []))
 kept false answer = gives []
 
 -- the names of a comprehension, each beside the items that it stands for in turn
-abbrev pub Columns : Type 0
-Columns = List (List ℕ × List Value)
+abbrev pub BoundItems : Type 0
+BoundItems = List (List ℕ × List Value)
 
 -- the length of the first column
-abbrev pub height : Columns → ℕ
+abbrev pub height : BoundItems → ℕ
 height [] = 0
 height (column ∷ columns) = length column.1
 
@@ -39,12 +39,12 @@ beside bytes (v ∷ vs) (row ∷ rows) = ((bytes, v) ∷ row) ∷ beside bytes v
 beside bytes _ _ = []
 
 -- what the names stand for, row by row
-abbrev pub rows_of : ℕ → Columns → List Environment
+abbrev pub rows_of : ℕ → BoundItems → List Environment
 rows_of n [] = replicate n []
 rows_of n (column ∷ columns) = beside column.0 column.1 (rows_of n columns)
 
 -- the same where all columns have one length, and else a fault
-abbrev pub in_step : ℕ → Columns → Answer (List Environment)
+abbrev pub in_step : ℕ → BoundItems → Answer (List Environment)
 in_step at columns =
     if list_all (λ column. length column.1 == height columns) columns then gives (rows_of (height columns) columns) else faults Length at
 
@@ -105,7 +105,7 @@ module _ (dialect : Dialect) where
         go (eval first text calls environment) (λ v. go (eval_all others text calls environment) (λ vs. gives (v ∷ vs)))
 
     -- the columns of binders from left to right; none sees another's name
-    pub eval_binders : Binders → List ℕ → Calls → Environment → Answer Columns
+    pub eval_binders : Binders → List ℕ → Calls → Environment → Answer BoundItems
     eval_binders none_bound text calls environment = gives []
     eval_binders (binder place source others) text calls environment =
         go (eval source text calls environment) (λ v.

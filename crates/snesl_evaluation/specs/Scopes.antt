@@ -20,15 +20,15 @@ use Rattle.snesl_evaluation.specs.declared.scope.ProgramContext.{ProgramContext}
 use Rattle.snesl_evaluation.specs.Answer.{Answer, faults, go, go_all, go_join}
 use Rattle.snesl_evaluation.specs.Entries.{entry_of}
 use Rattle.snesl_evaluation.specs.Builtins.{truth_at}
-use Rattle.snesl_evaluation.specs.Eval.{Calls, Columns, calls_of, eval, eval_all, eval_binders, function_answer, kept}
+use Rattle.snesl_evaluation.specs.Eval.{Calls, BoundItems, calls_of, eval, eval_all, eval_binders, function_answer, kept}
 
 -- a name, spelled as the text has it, beside its items
-abbrev pub column_of : List ℕ → Column → List ℕ × List Value
-column_of text column = (spelling text column.name, map value_of column.items.items)
+abbrev pub bound_items_of : List ℕ → Column → List ℕ × List Value
+bound_items_of text column = (spelling text column.name, map value_of column.items.items)
 
 -- what the names stand for in the row of this index
-abbrev pub row_at : ℕ → Columns → Environment
-row_at index columns = filter_map (λ column. option_map (λ v. (column.0, v)) (slice_get column.1 index)) columns
+abbrev pub names_at : ℕ → BoundItems → Environment
+names_at index columns = filter_map (λ column. option_map (λ v. (column.0, v)) (slice_get column.1 index)) columns
 
 -- the names of parameters, spelled as the text has them
 abbrev pub names_of : List ℕ → List Typing → List (List ℕ)
@@ -39,7 +39,7 @@ abbrev pub environment_in : List ℕ → Scope → Environment
 environment_in text (Inputs entries) = map entry_of entries.now
 environment_in text (Parameters parameters values) = zip (names_of text parameters.now) (map value_of values.now)
 environment_in text (Bound' name value p outer) = (spelling text name, value_of value.now) ∷ environment_in text outer
-environment_in text (Row' columns index p outer) = row_at index (map (column_of text) columns.now) ++ environment_in text outer
+environment_in text (Row' columns index p outer) = names_at index (map (bound_items_of text) columns.now) ++ environment_in text outer
 
 -- the calls of the functions that may be called
 abbrev pub calls_in : ProgramContext → Calls
@@ -53,7 +53,7 @@ eval_in context scope tree = eval context.dialect tree context.text.now (calls_i
 abbrev pub all_in : ProgramContext → Scope → Trees → Answer (List Value)
 all_in context scope trees = eval_all context.dialect trees context.text.now (calls_in context) (environment_in context.text.now scope)
 
-abbrev pub binders_in : ProgramContext → Scope → Binders → Answer Columns
+abbrev pub binders_in : ProgramContext → Scope → Binders → Answer BoundItems
 binders_in context scope binders = eval_binders context.dialect binders context.text.now (calls_in context) (environment_in context.text.now scope)
 
 -- an item where its condition is true, with these entries before the names there

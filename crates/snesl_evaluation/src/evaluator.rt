@@ -10,7 +10,7 @@ ghost use Rattle.snesl_evaluation.specs.Eval.{eval, in_step, program_value, rows
 ghost use Rattle.snesl_evaluation.specs.Answer.{gives, go};
 ghost use Rattle.snesl_evaluation.specs.Builtins.{applied, binary_answer, prefix_answer, seq_answer, truth_at};
 ghost use Rattle.snesl_evaluation.specs.Results.{Answers, IsAnswer};
-ghost use Rattle.snesl_evaluation.specs.Scopes.{all_in, are_level, binders_in, calls_in, column_of, each_in, entered, environment_in, eval_in, kept_in, where_in};
+ghost use Rattle.snesl_evaluation.specs.Scopes.{all_in, are_level, binders_in, calls_in, bound_items_of, each_in, entered, environment_in, eval_in, kept_in, where_in};
 
 use crate::builtins::apply;
 use crate::calls::find_function;
@@ -348,7 +348,7 @@ fn all_columns(
     binders: &[Binder],
     scope: &Scope,
 ) -> Result<Vec<Column>, Halt>
-    ensures { Answers (λ columns. map (column_of context.now.text.now) columns.items) result
+    ensures { Answers (λ columns. map (bound_items_of context.now.text.now) columns.items) result
         (binders_in context.now scope.now (binders_of binders.now)) }
 {
     let mut columns = Vec::new(context.alloc);
@@ -419,7 +419,7 @@ fn rows<'a>(
     requires { are_level number columns.now ≡ true }
     ensures { Answers (λ values. map value_of values.items) result
         (each_in context.now scope.now (tree_of body.now)
-        (rows_of number (map (column_of context.now.text.now) columns.now))) }
+        (rows_of number (map (bound_items_of context.now.text.now) columns.now))) }
 {
     let mut values = Vec::new(context.alloc);
     for index in 0..number {
@@ -449,7 +449,7 @@ fn rows_where<'a>(
     requires { are_level number columns.now ≡ true }
     ensures { Answers (λ values. map value_of values.items) result
         (where_in context.now scope.now at (tree_of body.now) (tree_of condition.now)
-        (rows_of number (map (column_of context.now.text.now) columns.now))) }
+        (rows_of number (map (bound_items_of context.now.text.now) columns.now))) }
 {
     let mut values = Vec::new(context.alloc);
     for index in 0..number {

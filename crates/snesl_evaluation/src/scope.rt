@@ -7,7 +7,7 @@ ghost use Rattle.snesl_data.specs.Values.{value_of};
 ghost use Rattle.snesl_tree.specs.Spelling.{spelling};
 ghost use Rattle.snesl_evaluation.specs.Eval.{in_step, named, rows_of};
 ghost use Rattle.snesl_evaluation.specs.Results.{Answers};
-ghost use Rattle.snesl_evaluation.specs.Scopes.{are_level, column_of, environment_in, first_height, names_of, row_at};
+ghost use Rattle.snesl_evaluation.specs.Scopes.{are_level, bound_items_of, environment_in, first_height, names_of, names_at};
 
 use crate::entries::{Entry, find_entry};
 use crate::halt::{Halt, fault};
@@ -118,7 +118,7 @@ fn find_in_row<'a>(
     index: usize,
 ) -> Option<&'a Datum>
     ensures { option_map (λ datum. value_of datum.now) result ≡
-        value_in name.now (row_at index (map (column_of text.now) columns.now)) }
+        value_in name.now (names_at index (map (bound_items_of text.now) columns.now)) }
 {
     let (column, columns) = columns.split_first()?;
     match find_in_column(name, text, column, index) {
@@ -149,8 +149,8 @@ pub fn add_column(
     name: Span,
     items: Vec<Datum>,
 ) -> Result<(), AllocError>
-    ensures { (text : List ℕ) → OnOk result (map (column_of text) columns.new.items ≡
-        map (column_of text) columns.old.items ++ (spelling text name, map value_of items.items) ∷
+    ensures { (text : List ℕ) → OnOk result (map (bound_items_of text) columns.new.items ≡
+        map (bound_items_of text) columns.old.items ++ (spelling text name, map value_of items.items) ∷
         []) }
 {
     columns.push(Column { name, items })?;
@@ -161,8 +161,8 @@ pub fn add_column(
 pub fn height(at: usize, columns: &[Column]) -> Result<usize, Halt>
     ensures level { IfOk result (λ n. are_level n columns.now ≡ true) }
     ensures in_step { (text : List ℕ) → Answers (λ n.
-        rows_of n (map (column_of text) columns.now)) result
-        (in_step at (map (column_of text) columns.now)) }
+        rows_of n (map (bound_items_of text) columns.now)) result
+        (in_step at (map (bound_items_of text) columns.now)) }
 {
     let height = first_height(columns);
     if are_level(columns, height) {

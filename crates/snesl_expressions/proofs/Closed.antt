@@ -7,13 +7,13 @@ use Rattle.snesl_lexer.specs.declared.token.Token.{Token}
 use Rattle.snesl_tree.specs.Tree.{Tree, binary, prefix, call, apply, group, pair, binding, choice, literal, filter, each, none, both, none_bound, always, only_where, depth}
 use Rattle.snesl_grammar.specs.Operators.{level, prefix_level, sign, prefix_sign}
 use Rattle.snesl_grammar.specs.Expressions.{token, name_token, added, bound_also, binder_count, greatest_binder_count, Whole, binary_rule, prefix_rule, call_rule, apply_rule, group_rule, pair_rule, let_rule, if_rule, literal_rule, filter_rule, each_rule, each_where_rule}
-use Rattle.snesl_expressions.specs.Machine.{Frame, in_binary, in_prefix, in_call, in_apply, in_second, in_let_body, in_positive, in_negative, in_braces, in_filter, in_each_condition, State, operand, after, binder_name, Folded, reduce, floor, comma_move, paren_move, brace_move, colon_move, bar_move, semicolon_move, in_move, then_move, else_move, closing}
-use Rattle.snesl_expressions.specs.Readers.{Move, free}
+use Rattle.snesl_expressions.specs.Machine.{Frame, in_binary, in_prefix, in_call, in_apply, in_second, in_let_body, in_positive, in_negative, in_braces, in_filter, in_each_condition, State, operand, after, binder_name, Folded, reduce, floor, comma_move, paren_move, brace_move, colon_move, bar_move, semicolon_move, in_move, then_move, else_move, closing_move}
+use Rattle.snesl_expressions.specs.Readers.{TokenMove, free}
 use Rattle.snesl_expressions.proofs.Depths.{depth_pos, depth_added, depth_bound_also, count_bound_also}
 use Rattle.snesl_expressions.proofs.Spelled.{some_given, no_bound, some_bound, Spells, spells_empty, spells_binary, spells_prefix, spells_call, spells_apply, spells_group, spells_second, spells_value, spells_let_body, spells_condition, spells_positive, spells_negative, spells_braces, spells_filter, spells_source, spells_each_condition, Stands, stands_operand, stands_after, stands_binder_name, given_whole, given_nothing, bound_whole}
 
 -- a move keeps what stands, where the depth allows it
-abbrev pub Good : ℕ → List Token → Token → Option (Move State) → Type 0
+abbrev pub Good : ℕ → List Token → Token → Option (TokenMove State) → Type 0
 Good deep ts t None = Unit {0}
 Good deep ts t (Some found) = found.want ≤ deep → Stands deep found.next (ts ++ (t ∷ []))
 
@@ -92,7 +92,7 @@ reduce_stands (spells_source colon within h wb room b fit) k w wk fits = stays k
 reduce_stands (spells_each_condition colon bar h wb room b fit) k w wk fits = stays k (spells_each_condition colon bar h wb room b fit) wk fits
 
 -- a closing token keeps what stands
-abbrev pub Keeps : ℕ → Kind → (List Frame → Tree → Option (Move State)) → Type 0
+abbrev pub Keeps : ℕ → Kind → (List Frame → Tree → Option (TokenMove State)) → Type 0
 Keeps deep kind found =
     (at : ℕ) (frames : List Frame) (ts us : List Token) (last : Tree) → Spells deep frames ts → Whole 0 us last → depth last + length frames ≤ deep
     → Good deep (ts ++ us) (token kind at) (found frames last)
@@ -194,10 +194,10 @@ else_keeps at _ _ _ e (spells_positive {at = begun} next {frames = s} {condition
 else_keeps at _ _ _ _ _ w fits = tt
 
 -- what a closing token does, behind forms that are closed with it
-pub closing_good : {deep : ℕ} (kind : Kind) (found : List Frame → Tree → Option (Move State)) → Keeps deep kind found
+pub closing_good : {deep : ℕ} (kind : Kind) (found : List Frame → Tree → Option (TokenMove State)) → Keeps deep kind found
     → (at : ℕ) {frames : List Frame} {ts us : List Token} {last : Tree}
     → Spells deep frames ts → ((here : ℕ) → Whole here us last) → depth last + length frames ≤ deep
-    → Good deep (ts ++ us) (token kind at) (closing found frames last)
+    → Good deep (ts ++ us) (token kind at) (closing_move found frames last)
 closing_good {deep = deep} kind found keeps at {frames = frames} {last = last} h w fits =
     let folded : Folded = reduce 0 frames last in
     let reduced = reduce_stands h 0 (w (floor frames)) (w 0) fits in

@@ -18,7 +18,7 @@ use Rattle.snesl_grammar.specs.Limits.{greatest_depth}
 use Rattle.snesl_grammar.specs.Operators.{level}
 use Rattle.snesl_grammar.specs.Expressions.{bound_also, greatest_binder_count}
 use Rattle.snesl_expressions.specs.Readers.{within, free, beyond_depth}
-use Rattle.snesl_expressions.specs.Machine.{Frame, in_binary, in_braces, in_source, operand, binder_name, Folded, closes, closed_with, reduce, floor, alone, infix_move, colon_move, bar_move, semicolon_move}
+use Rattle.snesl_expressions.specs.Machine.{Frame, in_binary, in_braces, in_source, operand, binder_name, Folded, binds_at, closed_with, reduce, floor, alone, infix_move, colon_move, bar_move, semicolon_move}
 use Rattle.snesl_expressions.specs.Parsing.{frame_of, piled, frames_of}
 use Rattle.snesl_expressions.proofs.Rows.{binder_count-binders_of}
 use Rattle.snesl_expressions.proofs.Piles.{frames_of-push, length-frames_of, reduce_closes, reduce_keeps}
@@ -94,12 +94,12 @@ still_open fs e h =
 -- whether all frames close by themselves
 abbrev every : List Frame → Bool
 every [] = true
-every (f ∷ s) = cond (closes 0 f) (every s) false
+every (f ∷ s) = cond (binds_at 0 f) (every s) false
 
 reduce_whole : (s : List Frame) (e : Tree) → is_some (alone (reduce 0 s e)) ≡ every s
 reduce_whole [] e = refl
 reduce_whole (f ∷ s) e =
-    elim (cases_Bool (closes 0 f)) [
+    elim (cases_Bool (binds_at 0 f)) [
       | inl closing ↦
           ap (λ r. is_some (alone r)) (reduce_closes 0 f s e closing)
           ∙ reduce_whole s (closed_with f e) ∙ sym (ap (λ b. cond b (every s) false) closing)
@@ -108,7 +108,7 @@ reduce_whole (f ∷ s) e =
           ∙ ap (λ b. is_some (cond b (Some e) None)) (lt-leb (suc (length s)) 0 (omega arith)) ∙ sym (ap (λ b. cond b (every s) false) staying)
     ]
 
-all_piled : (fs : List Form) (below : List Frame) → All (λ f. IsTrue (closes 0 (frame_of f))) fs → every below ≡ true → every (piled fs below) ≡ true
+all_piled : (fs : List Form) (below : List Frame) → All (λ f. IsTrue (binds_at 0 (frame_of f))) fs → every below ≡ true → every (piled fs below) ≡ true
 all_piled [] below a h = h
 all_piled (x ∷ fs) below a h =
     all_piled fs (frame_of x ∷ below) (λ k d less. a (suc k) d (omega arith)) (ap (λ b. cond b (every below) false) (a zero x (omega arith)) ∙ h)
@@ -117,19 +117,19 @@ both_true : (a b : Bool) → cond a b false ≡ true → (a ≡ true) × (b ≡ 
 both_true true b h = (refl, h)
 both_true false b h = absurd (let no : ⊥ = cc in no)
 
-piled_all : (fs : List Form) (below : List Frame) → every (piled fs below) ≡ true → All (λ f. IsTrue (closes 0 (frame_of f))) fs × (every below ≡ true)
-piled_all [] below h = (All-nil (λ f. IsTrue (closes 0 (frame_of f))), h)
+piled_all : (fs : List Form) (below : List Frame) → every (piled fs below) ≡ true → All (λ f. IsTrue (binds_at 0 (frame_of f))) fs × (every below ≡ true)
+piled_all [] below h = (All-nil (λ f. IsTrue (binds_at 0 (frame_of f))), h)
 piled_all (x ∷ fs) below h =
     let r = piled_all fs (frame_of x ∷ below) h in
-    let t = both_true (closes 0 (frame_of x)) (every below) r.1 in
-    (All-cons (λ f. IsTrue (closes 0 (frame_of f))) x fs t.0 r.0, t.1)
+    let t = both_true (binds_at 0 (frame_of x)) (every below) r.1 in
+    (All-cons (λ f. IsTrue (binds_at 0 (frame_of f))) x fs t.0 r.0, t.1)
 
 same_tests : (r x : Bool) → (r ≡ true → x ≡ true) → (x ≡ true → r ≡ true) → r ≡ x
 same_tests true x f g = sym (f refl)
 same_tests false true f g = g refl
 same_tests false false f g = refl
 
-pub all_closed : (r : Bool) (fs : List Form) (e : Tree) → (IsTrue r ↔ All (λ f. IsTrue (closes 0 (frame_of f))) fs)
+pub all_closed : (r : Bool) (fs : List Form) (e : Tree) → (IsTrue r ↔ All (λ f. IsTrue (binds_at 0 (frame_of f))) fs)
     → r ≡ is_some (alone (reduce 0 (frames_of fs) e))
 all_closed r fs e w =
     same_tests r (is_some (alone (reduce 0 (frames_of fs) e)))

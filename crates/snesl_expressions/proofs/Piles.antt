@@ -7,7 +7,7 @@ use Rattle.snesl_tree.specs.Tree.{Tree}
 use Rattle.snesl_expressions.specs.declared.forms.Form.{Form}
 use Rattle.snesl_grammar.specs.Limits.{greatest_depth}
 use Rattle.snesl_expressions.specs.Readers.{within, beyond_depth}
-use Rattle.snesl_expressions.specs.Machine.{Frame, in_binary, in_prefix, in_call, in_apply, in_group, in_second, in_value, in_let_body, in_condition, in_positive, in_negative, in_braces, in_filter, in_source, in_each_condition, State, closes, closed_with, reduce, open_move, floor}
+use Rattle.snesl_expressions.specs.Machine.{Frame, in_binary, in_prefix, in_call, in_apply, in_group, in_second, in_value, in_let_body, in_condition, in_positive, in_negative, in_braces, in_filter, in_source, in_each_condition, State, binds_at, closed_with, reduce, open_move, floor}
 use Rattle.snesl_expressions.specs.Parsing.{frame_of, piled, frames_of}
 
 piled-push : (fs : List Form) (f : Form) (below : List Frame) → piled (fs ++ f ∷ []) below ≡ frame_of f ∷ piled fs below
@@ -44,17 +44,17 @@ zero_test zero = refl
 zero_test (suc n) = ne_eqb (suc n) 0 (λ h. omega arith) ∙ sym (lt-leb (suc n) 0 (omega arith))
 
 -- a frame that closes at this tightness, and one that stays open
-pub reduce_closes : (l : ℕ) (f : Frame) (s : List Frame) (e : Tree) → closes l f ≡ true → reduce l (f ∷ s) e ≡ reduce l s (closed_with f e)
+pub reduce_closes : (l : ℕ) (f : Frame) (s : List Frame) (e : Tree) → binds_at l f ≡ true → reduce l (f ∷ s) e ≡ reduce l s (closed_with f e)
 reduce_closes l f s e h = ap (λ b. cond b (reduce l s (closed_with f e)) (record { frames = f ∷ s; last = e })) h
 
-pub reduce_keeps : (l : ℕ) (f : Frame) (s : List Frame) (e : Tree) → closes l f ≡ false → reduce l (f ∷ s) e ≡ record { frames = f ∷ s; last = e }
+pub reduce_keeps : (l : ℕ) (f : Frame) (s : List Frame) (e : Tree) → binds_at l f ≡ false → reduce l (f ∷ s) e ≡ record { frames = f ∷ s; last = e }
 reduce_keeps l f s e h = ap (λ b. cond b (reduce l s (closed_with f e)) (record { frames = f ∷ s; last = e })) h
 
-pub closes_last : (l : ℕ) (fs : List Form) (f : Form) (e : Tree) → closes l (frame_of f) ≡ true
+pub closes_last : (l : ℕ) (fs : List Form) (f : Form) (e : Tree) → binds_at l (frame_of f) ≡ true
     → reduce l (frames_of (fs ++ f ∷ [])) e ≡ reduce l (frames_of fs) (closed_with (frame_of f) e)
 closes_last l fs f e h = ap (λ s. reduce l s e) (frames_of-push fs f) ∙ reduce_closes l (frame_of f) (frames_of fs) e h
 
-pub keeps_last : (l : ℕ) (fs : List Form) (f : Form) (e : Tree) → closes l (frame_of f) ≡ false
+pub keeps_last : (l : ℕ) (fs : List Form) (f : Form) (e : Tree) → binds_at l (frame_of f) ≡ false
     → reduce l (frames_of (fs ++ f ∷ [])) e ≡ record { frames = frames_of (fs ++ f ∷ []); last = e }
 keeps_last l fs f e h =
     ap (λ s. reduce l s e) (frames_of-push fs f) ∙ reduce_keeps l (frame_of f) (frames_of fs) e h

@@ -2,7 +2,7 @@
 use Rattle.std.proofs.Common.{◌≡◌, ℕ, max, ◌≤◌, cond, leb, List, [], ◌∷◌, ◌++◌, Option, Some, None, Result, Ok, Err, refl, sym, ◌∙◌, ap, arith, le-leb, inl, inr}
 use Rattle.std.proofs.lemmas.Bool.{leb-true, cases_Bool}
 use Rattle.snesl_lexer.specs.declared.token.Token.{Token}
-use Rattle.snesl_expressions.specs.Readers.{Stop, unexpected, beyond_depth, Move, Reader, within, bind, step, go}
+use Rattle.snesl_expressions.specs.Readers.{Stop, unexpected, beyond_depth, TokenMove, Reader, within, bind, step, go}
 
 pub bind_ok : {State : Type 0} (x : Result State Stop) (further : State → Result State Stop) (next : State) → bind x further ≡ Ok next
     → (r : State) × (x ≡ Ok r) × (further r ≡ Ok next)
@@ -10,13 +10,13 @@ bind_ok (Ok r) further next e = (r, refl, e)
 bind_ok (Err stop) further next e = cc
 
 -- a move that is within the depth
-pub within_fits : {State : Type 0} (d : ℕ) (m : Option (Move State)) (next : State) (want : ℕ)
+pub within_fits : {State : Type 0} (d : ℕ) (m : Option (TokenMove State)) (next : State) (want : ℕ)
     → m ≡ Some (record { want = want; next = next }) → want ≤ d → within d m ≡ Ok next
 within_fits d m next want e h = ap (within d) e ∙ ap (λ b. cond b (Ok next) (Err beyond_depth)) (le-leb want d h)
 
 -- what a move within the depth was
-pub within_ok : {State : Type 0} (d : ℕ) (m : Option (Move State)) (next : State) → within d m ≡ Ok next
-    → (found : Move State) × (m ≡ Some found) × (found.want ≤ d) × (found.next ≡ next)
+pub within_ok : {State : Type 0} (d : ℕ) (m : Option (TokenMove State)) (next : State) → within d m ≡ Ok next
+    → (found : TokenMove State) × (m ≡ Some found) × (found.want ≤ d) × (found.next ≡ next)
 within_ok d None next e = cc
 within_ok {State = State} d (Some found) next e =
     elim (cases_Bool (leb found.want d)) [
@@ -27,13 +27,13 @@ within_ok {State = State} d (Some found) next e =
     ]
 
 -- more depth changes no move
-pub within_more : {State : Type 0} (d D : ℕ) (m : Option (Move State)) (next : State) → d ≤ D → within d m ≡ Ok next → within D m ≡ Ok next
+pub within_more : {State : Type 0} (d D : ℕ) (m : Option (TokenMove State)) (next : State) → d ≤ D → within d m ≡ Ok next → within D m ≡ Ok next
 within_more d D m next h e =
     let w = within_ok d m next e in
     within_fits D m w.0.next w.0.want w.1 (omega (arith, w.2)) ∙ ap Ok w.3
 
 -- a token without a move has none at any depth
-pub within_unexpected : {State : Type 0} (d D : ℕ) (m : Option (Move State)) → within d m ≡ Err unexpected → within D m ≡ Err unexpected
+pub within_unexpected : {State : Type 0} (d D : ℕ) (m : Option (TokenMove State)) → within d m ≡ Err unexpected → within D m ≡ Err unexpected
 within_unexpected d D None e = refl
 within_unexpected {State = State} d D (Some found) e =
     elim (cases_Bool (leb found.want d)) [
@@ -42,7 +42,7 @@ within_unexpected {State = State} d D (Some found) e =
     ]
 
 -- a depth that is too little for a move is followed by one that is enough
-pub within_deeper : {State : Type 0} (d : ℕ) (m : Option (Move State)) → within d m ≡ Err beyond_depth
+pub within_deeper : {State : Type 0} (d : ℕ) (m : Option (TokenMove State)) → within d m ≡ Err beyond_depth
     → (D : ℕ) × (next : State) × (d ≤ D) × (within D m ≡ Ok next)
 within_deeper d None e = absurd (let never : ⊥ = cc in never)
 within_deeper d (Some found) e =

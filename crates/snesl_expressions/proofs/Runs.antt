@@ -13,8 +13,8 @@ use Rattle.snesl_tree.specs.declared.span.Span.{Span}
 use Rattle.snesl_tree.specs.Tree.{Tree, Trees, Binders, truth, binary, prefix, call, apply, binding, choice, literal, each, none, none_bound, always, depth, depth_of_all, depth_of_binders}
 use Rattle.snesl_grammar.specs.Operators.{level, left_level, prefix_level, sign, prefix_sign, truth_word, word}
 use Rattle.snesl_grammar.specs.Expressions.{token, name_token, added, bound_also, binder_count, greatest_binder_count, Whole, integer_rule, truth_rule, name_rule, binary_rule, prefix_rule, call_rule, apply_rule, group_rule, pair_rule, let_rule, if_rule, literal_rule, filter_rule, each_rule, each_where_rule, WholeArguments, one_rule, more_rule, WholeBinders, one_binder, more_binders}
-use Rattle.snesl_expressions.specs.Readers.{Move, free, go}
-use Rattle.snesl_expressions.specs.Machine.{Frame, in_binary, in_prefix, in_call, in_apply, in_group, in_second, in_value, in_let_body, in_condition, in_positive, in_negative, in_braces, in_filter, in_source, in_each_condition, State, operand, after, opening, let_name, binder_name, reduce, floor, open_move, at_level, infix_move, comma_move, paren_move, brace_move, colon_move, bar_move, semicolon_move, in_move, then_move, else_move, closing, joining, move_of, alone, expressions}
+use Rattle.snesl_expressions.specs.Readers.{TokenMove, free, go}
+use Rattle.snesl_expressions.specs.Machine.{Frame, in_binary, in_prefix, in_call, in_apply, in_group, in_second, in_value, in_let_body, in_condition, in_positive, in_negative, in_braces, in_filter, in_source, in_each_condition, State, operand, after, opening, let_name, binder_name, reduce, floor, open_move, at_level, infix_move, comma_move, paren_move, brace_move, colon_move, bar_move, semicolon_move, in_move, then_move, else_move, closing_move, joining, token_move, alone, expressions}
 use Rattle.snesl_expressions.proofs.Reading.{goes_on, steps_on, fits_step}
 use Rattle.snesl_expressions.proofs.Piles.{reduce_closes, reduce_keeps}
 use Rattle.snesl_expressions.proofs.Depths.{depth_pos, depth_added, arguments_pos, depth_bound_also, count_bound_also}
@@ -32,22 +32,22 @@ goes_then {d = d} {s = s} {r = r} {ts = ts} {us = us} first further =
     record { reads = goes_on expressions d s r ts us first.reads ∙ further.reads }
 
 -- a token whose move is within the depth
-step_then : {d : ℕ} {s r n : State} (t : Token) {ts : List Token} (want : ℕ) → move_of s t.kind t.at ≡ Some (record { want = want; next = r })
+step_then : {d : ℕ} {s r n : State} (t : Token) {ts : List Token} (want : ℕ) → token_move s t.kind t.at ≡ Some (record { want = want; next = r })
     → want ≤ d → Goes d r ts n → Goes d s (t ∷ ts) n
 step_then {d = d} {s = s} {r = r} t {ts = ts} want e h further =
     record { reads = steps_on expressions d s r t ts (fits_step expressions d s r t want e h) ∙ further.reads }
 
 -- a token whose move is free
-free_then : {d : ℕ} {s r n : State} (t : Token) {ts : List Token} → move_of s t.kind t.at ≡ free r → Goes d r ts n → Goes d s (t ∷ ts) n
+free_then : {d : ℕ} {s r n : State} (t : Token) {ts : List Token} → token_move s t.kind t.at ≡ free r → Goes d r ts n → Goes d s (t ∷ ts) n
 free_then t e further = step_then t 0 e (omega arith) further
 
 -- a token that opens a form
-open_then : {d : ℕ} {s r n : State} (t : Token) (frames : List Frame) {ts : List Token} → move_of s t.kind t.at ≡ open_move frames r
+open_then : {d : ℕ} {s r n : State} (t : Token) (frames : List Frame) {ts : List Token} → token_move s t.kind t.at ≡ open_move frames r
     → suc (suc (length frames)) ≤ d → Goes d r ts n → Goes d s (t ∷ ts) n
 open_then t frames e h further = step_then t (suc (suc (length frames))) e h further
 
 -- a move at a level, where a form that binds so tightly may stand
-pub at_level_fits : (tightness : ℕ) (frames : List Frame) (found : Option (Move State)) → floor frames ≤ tightness → at_level tightness frames found ≡ found
+pub at_level_fits : (tightness : ℕ) (frames : List Frame) (found : Option (TokenMove State)) → floor frames ≤ tightness → at_level tightness frames found ≡ found
 at_level_fits tightness frames found h = ap (λ b. cond b found None) (le-leb (floor frames) tightness h)
 
 -- the innermost frame stays open at this tightness
@@ -115,7 +115,7 @@ pub reduce_negative : (k : ℕ) (frames : List Frame) (at : ℕ) (condition posi
 reduce_negative zero frames at condition positive last h = refl
 reduce_negative (suc k) frames at condition positive last h = absurd (omega arith)
 
-pub move_sign : (frames : List Frame) (last : Tree) (o : Operator) (at : ℕ) → move_of (after frames last) (sign o) at ≡ joining o at frames last
+pub move_sign : (frames : List Frame) (last : Tree) (o : Operator) (at : ℕ) → token_move (after frames last) (sign o) at ≡ joining o at frames last
 move_sign frames last Or at = refl
 move_sign frames last And at = refl
 move_sign frames last Equal at = refl
@@ -132,15 +132,15 @@ move_sign frames last Remainder at = refl
 move_sign frames last Index at = refl
 
 pub move_prefix : (frames : List Frame) (o : Prefix) (at : ℕ)
-    → move_of (operand frames) (prefix_sign o) at ≡ at_level prefix_level frames (open_move frames (operand (in_prefix at o ∷ frames)))
+    → token_move (operand frames) (prefix_sign o) at ≡ at_level prefix_level frames (open_move frames (operand (in_prefix at o ∷ frames)))
 move_prefix frames Negate at = refl
 move_prefix frames Not at = refl
 
-pub move_truth : (frames : List Frame) (value : Bool) (at : ℕ) → move_of (operand frames) (truth_word value) at ≡ free (after frames (truth at value))
+pub move_truth : (frames : List Frame) (value : Bool) (at : ℕ) → token_move (operand frames) (truth_word value) at ≡ free (after frames (truth at value))
 move_truth frames true at = refl
 move_truth frames false at = refl
 
-pub move_word : (frames : List Frame) (f : Builtin) (at : ℕ) → move_of (operand frames) (word f) at ≡ open_move frames (opening frames at f)
+pub move_word : (frames : List Frame) (f : Builtin) (at : ℕ) → token_move (operand frames) (word f) at ≡ open_move frames (opening frames at f)
 move_word frames builtins.Iota at = refl
 move_word frames builtins.ScanAdd at = refl
 move_word frames builtins.ReduceAdd at = refl
@@ -168,21 +168,21 @@ infix_then : {d : ℕ} {frames : List Frame} {ts us : List Token} {tree : Tree} 
     → Reads d frames (left_level o) ts tree → floor frames ≤ level o → suc (depth tree + length frames) ≤ d
     → Goes d (operand (in_binary at o tree ∷ frames)) us n → Goes d (operand frames) (ts ++ (token (sign o) at ∷ us)) n
 infix_then {frames = frames} {tree = tree} at o r low h further =
-    let found : Option (Move State) = Some (record { want = suc (depth tree + length frames); next = operand (in_binary at o tree ∷ frames) }) in
+    let found : Option (TokenMove State) = Some (record { want = suc (depth tree + length frames); next = operand (in_binary at o tree ∷ frames) }) in
     goes_then r.runs (step_then (token (sign o) at) (suc (depth tree + length frames))
     (move_sign r.left r.last o at
     ∙ ap (infix_move o at) (r.folds (left_level o) (omega arith) ∙ reduce_stays (left_level o) frames tree (stays_outside frames o low))
     ∙ at_level_fits (level o) frames found low) h further)
 
 -- what a closing token does behind an expression, it does behind what is left of it
-closed_alike : (found : List Frame → Tree → Option (Move State)) {d : ℕ} {frames : List Frame} {ts : List Token} {tree : Tree}
-    (r : Reads d frames 0 ts tree) → closing found r.left r.last ≡ closing found frames tree
+closed_alike : (found : List Frame → Tree → Option (TokenMove State)) {d : ℕ} {frames : List Frame} {ts : List Token} {tree : Tree}
+    (r : Reads d frames 0 ts tree) → closing_move found r.left r.last ≡ closing_move found frames tree
 closed_alike found r = ap (λ x. found x.frames x.last) (r.folds 0 (omega arith))
 
 -- an expression, and a token that ends it as a part
-part_then : (found : List Frame → Tree → Option (Move State)) {d : ℕ} {frames : List Frame} {ts us : List Token} {tree : Tree} {next n : State} (t : Token)
-    → Reads d frames 0 ts tree → ((left : List Frame) (last : Tree) → move_of (after left last) t.kind t.at ≡ closing found left last)
-    → closing found frames tree ≡ free next → Goes d next us n → Goes d (operand frames) (ts ++ (t ∷ us)) n
+part_then : (found : List Frame → Tree → Option (TokenMove State)) {d : ℕ} {frames : List Frame} {ts us : List Token} {tree : Tree} {next n : State} (t : Token)
+    → Reads d frames 0 ts tree → ((left : List Frame) (last : Tree) → token_move (after left last) t.kind t.at ≡ closing_move found left last)
+    → closing_move found frames tree ≡ free next → Goes d next us n → Goes d (operand frames) (ts ++ (t ∷ us)) n
 part_then found t r moves closes further =
     goes_then r.runs (free_then t (moves r.left r.last ∙ closed_alike found r ∙ closes) further)
 
@@ -201,7 +201,7 @@ closes_last r closes before =
 pub record HoldsArguments (frame : Trees → Frame) : Type 0 where
   pub any_may_stand : (given : Trees) (frames : List Frame) → floor (frame given ∷ frames) ≤ 0
   pub comma_adds : (given : Trees) (frames : List Frame) (last : Tree)
-      → closing comma_move (frame given ∷ frames) last ≡ free (operand (frame (added given last) ∷ frames))
+      → closing_move comma_move (frame given ∷ frames) last ≡ free (operand (frame (added given last) ∷ frames))
 
 call_holds : (at : ℕ) (f : Builtin) → HoldsArguments (in_call at f)
 call_holds at f = record { any_may_stand = λ given frames. omega arith; comma_adds = λ given frames last. refl }
@@ -239,10 +239,10 @@ last_argument given {final = final} r before =
     }
 
 -- arguments, and a token that ends them
-arguments_then : (found : List Frame → Tree → Option (Move State)) (make : Trees → State) {d : ℕ} {frames : List Frame} {frame : Trees → Frame}
+arguments_then : (found : List Frame → Tree → Option (TokenMove State)) (make : Trees → State) {d : ℕ} {frames : List Frame} {frame : Trees → Frame}
     {ts us : List Token} {arguments : Trees} {n : State} (t : Token)
-    → ReadsArguments d frames frame ts arguments → ((left : List Frame) (last : Tree) → move_of (after left last) t.kind t.at ≡ closing found left last)
-    → ((front : Trees) (final : Tree) → closing found (frame front ∷ frames) final ≡ free (make (added front final)))
+    → ReadsArguments d frames frame ts arguments → ((left : List Frame) (last : Tree) → token_move (after left last) t.kind t.at ≡ closing_move found left last)
+    → ((front : Trees) (final : Tree) → closing_move found (frame front ∷ frames) final ≡ free (make (added front final)))
     → Goes d (make arguments) us n → Goes d (operand (frame none ∷ frames)) (ts ++ (t ∷ us)) n
 arguments_then found make t r moves closes further =
     goes_then r.runs (free_then t
@@ -277,11 +277,11 @@ last_binder {binders = binders} {place = place} {source = source} r before =
     }
 
 -- binders, and a token that ends them
-binders_then : (found : List Frame → Tree → Option (Move State)) {d at : ℕ} {frames : List Frame} {body : Tree}
+binders_then : (found : List Frame → Tree → Option (TokenMove State)) {d at : ℕ} {frames : List Frame} {body : Tree}
     {ts us : List Token} {binders : Binders} {next n : State} (t : Token)
-    → ReadsBinders d frames at body ts binders → ((left : List Frame) (last : Tree) → move_of (after left last) t.kind t.at ≡ closing found left last)
+    → ReadsBinders d frames at body ts binders → ((left : List Frame) (last : Tree) → token_move (after left last) t.kind t.at ≡ closing_move found left last)
     → ((front : Binders) (place : Span) (source : Tree) → bound_also front place source ≡ binders
-    → closing found (in_source at body front place ∷ frames) source ≡ free next)
+    → closing_move found (in_source at body front place ∷ frames) source ≡ free next)
     → Goes d next us n → Goes d (binder_name frames at body none_bound) (ts ++ (t ∷ us)) n
 binders_then found t r moves closes further =
     goes_then r.runs (free_then t
@@ -290,10 +290,10 @@ binders_then found t r moves closes further =
 -- a semicolon behind fewer than eight binders
 semicolon_ends : (at : ℕ) (frames : List Frame) (body : Tree) (binders : Binders) → binder_count binders < greatest_binder_count
     → (front : Binders) (place : Span) (source : Tree) → bound_also front place source ≡ binders
-    → closing semicolon_move (in_source at body front place ∷ frames) source ≡ free (binder_name frames at body binders)
+    → closing_move semicolon_move (in_source at body front place ∷ frames) source ≡ free (binder_name frames at body binders)
 semicolon_ends at frames body binders few front place source same =
     let count : binder_count binders ≡ suc (binder_count front) = ap binder_count (sym same) ∙ count_bound_also front place source in
-    let found : Option (Move State) = free (binder_name frames at body (bound_also front place source)) in
+    let found : Option (TokenMove State) = free (binder_name frames at body (bound_also front place source)) in
     ap (λ b. cond b found None) (lt-ltb (suc (binder_count front)) greatest_binder_count (omega arith))
     ∙ ap (λ x. free (binder_name frames at body x)) same
 

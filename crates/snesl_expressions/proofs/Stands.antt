@@ -16,15 +16,15 @@ use Rattle.snesl_tree.specs.Tree.{Tree, Binders, name, none, depth, depth_of_bin
 use Rattle.snesl_grammar.specs.Operators.{level, left_level, prefix_level, sign, prefix_sign, word}
 use Rattle.snesl_grammar.specs.Expressions.{token, name_token, Whole, integer_rule, truth_rule, name_rule, Front, nothing, whole, binary_right, prefix_operand, call_word, call_arguments, apply_arguments, group_inner, pair_second, let_word, let_value, let_body, if_condition, if_positive, if_negative, brace_items, filter_condition, each_binders, each_condition, no_binder, binder_source}
 use Rattle.snesl_grammar.specs.Expressions.{let_name as let_name_front, binder_name as binder_name_front}
-use Rattle.snesl_expressions.specs.Machine.{Frame, in_binary, in_prefix, in_call, in_apply, in_value, in_condition, in_source, State, operand, after, opening, let_name, let_equals, binder_name, binder_in, Folded, reduce, floor, at_level, open_move, apply_move, comma_move, paren_move, brace_move, colon_move, bar_move, semicolon_move, in_move, then_move, else_move, joining, operand_move, after_move, move_of, alone, finished_of, expressions}
-use Rattle.snesl_expressions.specs.Readers.{Move, within, step, go}
+use Rattle.snesl_expressions.specs.Machine.{Frame, in_binary, in_prefix, in_call, in_apply, in_value, in_condition, in_source, State, operand, after, opening, let_name, let_equals, binder_name, binder_in, Folded, reduce, floor, at_level, open_move, apply_move, comma_move, paren_move, brace_move, colon_move, bar_move, semicolon_move, in_move, then_move, else_move, joining, operand_move, after_move, token_move, alone, finished_of, expressions}
+use Rattle.snesl_expressions.specs.Readers.{TokenMove, within, step, go}
 use Rattle.snesl_expressions.proofs.Reading.{bind_ok, within_ok}
 use Rattle.snesl_expressions.proofs.Depths.{depth_pos}
 use Rattle.snesl_expressions.proofs.Spelled.{no_given, Bound, Spells, spells_empty, spells_binary, spells_prefix, spells_call, spells_apply, spells_group, spells_second, spells_value, spells_let_body, spells_condition, spells_positive, spells_negative, spells_braces, spells_filter, spells_source, spells_each_condition, Stands, stands_operand, stands_after, stands_opening, stands_let_name, stands_let_equals, stands_binder_name, stands_binder_in, given_front, bound_front}
 use Rattle.snesl_expressions.proofs.Closed.{Good, along, picked, Reduced, reduce_stands, comma_keeps, paren_keeps, brace_keeps, colon_keeps, bar_keeps, semicolon_keeps, in_keeps, then_keeps, else_keeps, closing_good}
 
 -- a move of a form that may stand bare here
-level_good : (deep : ℕ) (ts : List Token) (t : Token) (tightness : ℕ) (frames : List Frame) (found : Option (Move State))
+level_good : (deep : ℕ) (ts : List Token) (t : Token) (tightness : ℕ) (frames : List Frame) (found : Option (TokenMove State))
     → (floor frames ≤ tightness → Good deep ts t found) → Good deep ts t (at_level tightness frames found)
 level_good deep ts t tightness frames found h = picked (Good deep ts t) (floor frames) tightness found None h (λ above. tt)
 
@@ -128,20 +128,20 @@ after_good h w fits _ at = tt
 
 opening_good : {deep : ℕ} {frames : List Frame} {ts : List Token} → Spells deep frames ts → suc (suc (length frames)) ≤ deep
     → (begun : ℕ) (function : Builtin) (kind : Kind) (at : ℕ)
-    → Good deep (ts ++ (token (word function) begun ∷ [])) (token kind at) (move_of (opening frames begun function) kind at)
+    → Good deep (ts ++ (token (word function) begun ∷ [])) (token kind at) (token_move (opening frames begun function) kind at)
 opening_good {frames = frames} h room begun f kinds.LeftParen at = λ want.
     along (operand (in_call begun f none ∷ frames)) (simp append_assoc) (stands_operand (spells_call at {function = f} h no_given room (omega arith)) room)
 opening_good h room begun f _ at = tt
 
 let_name_good : {deep : ℕ} {frames : List Frame} {ts : List Token} → Spells deep frames ts → floor frames ≤ 0 → suc (suc (length frames)) ≤ deep
-    → (begun : ℕ) (kind : Kind) (at : ℕ) → Good deep (ts ++ (token kinds.Let begun ∷ [])) (token kind at) (move_of (let_name frames begun) kind at)
+    → (begun : ℕ) (kind : Kind) (at : ℕ) → Good deep (ts ++ (token kinds.Let begun ∷ [])) (token kind at) (token_move (let_name frames begun) kind at)
 let_name_good {frames = frames} h low room begun (kinds.Name len) at = λ want.
     along (let_equals frames begun (record { at = at; len = len })) (simp append_assoc) (stands_let_equals h low room)
 let_name_good h low room begun _ at = tt
 
 let_equals_good : {deep : ℕ} {frames : List Frame} {ts : List Token} → Spells deep frames ts → floor frames ≤ 0 → suc (suc (length frames)) ≤ deep
     → (begun : ℕ) (place : Span) (kind : Kind) (at : ℕ)
-    → Good deep (ts ++ (token kinds.Let begun ∷ name_token place ∷ [])) (token kind at) (move_of (let_equals frames begun place) kind at)
+    → Good deep (ts ++ (token kinds.Let begun ∷ name_token place ∷ [])) (token kind at) (token_move (let_equals frames begun place) kind at)
 let_equals_good {frames = frames} h low room begun place kinds.Equals at = λ want.
     along (operand (in_value begun place ∷ frames)) (simp append_assoc) (stands_operand (spells_value at h low room) room)
 let_equals_good h low room begun place _ at = tt
@@ -150,7 +150,7 @@ binder_name_good : {deep : ℕ} {frames : List Frame} {ts us vs : List Token} {b
     → Spells deep frames ts → Whole 0 us body → suc (depth body + length frames) ≤ deep
     → Bound vs binders → suc (depth_of_binders binders + length frames) ≤ deep
     → (begun : ℕ) (kind : Kind) (at : ℕ)
-    → Good deep (ts ++ (token kinds.LeftBrace begun ∷ (us ++ (token kinds.Colon colon ∷ vs)))) (token kind at) (move_of (binder_name frames begun body binders) kind at)
+    → Good deep (ts ++ (token kinds.LeftBrace begun ∷ (us ++ (token kinds.Colon colon ∷ vs)))) (token kind at) (token_move (binder_name frames begun body binders) kind at)
 binder_name_good {frames = frames} {body = body} {binders = binders} colon h w room b fit begun (kinds.Name len) at = λ want.
     along (binder_in frames begun body binders (record { at = at; len = len })) (simp append_assoc) (stands_binder_in colon h w room b fit)
 binder_name_good colon h w room b fit begun _ at = tt
@@ -160,13 +160,13 @@ binder_in_good : {deep : ℕ} {frames : List Frame} {ts us vs : List Token} {bod
     → Bound vs binders → suc (depth_of_binders binders + length frames) ≤ deep
     → (begun : ℕ) (place : Span) (kind : Kind) (at : ℕ)
     → Good deep (ts ++ (token kinds.LeftBrace begun ∷ (us ++ (token kinds.Colon colon ∷ (vs ++ (name_token place ∷ [])))))) (token kind at)
-    (move_of (binder_in frames begun body binders place) kind at)
+    (token_move (binder_in frames begun body binders place) kind at)
 binder_in_good {frames = frames} {body = body} {binders = binders} colon h w room b fit begun place kinds.In at = λ want.
     along (operand (in_source begun body binders place ∷ frames)) (simp append_assoc)
     (stands_operand (spells_source colon at h w room b fit) (omega (arith, depth_pos body)))
 binder_in_good colon h w room b fit begun place _ at = tt
 
-move_good : {deep : ℕ} {state : State} {ts : List Token} → Stands deep state ts → (kind : Kind) (at : ℕ) → Good deep ts (token kind at) (move_of state kind at)
+move_good : {deep : ℕ} {state : State} {ts : List Token} → Stands deep state ts → (kind : Kind) (at : ℕ) → Good deep ts (token kind at) (token_move state kind at)
 move_good (stands_operand h room) kind at = operand_good h room kind at
 move_good (stands_after h w fits) kind at = after_good h w fits kind at
 move_good (stands_opening {at = begun} {function = f} h room) kind at = opening_good h room begun f kind at
@@ -179,7 +179,7 @@ move_good (stands_binder_in {at = begun} {place = place} colon h w room b fit) k
 step_stands : {deep : ℕ} {state next : State} {ts : List Token} → Stands deep state ts → (t : Token) → step expressions deep state t ≡ Ok next
     → Stands deep next (ts ++ (t ∷ []))
 step_stands {deep = deep} {state = state} {next = next} {ts = ts} h t e =
-    let found = within_ok deep (move_of state t.kind t.at) next e in
+    let found = within_ok deep (token_move state t.kind t.at) next e in
     let good : Good deep ts t (Some found.0) = subst (Good deep ts t) found.1 (move_good h t.kind t.at) in
     subst (λ s. Stands deep s (ts ++ (t ∷ []))) found.3 (good found.2)
 
@@ -300,8 +300,8 @@ alone_ends (frame ∷ frames) last e = absurd (let never : ⊥ = cc (e, not_alon
 -- An expression is not continued by a semicolon.
 pub whole_ends : (state : State) (tree : Tree) (token : Token) → expressions.finished state ≡ Some tree → token.kind ≡ kinds.Semicolon
     → expressions.move state token ≡ None
-whole_ends state tree token e semicolon = ap (λ kind. move_of state kind token.at) semicolon ∙ ends_by state e
+whole_ends state tree token e semicolon = ap (λ kind. token_move state kind token.at) semicolon ∙ ends_by state e
   where
-    ends_by : (s : State) → finished_of s ≡ Some tree → move_of s kinds.Semicolon token.at ≡ None
+    ends_by : (s : State) → finished_of s ≡ Some tree → token_move s kinds.Semicolon token.at ≡ None
     ends_by (after frames last) e = let folded : Folded = reduce 0 frames last in alone_ends folded.frames folded.last e
     ends_by _ e = absurd (let never : ⊥ = cc e in never)

@@ -12,7 +12,7 @@ use Rattle.snesl_tree.specs.declared.span.Span.{Span}
 use Rattle.snesl_tree.specs.Tree.{Tree, Trees, Binders, integer, truth, name, binary, prefix, call, apply, group, pair, binding, choice, literal, filter, each, none, none_bound, always, only_where, depth}
 use Rattle.snesl_grammar.specs.Operators.{level, left_level, prefix_level}
 use Rattle.snesl_grammar.specs.Expressions.{added, bound_also, binder_count, greatest_binder_count}
-use Rattle.snesl_expressions.specs.Readers.{Move, free, Reader}
+use Rattle.snesl_expressions.specs.Readers.{TokenMove, free, Reader}
 
 -- a form that is open, with its whole parts
 pub data Frame : Type 0 where
@@ -62,12 +62,12 @@ pub record Folded : Type 0 where
   pub last : Tree
 
 -- whether a form without a closing token binds at least so tightly
-abbrev pub closes : ℕ → Frame → Bool
-closes tightness (in_binary at operator left) = nat_le tightness (level operator)
-closes tightness (in_prefix at operator) = nat_le tightness prefix_level
-closes tightness (in_let_body at place value) = nat_le tightness 0
-closes tightness (in_negative at condition positive) = nat_le tightness 0
-closes tightness _ = false
+abbrev pub binds_at : ℕ → Frame → Bool
+binds_at tightness (in_binary at operator left) = nat_le tightness (level operator)
+binds_at tightness (in_prefix at operator) = nat_le tightness prefix_level
+binds_at tightness (in_let_body at place value) = nat_le tightness 0
+binds_at tightness (in_negative at condition positive) = nat_le tightness 0
+binds_at tightness _ = false
 
 -- the tree of such a form with its last part
 abbrev pub closed_with : Frame → Tree → Tree
@@ -81,7 +81,7 @@ closed_with _ last = last
 abbrev pub reduce : ℕ → List Frame → Tree → Folded
 reduce tightness [] last = record { frames = []; last = last }
 reduce tightness (frame ∷ frames) last =
-    if closes tightness frame then reduce tightness frames (closed_with frame last)
+    if binds_at tightness frame then reduce tightness frames (closed_with frame last)
     else record { frames = frame ∷ frames; last = last }
 
 -- how tightly a form has to bind to stand bare in the innermost frame
@@ -92,27 +92,27 @@ floor (in_prefix at operator ∷ frames) = prefix_level
 floor (frame ∷ frames) = 0
 
 -- a move that opens a form with a part in it
-abbrev pub open_move : List Frame → State → Option (Move State)
+abbrev pub open_move : List Frame → State → Option (TokenMove State)
 open_move frames next = Some (record { want = suc (suc (length frames)); next = next })
 
 -- the move, where a form that binds so tightly may stand bare
-abbrev pub at_level : ℕ → List Frame → Option (Move State) → Option (Move State)
+abbrev pub at_level : ℕ → List Frame → Option (TokenMove State) → Option (TokenMove State)
 at_level tightness frames found = if nat_le (floor frames) tightness then found else None
 
 -- an operator takes the expression before it as its left operand
-abbrev pub infix_move : Operator → ℕ → Folded → Option (Move State)
+abbrev pub infix_move : Operator → ℕ → Folded → Option (TokenMove State)
 infix_move operator at folded = at_level (level operator) folded.frames (Some (record {
   want = suc (depth folded.last + length folded.frames);
   next = operand (in_binary at operator folded.last ∷ folded.frames);
 }))
 
 -- a parenthesis behind a name opens a function's arguments
-abbrev pub apply_move : List Frame → Tree → Option (Move State)
+abbrev pub apply_move : List Frame → Tree → Option (TokenMove State)
 apply_move frames (name place) = open_move frames (operand (in_apply place none ∷ frames))
 apply_move frames _ = None
 
 -- a comma ends an argument, the first part of a pair, or an item
-abbrev pub comma_move : List Frame → Tree → Option (Move State)
+abbrev pub comma_move : List Frame → Tree → Option (TokenMove State)
 comma_move (in_call at function given ∷ frames) last = free (operand (in_call at function (added given last) ∷ frames))
 comma_move (in_apply function given ∷ frames) last = free (operand (in_apply function (added given last) ∷ frames))
 comma_move (in_group at ∷ frames) last = free (operand (in_second at last ∷ frames))
@@ -120,7 +120,7 @@ comma_move (in_braces at given ∷ frames) last = free (operand (in_braces at (a
 comma_move _ last = None
 
 -- a parenthesis closes a call, a group or a pair
-abbrev pub paren_move : List Frame → Tree → Option (Move State)
+abbrev pub paren_move : List Frame → Tree → Option (TokenMove State)
 paren_move (in_call at function given ∷ frames) last = free (after frames (call at function (added given last)))
 paren_move (in_apply function given ∷ frames) last = free (after frames (apply function (added given last)))
 paren_move (in_group at ∷ frames) last = free (after frames (group at last))
@@ -128,7 +128,7 @@ paren_move (in_second at first ∷ frames) last = free (after frames (pair at fi
 paren_move _ last = None
 
 -- a brace closes a literal, an item with its condition, or a comprehension
-abbrev pub brace_move : List Frame → Tree → Option (Move State)
+abbrev pub brace_move : List Frame → Tree → Option (TokenMove State)
 brace_move (in_braces at given ∷ frames) last = free (after frames (literal at (added given last)))
 brace_move (in_filter at item ∷ frames) last = free (after frames (filter at item last))
 brace_move (in_source at body binders place ∷ frames) last = free (after frames (each at body (bound_also binders place last) always))
@@ -136,46 +136,46 @@ brace_move (in_each_condition at body binders ∷ frames) last = free (after fra
 brace_move _ last = None
 
 -- a colon ends the body of a comprehension
-abbrev pub colon_move : List Frame → Tree → Option (Move State)
+abbrev pub colon_move : List Frame → Tree → Option (TokenMove State)
 colon_move (in_braces at none ∷ frames) last = free (binder_name frames at last none_bound)
 colon_move _ last = None
 
 -- a bar ends an item with a condition, or the binders of a comprehension
-abbrev pub bar_move : List Frame → Tree → Option (Move State)
+abbrev pub bar_move : List Frame → Tree → Option (TokenMove State)
 bar_move (in_braces at none ∷ frames) last = free (operand (in_filter at last ∷ frames))
 bar_move (in_source at body binders place ∷ frames) last = free (operand (in_each_condition at body (bound_also binders place last) ∷ frames))
 bar_move _ last = None
 
 -- a semicolon ends a binder before the eighth
-abbrev pub semicolon_move : List Frame → Tree → Option (Move State)
+abbrev pub semicolon_move : List Frame → Tree → Option (TokenMove State)
 semicolon_move (in_source at body binders place ∷ frames) last =
     if nat_lt (suc (binder_count binders)) greatest_binder_count then free (binder_name frames at body (bound_also binders place last)) else None
 semicolon_move _ last = None
 
 -- `in` ends the value of a `let`
-abbrev pub in_move : List Frame → Tree → Option (Move State)
+abbrev pub in_move : List Frame → Tree → Option (TokenMove State)
 in_move (in_value at place ∷ frames) last = free (operand (in_let_body at place last ∷ frames))
 in_move _ last = None
 
 -- `then` ends a condition, and `else` the first branch
-abbrev pub then_move : List Frame → Tree → Option (Move State)
+abbrev pub then_move : List Frame → Tree → Option (TokenMove State)
 then_move (in_condition at ∷ frames) last = free (operand (in_positive at last ∷ frames))
 then_move _ last = None
 
-abbrev pub else_move : List Frame → Tree → Option (Move State)
+abbrev pub else_move : List Frame → Tree → Option (TokenMove State)
 else_move (in_positive at condition ∷ frames) last = free (operand (in_negative at condition last ∷ frames))
 else_move _ last = None
 
 -- what a closing token does, behind forms that are closed with it
-abbrev pub closing : (List Frame → Tree → Option (Move State)) → List Frame → Tree → Option (Move State)
-closing found frames last = let folded = reduce 0 frames last in found folded.frames folded.last
+abbrev pub closing_move : (List Frame → Tree → Option (TokenMove State)) → List Frame → Tree → Option (TokenMove State)
+closing_move found frames last = let folded = reduce 0 frames last in found folded.frames folded.last
 
 -- what an operator does, behind forms that bind as tightly as its left operand has to
-abbrev pub joining : Operator → ℕ → List Frame → Tree → Option (Move State)
+abbrev pub joining : Operator → ℕ → List Frame → Tree → Option (TokenMove State)
 joining operator at frames last = infix_move operator at (reduce (left_level operator) frames last)
 
 -- the move of a token of this kind at this offset where an operand begins, if it has one
-abbrev pub operand_move : List Frame → Kind → ℕ → Option (Move State)
+abbrev pub operand_move : List Frame → Kind → ℕ → Option (TokenMove State)
 operand_move frames (kinds.Integer value) at = free (after frames (integer at value))
 operand_move frames kinds.True at = free (after frames (truth at true))
 operand_move frames kinds.False at = free (after frames (truth at false))
@@ -203,7 +203,7 @@ operand_move frames kinds.If at = at_level 0 frames (open_move frames (operand (
 operand_move frames _ at = None
 
 -- the same behind an operand
-abbrev pub after_move : List Frame → Tree → Kind → ℕ → Option (Move State)
+abbrev pub after_move : List Frame → Tree → Kind → ℕ → Option (TokenMove State)
 after_move frames last kinds.Or at = joining Or at frames last
 after_move frames last kinds.And at = joining And at frames last
 after_move frames last kinds.Same at = joining Equal at frames last
@@ -219,27 +219,27 @@ after_move frames last kinds.Slash at = joining Divide at frames last
 after_move frames last kinds.Percent at = joining Remainder at frames last
 after_move frames last kinds.At at = joining Index at frames last
 after_move frames last kinds.LeftParen at = apply_move frames last
-after_move frames last kinds.Comma at = closing comma_move frames last
-after_move frames last kinds.RightParen at = closing paren_move frames last
-after_move frames last kinds.RightBrace at = closing brace_move frames last
-after_move frames last kinds.Colon at = closing colon_move frames last
-after_move frames last kinds.Bar at = closing bar_move frames last
-after_move frames last kinds.Semicolon at = closing semicolon_move frames last
-after_move frames last kinds.In at = closing in_move frames last
-after_move frames last kinds.Then at = closing then_move frames last
-after_move frames last kinds.Else at = closing else_move frames last
+after_move frames last kinds.Comma at = closing_move comma_move frames last
+after_move frames last kinds.RightParen at = closing_move paren_move frames last
+after_move frames last kinds.RightBrace at = closing_move brace_move frames last
+after_move frames last kinds.Colon at = closing_move colon_move frames last
+after_move frames last kinds.Bar at = closing_move bar_move frames last
+after_move frames last kinds.Semicolon at = closing_move semicolon_move frames last
+after_move frames last kinds.In at = closing_move in_move frames last
+after_move frames last kinds.Then at = closing_move then_move frames last
+after_move frames last kinds.Else at = closing_move else_move frames last
 after_move frames last _ at = None
 
 -- the move of a token of this kind at this offset, if it has one
-abbrev pub move_of : State → Kind → ℕ → Option (Move State)
-move_of (operand frames) kind at = operand_move frames kind at
-move_of (after frames last) kind at = after_move frames last kind at
-move_of (opening frames begun function) kinds.LeftParen at = free (operand (in_call begun function none ∷ frames))
-move_of (let_name frames begun) (kinds.Name len) at = free (let_equals frames begun (record { at = at; len = len }))
-move_of (let_equals frames begun place) kinds.Equals at = free (operand (in_value begun place ∷ frames))
-move_of (binder_name frames begun body binders) (kinds.Name len) at = free (binder_in frames begun body binders (record { at = at; len = len }))
-move_of (binder_in frames begun body binders place) kinds.In at = free (operand (in_source begun body binders place ∷ frames))
-move_of _ _ at = None
+abbrev pub token_move : State → Kind → ℕ → Option (TokenMove State)
+token_move (operand frames) kind at = operand_move frames kind at
+token_move (after frames last) kind at = after_move frames last kind at
+token_move (opening frames begun function) kinds.LeftParen at = free (operand (in_call begun function none ∷ frames))
+token_move (let_name frames begun) (kinds.Name len) at = free (let_equals frames begun (record { at = at; len = len }))
+token_move (let_equals frames begun place) kinds.Equals at = free (operand (in_value begun place ∷ frames))
+token_move (binder_name frames begun body binders) (kinds.Name len) at = free (binder_in frames begun body binders (record { at = at; len = len }))
+token_move (binder_in frames begun body binders place) kinds.In at = free (operand (in_source begun body binders place ∷ frames))
+token_move _ _ at = None
 
 -- the expression, where no frame is left open
 abbrev pub alone : Folded → Option Tree
@@ -252,4 +252,4 @@ finished_of _ = None
 
 -- expressions are read from where an operand begins and nothing is open
 abbrev pub expressions : Reader State Tree
-expressions = record { start = operand []; move = λ state token. move_of state token.kind token.at; finished = finished_of }
+expressions = record { start = operand []; move = λ state token. token_move state token.kind token.at; finished = finished_of }

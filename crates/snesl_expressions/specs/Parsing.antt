@@ -15,7 +15,7 @@ use Rattle.snesl_expressions.specs.declared.machine.Point.TheVariants as points
 use Rattle.snesl_expressions.specs.declared.machine.Machine.{Machine}
 use Rattle.snesl_expressions.specs.declared.machine.StepError.{StepError}
 use Rattle.snesl_expressions.specs.declared.machine.StepError.TheVariants as errors
-use Rattle.snesl_expressions.specs.Readers.{Move, Stop, unexpected, beyond_depth}
+use Rattle.snesl_expressions.specs.Readers.{TokenMove, Stop, unexpected, beyond_depth}
 use Rattle.snesl_expressions.specs.Machine.{Frame, in_binary, in_prefix, in_call, in_apply, in_group, in_second, in_value, in_let_body, in_condition, in_positive, in_negative, in_braces, in_filter, in_source, in_each_condition, State, operand, after, opening, let_name, let_equals, binder_name, binder_in, Folded, comma_move, paren_move, brace_move, colon_move, bar_move, semicolon_move, in_move, then_move, else_move}
 
 -- the frame that a form is
@@ -82,7 +82,7 @@ Within (Err errors.Unexpected) folded = folded.frames ≡ []
 Within (Err errors.TooDeep) folded = ⊥
 
 -- the move of a token that ends a part of the innermost form
-abbrev pub ending_move : Ending → List Frame → Tree → Option (Move State)
+abbrev pub ending_move : Ending → List Frame → Tree → Option (TokenMove State)
 ending_move endings.Comma = comma_move
 ending_move endings.RightParen = paren_move
 ending_move endings.RightBrace = brace_move

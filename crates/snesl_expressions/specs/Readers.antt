@@ -11,23 +11,23 @@ pub data Stop : Type 0 where
   beyond_depth : Stop
 
 -- what a token makes of a state, and the depth that it wants
-pub record Move (State : Type 0) : Type 0 where
+pub record TokenMove (State : Type 0) : Type 0 where
   pub want : ℕ
   pub next : State
 
 -- a move that wants no depth
-abbrev pub free : {State : Type 0} → State → Option (Move State)
+abbrev pub free : {State : Type 0} → State → Option (TokenMove State)
 free next = Some (record { want = 0; next = next })
 
 -- How forms are read: the state before the first token, what each token makes of a state, and the form that the
 -- tokens so far are, where they are one.
 pub record Reader (State Form : Type 0) : Type 0 where
   pub start : State
-  pub move : State → Token → Option (Move State)
+  pub move : State → Token → Option (TokenMove State)
   pub finished : State → Option Form
 
 -- a move within a depth
-abbrev pub within : {State : Type 0} → ℕ → Option (Move State) → Result State Stop
+abbrev pub within : {State : Type 0} → ℕ → Option (TokenMove State) → Result State Stop
 within deep None = Err unexpected
 within deep (Some found) = if nat_le found.want deep then Ok found.next else Err beyond_depth
 

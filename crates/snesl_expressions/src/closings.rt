@@ -4,7 +4,7 @@ ghost use Rattle.std.specs.Prelude.{◌∷◌};
 ghost use Rattle.snesl_tree.specs.View.{tree_of, trees_of, binders_of};
 ghost use Rattle.snesl_grammar.specs.Limits.{greatest_depth};
 ghost use Rattle.snesl_expressions.specs.Readers.{step, within};
-ghost use Rattle.snesl_expressions.specs.Machine.{expressions, after, joining, closing, apply_move, comma_move, paren_move, brace_move, colon_move, bar_move, semicolon_move, in_move, then_move, else_move, in_braces, in_source};
+ghost use Rattle.snesl_expressions.specs.Machine.{expressions, after, joining, closing_move, apply_move, comma_move, paren_move, brace_move, colon_move, bar_move, semicolon_move, in_move, then_move, else_move, in_braces, in_source};
 ghost use Rattle.snesl_expressions.specs.Parsing.{frame_of, frames_of, Gives, ending_move};
 
 use crate::forms::{
@@ -57,15 +57,15 @@ pub fn after(
         Kind::Percent => infix(alloc, forms, last, Operator::Remainder, token.at),
         Kind::At => infix(alloc, forms, last, Operator::Index, token.at),
         Kind::LeftParen => apply(alloc, forms, last),
-        Kind::Comma => closing(alloc, forms, last, Ending::Comma),
-        Kind::RightParen => closing(alloc, forms, last, Ending::RightParen),
-        Kind::RightBrace => closing(alloc, forms, last, Ending::RightBrace),
-        Kind::Colon => closing(alloc, forms, last, Ending::Colon),
-        Kind::Bar => closing(alloc, forms, last, Ending::Bar),
-        Kind::Semicolon => closing(alloc, forms, last, Ending::Semicolon),
-        Kind::In => closing(alloc, forms, last, Ending::In),
-        Kind::Then => closing(alloc, forms, last, Ending::Then),
-        Kind::Else => closing(alloc, forms, last, Ending::Else),
+        Kind::Comma => closing_move(alloc, forms, last, Ending::Comma),
+        Kind::RightParen => closing_move(alloc, forms, last, Ending::RightParen),
+        Kind::RightBrace => closing_move(alloc, forms, last, Ending::RightBrace),
+        Kind::Colon => closing_move(alloc, forms, last, Ending::Colon),
+        Kind::Bar => closing_move(alloc, forms, last, Ending::Bar),
+        Kind::Semicolon => closing_move(alloc, forms, last, Ending::Semicolon),
+        Kind::In => closing_move(alloc, forms, last, Ending::In),
+        Kind::Then => closing_move(alloc, forms, last, Ending::Then),
+        Kind::Else => closing_move(alloc, forms, last, Ending::Else),
         _ => {
             let_go(last);
             Err(StepError::Unexpected)
@@ -116,14 +116,14 @@ fn apply(alloc: Global, forms: Vec<Form>, last: Measured) -> Result<Machine, Ste
 }
 
 // Where a token ends a part of the innermost form that does not close by itself.
-fn closing(
+fn closing_move(
     alloc: Global,
     forms: Vec<Form>,
     last: Measured,
     ending: Ending,
 ) -> Result<Machine, StepError>
     ensures { Gives result (within greatest_depth
-        (closing (ending_move ending) (frames_of forms.items) (tree_of last.expr.value))) }
+        (closing_move (ending_move ending) (frames_of forms.items) (tree_of last.expr.value))) }
 {
     let Innermost { outer, form, whole } = find_innermost(alloc, forms, last)?;
     ended(alloc, outer, form, whole, ending)

@@ -4,7 +4,7 @@ ghost use Rattle.std.specs.Prelude.{◌≡◌, ◌≤◌, ◌<◌, ◌↔◌, su
 ghost use Rattle.snesl_tree.specs.View.{tree_of};
 ghost use Rattle.snesl_grammar.specs.Limits.{greatest_depth};
 ghost use Rattle.snesl_grammar.specs.Operators.{level, left_level, prefix_level};
-ghost use Rattle.snesl_expressions.specs.Machine.{closes, closed_with, reduce, floor};
+ghost use Rattle.snesl_expressions.specs.Machine.{binds_at, closed_with, reduce, floor};
 ghost use Rattle.snesl_expressions.specs.Parsing.{frame_of, frames_of, Folding, Within};
 
 use crate::limits::GREATEST_DEPTH;
@@ -168,7 +168,7 @@ pub fn has_room(forms: &[Form]) -> bool
 
 /// Whether the form has no closing token and binds at least so tightly.
 pub fn is_closed_at(form: &Form, tightness: u8) -> bool
-    ensures { result ≡ closes tightness (frame_of form.now) }
+    ensures { result ≡ binds_at tightness (frame_of form.now) }
 {
     match form {
         Form::Binary { operator, .. } => tightness <= level_of(*operator),

@@ -5,7 +5,7 @@ ghost use Rattle.std.specs.Option.{is_some};
 ghost use Rattle.snesl_tree.specs.View.{tree_of};
 ghost use Rattle.snesl_grammar.specs.Limits.{greatest_depth};
 ghost use Rattle.snesl_expressions.specs.Readers.{step, within};
-ghost use Rattle.snesl_expressions.specs.Machine.{expressions, closes, open_move, at_level, operand, after};
+ghost use Rattle.snesl_expressions.specs.Machine.{expressions, binds_at, open_move, at_level, operand, after};
 ghost use Rattle.snesl_expressions.specs.Parsing.{frame_of, frames_of, state_at, state_of, Gives, IsThis};
 
 use crate::closings::after;
@@ -223,7 +223,7 @@ impl Machine {
 
 // Whether no form has a closing token.
 fn all_close(forms: &[Form]) -> bool
-    ensures { IsTrue result ↔ All (λ form. IsTrue (closes 0 (frame_of form))) forms.now }
+    ensures { IsTrue result ↔ All (λ form. IsTrue (binds_at 0 (frame_of form))) forms.now }
 {
     forms.iter().all(|form| is_closed_at(form, 0))
 }

@@ -6,7 +6,7 @@ use Rattle.flow_nodes.specs.StreamNodes.{node_behaviour}
 use Rattle.flow_graph.specs.declared.edge.Edge.{Edge}
 use Rattle.flow_graph.specs.Networks.{AreOpened}
 use Rattle.flow_plans.specs.Plans.{Step}
-use Rattle.flow_plans.specs.Layouts.{layout, IsNetworkOf}
+use Rattle.flow_plans.specs.Layouts.{layout, IsNetworkOfPlan}
 use Rattle.flow_assembly.specs.Openings.{AllOpen}
 use Rattle.snesl_translation.specs.Programs.{unset_cells}
 use Rattle.snesl_flatten.specs.Networks.{NodeState, program_steps}
@@ -15,10 +15,10 @@ use Rattle.snesl_flatten.proofs.Ends.{print_opens}
 
 module _ (text : List ℕ) (program : ProgramTree) (inputs : List Declaration) (states : List NodeState) (edges : List Edge) where
   -- it has its sources before any of them is set
-  pub no_source_set : (steps : List Step) → steps ≡ program_steps text program inputs unset_cells → IsNetworkOf node_behaviour steps states edges → AllOpen (layout steps) states
+  pub no_source_set : (steps : List Step) → steps ≡ program_steps text program inputs unset_cells → IsNetworkOfPlan node_behaviour steps states edges → AllOpen (layout steps) states
       → AreOpened node_behaviour states → HasSources text program inputs [] states edges
   no_source_set steps is network opens opened =
-      let of : IsNetworkOf node_behaviour (program_steps text program inputs unset_cells) states edges = subst (λ plan. IsNetworkOf node_behaviour plan states edges) is network in
+      let of : IsNetworkOfPlan node_behaviour (program_steps text program inputs unset_cells) states edges = subst (λ plan. IsNetworkOfPlan node_behaviour plan states edges) is network in
       record {
         network = of;
         opens = subst (λ plan. AllOpen (layout plan) states) is opens;

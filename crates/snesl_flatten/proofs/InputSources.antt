@@ -7,7 +7,7 @@ use Rattle.std.specs.List.{slice_get}
 use Rattle.std.specs.Option.{option_map, IsSome}
 use Rattle.snesl_data.specs.declared.dialect.Dialect.{Dialect}
 use Rattle.snesl_data.specs.Types.{Ty}
-use Rattle.snesl_values.specs.Entries.{entry_at, environment_at, IsPlaced, ArePlaced}
+use Rattle.snesl_values.specs.Entries.{entry_from, environment_at, IsPlaced, ArePlaced}
 use Rattle.snesl_values.specs.Inputs.{Declaration}
 use Rattle.snesl_values.specs.Places.{value_at as spelled_at}
 use Rattle.snesl_values.specs.Spellings.{value_tokens}
@@ -20,7 +20,7 @@ use Rattle.flow_base.specs.Lists.{Lists}
 use Rattle.flow_scalar.specs.SourceBehaviour.{source_opening}
 use Rattle.flow_values.specs.Shapes.{kinds_of, kind_at}
 use Rattle.flow_values.specs.Flats.{width, flat}
-use Rattle.flow_inputs.specs.Items.{items_at}
+use Rattle.flow_inputs.specs.Items.{items_from}
 use Rattle.flow_inputs.specs.Laws.{TextHoldsEdges, KindsOfEdges}
 use Rattle.flow_inputs.specs.TextSources.{items_in, text_source_state}
 use Rattle.flow_inputs.specs.Ways.{way_to, leaf_at}
@@ -59,7 +59,7 @@ fresh_at sources n source fresh there =
 
 -- what is written at an edge of the type of a value, and of which kind it is
 module _ (holds : TextHoldsEdges) (kinds : KindsOfEdges) (text : List ℕ) (place : ℕ) (t : Ty) (placed : (dialect : Dialect) × IsPlaced dialect text t place) (edge : ℕ) (lt : edge < width t) (source : TextSource)
-    (is : items_in source ≡ items_at text (way_to t edge) (leaf_at t edge) place) where
+    (is : items_in source ≡ items_from text (way_to t edge) (leaf_at t edge) place) where
   pub cells_of_edge : cells_in source ≡ flat t 0 (spelled_at text place ∷ []) edge
   cells_of_edge =
       let r = reads_of (value_tokens (spelled_at text place)) place placed.1.2 in
@@ -78,7 +78,7 @@ placed_at dialect text (x ∷ ds) (p ∷ all) (suc i) d placed there = placed_at
 
 -- and which value
 pub value_placed : (text : List ℕ) (all : List Placed) (i : ℕ) (p : Placed) → slice_get all i ≡ Some p → value_at (environment_at text all) i ≡ Some (spelled_at text p.place)
-value_placed text all i p there = ap (option_map (λ e. e.1)) (slice_get-map (entry_at text) all i ∙ ap (option_map (entry_at text)) there)
+value_placed text all i p there = ap (option_map (λ e. e.1)) (slice_get-map (entry_from text) all i ∙ ap (option_map (entry_from text)) there)
 
 -- a declared type has no more edges than all of them
 pub width_within : (ds : List Declaration) (i : ℕ) (d : Declaration) → slice_get ds i ≡ Some d → width d.1 ≤ length (all_kinds ds)

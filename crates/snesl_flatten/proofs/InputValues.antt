@@ -4,7 +4,7 @@ use Rattle.std.specs.List.{slice_get}
 use Rattle.snesl_data.specs.declared.dialect.Dialect.{Dialect}
 use Rattle.snesl_data.specs.Types.{Ty, int, bool, pair, vec, seq}
 use Rattle.snesl_data.specs.Values.{Value, Values, an_int, a_bool, a_pair, a_vec, a_seq, no_values, more_values, HasType, AllHaveType}
-use Rattle.snesl_values.specs.Inputs.{Declaration, Environment, Fits}
+use Rattle.snesl_values.specs.Inputs.{Declaration, Environment, FitDeclarations}
 use Rattle.flow_values.specs.Shapes.{is_a, all_are, kinds_of}
 use Rattle.flow_values.specs.laws.Kinds.{and_true}
 use Rattle.flow_rows.specs.Made.{columns_of_values}
@@ -26,7 +26,7 @@ mutual
   typed_are dialect item (more_values v vs) h = and_true (is_a item v) (all_are item vs) (typed_is dialect item v h.0) (typed_are dialect item vs h.1)
 
 -- each declared input has a value of its type
-pub fit_at : (dialect : Dialect) (ds : List Declaration) (es : Environment) (i : ℕ) (d : Declaration) → Fits dialect ds es → slice_get ds i ≡ Some d
+pub fit_at : (dialect : Dialect) (ds : List Declaration) (es : Environment) (i : ℕ) (d : Declaration) → FitDeclarations dialect ds es → slice_get ds i ≡ Some d
     → (e : List ℕ × Value) × (slice_get es i ≡ Some e) × (is_a d.1 e.1 ≡ true)
 fit_at dialect [] es i d fits there = absurd (cc)
 fit_at dialect (x ∷ ds) [] i d fits there = absurd fits

@@ -8,7 +8,7 @@ use Rattle.std.specs.List.{slice_get}
 use Rattle.snesl_data.specs.declared.fault.FaultKind.{FaultKind}
 use Rattle.snesl_data.specs.Types.{Ty}
 use Rattle.snesl_data.specs.Values.{Value, HasType}
-use Rattle.snesl_values.specs.Inputs.{Declaration, Environment, Fits}
+use Rattle.snesl_values.specs.Inputs.{Declaration, Environment, FitDeclarations}
 use Rattle.snesl_data.specs.Text.{text as text_of_value}
 use Rattle.snesl_tree.specs.Tree.{ProgramTree}
 use Rattle.snesl_evaluation.specs.Answer.{Answer, gives, faults}
@@ -66,9 +66,9 @@ module _ (text : List ℕ) (program : ProgramTree) (environment : Environment) w
       ((v : Value) → program_value text program environment ≡ gives v → RunsTo inputs t v)
       × ((kind : FaultKind) (at : ℕ) → program_value text program environment ≡ faults kind at → run (steps_with inputs) [] ≡ None)
 
-  module _ (inputs : List Declaration) (t : Ty) (fits : Fits program.dialect inputs environment) (typing : HasTyping text program inputs t) where
-    fits_typing : Fits program.dialect typing.0.inputs environment
-    fits_typing = subst (λ declarations. Fits program.dialect declarations environment) (sym typing.2) fits
+  module _ (inputs : List Declaration) (t : Ty) (fits : FitDeclarations program.dialect inputs environment) (typing : HasTyping text program inputs t) where
+    fits_typing : FitDeclarations program.dialect typing.0.inputs environment
+    fits_typing = subst (λ declarations. FitDeclarations program.dialect declarations environment) (sym typing.2) fits
 
     plan_means : PlansMean → PlanMeans inputs t
     plan_means planned = subst (λ declarations. PlanMeans declarations t) typing.2 (planned text program typing.0 t environment typing.1 fits_typing)
@@ -101,7 +101,7 @@ module _ (text : List ℕ) (program : ProgramTree) (inputs : List Declaration) (
       sym (each_place (slice_get streams) (numbers_of w) columns read p (omega (arith, many, lt)))
       ∙ ap (λ o. bind o (slice_get streams)) (sym joined) ∙ carried (in_edge edges k p) e.0
 
-  module _ (t : Ty) (typed : ∥ HasTyping text program inputs t ∥₁) (fits : Fits program.dialect inputs environment) (planned : PlansMean) (sound : TypedProgramsAreSound)
+  module _ (t : Ty) (typed : ∥ HasTyping text program inputs t ∥₁) (fits : FitDeclarations program.dialect inputs environment) (planned : PlansMean) (sound : TypedProgramsAreSound)
       (forth : PlanIsFlow node_behaviour states edges) (back : FlowIsPlan node_behaviour states edges) (lawful : EndedIsLawful node_behaviour states edges) (tells : PrintTells states edges) where
     means : HasTyping text program inputs t → PlanMeans text program environment inputs t
     means typing = plan_means text program environment inputs t fits typing planned

@@ -20,13 +20,13 @@ use Rattle.flow_graph.specs.Networks.{state_at, AreOpened}
 use Rattle.flow_graph.specs.Replacements.{MayReplace}
 use Rattle.flow_plans.specs.Plans.{Step, source}
 use Rattle.flow_plans.specs.Ports.{kinds_written}
-use Rattle.flow_plans.specs.Layouts.{Placed, all_behind, layout, places, places_from, IsNetworkOf}
+use Rattle.flow_plans.specs.Layouts.{Placed, all_behind, layout, places, places_from, IsNetworkOfPlan}
 use Rattle.flow_plans.specs.Settings.{with_source, IsLaidBut, SourceIsSet}
 use Rattle.flow_assembly.specs.Openings.{Opens, AllOpen, OpeningsPerform}
 use Rattle.snesl_translation.specs.Wires.{type_of_wires}
 use Rattle.snesl_translation.specs.Programs.{first_offset, program_plan, unset_cells}
 use Rattle.snesl_flatten.specs.Networks.{NodeState, program_steps}
-use Rattle.snesl_flatten.specs.Sources.{all_kinds, cells_in, kind_in, written, AreFresh, HasSources}
+use Rattle.snesl_flatten.specs.Sources.{all_kinds, cells_in, kind_in, source_columns, AreFresh, HasSources}
 use Rattle.snesl_flatten.specs.PlanViews.{plan_typed, plan_steps, AreButSources}
 use Rattle.snesl_flatten.specs.declared.plan.Plan.{Plan}
 use Rattle.snesl_flatten.proofs.InputSources.{fresh_at}
@@ -63,7 +63,7 @@ places_length plan k s (step ∷ steps) =
 pub next_within : (text : List ℕ) (program : ProgramTree) (inputs : List Declaration) (columns : Columns) (states : List NodeState) (edges : List Edge) → HasSources text program inputs columns states edges
     → (kind : Kind) → slice_get (all_kinds inputs) (length columns) ≡ Some kind → suc (length columns) < length (places (program_steps text program inputs unset_cells))
 next_within text program inputs columns states edges has kind there =
-    let steps = program_steps text program inputs (written columns) in
+    let steps = program_steps text program inputs (source_columns columns) in
     let within = slice_get_within steps (suc (length columns)) _ (next_source text program inputs columns kind there) in
     omega (arith, within, places_length steps 0 0 steps, ap length has.places_are)
 
@@ -93,11 +93,11 @@ module _ (text : List ℕ) (program : ProgramTree) (inputs : List Declaration) (
   i = suc (length columns)
 
   abbrev steps : List Step
-  steps = program_steps text program inputs (written columns)
+  steps = program_steps text program inputs (source_columns columns)
 
   -- the step that is to be set
   abbrev step : Step
-  step = source_step (first_offset program.expression) items.kind (written columns i)
+  step = source_step (first_offset program.expression) items.kind (source_columns columns i)
 
   abbrev steps_set : List Step
   steps_set = with_source i step items.kind items.cells steps
@@ -107,10 +107,10 @@ module _ (text : List ℕ) (program : ProgramTree) (inputs : List Declaration) (
   s = (a_source, source_opening items)
 
   law : let k = get_or (places steps) i 0 in
-      MayReplace node_behaviour states k s × IsNetworkOf node_behaviour steps_set (set states k s) edges × (places steps_set ≡ places steps)
+      MayReplace node_behaviour states k s × IsNetworkOfPlan node_behaviour steps_set (set states k s) edges × (places steps_set ≡ places steps)
       × IsLaidBut k (source items.kind items.cells) steps steps_set
   law =
-      set_law steps has.network i step items.kind (written columns i) items.cells (next_source text program inputs columns items.kind there) refl s
+      set_law steps has.network i step items.kind (source_columns columns i) items.cells (next_source text program inputs columns items.kind there) refl s
       (perform (first_offset program.expression) (source items.kind items.cells) s tt (items, refl, refl, refl))
 
   at_place : get_or (places steps) i 0 ≡ k
@@ -147,9 +147,9 @@ module _ (text : List ℕ) (program : ProgramTree) (inputs : List Declaration) (
   -- and then one source more is set
   pub next_has : AreOpened node_behaviour (set states k s) → HasSources text program inputs (columns ++ items.cells ∷ []) (set states k s) edges
   next_has opened =
-      let same : steps_set ≡ program_steps text program inputs (written (columns ++ items.cells ∷ [])) = next_set text program inputs columns items.kind there items.cells in
+      let same : steps_set ≡ program_steps text program inputs (source_columns (columns ++ items.cells ∷ [])) = next_set text program inputs columns items.kind there items.cells in
       record {
-        network = subst (λ l. IsNetworkOf node_behaviour l (set states k s) edges) same (subst (λ n. IsNetworkOf node_behaviour steps_set (set states n s) edges) at_place law.1);
+        network = subst (λ l. IsNetworkOfPlan node_behaviour l (set states k s) edges) same (subst (λ n. IsNetworkOfPlan node_behaviour steps_set (set states n s) edges) at_place law.1);
         opens = subst (λ l. AllOpen (layout l) (set states k s)) same all_open;
         opened = opened;
         print = print_stays (type_of_wires (program_plan text program inputs unset_cells).given) (first_offset program.expression) states k items may_set has.print;

@@ -21,7 +21,7 @@ use Rattle.snesl_translation.specs.Translation.{tr}
 use Rattle.snesl_translation.specs.Functions.{bodies_of}
 use Rattle.snesl_translation.specs.Programs.{first_offset, source_steps, inputs_sourced, program_plan, unset_cells}
 use Rattle.snesl_flatten.specs.Networks.{program_steps}
-use Rattle.snesl_flatten.specs.Sources.{all_kinds, written}
+use Rattle.snesl_flatten.specs.Sources.{all_kinds, source_columns}
 
 abbrev pub source_step : ℕ → Kind → List Cell → Step
 source_step at kind cells = record { at = at; operation = source kind cells; reads = [] }
@@ -137,25 +137,25 @@ module _ (text : List ℕ) (program : ProgramTree) (inputs : List Declaration) w
     behind = value.steps ++ print_step ∷ []
 
     -- the next source that is to be set
-    pub next_source : slice_get (program_steps text program inputs (written columns)) (suc (length columns)) ≡ Some (source_step begin kind (written columns (suc (length columns))))
+    pub next_source : slice_get (program_steps text program inputs (source_columns columns)) (suc (length columns)) ≡ Some (source_step begin kind (source_columns columns (suc (length columns))))
     next_source =
-        ap (λ l. slice_get l (suc (length columns))) (steps_are (written columns))
-        ∙ get_left (source_steps begin (written columns) 1 (all_kinds inputs)) behind (length columns) (source_step begin kind (written columns (suc (length columns))))
-        (sources_get begin (written columns) 1 (all_kinds inputs) (length columns) kind (suc (length columns)) there (omega arith))
+        ap (λ l. slice_get l (suc (length columns))) (steps_are (source_columns columns))
+        ∙ get_left (source_steps begin (source_columns columns) 1 (all_kinds inputs)) behind (length columns) (source_step begin kind (source_columns columns (suc (length columns))))
+        (sources_get begin (source_columns columns) 1 (all_kinds inputs) (length columns) kind (suc (length columns)) there (omega arith))
 
     -- and the steps where it is set
-    pub next_set : (c : List Cell) → with_source (suc (length columns)) (source_step begin kind (written columns (suc (length columns)))) kind c (program_steps text program inputs (written columns)) ≡ program_steps text program inputs (written (columns ++ c ∷ []))
+    pub next_set : (c : List Cell) → with_source (suc (length columns)) (source_step begin kind (source_columns columns (suc (length columns)))) kind c (program_steps text program inputs (source_columns columns)) ≡ program_steps text program inputs (source_columns (columns ++ c ∷ []))
     next_set c =
         let n = length columns in
-        let other = written (columns ++ c ∷ []) in
-        let sources = source_steps begin (written columns) 1 (all_kinds inputs) in
-        let inside : n < length sources = omega (arith, sources_length begin (written columns) 1 (all_kinds inputs), slice_get_within (all_kinds inputs) n kind there) in
+        let other = source_columns (columns ++ c ∷ []) in
+        let sources = source_steps begin (source_columns columns) 1 (all_kinds inputs) in
+        let inside : n < length sources = omega (arith, sources_length begin (source_columns columns) 1 (all_kinds inputs), slice_get_within (all_kinds inputs) n kind there) in
         let down : suc n - 1 ≡ n = omega arith in
         let other_is : other (suc n) ≡ c = ap (λ q. get_or (columns ++ c ∷ []) q []) down ∙ pushed_last columns c [] in
-        ap (λ l. set l (suc n) (source_step begin kind c)) (steps_are (written columns))
+        ap (λ l. set l (suc n) (source_step begin kind c)) (steps_are (source_columns columns))
         ∙ ap (λ l. control_step ∷ l)
         (set-append_left sources behind n (source_step begin kind c) inside
         ∙ ap (λ l. l ++ behind)
         (ap (λ x. set sources n (source_step begin kind x)) (sym other_is)
-        ∙ sources_set begin (written columns) other 1 (all_kinds inputs) n kind (suc n) there (omega arith) (λ j le ne. pushed_other columns c (j - 1) [] (λ e. ne (omega (arith, le, e))))))
+        ∙ sources_set begin (source_columns columns) other 1 (all_kinds inputs) n kind (suc n) there (omega arith) (λ j le ne. pushed_other columns c (j - 1) [] (λ e. ne (omega (arith, le, e))))))
         ∙ sym (steps_are other)

@@ -12,7 +12,7 @@ use Rattle.flow_inputs.specs.TextSources.{items_in, text_source_state}
 use Rattle.flow_nodes.specs.StreamNodes.{node_behaviour}
 use Rattle.flow_graph.specs.declared.edge.Edge.{Edge}
 use Rattle.flow_graph.specs.Networks.{AreOpened}
-use Rattle.flow_plans.specs.Layouts.{layout, places, IsNetworkOf}
+use Rattle.flow_plans.specs.Layouts.{layout, places, IsNetworkOfPlan}
 use Rattle.flow_assembly.specs.Openings.{AllOpen}
 use Rattle.snesl_translation.specs.Wires.{type_of_wires}
 use Rattle.snesl_translation.specs.Programs.{first_offset, program_plan, unset_cells}
@@ -36,15 +36,15 @@ all_kinds [] = []
 all_kinds (declaration ∷ declarations) = kinds_of declaration.1 ++ all_kinds declarations
 
 -- what sources write where just the first ones are set, to these columns
-abbrev pub written : Columns → ℕ → List Cell
-written columns number = slice_index_or columns (number - 1) []
+abbrev pub source_columns : Columns → ℕ → List Cell
+source_columns columns number = slice_index_or columns (number - 1) []
 
 -- The network is that of the program whose first sources are set to these columns, before any step: each node is in the state
 -- in which it opens, its faults at the offset of its form. Its last node is a Print, and the nodes of its steps are where
 -- they were.
 pub record HasSources (text : List ℕ) (program : ProgramTree) (inputs : List Declaration) (columns : Columns) (states : List NodeState) (edges : List Edge) : Type 0 where
-  pub network : IsNetworkOf node_behaviour (program_steps text program inputs (written columns)) states edges
-  pub opens : AllOpen (layout (program_steps text program inputs (written columns))) states
+  pub network : IsNetworkOfPlan node_behaviour (program_steps text program inputs (source_columns columns)) states edges
+  pub opens : AllOpen (layout (program_steps text program inputs (source_columns columns))) states
   pub opened : AreOpened node_behaviour states
   pub print : PrintsAtTheEnd (type_of_wires (program_plan text program inputs unset_cells).given) (first_offset program.expression) states
-  pub places_are : places (program_steps text program inputs (written columns)) ≡ places (program_steps text program inputs unset_cells)
+  pub places_are : places (program_steps text program inputs (source_columns columns)) ≡ places (program_steps text program inputs unset_cells)

@@ -5,7 +5,7 @@ ghost use Rattle.snesl_data.specs.declared.refusal.Refusal.TheVariants.{TooBig, 
 ghost use Rattle.snesl_types.specs.Typed.{typed_inputs, typed_text, typed_tree};
 ghost use Rattle.flow_nodes.specs.StreamNodes.{node_behaviour};
 ghost use Rattle.flow_graph.specs.Limits.{most_nodes, most_edges};
-ghost use Rattle.flow_plans.specs.Layouts.{layout, edges_needed, IsNetworkOf};
+ghost use Rattle.flow_plans.specs.Layouts.{layout, edges_needed, IsNetworkOfPlan};
 ghost use Rattle.flow_assembly.specs.Openings.{AllOpen};
 ghost use Rattle.snesl_translation.specs.Programs.{unset_cells};
 ghost use Rattle.snesl_flatten.specs.Networks.{program_steps};
@@ -32,7 +32,7 @@ use std::alloc::Global;
 pub fn flatten<'a>(alloc: Global, typed: &'a Typed<'a>) -> Result<Plan<'a>, Refusal>
     ensures program { IfOk result (λ plan. plan_typed plan ≡ typed.now) }
     ensures holds { IfOk result (λ plan. HoldsNetwork plan) }
-    ensures network { IfOk result (λ plan. IsNetworkOf node_behaviour
+    ensures network { IfOk result (λ plan. IsNetworkOfPlan node_behaviour
         (program_steps (typed_text typed.now) (typed_tree typed.now)
         (typed_inputs typed.now) unset_cells) (plan_states plan) (plan_edges plan)) }
     ensures opens { IfOk result (λ plan. AllOpen

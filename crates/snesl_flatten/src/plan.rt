@@ -6,7 +6,7 @@ ghost use Rattle.snesl_types.specs.Typed.{typed_dialect, typed_inputs, typed_tex
 ghost use Rattle.flow_nodes.specs.StreamNodes.{node_behaviour};
 ghost use Rattle.flow_graph.specs.Graphs.{states_of, edges_of};
 ghost use Rattle.flow_graph.specs.Networks.{AreOpened};
-ghost use Rattle.flow_plans.specs.Layouts.{layout, places, IsNetworkOf};
+ghost use Rattle.flow_plans.specs.Layouts.{layout, places, IsNetworkOfPlan};
 ghost use Rattle.flow_assembly.specs.Openings.{AllOpen};
 ghost use Rattle.snesl_translation.specs.Programs.{cells_of, columns_of};
 ghost use Rattle.snesl_flatten.specs.Networks.{program_steps, NetworkMeans};
@@ -57,7 +57,7 @@ impl<'a> Plan<'a> {
         requires holds { HoldsNetwork self }
         requires in_dialect { dialect_of inputs ≡ typed_dialect (plan_typed self) }
         requires fits { declarations_of inputs ≡ typed_inputs (plan_typed self) }
-        ensures network { IfOk result (λ graph. IsNetworkOf node_behaviour
+        ensures network { IfOk result (λ graph. IsNetworkOfPlan node_behaviour
             (program_steps (typed_text (plan_typed self.entry)) (typed_tree (plan_typed self.entry))
             (typed_inputs (plan_typed self.entry))
             (cells_of (typed_inputs (plan_typed self.entry)) (environment_of inputs)))

@@ -13,7 +13,7 @@ use Rattle.snesl_lexer.specs.Tables.{kind_in}
 use Rattle.snesl_lexer.specs.Signs.{one_byte_signs, two_byte_signs, longer_sign, sign_token}
 use Rattle.snesl_lexer.proofs.Tables.{kind_in_passes}
 use Rattle.snesl_data.specs.Characters.{value_from}
-use Rattle.snesl_lexer.specs.Lexical.{number, first, Tokens, none_left, skips, takes, BadAt, bad_here, bad_later, bad_behind, IsWithin}
+use Rattle.snesl_lexer.specs.Lexical.{number, first, Tokens, none_left, skips, takes, BadAt, bad_here, bad_later, bad_behind, IsTokenWithin}
 
 value_from-grows : (n : ℕ) (cs : List ℕ) → n ≤ value_from n cs
 value_from-grows n [] = omega arith
@@ -42,10 +42,10 @@ prefix_passes p (x ∷ xs) = by_test (p x) refl (prefix_passes p xs)
     by_test false e h = tt
 
 -- a sign ends within the text: the byte behind its first one counts as 0 where there is none
-pub sign_within : (b next n : ℕ) → 0 < n → (n ≡ 1 → next ≡ 0) → IsWithin n (sign_token b next)
+pub sign_within : (b next n : ℕ) → 0 < n → (n ≡ 1 → next ≡ 0) → IsTokenWithin n (sign_token b next)
 sign_within b next n some alone = by_signs (kind_in two_byte_signs (b ∷ next ∷ [])) refl (kind_in one_byte_signs (b ∷ []))
   where
-    by_signs : (two : Option Kind) → kind_in two_byte_signs (b ∷ next ∷ []) ≡ two → (one : Option Kind) → IsWithin n (longer_sign two one)
+    by_signs : (two : Option Kind) → kind_in two_byte_signs (b ∷ next ∷ []) ≡ two → (one : Option Kind) → IsTokenWithin n (longer_sign two one)
     by_signs (Some kind) e one =
         let no_zero : not (eqb next 0) ≡ true = kind_in_passes (λ text. not (eqb (get_or text 1 1) 0)) two_byte_signs (b ∷ next ∷ []) kind refl e in
         let some_byte : next ≡ 0 → ⊥ = eqb-false next 0 (not-true (eqb next 0) no_zero) in

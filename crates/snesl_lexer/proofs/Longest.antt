@@ -20,7 +20,7 @@ use Rattle.snesl_lexer.specs.Signs.{one_byte_signs, two_byte_signs, longer_sign,
 use Rattle.snesl_data.specs.Blanks.{is_blank}
 use Rattle.snesl_data.specs.Characters.{is_word, value_from}
 use Rattle.snesl_lexer.specs.Lexical.{number, head_or, first}
-use Rattle.snesl_lexer.specs.Lexemes.{IsWord, IsDigits, Meaning, token, too_great, Lexeme, a_word, an_integer, an_excess, a_sign, a_long_sign, IsLongest, BeginsWithNone, StandsFirst, FirstIsLongest}
+use Rattle.snesl_lexer.specs.Lexemes.{IsWord, IsDigits, LexemeMeaning, token, too_great, Lexeme, a_word, an_integer, an_excess, a_sign, a_long_sign, IsLongest, BeginsWithNone, StandsFirst, FirstIsLongest}
 use Rattle.snesl_lexer.proofs.Tables.{kind_in_passes}
 
 -- a byte that is no blank, no letter and no digit
@@ -48,9 +48,9 @@ digit_no_letter : (b : ℕ) → is_ascii_digit b ≡ true → is_ascii_alphabeti
 digit_no_letter b h = grind (arith, nat_tests)
 
 -- the row of the table that a text stands in, by its first byte
-data Row : List ℕ → Meaning → Type 0 where
-  word_row : {b : ℕ} {bs : List ℕ} {m : Meaning} → is_ascii_alphabetic b ≡ true → list_all is_word bs ≡ true → Row (b ∷ bs) m
-  digits_row : {b : ℕ} {bs : List ℕ} {m : Meaning} → is_ascii_digit b ≡ true → list_all is_ascii_digit bs ≡ true → Row (b ∷ bs) m
+data Row : List ℕ → LexemeMeaning → Type 0 where
+  word_row : {b : ℕ} {bs : List ℕ} {m : LexemeMeaning} → is_ascii_alphabetic b ≡ true → list_all is_word bs ≡ true → Row (b ∷ bs) m
+  digits_row : {b : ℕ} {bs : List ℕ} {m : LexemeMeaning} → is_ascii_digit b ≡ true → list_all is_ascii_digit bs ≡ true → Row (b ∷ bs) m
   one_row : {b : ℕ} {kind : Kind} → IsMark b → kind_in one_byte_signs (b ∷ []) ≡ Some kind → Row (b ∷ []) (token kind)
   two_row : {b c : ℕ} {kind : Kind} → IsMark b → kind_in two_byte_signs (b ∷ c ∷ []) ≡ Some kind → Row (b ∷ c ∷ []) (token kind)
 
@@ -87,7 +87,7 @@ row_of_one text kind (one_mark mark) e = one_row mark e
 row_of_two : (text : List ℕ) (kind : Kind) → IsTwoMarks text → kind_in two_byte_signs text ≡ Some kind → Row text (token kind)
 row_of_two text kind (two_marks mark) e = two_row mark e
 
-row_of : (dialect : Dialect) → (text : List ℕ) (m : Meaning) → Lexeme dialect text m → Row text m
+row_of : (dialect : Dialect) → (text : List ℕ) (m : LexemeMeaning) → Lexeme dialect text m → Row text m
 row_of dialect [] m (a_word h) = absurd h
 row_of dialect [] m (an_integer h within) = absurd h
 row_of dialect [] m (an_excess h over) = absurd h
@@ -119,22 +119,22 @@ run_of : (p : ℕ → Bool) (x : ℕ) (xs : List ℕ) → p x ≡ true → take_
 run_of p x xs h = ap (λ n. take n (x ∷ xs)) (cond-true (p x) (1 + prefix_len p xs) 0 h ∙ one-add (prefix_len p xs))
 
 -- what each class of first byte leaves of the table
-no_row : (m : Meaning) → Row [] m → ⊥
+no_row : (m : LexemeMeaning) → Row [] m → ⊥
 no_row m h = elim h [ ]
 
-blank_row : (b : ℕ) (bs : List ℕ) (m : Meaning) → is_blank b ≡ true → Row (b ∷ bs) m → ⊥
+blank_row : (b : ℕ) (bs : List ℕ) (m : LexemeMeaning) → is_blank b ≡ true → Row (b ∷ bs) m → ⊥
 blank_row b bs m t (word_row h all) = both_ways _ (letter_no_blank b h) t
 blank_row b bs m t (digits_row h all) = both_ways _ (digit_no_blank b h) t
 blank_row b bs m t (one_row mark e) = both_ways _ mark.no_blank t
 blank_row b bs m t (two_row mark e) = both_ways _ mark.no_blank t
 
-letter_row : (b : ℕ) (bs : List ℕ) (m : Meaning) → is_ascii_alphabetic b ≡ true → Row (b ∷ bs) m → list_all is_word bs ≡ true
+letter_row : (b : ℕ) (bs : List ℕ) (m : LexemeMeaning) → is_ascii_alphabetic b ≡ true → Row (b ∷ bs) m → list_all is_word bs ≡ true
 letter_row b bs m t (word_row h all) = all
 letter_row b bs m t (digits_row h all) = absurd (both_ways _ (digit_no_letter b h) t)
 letter_row b bs m t (one_row mark e) = absurd (both_ways _ mark.no_letter t)
 letter_row b bs m t (two_row mark e) = absurd (both_ways _ mark.no_letter t)
 
-digit_row : (b : ℕ) (bs : List ℕ) (m : Meaning) → is_ascii_digit b ≡ true → Row (b ∷ bs) m → list_all is_ascii_digit bs ≡ true
+digit_row : (b : ℕ) (bs : List ℕ) (m : LexemeMeaning) → is_ascii_digit b ≡ true → Row (b ∷ bs) m → list_all is_ascii_digit bs ≡ true
 digit_row b bs m t (word_row h all) = absurd (both_ways _ (digit_no_letter b t) h)
 digit_row b bs m t (digits_row h all) = all
 digit_row b bs m t (one_row mark e) = absurd (both_ways _ mark.no_digit t)
@@ -146,7 +146,7 @@ Signs b bs =
     ((bs ≡ []) × (kind : Kind) × (kind_in one_byte_signs (b ∷ []) ≡ Some kind))
     ⊎ ((length bs ≡ 1) × (kind : Kind) × (kind_in two_byte_signs (b ∷ head_or bs ∷ []) ≡ Some kind))
 
-mark_row : (b : ℕ) (bs : List ℕ) (m : Meaning) → IsMark b → Row (b ∷ bs) m → Signs b bs
+mark_row : (b : ℕ) (bs : List ℕ) (m : LexemeMeaning) → IsMark b → Row (b ∷ bs) m → Signs b bs
 unfolding Signs
 mark_row b bs m t (word_row h all) = absurd (both_ways _ t.no_letter h)
 mark_row b bs m t (digits_row h all) = absurd (both_ways _ t.no_digit h)
@@ -154,7 +154,7 @@ mark_row b bs m t (one_row {kind = kind} mark e) = inl (refl, kind, e)
 mark_row b bs m t (two_row {kind = kind} mark e) = inr (refl, kind, e)
 
 -- bytes begin with no lexeme, where no beginning stands in a row
-none_from : (dialect : Dialect) → (b : ℕ) (bs : List ℕ) → ((n : ℕ) (m : Meaning) → n ≤ length bs → Row (b ∷ take n bs) m → ⊥) → BeginsWithNone dialect (b ∷ bs)
+none_from : (dialect : Dialect) → (b : ℕ) (bs : List ℕ) → ((n : ℕ) (m : LexemeMeaning) → n ≤ length bs → Row (b ∷ take n bs) m → ⊥) → BeginsWithNone dialect (b ∷ bs)
 none_from dialect b bs h zero m l = no_row m (row_of dialect [] m l)
 none_from dialect b bs h (suc n) m l = elim (cases_lt (length bs) n) [
   | inl more ↦ h (length bs) m (omega arith) (subst (λ cs. Row (b ∷ cs) m) (take_all n bs (omega arith) ∙ sym (take_all (length bs) bs (omega arith))) (row_of dialect (b ∷ take n bs) m l))
@@ -162,8 +162,8 @@ none_from dialect b bs h (suc n) m l = elim (cases_lt (length bs) n) [
 ]
 
 -- no beginning is a longer lexeme, where those in a row are at most this long
-no_longer_from : (dialect : Dialect) → (b : ℕ) (bs : List ℕ) (k : ℕ) → ((n : ℕ) (m : Meaning) → n ≤ length bs → Row (b ∷ take n bs) m → n ≤ k)
-    → (n : ℕ) (m : Meaning) → suc k < n → n ≤ suc (length bs) → ¬ Lexeme dialect (take n (b ∷ bs)) m
+no_longer_from : (dialect : Dialect) → (b : ℕ) (bs : List ℕ) (k : ℕ) → ((n : ℕ) (m : LexemeMeaning) → n ≤ length bs → Row (b ∷ take n bs) m → n ≤ k)
+    → (n : ℕ) (m : LexemeMeaning) → suc k < n → n ≤ suc (length bs) → ¬ Lexeme dialect (take n (b ∷ bs)) m
 no_longer_from dialect b bs k h zero m over below l = omega arith
 no_longer_from dialect b bs k h (suc n) m over below l =
     let most : n ≤ k = h n m (omega arith) (row_of dialect (b ∷ take n bs) m l) in absurd (omega arith)
@@ -194,7 +194,7 @@ digits_first dialect b bs h digits e = by_value (leb (value_from 0 digits) (grea
     all : IsDigits (b ∷ take (prefix_len is_ascii_digit bs) bs)
     all = and_from (is_ascii_digit b) (list_all is_ascii_digit (take (prefix_len is_ascii_digit bs) bs)) h (run_passes is_ascii_digit bs)
 
-    longest : (m : Meaning) → Lexeme dialect (b ∷ take (prefix_len is_ascii_digit bs) bs) m → IsLongest dialect (b ∷ bs) (suc (prefix_len is_ascii_digit bs)) m
+    longest : (m : LexemeMeaning) → Lexeme dialect (b ∷ take (prefix_len is_ascii_digit bs) bs) m → IsLongest dialect (b ∷ bs) (suc (prefix_len is_ascii_digit bs)) m
     longest m reads = record {
       within = omega (arith, prefix_len-le-length is_ascii_digit bs);
       reads = reads;
@@ -223,7 +223,7 @@ data Standing (b : ℕ) (bs : List ℕ) : ℕ → Type 0 where
   alone : {kind : Kind} → kind_in one_byte_signs (b ∷ []) ≡ Some kind → Standing b bs 0
   with_next : {kind : Kind} → kind_in two_byte_signs (b ∷ head_or bs ∷ []) ≡ Some kind → Standing b bs 1
 
-standing : (b : ℕ) (bs : List ℕ) (n : ℕ) (m : Meaning) → IsMark b → n ≤ length bs → Row (b ∷ take n bs) m → Standing b bs n
+standing : (b : ℕ) (bs : List ℕ) (n : ℕ) (m : LexemeMeaning) → IsMark b → n ≤ length bs → Row (b ∷ take n bs) m → Standing b bs n
 unfolding Signs
 standing b bs n m mark below r = by_signs (mark_row b (take n bs) m mark r)
   where
@@ -285,7 +285,7 @@ stands_first dialect (b ∷ bs) = by_class (is_blank b) refl (is_ascii_alphabeti
     by_class false e false f false g = sign_first dialect b bs (record { no_blank = e; no_letter = f; no_digit = g })
 
 -- what the lexer finds in a lexeme alone
-abbrev alone_is : ℕ → Meaning → First
+abbrev alone_is : ℕ → LexemeMeaning → First
 alone_is len (token kind) = Found kind len
 alone_is len too_great = Bad
 
@@ -332,32 +332,32 @@ two_alone : (dialect : Dialect) → (text : List ℕ) (kind : Kind) → IsTwoMar
 two_alone dialect text kind (two_marks {b = b} {c = c} mark) e =
     first_mark dialect b (c ∷ []) mark ∙ ap (λ two. longer_sign two (kind_in one_byte_signs (b ∷ []))) e
 
-lexeme_alone : (dialect : Dialect) → (text : List ℕ) (m : Meaning) → Lexeme dialect text m → first dialect text ≡ alone_is (length text) m
+lexeme_alone : (dialect : Dialect) → (text : List ℕ) (m : LexemeMeaning) → Lexeme dialect text m → first dialect text ≡ alone_is (length text) m
 lexeme_alone dialect text m (a_word h) = word_alone dialect text h
 lexeme_alone dialect text m (an_integer h most) = digits_alone dialect text h ∙ cond-true _ _ _ (le-leb _ _ most)
 lexeme_alone dialect text m (an_excess h over) = digits_alone dialect text h ∙ cond-false _ _ _ (lt-leb _ _ over)
 lexeme_alone dialect text m (a_sign {kind = kind} e) = one_alone dialect text kind (one_byte text kind e) e
 lexeme_alone dialect text m (a_long_sign {kind = kind} e) = two_alone dialect text kind (two_bytes text kind e) e
 
-same_alone : (len : ℕ) (m n : Meaning) → alone_is len m ≡ alone_is len n → m ≡ n
+same_alone : (len : ℕ) (m n : LexemeMeaning) → alone_is len m ≡ alone_is len n → m ≡ n
 same_alone len (token k) (token l) e = cc
 same_alone len (token k) too_great e = cc
 same_alone len too_great (token l) e = cc
 same_alone len too_great too_great e = refl
 
 -- a text is one lexeme at most
-one_meaning : (dialect : Dialect) → (text : List ℕ) (m n : Meaning) → Lexeme dialect text m → Lexeme dialect text n → m ≡ n
+one_meaning : (dialect : Dialect) → (text : List ℕ) (m n : LexemeMeaning) → Lexeme dialect text m → Lexeme dialect text n → m ≡ n
 one_meaning dialect text m n h k = same_alone (length text) m n (sym (lexeme_alone dialect text m h) ∙ lexeme_alone dialect text n k)
 
 -- there is one longest lexeme at most
-one_length : (dialect : Dialect) → {bytes : List ℕ} {k l : ℕ} {m n : Meaning} → IsLongest dialect bytes k m → IsLongest dialect bytes l n → k ≡ l
+one_length : (dialect : Dialect) → {bytes : List ℕ} {k l : ℕ} {m n : LexemeMeaning} → IsLongest dialect bytes k m → IsLongest dialect bytes l n → k ≡ l
 one_length dialect {k = k} {l = l} {m = m} {n = n} h j = elim (cases_order k l) [
   | inl same ↦ same
   | inr (inl less) ↦ absurd (h.no_longer l n less j.within j.reads)
   | inr (inr more) ↦ absurd (j.no_longer k m more h.within h.reads)
 ]
 
-one_longest : (dialect : Dialect) → {bytes : List ℕ} {k l : ℕ} {m n : Meaning} → IsLongest dialect bytes k m → IsLongest dialect bytes l n → m ≡ n
+one_longest : (dialect : Dialect) → {bytes : List ℕ} {k l : ℕ} {m n : LexemeMeaning} → IsLongest dialect bytes k m → IsLongest dialect bytes l n → m ≡ n
 one_longest dialect {bytes = bytes} {k = k} {l = l} {m = m} {n = n} h j =
     one_meaning dialect (take k bytes) m n h.reads (subst (λ i. Lexeme dialect (take i bytes) n) (sym (one_length dialect h j)) j.reads)
 

@@ -26,12 +26,12 @@ IsDigits [] = ⊥
 IsDigits (b ∷ bs) = IsTrue (list_all is_ascii_digit (b ∷ bs))
 
 -- what a lexeme stands for: a token, or an integer over the limit of the dialect
-pub data Meaning : Type 0 where
-  token : Kind → Meaning
-  too_great : Meaning
+pub data LexemeMeaning : Type 0 where
+  token : Kind → LexemeMeaning
+  too_great : LexemeMeaning
 
 -- The table of lexemes: a text, and what it stands for.
-pub data Lexeme (dialect : Dialect) : List ℕ → Meaning → Type 0 where
+pub data Lexeme (dialect : Dialect) : List ℕ → LexemeMeaning → Type 0 where
   -- a word: the reserved word of that text, or else a name
   a_word : {text : List ℕ} → IsWord text → Lexeme dialect text (token (word_kind text))
   -- digits: their integer
@@ -45,14 +45,14 @@ pub data Lexeme (dialect : Dialect) : List ℕ → Meaning → Type 0 where
   a_long_sign : {text : List ℕ} {kind : Kind} → kind_in two_byte_signs text ≡ Some kind → Lexeme dialect text (token kind)
 
 -- the longest lexeme that the bytes begin with has this length and this meaning
-pub record IsLongest (dialect : Dialect) (bytes : List ℕ) (len : ℕ) (meaning : Meaning) : Type 0 where
+pub record IsLongest (dialect : Dialect) (bytes : List ℕ) (len : ℕ) (meaning : LexemeMeaning) : Type 0 where
   pub within : len ≤ length bytes
   pub reads : Lexeme dialect (take len bytes) meaning
-  pub no_longer : (n : ℕ) (other : Meaning) → len < n → n ≤ length bytes → ¬ Lexeme dialect (take n bytes) other
+  pub no_longer : (n : ℕ) (other : LexemeMeaning) → len < n → n ≤ length bytes → ¬ Lexeme dialect (take n bytes) other
 
 -- the bytes begin with no lexeme
 abbrev pub BeginsWithNone : Dialect → List ℕ → Type 0
-BeginsWithNone dialect bytes = (n : ℕ) (meaning : Meaning) → ¬ Lexeme dialect (take n bytes) meaning
+BeginsWithNone dialect bytes = (n : ℕ) (meaning : LexemeMeaning) → ¬ Lexeme dialect (take n bytes) meaning
 
 -- the bytes begin with a blank
 abbrev pub BeginsWithBlank : List ℕ → Type 0

@@ -89,9 +89,9 @@ pub data BadAt (dialect : Dialect) : ℕ → List ℕ → ℕ → Type 0 where
       → BadAt dialect (at + len) (drop len bs) n → BadAt dialect at bs n
 
 -- a token, if one was found, has at least one byte and at most this many
-abbrev pub IsWithin : ℕ → First → Type 0
-IsWithin n (Found k len) = (0 < len) × (len ≤ n)
-IsWithin n _ = Unit {0}
+abbrev pub IsTokenWithin : ℕ → First → Type 0
+IsTokenWithin n (Found k len) = (0 < len) × (len ≤ n)
+IsTokenWithin n _ = Unit {0}
 
 -- a lawful refusal of bytes that begin at this offset: memory ran out, or it names the first bad byte
 abbrev pub IsBadOf : Dialect → ℕ → List ℕ → Refusal → Type 0

@@ -9,7 +9,7 @@ ghost use Rattle.snesl_data.specs.Blanks.{is_blank};
 ghost use Rattle.snesl_lexer.specs.Tables.{kind_in};
 ghost use Rattle.snesl_lexer.specs.Words.{word_kind};
 ghost use Rattle.snesl_lexer.specs.Signs.{one_byte_signs, two_byte_signs, sign_token};
-ghost use Rattle.snesl_lexer.specs.Lexical.{number, first, behind_blanks, next_kind, dialect_of, Tokens, IsWithin, IsBadOf};
+ghost use Rattle.snesl_lexer.specs.Lexical.{number, first, behind_blanks, next_kind, dialect_of, Tokens, IsTokenWithin, IsBadOf};
 ghost use Rattle.snesl_lexer.specs.Lexemes.{FirstIsLongest};
 ghost use Rattle.snesl_lexer.specs.Readings.{HaveOneReading, TokensNameTheirDialect};
 
@@ -149,7 +149,7 @@ fn number(dialect: Dialect, digits: &[u8]) -> First
 fn first_token(dialect: Dialect, text: &[u8]) -> First
     requires { 0 < length text.now }
     ensures found { result ≡ first dialect text.now }
-    ensures within { IsWithin (length text.now) result }
+    ensures within { IsTokenWithin (length text.now) result }
 {
     let b = text[0];
     if is_blank(b) {

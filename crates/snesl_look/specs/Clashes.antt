@@ -16,40 +16,40 @@ type_text (vec item) = codes "[" ++ type_text item ++ codes "]"
 type_text (seq item) = codes "{" ++ type_text item ++ codes "}"
 
 -- a type between quotes
-abbrev pub quoted : Ty → List ℕ
-quoted t = codes "`" ++ type_text t ++ codes "`"
+abbrev pub quoted_type : Ty → List ℕ
+quoted_type t = codes "`" ++ type_text t ++ codes "`"
 
 -- further types, each behind a comma
 abbrev pub others : List Ty → List ℕ
 others [] = []
-others (t ∷ ts) = codes ", " ++ quoted t ++ others ts
+others (t ∷ ts) = codes ", " ++ quoted_type t ++ others ts
 
 -- types in order, with commas between them
 abbrev pub listed : List Ty → List ℕ
 listed [] = []
-listed (t ∷ ts) = quoted t ++ others ts
+listed (t ∷ ts) = quoted_type t ++ others ts
 
 -- what is of a type, by the word for it
-abbrev pub of_type : (word : List ℕ) → Ty → List ℕ
-of_type word t = codes "the " ++ word ++ codes " is of the type " ++ quoted t
+abbrev pub phrase_of_type : (word : List ℕ) → Ty → List ℕ
+phrase_of_type word t = codes "the " ++ word ++ codes " is of the type " ++ quoted_type t
 
 -- what is of these types, by the word for one of them
 abbrev pub of_types : (word : List ℕ) → List Ty → List ℕ
 of_types word [] = codes "there is no " ++ word
-of_types word (t ∷ []) = of_type word t
+of_types word (t ∷ []) = phrase_of_type word t
 of_types word (t ∷ u ∷ ts) = codes "the " ++ word ++ codes "s are of the types " ++ listed (t ∷ u ∷ ts)
 
 -- the types that stand there
 abbrev pub note_of : Clash → List ℕ
 note_of (operands t u) = of_types (codes "operand") (t ∷ u ∷ [])
-note_of (operand t) = of_type (codes "operand") t
+note_of (operand t) = phrase_of_type (codes "operand") t
 note_of (arguments ts) = of_types (codes "argument") ts
 note_of (parameters ts wanted) = of_types (codes "argument") ts ++ codes ", and " ++ of_types (codes "parameter") wanted
-note_of (branches t u v) = of_type (codes "condition") t ++ codes ", and the branches are of the types " ++ listed (u ∷ v ∷ [])
+note_of (branches t u v) = phrase_of_type (codes "condition") t ++ codes ", and the branches are of the types " ++ listed (u ∷ v ∷ [])
 note_of (items ts) = of_types (codes "item") ts
-note_of (condition t) = of_type (codes "condition") t
-note_of (source t) = codes "this goes over a value of the type " ++ quoted t ++ codes ", which is no sequence"
-note_of (body t wanted) = of_type (codes "body") t ++ codes ", and the result was declared as " ++ quoted wanted
+note_of (condition t) = phrase_of_type (codes "condition") t
+note_of (source t) = codes "this goes over a value of the type " ++ quoted_type t ++ codes ", which is no sequence"
+note_of (body t wanted) = phrase_of_type (codes "body") t ++ codes ", and the result was declared as " ++ quoted_type wanted
 
 -- what is said of a mismatch: before its hint the types that stand there
 abbrev pub clash_message : (at : ℕ) → (program : List ℕ) → Clash → List ℕ

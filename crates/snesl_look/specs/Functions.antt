@@ -9,16 +9,16 @@ abbrev pub opens : ℕ → Bool
 opens byte = byte == 40 || byte == 91 || byte == 123
 
 -- `)`, `]` or `}`
-abbrev pub closes : ℕ → Bool
-closes byte = byte == 41 || byte == 93 || byte == 125
+abbrev pub is_closing : ℕ → Bool
+is_closing byte = byte == 41 || byte == 93 || byte == 125
 
 -- how many brackets are open behind a byte before which so many are
-abbrev pub depth_behind : ℕ → ℕ → ℕ
-depth_behind depth byte = if opens byte then depth + 1 else if closes byte then depth - 1 else depth
+abbrev pub depth_after_byte : ℕ → ℕ → ℕ
+depth_after_byte depth byte = if opens byte then depth + 1 else if is_closing byte then depth - 1 else depth
 
 -- how many brackets are open before a place
 abbrev pub depth_at : List ℕ → ℕ → ℕ
-depth_at text place = fold depth_behind 0 (take place text)
+depth_at text place = fold depth_after_byte 0 (take place text)
 
 -- a `;` stands there, in no bracket: it ends a declaration
 abbrev pub EndsDeclaration : List ℕ → ℕ → Type 0
@@ -56,17 +56,17 @@ abbrev pub behind_word : List ℕ → List ℕ
 behind_word text = drop (prefix_len is_word text) text
 
 -- the first word of a declaration is `function`
-abbrev pub IsFunction : List ℕ → Type 0
-IsFunction declaration = front_word (behind_blanks declaration) ≡ codes "function"
+abbrev pub DeclaresFunction : List ℕ → Type 0
+DeclaresFunction declaration = front_word (behind_blanks declaration) ≡ codes "function"
 
 -- and this is its second word
-abbrev pub IsNamed : List ℕ → List ℕ → Type 0
-IsNamed declaration name = IsFunction declaration × (name ≡ front_word (behind_blanks (behind_word (behind_blanks declaration))))
+abbrev pub HasName : List ℕ → List ℕ → Type 0
+HasName declaration name = DeclaresFunction declaration × (name ≡ front_word (behind_blanks (behind_word (behind_blanks declaration))))
 
 -- the offset lies in the declaration of a function of this name
 abbrev pub IsNamedAt : List ℕ → ℕ → List ℕ → Type 0
-IsNamedAt text offset name = (declaration : List ℕ) × IsDeclarationAt text offset declaration × IsNamed declaration name
+IsNamedAt text offset name = (declaration : List ℕ) × IsDeclarationAt text offset declaration × HasName declaration name
 
 -- the offset lies in no declaration, or in one that is of no function
 abbrev pub NoneNamedAt : List ℕ → ℕ → Type 0
-NoneNamedAt text offset = NoneAt text offset ⊎ ((declaration : List ℕ) × IsDeclarationAt text offset declaration × ¬ IsFunction declaration)
+NoneNamedAt text offset = NoneAt text offset ⊎ ((declaration : List ℕ) × IsDeclarationAt text offset declaration × ¬ DeclaresFunction declaration)

@@ -3,7 +3,7 @@
 ghost use Rattle.std.specs.Prelude.{◌≡◌, ◌++◌, ◌∷◌, [], IfOk, OnOk, map};
 ghost use Rattle.snesl_data.specs.Types.{ty_of};
 ghost use Rattle.snesl_types.specs.Clashes.{clash_of, body, branches, parameters, source};
-ghost use Rattle.snesl_look.specs.Clashes.{clash_message, note_of, listed, of_type, of_types, others, quoted, type_text};
+ghost use Rattle.snesl_look.specs.Clashes.{clash_message, note_of, listed, phrase_of_type, of_types, others, quoted_type, type_text};
 
 use crate::messages::placed_with_note;
 use crate::words::{refusal_hint, refusal_sentence};
@@ -138,7 +138,7 @@ fn append_of_more(
 
 // What is of a type, by the word for it.
 fn append_of_type(note: &mut Vec<u8>, word: &[u8], ty: &Ty) -> Result<(), AllocError>
-    ensures { OnOk result (note.new.items ≡ note.old.items ++ of_type word.now (ty_of ty.now)) }
+    ensures { OnOk result (note.new.items ≡ note.old.items ++ phrase_of_type word.now (ty_of ty.now)) }
 {
     note.extend_from_slice(b"the ")?;
     note.extend_from_slice(word)?;
@@ -172,7 +172,7 @@ fn append_others(note: &mut Vec<u8>, types: &[Ty]) -> Result<(), AllocError>
 
 // A type between quotes.
 fn append_quoted(note: &mut Vec<u8>, ty: &Ty) -> Result<(), AllocError>
-    ensures { OnOk result (note.new.items ≡ note.old.items ++ quoted (ty_of ty.now)) }
+    ensures { OnOk result (note.new.items ≡ note.old.items ++ quoted_type (ty_of ty.now)) }
 {
     note.extend_from_slice(b"`")?;
     append_type(note, ty)?;

@@ -3,7 +3,7 @@
 ghost use Rattle.std.specs.Prelude.{◌≡◌, ◌↔◌, ◌<◌, ◌≤◌, ◌+◌, ◌^◌, IsTrue, MatchOption, length};
 ghost use Rattle.std.specs.List.{prefix_len};
 ghost use Rattle.snesl_data.specs.Blanks.{is_blank};
-ghost use Rattle.snesl_look.specs.Functions.{IsDeclarationAt, IsFunction, IsNamed, IsNamedAt, NoneAt, NoneNamedAt, behind_blanks, behind_word, depth_behind, front_word};
+ghost use Rattle.snesl_look.specs.Functions.{IsDeclarationAt, DeclaresFunction, HasName, IsNamedAt, NoneAt, NoneNamedAt, behind_blanks, behind_word, depth_after_byte, front_word};
 
 use snesl_data::{is_blank, word_len};
 
@@ -36,15 +36,15 @@ fn declaration_at(text: &[u8], offset: usize) -> Option<&[u8]>
             }
             start = place + 1;
         }
-        depth = depth_behind(depth, text[place]);
+        depth = depth_after_byte(depth, text[place]);
     }
     None
 }
 
 // How many brackets are open behind a byte.
-fn depth_behind(depth: usize, byte: u8) -> usize
+fn depth_after_byte(depth: usize, byte: u8) -> usize
     requires { depth < 2 ^ 63 }
-    ensures depth { result ≡ depth_behind depth byte }
+    ensures depth { result ≡ depth_after_byte depth byte }
     ensures few { result ≤ depth + 1 }
 {
     match byte {
@@ -56,8 +56,8 @@ fn depth_behind(depth: usize, byte: u8) -> usize
 
 // The name in a function's declaration.
 fn name_of(declaration: &[u8]) -> Option<&[u8]>
-    ensures { MatchOption result (¬ (IsFunction declaration.now))
-        (λ name. IsNamed declaration.now name.now) }
+    ensures { MatchOption result (¬ (DeclaresFunction declaration.now))
+        (λ name. HasName declaration.now name.now) }
 {
     if !is_function(declaration) {
         return None;
@@ -70,7 +70,7 @@ fn name_of(declaration: &[u8]) -> Option<&[u8]>
 
 // Whether the declaration is that of a function.
 fn is_function(declaration: &[u8]) -> bool
-    ensures { IsTrue result ↔ IsFunction declaration.now }
+    ensures { IsTrue result ↔ DeclaresFunction declaration.now }
 {
     let from_word = behind_blanks(declaration);
     front_word(from_word) == FUNCTION

@@ -15,7 +15,7 @@ use Rattle.snesl_lexer.specs.Tables.{kind_in}
 use Rattle.snesl_lexer.specs.Words.{reserved_words}
 use Rattle.snesl_lexer.specs.Signs.{one_byte_signs, two_byte_signs}
 use Rattle.snesl_lexer.specs.Lexical.{first, dialect_named, dialect_of, Tokens, none_left, skips, takes}
-use Rattle.snesl_lexer.specs.Lexemes.{Meaning, token as stands_for, too_great, Lexeme, a_word, an_integer, an_excess, a_sign, a_long_sign}
+use Rattle.snesl_lexer.specs.Lexemes.{LexemeMeaning, token as stands_for, too_great, Lexeme, a_word, an_integer, an_excess, a_sign, a_long_sign}
 use Rattle.snesl_lexer.proofs.Longest.{first_is_longest}
 use Rattle.snesl_lexer.proofs.Dialects.{names_its_dialect}
 use Rattle.snesl_tree.specs.declared.operator.Builtin.{Builtin}
@@ -27,7 +27,7 @@ use Rattle.snesl_tree.specs.Tree.{Tree, Trees, Binders, none, both, none_bound, 
 use Rattle.snesl_grammar.specs.Operators.{sign, prefix_sign, truth_word, word}
 use Rattle.snesl_grammar.specs.Expressions.{token, added, bound_also, Whole, integer_rule, truth_rule, name_rule, binary_rule, prefix_rule, call_rule, apply_rule, group_rule, pair_rule, let_rule, if_rule, literal_rule, filter_rule, each_rule, each_where_rule, WholeArguments, one_rule, more_rule, WholeBinders, one_binder, more_binders}
 use Rattle.snesl_grammar.specs.Programs.{WholeDeclaration, input_rule, function_rule, WholeDeclarations, no_declarations, more_declarations, WholeDialect, no_dialect, dialect_rule, WholeProgram, program_rule}
-use Rattle.snesl_syntax.specs.Parse.{Parses, read, Answers, accepted}
+use Rattle.snesl_syntax.specs.Parse.{Parses, read, AnswersTokens, accepted}
 use Rattle.snesl_types.specs.Ranges.{IsInRange, AreInRange, BindersInRange, DeclarationInRange, DeclarationsInRange, ProgramInRange}
 
 module _ (dialect : Dialect) where
@@ -52,11 +52,11 @@ module _ (dialect : Dialect) where
       by_test true here later found = let same : row.1 ≡ kind = cc in subst (λ k. fits k ≡ true) same here
       by_test false here later found = later found
 
-  abbrev MeaningFits : Meaning → Type 0
+  abbrev MeaningFits : LexemeMeaning → Type 0
   MeaningFits (stands_for kind) = fits kind ≡ true
   MeaningFits too_great = Unit {0}
 
-  lexeme_fits : (text : List ℕ) (m : Meaning) → Lexeme dialect text m → MeaningFits m
+  lexeme_fits : (text : List ℕ) (m : LexemeMeaning) → Lexeme dialect text m → MeaningFits m
   lexeme_fits text m (a_word w) = by_row (kind_in reserved_words text) refl
     where
       by_row : (found : Option Kind) → kind_in reserved_words text ≡ found → fits (unwrap_or found (kinds.Name (length text))) ≡ true
@@ -236,7 +236,7 @@ whole_program_fits (program_rule {named = named} {ts = ts} {us = us} {dialect = 
     record { declarations = declarations_fit dialect wd p.0; expression = whole_fits dialect w p.1 }
 
 accepted_fits : {deep len : ℕ} {ts : List Token} {program : ProgramTree} (text : List ℕ) → Tokens (dialect_of text) 0 text ts
-    → Answers deep len ts (Ok program) → ProgramInRange program
+    → AnswersTokens deep len ts (Ok program) → ProgramInRange program
 accepted_fits {ts = ts} {program = program} text tokens (accepted w h) =
     let same : program.dialect ≡ dialect_of text = sym (program_names w) ∙ names_its_dialect text ts tokens in
     whole_program_fits w (subst (λ d. Fit d ts) (sym same) (tokens_fit (dialect_of text) tokens))

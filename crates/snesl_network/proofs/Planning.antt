@@ -18,7 +18,7 @@ use Rattle.flow_nodes.specs.StreamNodes.{node_behaviour}
 use Rattle.flow_graph.specs.declared.edge.Edge.{Edge}
 use Rattle.flow_graph.specs.Laws.{IsNetwork}
 use Rattle.flow_graph.specs.Networks.{AreOpened}
-use Rattle.flow_plans.specs.Layouts.{layout, IsNetworkOf}
+use Rattle.flow_plans.specs.Layouts.{layout, IsNetworkOfPlan}
 use Rattle.flow_assembly.specs.Openings.{AllOpen}
 use Rattle.snesl_translation.specs.Programs.{cells_of}
 use Rattle.snesl_flatten.specs.Networks.{NodeState, program_steps, NetworkMeans}
@@ -28,7 +28,7 @@ use Rattle.snesl_network.specs.Meant.{IsMeantFor, HasNoNetwork}
 -- these nodes and edges are the network of this program with these inputs
 abbrev pub IsItsNetwork : Environment → List NodeState → List Edge → List ℕ → ProgramTree → List Declaration → Type 0
 IsItsNetwork environment states edges text program inputs =
-    IsNetworkOf node_behaviour (program_steps text program inputs (cells_of inputs environment)) states edges
+    IsNetworkOfPlan node_behaviour (program_steps text program inputs (cells_of inputs environment)) states edges
 
 -- each of these nodes opens as this program says with these inputs
 abbrev pub AllOpenFor : Environment → List NodeState → List ℕ → ProgramTree → List Declaration → Type 0

@@ -23,7 +23,7 @@ use Rattle.flow_graph.specs.Networks.{AreOpened, network_of, configuration_of}
 use Rattle.flow_graph.specs.Laws.{IsNetwork}
 use Rattle.flow_graph.specs.Flows.{IsLawfulFlow}
 use Rattle.flow_graph.specs.Shapes.{IsSameNetwork}
-use Rattle.flow_plans.specs.Layouts.{layout, edges_needed, IsNetworkOf}
+use Rattle.flow_plans.specs.Layouts.{layout, edges_needed, IsNetworkOfPlan}
 use Rattle.flow_assembly.specs.Openings.{AllOpen}
 use Rattle.snesl_translation.specs.Programs.{cells_of, unset_cells}
 use Rattle.flow_drive.specs.declared.config.Config.{Config}
@@ -65,7 +65,7 @@ module _ (text input : List ℕ) where
     pub parses : Parses text (Ok program)
     pub types : ProgramTypes text program declared ty
     pub inputs : InputMeans program.dialect declared.inputs input (spells environment)
-    pub network : IsNetworkOf node_behaviour (program_steps text program declared.inputs (cells_of declared.inputs environment)) states edges
+    pub network : IsNetworkOfPlan node_behaviour (program_steps text program declared.inputs (cells_of declared.inputs environment)) states edges
     pub opens : AllOpen (layout (program_steps text program declared.inputs (cells_of declared.inputs environment))) states
     pub opened : AreOpened node_behaviour states
     pub joined : IsNetwork node_behaviour states edges

@@ -12,7 +12,7 @@ use Rattle.flow_drive.specs.Texts.{last_text}
 use Rattle.snesl_meaning.specs.Meaning.{Means, has_value}
 use Rattle.snesl_network.specs.Driven.{WasRefused}
 use Rattle.snesl_run.specs.Runs.{view_in_report, outcome_of, refusal_of, value_line, CameOut, WroteFor, HasWritten, IsReported, IsCutShort, HasError, IsErrorOf, IsRefusedWith}
-use Rattle.snesl_console.specs.Streams.{WriteEffect, IsWhole, IsCutOff, HasSent}
+use Rattle.snesl_console.specs.Streams.{WriteEffect, IsWrittenWhole, IsCutOff, HasSent}
 use Rattle.snesl_run.specs.declared.report.Report.{Report}
 use Rattle.snesl_run.specs.declared.report.RunError.{RunError}
 
@@ -56,7 +56,7 @@ module _ (program input : List ℕ) (config : Config) (report : Report) (reporte
         → line ≡ printed ++ 10 ∷ [] → HasSent out line all → all ≡ true → HasWritten program input out report
     line_written printed line all is told made sent whole =
         let h = line_is printed line is told made in
-        subst (WroteFor program input out) (sym is) (h.0, h.1, subst (IsWhole out) h.2 (subst (HasSent out line) whole sent))
+        subst (WroteFor program input out) (sym is) (h.0, h.1, subst (IsWrittenWhole out) h.2 (subst (HasSent out line) whole sent))
 
     -- nothing was written where not all nodes have ended
     pub nothing_written : (outcome : Outcome) → outcome_of report ≡ outcome → (outcome ≡ Ended → ⊥) → out.nothing → HasWritten program input out report

@@ -15,7 +15,7 @@ use Rattle.snesl_meaning.specs.Meaning.{Means, has_value, has_fault}
 use Rattle.snesl_network.specs.NodesAtRest.{FinalView, final_view}
 use Rattle.snesl_network.specs.WhichDrive.{WasDrivenBy}
 use Rattle.snesl_network.specs.Driven.{CameToRest, WasRefused}
-use Rattle.snesl_console.specs.Streams.{WriteEffect, IsWhole, IsCutOff}
+use Rattle.snesl_console.specs.Streams.{WriteEffect, IsWrittenWhole, IsCutOff}
 use Rattle.snesl_run.specs.declared.report.Report.{Report}
 use Rattle.snesl_run.specs.declared.report.RunError.{RunError}
 
@@ -46,7 +46,7 @@ EndsInFault program input = (kind : FaultKind) × (at : ℕ) × Means program in
 -- where all nodes have ended, the line of the program's value was written; where a fault is named, the program ends in a
 -- fault, perhaps in another one, and nothing was written; where the network has stalled, nothing was written
 abbrev pub WroteFor : (program input : List ℕ) → WriteEffect → Outcome → Type 0
-WroteFor program input out Ended = (v : Value) × Means program input (has_value v) × IsWhole out (value_line v)
+WroteFor program input out Ended = (v : Value) × Means program input (has_value v) × IsWrittenWhole out (value_line v)
 WroteFor program input out (Failed f) = EndsInFault program input × out.nothing
 WroteFor program input out (Stalled e) = out.nothing
 

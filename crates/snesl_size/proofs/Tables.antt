@@ -3,18 +3,18 @@ use Rattle.std.proofs.Common.{◌≡◌, ◌∙◌, List, [], ◌++◌, Option, 
 use Rattle.std.proofs.lemmas.List.{append-nil}
 use Rattle.snesl_flatten.specs.Networks.{NodeState}
 use Rattle.snesl_network.specs.NodesAtRest.{FinalView}
-use Rattle.snesl_size.specs.Tables.{AddedTo, BusiestLines, IsBusiest, IsSizeTable, busiest_part, count_over, full_part, numbered, sizes_part, with_edges, without_edges}
+use Rattle.snesl_size.specs.Tables.{AddedTo, BusiestLines, IsBusiest, IsSizeTable, busiest_part, count_over, full_part, name_and_number, sizes_part, with_edges, without_edges}
 
 module _ (rest : FinalView NodeState) (before : List ℕ) where
   -- the lines of the busiest edge
   pub with_busiest : (e count : ℕ) (line table : List ℕ) → IsBusiest rest e → count ≡ count_over rest e
-      → line ≡ before ++ numbered (codes "busiest edge: ") e → table ≡ line ++ numbered (codes "messages on it: ") count
+      → line ≡ before ++ name_and_number (codes "busiest edge: ") e → table ≡ line ++ name_and_number (codes "messages on it: ") count
       → AddedTo (BusiestLines rest) before table
   with_busiest e count line table is counted first second = (
     busiest_part e (count_over rest e),
     with_edges e is,
-    second ∙ ap (λ l. l ++ numbered (codes "messages on it: ") count) first
-        ∙ append_assoc before (numbered (codes "busiest edge: ") e) (numbered (codes "messages on it: ") count)
+    second ∙ ap (λ l. l ++ name_and_number (codes "messages on it: ") count) first
+        ∙ append_assoc before (name_and_number (codes "busiest edge: ") e) (name_and_number (codes "messages on it: ") count)
         ∙ ap (λ n. before ++ busiest_part e n) counted,
   )
 

@@ -10,8 +10,8 @@ abbrev pub count_over : FinalView NodeState → ℕ → ℕ
 count_over rest e = u64_saturate (length (rest.traffic.sent e))
 
 -- how many went over all edges, counted so
-abbrev pub messages_of : FinalView NodeState → ℕ
-messages_of rest = u64_saturate (total (count_over rest) (length rest.edges))
+abbrev pub message_count : FinalView NodeState → ℕ
+message_count rest = u64_saturate (total (count_over rest) (length rest.edges))
 
 -- Of the first `edges` edges e is the first over which most messages went.
 pub record IsBusiestOf (rest : FinalView NodeState) (edges e : ℕ) : Type 0 where
@@ -24,18 +24,18 @@ abbrev pub IsBusiest : FinalView NodeState → ℕ → Type 0
 IsBusiest rest e = IsBusiestOf rest (length rest.edges) e
 
 -- a name and a number
-abbrev pub numbered : List ℕ → ℕ → List ℕ
-numbered name number = name ++ decimal number ++ codes "\n"
+abbrev pub name_and_number : List ℕ → ℕ → List ℕ
+name_and_number name number = name ++ decimal number ++ codes "\n"
 
 -- the least capacity, how many nodes and edges there are, and how many messages went over all edges
 abbrev pub sizes_part : ℕ → FinalView NodeState → List ℕ
 sizes_part least rest =
-    numbered (codes "least capacity: ") least ++ numbered (codes "nodes: ") (length rest.states) ++ numbered (codes "edges: ") (length rest.edges)
-    ++ numbered (codes "messages: ") (messages_of rest)
+    name_and_number (codes "least capacity: ") least ++ name_and_number (codes "nodes: ") (length rest.states) ++ name_and_number (codes "edges: ") (length rest.edges)
+    ++ name_and_number (codes "messages: ") (message_count rest)
 
 -- the edge over which most of them went, and how many
 abbrev pub busiest_part : ℕ → ℕ → List ℕ
-busiest_part edge count = numbered (codes "busiest edge: ") edge ++ numbered (codes "messages on it: ") count
+busiest_part edge count = name_and_number (codes "busiest edge: ") edge ++ name_and_number (codes "messages on it: ") count
 
 -- lines of which this holds were added
 abbrev pub AddedTo : (List ℕ → Type 0) → List ℕ → List ℕ → Type 0
@@ -43,7 +43,7 @@ AddedTo P before after = (lines : List ℕ) × P lines × (after ≡ before ++ l
 
 -- the edge that was full at one message less, where there is one
 abbrev pub full_part : Option ℕ → List ℕ
-full_part (Some edge) = numbered (codes "full at one less: edge ") edge
+full_part (Some edge) = name_and_number (codes "full at one less: edge ") edge
 full_part None = []
 
 -- the lines of the busiest edge of a network, or none where it has no edge

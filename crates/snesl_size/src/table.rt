@@ -2,7 +2,7 @@
 
 ghost use Rattle.std.specs.Prelude.{◌≡◌, ◌++◌, IfOk, MatchOption, OnOk, length};
 ghost use Rattle.snesl_network.specs.NodesAtRest.{final_view};
-ghost use Rattle.snesl_size.specs.Tables.{AddedTo, BusiestLines, IsBusiest, IsSizeTable, count_over, full_part, messages_of, numbered, sizes_part};
+ghost use Rattle.snesl_size.specs.Tables.{AddedTo, BusiestLines, IsBusiest, IsSizeTable, count_over, full_part, message_count, name_and_number, sizes_part};
 
 use flow_drive::Rested;
 use flow_nodes::StreamNode;
@@ -68,7 +68,7 @@ fn append_sizes(
 
 // How many messages went over all edges. The sum stays at `u64::MAX`.
 fn messages(rested: &Rested<StreamNode>) -> u64
-    ensures { result ≡ messages_of (final_view rested.now) }
+    ensures { result ≡ message_count (final_view rested.now) }
 {
     let mut sum: u64 = 0;
     for edge in 0..rested.edges() {
@@ -95,7 +95,7 @@ fn busiest(rested: &Rested<StreamNode>) -> Option<usize>
 }
 
 fn append_line(table: &mut Vec<u8>, name: &[u8], number: u64) -> Result<(), AllocError>
-    ensures { OnOk result (table.new.items ≡ table.old.items ++ numbered name.now number) }
+    ensures { OnOk result (table.new.items ≡ table.old.items ++ name_and_number name.now number) }
 {
     let mut buffer = Buffer::new();
     table.extend_from_slice(name)?;

@@ -2,9 +2,9 @@
 use Rattle.std.proofs.Common.{◌≡◌, ℕ, ◌≤◌, List, [], ◌∷◌, ◌++◌, Option, Some, None, Ok, refl, sym, ◌∙◌, ap, subst, arith, append_assoc}
 use Rattle.std.proofs.lemmas.List.{append-nil}
 use Rattle.snesl_lexer.specs.declared.token.Token.{Token}
-use Rattle.snesl_expressions.specs.Readers.{Move, free, Reader, step, go}
+use Rattle.snesl_expressions.specs.Readers.{TokenMove, free, Reader, step, go}
 use Rattle.snesl_expressions.proofs.Reading.{bind_ok, within_ok, fits_step, steps_on}
-use Rattle.snesl_syntax.specs.Programs.{carried, or_else, when_whole}
+use Rattle.snesl_syntax.specs.Programs.{lifted, or_else, when_whole}
 
 -- a step that wants no depth
 pub free_step : {State Form : Type 0} (reader : Reader State Form) (d : ℕ) (s next : State) (t : Token)
@@ -12,28 +12,28 @@ pub free_step : {State Form : Type 0} (reader : Reader State Form) (d : ℕ) (s 
 free_step reader d s next t e = fits_step reader d s next t 0 e (omega arith)
 
 -- the move, where there is one, has the property
-abbrev pub Good : {State : Type 0} → (Move State → Type 0) → Option (Move State) → Type 0
+abbrev pub Good : {State : Type 0} → (TokenMove State → Type 0) → Option (TokenMove State) → Type 0
 Good P None = Unit {0}
 Good P (Some found) = P found
 
-pub good_some : {State : Type 0} (P : Move State → Type 0) (m : Option (Move State)) (found : Move State) → Good P m → m ≡ Some found → P found
+pub good_some : {State : Type 0} (P : TokenMove State → Type 0) (m : Option (TokenMove State)) (found : TokenMove State) → Good P m → m ≡ Some found → P found
 good_some P None found h e = absurd (let never : ⊥ = cc in never)
 good_some P (Some other) found h e = subst (Good P) e h
 
-pub good_self : {State : Type 0} (P : Move State → Type 0) (m : Option (Move State)) → ((found : Move State) → m ≡ Some found → P found) → Good P m
+pub good_self : {State : Type 0} (P : TokenMove State → Type 0) (m : Option (TokenMove State)) → ((found : TokenMove State) → m ≡ Some found → P found) → Good P m
 good_self P None h = tt
 good_self P (Some found) h = h found refl
 
-pub good_or : {State : Type 0} (P : Move State → Type 0) (m other : Option (Move State)) → Good P m → Good P other → Good P (or_else m other)
+pub good_or : {State : Type 0} (P : TokenMove State → Type 0) (m other : Option (TokenMove State)) → Good P m → Good P other → Good P (or_else m other)
 good_or P None other h k = k
 good_or P (Some found) other h k = h
 
-pub good_carried : {Inner Outer : Type 0} (P : Move Outer → Type 0) (around : Inner → Outer) (m : Option (Move Inner))
-    → ((found : Move Inner) → m ≡ Some found → P (record { want = found.want; next = around found.next })) → Good P (carried around m)
+pub good_carried : {Inner Outer : Type 0} (P : TokenMove Outer → Type 0) (around : Inner → Outer) (m : Option (TokenMove Inner))
+    → ((found : TokenMove Inner) → m ≡ Some found → P (record { want = found.want; next = around found.next })) → Good P (lifted around m)
 good_carried P around None h = tt
 good_carried P around (Some found) h = h found refl
 
-pub good_when : {Form State : Type 0} (P : Move State → Type 0) (found : Option Form) (ends : Form → Option (Move State))
+pub good_when : {Form State : Type 0} (P : TokenMove State → Type 0) (found : Option Form) (ends : Form → Option (TokenMove State))
     → ((form : Form) → found ≡ Some form → Good P (ends form)) → Good P (when_whole found ends)
 good_when P None ends h = tt
 good_when P (Some form) ends h = h form refl
@@ -55,7 +55,7 @@ go_stands reader Stands d steps (u ∷ us) s next ts h e =
 
 -- a part is read inside as it is by itself
 pub go_carried : {Inner Outer Part Whole : Type 0} (part : Reader Inner Part) (reader : Reader Outer Whole) (around : Inner → Outer)
-    → ((s : Inner) (t : Token) (found : Move Inner) → part.move s t ≡ Some found
+    → ((s : Inner) (t : Token) (found : TokenMove Inner) → part.move s t ≡ Some found
     → reader.move (around s) t ≡ Some (record { want = found.want; next = around found.next }))
     → (d : ℕ) (ts : List Token) (s next : Inner) → go part d s ts ≡ Ok next → go reader d (around s) ts ≡ Ok (around next)
 go_carried part reader around inside d [] s next e = let same : s ≡ next = cc in ap (λ x. Ok (around x)) same

@@ -10,7 +10,7 @@ use Rattle.snesl_expressions.proofs.Reading.{bind_ok, within_ok, fits_step, goes
 use Rattle.snesl_grammar.specs.Types.{WholeType}
 use Rattle.snesl_syntax.specs.Types.{TypeState, types}
 use Rattle.snesl_grammar.specs.Programs.{typed, parameters_depth, declaration_depth, declarations_depth, WholeParameters, one_parameter, more_parameters, WholeDeclaration, input_rule, function_rule, WholeDeclarations, no_declarations, more_declarations}
-use Rattle.snesl_syntax.specs.Programs.{Rest, TypeOf, of_input, of_parameter, of_result, Header, ProgramState, between, awaits_input, awaits_input_colon, awaits_function, awaits_open, awaits_parameter, awaits_parameter_colon, awaits_result, in_type, in_body, in_final, carried, or_else, when_whole, body_end, type_end, fixed_move, with_expression, finished_program, programs}
+use Rattle.snesl_syntax.specs.Programs.{Rest, TypeOf, of_input, of_parameter, of_result, Header, ProgramState, between, awaits_input, awaits_input_colon, awaits_function, awaits_open, awaits_parameter, awaits_parameter_colon, awaits_result, in_type, in_body, in_final, lifted, or_else, when_whole, body_end, type_end, fixed_move, with_expression, finished_program, programs}
 use Rattle.snesl_expressions.specs.Readers.{IsReaderOf}
 use Rattle.snesl_syntax.proofs.Moves.{free_step, go_carried}
 use Rattle.snesl_syntax.proofs.TypesRead.{types_are_read}
@@ -43,7 +43,7 @@ module _ {State : Type 0} (expressions : Reader State Tree) (right : ReadsExpres
       → types.finished s ≡ Some written → type_end expressions owner t.kind written ≡ free next → step reader d (in_type owner s) t ≡ Ok next
   type_end_step d owner s written t next f e =
       free_step reader d (in_type owner s) next t
-      (ap (λ m. or_else (carried (in_type owner) m) (when_whole (types.finished s) (type_end expressions owner t.kind))) (types_are_read.ends s written t f tt)
+      (ap (λ m. or_else (lifted (in_type owner) m) (when_whole (types.finished s) (type_end expressions owner t.kind))) (types_are_read.ends s written t f tt)
       ∙ ap (λ m. when_whole m (type_end expressions owner t.kind)) f ∙ e)
 
   -- a semicolon ends a whole body
@@ -53,7 +53,7 @@ module _ {State : Type 0} (expressions : Reader State Tree) (right : ReadsExpres
   body_end_step d header s body at f =
       free_step reader d (in_body header s) (between (header.done ++ declares_function header.function header.parameters header.result body ∷ []))
       (token Semicolon at)
-      (ap (λ m. or_else (carried (in_body header) m) (when_whole (expressions.finished s) (body_end header Semicolon))) (right.is.ends s body (token Semicolon at) f refl)
+      (ap (λ m. or_else (lifted (in_body header) m) (when_whole (expressions.finished s) (body_end header Semicolon))) (right.is.ends s body (token Semicolon at) f refl)
       ∙ ap (λ m. when_whole m (body_end header Semicolon)) f)
 
   -- a type is read inside a program as it is by itself
@@ -61,14 +61,14 @@ module _ {State : Type 0} (expressions : Reader State Tree) (right : ReadsExpres
       → go reader d (in_type owner types.start) ts ≡ Ok (in_type owner s)
   type_goes d owner ts s e =
       go_carried types reader (in_type owner)
-      (λ x t found f. ap (λ m. or_else (carried (in_type owner) m) (when_whole (types.finished x) (type_end expressions owner t.kind))) f) d ts types.start s e
+      (λ x t found f. ap (λ m. or_else (lifted (in_type owner) m) (when_whole (types.finished x) (type_end expressions owner t.kind))) f) d ts types.start s e
 
   -- and so is the body of a function
   body_goes : (d : ℕ) (header : Header) (ts : List Token) (s : State) → go expressions d expressions.start ts ≡ Ok s
       → go reader d (in_body header expressions.start) ts ≡ Ok (in_body header s)
   body_goes d header ts s e =
       go_carried expressions reader (in_body header)
-      (λ x t found f. ap (λ m. or_else (carried (in_body header) m) (when_whole (expressions.finished x) (body_end header t.kind))) f) d ts expressions.start s e
+      (λ x t found f. ap (λ m. or_else (lifted (in_body header) m) (when_whole (expressions.finished x) (body_end header t.kind))) f) d ts expressions.start s e
 
   -- a whole type is read, with the token that ends it
   reads_type : (d : ℕ) (owner : TypeOf) (ts rest : List Token) (written : TypeTree) (t : Token) (next : ProgramState State)
@@ -140,7 +140,7 @@ module _ {State : Type 0} (expressions : Reader State Tree) (right : ReadsExpres
       let last : List Token = ts ++ (token Semicolon semicolon ∷ []) in
       steps_on reader d (between done) (awaits_input done) (token Input at) (name_token place ∷ token Colon colon ∷ last)
       (free_step reader d (between done) (awaits_input done) (token Input at)
-      (ap (λ m. or_else (carried (in_final done) m) (fixed_move expressions (between done) Input at)) (right.no_input at)))
+      (ap (λ m. or_else (lifted (in_final done) m) (fixed_move expressions (between done) Input at)) (right.no_input at)))
       ∙ (steps_on reader d (awaits_input done) (awaits_input_colon done place) (name_token place) (token Colon colon ∷ last)
       (free_step reader d (awaits_input done) (awaits_input_colon done place) (name_token place) refl)
       ∙ (steps_on reader d (awaits_input_colon done place) (in_type (of_input done place) types.start) (token Colon colon) last
@@ -156,7 +156,7 @@ module _ {State : Type 0} (expressions : Reader State Tree) (right : ReadsExpres
       steps_on reader d (between done) (awaits_function done) (token Function at)
       (name_token place ∷ token LeftParen opened ∷ (ts ++ (token RightParen closed ∷ token Colon colon ∷ result_tokens)))
       (free_step reader d (between done) (awaits_function done) (token Function at)
-      (ap (λ m. or_else (carried (in_final done) m) (fixed_move expressions (between done) Function at)) (right.no_function at)))
+      (ap (λ m. or_else (lifted (in_final done) m) (fixed_move expressions (between done) Function at)) (right.no_function at)))
       ∙ (steps_on reader d (awaits_function done) (awaits_open done place) (name_token place)
       (token LeftParen opened ∷ (ts ++ (token RightParen closed ∷ token Colon colon ∷ result_tokens)))
       (free_step reader d (awaits_function done) (awaits_open done place) (name_token place) refl)
@@ -193,9 +193,9 @@ module _ {State : Type 0} (expressions : Reader State Tree) (right : ReadsExpres
         in_final done r,
         steps_on reader d (between done) (in_final done b.0) u us
             (fits_step reader d (between done) (in_final done w.0.next) u w.0.want
-            (ap (λ m. or_else (carried (in_final done) m) (fixed_move expressions (between done) u.kind u.at)) w.1) w.2
+            (ap (λ m. or_else (lifted (in_final done) m) (fixed_move expressions (between done) u.kind u.at)) w.1) w.2
             ∙ ap (λ x. Ok (in_final done x)) w.3)
-            ∙ go_carried expressions reader (in_final done) (λ x t found f. ap (carried (in_final done)) f) d us b.0 r b.2,
+            ∙ go_carried expressions reader (in_final done) (λ x t found f. ap (lifted (in_final done)) f) d us b.0 r b.2,
         refl,
       )
 

@@ -7,12 +7,12 @@ use Rattle.snesl_lexer.specs.declared.token.Token.{Token}
 use Rattle.snesl_tree.specs.declared.span.Span.{Span}
 use Rattle.snesl_tree.specs.Tree.{Tree, depth, TypeTree, type_depth, Typed, DeclarationTree, declares_input, declares_function}
 use Rattle.snesl_grammar.specs.Expressions.{token, name_token, Whole, Front, nothing}
-use Rattle.snesl_expressions.specs.Readers.{Move, Reader, go}
+use Rattle.snesl_expressions.specs.Readers.{TokenMove, Reader, go}
 use Rattle.snesl_expressions.proofs.Reading.{ends_with, fits_step}
 use Rattle.snesl_grammar.specs.Types.{WholeType, FrontType}
 use Rattle.snesl_syntax.specs.Types.{TypeState, types}
 use Rattle.snesl_grammar.specs.Programs.{typed, parameters_depth, declaration_depth, declarations_depth, WholeParameters, one_parameter, more_parameters, WholeDeclaration, input_rule, function_rule, WholeDeclarations, no_declarations, more_declarations, FrontParameter, no_parameter, parameter_name, parameter_type, FrontParameters, first_parameter, next_parameter, FrontDeclaration, input_word, input_name, input_type, function_word, function_name, function_parameters, function_closed, function_result, function_body}
-use Rattle.snesl_syntax.specs.Programs.{Rest, TypeOf, of_input, of_parameter, of_result, Header, ProgramState, between, awaits_input, awaits_input_colon, awaits_function, awaits_open, awaits_parameter, awaits_parameter_colon, awaits_result, in_type, in_body, in_final, carried, when_whole, span, body_end, type_end, fixed_move, with_expression, programs}
+use Rattle.snesl_syntax.specs.Programs.{Rest, TypeOf, of_input, of_parameter, of_result, Header, ProgramState, between, awaits_input, awaits_input_colon, awaits_function, awaits_open, awaits_parameter, awaits_parameter_colon, awaits_result, in_type, in_body, in_final, lifted, when_whole, span, body_end, type_end, fixed_move, with_expression, programs}
 use Rattle.snesl_syntax.proofs.Moves.{Good, good_or, good_carried, good_when, go_stands}
 use Rattle.snesl_syntax.proofs.TypesRead.{types_are_read}
 use Rattle.snesl_syntax.proofs.Rests.{rest_depth, WholeRest, rest_rule, FrontRest, rest_in_declaration, rest_in_expression}
@@ -108,14 +108,14 @@ module _ {State : Type 0} (expressions : Reader State Tree) (right : ReadsExpres
     stands_final : {d : ℕ} {done : List DeclarationTree} {s : State} {ts : List Token} (us : List Token)
         → Declared d done ts → go expressions d expressions.start us ≡ Ok s → Stands d (in_final done s) (ts ++ us)
 
-  abbrev Keeps : ℕ → List Token → Token → Option (Move (ProgramState State)) → Type 0
+  abbrev Keeps : ℕ → List Token → Token → Option (TokenMove (ProgramState State)) → Type 0
   Keeps d ts t m = Good (λ found. found.want ≤ d → Stands d found.next (ts ++ (t ∷ []))) m
 
   along : (d : ℕ) (s : ProgramState State) {ts us : List Token} → ts ≡ us → Stands d s ts → Stands d s us
   along d s e h = subst (Stands d s) e h
 
   -- a part that goes on is read with one token more
-  goes_further : {Inner Form : Type 0} (part : Reader Inner Form) (d : ℕ) (s : Inner) (ts : List Token) (t : Token) (found : Move Inner)
+  goes_further : {Inner Form : Type 0} (part : Reader Inner Form) (d : ℕ) (s : Inner) (ts : List Token) (t : Token) (found : TokenMove Inner)
       → go part d part.start ts ≡ Ok s → part.move s t ≡ Some found → found.want ≤ d → go part d part.start (ts ++ (t ∷ [])) ≡ Ok found.next
   goes_further part d s ts t found e f h = ends_with part d part.start s found.next ts t e (fits_step part d s found.next t found.want f h)
 
@@ -228,7 +228,7 @@ module _ {State : Type 0} (expressions : Reader State Tree) (right : ReadsExpres
   step_keeps : (d : ℕ) → 1 ≤ d → (s : ProgramState State) (ts : List Token) (t : Token) → Stands d s ts → Keeps d ts t (reader.move s t)
   step_keeps d least s ts t (stands_between {done = done} h) =
       good_or (λ found. found.want ≤ d → Stands d found.next (ts ++ (t ∷ [])))
-      (carried (in_final done) (expressions.move expressions.start t)) (fixed_move expressions (between done) t.kind t.at)
+      (lifted (in_final done) (expressions.move expressions.start t)) (fixed_move expressions (between done) t.kind t.at)
       (good_carried (λ found. found.want ≤ d → Stands d found.next (ts ++ (t ∷ []))) (in_final done) (expressions.move expressions.start t)
       (λ found f want. stands_final (t ∷ []) h (goes_further expressions d expressions.start [] t found refl f want)))
       (between_keeps h t.kind t.at)
@@ -241,14 +241,14 @@ module _ {State : Type 0} (expressions : Reader State Tree) (right : ReadsExpres
   step_keeps d least s ts t (stands_result begun function opened closed h w room) = result_keeps begun function opened closed h w room t.kind t.at
   step_keeps d least s all t (stands_type {owner = owner} {s = state} {ts = ts} us o e) =
       good_or (λ found. found.want ≤ d → Stands d found.next (all ++ (t ∷ [])))
-      (carried (in_type owner) (types.move state t)) (when_whole (types.finished state) (type_end expressions owner t.kind))
+      (lifted (in_type owner) (types.move state t)) (when_whole (types.finished state) (type_end expressions owner t.kind))
       (good_carried (λ found. found.want ≤ d → Stands d found.next (all ++ (t ∷ []))) (in_type owner) (types.move state t)
       (λ found f want. along d (in_type owner found.next) (sym (append_assoc ts us (t ∷ []))) (stands_type (us ++ (t ∷ [])) o (goes_further types d state us t found e f want))))
       (good_when (λ found. found.want ≤ d → Stands d found.next (all ++ (t ∷ []))) (types.finished state) (type_end expressions owner t.kind)
       (λ written f. let w = types_are_read.whole d us state written least e f in type_end_keeps o us written w.0 w.1 t.kind t.at))
   step_keeps d least s all t (stands_body {header = header} {s = state} {ts = ts} us o e) =
       good_or (λ found. found.want ≤ d → Stands d found.next (all ++ (t ∷ [])))
-      (carried (in_body header) (expressions.move state t)) (when_whole (expressions.finished state) (body_end header t.kind))
+      (lifted (in_body header) (expressions.move state t)) (when_whole (expressions.finished state) (body_end header t.kind))
       (good_carried (λ found. found.want ≤ d → Stands d found.next (all ++ (t ∷ []))) (in_body header) (expressions.move state t)
       (λ found f want. along d (in_body header found.next) (sym (append_assoc ts us (t ∷ []))) (stands_body (us ++ (t ∷ [])) o (goes_further expressions d state us t found e f want))))
       (good_when (λ found. found.want ≤ d → Stands d found.next (all ++ (t ∷ []))) (expressions.finished state) (body_end header t.kind)

@@ -6,7 +6,7 @@ use Rattle.snesl_lexer.specs.declared.token.Kind.TheVariants.{Int, Bool, LeftPar
 use Rattle.snesl_lexer.specs.declared.token.Token.{Token}
 use Rattle.snesl_tree.specs.Tree.{TypeTree, int_type, bool_type, pair_type, vector_type, sequence_type, type_depth}
 use Rattle.snesl_grammar.specs.Expressions.{token}
-use Rattle.snesl_expressions.specs.Readers.{Move, go}
+use Rattle.snesl_expressions.specs.Readers.{TokenMove, go}
 use Rattle.snesl_expressions.proofs.Reading.{goes_on, steps_on, ends_with, fits_step}
 use Rattle.snesl_grammar.specs.Types.{WholeType, int_rule, bool_rule, pair_type_rule, vector_rule, sequence_rule, FrontType, no_type, whole_type, pair_type_first, pair_type_second, vector_item, sequence_item}
 use Rattle.snesl_syntax.specs.Types.{MayFollowType, TypeFrame, in_first, in_second, in_vector, in_sequence, TypeState, type_begins, type_ended, type_move, finished_type, types}
@@ -79,7 +79,7 @@ data Stands : ℕ → TypeState → List Token → Type 0 where
   stands_ended : {d : ℕ} {s : List TypeFrame} {ts us : List Token} {e : TypeTree}
       → Spells d s ts → WholeType us e → type_depth e + length s ≤ d → Stands d (type_ended s e) (ts ++ us)
 
-abbrev Keeps : ℕ → List Token → Token → Option (Move TypeState) → Type 0
+abbrev Keeps : ℕ → List Token → Token → Option (TokenMove TypeState) → Type 0
 Keeps d ts t m = Good (λ found. found.want ≤ d → Stands d found.next (ts ++ (t ∷ []))) m
 
 along : (d : ℕ) (s : TypeState) {ts us : List Token} → ts ≡ us → Stands d s ts → Stands d s us

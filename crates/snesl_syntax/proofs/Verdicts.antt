@@ -14,14 +14,14 @@ use Rattle.snesl_grammar.specs.Limits.{greatest_length, greatest_depth}
 use Rattle.snesl_grammar.specs.Programs.{FrontProgram, program_depth}
 use Rattle.snesl_grammar.specs.Spelled.{IsSpelled}
 use Rattle.snesl_syntax.specs.Answer.{answer}
-use Rattle.snesl_syntax.specs.Parse.{Answers, accepted, wrong, too_deep, ended, Parses, too_long, bad_byte, read, HaveOneAnswer, BeginsProgram, FrontsBeginPrograms, IsOfText, IsRight, Returns}
-use Rattle.snesl_syntax.specs.DialectMachine.{reader, Finds, FindsOneOf}
+use Rattle.snesl_syntax.specs.Parse.{AnswersTokens, accepted, wrong, too_deep, ended, Parses, too_long, bad_byte, read, HaveOneAnswer, BeginsProgram, FrontsBeginPrograms, IsOfText, IsRight, Returns}
+use Rattle.snesl_syntax.specs.DialectMachine.{reader, FindsWhole, FindsOneOf}
 use Rattle.snesl_expressions.proofs.Depths.{depth_pos}
 use Rattle.snesl_syntax.proofs.Exact.{so_far, answers, one_answer}
 use Rattle.snesl_syntax.proofs.ProgramsRead.{are_read}
 
 -- the answer of the reader for tokens is one that the grammar wants
-pub programs_answer : (d len : ℕ) (ts : List Token) → 1 ≤ d → Answers d len ts (answer reader d len reader.start ts)
+pub programs_answer : (d len : ℕ) (ts : List Token) → 1 ≤ d → AnswersTokens d len ts (answer reader d len reader.start ts)
 programs_answer d len ts least = answers reader are_read d len ts least
 
 -- no text has two answers
@@ -51,7 +51,7 @@ pub fronts_begin : FrontsBeginPrograms
 fronts_begin d ts = (λ f. are_read.completes d ts f, begun d ts)
 
 -- what is the reader's answer is one of the grammar's, where that is
-pub right_by : (P : Result ProgramTree Refusal → Type 0) (x : Result Whole Refusal) (r : Result ProgramTree Refusal) → P r → Finds x r → FindsOneOf P x
+pub right_by : (P : Result ProgramTree Refusal → Type 0) (x : Result Whole Refusal) (r : Result ProgramTree Refusal) → P r → FindsWhole x r → FindsOneOf P x
 right_by P (Ok e) r p h = subst P h p
 right_by P (Err NoMemory) r p h = tt
 right_by P (Err _) r p h = subst P h p
@@ -64,7 +64,7 @@ bad_right bytes _ h b = absurd b
 
 -- the refusal of the tokens is one for the bytes
 pub tokens_right : (bytes : List ℕ) (tokens : List Token) (refusal : Refusal) → length bytes ≤ greatest_length → Tokens (dialect_of bytes) 0 bytes tokens
-    → FindsOneOf (Answers greatest_depth (length bytes) tokens) (Err refusal) → IsRight (Parses bytes) (Err refusal)
+    → FindsOneOf (AnswersTokens greatest_depth (length bytes) tokens) (Err refusal) → IsRight (Parses bytes) (Err refusal)
 tokens_right bytes tokens NoMemory h t a = tt
 tokens_right bytes tokens _ h t a = read h t a
 
@@ -80,7 +80,7 @@ right_returns bytes (Err NoMemory) right r p = tt
 right_returns bytes (Err _) right r p = one_parse bytes r _ p right
 
 -- the refusals that the grammar has are those of a text
-answer_of_text : {deep len : ℕ} {ts : List Token} {found : Result ProgramTree Refusal} → Answers deep len ts found → IfErr found IsOfText
+answer_of_text : {deep len : ℕ} {ts : List Token} {found : Result ProgramTree Refusal} → AnswersTokens deep len ts found → IfErr found IsOfText
 answer_of_text (accepted w h) = tt
 answer_of_text (wrong front rest stop so none) = tt
 answer_of_text (too_deep front rest stop so never deeper some) = tt
@@ -98,7 +98,7 @@ right_of_text bytes (Err _) right = parsed_of_text right
 
 -- a program that is accepted is spelled by the text
 tokens_spell : {bytes : List ℕ} {tokens : List Token} {found : Result ProgramTree Refusal} → length bytes ≤ greatest_length
-    → Tokens (dialect_of bytes) 0 bytes tokens → Answers greatest_depth (length bytes) tokens found → IfOk found (IsSpelled bytes)
+    → Tokens (dialect_of bytes) 0 bytes tokens → AnswersTokens greatest_depth (length bytes) tokens found → IfOk found (IsSpelled bytes)
 tokens_spell {tokens = tokens} h t (accepted w d) = record { is_short = h; tokens = tokens; are_tokens = t; is_whole = w; is_shallow = d }
 tokens_spell h t (wrong front rest stop so none) = tt
 tokens_spell h t (too_deep front rest stop so never deeper some) = tt
@@ -106,6 +106,6 @@ tokens_spell h t (ended so none) = tt
 
 -- and so it is by a copy of the text
 pub copy_spells : (bytes copy : List ℕ) (tokens : List Token) (program : ProgramTree) → length bytes ≤ greatest_length → Tokens (dialect_of bytes) 0 bytes tokens
-    → Answers greatest_depth (length bytes) tokens (Ok program) → copy ≡ bytes → IsSpelled copy program
+    → AnswersTokens greatest_depth (length bytes) tokens (Ok program) → copy ≡ bytes → IsSpelled copy program
 copy_spells bytes copy tokens program h t a same =
     subst (λ l. IsSpelled l program) (sym same) (tokens_spell {found = Ok program} h t a)

@@ -8,9 +8,9 @@ use Rattle.snesl_lexer.specs.declared.token.Token.{Token}
 use Rattle.snesl_tree.specs.Tree.{name, ProgramTree}
 use Rattle.snesl_grammar.specs.Expressions.{token, name_rule, nothing}
 use Rattle.snesl_grammar.specs.Programs.{program_depth, no_declarations, WholeDialect, no_dialect, dialect_rule, WholeProgram, program_rule, FrontProgram, dialect_word, dialect_number, in_declaration, in_expression}
-use Rattle.snesl_expressions.specs.Readers.{Move, Reader, step, go}
+use Rattle.snesl_expressions.specs.Readers.{TokenMove, Reader, step, go}
 use Rattle.snesl_expressions.proofs.Reading.{bind_ok, within_ok, fits_step, steps_on, ends_with}
-use Rattle.snesl_syntax.specs.Programs.{Rest, carried, or_else}
+use Rattle.snesl_syntax.specs.Programs.{Rest, lifted, or_else}
 use Rattle.snesl_syntax.specs.Dialects.{DialectState, beginning, awaits_number, awaits_semicolon, in_rest, program_in, in_dialect, dialect_move, whole_programs}
 use Rattle.snesl_syntax.proofs.Moves.{Good, good_or, good_carried, go_stands, free_step, go_carried}
 use Rattle.snesl_syntax.proofs.Rests.{WholeRest, rest_rule, FrontRest, rest_in_declaration, rest_in_expression, IsReaderOfRests}
@@ -38,7 +38,7 @@ module _ {State : Type 0} (rests : Reader State Rest) (right : IsReaderOfRests r
   -- a rest is read inside a program as it is by itself
   rest_goes : (d : ℕ) (dialect : Dialect) (ts : List Token) (s r : State) → go rests d s ts ≡ Ok r
       → go reader d (in_rest dialect s) ts ≡ Ok (in_rest dialect r)
-  rest_goes d dialect ts s r e = go_carried rests reader (in_rest dialect) (λ x t found f. ap (carried (in_rest dialect)) f) d ts s r e
+  rest_goes d dialect ts s r e = go_carried rests reader (in_rest dialect) (λ x t found f. ap (lifted (in_rest dialect)) f) d ts s r e
 
   -- what is read of a program behind its dialect
   record ReadsRest (d : ℕ) (dialect : Dialect) (ts : List Token) (r : State) : Type 0 where
@@ -57,7 +57,7 @@ module _ {State : Type 0} (rests : Reader State Rest) (right : IsReaderOfRests r
         state = in_rest One r;
         runs = steps_on reader d beginning (in_rest One b.0) u us
             (fits_step reader d beginning (in_rest One w.0.next) u w.0.want
-            (ap (λ m. or_else (carried (in_rest One) m) (dialect_move rests beginning u.kind)) w.1) w.2
+            (ap (λ m. or_else (lifted (in_rest One) m) (dialect_move rests beginning u.kind)) w.1) w.2
             ∙ ap (λ x. Ok (in_rest One x)) w.3)
             ∙ rest_goes d One us b.0 r b.2;
         finished = refl;
@@ -72,7 +72,7 @@ module _ {State : Type 0} (rests : Reader State Rest) (right : IsReaderOfRests r
         state = in_rest Two r;
         runs = steps_on reader d beginning awaits_number (token DialectWord at) (token (Integer (pos 2)) number ∷ token Semicolon semicolon ∷ us)
             (free_step reader d beginning awaits_number (token DialectWord at)
-            (ap (λ m. or_else (carried (in_rest One) m) (dialect_move rests beginning DialectWord)) (no_word at)))
+            (ap (λ m. or_else (lifted (in_rest One) m) (dialect_move rests beginning DialectWord)) (no_word at)))
             ∙ (steps_on reader d awaits_number awaits_semicolon (token (Integer (pos 2)) number) (token Semicolon semicolon ∷ us)
             (free_step reader d awaits_number awaits_semicolon (token (Integer (pos 2)) number) refl)
             ∙ (steps_on reader d awaits_semicolon (in_rest Two rests.start) (token Semicolon semicolon) us
@@ -98,11 +98,11 @@ module _ {State : Type 0} (rests : Reader State Rest) (right : IsReaderOfRests r
     stands_rest : {d : ℕ} {dialect : Dialect} {s : State} {named : List Token} (us : List Token)
         → WholeDialect named dialect → go rests d rests.start us ≡ Ok s → Stands d (in_rest dialect s) (named ++ us)
 
-  abbrev Keeps : ℕ → List Token → Token → Option (Move (DialectState State)) → Type 0
+  abbrev Keeps : ℕ → List Token → Token → Option (TokenMove (DialectState State)) → Type 0
   Keeps d ts t m = Good (λ found. found.want ≤ d → Stands d found.next (ts ++ (t ∷ []))) m
 
   -- a rest that goes on is read with one token more
-  goes_further : (d : ℕ) (s : State) (ts : List Token) (t : Token) (found : Move State)
+  goes_further : (d : ℕ) (s : State) (ts : List Token) (t : Token) (found : TokenMove State)
       → go rests d rests.start ts ≡ Ok s → rests.move s t ≡ Some found → found.want ≤ d → go rests d rests.start (ts ++ (t ∷ [])) ≡ Ok found.next
   goes_further d s ts t found e f h = ends_with rests d rests.start s found.next ts t e (fits_step rests d s found.next t found.want f h)
 
@@ -122,7 +122,7 @@ module _ {State : Type 0} (rests : Reader State Rest) (right : IsReaderOfRests r
   step_keeps : (d : ℕ) (s : DialectState State) (ts : List Token) (t : Token) → Stands d s ts → Keeps d ts t (reader.move s t)
   step_keeps d s all t stands_beginning =
       good_or (λ found. found.want ≤ d → Stands d found.next (t ∷ []))
-      (carried (in_rest One) (rests.move rests.start t)) (dialect_move rests beginning t.kind)
+      (lifted (in_rest One) (rests.move rests.start t)) (dialect_move rests beginning t.kind)
       (good_carried (λ found. found.want ≤ d → Stands d found.next (t ∷ [])) (in_rest One) (rests.move rests.start t)
       (λ found f want. stands_rest (t ∷ []) no_dialect (goes_further d rests.start [] t found refl f want)))
       (word_keeps d t.kind t.at)

@@ -33,10 +33,10 @@ IsThisProgram (Some whole) program = program ≡ Some (whole_program whole)
 IsThisProgram None program = program ≡ None
 
 -- the program or the refusal is this answer, unless memory ran out
-abbrev pub Finds : Result Whole Refusal → Result ProgramTree Refusal → Type 0
-Finds (Ok whole) answer = answer ≡ Ok (whole_program whole)
-Finds (Err refusals.NoMemory) answer = Unit {0}
-Finds (Err refusal) answer = answer ≡ Err refusal
+abbrev pub FindsWhole : Result Whole Refusal → Result ProgramTree Refusal → Type 0
+FindsWhole (Ok whole) answer = answer ≡ Ok (whole_program whole)
+FindsWhole (Err refusals.NoMemory) answer = Unit {0}
+FindsWhole (Err refusal) answer = answer ≡ Err refusal
 
 -- the program or the refusal is one of the answers, unless memory ran out
 abbrev pub FindsOneOf : (Result ProgramTree Refusal → Type 0) → Result Whole Refusal → Type 0

@@ -6,8 +6,8 @@ use Rattle.snesl_lexer.specs.declared.token.Kind.{Kind}
 use Rattle.snesl_lexer.specs.declared.token.Kind.TheVariants as kinds
 use Rattle.snesl_lexer.specs.declared.token.Token.{Token}
 use Rattle.snesl_tree.specs.Tree.{ProgramTree}
-use Rattle.snesl_expressions.specs.Readers.{Move, free, Reader}
-use Rattle.snesl_syntax.specs.Programs.{Rest, carried, or_else}
+use Rattle.snesl_expressions.specs.Readers.{TokenMove, free, Reader}
+use Rattle.snesl_syntax.specs.Programs.{Rest, lifted, or_else}
 
 -- What may come next. The rest of a program is read in states of its own.
 pub data DialectState (State : Type 0) : Type 0 where
@@ -30,16 +30,16 @@ in_dialect dialect (Some rest) = Some (program_in dialect rest)
 
 module _ {State : Type 0} (rests : Reader State Rest) where
   -- the move of a token of this kind where no rest is open
-  abbrev pub dialect_move : DialectState State → Kind → Option (Move (DialectState State))
+  abbrev pub dialect_move : DialectState State → Kind → Option (TokenMove (DialectState State))
   dialect_move beginning kinds.Dialect = free awaits_number
   dialect_move awaits_number (kinds.Integer (pos (suc (suc zero)))) = free awaits_semicolon
   dialect_move awaits_semicolon kinds.Semicolon = free (in_rest Two rests.start)
   dialect_move _ _ = None
 
   -- The first token begins the rest, which then has the first dialect, or else it begins a dialect.
-  abbrev pub whole_move : DialectState State → Token → Option (Move (DialectState State))
-  whole_move beginning token = or_else (carried (in_rest One) (rests.move rests.start token)) (dialect_move beginning token.kind)
-  whole_move (in_rest dialect state) token = carried (in_rest dialect) (rests.move state token)
+  abbrev pub whole_move : DialectState State → Token → Option (TokenMove (DialectState State))
+  whole_move beginning token = or_else (lifted (in_rest One) (rests.move rests.start token)) (dialect_move beginning token.kind)
+  whole_move (in_rest dialect state) token = lifted (in_rest dialect) (rests.move state token)
   whole_move state token = dialect_move state token.kind
 
   -- the program that the tokens so far are, where they are one

@@ -15,19 +15,19 @@ abbrev pub BeginsSoFar : ℕ → List Token → Type 0
 BeginsSoFar deep ts = (front back : List Token) → ts ≡ front ++ back → FrontProgram deep front
 
 -- what is answered for the tokens of a text of so many bytes, within a depth
-pub data Answers (deep len : ℕ) : List Token → Result ProgramTree Refusal → Type 0 where
+pub data AnswersTokens (deep len : ℕ) : List Token → Result ProgramTree Refusal → Type 0 where
   -- a program within the depth is accepted
-  accepted : {ts : List Token} {program : ProgramTree} → WholeProgram ts program → program_depth program ≤ deep → Answers deep len ts (Ok program)
+  accepted : {ts : List Token} {program : ProgramTree} → WholeProgram ts program → program_depth program ≤ deep → AnswersTokens deep len ts (Ok program)
   -- a token is wrong: those before it begin a program within the depth, and with it they begin none of any depth
   wrong : (front rest : List Token) (stop : Token) → BeginsSoFar deep front → ((any : ℕ) → ¬ FrontProgram any (front ++ (stop ∷ [])))
-      → Answers deep len (front ++ (stop ∷ rest)) (Err (Syntax stop.at))
+      → AnswersTokens deep len (front ++ (stop ∷ rest)) (Err (Syntax stop.at))
   -- a token is too deep: those before it begin a program within the depth, and with it they begin deeper ones alone
   too_deep : (front rest : List Token) (stop : Token) → BeginsSoFar deep front → (¬ FrontProgram deep (front ++ (stop ∷ [])))
       → (deeper : ℕ) → FrontProgram deeper (front ++ (stop ∷ []))
-      → Answers deep len (front ++ (stop ∷ rest)) (Err Deep)
+      → AnswersTokens deep len (front ++ (stop ∷ rest)) (Err Deep)
   -- the tokens end too early: they begin a program within the depth, and are none
   ended : {ts : List Token} → BeginsSoFar deep ts → ((program : ProgramTree) → WholeProgram ts program → program_depth program ≤ deep → ⊥)
-      → Answers deep len ts (Err (Syntax len))
+      → AnswersTokens deep len ts (Err (Syntax len))
 
 -- the answer for the bytes of a text, whose tokens are those of the dialect that it names
 pub data Parses : List ℕ → Result ProgramTree Refusal → Type 0 where
@@ -37,7 +37,7 @@ pub data Parses : List ℕ → Result ProgramTree Refusal → Type 0 where
   bad_byte : {bytes : List ℕ} {at : ℕ} → length bytes ≤ greatest_length → BadAt (dialect_of bytes) 0 bytes at → Parses bytes (Err (Lex at))
   -- a text of tokens is answered as these are
   read : {bytes : List ℕ} {tokens : List Token} {answer : Result ProgramTree Refusal} → length bytes ≤ greatest_length
-      → Tokens (dialect_of bytes) 0 bytes tokens → Answers greatest_depth (length bytes) tokens answer → Parses bytes answer
+      → Tokens (dialect_of bytes) 0 bytes tokens → AnswersTokens greatest_depth (length bytes) tokens answer → Parses bytes answer
 
 -- no text has two answers
 abbrev pub HaveOneAnswer : Type 0

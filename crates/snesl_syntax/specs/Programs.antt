@@ -5,7 +5,7 @@ use Rattle.snesl_lexer.specs.declared.token.Kind.TheVariants as kinds
 use Rattle.snesl_lexer.specs.declared.token.Token.{Token}
 use Rattle.snesl_tree.specs.declared.span.Span.{Span}
 use Rattle.snesl_tree.specs.Tree.{Tree, TypeTree, Typed, DeclarationTree, declares_input, declares_function}
-use Rattle.snesl_expressions.specs.Readers.{Move, free, Reader}
+use Rattle.snesl_expressions.specs.Readers.{TokenMove, free, Reader}
 use Rattle.snesl_syntax.specs.Types.{TypeState, types}
 use Rattle.snesl_grammar.specs.Programs.{typed}
 
@@ -51,17 +51,17 @@ pub data ProgramState (State : Type 0) : Type 0 where
   in_final : (done : List DeclarationTree) (state : State) → ProgramState State
 
 -- the move of a part that is open
-abbrev pub carried : {Inner Outer : Type 0} → (Inner → Outer) → Option (Move Inner) → Option (Move Outer)
-carried around None = None
-carried around (Some found) = Some (record { want = found.want; next = around found.next })
+abbrev pub lifted : {Inner Outer : Type 0} → (Inner → Outer) → Option (TokenMove Inner) → Option (TokenMove Outer)
+lifted around None = None
+lifted around (Some found) = Some (record { want = found.want; next = around found.next })
 
 -- the first move, or where there is none the other
-abbrev pub or_else : {State : Type 0} → Option (Move State) → Option (Move State) → Option (Move State)
+abbrev pub or_else : {State : Type 0} → Option (TokenMove State) → Option (TokenMove State) → Option (TokenMove State)
 or_else None other = other
 or_else (Some found) other = Some found
 
 -- what the end of a part may lead to, where the part is whole
-abbrev pub when_whole : {Form State : Type 0} → Option Form → (Form → Option (Move State)) → Option (Move State)
+abbrev pub when_whole : {Form State : Type 0} → Option Form → (Form → Option (TokenMove State)) → Option (TokenMove State)
 when_whole None ends = None
 when_whole (Some form) ends = ends form
 
@@ -70,14 +70,14 @@ abbrev pub span : ℕ → ℕ → Span
 span at len = record { at = at; len = len }
 
 -- a semicolon ends the body of a function
-abbrev pub body_end : {State : Type 0} → Header → Kind → Tree → Option (Move (ProgramState State))
+abbrev pub body_end : {State : Type 0} → Header → Kind → Tree → Option (TokenMove (ProgramState State))
 body_end header kinds.Semicolon body =
     free (between (header.done ++ declares_function header.function header.parameters header.result body ∷ []))
 body_end header _ body = None
 
 module _ {State : Type 0} (expressions : Reader State Tree) where
   -- A semicolon ends the type of an input, a comma or a parenthesis that of a parameter, and `=` that of a result.
-  abbrev pub type_end : TypeOf → Kind → TypeTree → Option (Move (ProgramState State))
+  abbrev pub type_end : TypeOf → Kind → TypeTree → Option (TokenMove (ProgramState State))
   type_end (of_input done place) kinds.Semicolon written = free (between (done ++ declares_input (typed place written) ∷ []))
   type_end (of_parameter done function given place) kinds.Comma written = free (awaits_parameter done function (given ++ typed place written ∷ []))
   type_end (of_parameter done function given place) kinds.RightParen written = free (awaits_result done function (given ++ typed place written ∷ []))
@@ -86,7 +86,7 @@ module _ {State : Type 0} (expressions : Reader State Tree) where
   type_end _ _ written = None
 
   -- the move of a token of this kind at this offset where no type, body or expression is open
-  abbrev pub fixed_move : ProgramState State → Kind → ℕ → Option (Move (ProgramState State))
+  abbrev pub fixed_move : ProgramState State → Kind → ℕ → Option (TokenMove (ProgramState State))
   fixed_move (between done) kinds.Input at = free (awaits_input done)
   fixed_move (between done) kinds.Function at = free (awaits_function done)
   fixed_move (awaits_input done) (kinds.Name len) at = free (awaits_input_colon done (span at len))
@@ -100,14 +100,14 @@ module _ {State : Type 0} (expressions : Reader State Tree) where
 
   -- A token goes on with the part that is open, or else ends it, where it is whole.
   -- Between declarations a token begins the expression, or else a declaration.
-  abbrev pub program_move : ProgramState State → Token → Option (Move (ProgramState State))
+  abbrev pub program_move : ProgramState State → Token → Option (TokenMove (ProgramState State))
   program_move (between done) token =
-      or_else (carried (in_final done) (expressions.move expressions.start token)) (fixed_move (between done) token.kind token.at)
+      or_else (lifted (in_final done) (expressions.move expressions.start token)) (fixed_move (between done) token.kind token.at)
   program_move (in_type owner state) token =
-      or_else (carried (in_type owner) (types.move state token)) (when_whole (types.finished state) (type_end owner token.kind))
+      or_else (lifted (in_type owner) (types.move state token)) (when_whole (types.finished state) (type_end owner token.kind))
   program_move (in_body header state) token =
-      or_else (carried (in_body header) (expressions.move state token)) (when_whole (expressions.finished state) (body_end header token.kind))
-  program_move (in_final done state) token = carried (in_final done) (expressions.move state token)
+      or_else (lifted (in_body header) (expressions.move state token)) (when_whole (expressions.finished state) (body_end header token.kind))
+  program_move (in_final done state) token = lifted (in_final done) (expressions.move state token)
   program_move state token = fixed_move state token.kind token.at
 
   -- the rest of a program with this expression, where that is whole

@@ -3,7 +3,7 @@ use Rattle.std.specs.Prelude.{ℕ, suc, List, [], ◌∷◌, length, Option, Som
 use Rattle.snesl_lexer.specs.declared.token.Kind.{Kind}
 use Rattle.snesl_lexer.specs.declared.token.Kind.TheVariants.{Int, Bool, LeftParen, RightParen, LeftBracket, RightBracket, LeftBrace, RightBrace, Comma}
 use Rattle.snesl_tree.specs.Tree.{TypeTree, int_type, bool_type, pair_type, vector_type, sequence_type}
-use Rattle.snesl_expressions.specs.Readers.{Move, free, Reader}
+use Rattle.snesl_expressions.specs.Readers.{TokenMove, free, Reader}
 
 -- any token may follow a type, none goes on with one that is whole
 abbrev pub MayFollowType : Kind → Type 0
@@ -26,11 +26,11 @@ pub data TypeState : Type 0 where
   type_ended : (frames : List TypeFrame) (last : TypeTree) → TypeState
 
 -- a move that opens a type with a part in it
-abbrev pub open_type : List TypeFrame → TypeFrame → Option (Move TypeState)
+abbrev pub open_type : List TypeFrame → TypeFrame → Option (TokenMove TypeState)
 open_type frames frame = Some (record { want = suc (suc (length frames)); next = type_begins (frame ∷ frames) })
 
 -- the move of a token of this kind at this offset, if it has one
-abbrev pub type_move : TypeState → Kind → ℕ → Option (Move TypeState)
+abbrev pub type_move : TypeState → Kind → ℕ → Option (TokenMove TypeState)
 type_move (type_begins frames) Int at = free (type_ended frames (int_type at))
 type_move (type_begins frames) Bool at = free (type_ended frames (bool_type at))
 type_move (type_begins frames) LeftParen at = open_type frames (in_first at)

@@ -5,8 +5,8 @@ ghost use Rattle.snesl_data.specs.declared.refusal.Refusal.{Refusal};
 ghost use Rattle.snesl_tree.specs.Tree.{ProgramTree};
 ghost use Rattle.snesl_grammar.specs.Limits.{greatest_depth};
 ghost use Rattle.snesl_syntax.specs.Answer.{answer};
-ghost use Rattle.snesl_syntax.specs.DialectMachine.{reader, Finds, FindsOneOf};
-ghost use Rattle.snesl_syntax.specs.Parse.{Answers, Parses, HaveOneAnswer, HaveSomeAnswer, FrontsBeginPrograms, IsOfText, IsRight, Returns};
+ghost use Rattle.snesl_syntax.specs.DialectMachine.{reader, FindsWhole, FindsOneOf};
+ghost use Rattle.snesl_syntax.specs.Parse.{AnswersTokens, Parses, HaveOneAnswer, HaveSomeAnswer, FrontsBeginPrograms, IsOfText, IsRight, Returns};
 
 use crate::dialects::{DialectMachine, Whole};
 use crate::limits::GREATEST_LENGTH;
@@ -18,7 +18,7 @@ use std::alloc::Global;
 
 // The machine's answer for the tokens of a text of so many bytes.
 fn answered(alloc: Global, tokens: &[Token], len: usize) -> Result<Whole, Refusal>
-    ensures { Finds result (answer reader greatest_depth len reader.start tokens.now) }
+    ensures { FindsWhole result (answer reader greatest_depth len reader.start tokens.now) }
 {
     let mut machine = DialectMachine::Beginning;
     for token in tokens {
@@ -37,7 +37,7 @@ fn answered(alloc: Global, tokens: &[Token], len: usize) -> Result<Whole, Refusa
 
 // The program that the tokens of a text of so many bytes are, or the refusal.
 fn parse_tokens(alloc: Global, tokens: &[Token], len: usize) -> Result<Whole, Refusal>
-    ensures { FindsOneOf (Answers greatest_depth len tokens.now) result }
+    ensures { FindsOneOf (AnswersTokens greatest_depth len tokens.now) result }
 {
     answered(alloc, tokens, len)
 }

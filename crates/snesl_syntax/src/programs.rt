@@ -7,7 +7,7 @@ ghost use Rattle.snesl_expressions.specs.Readers.{step, within};
 ghost use Rattle.snesl_expressions.specs.Machine.{expressions};
 ghost use Rattle.snesl_expressions.specs.Parsing.{state_of};
 ghost use Rattle.snesl_grammar.specs.Limits.{greatest_depth};
-ghost use Rattle.snesl_syntax.specs.Programs.{programs, between, awaits_input, awaits_input_colon, awaits_function, awaits_open, awaits_parameter, awaits_parameter_colon, awaits_result, in_type, in_body, in_final, of_input, of_parameter, of_result, carried, type_end, body_end};
+ghost use Rattle.snesl_syntax.specs.Programs.{programs, between, awaits_input, awaits_input_colon, awaits_function, awaits_open, awaits_parameter, awaits_parameter_colon, awaits_result, in_type, in_body, in_final, of_input, of_parameter, of_result, lifted, type_end, body_end};
 ghost use Rattle.snesl_syntax.specs.TypeMachine.{type_state, Steps};
 ghost use Rattle.snesl_syntax.specs.ProgramMachine.{owner_of, header_of, state_at, program_state, IsThisRest};
 
@@ -417,7 +417,7 @@ fn body_step(
     token: Token,
 ) -> Result<ProgramMachine, StepError>
     ensures { Steps program_state result (within greatest_depth
-        (carried (in_body (header_of (map declaration_of done.items) header))
+        (lifted (in_body (header_of (map declaration_of done.items) header))
         (expressions.move (state_of machine) token))) }
 {
     let machine = machine.step(alloc, token)?;

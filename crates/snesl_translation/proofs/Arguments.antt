@@ -11,7 +11,7 @@ use Rattle.snesl_translation.specs.Wires.{Wires, Bound}
 use Rattle.snesl_translation.specs.Makings.{Making, done, and_then}
 use Rattle.snesl_translation.specs.FreeNames.{Names}
 use Rattle.snesl_translation.specs.Carrying.{Carries, Controls, GoesTo}
-use Rattle.snesl_translation.specs.Meaning.{Means, AllCarry}
+use Rattle.snesl_translation.specs.Meaning.{IsTranslation, AllCarry}
 use Rattle.snesl_translation.proofs.ArgumentMeanings.{GoAll, AllMean}
 use Rattle.snesl_translation.proofs.Carrying.{carried_on, rest_stops, first_stops}
 use Rattle.snesl_translation.proofs.Doing.{done_does, then_does}
@@ -57,7 +57,7 @@ arguments_go streams ss t first rest (Some rows) after goes later = by_case (aft
 
 pub more_mean : (context : Context) (t : Ty) (ts : List Ty) (names others : Names) (first : Bound → ℕ → ℕ → Making Wires) (rest : Bound → ℕ → ℕ → Making (List Wires))
     (one : Environment → Option Value) (all : Environment → Option (List Value))
-    → Means first one names context t → AllMean rest all others context ts
+    → IsTranslation first one names context t → AllMean rest all others context ts
     → AllMean (λ bound control k. and_then (first bound control k) (λ u k. and_then (rest bound control k) (λ us k. done (u ∷ us) k)))
     (λ environment. bind (one environment) (λ v. bind (all environment) (λ row. Some (v ∷ row)))) (names ++ others) context (t ∷ ts)
 more_mean context t ts names others first rest one all h g streams bound control environments bears controls =
@@ -82,7 +82,7 @@ pub call_means : (context : Context) (ts : List Ty) (t : Ty) (names : Names) (ar
     → AllMean arguments all names context ts
     → ((streams : Columns) (us : List Wires) (control : ℕ) (rows : List (List Value)) → AllCarry streams us ts rows → Controls streams control (length rows)
     → GoesTo streams t (step us control (length streams)) (each answer rows))
-    → Means (λ bound control k. and_then (arguments bound control k) (λ us k. step us control k)) (λ environment. bind (all environment) answer) names context t
+    → IsTranslation (λ bound control k. and_then (arguments bound control k) (λ us k. step us control k)) (λ environment. bind (all environment) answer) names context t
 call_means context ts t names arguments step all answer h goes streams bound control environments bears controls =
     subst (GoesTo streams t (and_then (arguments bound control (length streams)) (λ us k. step us control k))) (sym (each_after all answer environments))
     (arguments_go streams ts t (arguments bound control (length streams)) (λ us k. step us control k) (each all environments) (each answer) (h streams bound control environments bears controls)

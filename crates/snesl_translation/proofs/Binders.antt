@@ -7,7 +7,7 @@ use Rattle.snesl_data.specs.Values.{Value}
 use Rattle.snesl_values.specs.Inputs.{Declaration, Environment}
 use Rattle.snesl_operators.specs.Operators.{same_truth}
 use Rattle.snesl_evaluation.specs.Builtins.{items_at}
-use Rattle.snesl_evaluation.specs.Eval.{Columns as Sequences}
+use Rattle.snesl_evaluation.specs.Eval.{BoundItems}
 use Rattle.snesl_types.specs.Contexts.{Context}
 use Rattle.flow_messages.specs.Cells.{Cell, flag}
 use Rattle.flow_base.specs.Columns.{Columns}
@@ -26,8 +26,8 @@ use Rattle.snesl_translation.specs.Makings.{Making, done, and_then}
 use Rattle.snesl_translation.specs.FreeNames.{Names}
 use Rattle.snesl_translation.specs.Translation.{Sources, same_lengths}
 use Rattle.snesl_translation.specs.Carrying.{Carries, given_by, GoesTo}
-use Rattle.snesl_translation.specs.Meaning.{Means}
-use Rattle.snesl_translation.specs.Sources.{with_column}
+use Rattle.snesl_translation.specs.Meaning.{IsTranslation}
+use Rattle.snesl_translation.specs.Sources.{with_sequences}
 use Rattle.snesl_translation.proofs.SourceMeanings.{SourcesCarry, SourcesGo, SourcesMean}
 use Rattle.snesl_translation.proofs.Running.{bind_bind}
 use Rattle.snesl_translation.proofs.Carrying.{carried_on, streams_joined, flags_carry, rest_stops, first_stops}
@@ -39,7 +39,7 @@ use Rattle.snesl_translation.proofs.Grouping.{grouped_from}
 use Rattle.snesl_translation.proofs.Rows.{all_fit, fits_with, empty_fit, with_column_length}
 
 -- what is carried stays so
-pub sources_on : (streams more : Columns) (sources : Sources) (items : List Declaration) (all : List Sequences) → SourcesCarry streams sources items all → SourcesCarry (streams ++ more) sources items all
+pub sources_on : (streams more : Columns) (sources : Sources) (items : List Declaration) (all : List BoundItems) → SourcesCarry streams sources items all → SourcesCarry (streams ++ more) sources items all
 sources_on streams more [] [] all h = h
 sources_on streams more [] (item ∷ items) all h = absurd h
 sources_on streams more (source ∷ sources) [] all h = absurd h
@@ -49,33 +49,33 @@ sources_on streams more (source ∷ sources) (item ∷ items) all (groups, other
 -- makings one behind the other
 
 -- an expression, and then sources
-head_goes : (streams : Columns) (s : Ty) (items : List Declaration) (first : Making Wires) (rest : Wires → ℕ → Making Sources) (o : Option (List Value)) (after : List Value → Option (List Sequences))
+head_goes : (streams : Columns) (s : Ty) (items : List Declaration) (first : Making Wires) (rest : Wires → ℕ → Making Sources) (o : Option (List Value)) (after : List Value → Option (List BoundItems))
     → GoesTo streams s first o
     → ((more : Columns) (w : Wires) (vs : List Value) → o ≡ Some vs → Carries (streams ++ more) w s vs → SourcesGo (streams ++ more) items (rest w (length (streams ++ more))) (after vs))
     → SourcesGo streams items (and_then first rest) (bind o after)
 head_goes streams s items first rest None after goes later = first_stops first rest streams goes
 head_goes streams s items first rest (Some vs) after goes later = by_case (after vs) (later goes.0 first.given vs refl goes.3)
   where
-    by_case : (o : Option (List Sequences)) → SourcesGo (streams ++ goes.0) items (rest first.given (length (streams ++ goes.0))) o → SourcesGo streams items (and_then first rest) o
+    by_case : (o : Option (List BoundItems)) → SourcesGo (streams ++ goes.0) items (rest first.given (length (streams ++ goes.0))) o → SourcesGo streams items (and_then first rest) o
     by_case None stops = rest_stops first streams goes.0 goes.1 goes.2 rest stops
     by_case (Some all) does = then_does first rest streams (λ l w. Carries l w s vs) (λ l us. SourcesCarry l us items all) goes does
 
 -- sources, and then sources
-tail_goes : (streams : Columns) (items more_items : List Declaration) (first : Making Sources) (rest : Sources → ℕ → Making Sources) (o : Option (List Sequences)) (after : List Sequences → Option (List Sequences))
+tail_goes : (streams : Columns) (items more_items : List Declaration) (first : Making Sources) (rest : Sources → ℕ → Making Sources) (o : Option (List BoundItems)) (after : List BoundItems → Option (List BoundItems))
     → SourcesGo streams items first o
-    → ((more : Columns) (us : Sources) (all : List Sequences) → o ≡ Some all → SourcesCarry (streams ++ more) us items all → SourcesGo (streams ++ more) more_items (rest us (length (streams ++ more))) (after all))
+    → ((more : Columns) (us : Sources) (all : List BoundItems) → o ≡ Some all → SourcesCarry (streams ++ more) us items all → SourcesGo (streams ++ more) more_items (rest us (length (streams ++ more))) (after all))
     → SourcesGo streams more_items (and_then first rest) (bind o after)
 tail_goes streams items more_items first rest None after goes later = first_stops first rest streams goes
 tail_goes streams items more_items first rest (Some all) after goes later = by_case (after all) (later goes.0 first.given all refl goes.3)
   where
-    by_case : (o : Option (List Sequences)) → SourcesGo (streams ++ goes.0) more_items (rest first.given (length (streams ++ goes.0))) o → SourcesGo streams more_items (and_then first rest) o
+    by_case : (o : Option (List BoundItems)) → SourcesGo (streams ++ goes.0) more_items (rest first.given (length (streams ++ goes.0))) o → SourcesGo streams more_items (and_then first rest) o
     by_case None stops = rest_stops first streams goes.0 goes.1 goes.2 rest stops
     by_case (Some others) does = then_does first rest streams (λ l us. SourcesCarry l us items all) (λ l us. SourcesCarry l us more_items others) goes does
 
 -- sources, and then an expression
-pub sources_go : (streams : Columns) (items : List Declaration) (t : Ty) (first : Making Sources) (rest : Sources → ℕ → Making Wires) (o : Option (List Sequences)) (after : List Sequences → Option (List Value))
+pub sources_go : (streams : Columns) (items : List Declaration) (t : Ty) (first : Making Sources) (rest : Sources → ℕ → Making Wires) (o : Option (List BoundItems)) (after : List BoundItems → Option (List Value))
     → SourcesGo streams items first o
-    → ((more : Columns) (us : Sources) (all : List Sequences) → o ≡ Some all → SourcesCarry (streams ++ more) us items all → GoesTo (streams ++ more) t (rest us (length (streams ++ more))) (after all))
+    → ((more : Columns) (us : Sources) (all : List BoundItems) → o ≡ Some all → SourcesCarry (streams ++ more) us items all → GoesTo (streams ++ more) t (rest us (length (streams ++ more))) (after all))
     → GoesTo streams t (and_then first rest) (bind o after)
 sources_go streams items t first rest None after goes later = first_stops first rest streams goes
 sources_go streams items t first rest (Some all) after goes later = by_case (after all) (later goes.0 first.given all refl goes.3)
@@ -86,7 +86,7 @@ sources_go streams items t first rest (Some all) after goes later = by_case (aft
 
 -- no binder, and one binder more
 
-abbrev no_sequences : Sequences
+abbrev no_sequences : BoundItems
 no_sequences = []
 
 each_empty : {X : Type 0} (xs : List X) → each (λ x. Some no_sequences) xs ≡ Some (replicate (length xs) no_sequences)
@@ -108,16 +108,16 @@ groups_read : (at : ℕ) (groups : List (List Value)) → each (λ v. given_by (
 groups_read at [] = refl
 groups_read at (g ∷ groups) = ap₂ (λ (l : List Value) (o : Option (List (List Value))). option_map (λ ls. l ∷ ls) o) (list_values g) (groups_read at groups)
 
-some_columns : (name : List ℕ) (ps : List (List Value × Sequences)) → each (λ p. Some ((name, p.0) ∷ p.1)) ps ≡ Some (map (λ p. (name, p.0) ∷ p.1) ps)
+some_columns : (name : List ℕ) (ps : List (List Value × BoundItems)) → each (λ p. Some ((name, p.0) ∷ p.1)) ps ≡ Some (map (λ p. (name, p.0) ∷ p.1) ps)
 some_columns name [] = refl
 some_columns name (p ∷ ps) = ap (option_map (λ ys. ((name, p.0) ∷ p.1) ∷ ys)) (some_columns name ps)
 
-module _ (at : ℕ) (name : List ℕ) (one : Environment → Option Value) (all : Environment → Option Sequences) where
+module _ (at : ℕ) (name : List ℕ) (one : Environment → Option Value) (all : Environment → Option BoundItems) where
   -- the columns of a binder and of others
-  abbrev pub more_columns : Environment → Option Sequences
+  abbrev pub more_columns : Environment → Option BoundItems
   more_columns environment = bind (one environment) (λ v. bind (given_by (items_at at v)) (λ vs. bind (all environment) (λ columns. Some ((name, vs) ∷ columns))))
 
-  abbrev with_others : List Environment → List (List Value) → Option (List Sequences)
+  abbrev with_others : List Environment → List (List Value) → Option (List BoundItems)
   with_others environments groups = bind (each all environments) (λ others. each (λ p. Some ((name, p.0) ∷ p.1)) (zip groups others))
 
   each_columns : (environments : List Environment)
@@ -130,7 +130,7 @@ module _ (at : ℕ) (name : List ℕ) (one : Environment → Option Value) (all 
       ∙ bind_bind (each one environments) (each (λ v. given_by (items_at at v))) (with_others environments)
 
   pub more_sources_mean : (context : Context) (t : Ty) (items : List Declaration) (names others : Names) (first : Bound → ℕ → ℕ → Making Wires) (rest : Bound → ℕ → ℕ → Making Sources)
-      → Means first one names context (seq t) → SourcesMean rest all others context items
+      → IsTranslation first one names context (seq t) → SourcesMean rest all others context items
       → SourcesMean (λ bound control k. and_then (first bound control k) (λ u k. and_then (rest bound control k) (λ sources k. done ((name, u) ∷ sources) k)))
       more_columns (names ++ others) context ((name, t) ∷ items)
   more_sources_mean context t items names others first rest h g streams bound control environments bears controls =
@@ -151,7 +151,7 @@ module _ (at : ℕ) (name : List ℕ) (one : Environment → Option Value) (all 
       let last = there ++ later in
       let long : length groups ≡ length columns =
       each_length (λ v. given_by (items_at at v)) vs groups read ∙ each_length one environments vs is ∙ sym (each_length all environments columns is') in
-      let made = with_column name groups columns in
+      let made = with_sequences name groups columns in
       let cu' : Carries last u (seq t) (map a_seq_of groups) = subst (Carries last u (seq t)) by.view (carried_on there later u (seq t) vs cu) in
       let carried : SourcesCarry last ((name, u) ∷ sources) every made = (groups, columns, refl, long, refl, cu', cs) in
       subst (SourcesGo last every (done ((name, u) ∷ sources) (length last))) (sym (some_columns name (zip groups columns)))
@@ -193,7 +193,7 @@ tested_then streams behind true c e = ap (run behind) (append-nil streams) ∙ e
 tested_then streams behind false c e = refl
 
 -- that further sequences have these lengths
-pub lengths_test : (at f : ℕ) (streams : Columns) (ns : List ℕ) (sources : Sources) (items : List Declaration) (all : List Sequences) (next : ℕ)
+pub lengths_test : (at f : ℕ) (streams : Columns) (ns : List ℕ) (sources : Sources) (items : List Declaration) (all : List BoundItems) (next : ℕ)
     → streams_at (f ∷ []) streams ≡ Some (flags ns ∷ []) → length all ≡ length ns → SourcesCarry streams sources items all
     → run (same_lengths at f sources next).steps streams ≡ only_if (all_fit ns all) streams
 unfolding and_then

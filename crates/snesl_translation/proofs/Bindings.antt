@@ -24,7 +24,7 @@ use Rattle.snesl_translation.specs.Makings.{Making, done, and_then, stepped}
 use Rattle.snesl_translation.specs.FreeNames.{Names, is_among, without}
 use Rattle.snesl_translation.specs.Translation.{wires_named, is_bound}
 use Rattle.snesl_translation.specs.Carrying.{Carries, Controls, GoesTo}
-use Rattle.snesl_translation.specs.Meaning.{Bears, Means}
+use Rattle.snesl_translation.specs.Meaning.{Bears, IsTranslation}
 use Rattle.snesl_translation.proofs.Carrying.{stepped_makes, single_laid}
 use Rattle.snesl_translation.proofs.Instances.{each_then, each_map, each_length}
 use Rattle.snesl_translation.proofs.Forms.{two_go, done_makes, borne_on, borne_left, borne_right, controls_on}
@@ -55,7 +55,7 @@ constant_single (Int n) = tt
 constant_single (Truth b) = tt
 
 pub const_means : (context : Context) (at : ℕ) (k : Scalar)
-    → Means (λ bound control next. stepped at (const k) (control ∷ []) (constant_type k) next) (λ environment. Some (scalar_value k)) [] context (constant_type k)
+    → IsTranslation (λ bound control next. stepped at (const k) (control ∷ []) (constant_type k) next) (λ environment. Some (scalar_value k)) [] context (constant_type k)
 const_means context at k streams bound control environments bears controls =
     let n = length environments in
     let vs = replicate n (scalar_value k) in
@@ -69,7 +69,7 @@ among_one : (bytes : List ℕ) → is_among bytes (bytes ∷ []) ≡ true
 among_one bytes = ap (λ b. b || false) ((bytes_eq-Decides bytes bytes).1 refl)
 
 pub name_means : (context : Context) (bytes : List ℕ) (t : Ty) → found bytes context ≡ Some (open_to t)
-    → Means (λ bound control next. done (wires_named bytes bound) next) (value_in bytes) (bytes ∷ []) context t
+    → IsTranslation (λ bound control next. done (wires_named bytes bound) next) (value_in bytes) (bytes ∷ []) context t
 name_means context bytes t is streams bound control environments bears controls =
     let b = bears bytes t (among_one bytes) is in
     subst (GoesTo streams t (done (wires_named bytes bound) (length streams))) (sym b.1) (done_makes streams t (wires_named bytes bound) b.0 b.2)
@@ -138,8 +138,8 @@ borne_with streams bound name w s names context environments vs long c bears byt
         (b.0, other_values name bytes environments vs long e ∙ b.1, b.2, b.3)
 
 pub binding_means : (context : Context) (name : List ℕ) (s t : Ty) (names others : Names) (value body : Bound → ℕ → ℕ → Making Wires) (one other : Environment → Option Value)
-    → Means value one names context s → Means body other others (bound_to name s ∷ context) t
-    → Means (λ b c k. and_then (value b c k) (λ u k. body ((name, u) ∷ b) c k))
+    → IsTranslation value one names context s → IsTranslation body other others (bound_to name s ∷ context) t
+    → IsTranslation (λ b c k. and_then (value b c k) (λ u k. body ((name, u) ∷ b) c k))
     (λ environment. bind (one environment) (λ v. other ((name, v) ∷ environment))) (names ++ without name others) context t
 binding_means context name s t names others value body one other h g streams bound control environments bears controls =
     let rest : Wires → ℕ → Making Wires = λ u k. body ((name, u) ∷ bound) control k in

@@ -23,7 +23,7 @@ use Rattle.snesl_translation.specs.Makings.{Making}
 use Rattle.snesl_translation.specs.FreeNames.{Names, free, free_of_all}
 use Rattle.snesl_translation.specs.Translation.{Bodies, prefix_streams, binary_streams, call_streams, tr, tr_all}
 use Rattle.snesl_translation.specs.Carrying.{Carries, given_by, GoesTo, Goes}
-use Rattle.snesl_translation.specs.Meaning.{Means, AllCarry}
+use Rattle.snesl_translation.specs.Meaning.{IsTranslation, AllCarry}
 use Rattle.snesl_translation.proofs.ArgumentMeanings.{AllMean}
 use Rattle.snesl_translation.proofs.Instances.{given_go, given_all, each_same, each_map}
 use Rattle.snesl_translation.proofs.Operands.{after_means, both_mean}
@@ -84,7 +84,7 @@ module _ (dialect : Dialect) (at : ℕ) (streams : Columns) where
 
 -- the same value at each instance means the same
 pub means_same : (context : Context) (t : Ty) (names : Names) (translated : Bound → ℕ → ℕ → Making Wires) (one other : Environment → Option Value) → ((environment : Environment) → one environment ≡ other environment)
-    → Means translated one names context t → Means translated other names context t
+    → IsTranslation translated one names context t → IsTranslation translated other names context t
 means_same context t names translated one other same h streams bound control environments bears controls =
     subst (GoesTo streams t (translated bound control (length streams))) (each_same one other same environments) (h streams bound control environments bears controls)
 
@@ -93,7 +93,7 @@ means_same context t names translated one other same h streams bound control env
 module _ (dialect : Dialect) (text : List ℕ) (calls : Calls) (bodies : Bodies) (context : Context) where
   -- a tree means its value
   abbrev pub TreeMeans : Tree → Ty → Type 0
-  TreeMeans tree t = Means (tr dialect text bodies tree) (λ environment. given_by (eval dialect tree text calls environment)) (free text tree) context t
+  TreeMeans tree t = IsTranslation (tr dialect text bodies tree) (λ environment. given_by (eval dialect tree text calls environment)) (free text tree) context t
 
   abbrev pub TreesMean : Trees → List Ty → Type 0
   TreesMean trees ts = AllMean (tr_all dialect text bodies trees) (λ environment. given_by (eval_all dialect trees text calls environment)) (free_of_all text trees) context ts

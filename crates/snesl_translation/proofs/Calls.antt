@@ -12,9 +12,9 @@ use Rattle.snesl_tree.specs.Spelling.{spelling}
 use Rattle.snesl_tree.specs.Tree.{Tree, Typed, TypeTree, DeclarationTree, declares_input, declares_function}
 use Rattle.snesl_evaluation.specs.Answer.{gives}
 use Rattle.snesl_evaluation.specs.Eval.{Calls, eval, parameters_with, function_answer, with_declaration, calls_after}
-use Rattle.snesl_types.specs.Contexts.{opened, Signature, Signatures, function_named}
+use Rattle.snesl_types.specs.Contexts.{names_context, Signature, Signatures, function_named}
 use Rattle.snesl_types.specs.Typing.{Types}
-use Rattle.snesl_types.specs.Programs.{Declared, with_inputs, with_function, named, signature_of, NamesType, no_names, more_names, FunctionTypes, function_type, DeclarationsType, no_declarations, input_declared, function_declared}
+use Rattle.snesl_types.specs.Programs.{Declared, with_inputs, with_function, typed_name, signature_of, NamesType, no_names, more_names, FunctionTypes, function_type, DeclarationsType, no_declarations, input_declared, function_declared}
 use Rattle.flow_base.specs.Columns.{Columns}
 use Rattle.flow_rows.specs.Lists.{bind, each}
 use Rattle.snesl_translation.specs.Wires.{Wires}
@@ -32,7 +32,7 @@ use Rattle.snesl_translation.proofs.Bindings.{with_name, borne_with}
 parameter_declarations : {text : List ℕ} {earlier all : List Declaration} {written : List Typed} → NamesType text earlier written all → (given : List Declaration) × (all ≡ earlier ++ given)
 parameter_declarations no_names = ([], sym (append-nil _))
 parameter_declarations {text = text} {earlier = earlier} (more_names {first = first} {t = t} new is h) =
-    let p = parameter_declarations h in (named text first t ∷ p.0, p.1 ∙ append_assoc earlier (named text first t ∷ []) p.0)
+    let p = parameter_declarations h in (typed_name text first t ∷ p.0, p.1 ∙ append_assoc earlier (typed_name text first t ∷ []) p.0)
 
 -- the environments of calls
 
@@ -67,7 +67,7 @@ empty_environments at text ((v ∷ row) ∷ rows) e = absurd (cc)
 pub parameters_mean : (at : ℕ) (text : List ℕ) (streams : Columns) (earlier all : List Declaration) (written : List Typed) → NamesType text earlier written all
     → (given : List Declaration) × (all ≡ earlier ++ given) × ((us : List Wires) (rows : List (List Value)) → AllCarry streams us (map (λ declaration. declaration.1) given) rows
     → (environments : List Environment) × (each (λ row. given_by (parameters_with at text written row)) rows ≡ Some environments) × (length environments ≡ length rows)
-    × ((names : Names) → Bears streams (parameters_bound text written us) names (opened given) environments))
+    × ((names : Names) → Bears streams (parameters_bound text written us) names (names_context given) environments))
 parameters_mean at text streams earlier all written no_names = (
   [],
   sym (append-nil earlier),
@@ -79,18 +79,18 @@ parameters_mean at text streams earlier all written no_names = (
     by_wires [] rows carry = let h = empty_environments at text rows carry in (h.0, h.1, h.2, λ names bytes t among is. absurd (cc))
     by_wires (u ∷ us) rows carry = absurd carry
 parameters_mean at text streams earlier all written (more_names {first = first} {others = others} {t = t} new is h) =
-    let rest = parameters_mean at text streams (earlier ++ (named text first t ∷ [])) all others h in (
-      named text first t ∷ rest.0,
-      rest.1 ∙ append_assoc earlier (named text first t ∷ []) rest.0,
+    let rest = parameters_mean at text streams (earlier ++ (typed_name text first t ∷ [])) all others h in (
+      typed_name text first t ∷ rest.0,
+      rest.1 ∙ append_assoc earlier (typed_name text first t ∷ []) rest.0,
       by_wires rest.0 rest.2,
     )
   where
     by_wires : (given : List Declaration) → ((us : List Wires) (rows : List (List Value)) → AllCarry streams us (map (λ declaration. declaration.1) given) rows
         → (environments : List Environment) × (each (λ row. given_by (parameters_with at text others row)) rows ≡ Some environments) × (length environments ≡ length rows)
-        × ((names : Names) → Bears streams (parameters_bound text others us) names (opened given) environments))
+        × ((names : Names) → Bears streams (parameters_bound text others us) names (names_context given) environments))
         → (us : List Wires) (rows : List (List Value)) → AllCarry streams us (t ∷ map (λ declaration. declaration.1) given) rows
         → (environments : List Environment) × (each (λ row. given_by (parameters_with at text (first ∷ others) row)) rows ≡ Some environments) × (length environments ≡ length rows)
-        × ((names : Names) → Bears streams (parameters_bound text (first ∷ others) us) names (opened (named text first t ∷ given)) environments)
+        × ((names : Names) → Bears streams (parameters_bound text (first ∷ others) us) names (names_context (typed_name text first t ∷ given)) environments)
     by_wires given rest [] rows carry = absurd carry
     by_wires given rest (u ∷ us) rows (vs, others_rows, is, long, c, carry) =
         let h = rest us others_rows carry in
@@ -106,7 +106,7 @@ parameters_mean at text streams earlier all written (more_names {first = first} 
           inner,
           ap (each (λ row. given_by (parameters_with at text (first ∷ others) row))) is ∙ made,
           each_length (λ row. given_by (parameters_with at text (first ∷ others) row)) rows inner (ap (each (λ row. given_by (parameters_with at text (first ∷ others) row))) is ∙ made),
-          λ names. borne_with streams (parameters_bound text others us) name u t names (opened given) h.0 vs count c (h.3 (without name names)),
+          λ names. borne_with streams (parameters_bound text others us) name u t names (names_context given) h.0 vs count c (h.3 (without name names)),
         )
 
 -- functions
@@ -130,16 +130,16 @@ earlier_named bytes (first ∷ functions) signature other = ap (λ o. if bytes_e
 module _ (expressions : TypedExpressionsMean) (dialect : Dialect) (text : List ℕ) where
   -- the body of a function means what its calls do
   body_means : (functions : Signatures) (calls : Calls) (bodies : Bodies) (parameters : List Declaration) (written : List Typed) (body : Tree) (t : Ty) → CallsMean functions calls bodies
-      → NamesType text [] written parameters → Types dialect text functions (opened parameters) body t
+      → NamesType text [] written parameters → Types dialect text functions (names_context parameters) body t
       → (streams : Columns) (at : ℕ) (us : List Wires) (control : ℕ) (rows : List (List Value)) → AllCarry streams us (map (λ declaration. declaration.1) parameters) rows → Controls streams control (length rows)
       → GoesTo streams t (tr dialect text bodies body (parameters_bound text written us) control (length streams)) (each (λ row. given_by (function_answer dialect at text calls written body row)) rows)
   body_means functions calls bodies parameters written body t mean names typed streams at us control rows carry controls =
       let given = parameters_mean at text streams [] parameters written names in
       let h = given.2 us rows (subst (λ l. AllCarry streams us (map (λ declaration. declaration.1) l) rows) given.1 carry) in
-      let bears : Bears streams (parameters_bound text written us) (free text body) (opened parameters) h.0 =
-      subst (λ l. Bears streams (parameters_bound text written us) (free text body) (opened l) h.0) (sym given.1) (h.3 (free text body)) in
+      let bears : Bears streams (parameters_bound text written us) (free text body) (names_context parameters) h.0 =
+      subst (λ l. Bears streams (parameters_bound text written us) (free text body) (names_context l) h.0) (sym given.1) (h.3 (free text body)) in
       let value : Environment → Option Value = λ environment. given_by (eval dialect body text calls environment) in
-      let goes = expressions dialect text functions calls bodies (opened parameters) body t mean typed streams (parameters_bound text written us) control h.0 bears (subst (Controls streams control) (sym h.2) controls) in
+      let goes = expressions dialect text functions calls bodies (names_context parameters) body t mean typed streams (parameters_bound text written us) control h.0 bears (subst (Controls streams control) (sym h.2) controls) in
       let same : each (λ row. given_by (function_answer dialect at text calls written body row)) rows ≡ each value h.0 =
       each_same (λ row. given_by (function_answer dialect at text calls written body row)) (λ row. bind (given_by (parameters_with at text written row)) value)
       (λ row. given_go (parameters_with at text written row) (λ environment. eval dialect body text calls environment)) rows

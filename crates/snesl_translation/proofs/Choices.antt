@@ -32,7 +32,7 @@ use Rattle.snesl_translation.specs.Makings.{Making, and_then, tested}
 use Rattle.snesl_translation.specs.FreeNames.{Names, free}
 use Rattle.snesl_translation.specs.Translation.{Bodies, appended, filtered, prefix_streams, tr}
 use Rattle.snesl_translation.specs.Carrying.{Carries, Makes, given_by, GoesTo}
-use Rattle.snesl_translation.specs.Meaning.{Bears, Means}
+use Rattle.snesl_translation.specs.Meaning.{Bears, IsTranslation}
 use Rattle.snesl_translation.proofs.Carrying.{grown, carried_on, tested_runs, then_makes, flags_carry, items_carry}
 use Rattle.snesl_translation.proofs.Instances.{each_same, each_two}
 use Rattle.snesl_translation.proofs.Doing.{Writes, flags_written}
@@ -177,7 +177,7 @@ module _ (dialect : Dialect) (at : ℕ) (names others : Names) (positive negativ
   abbrev both_filters : Bound → Wires → ℕ → Making Wires
   both_filters bound d k = and_then (filtered at names positive bound (stream_of d) k) (λ u k. negated bound d u k)
 
-  branches_go : (context : Context) (t : Ty) (one other : Environment → Option Value) → AreOpen names context → AreOpen others context → Means positive one names context t → Means negative other others context t
+  branches_go : (context : Context) (t : Ty) (one other : Environment → Option Value) → AreOpen names context → AreOpen others context → IsTranslation positive one names context t → IsTranslation negative other others context t
       → (streams : Columns) (bound : Bound) (d : Wires) (environments : List Environment) (ds : List Bool) → length ds ≡ length environments
       → streams_at (stream_of d ∷ []) streams ≡ Some (map flag ds ∷ []) → Bears streams bound names context environments → Bears streams bound others context environments
       → GoesTo streams t (both_filters bound d (length streams)) (each (λ p. if p.1 then one p.0 else other p.0) (zip environments ds))
@@ -221,9 +221,9 @@ module _ (dialect : Dialect) (at : ℕ) (names others : Names) (positive negativ
 -- the branch that the condition chooses
 pub choice_means : (dialect : Dialect) (context : Context) (at : ℕ) (t : Ty) (conditions names others : Names) (condition positive negative : Bound → ℕ → ℕ → Making Wires) (test one other : Environment → Answer Value)
     → AreOpen names context → AreOpen others context
-    → Means condition (λ environment. given_by (test environment)) conditions context bool
-    → Means positive (λ environment. given_by (one environment)) names context t → Means negative (λ environment. given_by (other environment)) others context t
-    → Means (λ bound control next.
+    → IsTranslation condition (λ environment. given_by (test environment)) conditions context bool
+    → IsTranslation positive (λ environment. given_by (one environment)) names context t → IsTranslation negative (λ environment. given_by (other environment)) others context t
+    → IsTranslation (λ bound control next.
     and_then (condition bound control next) (λ d k.
     and_then (filtered at names positive bound (stream_of d) k) (λ u k.
     and_then (prefix_streams dialect at Not d k) (λ e k.
@@ -236,7 +236,7 @@ choice_means dialect context at t conditions names others condition positive neg
     let behind : Bound → Wires → ℕ → Making Wires = λ bound d k. both_filters dialect at names others positive negative bound d k in
     let translated : Bound → ℕ → ℕ → Making Wires = λ bound control next. and_then (condition bound control next) (λ d k. behind bound d k) in
     let told : Environment → Option Value = λ environment. bind (given_by (test environment)) (λ v. bind (given_by (truth_at at v)) (λ b. if b then yes environment else no environment)) in
-    let means : Means translated told (conditions ++ (names ++ others)) context t = λ streams bound control environments bears controls.
+    let means : IsTranslation translated told (conditions ++ (names ++ others)) context t = λ streams bound control environments bears controls.
     let branches = borne_right streams bound conditions (names ++ others) context environments bears in
     condition_goes at t (condition bound control (length streams)) (λ d k. behind bound d k)
     (λ environment. given_by (test environment)) (λ environment b. if b then yes environment else no environment) streams environments

@@ -10,8 +10,8 @@ use Rattle.snesl_values.specs.Inputs.{Declaration, Environment}
 use Rattle.snesl_tree.specs.declared.operator.Builtin.TheVariants.{Concat}
 use Rattle.snesl_evaluation.specs.Answer.{gives, go_all}
 use Rattle.snesl_evaluation.specs.Builtins.{applied}
-use Rattle.snesl_evaluation.specs.Eval.{Columns as Sequences, height, in_step as rows_in_step}
-use Rattle.snesl_types.specs.Contexts.{open_to, Context, opened, found, inside}
+use Rattle.snesl_evaluation.specs.Eval.{BoundItems, height, in_step as rows_in_step}
+use Rattle.snesl_types.specs.Contexts.{open_to, Context, names_context, found, inside}
 use Rattle.flow_messages.specs.Cells.{unit}
 use Rattle.flow_base.specs.Columns.{Columns}
 use Rattle.flow_base.specs.Flags.{flags, concatenation, lengths}
@@ -29,7 +29,7 @@ use Rattle.snesl_translation.specs.FreeNames.{Names, is_among, without}
 use Rattle.snesl_translation.specs.Moving.{distributed, all_moved}
 use Rattle.snesl_translation.specs.Translation.{Sources, units_step, first_flags, in_step, items_bound, concatenated}
 use Rattle.snesl_translation.specs.Carrying.{Carries, Controls, Makes, given_by, GoesTo, Goes}
-use Rattle.snesl_translation.specs.Meaning.{Bears, Means}
+use Rattle.snesl_translation.specs.Meaning.{Bears, IsTranslation}
 use Rattle.snesl_translation.specs.Sources.{without_items}
 use Rattle.snesl_translation.proofs.SourceMeanings.{SourcesCarry, SourcesMean}
 use Rattle.snesl_translation.proofs.Running.{bind_bind, bind_same}
@@ -68,13 +68,13 @@ without_last (item ∷ items) name names = without_swapped name item.0 (without_
 
 -- a name that is left is none of the items'
 among_behind : (items : List Declaration) (names : Names) (context : Context) (bytes : List ℕ) → is_among bytes (without_items items names) ≡ true
-    → (is_among bytes names ≡ true) × (found bytes (opened items ++ context) ≡ found bytes context)
+    → (is_among bytes names ≡ true) × (found bytes (names_context items ++ context) ≡ found bytes context)
 among_behind [] names context bytes among = (among, refl)
 among_behind (item ∷ items) names context bytes among =
     let rest = among_behind items names context bytes (stay_among bytes item.0 (without_items items names) among) in
-    (rest.0, ap (λ b. cond b (Some (open_to item.1)) (found bytes (opened items ++ context))) (stay_other bytes item.0 (without_items items names) among) ∙ rest.1)
+    (rest.0, ap (λ b. cond b (Some (open_to item.1)) (found bytes (names_context items ++ context))) (stay_other bytes item.0 (without_items items names) among) ∙ rest.1)
 
-pub open_behind : (items : List Declaration) (names : Names) (context : Context) → AreOpen names (opened items ++ context) → AreOpen (without_items items names) context
+pub open_behind : (items : List Declaration) (names : Names) (context : Context) → AreOpen names (names_context items ++ context) → AreOpen (without_items items names) context
 open_behind items names context usable bytes among =
     let p = among_behind items names context bytes among in
     let o = usable bytes p.0 in
@@ -83,9 +83,9 @@ open_behind items names context usable bytes among =
 -- the names inside
 
 items_borne : (streams : Columns) (given : Bound) (context : Context) (ns : List ℕ) (environments : List Environment) → length ns ≡ length environments
-    → (sources : Sources) (items : List Declaration) (names : Names) (all : List Sequences) → SourcesCarry streams sources items all → all_fit ns all ≡ true
+    → (sources : Sources) (items : List Declaration) (names : Names) (all : List BoundItems) → SourcesCarry streams sources items all → all_fit ns all ≡ true
     → Bears streams given (without_items items names) context (copied (zip ns environments))
-    → Bears streams (items_bound sources ++ given) names (opened items ++ context) (concatenation (inner_instances ns all environments))
+    → Bears streams (items_bound sources ++ given) names (names_context items ++ context) (concatenation (inner_instances ns all environments))
 items_borne streams given context ns environments long [] [] names all c fit bears =
     subst (Bears streams given names context) (sym (plain_instances ns all environments c (fit_length ns all fit) long)) bears
 items_borne streams given context ns environments long [] (item ∷ items) names all c fit bears = absurd c
@@ -96,18 +96,18 @@ items_borne streams given context ns environments long (source ∷ sources) (ite
     let both = and_parts (same_lists ◌==◌ (lengths groups) ns) (all_fit ns others) (sym (fits_with item.0 ns groups others same fewer) ∙ ap (all_fit ns) (sym is) ∙ fit) in
     let high : lengths groups ≡ ns = same_numbers_back (lengths groups) ns both.0 in
     let inner = concatenation (inner_instances ns others environments) in
-    let within : Bears streams (items_bound sources ++ given) (without item.0 names) (opened items ++ context) inner =
+    let within : Bears streams (items_bound sources ++ given) (without item.0 names) (names_context items ++ context) inner =
     items_borne streams given context ns environments long sources items (without item.0 names) others rest both.1
     (subst (λ l. Bears streams given l context (copied (zip ns environments))) (without_last items item.0 names) bears) in
     let counted : length (concatenation groups) ≡ length inner =
     sym (joined_length groups) ∙ ap sum (high ∙ sym (inner_lengths ns others environments both.1 long)) ∙ joined_length (inner_instances ns others environments) in
     let values : Carries streams (item_wires source.1) item.1 (concatenation groups) =
     subst (λ gs. Carries streams (item_wires source.1) item.1 (concatenation gs)) (elements_made groups) (items_carry streams source.1 item.1 (map a_seq_of groups) c) in
-    let here = borne_with streams (items_bound sources ++ given) item.0 (item_wires source.1) item.1 names (opened items ++ context) inner (concatenation groups) counted values within in
+    let here = borne_with streams (items_bound sources ++ given) item.0 (item_wires source.1) item.1 names (names_context items ++ context) inner (concatenation groups) counted values within in
     let instances : concatenation (inner_instances ns all environments) ≡ with_name item.0 inner (concatenation groups) =
     ap (λ l. concatenation (inner_instances ns l environments)) is ∙ instances_with item.0 ns groups others environments high both.1 long in
-    subst (λ name. Bears streams ((name, item_wires source.1) ∷ (items_bound sources ++ given)) names (opened (item ∷ items) ++ context) (concatenation (inner_instances ns all environments))) (sym named)
-    (subst (Bears streams ((item.0, item_wires source.1) ∷ (items_bound sources ++ given)) names (opened (item ∷ items) ++ context)) (sym instances) here)
+    subst (λ name. Bears streams ((name, item_wires source.1) ∷ (items_bound sources ++ given)) names (names_context (item ∷ items) ++ context) (concatenation (inner_instances ns all environments))) (sym named)
+    (subst (Bears streams ((item.0, item_wires source.1) ∷ (items_bound sources ++ given)) names (names_context (item ∷ items) ++ context)) (sym instances) here)
 
 -- makings one behind the other
 
@@ -133,7 +133,7 @@ body_goes streams f making t value inners there goes = by_case (each (each value
         (subst (λ gs. Makes streams t making (concatenation gs)) same makes) (groups_made t all makes.3.are)
 
 -- the values of a comprehension
-module _ (place : ℕ) (columns : Environment → Option Sequences) (inside_value : List Environment → Option Value) where
+module _ (place : ℕ) (columns : Environment → Option BoundItems) (inside_value : List Environment → Option Value) where
   abbrev pub at_rows : Environment → List Environment → Option Value
   at_rows environment rows = inside_value (map (λ row. row ++ environment) rows)
 
@@ -153,7 +153,7 @@ module _ (place : ℕ) (columns : Environment → Option Sequences) (inside_valu
       ∙ ap (λ o. bind o (at_all_rows environments)) (each_after columns (λ columns. given_by (rows_in_step place columns)) environments)
       ∙ bind_bind (each columns environments) (each (λ columns. given_by (rows_in_step place columns))) (at_all_rows environments)
 
-  inner_values : (ns : List ℕ) (all : List Sequences) (environments : List Environment)
+  inner_values : (ns : List ℕ) (all : List BoundItems) (environments : List Environment)
       → at_all_rows environments (rows_each ns all) ≡ each inside_value (inner_instances ns all environments)
   inner_values ns all environments =
       sym (each_map inside_value (λ (p : Environment × List Environment). map (λ row. row ++ p.0) p.1) (zip environments (rows_each ns all)))
@@ -168,8 +168,8 @@ GoesInside within inside_value names context t =
 
 -- whatever is made inside
 module _ (context : Context) (at place : ℕ) (item : Declaration) (items : List Declaration) (t : Ty) (inner_names : Names) (within : ℕ → Bound → ℕ → ℕ → Making Wires)
-    (columns : Environment → Option Sequences) (inside_value : List Environment → Option Value)
-    (usable : AreOpen inner_names (opened (item ∷ items) ++ inside context)) (goes : GoesInside within inside_value inner_names (opened (item ∷ items) ++ inside context) t) where
+    (columns : Environment → Option BoundItems) (inside_value : List Environment → Option Value)
+    (usable : AreOpen inner_names (names_context (item ∷ items) ++ inside context)) (goes : GoesInside within inside_value inner_names (names_context (item ∷ items) ++ inside context) t) where
   -- what stands behind the sources
   abbrev outer_names : Names
   outer_names = without_items (item ∷ items) inner_names
@@ -187,7 +187,7 @@ module _ (context : Context) (at place : ℕ) (item : Declaration) (items : List
   behind_sources bound sources k = and_then (in_step at sources k) (λ _ k. moved_making sources bound k)
 
   -- where the flags of the first sequence say how often there is a row
-  units_go : (streams : Columns) (sources : Sources) (inner : Bound) (ns : List ℕ) (all : List Sequences) (environments : List Environment)
+  units_go : (streams : Columns) (sources : Sources) (inner : Bound) (ns : List ℕ) (all : List BoundItems) (environments : List Environment)
       → SourcesCarry streams sources (item ∷ items) all → all_fit ns all ≡ true → length ns ≡ length environments → streams_at (first_flags sources ∷ []) streams ≡ Some (flags ns ∷ [])
       → Bears streams inner outer_names (inside context) (copied (zip ns environments))
       → GoesTo streams t (units_making sources inner (length streams)) (each inside_value (inner_instances ns all environments))
@@ -203,7 +203,7 @@ module _ (context : Context) (at place : ℕ) (item : Declaration) (items : List
       let control = stream_of making.given in
       let controlled : Controls on control (length (concatenation inners)) =
       subst (Controls on control) (ap sum (sym high) ∙ joined_length inners) units.3 in
-      let borne : Bears on bound inner_names (opened (item ∷ items) ++ inside context) (concatenation inners) =
+      let borne : Bears on bound inner_names (names_context (item ∷ items) ++ inside context) (concatenation inners) =
       items_borne on inner (inside context) ns environments long sources (item ∷ items) inner_names all (sources_on streams units.0 sources (item ∷ items) all c) fit
       (borne_on streams units.0 inner outer_names (inside context) (copied (zip ns environments)) bears) in
       let there : streams_at (f ∷ []) on ≡ Some (flags (lengths inners) ∷ []) =
@@ -211,7 +211,7 @@ module _ (context : Context) (at place : ℕ) (item : Declaration) (items : List
       does_go streams t making (λ c k. body_making sources inner c k) (λ l w. streams_at (stream_of w ∷ []) l ≡ Some (replicate (sum ns) unit ∷ [])) units
       (each inside_value inners) (goes on f bound control inners there borne controlled)
 
-  moved_go : (streams : Columns) (sources : Sources) (bound : Bound) (ns : List ℕ) (all : List Sequences) (environments : List Environment)
+  moved_go : (streams : Columns) (sources : Sources) (bound : Bound) (ns : List ℕ) (all : List BoundItems) (environments : List Environment)
       → SourcesCarry streams sources (item ∷ items) all → all_fit ns all ≡ true → length ns ≡ length environments → streams_at (first_flags sources ∷ []) streams ≡ Some (flags ns ∷ [])
       → Bears streams bound outer_names context environments
       → GoesTo streams t (moved_making sources bound (length streams)) (each inside_value (inner_instances ns all environments))
@@ -226,7 +226,7 @@ module _ (context : Context) (at place : ℕ) (item : Declaration) (items : List
       (each inside_value (inner_instances ns all environments))
       (units_go on sources making.given ns all environments (sources_on streams does.0 sources (item ∷ items) all c) fit long (grown (f ∷ []) streams does.0 (flags ns ∷ []) flagged) does.3)
 
-  behind_go : (streams : Columns) (sources : Sources) (bound : Bound) (all : List Sequences) (environments : List Environment)
+  behind_go : (streams : Columns) (sources : Sources) (bound : Bound) (all : List BoundItems) (environments : List Environment)
       → SourcesCarry streams sources (item ∷ items) all → length all ≡ length environments → Bears streams bound outer_names context environments
       → GoesTo streams t (behind_sources bound sources (length streams))
       (bind (each (λ columns. given_by (rows_in_step place columns)) all) (at_all_rows place columns inside_value environments))
@@ -281,7 +281,7 @@ module _ (context : Context) (at place : ℕ) (item : Declaration) (items : List
           (grown (f ∷ []) streams [] (flags ns ∷ []) flagged) (borne_on streams [] bound outer_names context environments bears)))
 
   pub comprehension_means : (names : Names) (sources : Bound → ℕ → ℕ → Making Sources) → SourcesMean sources columns names context (item ∷ items)
-      → Means (λ bound control next. and_then (sources bound control next) (λ sources k.
+      → IsTranslation (λ bound control next. and_then (sources bound control next) (λ sources k.
       and_then (in_step at sources k) (λ _ k.
       and_then (all_moved (distributed at (first_flags sources)) (without_items (item ∷ items) inner_names) bound k) (λ inner k.
       and_then (units_step at (first_flags sources) k) (λ c k.
@@ -307,7 +307,7 @@ comprehension at names sources within bound control next =
     within (first_flags sources) (items_bound sources ++ inner) (stream_of c) k))))
 
 -- what is inside by its rows
-rows_inside : {A : Type 0} (place : ℕ) (columns : Environment → Option Sequences) (value : Environment → Option A) (make : List A → Value) (environment : Environment)
+rows_inside : {A : Type 0} (place : ℕ) (columns : Environment → Option BoundItems) (value : Environment → Option A) (make : List A → Value) (environment : Environment)
     → each_value place columns (λ inner. option_map make (each value inner)) environment
     ≡ bind (columns environment) (λ columns. bind (given_by (rows_in_step place columns)) (λ rows. option_map make (each (λ row. value (row ++ environment)) rows)))
 rows_inside place columns value make environment =
@@ -318,10 +318,10 @@ rows_inside place columns value make environment =
 
 -- the form without a condition
 pub each_means : (context : Context) (at place : ℕ) (item : Declaration) (items : List Declaration) (t : Ty) (names inner_names : Names) (sources : Bound → ℕ → ℕ → Making Sources) (body : Bound → ℕ → ℕ → Making Wires)
-    (columns : Environment → Option Sequences) (value : Environment → Option Value)
-    → AreOpen inner_names (opened (item ∷ items) ++ inside context) → SourcesMean sources columns names context (item ∷ items)
-    → Means body value inner_names (opened (item ∷ items) ++ inside context) t
-    → Means (λ bound control next. and_then (sources bound control next) (λ sources k.
+    (columns : Environment → Option BoundItems) (value : Environment → Option Value)
+    → AreOpen inner_names (names_context (item ∷ items) ++ inside context) → SourcesMean sources columns names context (item ∷ items)
+    → IsTranslation body value inner_names (names_context (item ∷ items) ++ inside context) t
+    → IsTranslation (λ bound control next. and_then (sources bound control next) (λ sources k.
     and_then (in_step at sources k) (λ _ k.
     and_then (all_moved (distributed at (first_flags sources)) (without_items (item ∷ items) inner_names) bound k) (λ inner k.
     and_then (units_step at (first_flags sources) k) (λ c k.
@@ -331,7 +331,7 @@ pub each_means : (context : Context) (at place : ℕ) (item : Declaration) (item
 each_means context at place item items t names inner_names sources body columns value usable h means streams bound control environments bears controls =
     let inside_value : List Environment → Option Value = λ inner. option_map a_seq_of (each value inner) in
     let within : ℕ → Bound → ℕ → ℕ → Making Wires = λ f bound control k. and_then (body bound control k) (λ w k. done (segments f w) k) in
-    let goes : GoesInside within inside_value inner_names (opened (item ∷ items) ++ inside context) (seq t) = λ streams f bound control inners there bears controls.
+    let goes : GoesInside within inside_value inner_names (names_context (item ∷ items) ++ inside context) (seq t) = λ streams f bound control inners there bears controls.
     subst (GoesTo streams (seq t) (within f bound control (length streams))) (sym (map_each (each value) a_seq_of inners))
     (body_goes streams f (body bound control (length streams)) t value inners there (means streams bound control (concatenation inners) bears controls)) in
     subst (GoesTo streams (seq t) (comprehension at (without_items (item ∷ items) inner_names) sources within bound control (length streams)))
@@ -392,10 +392,10 @@ module _ (dialect : Dialect) (at : ℕ) (t : Ty) (kept_values : Environment → 
           (subst (Goes on (seq t) (concatenated at u (length on))) answer (concat_goes dialect at on u t vs carried))
 
   pub each_where_means : (context : Context) (place : ℕ) (item : Declaration) (items : List Declaration) (names inner_names : Names) (sources : Bound → ℕ → ℕ → Making Sources)
-      (condition : Bound → ℕ → ℕ → Making Wires) (filter : Bound → ℕ → ℕ → Making Wires) (columns : Environment → Option Sequences)
-      → AreOpen inner_names (opened (item ∷ items) ++ inside context) → SourcesMean sources columns names context (item ∷ items)
-      → Means (λ b c k. and_then (condition b c k) (λ d k. filter b (stream_of d) k)) kept_sequence inner_names (opened (item ∷ items) ++ inside context) (seq t)
-      → Means (λ bound control next. and_then (sources bound control next) (λ sources k.
+      (condition : Bound → ℕ → ℕ → Making Wires) (filter : Bound → ℕ → ℕ → Making Wires) (columns : Environment → Option BoundItems)
+      → AreOpen inner_names (names_context (item ∷ items) ++ inside context) → SourcesMean sources columns names context (item ∷ items)
+      → IsTranslation (λ b c k. and_then (condition b c k) (λ d k. filter b (stream_of d) k)) kept_sequence inner_names (names_context (item ∷ items) ++ inside context) (seq t)
+      → IsTranslation (λ bound control next. and_then (sources bound control next) (λ sources k.
       and_then (in_step at sources k) (λ _ k.
       and_then (all_moved (distributed at (first_flags sources)) (without_items (item ∷ items) inner_names) bound k) (λ inner k.
       and_then (units_step at (first_flags sources) k) (λ c k.
@@ -408,7 +408,7 @@ module _ (dialect : Dialect) (at : ℕ) (t : Ty) (kept_values : Environment → 
       let inside_value : List Environment → Option Value = λ inner. option_map one_sequence (each kept_values inner) in
       let within : ℕ → Bound → ℕ → ℕ → Making Wires = λ f bound control k.
       and_then (condition bound control k) (λ d k. and_then (filter bound (stream_of d) k) (λ w k. concatenated at (segments f w) k)) in
-      let goes : GoesInside within inside_value inner_names (opened (item ∷ items) ++ inside context) (seq t) = λ streams f bound control inners there bears controls.
+      let goes : GoesInside within inside_value inner_names (names_context (item ∷ items) ++ inside context) (seq t) = λ streams f bound control inners there bears controls.
       let k = length streams in
       subst (λ making. GoesTo streams (seq t) making (each inside_value inners))
       (made_in_turn (condition bound control k) (λ d k. filter bound (stream_of d) k) (λ w k. concatenated at (segments f w) k))

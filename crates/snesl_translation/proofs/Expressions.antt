@@ -10,7 +10,7 @@ use Rattle.snesl_tree.specs.Spelling.{spelling}
 use Rattle.snesl_tree.specs.Tree.{Tree, Trees, both, Binders, binder}
 use Rattle.snesl_evaluation.specs.Answer.{Answer, gives, go}
 use Rattle.snesl_evaluation.specs.Eval.{Calls, eval}
-use Rattle.snesl_types.specs.Contexts.{Context, opened, inside, Signatures}
+use Rattle.snesl_types.specs.Contexts.{Context, names_context, inside, Signatures}
 use Rattle.snesl_types.specs.Typing.{Types, has_type, Gives, integer_type, truth_type, name_type, binary_type, prefix_type, call_type, apply_type, group_type, pair_type, binding_type, choice_type, literal_type, filter_type, each_type, AllTypes, no_types, more_types, BindersType, no_binders, more_binders, no_condition, condition_type, AllAre}
 use Rattle.snesl_translation.specs.Wires.{Wires, Bound}
 use Rattle.snesl_translation.specs.Makings.{Making}
@@ -68,8 +68,8 @@ module _ (dialect : Dialect) (text : List ℕ) (functions : Signatures) (calls :
         let named = p.2 (free text body) ∙ ap (λ l. without_items l (free text body)) first.2 in
         let sources : BindersMean dialect text calls bodies context binders (first.0 ∷ first.1) = subst (BindersMean dialect text calls bodies context binders) first.2 (sources_mean hb) in
         each_tree_means dialect text calls bodies context at body binders first.0 first.1 t named
-        (subst (λ l. AreOpen (free text body) (opened l ++ inside context)) same (free_are_open h)) sources
-        (subst (λ l. TreeMeans dialect text calls bodies (opened l ++ inside context) body t) same inner)
+        (subst (λ l. AreOpen (free text body) (names_context l ++ inside context)) same (free_are_open h)) sources
+        (subst (λ l. TreeMeans dialect text calls bodies (names_context l ++ inside context) body t) same inner)
     form_means (each_type {context = context} {at = at} {body = body} {place = place} {source = source} {others = others} {items = items} {t = t} hb (condition_type {condition = condition} hc) h) =
         let p = binder_items hb in
         let binders = binder place source others in
@@ -79,10 +79,10 @@ module _ (dialect : Dialect) (text : List ℕ) (functions : Signatures) (calls :
         let named = p.2 names ∙ ap (λ l. without_items l names) first.2 in
         let sources : BindersMean dialect text calls bodies context binders (first.0 ∷ first.1) = subst (BindersMean dialect text calls bodies context binders) first.2 (sources_mean hb) in
         each_where_tree_means dialect text calls bodies context at body binders condition first.0 first.1 t named
-        (subst (λ l. AreOpen names (opened l ++ inside context)) same (both_open (free text condition) (free text body) (opened items ++ inside context) (free_are_open hc) (free_are_open h)))
-        (subst (λ l. AreOpen (free text body) (opened l ++ inside context)) same (free_are_open h)) sources
-        (subst (λ l. TreeMeans dialect text calls bodies (opened l ++ inside context) condition bool) same (typed_means hc))
-        (subst (λ l. TreeMeans dialect text calls bodies (opened l ++ inside context) body t) same (typed_means h))
+        (subst (λ l. AreOpen names (names_context l ++ inside context)) same (both_open (free text condition) (free text body) (names_context items ++ inside context) (free_are_open hc) (free_are_open h)))
+        (subst (λ l. AreOpen (free text body) (names_context l ++ inside context)) same (free_are_open h)) sources
+        (subst (λ l. TreeMeans dialect text calls bodies (names_context l ++ inside context) condition bool) same (typed_means hc))
+        (subst (λ l. TreeMeans dialect text calls bodies (names_context l ++ inside context) body t) same (typed_means h))
 
     items_mean : {context : Context} {trees : Trees} {t : Ty} {ts : List Ty} (at : ℕ) → AllTypes dialect text functions context trees (t ∷ ts) → AllAre t ts → ItemsMean dialect text calls bodies context at trees t
     items_mean at (more_types {context = context} {first = first} {others = others} {t = t} h rest) same =

@@ -27,7 +27,7 @@ use Rattle.snesl_translation.specs.FreeNames.{Names}
 use Rattle.snesl_translation.specs.Moving.{flags_stepped, kept, all_moved}
 use Rattle.snesl_translation.specs.Translation.{appended, units_step, filtered, single, followed}
 use Rattle.snesl_translation.specs.Carrying.{Carries, Makes, given_by, GoesTo}
-use Rattle.snesl_translation.specs.Meaning.{Bears, Means}
+use Rattle.snesl_translation.specs.Meaning.{Bears, IsTranslation}
 use Rattle.snesl_translation.proofs.Carrying.{grown, then_makes, rest_stops, first_stops, stream_carries}
 use Rattle.snesl_translation.proofs.Instances.{given_all, each_same, each_then, each_map, map_each, each_length, each_joined, each_lengths}
 use Rattle.snesl_translation.proofs.Doing.{Does, Writes, flags_written, segments_makes}
@@ -103,7 +103,7 @@ module _ (value : Environment → Option Value) where
 -- Filters
 
 module _ (context : Context) (at : ℕ) (names : Names) (t : Ty) (item : Bound → ℕ → ℕ → Making Wires) (value : Environment → Option Value)
-    (usable : AreOpen names context) (means : Means item value names context t) where
+    (usable : AreOpen names context) (means : IsTranslation item value names context t) where
   filtered_groups_go : (streams : Columns) (bound : Bound) (d : ℕ) (ps : List (Environment × Bool)) → streams_at (d ∷ []) streams ≡ Some (map flag (map (λ p. p.1) ps) ∷ [])
       → Bears streams bound names context (map (λ p. p.0) ps)
       → GoesTo streams (seq t) (filtered at names item bound d (length streams)) (option_map (map a_seq_of) (each (each value) (map chosen ps)))
@@ -206,13 +206,13 @@ filter_value at (gives (a_seq vs)) b = refl
 module _ (context : Context) (at : ℕ) (t : Ty) where
   -- an item where a condition is true, and else nothing
   pub filter_means : (names others : Names) (condition item : Bound → ℕ → ℕ → Making Wires) (one other : Environment → Answer Value) → AreOpen others context
-      → Means condition (λ environment. given_by (one environment)) names context bool → Means item (λ environment. given_by (other environment)) others context t
-      → Means (λ bound control next. and_then (condition bound control next) (λ d k. filtered at others item bound (stream_of d) k))
+      → IsTranslation condition (λ environment. given_by (one environment)) names context bool → IsTranslation item (λ environment. given_by (other environment)) others context t
+      → IsTranslation (λ bound control next. and_then (condition bound control next) (λ d k. filtered at others item bound (stream_of d) k))
       (λ environment. given_by (go (one environment) (λ v. go (truth_at at v) (λ b. seq_answer (kept_answer b (other environment)))))) (names ++ others) context (seq t)
   filter_means names others condition item one other usable h g =
       let translated : Bound → ℕ → ℕ → Making Wires = λ bound control next. and_then (condition bound control next) (λ d k. filtered at others item bound (stream_of d) k) in
       let told : Environment → Option Value = λ environment. bind (given_by (one environment)) (λ v. bind (given_by (truth_at at v)) (λ b. one_or_none b (given_by (other environment)))) in
-      let means : Means translated told (names ++ others) context (seq t) = λ streams bound control environments bears controls.
+      let means : IsTranslation translated told (names ++ others) context (seq t) = λ streams bound control environments bears controls.
       condition_goes at (seq t) (condition bound control (length streams)) (λ d k. filtered at others item bound (stream_of d) k)
       (λ environment. given_by (one environment)) (λ environment b. one_or_none b (given_by (other environment))) streams environments
       (h streams bound control environments (borne_left streams bound names others context environments bears) controls)
@@ -226,8 +226,8 @@ module _ (context : Context) (at : ℕ) (t : Ty) where
 
   -- the sequence of one item
   pub single_means : (names : Names) (item : Bound → ℕ → ℕ → Making Wires) (one : Environment → Answer Value) → AreOpen names context
-      → Means item (λ environment. given_by (one environment)) names context t
-      → Means (single at names item) (λ environment. given_by (seq_answer (go (one environment) (λ v. gives (v ∷ []))))) names context (seq t)
+      → IsTranslation item (λ environment. given_by (one environment)) names context t
+      → IsTranslation (single at names item) (λ environment. given_by (seq_answer (go (one environment) (λ v. gives (v ∷ []))))) names context (seq t)
   single_means names item one usable h =
       filter_means [] names (λ bound control next. stepped at (const (Truth true)) (control ∷ []) bool next) item (λ environment. gives (a_bool true)) one usable (const_means context at (Truth true)) h
 
@@ -245,8 +245,8 @@ module _ (context : Context) (at : ℕ) (t : Ty) where
 
   -- that of a sequence and of one item behind it
   pub followed_means : (names others : Names) (before item : Bound → ℕ → ℕ → Making Wires) (sequences : Environment → Answer (List Value)) (one : Environment → Answer Value)
-      → AreOpen others context → Means before (λ environment. given_by (seq_answer (sequences environment))) names context (seq t) → Means item (λ environment. given_by (one environment)) others context t
-      → Means (followed at before others item)
+      → AreOpen others context → IsTranslation before (λ environment. given_by (seq_answer (sequences environment))) names context (seq t) → IsTranslation item (λ environment. given_by (one environment)) others context t
+      → IsTranslation (followed at before others item)
       (λ environment. given_by (seq_answer (go (sequences environment) (λ vs. go (one environment) (λ v. gives (vs ++ v ∷ [])))))) (names ++ others) context (seq t)
   followed_means names others before item sequences one usable h g =
       let first : Environment → Option Value = λ environment. given_by (seq_answer (sequences environment)) in

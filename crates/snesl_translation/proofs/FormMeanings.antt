@@ -10,8 +10,8 @@ use Rattle.snesl_tree.specs.Spelling.{spelling}
 use Rattle.snesl_tree.specs.Tree.{Tree, Trees, Binders, filter, each as each_tree, none, both, none_bound, binder, always, only_where}
 use Rattle.snesl_evaluation.specs.Answer.{Answer, gives, faults, go, go_all, go_join}
 use Rattle.snesl_evaluation.specs.Builtins.{truth_at, items_at, seq_answer}
-use Rattle.snesl_evaluation.specs.Eval.{Calls, eval, eval_all, eval_binders, kept as kept_answer, Columns as Sequences, in_step as rows_in_step}
-use Rattle.snesl_types.specs.Contexts.{Context, opened, inside}
+use Rattle.snesl_evaluation.specs.Eval.{Calls, eval, eval_all, eval_binders, kept as kept_answer, BoundItems, in_step as rows_in_step}
+use Rattle.snesl_types.specs.Contexts.{Context, names_context, inside}
 use Rattle.flow_base.specs.Flags.{concatenation}
 use Rattle.flow_rows.specs.Lists.{bind, each}
 use Rattle.flow_rows.specs.Decoded.{a_seq_of}
@@ -21,7 +21,7 @@ use Rattle.snesl_translation.specs.FreeNames.{Names, free, free_of_all, free_of_
 use Rattle.snesl_translation.specs.Moving.{distributed, all_moved}
 use Rattle.snesl_translation.specs.Translation.{Bodies, Sources, first_flags, in_step, items_bound, units_step, filtered, concatenated, single, followed, tr, tr_items, tr_further, tr_binders}
 use Rattle.snesl_translation.specs.Carrying.{given_by}
-use Rattle.snesl_translation.specs.Meaning.{Means}
+use Rattle.snesl_translation.specs.Meaning.{IsTranslation}
 use Rattle.snesl_translation.specs.Sources.{without_items}
 use Rattle.snesl_translation.proofs.SourceMeanings.{SourcesGo, SourcesMean}
 use Rattle.snesl_translation.proofs.Running.{bind_same}
@@ -63,18 +63,18 @@ filter_given (gives x) f g = by_case (f x)
 abbrev pub SameWithout : (text : List ℕ) (names : Names) (binders : Binders) (items : List Declaration) → Type 0
 SameWithout text names binders items = without_binders text binders names ≡ without_items items names
 
-sources_same : (context : Context) (items : List Declaration) (names : Names) (translated : Bound → ℕ → ℕ → Making Sources) (one other : Environment → Option Sequences)
+sources_same : (context : Context) (items : List Declaration) (names : Names) (translated : Bound → ℕ → ℕ → Making Sources) (one other : Environment → Option BoundItems)
     → ((environment : Environment) → one environment ≡ other environment) → SourcesMean translated one names context items → SourcesMean translated other names context items
 sources_same context items names translated one other same h streams bound control environments bears controls =
     subst (SourcesGo streams items (translated bound control (length streams))) (each_same one other same environments) (h streams bound control environments bears controls)
 
-columns_given : (at : ℕ) (name : List ℕ) (one : Answer Value) (all : Answer Sequences)
+columns_given : (at : ℕ) (name : List ℕ) (one : Answer Value) (all : Answer BoundItems)
     → bind (given_by one) (λ v. bind (given_by (items_at at v)) (λ vs. bind (given_by all) (λ columns. Some ((name, vs) ∷ columns))))
     ≡ given_by (go one (λ v. go (items_at at v) (λ vs. go all (λ columns. gives ((name, vs) ∷ columns)))))
 columns_given at name (faults kind place) all = refl
 columns_given at name (gives v) all = by_case (items_at at v) all
   where
-    by_case : (items : Answer (List Value)) (all : Answer Sequences) → bind (given_by items) (λ vs. bind (given_by all) (λ columns. Some ((name, vs) ∷ columns)))
+    by_case : (items : Answer (List Value)) (all : Answer BoundItems) → bind (given_by items) (λ vs. bind (given_by all) (λ columns. Some ((name, vs) ∷ columns)))
         ≡ given_by (go items (λ vs. go all (λ columns. gives ((name, vs) ∷ columns))))
     by_case (faults kind place) all = refl
     by_case (gives vs) (gives columns) = refl
@@ -90,16 +90,16 @@ module _ (dialect : Dialect) (text : List ℕ) (calls : Calls) (bodies : Bodies)
   -- literals
 
   abbrev pub ItemsMean : ℕ → Trees → Ty → Type 0
-  ItemsMean at items t = Means (tr_items dialect text bodies at items) (λ environment. given_by (seq_answer (eval_all dialect items text calls environment))) (free_of_all text items) context (seq t)
+  ItemsMean at items t = IsTranslation (tr_items dialect text bodies at items) (λ environment. given_by (seq_answer (eval_all dialect items text calls environment))) (free_of_all text items) context (seq t)
 
   -- what stands before items, and how it is evaluated
   abbrev pub FurtherMean : ℕ → (Bound → ℕ → ℕ → Making Wires) → (Environment → Answer (List Value)) → Names → Trees → Ty → Type 0
   FurtherMean at sequence before names items t =
-      Means (tr_further dialect text bodies at sequence items)
+      IsTranslation (tr_further dialect text bodies at sequence items)
       (λ environment. given_by (seq_answer (go (before environment) (λ vs. go (eval_all dialect items text calls environment) (λ ws. gives (vs ++ ws)))))) (names ++ free_of_all text items) context (seq t)
 
   abbrev pub SequenceMeans : (Bound → ℕ → ℕ → Making Wires) → (Environment → Answer (List Value)) → Names → Ty → Type 0
-  SequenceMeans sequence before names t = Means sequence (λ environment. given_by (seq_answer (before environment))) names context (seq t)
+  SequenceMeans sequence before names t = IsTranslation sequence (λ environment. given_by (seq_answer (before environment))) names context (seq t)
 
   -- the first item alone
   pub first_item_means : (at : ℕ) (first : Tree) (t : Ty) → AreOpen (free text first) context → TreeMeans dialect text calls bodies context first t
@@ -124,7 +124,7 @@ module _ (dialect : Dialect) (text : List ℕ) (calls : Calls) (bodies : Bodies)
   pub no_further_mean : (at : ℕ) (sequence : Bound → ℕ → ℕ → Making Wires) (before : Environment → Answer (List Value)) (names : Names) (t : Ty)
       → SequenceMeans sequence before names t → FurtherMean at sequence before names none t
   no_further_mean at sequence before names t h =
-      subst (λ names'. Means sequence (λ environment. given_by (seq_answer (go (before environment) (λ vs. gives (vs ++ []))))) names' context (seq t)) (sym (append-nil names))
+      subst (λ names'. IsTranslation sequence (λ environment. given_by (seq_answer (go (before environment) (λ vs. gives (vs ++ []))))) names' context (seq t)) (sym (append-nil names))
       (means_same context (seq t) names sequence (λ environment. given_by (seq_answer (before environment))) (λ environment. given_by (seq_answer (go (before environment) (λ vs. gives (vs ++ [])))))
       (λ environment. same (before environment)) h)
     where
@@ -145,7 +145,7 @@ module _ (dialect : Dialect) (text : List ℕ) (calls : Calls) (bodies : Bodies)
   pub more_further_mean : (at : ℕ) (sequence : Bound → ℕ → ℕ → Making Wires) (before : Environment → Answer (List Value)) (names : Names) (item : Tree) (others : Trees) (t : Ty)
       → FurtherMean at (followed at sequence (free text item) (tr dialect text bodies item)) (with_item before item) (names ++ free text item) others t → FurtherMean at sequence before names (both item others) t
   more_further_mean at sequence before names item others t h =
-      subst (λ names'. Means (tr_further dialect text bodies at sequence (both item others)) (λ environment. given_by (seq_answer (go (before environment) (λ vs. go (eval_all dialect (both item others) text calls environment) (λ ws. gives (vs ++ ws)))))) names' context (seq t))
+      subst (λ names'. IsTranslation (tr_further dialect text bodies at sequence (both item others)) (λ environment. given_by (seq_answer (go (before environment) (λ vs. go (eval_all dialect (both item others) text calls environment) (λ ws. gives (vs ++ ws)))))) names' context (seq t))
       (append_assoc names (free text item) (free_of_all text others))
       (means_same context (seq t) ((names ++ free text item) ++ free_of_all text others) (tr_further dialect text bodies at sequence (both item others))
       (λ environment. given_by (seq_answer (go (with_item before item environment) (λ vs. go (eval_all dialect others text calls environment) (λ ws. gives (vs ++ ws))))))
@@ -173,7 +173,7 @@ module _ (dialect : Dialect) (text : List ℕ) (calls : Calls) (bodies : Bodies)
   binder_means place source others t items h g =
       let name = spelling text place in
       let one : Environment → Option Value = λ environment. given_by (eval dialect source text calls environment) in
-      let all : Environment → Option Sequences = λ environment. given_by (eval_binders dialect others text calls environment) in
+      let all : Environment → Option BoundItems = λ environment. given_by (eval_binders dialect others text calls environment) in
       sources_same context ((name, t) ∷ items) (free text source ++ free_of_sources text others) (tr_binders dialect text bodies (binder place source others)) (more_columns place.at name one all)
       (λ environment. given_by (eval_binders dialect (binder place source others) text calls environment))
       (λ environment. columns_given place.at name (eval dialect source text calls environment) (eval_binders dialect others text calls environment))
@@ -182,12 +182,12 @@ module _ (dialect : Dialect) (text : List ℕ) (calls : Calls) (bodies : Bodies)
   -- comprehensions
 
   pub each_tree_means : (at : ℕ) (body : Tree) (binders : Binders) (item : Declaration) (items : List Declaration) (t : Ty) → SameWithout text (free text body) binders (item ∷ items)
-      → AreOpen (free text body) (opened (item ∷ items) ++ inside context) → BindersMean binders (item ∷ items)
-      → TreeMeans dialect text calls bodies (opened (item ∷ items) ++ inside context) body t
+      → AreOpen (free text body) (names_context (item ∷ items) ++ inside context) → BindersMean binders (item ∷ items)
+      → TreeMeans dialect text calls bodies (names_context (item ∷ items) ++ inside context) body t
       → TreeMeans dialect text calls bodies context (each_tree at body binders always) (seq t)
   each_tree_means at body binders item items t same usable h g =
       let value : Environment → Option Value = λ environment. given_by (eval dialect body text calls environment) in
-      let columns : Environment → Option Sequences = λ environment. given_by (eval_binders dialect binders text calls environment) in
+      let columns : Environment → Option BoundItems = λ environment. given_by (eval_binders dialect binders text calls environment) in
       let translated : Names → Bound → ℕ → ℕ → Making Wires = λ names bound control next.
       and_then (tr_binders dialect text bodies binders bound control next) (λ sources k.
       and_then (in_step at sources k) (λ _ k.
@@ -195,11 +195,11 @@ module _ (dialect : Dialect) (text : List ℕ) (calls : Calls) (bodies : Bodies)
       and_then (units_step at (first_flags sources) k) (λ c k.
       and_then (tr dialect text bodies body (items_bound sources ++ inner) (stream_of c) k) (λ w k. done (segments (first_flags sources) w) k))))) in
       let told : Environment → Option Value = λ environment. bind (columns environment) (λ columns. bind (given_by (rows_in_step at columns)) (λ rows. option_map a_seq_of (each (λ row. value (row ++ environment)) rows))) in
-      let means : Means (translated (without_items (item ∷ items) (free text body))) told (free_of_sources text binders ++ without_items (item ∷ items) (free text body)) context (seq t) =
+      let means : IsTranslation (translated (without_items (item ∷ items) (free text body))) told (free_of_sources text binders ++ without_items (item ∷ items) (free text body)) context (seq t) =
       each_means context at at item items t (free_of_sources text binders) (free text body) (tr_binders dialect text bodies binders) (tr dialect text bodies body) columns value usable h g in
       means_same context (seq t) (free_of_sources text binders ++ without_binders text binders (free text body)) (translated (without_binders text binders (free text body))) told
       (λ environment. given_by (eval dialect (each_tree at body binders always) text calls environment)) same_value
-      (subst (λ names. Means (translated names) told (free_of_sources text binders ++ names) context (seq t)) (sym same) means)
+      (subst (λ names. IsTranslation (translated names) told (free_of_sources text binders ++ names) context (seq t)) (sym same) means)
     where
       same_value : (environment : Environment)
           → bind (given_by (eval_binders dialect binders text calls environment)) (λ columns. bind (given_by (rows_in_step at columns)) (λ rows. option_map a_seq_of (each (λ row. given_by (eval dialect body text calls (row ++ environment))) rows)))
@@ -215,14 +215,14 @@ module _ (dialect : Dialect) (text : List ℕ) (calls : Calls) (bodies : Bodies)
 
   pub each_where_tree_means : (at : ℕ) (body : Tree) (binders : Binders) (condition : Tree) (item : Declaration) (items : List Declaration) (t : Ty)
       → SameWithout text (free text condition ++ free text body) binders (item ∷ items)
-      → AreOpen (free text condition ++ free text body) (opened (item ∷ items) ++ inside context) → AreOpen (free text body) (opened (item ∷ items) ++ inside context) → BindersMean binders (item ∷ items)
-      → TreeMeans dialect text calls bodies (opened (item ∷ items) ++ inside context) condition bool
-      → TreeMeans dialect text calls bodies (opened (item ∷ items) ++ inside context) body t
+      → AreOpen (free text condition ++ free text body) (names_context (item ∷ items) ++ inside context) → AreOpen (free text body) (names_context (item ∷ items) ++ inside context) → BindersMean binders (item ∷ items)
+      → TreeMeans dialect text calls bodies (names_context (item ∷ items) ++ inside context) condition bool
+      → TreeMeans dialect text calls bodies (names_context (item ∷ items) ++ inside context) body t
       → TreeMeans dialect text calls bodies context (each_tree at body binders (only_where condition)) (seq t)
   each_where_tree_means at body binders condition item items t same usable usable_body h g b =
-      let inner = opened (item ∷ items) ++ inside context in
+      let inner = names_context (item ∷ items) ++ inside context in
       let inner_names = free text condition ++ free text body in
-      let columns : Environment → Option Sequences = λ environment. given_by (eval_binders dialect binders text calls environment) in
+      let columns : Environment → Option BoundItems = λ environment. given_by (eval_binders dialect binders text calls environment) in
       let kept_values : Environment → Option (List Value) = λ environment.
       given_by (go (eval dialect condition text calls environment) (λ v. go (truth_at at v) (λ b. kept_answer b (eval dialect body text calls environment)))) in
       let filters : Bound → ℕ → ℕ → Making Wires = λ bound d k. filtered at (free text body) (λ b c n. tr dialect text bodies body b c n) bound d k in
@@ -236,18 +236,18 @@ module _ (dialect : Dialect) (text : List ℕ) (calls : Calls) (bodies : Bodies)
       concatenated at (segments (first_flags sources) w) k)))))) in
       let told : Environment → Option Value = λ environment. bind (columns environment) (λ columns. bind (given_by (rows_in_step at columns)) (λ rows.
       option_map (λ ls. a_seq_of (concatenation ls)) (each (λ row. kept_values (row ++ environment)) rows))) in
-      let kept_means : Means (λ b c k. and_then (tr dialect text bodies condition b c k) (λ d k. filters b (stream_of d) k)) (λ environment. option_map a_seq_of (kept_values environment)) inner_names inner (seq t) =
+      let kept_means : IsTranslation (λ b c k. and_then (tr dialect text bodies condition b c k) (λ d k. filters b (stream_of d) k)) (λ environment. option_map a_seq_of (kept_values environment)) inner_names inner (seq t) =
       means_same inner (seq t) inner_names (λ b c k. and_then (tr dialect text bodies condition b c k) (λ d k. filters b (stream_of d) k))
       (λ environment. given_by (go (eval dialect condition text calls environment) (λ v. go (truth_at at v) (λ b. seq_answer (kept_answer b (eval dialect body text calls environment))))))
       (λ environment. option_map a_seq_of (kept_values environment))
       (λ environment. filter_given (eval dialect condition text calls environment) (truth_at at) (λ b. kept_answer b (eval dialect body text calls environment)))
       (filter_means inner at t (free text condition) (free text body) (tr dialect text bodies condition) (tr dialect text bodies body)
       (λ environment. eval dialect condition text calls environment) (λ environment. eval dialect body text calls environment) usable_body g b) in
-      let means : Means (translated (without_items (item ∷ items) inner_names)) told (free_of_sources text binders ++ without_items (item ∷ items) inner_names) context (seq t) =
+      let means : IsTranslation (translated (without_items (item ∷ items) inner_names)) told (free_of_sources text binders ++ without_items (item ∷ items) inner_names) context (seq t) =
       each_where_means dialect at t kept_values context at item items (free_of_sources text binders) inner_names (tr_binders dialect text bodies binders) (tr dialect text bodies condition) filters columns usable h kept_means in
       means_same context (seq t) (free_of_sources text binders ++ without_binders text binders inner_names) (translated (without_binders text binders inner_names)) told
       (λ environment. given_by (eval dialect (each_tree at body binders (only_where condition)) text calls environment)) same_value
-      (subst (λ names. Means (translated names) told (free_of_sources text binders ++ names) context (seq t)) (sym same) means)
+      (subst (λ names. IsTranslation (translated names) told (free_of_sources text binders ++ names) context (seq t)) (sym same) means)
     where
       same_value : (environment : Environment)
           → bind (given_by (eval_binders dialect binders text calls environment)) (λ columns. bind (given_by (rows_in_step at columns)) (λ rows.

@@ -16,7 +16,7 @@ use Rattle.snesl_translation.specs.Makings.{Making, done, and_then}
 use Rattle.snesl_translation.specs.FreeNames.{Names, is_among}
 use Rattle.snesl_translation.specs.Translation.{wires_named}
 use Rattle.snesl_translation.specs.Carrying.{Carries, Controls, Makes, GoesTo}
-use Rattle.snesl_translation.specs.Meaning.{Bears, Means}
+use Rattle.snesl_translation.specs.Meaning.{Bears, IsTranslation}
 use Rattle.snesl_translation.proofs.Carrying.{grown, carried_on, then_makes, rest_stops, first_stops, two_carry}
 use Rattle.snesl_translation.proofs.Instances.{each_two, each_length}
 
@@ -93,8 +93,8 @@ each_some f (x ∷ xs) = ap (option_map (λ ys. f x ∷ ys)) (each_some f xs)
 
 module _ (context : Context) where
   pub pair_means : (s t : Ty) (names others : Names) (first second : Bound → ℕ → ℕ → Making Wires) (one other : Environment → Option Value)
-      → Means first one names context s → Means second other others context t
-      → Means (λ b c k. and_then (first b c k) (λ u k. and_then (second b c k) (λ v k. done (two u v) k)))
+      → IsTranslation first one names context s → IsTranslation second other others context t
+      → IsTranslation (λ b c k. and_then (first b c k) (λ u k. and_then (second b c k) (λ v k. done (two u v) k)))
       (λ environment. bind (one environment) (λ v. bind (other environment) (λ w. Some (a_pair v w)))) (names ++ others) context (pair s t)
   pair_means s t names others first second one other h g streams bound control environments bears controls =
       subst (GoesTo streams (pair s t) (and_then (first bound control (length streams)) (λ u k. and_then (second bound control k) (λ v k. done (two u v) k))))

@@ -11,7 +11,7 @@ use Rattle.snesl_translation.specs.Wires.{Wires, Bound}
 use Rattle.snesl_translation.specs.Makings.{Making, done, and_then}
 use Rattle.snesl_translation.specs.FreeNames.{Names}
 use Rattle.snesl_translation.specs.Carrying.{Carries, GoesTo}
-use Rattle.snesl_translation.specs.Meaning.{Means, AllCarry}
+use Rattle.snesl_translation.specs.Meaning.{IsTranslation, AllCarry}
 use Rattle.snesl_translation.proofs.ArgumentMeanings.{GoAll, AllMean}
 use Rattle.snesl_translation.proofs.Carrying.{carried_on}
 use Rattle.snesl_translation.proofs.Doing.{done_does}
@@ -31,9 +31,9 @@ each_after {A = A} f h (x ∷ xs) = ap (λ o. bind (bind (f x) h) (λ y. option_
 -- one operand
 
 pub after_means : (context : Context) (s t : Ty) (names : Names) (operand : Bound → ℕ → ℕ → Making Wires) (step : Wires → ℕ → Making Wires) (one : Environment → Option Value) (answer : Value → Option Value)
-    → Means operand one names context s
+    → IsTranslation operand one names context s
     → ((streams : Columns) (u : Wires) (vs : List Value) → Carries streams u s vs → GoesTo streams t (step u (length streams)) (each answer vs))
-    → Means (λ bound control k. and_then (operand bound control k) (λ u k. step u k)) (λ environment. bind (one environment) answer) names context t
+    → IsTranslation (λ bound control k. and_then (operand bound control k) (λ u k. step u k)) (λ environment. bind (one environment) answer) names context t
 after_means context s t names operand step one answer h goes streams bound control environments bears controls =
     subst (GoesTo streams t (and_then (operand bound control (length streams)) (λ u k. step u k))) (sym (each_after one answer environments))
     (two_go streams s t (operand bound control (length streams)) (λ u k. step u k) (each one environments) (each answer) (h streams bound control environments bears controls)
@@ -55,10 +55,10 @@ seconds_of (v ∷ vs) (w ∷ ws) e = ap (λ l. w ∷ l) (seconds_of vs ws (omega
 
 pub both_mean : (context : Context) (r s t : Ty) (names others : Names) (left right : Bound → ℕ → ℕ → Making Wires) (step : Wires → Wires → ℕ → Making Wires)
     (one other : Environment → Option Value) (answer : Value → Value → Option Value)
-    → Means left one names context r → Means right other others context s
+    → IsTranslation left one names context r → IsTranslation right other others context s
     → ((streams : Columns) (u v : Wires) (ps : List (Value × Value)) → Carries streams u r (map (λ p. p.0) ps) → Carries streams v s (map (λ p. p.1) ps)
     → GoesTo streams t (step u v (length streams)) (each (λ p. answer p.0 p.1) ps))
-    → Means (λ bound control k. and_then (left bound control k) (λ u k. and_then (right bound control k) (λ v k. step u v k)))
+    → IsTranslation (λ bound control k. and_then (left bound control k) (λ u k. and_then (right bound control k) (λ v k. step u v k)))
     (λ environment. bind (one environment) (λ v. bind (other environment) (λ w. answer v w))) (names ++ others) context t
 both_mean context r s t names others left right step one other answer h g goes streams bound control environments bears controls =
     subst (GoesTo streams t (and_then (left bound control (length streams)) (λ u k. and_then (right bound control k) (λ v k. step u v k)))) (sym (each_two one other answer environments))

@@ -14,7 +14,7 @@ use Rattle.flow_base.specs.Columns.{Columns}
 use Rattle.flow_base.specs.Flags.{flags, concatenation, lengths}
 use Rattle.flow_values.specs.Shapes.{is_a, cell_for, elements_of}
 use Rattle.flow_rows.specs.Lists.{bind, only_if, each, same_lists, front, cut}
-use Rattle.flow_rows.specs.Decoded.{one_more, numbers, a_seq_of}
+use Rattle.flow_rows.specs.Decoded.{one_in_segment, numbers, a_seq_of}
 use Rattle.flow_rows.specs.Made.{part_flags_made}
 use Rattle.flow_rows.proofs.Options.{bind_gives, map_gives, some_same, front_back, cut_forth, cut_back, map_map, map_joined}
 use Rattle.flow_rows.proofs.Mapped.{map_some_map}
@@ -51,7 +51,7 @@ agree_first at v (gives []) o h = ap (λ o. bind o (first_with v)) h
 agree_first at v (gives (part ∷ parts)) o h = ap (λ o. bind o (first_with v)) h
 agree_first at v (faults kind place) o h = ap (λ o. bind o (first_with v)) h
 
-none_more : (o : Option (List ℕ)) → bind (bind o one_more) (λ ns. cut {A = Value} ns []) ≡ None
+none_more : (o : Option (List ℕ)) → bind (bind o one_in_segment) (λ ns. cut {A = Value} ns []) ≡ None
 none_more None = refl
 none_more (Some []) = refl
 none_more (Some (n ∷ ns)) = refl
@@ -74,7 +74,7 @@ cut_with v ns (Some p) = go_on (cut ns p.1)
     go_on None = refl
     go_on (Some groups) = refl
 
-first_more : (v : Value) (o : Option (List ℕ)) (vs : List Value) → bind (bind o one_more) (λ ns. cut ns (v ∷ vs)) ≡ bind (bind o (λ ns. cut ns vs)) (first_with v)
+first_more : (v : Value) (o : Option (List ℕ)) (vs : List Value) → bind (bind o one_in_segment) (λ ns. cut ns (v ∷ vs)) ≡ bind (bind o (λ ns. cut ns vs)) (first_with v)
 unfolding first_with
 first_more v None vs = refl
 first_more v (Some []) [] = refl

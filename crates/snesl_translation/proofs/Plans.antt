@@ -6,10 +6,10 @@ use Rattle.snesl_data.specs.declared.dialect.Dialect.{Dialect}
 use Rattle.snesl_data.specs.declared.fault.FaultKind.{FaultKind}
 use Rattle.snesl_data.specs.Types.{Ty, int, bool, pair, vec, seq}
 use Rattle.snesl_data.specs.Values.{Value, Values, an_int, a_bool, a_pair, a_vec, a_seq, no_values, more_values, HasType, AllHaveType}
-use Rattle.snesl_values.specs.Inputs.{Declaration, Environment, Fits}
+use Rattle.snesl_values.specs.Inputs.{Declaration, Environment, FitDeclarations}
 use Rattle.snesl_evaluation.specs.Answer.{gives, faults}
 use Rattle.snesl_evaluation.specs.Eval.{eval, no_calls, calls_of, program_value}
-use Rattle.snesl_types.specs.Contexts.{opened}
+use Rattle.snesl_types.specs.Contexts.{names_context}
 use Rattle.snesl_types.specs.Programs.{nothing_declared}
 use Rattle.flow_messages.specs.Cells.{Cell, unit}
 use Rattle.flow_messages.specs.declared.message.Kind.{Kind}
@@ -89,9 +89,9 @@ unfolding Agrees
 others_agree cells number first others agrees k i is lt =
     agrees k (length first + i) (omega (arith, is)) (omega (arith, lt, length-append first others)) ∙ get_or-append-add first others i []
 
-inputs_does : (at : ℕ) (cells : ℕ → List Cell) (dialect : Dialect) (declarations : List Declaration) (environment : Environment) (streams : Columns) → Fits dialect declarations environment
+inputs_does : (at : ℕ) (cells : ℕ → List Cell) (dialect : Dialect) (declarations : List Declaration) (environment : Environment) (streams : Columns) → FitDeclarations dialect declarations environment
     → Agrees cells (length streams) (columns_of declarations environment)
-    → Does streams (inputs_sourced at cells declarations (length streams)) (λ l bound. (names : Names) → Bears l bound names (opened declarations) (environment ∷ []))
+    → Does streams (inputs_sourced at cells declarations (length streams)) (λ l bound. (names : Names) → Bears l bound names (names_context declarations) (environment ∷ []))
 unfolding sourced_does
 inputs_does at cells dialect [] environment streams fits agrees = done_does [] streams (λ l bound. (names : Names) → Bears l bound names [] (environment ∷ [])) (λ names bytes t among is. absurd (cc))
 inputs_does at cells dialect (declaration ∷ declarations) [] streams fits agrees = absurd fits
@@ -107,14 +107,14 @@ inputs_does at cells dialect (declaration ∷ declarations) (entry ∷ environme
     let u = wires_from t (length streams) in
     let bound = (inputs_sourced at cells declarations (length there)).given in
     let named : ((declaration.0, entry.1) ∷ environment) ∷ [] ≡ (entry ∷ environment) ∷ [] = ap (λ n. ((n, entry.1) ∷ environment) ∷ []) (sym fits.0) in
-    let borne : (names : Names) → Bears last ((declaration.0, u) ∷ bound) names (opened (declaration ∷ declarations)) ((entry ∷ environment) ∷ []) = λ names.
-    subst (Bears last ((declaration.0, u) ∷ bound) names (opened (declaration ∷ declarations))) named
-    (borne_with last bound declaration.0 u t names (opened declarations) (environment ∷ []) (entry.1 ∷ []) refl (carried_on there others.0 u t (entry.1 ∷ []) first.3) (others.3 (without declaration.0 names))) in
+    let borne : (names : Names) → Bears last ((declaration.0, u) ∷ bound) names (names_context (declaration ∷ declarations)) ((entry ∷ environment) ∷ []) = λ names.
+    subst (Bears last ((declaration.0, u) ∷ bound) names (names_context (declaration ∷ declarations))) named
+    (borne_with last bound declaration.0 u t names (names_context declarations) (environment ∷ []) (entry.1 ∷ []) refl (carried_on there others.0 u t (entry.1 ∷ []) first.3) (others.3 (without declaration.0 names))) in
     then_does (sourced at cells t (length streams)) (λ u k. and_then (inputs_sourced at cells declarations k) (λ bound k. done ((declaration.0, u) ∷ bound) k)) streams
-    (λ l w. Carries l w t (entry.1 ∷ [])) (λ l bound. (names : Names) → Bears l bound names (opened (declaration ∷ declarations)) ((entry ∷ environment) ∷ [])) first
+    (λ l w. Carries l w t (entry.1 ∷ [])) (λ l bound. (names : Names) → Bears l bound names (names_context (declaration ∷ declarations)) ((entry ∷ environment) ∷ [])) first
     (then_does (inputs_sourced at cells declarations (length there)) (λ bound k. done ((declaration.0, u) ∷ bound) k) there
-    (λ l bound. (names : Names) → Bears l bound names (opened declarations) (environment ∷ [])) (λ l bound. (names : Names) → Bears l bound names (opened (declaration ∷ declarations)) ((entry ∷ environment) ∷ [])) others
-    (done_does ((declaration.0, u) ∷ bound) last (λ l bound. (names : Names) → Bears l bound names (opened (declaration ∷ declarations)) ((entry ∷ environment) ∷ [])) borne))
+    (λ l bound. (names : Names) → Bears l bound names (names_context declarations) (environment ∷ [])) (λ l bound. (names : Names) → Bears l bound names (names_context (declaration ∷ declarations)) ((entry ∷ environment) ∷ [])) others
+    (done_does ((declaration.0, u) ∷ bound) last (λ l bound. (names : Names) → Bears l bound names (names_context (declaration ∷ declarations)) ((entry ∷ environment) ∷ [])) borne))
 
 -- those of a program's sources are so behind the control stream
 cells_agree : (declarations : List Declaration) (environment : Environment) → Agrees (cells_of declarations environment) 1 (columns_of declarations environment)
@@ -158,7 +158,7 @@ plans_mean expressions text program declared t environment typed fits = (where_v
     first : Columns
     first = (unit ∷ []) ∷ []
 
-    inputs : Does first (inputs_sourced at cells declared.inputs (length first)) (λ l bound. (names : Names) → Bears l bound names (opened declared.inputs) (environment ∷ []))
+    inputs : Does first (inputs_sourced at cells declared.inputs (length first)) (λ l bound. (names : Names) → Bears l bound names (names_context declared.inputs) (environment ∷ []))
     inputs = inputs_does at cells dialect declared.inputs environment first fits (cells_agree declared.inputs environment)
 
     there : Columns
@@ -168,7 +168,7 @@ plans_mean expressions text program declared t environment typed fits = (where_v
     bound = (inputs_sourced at cells declared.inputs (length first)).given
 
     goes : GoesTo there t (translated bound zero (length there)) (each value (environment ∷ []))
-    goes = expressions dialect text declared.functions (calls_of dialect text program.declarations) (bodies_of dialect text program.declarations) (opened declared.inputs) program.expression t
+    goes = expressions dialect text declared.functions (calls_of dialect text program.declarations) (bodies_of dialect text program.declarations) (names_context declared.inputs) program.expression t
         (functions_mean expressions dialect text nothing_declared declared no_calls no_bodies program.declarations no_calls_mean typed.declarations) typed.expression
         there bound zero (environment ∷ []) (inputs.3 (free text program.expression)) (controls_on first inputs.0 zero 1 refl)
 
@@ -187,7 +187,7 @@ plans_mean expressions text program declared t environment typed fits = (where_v
           subst (λ l. Holds l w) (sym (append-nil last)) (c.of_type, c.there),
         ) in
         let whole = then_does (control_sourced at zero) behind [] (λ l c. Controls l c 1) Holds (first, refl, refl, refl)
-        (then_does (inputs_sourced at cells declared.inputs (length first)) (λ bound k. and_then (translated bound zero k) printed) first (λ l bound. (names : Names) → Bears l bound names (opened declared.inputs) (environment ∷ [])) Holds inputs
+        (then_does (inputs_sourced at cells declared.inputs (length first)) (λ bound k. and_then (translated bound zero k) printed) first (λ l bound. (names : Names) → Bears l bound names (names_context declared.inputs) (environment ∷ [])) Holds inputs
         (then_does (translated bound zero (length there)) printed there (λ l w. Carries l w t (v ∷ [])) Holds makes end)) in
         (whole.3.0, (whole.0, whole.1, whole.3.1))
 

@@ -8,7 +8,7 @@ use Rattle.snesl_data.specs.Types.{Ty}
 use Rattle.snesl_values.specs.Inputs.{Declaration}
 use Rattle.snesl_tree.specs.Spelling.{spelling}
 use Rattle.snesl_tree.specs.Tree.{Tree, Trees, Binders, binder, Condition}
-use Rattle.snesl_types.specs.Contexts.{open_to, Context, found, opened, inside, Signatures}
+use Rattle.snesl_types.specs.Contexts.{open_to, Context, found, names_context, inside, Signatures}
 use Rattle.snesl_types.specs.Typing.{Types, has_type, Gives, integer_type, truth_type, name_type, binary_type, prefix_type, call_type, apply_type, group_type, pair_type, binding_type, choice_type, literal_type, filter_type, each_type, AllTypes, no_types, more_types, BindersType, no_binders, more_binders, ConditionTypes, no_condition, condition_type}
 use Rattle.snesl_translation.specs.FreeNames.{Names, is_among, without, without_binders, free, free_of_all, free_of_sources, free_of_condition}
 use Rattle.snesl_translation.specs.Sources.{without_items}
@@ -74,7 +74,7 @@ module _ {dialect : Dialect} {text : List ℕ} {functions : Signatures} where
     form_open (each_type {context = context} {body = body} {place = place} {source = source} {others = others} {condition = condition} {items = items} hb hc h) =
         let p = binder_items hb in
         let names = free_of_condition text condition ++ free text body in
-        let inner : AreOpen names (opened items ++ inside context) = both_open (free_of_condition text condition) (free text body) (opened items ++ inside context) (condition_open hc) (free_are_open h) in
+        let inner : AreOpen names (names_context items ++ inside context) = both_open (free_of_condition text condition) (free text body) (names_context items ++ inside context) (condition_open hc) (free_are_open h) in
         let outer : AreOpen (without_items items names) context = outside_open (without_items items names) context (open_behind items names (inside context) inner) in
         let same : without_items items names ≡ without_binders text (binder place source others) names = ap (λ l. without_items l names) p.1 ∙ sym (p.2 names) in
         both_open (free_of_sources text (binder place source others)) (without_binders text (binder place source others) names) context (sources_open hb) (subst (λ l. AreOpen l context) same outer)

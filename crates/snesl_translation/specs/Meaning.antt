@@ -21,8 +21,8 @@ Bears streams bound names context environments =
 
 -- what is translated so has this value where names have these values, and takes these names from outside: wherever streams
 -- bear their values at some instances, and there is a Unit for each of these, its steps go where the values do
-abbrev pub Means : (Bound → (control next : ℕ) → Making Wires) → (Environment → Option Value) → Names → Context → Ty → Type 0
-Means translated value names context t =
+abbrev pub IsTranslation : (Bound → (control next : ℕ) → Making Wires) → (Environment → Option Value) → Names → Context → Ty → Type 0
+IsTranslation translated value names context t =
     (streams : Columns) (bound : Bound) (control : ℕ) (environments : List Environment)
     → Bears streams bound names context environments → Controls streams control (length environments)
     → GoesTo streams t (translated bound control (length streams)) (each value environments)

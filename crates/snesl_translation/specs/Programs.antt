@@ -3,7 +3,7 @@ use Rattle.std.specs.Prelude.{◌≡◌, ℕ, zero, suc, ◌+◌, ◌-◌, List,
 use Rattle.snesl_data.specs.declared.fault.FaultKind.{FaultKind}
 use Rattle.snesl_data.specs.Types.{Ty}
 use Rattle.snesl_data.specs.Values.{Value}
-use Rattle.snesl_values.specs.Inputs.{Declaration, Environment, Fits}
+use Rattle.snesl_values.specs.Inputs.{Declaration, Environment, FitDeclarations}
 use Rattle.snesl_tree.specs.Tree.{Tree, integer, truth, name, binary, prefix, call, apply, group, pair, binding, choice, literal, filter, each, ProgramTree}
 use Rattle.snesl_evaluation.specs.Answer.{gives, faults}
 use Rattle.snesl_evaluation.specs.Eval.{program_value}
@@ -95,7 +95,7 @@ program_plan text program inputs cells =
 abbrev pub PlansMean : Type 0
 PlansMean =
     (text : List ℕ) (program : ProgramTree) (declared : Declared) (t : Ty) (environment : Environment)
-    → ProgramTypes text program declared t → Fits program.dialect declared.inputs environment
+    → ProgramTypes text program declared t → FitDeclarations program.dialect declared.inputs environment
     → let plan = program_plan text program declared.inputs (cells_of declared.inputs environment) in
     ((value : Value) → program_value text program environment ≡ gives value
     → (type_of_wires plan.given ≡ t) × ((streams : Columns) × (run plan.steps [] ≡ Some streams) × (streams_at (numbers_of plan.given) streams ≡ Some (columns_of_values t (value ∷ [])))))

@@ -15,7 +15,7 @@ use Rattle.snesl_translation.specs.FreeNames.{free}
 use Rattle.snesl_translation.specs.Translation.{Bodies, tr}
 use Rattle.snesl_translation.specs.Functions.{bodies_after}
 use Rattle.snesl_translation.specs.Carrying.{Controls, given_by, GoesTo}
-use Rattle.snesl_translation.specs.Meaning.{Means, AllCarry}
+use Rattle.snesl_translation.specs.Meaning.{IsTranslation, AllCarry}
 
 -- the bodies of these functions mean what their calls do
 abbrev pub CallsMean : Signatures → Calls → Bodies → Type 0
@@ -29,7 +29,7 @@ abbrev pub TypedExpressionsMean : Type 0
 TypedExpressionsMean =
     (dialect : Dialect) (text : List ℕ) (functions : Signatures) (calls : Calls) (bodies : Bodies) (context : Context) (tree : Tree) (t : Ty)
     → CallsMean functions calls bodies → Types dialect text functions context tree t
-    → Means (tr dialect text bodies tree) (λ environment. given_by (eval dialect tree text calls environment)) (free text tree) context t
+    → IsTranslation (tr dialect text bodies tree) (λ environment. given_by (eval dialect tree text calls environment)) (free text tree) context t
 
 -- and so do typed functions, after others that do
 abbrev pub TypedFunctionsMean : Type 0

@@ -11,7 +11,7 @@ use Rattle.snesl_tree.specs.declared.operator.Builtin.{Builtin}
 use Rattle.snesl_tree.specs.declared.operator.Builtin.TheVariants.{Tab}
 use Rattle.snesl_tree.specs.declared.span.Span.{Span}
 use Rattle.snesl_tree.specs.Tree.{Tree, Trees, Binders, Condition, each, none_bound, binder}
-use Rattle.snesl_types.specs.Contexts.{Context, opened, inside, Signature, Signatures}
+use Rattle.snesl_types.specs.Contexts.{Context, names_context, inside, Signature, Signatures}
 use Rattle.snesl_types.specs.Forms.{result_of, tabs_streamed}
 use Rattle.snesl_types.specs.Sizes.{is_small}
 use Rattle.snesl_types.specs.Programs.{small_type, and_then}
@@ -81,11 +81,11 @@ each_err at (binder place source others) t u n = filter_err at t u n
 
 no_binder_err : (dialect : Dialect) (text : List ℕ) (functions : Signatures) (context : Context) (at : ℕ) (body : Tree) (condition : Condition) (items : List Declaration) (t u : Ty)
     → binders_verdict dialect text functions context [] none_bound ≡ Ok items
-    → condition_verdict dialect text functions (opened items ++ inside context) condition ≡ Ok t → verdict dialect text functions (opened items ++ inside context) body ≡ Ok u
+    → condition_verdict dialect text functions (names_context items ++ inside context) condition ≡ Ok t → verdict dialect text functions (names_context items ++ inside context) body ≡ Ok u
     → rule dialect text functions context (each at body none_bound condition) ≡ Err (Mismatch at)
 no_binder_err dialect text functions context at body condition items t u bound_by c b =
-    then_ok (λ all. and_then (both_of (condition_verdict dialect text functions (opened all ++ inside context) condition)
-    (verdict dialect text functions (opened all ++ inside context) body)) (λ ts. of_each at none_bound ts.1 ts.0)) bound_by
+    then_ok (λ all. and_then (both_of (condition_verdict dialect text functions (names_context all ++ inside context) condition)
+    (verdict dialect text functions (names_context all ++ inside context) body)) (λ ts. of_each at none_bound ts.1 ts.0)) bound_by
     (then_ok (λ ts. of_each at none_bound ts.1 ts.0) (both_ok c b) refl)
 
 binder_err : (place : Span) (t : Ty) → ((item : Ty) → ¬ (t ≡ seq item)) → of_binder place false t ≡ Err (Mismatch place.at)

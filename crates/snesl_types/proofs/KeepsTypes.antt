@@ -6,16 +6,16 @@ use Rattle.std.specs.Str.{bytes_eq}
 use Rattle.std.proofs.lemmas.List.{append-nil}
 use Rattle.snesl_data.specs.declared.dialect.Dialect.{Dialect}
 use Rattle.snesl_data.specs.declared.fault.FaultKind.TheVariants.{Length as LengthFault, Shape}
-use Rattle.snesl_values.specs.Inputs.{Declaration, Environment, value_in, Fits as FitsInputs}
+use Rattle.snesl_values.specs.Inputs.{Declaration, Environment, value_in, FitDeclarations}
 use Rattle.snesl_data.specs.Types.{Ty, bool, pair, seq, is_concrete}
 use Rattle.snesl_data.specs.Values.{Value, a_pair, HasType}
 use Rattle.snesl_tree.specs.Spelling.{spelling}
 use Rattle.snesl_tree.specs.Tree.{Tree, Trees, Binders, binder}
 use Rattle.snesl_evaluation.specs.Answer.{Answer, gives, faults, go, go_all, go_join, or_fault}
 use Rattle.snesl_evaluation.specs.Builtins.{truth_at, items_at, seq_answer, prefix_answer, binary_answer, applied}
-use Rattle.snesl_evaluation.specs.Eval.{Calls, named, kept, Columns, height, beside, rows_of, in_step, eval, eval_all, eval_binders}
-use Rattle.snesl_types.specs.Contexts.{Binding, open_to, shut, Context, opened, found, shut_if_streamed, inside, Signatures}
-use Rattle.snesl_types.specs.Soundness.{Fits, Holds, HaveTypes, Safe, CallsHold, TypedExpressionsAreSound}
+use Rattle.snesl_evaluation.specs.Eval.{Calls, named, kept, BoundItems, height, beside, rows_of, in_step, eval, eval_all, eval_binders}
+use Rattle.snesl_types.specs.Contexts.{Binding, open_to, shut, Context, names_context, found, shut_if_streamed, inside, Signatures}
+use Rattle.snesl_types.specs.Soundness.{FitsBinding, Holds, HaveTypes, Safe, CallsHold, TypedExpressionsAreSound}
 use Rattle.snesl_types.specs.Typing.{AllAre, Types, has_type, Gives, integer_type, truth_type, name_type, binary_type, prefix_type, call_type, apply_type, group_type, pair_type, binding_type, choice_type, literal_type, filter_type, each_type, AllTypes, no_types, more_types, BindersType, no_binders, more_binders, no_condition, condition_type}
 use Rattle.snesl_types.proofs.BuiltinsKeepTypes.{AllOf, joined_of, go_safe, truth_safe, items_safe, seq_answer_safe, binary_safe, prefix_safe, applied_safe}
 
@@ -31,7 +31,7 @@ module _ (dialect : Dialect) where
       by_test : (b : Bool) → (if b then Some entry.binding else found bytes context) ≡ Some (open_to t)
           → (found bytes context ≡ Some (open_to t) → Safe (λ v. HasType dialect v t) (named at bytes environment))
           → Safe (λ v. HasType dialect v t) (or_fault Shape at (if b then Some value else value_in bytes environment))
-      by_test true e' later = let same : entry.binding ≡ open_to t = cc in subst (Fits dialect value) same h.1
+      by_test true e' later = let same : entry.binding ≡ open_to t = cc in subst (FitsBinding dialect value) same h.1
       by_test false e' later = later e'
 
   -- the values still fit where streamed names are shut
@@ -40,24 +40,24 @@ module _ (dialect : Dialect) where
   inside_holds (entry ∷ context) [] h = absurd h
   inside_holds (entry ∷ context) ((spelled, value) ∷ environment) h = (h.0, fits entry.binding h.1, inside_holds context environment h.2)
     where
-      by_test : (b : Bool) (t : Ty) → HasType dialect value t → Fits dialect value (if b then open_to t else shut)
+      by_test : (b : Bool) (t : Ty) → HasType dialect value t → FitsBinding dialect value (if b then open_to t else shut)
       by_test true t f = f
       by_test false t f = tt
 
-      fits : (binding : Binding) → Fits dialect value binding → Fits dialect value (shut_if_streamed binding)
+      fits : (binding : Binding) → FitsBinding dialect value binding → FitsBinding dialect value (shut_if_streamed binding)
       fits (open_to t) f = by_test (is_concrete t) t f
       fits shut f = tt
 
   -- names with fitting values before those of a context
   pub opened_holds : (items : List Declaration) (row : Environment) (context : Context) (environment : Environment)
-      → FitsInputs dialect items row → Holds dialect context environment → Holds dialect (opened items ++ context) (row ++ environment)
+      → FitDeclarations dialect items row → Holds dialect context environment → Holds dialect (names_context items ++ context) (row ++ environment)
   opened_holds [] [] context environment f h = h
   opened_holds (item ∷ items) (entry ∷ row) context environment f h = (sym f.0, f.1, opened_holds items row context environment f.2 h)
   opened_holds [] (entry ∷ row) context environment f h = absurd f
   opened_holds (item ∷ items) [] context environment f h = absurd f
 
   -- columns of these names, with items of these types
-  abbrev ColumnsFit : List Declaration → Columns → Type 0
+  abbrev ColumnsFit : List Declaration → BoundItems → Type 0
   ColumnsFit [] [] = Unit {0}
   ColumnsFit (item ∷ items) (column ∷ columns) = (column.0 ≡ item.0) × AllOf dialect column.1 item.1 × ColumnsFit items columns
   ColumnsFit _ _ = ⊥
@@ -65,7 +65,7 @@ module _ (dialect : Dialect) where
   -- each row has these names with values of these types
   abbrev RowsFit : List Declaration → List Environment → Type 0
   RowsFit items [] = Unit {0}
-  RowsFit items (row ∷ rows) = FitsInputs dialect items row × RowsFit items rows
+  RowsFit items (row ∷ rows) = FitDeclarations dialect items row × RowsFit items rows
 
   empty_rows : (n : ℕ) → RowsFit [] (replicate n [])
   empty_rows zero = tt
@@ -77,13 +77,13 @@ module _ (dialect : Dialect) where
   beside_fits item items bytes [] rows e h hs = tt
   beside_fits item items bytes (v ∷ vs) [] e h hs = tt
 
-  rows_fit : (items : List Declaration) (columns : Columns) (n : ℕ) → ColumnsFit items columns → RowsFit items (rows_of n columns)
+  rows_fit : (items : List Declaration) (columns : BoundItems) (n : ℕ) → ColumnsFit items columns → RowsFit items (rows_of n columns)
   rows_fit [] [] n h = empty_rows n
   rows_fit (item ∷ items) (column ∷ columns) n h = beside_fits item items column.0 column.1 (rows_of n columns) h.0 h.1 (rows_fit items columns n h.2)
   rows_fit [] (column ∷ columns) n h = absurd h
   rows_fit (item ∷ items) [] n h = absurd h
 
-  in_step_safe : (at : ℕ) (items : List Declaration) (columns : Columns) → ColumnsFit items columns → Safe (RowsFit items) (in_step at columns)
+  in_step_safe : (at : ℕ) (items : List Declaration) (columns : BoundItems) → ColumnsFit items columns → Safe (RowsFit items) (in_step at columns)
   in_step_safe at items columns h = by_test (list_all (λ column. length column.1 == height columns) columns)
     where
       by_test : (b : Bool) → Safe (RowsFit items) (if b then gives (rows_of (height columns) columns) else faults LengthFault at)
@@ -91,14 +91,14 @@ module _ (dialect : Dialect) where
       by_test false = λ e. cc
 
   -- the body's values, where it is safe at each row
-  body_all : (items : List Declaration) (t : Ty) (f : Environment → Answer Value) → ((row : Environment) → FitsInputs dialect items row → Safe (λ v. HasType dialect v t) (f row))
+  body_all : (items : List Declaration) (t : Ty) (f : Environment → Answer Value) → ((row : Environment) → FitDeclarations dialect items row → Safe (λ v. HasType dialect v t) (f row))
       → (rows : List Environment) → RowsFit items rows → Safe (λ vs. AllOf dialect vs t) (go_all f rows)
   body_all items t f k [] h = tt
   body_all items t f k (row ∷ rows) h =
       go_safe (λ v. HasType dialect v t) (λ vs. AllOf dialect vs t) (f row) (λ v. go (go_all f rows) (λ vs. gives (v ∷ vs))) (k row h.0) (λ v hv.
       go_safe (λ vs. AllOf dialect vs t) (λ vs. AllOf dialect vs t) (go_all f rows) (λ vs. gives (v ∷ vs)) (body_all items t f k rows h.1) (λ vs hvs. (hv, hvs)))
 
-  body_join : (items : List Declaration) (t : Ty) (f : Environment → Answer (List Value)) → ((row : Environment) → FitsInputs dialect items row → Safe (λ vs. AllOf dialect vs t) (f row))
+  body_join : (items : List Declaration) (t : Ty) (f : Environment → Answer (List Value)) → ((row : Environment) → FitDeclarations dialect items row → Safe (λ vs. AllOf dialect vs t) (f row))
       → (rows : List Environment) → RowsFit items rows → Safe (λ vs. AllOf dialect vs t) (go_join f rows)
   body_join items t f k [] h = tt
   body_join items t f k (row ∷ rows) h =
@@ -130,12 +130,12 @@ module _ (dialect : Dialect) where
   literal_safe t ts [] a h = absurd h
 
   -- what the binders of a comprehension declare behind earlier ones, and that their columns fit it
-  record BindersSafe (earlier all : List Declaration) (answer : Answer Columns) : Type 0 where
+  record BindersSafe (earlier all : List Declaration) (answer : Answer BoundItems) : Type 0 where
     new : List Declaration
     same : all ≡ earlier ++ new
     safe : Safe (ColumnsFit new) answer
 
-  columns_of : {items : List Declaration} (answer : Answer Columns) → BindersSafe [] items answer → Safe (ColumnsFit items) answer
+  columns_of : {items : List Declaration} (answer : Answer BoundItems) → BindersSafe [] items answer → Safe (ColumnsFit items) answer
   columns_of answer all = subst (λ items. Safe (ColumnsFit items) answer) (sym all.same) all.safe
 
   module _ {text : List ℕ} {functions : Signatures} (calls : Calls) (hold : CallsHold dialect functions calls) where
@@ -214,7 +214,7 @@ module _ (dialect : Dialect) where
       binders_sound {earlier = earlier} (more_binders {place = place} {source = source} {others = others} {t = t} d e ds) environment holds =
           let item : Declaration = (spelling text place, t) in
           let later = binders_sound ds environment holds in
-          let last : List Value → Columns → Answer Columns = λ vs columns. gives ((spelling text place, vs) ∷ columns) in
+          let last : List Value → BoundItems → Answer BoundItems = λ vs columns. gives ((spelling text place, vs) ∷ columns) in
           record {
             new = item ∷ later.new;
             same = later.same ∙ append_assoc earlier (item ∷ []) later.new;

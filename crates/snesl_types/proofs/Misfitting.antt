@@ -21,15 +21,15 @@ use Rattle.snesl_tree.specs.Spelling.{spelling}
 use Rattle.snesl_tree.specs.Tree.{Tree, Trees, Binders, Condition, binary, prefix, call, apply, choice, literal, filter, binding, each, always, only_where, both, none, TypeTree, Typed, DeclarationTree, declares_function, offset}
 use Rattle.snesl_types.specs.declared.clashes.Clash.{Clash as Told}
 use Rattle.snesl_types.specs.declared.names.Scope.{Scope}
-use Rattle.snesl_types.specs.Contexts.{Context, bound, opened, inside, Signature, Signatures, function_named}
+use Rattle.snesl_types.specs.Contexts.{Context, bound, names_context, inside, Signature, Signatures, function_named}
 use Rattle.snesl_types.specs.Forms.{operator_result, prefix_result, result_of, tabs_streamed}
 use Rattle.snesl_types.specs.Names.{context_of, signatures_in, typed_in, all_typed_in, binders_typed_in}
 use Rattle.snesl_types.specs.Typing.{Types}
 use Rattle.snesl_types.specs.Violations.{AreAlike}
 use Rattle.snesl_types.specs.Programs.{Declared, written_type, nothing_declared, DeclarationsType, NamesType}
-use Rattle.snesl_types.specs.Verdicts.{IsAnswer, or_refused, of_builtin, of_items, are_same, declarations_verdict, names_verdict}
-use Rattle.snesl_types.specs.Clashes.{Clash, clash_of, operands, operand, arguments, parameters, branches, items, condition, source, operands_misfit, operand_misfits, arguments_misfit, call_misfits, branches_misfit, items_misfit, filter_misfits, condition_misfits, this_source, later_source, Clashes, first_clashes, later_clashes, in_condition, in_body, in_bound, in_part, in_binder, itself, body, parts, within_body, body_misfits, FunctionClashes, ProgramClashes, in_expression, in_function, IsFound, sources}
-use Rattle.snesl_types.specs.Misfitting.{IsMismatch, functions_in, names_in, TypesIn, AllTypeIn, BindersTypeIn, MisfitsIn, ConditionMisfitsIn, SourceMisfitsIn, IsNoSequence, ClashesIn, AnyClashesIn, ConditionClashesIn, BoundClashesIn, ExpressionClashes, DeclarationClashes, IsOfAnotherType, BodyMisfits, is_sequence}
+use Rattle.snesl_types.specs.Verdicts.{IsVerdict, or_refused, of_builtin, of_items, are_same, declarations_verdict, names_verdict}
+use Rattle.snesl_types.specs.Clashes.{Clash, clash_of, operands, operand, arguments, parameters, branches, items, condition, source, operands_misfit, operand_misfits, arguments_misfit, call_misfits, branches_misfit, items_misfit, filter_misfits, condition_misfits, this_source, later_source, Clashes, first_clashes, later_clashes, in_condition, in_body, in_bound, in_part, in_binder, itself, body, seen_parts, within_body, body_misfits, FunctionClashes, ProgramClashes, in_expression, in_function, IsFound, sources}
+use Rattle.snesl_types.specs.Misfitting.{IsMismatch, functions_in, context_names, TypesIn, AllTypeIn, BindersTypeIn, MisfitsIn, ConditionMisfitsIn, SourceMisfitsIn, IsNoSequence, ClashesIn, AnyClashesIn, ConditionClashesIn, BoundClashesIn, ExpressionClashes, DeclarationClashes, IsOfAnotherType, BodyMisfits, is_sequence}
 use Rattle.snesl_types.proofs.Outcomes.{Outcome, given}
 use Rattle.snesl_types.proofs.Sound.{tree_sound, all_sound, binders_sound}
 use Rattle.snesl_types.proofs.ProgramAnswers.{capped_all}
@@ -57,24 +57,24 @@ given_of {G = G} (Ok y) x e (given g) = let same : y ≡ x = cc in subst G same 
 given_of (Err f) x e h = cc
 
 pub types_of_tree : (scope : Scope) (tree : Tree) (t : Ty) → typed_in scope tree ≡ Ok t → TypesIn scope tree t
-types_of_tree scope tree t e = given_of _ t e (tree_sound scope.dialect scope.text.now (functions_in scope) (names_in scope) tree)
+types_of_tree scope tree t e = given_of _ t e (tree_sound scope.dialect scope.text.now (functions_in scope) (context_names scope) tree)
 
 pub types_of_all : (scope : Scope) (trees : Trees) (ts : List Ty) → all_typed_in scope [] trees ≡ Ok ts → AllTypeIn scope trees ts
 types_of_all scope trees ts e =
-    let all = given_of _ ts e (all_sound scope.dialect scope.text.now (functions_in scope) (names_in scope) [] trees) in
+    let all = given_of _ ts e (all_sound scope.dialect scope.text.now (functions_in scope) (context_names scope) [] trees) in
     subst (AllTypeIn scope trees) (sym all.2) all.1
 
 pub types_of_binders : (scope : Scope) (binders : Binders) (all : List Declaration) → binders_typed_in scope [] binders ≡ Ok all → BindersTypeIn scope binders all
-types_of_binders scope binders all e = given_of _ all e (binders_sound scope.dialect scope.text.now (functions_in scope) (names_in scope) [] binders)
+types_of_binders scope binders all e = given_of _ all e (binders_sound scope.dialect scope.text.now (functions_in scope) (context_names scope) [] binders)
 
 -- a rule that gives no type
 
-mismatch : (v : Result Ty Refusal) (r : Result TyTree Refusal) → IsAnswer ty_of v r → IsMismatch r → (p : ℕ) × (v ≡ Err (Mismatch p))
+mismatch : (v : Result Ty Refusal) (r : Result TyTree Refusal) → IsVerdict ty_of v r → IsMismatch r → (p : ℕ) × (v ≡ Err (Mismatch p))
 mismatch v (Err (Mismatch p)) (inl e) m = cc
 mismatch v (Err (Mismatch p)) (inr e) m = (p, e)
 mismatch v _ a m = absurd m
 
-no_type : (at : ℕ) (o : Option Ty) (r : Result TyTree Refusal) → IsAnswer ty_of (or_refused (Mismatch at) o) r → IsMismatch r → o ≡ None
+no_type : (at : ℕ) (o : Option Ty) (r : Result TyTree Refusal) → IsVerdict ty_of (or_refused (Mismatch at) o) r → IsMismatch r → o ≡ None
 no_type at o r a m = of_option o (mismatch (or_refused (Mismatch at) o) r a m)
   where
     of_option : (o : Option Ty) → (p : ℕ) × (or_refused (Mismatch at) o ≡ Err (Mismatch p)) → o ≡ None
@@ -92,18 +92,18 @@ not_alike at p (t ∷ ts) e = λ h. let ok : of_items at (t ∷ ts) ≡ Ok (seq 
 
 module _ (scope : Scope) where
   pub operands_in : (at : ℕ) (operator : Operator) (left right : Tree) (t u : Ty) (r : Result TyTree Refusal)
-      → typed_in scope left ≡ Ok t → typed_in scope right ≡ Ok u → IsAnswer ty_of (or_refused (Mismatch at) (operator_result operator t u)) r → IsMismatch r
+      → typed_in scope left ≡ Ok t → typed_in scope right ≡ Ok u → IsVerdict ty_of (or_refused (Mismatch at) (operator_result operator t u)) r → IsMismatch r
       → MisfitsIn scope (binary at operator left right) (operands t u)
   operands_in at operator left right t u r a b answer m =
       operands_misfit (types_of_tree scope left t a) (types_of_tree scope right u b) (no_type at (operator_result operator t u) r answer m)
 
   pub operand_in : (at : ℕ) (operator : Prefix) (one : Tree) (t : Ty) (r : Result TyTree Refusal)
-      → typed_in scope one ≡ Ok t → IsAnswer ty_of (or_refused (Mismatch at) (prefix_result operator t)) r → IsMismatch r
+      → typed_in scope one ≡ Ok t → IsVerdict ty_of (or_refused (Mismatch at) (prefix_result operator t)) r → IsMismatch r
       → MisfitsIn scope (prefix at operator one) (operand t)
   operand_in at operator one t r a answer m = operand_misfits (types_of_tree scope one t a) (no_type at (prefix_result operator t) r answer m)
 
   pub arguments_in : (at : ℕ) (function : Builtin) (all : Trees) (ts us : List Ty) (r : Result TyTree Refusal)
-      → all_typed_in scope [] all ≡ Ok ts → us ≡ ts → IsAnswer ty_of (of_builtin at function us) r → IsMismatch r
+      → all_typed_in scope [] all ≡ Ok ts → us ≡ ts → IsVerdict ty_of (of_builtin at function us) r → IsMismatch r
       → MisfitsIn scope (call at function all) (arguments ts)
   arguments_in at function all ts us r a same answer m =
       let h = mismatch (of_builtin at function us) r answer m in
@@ -128,7 +128,7 @@ module _ (scope : Scope) where
       (λ same. let g = and_true (same_of same.0) (same_of same.1) in cc)
 
   pub items_in : (at : ℕ) (all : Trees) (ts us : List Ty) (r : Result TyTree Refusal)
-      → all_typed_in scope [] all ≡ Ok ts → us ≡ ts → IsAnswer ty_of (of_items at us) r → IsMismatch r → MisfitsIn scope (literal at all) (items ts)
+      → all_typed_in scope [] all ≡ Ok ts → us ≡ ts → IsVerdict ty_of (of_items at us) r → IsMismatch r → MisfitsIn scope (literal at all) (items ts)
   items_in at all ts us r a same answer m =
       let h = mismatch (of_items at us) r answer m in
       items_misfit (types_of_all scope all ts a) (not_alike at h.0 ts (ap (of_items at) (sym same) ∙ h.1))
@@ -157,11 +157,11 @@ module _ (inner scope : Scope) (context : Context) (w : Within inner scope conte
       (subst (λ d. Clashes d inner.text.now (signatures_in inner.text.now inner.functions.now) at clash (context_of inner.text.now inner.names.now) tree) w.dialect h)))
 
 pub condition_in_scope : (inner scope : Scope) (binders : Binders) (all : List Declaration) (one : Tree) (t : Ty) (b : Bool)
-    → Within inner scope (opened all ++ inside (names_in scope)) → binders_typed_in scope [] binders ≡ Ok all → typed_in inner one ≡ Ok t
+    → Within inner scope (names_context all ++ inside (context_names scope)) → binders_typed_in scope [] binders ≡ Ok all → typed_in inner one ≡ Ok t
     → b ≡ is_same t bool → b ≡ false → ConditionMisfitsIn scope binders (only_where one) (condition t)
 condition_in_scope inner scope binders all one t b w bs e fit fails =
     λ at within. condition_misfits (types_of_binders scope binders all bs)
-    (types_within inner scope (opened all ++ inside (names_in scope)) w one t (types_of_tree inner one t e))
+    (types_within inner scope (names_context all ++ inside (context_names scope)) w one t (types_of_tree inner one t e))
     (λ same. let g = same_of same in cc)
 
 -- at a place in a list
@@ -190,26 +190,26 @@ any_source_at scope at (x ∷ binders) (suc i) one clash l is h = later_clashes 
 
 module _ (inner scope : Scope) (at : ℕ) (r : Result (Option Told) AllocError) where
   pub in_each_condition : (place : ℕ) (within : Tree) (binders : Binders) (cond : Condition) (all : List Declaration)
-      → Within inner scope (opened all ++ inside (names_in scope)) → binders_typed_in scope [] binders ≡ Ok all
+      → Within inner scope (names_context all ++ inside (context_names scope)) → binders_typed_in scope [] binders ≡ Ok all
       → IsFound (ConditionClashesIn inner at cond) r → IsFound (ClashesIn scope at (each place within binders cond)) r
   in_each_condition place within binders cond all w bs h = found_as (ConditionClashesIn inner at cond) (ClashesIn scope at (each place within binders cond)) r (λ clash. by_case cond clash) h
     where
       by_case : (cond : Condition) (clash : Clash) → ConditionClashesIn inner at cond clash → ClashesIn scope at (each place within binders cond) clash
       by_case always clash h = absurd h
       by_case (only_where tree) clash h =
-          in_condition (types_of_binders scope binders all bs) (clashes_within inner scope (opened all ++ inside (names_in scope)) w at tree clash h)
+          in_condition (types_of_binders scope binders all bs) (clashes_within inner scope (names_context all ++ inside (context_names scope)) w at tree clash h)
 
   pub in_each_body : (place : ℕ) (within : Tree) (binders : Binders) (cond : Condition) (all : List Declaration)
-      → Within inner scope (opened all ++ inside (names_in scope)) → binders_typed_in scope [] binders ≡ Ok all
+      → Within inner scope (names_context all ++ inside (context_names scope)) → binders_typed_in scope [] binders ≡ Ok all
       → IsFound (ClashesIn inner at within) r → IsFound (ClashesIn scope at (each place within binders cond)) r
   in_each_body place within binders cond all w bs h =
-      found_as (ClashesIn inner at within) (ClashesIn scope at (each place within binders cond)) r (λ clash k. in_body {place = place} {cond = cond} (types_of_binders scope binders all bs) (clashes_within inner scope (opened all ++ inside (names_in scope)) w at within clash k)) h
+      found_as (ClashesIn inner at within) (ClashesIn scope at (each place within binders cond)) r (λ clash k. in_body {place = place} {cond = cond} (types_of_binders scope binders all bs) (clashes_within inner scope (names_context all ++ inside (context_names scope)) w at within clash k)) h
 
   pub in_let : (name : Span) (value within : Tree) (t : Ty)
-      → Within inner scope (bound (spelling scope.text.now name) t ∷ names_in scope) → typed_in scope value ≡ Ok t
+      → Within inner scope (bound (spelling scope.text.now name) t ∷ context_names scope) → typed_in scope value ≡ Ok t
       → IsFound (ClashesIn inner at within) r → IsFound (BoundClashesIn scope at name value within) r
   in_let name value within t w e h =
-      found_as (ClashesIn inner at within) (BoundClashesIn scope at name value within) r (λ clash k. λ start. in_bound {start = start} (types_of_tree scope value t e) (clashes_within inner scope (bound (spelling scope.text.now name) t ∷ names_in scope) w at within clash k)) h
+      found_as (ClashesIn inner at within) (BoundClashesIn scope at name value within) r (λ clash k. λ start. in_bound {start = start} (types_of_tree scope value t e) (clashes_within inner scope (bound (spelling scope.text.now name) t ∷ context_names scope) w at within clash k)) h
 
 pub in_one : (scope : Scope) (at : ℕ) (all : Trees) (part : Tree) (r : Result (Option Told) AllocError) → all ≡ both part none
     → IsFound (ClashesIn scope at part) r → IsFound (AnyClashesIn scope at all) r
@@ -279,8 +279,8 @@ binder_found scope at place within binders cond a b kept h =
     found_as (SourceMisfitsIn scope at binders) (ClashesIn scope at (each place within binders cond)) b (λ clash k. in_binder {place = place} {within = within} {cond = cond} k)
     (found_kept (SourceMisfitsIn scope at binders) a b kept h)
 
-pub part_found : (scope : Scope) (at : ℕ) (tree : Tree) (r : Result (Option Told) AllocError) → IsFound (AnyClashesIn scope at (parts tree)) r → IsFound (ClashesIn scope at tree) r
-part_found scope at tree r h = found_as (AnyClashesIn scope at (parts tree)) (ClashesIn scope at tree) r (λ clash k. in_part {tree = tree} k) h
+pub part_found : (scope : Scope) (at : ℕ) (tree : Tree) (r : Result (Option Told) AllocError) → IsFound (AnyClashesIn scope at (seen_parts tree)) r → IsFound (ClashesIn scope at tree) r
+part_found scope at tree r h = found_as (AnyClashesIn scope at (seen_parts tree)) (ClashesIn scope at tree) r (λ clash k. in_part {tree = tree} k) h
 
 pub no_sequence : (scope : Scope) (tree : Tree) (t : Ty) (b : Bool) → typed_in scope tree ≡ Ok t → b ≡ is_sequence t → b ≡ false → IsNoSequence scope tree (source t)
 no_sequence scope tree t b e fit fails = (t, refl, types_of_tree scope tree t e, (λ item same. let g : is_sequence t ≡ true = ap is_sequence same in cc))
@@ -296,19 +296,19 @@ let_found scope at place name value within r h =
 
 module _ (dialect : Dialect) (text : List ℕ) (functions : Signatures) (at : ℕ) (place : Span) (written : List Typed) (result : TypeTree) (within : Tree) (names : List Declaration) where
   pub function_found : (r : Result (Option Told) AllocError) → names_verdict text [] written ≡ Ok names
-      → IsFound (λ clash. Clashes dialect text functions at clash (opened names) within) r → IsFound (FunctionClashes dialect text functions at place written result within) r
+      → IsFound (λ clash. Clashes dialect text functions at clash (names_context names) within) r → IsFound (FunctionClashes dialect text functions at place written result within) r
   function_found r e h =
-      found_as (λ clash. Clashes dialect text functions at clash (opened names) within) (FunctionClashes dialect text functions at place written result within) r
+      found_as (λ clash. Clashes dialect text functions at clash (names_context names) within) (FunctionClashes dialect text functions at place written result within) r
       (λ clash k. within_body (names_given_by dialect text written names e) k) h
 
   pub body_found : (a : Result (Option Told) Refusal) (b : Result (Option Told) AllocError) → place.at ≡ at → names_verdict text [] written ≡ Ok names
-      → IfOk b (λ clash. IsSome clash → a ≡ Ok clash) → IsFound (BodyMisfits dialect text functions (opened names) within result) a
+      → IfOk b (λ clash. IsSome clash → a ≡ Ok clash) → IsFound (BodyMisfits dialect text functions (names_context names) within result) a
       → IsFound (FunctionClashes dialect text functions at place written result within) b
   body_found a b here e kept h =
-      found_as (BodyMisfits dialect text functions (opened names) within result) (FunctionClashes dialect text functions at place written result within) b
+      found_as (BodyMisfits dialect text functions (names_context names) within result) (FunctionClashes dialect text functions at place written result within) b
       (λ clash k. subst (FunctionClashes dialect text functions at place written result within) (sym k.2)
       (body_misfits here (names_given_by dialect text written names e) k.3 k.4 k.5))
-      (found_kept (BodyMisfits dialect text functions (opened names) within result) a b kept h)
+      (found_kept (BodyMisfits dialect text functions (names_context names) within result) a b kept h)
 
 pub declaration_found : (dialect : Dialect) (text : List ℕ) (declarations : List DeclarationTree) (at : ℕ) (tree : Tree) (r : Result (Option Told) AllocError)
     → IsFound (DeclarationClashes dialect text declarations at) r → IsFound (ProgramClashes text (record { dialect = dialect; declarations = declarations; expression = tree }) at) r

@@ -13,7 +13,7 @@ use Rattle.snesl_tree.specs.Spelling.{spelling}
 use Rattle.snesl_tree.specs.Tree.{Tree, Trees, Binders, Condition, integer, truth, name, binary, prefix, call, apply, group, pair as pair_tree, binding, choice, literal, filter, each, none, both, none_bound, binder, always, only_where, TypeTree, Typed, DeclarationTree, ProgramTree}
 use Rattle.snesl_types.specs.Contexts.{type_in, Signature, Signatures}
 use Rattle.snesl_types.specs.Sizes.{BodySizes, body_size, size, size_of_all, size_of_binders, size_of_condition, greatest_size}
-use Rattle.snesl_types.specs.Programs.{and_then, written_type, Declared, with_function, named, NamesType, no_names, more_names, NamesViolate, named_twice, type_refused, later_names_violate, signature_of, FunctionTypes, function_type, FunctionViolates, function_twice, parameter_violates, result_refused, function_body_violates, function_mismatch, DeclarationsType, no_declarations, input_declared, function_declared, DeclarationsViolate, input_violates, function_violates, behind_input_violates, behind_function_violates, nothing_declared, ProgramTypes, ProgramViolates, many_declarations, declaration_violates, expression_violates, big_expression}
+use Rattle.snesl_types.specs.Programs.{and_then, written_type, Declared, with_function, typed_name, NamesType, no_names, more_names, NamesViolate, named_twice, type_refused, later_names_violate, signature_of, FunctionTypes, function_type, FunctionViolates, function_twice, parameter_violates, result_refused, function_body_violates, function_mismatch, DeclarationsType, no_declarations, input_declared, function_declared, DeclarationsViolate, input_violates, function_violates, behind_input_violates, behind_function_violates, nothing_declared, ProgramTypes, ProgramViolates, many_declarations, declaration_violates, expression_violates, big_expression}
 use Rattle.snesl_types.specs.Verdicts.{new_name, name_verdict, names_verdict, of_body, function_verdict, capped, with_capped_function, declarations_verdict, of_expression, expression_verdict, program_verdict}
 use Rattle.snesl_data.proofs.SameTypes.{same_eq, same_of}
 use Rattle.snesl_types.proofs.Same.{not_true}
@@ -91,7 +91,7 @@ with_capped text declared signature body =
 -- the rules are what checking answers
 
 name_ok : (text : List ℕ) (earlier : List Declaration) (first : Typed) {t : Ty} → type_in (spelling text first.place) earlier ≡ None → written_type first.written ≡ Ok t
-    → name_verdict text earlier first ≡ Ok (named text first t)
+    → name_verdict text earlier first ≡ Ok (typed_name text first t)
 name_ok text earlier first e w = then_ok _ (ap (new_name text first.place) e) (then_ok _ w refl)
 
 name_twice : (text : List ℕ) (earlier : List Declaration) (first : Typed) {t : Ty} → type_in (spelling text first.place) earlier ≡ Some t

@@ -10,11 +10,11 @@ use Rattle.snesl_data.specs.Types.{Ty, is_same}
 use Rattle.snesl_tree.specs.declared.span.Span.{Span}
 use Rattle.snesl_tree.specs.Spelling.{spelling}
 use Rattle.snesl_tree.specs.Tree.{Tree, TypeTree, Typed, DeclarationTree, declares_input, declares_function, ProgramTree}
-use Rattle.snesl_types.specs.Contexts.{opened, type_in, Signature, Signatures, function_named}
+use Rattle.snesl_types.specs.Contexts.{names_context, type_in, Signature, Signatures, function_named}
 use Rattle.snesl_types.specs.Sizes.{size, greatest_size}
 use Rattle.snesl_types.specs.Ranges.{IsInRange, DeclarationsInRange, ProgramInRange}
 use Rattle.snesl_types.specs.Typing.{Types}
-use Rattle.snesl_types.specs.Programs.{and_then, written_type, Declared, with_inputs, with_function, named, NamesType, no_names, more_names, NamesViolate, named_twice, type_refused, later_names_violate, signature_of, FunctionTypes, function_type, FunctionViolates, function_twice, parameter_violates, result_refused, function_body_violates, function_mismatch, DeclarationsType, no_declarations, input_declared, function_declared, DeclarationsViolate, input_violates, function_violates, behind_input_violates, behind_function_violates, are_few, nothing_declared, ProgramTypes, ProgramViolates, many_declarations, declaration_violates, expression_violates, big_expression, HasTyping, HaveOneTyping, HaveSomeTyping, IsFirstViolation, IsMemoryIfTyped}
+use Rattle.snesl_types.specs.Programs.{and_then, written_type, Declared, with_inputs, with_function, typed_name, NamesType, no_names, more_names, NamesViolate, named_twice, type_refused, later_names_violate, signature_of, FunctionTypes, function_type, FunctionViolates, function_twice, parameter_violates, result_refused, function_body_violates, function_mismatch, DeclarationsType, no_declarations, input_declared, function_declared, DeclarationsViolate, input_violates, function_violates, behind_input_violates, behind_function_violates, are_few, nothing_declared, ProgramTypes, ProgramViolates, many_declarations, declaration_violates, expression_violates, big_expression, HasTyping, HaveOneTyping, HaveSomeTyping, IsFirstViolation, IsMemoryIfTyped}
 use Rattle.snesl_types.specs.Verdicts.{verdict, new_name, name_verdict, names_verdict, of_body, function_verdict, capped, with_capped_function, declarations_verdict, expression_verdict, program_verdict}
 use Rattle.snesl_data.proofs.SameTypes.{same_eq, same_of}
 use Rattle.snesl_types.proofs.Outcomes.{Outcome, given, violated, out_of_range, then_outcome}
@@ -28,7 +28,7 @@ module _ (dialect : Dialect) (text : List ℕ) where
   -- one name, and what others behind it give
   name_outcome : (earlier : List Declaration) (first : Typed) (others : List Typed) {B : Type 0} {G : B → Type 0} {V : Refusal → Type 0} {R : Type 0} (next : Declaration → Result B Refusal)
       → ((r : Refusal) → NamesViolate text earlier (first ∷ []) r → V r)
-      → ((t : Ty) → type_in (spelling text first.place) earlier ≡ None → written_type first.written ≡ Ok t → Outcome G V R (next (named text first t)))
+      → ((t : Ty) → type_in (spelling text first.place) earlier ≡ None → written_type first.written ≡ Ok t → Outcome G V R (next (typed_name text first t)))
       → Outcome G V R (and_then (name_verdict text earlier first) next)
   name_outcome earlier first others {B = B} {G = G} {V = V} {R = R} next fails goes = of_name (type_in (spelling text first.place) earlier) refl
     where
@@ -51,10 +51,10 @@ module _ (dialect : Dialect) (text : List ℕ) where
   names_sound earlier [] = given no_names
   names_sound earlier (first ∷ others) =
       name_outcome earlier first others (λ declaration. names_verdict text (earlier ++ (declaration ∷ [])) others) (one_violates others)
-      (λ t e w. of_others t e w (names_sound (earlier ++ (named text first t ∷ [])) others))
+      (λ t e w. of_others t e w (names_sound (earlier ++ (typed_name text first t ∷ [])) others))
     where
       of_others : (t : Ty) → type_in (spelling text first.place) earlier ≡ None → written_type first.written ≡ Ok t
-          → {r : Result (List Declaration) Refusal} → OfNames (earlier ++ (named text first t ∷ [])) others r → OfNames earlier (first ∷ others) r
+          → {r : Result (List Declaration) Refusal} → OfNames (earlier ++ (typed_name text first t ∷ [])) others r → OfNames earlier (first ∷ others) r
       of_others t e w (given n) = given (more_names e w n)
       of_others t e w (violated v) = violated (later_names_violate e w v)
       of_others t e w (out_of_range n) = absurd (n tt)
@@ -64,22 +64,22 @@ module _ (dialect : Dialect) (text : List ℕ) where
     OfFunction r = Outcome (FunctionTypes dialect text functions place written result body) (FunctionViolates dialect text functions place written result body) (IsInRange dialect body) r
 
     of_declared : (parameters : List Declaration) (t u : Ty) → function_named (spelling text place) functions ≡ None → NamesType text [] written parameters
-        → written_type result ≡ Ok t → Types dialect text functions (opened parameters) body u
+        → written_type result ≡ Ok t → Types dialect text functions (names_context parameters) body u
         → (b : Bool) → is_same u t ≡ b → OfFunction (cond b (Ok (signature_of text place parameters t)) (Err (Mismatch place.at)))
-    of_declared parameters t u e n w d true f = given (function_type e n w (subst (Types dialect text functions (opened parameters) body) (same_eq u t f) d))
+    of_declared parameters t u e n w d true f = given (function_type e n w (subst (Types dialect text functions (names_context parameters) body) (same_eq u t f) d))
     of_declared parameters t u e n w d false f = violated (function_mismatch e n w d (λ same. let g = same_of same in cc))
 
     of_result : (parameters : List Declaration) → function_named (spelling text place) functions ≡ None → NamesType text [] written parameters
         → (w : Result Ty Refusal) → written_type result ≡ w
-        → OfFunction (and_then w (λ t. and_then (verdict dialect text functions (opened parameters) body) (of_body place (signature_of text place parameters t))))
+        → OfFunction (and_then w (λ t. and_then (verdict dialect text functions (names_context parameters) body) (of_body place (signature_of text place parameters t))))
     of_result parameters e n (Err r) w = violated (result_refused e n w)
     of_result parameters e n (Ok t) w =
-        then_outcome _ (tree_sound dialect text functions (opened parameters) body) (λ r v. function_body_violates e n w v) (λ h. h)
+        then_outcome _ (tree_sound dialect text functions (names_context parameters) body) (λ r v. function_body_violates e n w v) (λ h. h)
         (λ u d. of_declared parameters t u e n w d (is_same u t) refl)
 
     of_new : (o : Option Signature) → function_named (spelling text place) functions ≡ o
         → OfFunction (and_then (new_name text place o) (λ bytes. and_then (names_verdict text [] written) (λ declarations. and_then (written_type result) (λ t.
-        and_then (verdict dialect text functions (opened declarations) body) (of_body place (signature_of text place declarations t))))))
+        and_then (verdict dialect text functions (names_context declarations) body) (of_body place (signature_of text place declarations t))))))
     of_new (Some signature) e = violated (function_twice e)
     of_new None e =
         then_outcome _ (names_sound [] written) (λ r v. parameter_violates e v) (λ h. tt)
@@ -96,18 +96,18 @@ module _ (dialect : Dialect) (text : List ℕ) where
   pub declarations_sound : (earlier : Declared) (declarations : List DeclarationTree) → OfDeclarations earlier declarations (declarations_verdict dialect text (capped_all earlier) declarations)
   declarations_sound earlier [] = given (earlier, no_declarations, refl)
   declarations_sound earlier (declares_input first ∷ others) =
-      of_input (λ t. declarations_sound (with_inputs earlier (earlier.inputs ++ (named text first t ∷ []))) others)
+      of_input (λ t. declarations_sound (with_inputs earlier (earlier.inputs ++ (typed_name text first t ∷ []))) others)
       (type_in (spelling text first.place) earlier.inputs) refl
     where
       go_on : (t : Ty) → type_in (spelling text first.place) earlier.inputs ≡ None → written_type first.written ≡ Ok t → {r : Result Declared Refusal}
-          → OfDeclarations (with_inputs earlier (earlier.inputs ++ (named text first t ∷ []))) others r → OfDeclarations earlier (declares_input first ∷ others) r
+          → OfDeclarations (with_inputs earlier (earlier.inputs ++ (typed_name text first t ∷ []))) others r → OfDeclarations earlier (declares_input first ∷ others) r
       go_on t e w (given found) = given (found.0, input_declared (more_names e w no_names) found.1, found.2)
       go_on t e w (violated v) = violated (behind_input_violates (more_names e w no_names) v)
       go_on t e w (out_of_range n) = out_of_range (λ h. n h.1)
 
       Behind : Type 0
-      Behind = (t : Ty) → OfDeclarations (with_inputs earlier (earlier.inputs ++ (named text first t ∷ []))) others
-          (declarations_verdict dialect text (capped_all (with_inputs earlier (earlier.inputs ++ (named text first t ∷ [])))) others)
+      Behind = (t : Ty) → OfDeclarations (with_inputs earlier (earlier.inputs ++ (typed_name text first t ∷ []))) others
+          (declarations_verdict dialect text (capped_all (with_inputs earlier (earlier.inputs ++ (typed_name text first t ∷ [])))) others)
 
       of_type : Behind → type_in (spelling text first.place) earlier.inputs ≡ None → (w : Result Ty Refusal) → written_type first.written ≡ w
           → OfDeclarations earlier (declares_input first ∷ others)
@@ -150,7 +150,7 @@ module _ (text : List ℕ) (program : ProgramTree) where
       (ProgramViolates text program) (ProgramInRange program) r
 
   of_size : (declared : Declared) (t : Ty) → are_few program.declarations ≡ true → DeclarationsType program.dialect text nothing_declared program.declarations declared
-      → Types program.dialect text declared.functions (opened declared.inputs) program.expression t
+      → Types program.dialect text declared.functions (names_context declared.inputs) program.expression t
       → (n : ℕ) → capped n ≡ capped (size text declared.sizes program.expression) → (b : Bool) → nat_le (capped n) greatest_size ≡ b
       → OfProgram (cond b (Ok (capped_all declared, t)) (Err TooBig))
   of_size declared t few d e n same true le =
@@ -164,7 +164,7 @@ module _ (text : List ℕ) (program : ProgramTree) where
   of_few true few =
       then_outcome _ (declarations_sound program.dialect text nothing_declared program.declarations) (λ r v. declaration_violates few v) (λ h. h.declarations)
       (λ found all. subst (λ d. OfProgram (expression_verdict program.dialect text d program.expression)) (sym all.2)
-      (then_outcome _ (tree_sound program.dialect text all.0.functions (opened all.0.inputs) program.expression) (λ r v. expression_violates few all.1 v) (λ h. h.expression)
+      (then_outcome _ (tree_sound program.dialect text all.0.functions (names_context all.0.inputs) program.expression) (λ r v. expression_violates few all.1 v) (λ h. h.expression)
       (λ t e. of_size all.0 t few all.1 e (size text (capped_all all.0).sizes program.expression) (size_capped text all.0.sizes program.expression)
       (nat_le (capped (size text (capped_all all.0).sizes program.expression)) greatest_size) refl)))
 

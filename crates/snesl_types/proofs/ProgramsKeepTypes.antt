@@ -5,15 +5,15 @@ use Rattle.std.proofs.lemmas.Slice.Eq.{bytes_eq-Decides}
 use Rattle.std.specs.Prelude.{if◌then◌else◌}
 use Rattle.std.specs.Str.{bytes_eq}
 use Rattle.snesl_data.specs.declared.dialect.Dialect.{Dialect}
-use Rattle.snesl_values.specs.Inputs.{Declaration, Environment, Fits as FitsInputs}
+use Rattle.snesl_values.specs.Inputs.{Declaration, Environment, FitDeclarations}
 use Rattle.snesl_data.specs.Values.{Value, HasType}
 use Rattle.snesl_tree.specs.declared.span.Span.{Span}
 use Rattle.snesl_tree.specs.Spelling.{spelling}
 use Rattle.snesl_tree.specs.Tree.{Tree, TypeTree, Typed, DeclarationTree, declares_input, declares_function}
 use Rattle.snesl_evaluation.specs.Answer.{gives}
 use Rattle.snesl_evaluation.specs.Eval.{Calls, eval, no_calls, parameters_with, function_answer, with_declaration, calls_after}
-use Rattle.snesl_types.specs.Contexts.{opened, Signature, Signatures, function_named}
-use Rattle.snesl_types.specs.Programs.{Declared, named, NamesType, no_names, more_names, FunctionTypes, function_type, DeclarationsType, no_declarations, input_declared, function_declared}
+use Rattle.snesl_types.specs.Contexts.{names_context, Signature, Signatures, function_named}
+use Rattle.snesl_types.specs.Programs.{Declared, typed_name, NamesType, no_names, more_names, FunctionTypes, function_type, DeclarationsType, no_declarations, input_declared, function_declared}
 use Rattle.snesl_types.specs.Soundness.{HaveTypes, Safe, Holds, CallsHold, TypedProgramsAreSound}
 use Rattle.snesl_types.proofs.BuiltinsKeepTypes.{go_safe}
 use Rattle.snesl_types.proofs.KeepsTypes.{sound, opened_holds}
@@ -46,23 +46,23 @@ module _ (dialect : Dialect) where
   record ParametersSafe (text : List ℕ) (earlier : List Declaration) (written : List Typed) (all : List Declaration) : Type 0 where
     new : List Declaration
     same : all ≡ earlier ++ new
-    safe : (at : ℕ) (vs : List Value) → HaveTypes dialect vs (map (λ parameter. parameter.1) new) → Safe (FitsInputs dialect new) (parameters_with at text written vs)
+    safe : (at : ℕ) (vs : List Value) → HaveTypes dialect vs (map (λ parameter. parameter.1) new) → Safe (FitDeclarations dialect new) (parameters_with at text written vs)
 
   parameters_safe : {text : List ℕ} {earlier all : List Declaration} {written : List Typed} → NamesType text earlier written all → ParametersSafe text earlier written all
   parameters_safe {text = text} {earlier = earlier} no_names = record { new = []; same = sym (append-nil earlier); safe = none }
     where
-      none : (at : ℕ) (vs : List Value) → HaveTypes dialect vs [] → Safe (FitsInputs dialect []) (parameters_with at text [] vs)
+      none : (at : ℕ) (vs : List Value) → HaveTypes dialect vs [] → Safe (FitDeclarations dialect []) (parameters_with at text [] vs)
       none at [] h = tt
       none at (v ∷ vs) h = absurd h
   parameters_safe {text = text} {earlier = earlier} {all = all} (more_names {first = first} {others = others} {t = t} e w ds) =
       let later = parameters_safe ds in
-      record { new = named text first t ∷ later.new; same = later.same ∙ append_assoc earlier (named text first t ∷ []) later.new; safe = more later }
+      record { new = typed_name text first t ∷ later.new; same = later.same ∙ append_assoc earlier (typed_name text first t ∷ []) later.new; safe = more later }
     where
-      more : (later : ParametersSafe text (earlier ++ (named text first t ∷ [])) others all) (at : ℕ) (vs : List Value)
+      more : (later : ParametersSafe text (earlier ++ (typed_name text first t ∷ [])) others all) (at : ℕ) (vs : List Value)
           → HaveTypes dialect vs (t ∷ map (λ parameter. parameter.1) later.new)
-          → Safe (FitsInputs dialect (named text first t ∷ later.new)) (parameters_with at text (first ∷ others) vs)
+          → Safe (FitDeclarations dialect (typed_name text first t ∷ later.new)) (parameters_with at text (first ∷ others) vs)
       more later at (v ∷ vs) h =
-          go_safe (FitsInputs dialect later.new) (FitsInputs dialect (named text first t ∷ later.new)) (parameters_with at text others vs) (λ environment. gives ((spelling text first.place, v) ∷ environment)) (later.safe at vs h.1) (λ environment he. (refl, h.0, he))
+          go_safe (FitDeclarations dialect later.new) (FitDeclarations dialect (typed_name text first t ∷ later.new)) (parameters_with at text others vs) (λ environment. gives ((spelling text first.place, v) ∷ environment)) (later.safe at vs h.1) (λ environment he. (refl, h.0, he))
       more later at [] h = absurd h
 
   -- a function's calls give values of its declared type
@@ -72,16 +72,16 @@ module _ (dialect : Dialect) where
       → Safe (λ v. HasType dialect v signature.result) (function_answer dialect at text calls written body vs)
   function_safe {text = text} (function_type {written = written} {body = body} {parameters = parameters} {t = t} e names w d) calls hold at vs h =
       let all = parameters_safe names in
-      let fits : Safe (FitsInputs dialect parameters) (parameters_with at text written vs) =
-      subst (λ p. Safe (FitsInputs dialect p) (parameters_with at text written vs)) (sym all.same)
+      let fits : Safe (FitDeclarations dialect parameters) (parameters_with at text written vs) =
+      subst (λ p. Safe (FitDeclarations dialect p) (parameters_with at text written vs)) (sym all.same)
       (all.safe at vs (subst (λ p. HaveTypes dialect vs (map (λ (parameter : Declaration). parameter.1) p)) all.same h)) in
-      go_safe (FitsInputs dialect parameters) (λ v. HasType dialect v t) (parameters_with at text written vs) (λ environment. eval dialect body text calls environment) fits (λ environment he.
+      go_safe (FitDeclarations dialect parameters) (λ v. HasType dialect v t) (parameters_with at text written vs) (λ environment. eval dialect body text calls environment) fits (λ environment he.
       sound dialect calls hold d environment (alone environment he))
     where
-      alone : (environment : Environment) → FitsInputs dialect parameters environment → Holds dialect (opened parameters) environment
+      alone : (environment : Environment) → FitDeclarations dialect parameters environment → Holds dialect (names_context parameters) environment
       alone environment he =
-          subst (λ c. Holds dialect c environment) (append-nil (opened parameters))
-          (subst (λ r. Holds dialect (opened parameters ++ []) r) (append-nil environment) (opened_holds dialect parameters environment [] [] he tt))
+          subst (λ c. Holds dialect c environment) (append-nil (names_context parameters))
+          (subst (λ r. Holds dialect (names_context parameters ++ []) r) (append-nil environment) (opened_holds dialect parameters environment [] [] he tt))
 
   -- the name of a function is new, and its signature has it
   fresh_of : {text : List ℕ} {functions : Signatures} {place : Span} {written : List Typed} {result : TypeTree} {body : Tree} {signature : Signature}
@@ -116,5 +116,5 @@ pub programs_are_sound : TypedProgramsAreSound
 programs_are_sound text program declared t environment types fits =
     sound program.dialect (calls_after program.dialect text no_calls program.declarations) (declarations_hold program.dialect types.declarations no_calls (λ at bytes signature vs e h. absurd (let never : ⊥ = cc in never)))
     types.expression environment
-    (subst (λ c. Holds program.dialect c environment) (append-nil (opened declared.inputs))
-    (subst (λ r. Holds program.dialect (opened declared.inputs ++ []) r) (append-nil environment) (opened_holds program.dialect declared.inputs environment [] [] fits tt)))
+    (subst (λ c. Holds program.dialect c environment) (append-nil (names_context declared.inputs))
+    (subst (λ r. Holds program.dialect (names_context declared.inputs ++ []) r) (append-nil environment) (opened_holds program.dialect declared.inputs environment [] [] fits tt)))

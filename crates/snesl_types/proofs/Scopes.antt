@@ -12,8 +12,8 @@ use Rattle.snesl_tree.specs.Tree.{Tree, Binders, Condition, each, always, only_w
 use Rattle.snesl_tree.specs.View.{tree_of, binders_of}
 use Rattle.snesl_tree.proofs.Arguments.{binders_row}
 use Rattle.snesl_types.specs.declared.names.Scope.{Scope}
-use Rattle.snesl_types.specs.Verdicts.{verdict, condition_verdict, IsAnswer, both_of, of_each}
-use Rattle.snesl_types.specs.Contexts.{Context, opened, inside}
+use Rattle.snesl_types.specs.Verdicts.{verdict, condition_verdict, IsVerdict, both_of, of_each}
+use Rattle.snesl_types.specs.Contexts.{Context, names_context, inside}
 use Rattle.snesl_types.specs.Programs.{and_then}
 use Rattle.snesl_types.proofs.Passing.{refused_first, refused_left, refused_right, both_there, answered_second}
 use Rattle.snesl_types.specs.Names.{context_of, signatures_in, typed_in, ruled_in, binders_typed_in, condition_typed_in, condition_in}
@@ -49,30 +49,30 @@ module _ (inner scope : Scope) (context : Context) (within : Within inner scope 
   condition_typed_within (only_where tree) = typed_within tree
 
 module _ (inner scope : Scope) (items : List Declaration)
-    (within : Within inner scope (opened items ++ inside (context_of scope.text.now scope.names.now)))
+    (within : Within inner scope (names_context items ++ inside (context_of scope.text.now scope.names.now)))
     (tree : Tree) {at : ℕ} (body : Tree) (binders : Binders) (condition : Condition)
     (is : tree ≡ each at body binders condition) (bound_by : binders_typed_in scope [] binders ≡ Ok items) where
   abbrev here : Context
-  here = opened items ++ inside (context_of scope.text.now scope.names.now)
+  here = names_context items ++ inside (context_of scope.text.now scope.names.now)
 
   abbrev then_all : (List Declaration) → Result Ty Refusal
   then_all all =
-      and_then (both_of (condition_verdict_at scope (opened all ++ inside (context_of scope.text.now scope.names.now)) condition)
-      (verdict_at scope (opened all ++ inside (context_of scope.text.now scope.names.now)) body)) (λ ts. of_each at binders ts.1 ts.0)
+      and_then (both_of (condition_verdict_at scope (names_context all ++ inside (context_of scope.text.now scope.names.now)) condition)
+      (verdict_at scope (names_context all ++ inside (context_of scope.text.now scope.names.now)) body)) (λ ts. of_each at binders ts.1 ts.0)
 
-  whole : (r : Result TyTree Refusal) → IsAnswer ty_of (then_all items) r → IsAnswer ty_of (ruled_in scope tree) r
-  whole r h = subst (λ x. IsAnswer ty_of (ruled_in scope x) r) (sym is)
+  whole : (r : Result TyTree Refusal) → IsVerdict ty_of (then_all items) r → IsVerdict ty_of (ruled_in scope tree) r
+  whole r h = subst (λ x. IsVerdict ty_of (ruled_in scope x) r) (sym is)
       (answered_second ty_of (binders_typed_in scope [] binders) then_all items r bound_by h)
 
   pub each_condition_refused : (e : Refusal) (r : Result TyTree Refusal) → IsErr r × IsErrAnd r (λ g. g ≡ e)
-      → (e ≡ NoMemory) ⊎ (condition_typed_in inner condition ≡ Err e) → IsAnswer ty_of (ruled_in scope tree) r
+      → (e ≡ NoMemory) ⊎ (condition_typed_in inner condition ≡ Err e) → IsVerdict ty_of (ruled_in scope tree) r
   each_condition_refused e r h v = whole r
       (refused_first ty_of (both_of (condition_verdict_at scope here condition) (verdict_at scope here body)) _ e r h
       (refused_left (condition_verdict_at scope here condition) (verdict_at scope here body) e
       (subst (λ z. (e ≡ NoMemory) ⊎ (z ≡ Err e)) (condition_typed_within inner scope here within condition) v)))
 
   pub each_body_refused : (t : Ty) (e : Refusal) (r : Result TyTree Refusal) → IsErr r × IsErrAnd r (λ g. g ≡ e)
-      → condition_typed_in inner condition ≡ Ok t → (e ≡ NoMemory) ⊎ (typed_in inner body ≡ Err e) → IsAnswer ty_of (ruled_in scope tree) r
+      → condition_typed_in inner condition ≡ Ok t → (e ≡ NoMemory) ⊎ (typed_in inner body ≡ Err e) → IsVerdict ty_of (ruled_in scope tree) r
   each_body_refused t e r h there v = whole r
       (refused_first ty_of (both_of (condition_verdict_at scope here condition) (verdict_at scope here body)) _ e r h
       (refused_right (condition_verdict_at scope here condition) (verdict_at scope here body) t e
@@ -80,7 +80,7 @@ module _ (inner scope : Scope) (items : List Declaration)
       (subst (λ z. (e ≡ NoMemory) ⊎ (z ≡ Err e)) (typed_within inner scope here within body) v)))
 
   pub each_answered : (t u : Ty) (r : Result TyTree Refusal)
-      → condition_typed_in inner condition ≡ Ok t → typed_in inner body ≡ Ok u → IsAnswer ty_of (of_each at binders u t) r → IsAnswer ty_of (ruled_in scope tree) r
+      → condition_typed_in inner condition ≡ Ok t → typed_in inner body ≡ Ok u → IsVerdict ty_of (of_each at binders u t) r → IsVerdict ty_of (ruled_in scope tree) r
   each_answered t u r e f h = whole r
       (answered_second ty_of (both_of (condition_verdict_at scope here condition) (verdict_at scope here body)) _ (t, u) r
       (both_there _ _ t u (sym (condition_typed_within inner scope here within condition) ∙ e) (sym (typed_within inner scope here within body) ∙ f)) h)

@@ -4,7 +4,7 @@ use Rattle.std.specs.Str.{bytes_eq}
 use Rattle.snesl_data.specs.Types.{is_concrete}
 use Rattle.snesl_data.specs.Types.{Ty}
 use Rattle.snesl_values.specs.Inputs.{Declaration}
-use Rattle.snesl_types.specs.Contexts.{Binding, open_to, shut, Context, opened, inside, shut_if_streamed, found, type_in}
+use Rattle.snesl_types.specs.Contexts.{Binding, open_to, shut, Context, names_context, inside, shut_if_streamed, found, type_in}
 use Rattle.snesl_types.specs.Names.{seen}
 
 -- what is shut once is not changed by a second edge
@@ -39,44 +39,44 @@ seen_here None = refl
 seen_here (Some binding) = refl
 
 -- what is seen of declared names, and behind them
-pub found-opened : (bytes : List ℕ) (declarations : List Declaration) (t : Ty) → Some t ≡ type_in bytes declarations → found bytes (opened declarations) ≡ Some (open_to t)
+pub found-opened : (bytes : List ℕ) (declarations : List Declaration) (t : Ty) → Some t ≡ type_in bytes declarations → found bytes (names_context declarations) ≡ Some (open_to t)
 found-opened bytes [] t e = cc
 found-opened bytes (declaration ∷ declarations) t e = by_test (bytes_eq bytes declaration.0) e (found-opened bytes declarations t)
   where
     by_test : (b : Bool) → Some t ≡ cond b (Some declaration.1) (type_in bytes declarations)
-        → (Some t ≡ type_in bytes declarations → found bytes (opened declarations) ≡ Some (open_to t))
-        → cond b (Some (open_to declaration.1)) (found bytes (opened declarations)) ≡ Some (open_to t)
+        → (Some t ≡ type_in bytes declarations → found bytes (names_context declarations) ≡ Some (open_to t))
+        → cond b (Some (open_to declaration.1)) (found bytes (names_context declarations)) ≡ Some (open_to t)
     by_test true e f = cc
     by_test false e f = f e
 
-pub unfound-opened : (bytes : List ℕ) (declarations : List Declaration) → None ≡ type_in bytes declarations → found bytes (opened declarations) ≡ None
+pub unfound-opened : (bytes : List ℕ) (declarations : List Declaration) → None ≡ type_in bytes declarations → found bytes (names_context declarations) ≡ None
 unfound-opened bytes [] e = refl
 unfound-opened bytes (declaration ∷ declarations) e = by_test (bytes_eq bytes declaration.0) e (unfound-opened bytes declarations)
   where
     by_test : (b : Bool) → None ≡ cond b (Some declaration.1) (type_in bytes declarations)
-        → (None ≡ type_in bytes declarations → found bytes (opened declarations) ≡ None)
-        → cond b (Some (open_to declaration.1)) (found bytes (opened declarations)) ≡ None
+        → (None ≡ type_in bytes declarations → found bytes (names_context declarations) ≡ None)
+        → cond b (Some (open_to declaration.1)) (found bytes (names_context declarations)) ≡ None
     by_test true e f = cc
     by_test false e f = f e
 
 pub found-before : (bytes : List ℕ) (declarations : List Declaration) (context : Context) (t : Ty) → Some t ≡ type_in bytes declarations
-    → found bytes (opened declarations ++ context) ≡ Some (open_to t)
+    → found bytes (names_context declarations ++ context) ≡ Some (open_to t)
 found-before bytes [] context t e = cc
 found-before bytes (declaration ∷ declarations) context t e = by_test (bytes_eq bytes declaration.0) e (found-before bytes declarations context t)
   where
     by_test : (b : Bool) → Some t ≡ cond b (Some declaration.1) (type_in bytes declarations)
-        → (Some t ≡ type_in bytes declarations → found bytes (opened declarations ++ context) ≡ Some (open_to t))
-        → cond b (Some (open_to declaration.1)) (found bytes (opened declarations ++ context)) ≡ Some (open_to t)
+        → (Some t ≡ type_in bytes declarations → found bytes (names_context declarations ++ context) ≡ Some (open_to t))
+        → cond b (Some (open_to declaration.1)) (found bytes (names_context declarations ++ context)) ≡ Some (open_to t)
     by_test true e f = cc
     by_test false e f = f e
 
 pub found-behind : (bytes : List ℕ) (declarations : List Declaration) (context : Context) → None ≡ type_in bytes declarations
-    → found bytes (opened declarations ++ context) ≡ found bytes context
+    → found bytes (names_context declarations ++ context) ≡ found bytes context
 found-behind bytes [] context e = refl
 found-behind bytes (declaration ∷ declarations) context e = by_test (bytes_eq bytes declaration.0) e (found-behind bytes declarations context)
   where
     by_test : (b : Bool) → None ≡ cond b (Some declaration.1) (type_in bytes declarations)
-        → (None ≡ type_in bytes declarations → found bytes (opened declarations ++ context) ≡ found bytes context)
-        → cond b (Some (open_to declaration.1)) (found bytes (opened declarations ++ context)) ≡ found bytes context
+        → (None ≡ type_in bytes declarations → found bytes (names_context declarations ++ context) ≡ found bytes context)
+        → cond b (Some (open_to declaration.1)) (found bytes (names_context declarations ++ context)) ≡ found bytes context
     by_test true e f = cc
     by_test false e f = f e

@@ -13,7 +13,7 @@ use Rattle.snesl_tree.specs.declared.operator.Prefix.{Prefix}
 use Rattle.snesl_tree.specs.declared.span.Span.{Span}
 use Rattle.snesl_tree.specs.Spelling.{spelling}
 use Rattle.snesl_tree.specs.Tree.{Tree, Trees, Binders, Condition, integer, truth, name, binary, prefix, call, apply, group, pair as pair_tree, binding, choice, literal, filter, each, none, both, none_bound, binder, always, only_where}
-use Rattle.snesl_types.specs.Contexts.{Binding, open_to, shut, Context, bound, opened, found, inside, type_in, Signature, Signatures, function_named}
+use Rattle.snesl_types.specs.Contexts.{Binding, open_to, shut, Context, bound, names_context, found, inside, type_in, Signature, Signatures, function_named}
 use Rattle.snesl_types.specs.Forms.{operator_result, prefix_result, result_of, tabs_streamed}
 use Rattle.snesl_types.specs.Sizes.{is_small}
 use Rattle.snesl_types.specs.Ranges.{IsInRange, AreInRange, BindersInRange, ConditionInRange}
@@ -121,15 +121,15 @@ module _ (dialect : Dialect) (text : List ℕ) (functions : Signatures) (context
 
   in_condition : (at : ℕ) (body : Tree) (place : Span) (source : Tree) (others : Binders) (condition : Condition) (items : List Declaration) (t u : Ty)
       → BindersType dialect text functions context [] (binder place source others) items
-      → ConditionTypes dialect text functions (opened items ++ inside context) condition t → Types dialect text functions (opened items ++ inside context) body u
+      → ConditionTypes dialect text functions (names_context items ++ inside context) condition t → Types dialect text functions (names_context items ++ inside context) body u
       → (b : Bool) → is_same t bool ≡ b → OfForm (each at body (binder place source others) condition) (cond b (Ok (seq u)) (Err (Mismatch at)))
   in_condition at body place source others condition items t u bs c y true e =
-      given (each_type bs (subst (ConditionTypes dialect text functions (opened items ++ inside context) condition) (same_eq t bool e) c) y)
+      given (each_type bs (subst (ConditionTypes dialect text functions (names_context items ++ inside context) condition) (same_eq t bool e) c) y)
   in_condition at body place source others condition items t u bs c y false e = violated (condition_mismatch bs c y (λ same. let g = same_of same in cc))
 
   of_comprehension : (at : ℕ) (body : Tree) (binders : Binders) (condition : Condition) (items : List Declaration) (t u : Ty)
       → BindersType dialect text functions context [] binders items
-      → ConditionTypes dialect text functions (opened items ++ inside context) condition t → Types dialect text functions (opened items ++ inside context) body u
+      → ConditionTypes dialect text functions (names_context items ++ inside context) condition t → Types dialect text functions (names_context items ++ inside context) body u
       → OfForm (each at body binders condition) (of_each at binders u t)
   of_comprehension at body none_bound condition items t u bs c y = violated (binder_missing bs c y)
   of_comprehension at body (binder place source others) condition items t u bs c y =
@@ -137,7 +137,7 @@ module _ (dialect : Dialect) (text : List ℕ) (functions : Signatures) (context
 
   -- a condition's violation is one of the comprehension
   in_each : (at : ℕ) (body : Tree) (binders : Binders) (condition : Condition) (items : List Declaration) (r : Refusal)
-      → BindersType dialect text functions context [] binders items → ConditionViolates dialect text functions (opened items ++ inside context) condition r
+      → BindersType dialect text functions context [] binders items → ConditionViolates dialect text functions (names_context items ++ inside context) condition r
       → Violates dialect text functions context (each at body binders condition) r
   in_each at body binders always items r bs v = absurd v
   in_each at body binders (only_where condition) items r bs v = condition_violates bs v
@@ -198,8 +198,8 @@ mutual
       (λ t u a b. of_condition dialect text functions context at item condition t u a b (is_same u bool) refl)
   form_sound dialect text functions context (each at body binders condition) =
       then_outcome _ (binders_sound dialect text functions context [] binders) (λ r v. binder_violates v) (λ h. h.0)
-      (λ items bs. both_outcome _ (condition_sound dialect text functions (opened items ++ inside context) condition)
-      (sized_outcome dialect text functions (opened items ++ inside context) body (form_sound dialect text functions (opened items ++ inside context) body))
+      (λ items bs. both_outcome _ (condition_sound dialect text functions (names_context items ++ inside context) condition)
+      (sized_outcome dialect text functions (names_context items ++ inside context) body (form_sound dialect text functions (names_context items ++ inside context) body))
       (λ r v. in_each dialect text functions context at body binders condition items r bs v) (λ h. h.1)
       (λ t c r v. body_violates bs c v) (λ h. h.2)
       (λ t u c b. of_comprehension dialect text functions context at body binders condition items t u bs c b))

@@ -11,7 +11,7 @@ use Rattle.snesl_tree.specs.Spelling.{spelling}
 use Rattle.snesl_tree.specs.Tree.{Tree, Trees, Binders, Condition, integer, truth, name, binary, prefix, call, apply, group, pair as pair_tree, binding, choice, literal, filter, each, none, both, none_bound, binder, only_where, offset, TypeTree, Typed, DeclarationTree, declares_function, ProgramTree}
 use Rattle.snesl_types.specs.declared.clashes.Clash.{Clash as Told}
 use Rattle.snesl_types.specs.declared.clashes.Clash.TheVariants.{Operands, Operand, Arguments, Parameters, Branches, Items, Condition as ConditionTold, Source, Body}
-use Rattle.snesl_types.specs.Contexts.{Context, bound, opened, inside, Signature, Signatures, function_named}
+use Rattle.snesl_types.specs.Contexts.{Context, bound, names_context, inside, Signature, Signatures, function_named}
 use Rattle.snesl_types.specs.Forms.{operator_result, prefix_result, result_of, tabs_streamed}
 use Rattle.snesl_types.specs.Typing.{Types, AllTypes, BindersType}
 use Rattle.snesl_types.specs.Violations.{AreAlike}
@@ -56,21 +56,21 @@ sources none_bound = none
 sources (binder place over others) = both over (sources others)
 
 -- the parts of a form that see the variables that the form sees
-abbrev pub parts : Tree → Trees
-parts (integer at value) = none
-parts (truth at value) = none
-parts (name place) = none
-parts (binary at operator left right) = both left (both right none)
-parts (prefix at operator one) = both one none
-parts (call at function all) = all
-parts (apply place all) = all
-parts (group at inner) = both inner none
-parts (pair_tree at first second) = both first (both second none)
-parts (binding at place value within) = both value none
-parts (choice at cond positive negative) = both cond (both positive (both negative none))
-parts (literal at all) = all
-parts (filter at item cond) = both item (both cond none)
-parts (each at within binders cond) = sources binders
+abbrev pub seen_parts : Tree → Trees
+seen_parts (integer at value) = none
+seen_parts (truth at value) = none
+seen_parts (name place) = none
+seen_parts (binary at operator left right) = both left (both right none)
+seen_parts (prefix at operator one) = both one none
+seen_parts (call at function all) = all
+seen_parts (apply place all) = all
+seen_parts (group at inner) = both inner none
+seen_parts (pair_tree at first second) = both first (both second none)
+seen_parts (binding at place value within) = both value none
+seen_parts (choice at cond positive negative) = both cond (both positive (both negative none))
+seen_parts (literal at all) = all
+seen_parts (filter at item cond) = both item (both cond none)
+seen_parts (each at within binders cond) = sources binders
 
 -- by the rule of its form the expression has no type, although its parts have these
 pub data Misfits (dialect : Dialect) (text : List ℕ) (functions : Signatures) (context : Context) : Tree → Clash → Type 0 where
@@ -100,7 +100,7 @@ pub data Misfits (dialect : Dialect) (text : List ℕ) (functions : Signatures) 
   -- the condition sees the binders' names, and the outer ones as from inside
   condition_misfits : {at : ℕ} {within cond : Tree} {binders : Binders} {all : List Declaration} {t : Ty}
       → BindersType dialect text functions context [] binders all
-      → Types dialect text functions (opened all ++ inside context) cond t → ¬ (t ≡ bool)
+      → Types dialect text functions (names_context all ++ inside context) cond t → ¬ (t ≡ bool)
       → Misfits dialect text functions context (each at within binders (only_where cond)) (condition t)
 
 -- the binder whose name stands at the offset goes over what is no sequence, and has this type
@@ -120,7 +120,7 @@ mutual
     in_binder : {context : Context} {place : ℕ} {within : Tree} {binders : Binders} {cond : Condition}
         → SourceMisfits dialect text functions context at binders clash
         → Clashes dialect text functions at clash context (each place within binders cond)
-    in_part : {context : Context} {tree : Tree} → AnyClashes dialect text functions at clash context (parts tree)
+    in_part : {context : Context} {tree : Tree} → AnyClashes dialect text functions at clash context (seen_parts tree)
         → Clashes dialect text functions at clash context tree
     -- the body of a `let` sees its name
     in_bound : {context : Context} {start : ℕ} {place : Span} {value within : Tree} {t : Ty}
@@ -130,11 +130,11 @@ mutual
     -- a comprehension's condition and its body see the binders' names, and the outer ones as from inside
     in_condition : {context : Context} {place : ℕ} {within cond : Tree} {binders : Binders} {all : List Declaration}
         → BindersType dialect text functions context [] binders all
-        → Clashes dialect text functions at clash (opened all ++ inside context) cond
+        → Clashes dialect text functions at clash (names_context all ++ inside context) cond
         → Clashes dialect text functions at clash context (each place within binders (only_where cond))
     in_body : {context : Context} {place : ℕ} {within : Tree} {binders : Binders} {cond : Condition} {all : List Declaration}
         → BindersType dialect text functions context [] binders all
-        → Clashes dialect text functions at clash (opened all ++ inside context) within
+        → Clashes dialect text functions at clash (names_context all ++ inside context) within
         → Clashes dialect text functions at clash context (each place within binders cond)
 
   -- one of these does
@@ -148,11 +148,11 @@ mutual
 pub data FunctionClashes (dialect : Dialect) (text : List ℕ) (functions : Signatures) (at : ℕ) : Span → List Typed → TypeTree → Tree → Clash → Type 0 where
   within_body : {place : Span} {written : List Typed} {result : TypeTree} {within : Tree} {names : List Declaration} {clash : Clash}
       → NamesType text [] written names
-      → Clashes dialect text functions at clash (opened names) within
+      → Clashes dialect text functions at clash (names_context names) within
       → FunctionClashes dialect text functions at place written result within clash
   body_misfits : {place : Span} {written : List Typed} {result : TypeTree} {within : Tree} {names : List Declaration} {t u : Ty}
       → place.at ≡ at → NamesType text [] written names → written_type result ≡ Ok t
-      → Types dialect text functions (opened names) within u → ¬ (u ≡ t)
+      → Types dialect text functions (names_context names) within u → ¬ (u ≡ t)
       → FunctionClashes dialect text functions at place written result within (body u t)
 
 -- these types clash at the offset: in a function behind what was declared before it, or in the final expression
@@ -164,7 +164,7 @@ pub data ProgramClashes (text : List ℕ) (program : ProgramTree) (at : ℕ) (cl
       → ProgramClashes text program at clash
   in_expression : {declared : Declared}
       → DeclarationsType program.dialect text nothing_declared program.declarations declared
-      → Clashes program.dialect text declared.functions at clash (opened declared.inputs) program.expression
+      → Clashes program.dialect text declared.functions at clash (names_context declared.inputs) program.expression
       → ProgramClashes text program at clash
 
 -- what was found, if anything, is this

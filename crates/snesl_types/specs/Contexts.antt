@@ -21,8 +21,8 @@ abbrev pub bound : List ℕ → Ty → Entry
 bound bytes t = record { bytes = bytes; binding = open_to t }
 
 -- names with their types as a context: inputs, parameters, or the binders of one comprehension
-abbrev pub opened : List Declaration → Context
-opened = map (λ declaration. bound declaration.0 declaration.1)
+abbrev pub names_context : List Declaration → Context
+names_context = map (λ declaration. bound declaration.0 declaration.1)
 
 -- the innermost binding of a name
 abbrev pub found : List ℕ → Context → Option Binding

@@ -10,7 +10,7 @@ use Rattle.snesl_tree.specs.Tree.{Tree, Trees, Binders, Condition, always, only_
 use Rattle.snesl_tree.specs.declared.span.Span.{Span}
 use Rattle.snesl_types.specs.declared.names.Scope.{Scope}
 use Rattle.snesl_types.specs.Names.{context_of, signatures_in}
-use Rattle.snesl_types.specs.Contexts.{Context, opened, Signatures}
+use Rattle.snesl_types.specs.Contexts.{Context, names_context, Signatures}
 use Rattle.snesl_types.specs.Programs.{Declared, written_type}
 use Rattle.snesl_types.specs.Typing.{Types, AllTypes, BindersType}
 use Rattle.snesl_types.specs.Clashes.{Clash, source, body, Misfits, SourceMisfits, Clashes, AnyClashes, ProgramClashes}
@@ -24,8 +24,8 @@ IsMismatch _ = ⊥
 abbrev pub functions_in : Scope → Signatures
 functions_in scope = signatures_in scope.text.now scope.functions.now
 
-abbrev pub names_in : Scope → Context
-names_in scope = context_of scope.text.now scope.names.now
+abbrev pub context_names : Scope → Context
+context_names scope = context_of scope.text.now scope.names.now
 
 -- a body's type, and another one that is written
 abbrev pub BodyMisfits : Dialect → List ℕ → Signatures → Context → Tree → TypeTree → Clash → Type 0
@@ -33,7 +33,7 @@ BodyMisfits dialect text functions context tree written clash =
     (t : Ty) × (u : Ty) × (clash ≡ body u t) × (written_type written ≡ Ok t) × Types dialect text functions context tree u × ¬ (u ≡ t)
 
 abbrev pub IsOfAnotherType : Scope → Tree → TypeTree → Clash → Type 0
-IsOfAnotherType scope = BodyMisfits scope.dialect scope.text.now (functions_in scope) (names_in scope)
+IsOfAnotherType scope = BodyMisfits scope.dialect scope.text.now (functions_in scope) (context_names scope)
 
 -- whether it is a sequence's type
 abbrev pub is_sequence : Ty → Bool
@@ -42,34 +42,34 @@ is_sequence _ = false
 
 -- typing in a scope
 abbrev pub TypesIn : Scope → Tree → Ty → Type 0
-TypesIn scope = Types scope.dialect scope.text.now (functions_in scope) (names_in scope)
+TypesIn scope = Types scope.dialect scope.text.now (functions_in scope) (context_names scope)
 
 abbrev pub AllTypeIn : Scope → Trees → List Ty → Type 0
-AllTypeIn scope = AllTypes scope.dialect scope.text.now (functions_in scope) (names_in scope)
+AllTypeIn scope = AllTypes scope.dialect scope.text.now (functions_in scope) (context_names scope)
 
 abbrev pub BindersTypeIn : Scope → Binders → List Declaration → Type 0
-BindersTypeIn scope = BindersType scope.dialect scope.text.now (functions_in scope) (names_in scope) []
+BindersTypeIn scope = BindersType scope.dialect scope.text.now (functions_in scope) (context_names scope) []
 
 -- what does not fit in a scope
 abbrev pub MisfitsIn : Scope → Tree → Clash → Type 0
-MisfitsIn scope = Misfits scope.dialect scope.text.now (functions_in scope) (names_in scope)
+MisfitsIn scope = Misfits scope.dialect scope.text.now (functions_in scope) (context_names scope)
 
 -- in a comprehension of these binders and this condition
 abbrev pub ConditionMisfitsIn : Scope → Binders → Condition → Clash → Type 0
 ConditionMisfitsIn scope binders cond clash = (at : ℕ) (within : Tree) → MisfitsIn scope (each at within binders cond) clash
 
 abbrev pub SourceMisfitsIn : Scope → ℕ → Binders → Clash → Type 0
-SourceMisfitsIn scope = SourceMisfits scope.dialect scope.text.now (functions_in scope) (names_in scope)
+SourceMisfitsIn scope = SourceMisfits scope.dialect scope.text.now (functions_in scope) (context_names scope)
 
 -- it has this type, which is no sequence's
 abbrev pub IsNoSequence : Scope → Tree → Clash → Type 0
 IsNoSequence scope tree clash = (t : Ty) × (clash ≡ source t) × TypesIn scope tree t × ((item : Ty) → ¬ (t ≡ seq item))
 
 abbrev pub ClashesIn : Scope → ℕ → Tree → Clash → Type 0
-ClashesIn scope at tree clash = Clashes scope.dialect scope.text.now (functions_in scope) at clash (names_in scope) tree
+ClashesIn scope at tree clash = Clashes scope.dialect scope.text.now (functions_in scope) at clash (context_names scope) tree
 
 abbrev pub AnyClashesIn : Scope → ℕ → Trees → Clash → Type 0
-AnyClashesIn scope at trees clash = AnyClashes scope.dialect scope.text.now (functions_in scope) at clash (names_in scope) trees
+AnyClashesIn scope at trees clash = AnyClashes scope.dialect scope.text.now (functions_in scope) at clash (context_names scope) trees
 
 -- there is a condition, and types clash in it
 abbrev pub ConditionClashesIn : Scope → ℕ → Condition → Clash → Type 0
@@ -82,7 +82,7 @@ BoundClashesIn scope at place value within clash = (start : ℕ) → ClashesIn s
 
 -- types clash in an expression that sees what was declared
 abbrev pub ExpressionClashes : Dialect → List ℕ → Declared → ℕ → Tree → Clash → Type 0
-ExpressionClashes dialect text declared at tree clash = Clashes dialect text declared.functions at clash (opened declared.inputs) tree
+ExpressionClashes dialect text declared at tree clash = Clashes dialect text declared.functions at clash (names_context declared.inputs) tree
 
 -- types clash in these declarations, whatever the final expression is
 abbrev pub DeclarationClashes : Dialect → List ℕ → List DeclarationTree → ℕ → Clash → Type 0

@@ -14,21 +14,21 @@ use Rattle.snesl_types.specs.declared.names.Meaning.{Meaning}
 use Rattle.snesl_types.specs.declared.names.Meaning.TheVariants.{Unbound, Shut, Open}
 use Rattle.snesl_types.specs.declared.names.Function.{Function}
 use Rattle.snesl_types.specs.declared.names.Scope.{Scope}
-use Rattle.snesl_types.specs.Contexts.{Binding, open_to, shut, Context, bound, opened, inside, shut_if_streamed, Signature, Signatures}
+use Rattle.snesl_types.specs.Contexts.{Binding, open_to, shut, Context, bound, names_context, inside, shut_if_streamed, Signature, Signatures}
 use Rattle.snesl_types.specs.Sizes.{BodySizes}
 use Rattle.snesl_types.specs.Verdicts.{verdict, rule, verdicts, binders_verdict, condition_verdict}
 
 -- the context that the linked names hold
 abbrev pub context_of : List ℕ → Names → Context
-context_of text (Declared names) = opened (declared names.now)
+context_of text (Declared names) = names_context (declared names.now)
 context_of text (Bound' name ty p outer) = bound (spelling text name) (ty_of ty.now) ∷ context_of text outer
-context_of text (Inside' binders p outer) = opened (declared binders.now) ++ inside (context_of text outer)
+context_of text (Inside' binders p outer) = names_context (declared binders.now) ++ inside (context_of text outer)
 
 -- the binding that an answer of the look-up holds
-abbrev pub meaning_of : Meaning → Option Binding
-meaning_of Unbound = None
-meaning_of Shut = Some shut
-meaning_of (Open ty) = Some (open_to (ty_of ty.now))
+abbrev pub found_binding : Meaning → Option Binding
+found_binding Unbound = None
+found_binding Shut = Some shut
+found_binding (Open ty) = Some (open_to (ty_of ty.now))
 
 -- a binding as it is seen past the edge of a comprehension, or before it
 abbrev pub seen : Bool → Option Binding → Option Binding

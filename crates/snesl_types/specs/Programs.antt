@@ -8,7 +8,7 @@ use Rattle.snesl_data.specs.Types.{Ty, int, bool, pair, vec, seq, is_concrete}
 use Rattle.snesl_tree.specs.declared.span.Span.{Span}
 use Rattle.snesl_tree.specs.Spelling.{spelling}
 use Rattle.snesl_tree.specs.Tree.{Tree, TypeTree, int_type, bool_type, pair_type, vector_type, sequence_type, Typed, DeclarationTree, declares_input, declares_function, ProgramTree}
-use Rattle.snesl_types.specs.Contexts.{opened, type_in, Signature, Signatures, function_named}
+use Rattle.snesl_types.specs.Contexts.{names_context, type_in, Signature, Signatures, function_named}
 use Rattle.snesl_types.specs.Sizes.{BodySizes, is_small, size, greatest_size, greatest_count}
 use Rattle.snesl_types.specs.Ranges.{ProgramInRange}
 use Rattle.snesl_types.specs.Typing.{Types}
@@ -52,8 +52,8 @@ with_function text declared signature body = record {
 }
 
 -- a name with its type
-abbrev pub named : List ℕ → Typed → Ty → Declaration
-named text typed t = (spelling text typed.place, t)
+abbrev pub typed_name : List ℕ → Typed → Ty → Declaration
+typed_name text typed t = (spelling text typed.place, t)
 
 -- after these declared names, further ones give all of these: an input, or parameters
 pub data NamesType (text : List ℕ) : List Declaration → List Typed → List Declaration → Type 0 where
@@ -61,7 +61,7 @@ pub data NamesType (text : List ℕ) : List Declaration → List Typed → List 
   more_names : {earlier all : List Declaration} {first : Typed} {others : List Typed} {t : Ty}
       → type_in (spelling text first.place) earlier ≡ None
       → written_type first.written ≡ Ok t
-      → NamesType text (earlier ++ (named text first t ∷ [])) others all
+      → NamesType text (earlier ++ (typed_name text first t ∷ [])) others all
       → NamesType text earlier (first ∷ others) all
 
 -- the first violation in them: of each first its name, then its type
@@ -77,7 +77,7 @@ pub data NamesViolate (text : List ℕ) : List Declaration → List Typed → Re
   later_names_violate : {earlier : List Declaration} {first : Typed} {others : List Typed} {t : Ty} {refusal : Refusal}
       → type_in (spelling text first.place) earlier ≡ None
       → written_type first.written ≡ Ok t
-      → NamesViolate text (earlier ++ (named text first t ∷ [])) others refusal
+      → NamesViolate text (earlier ++ (typed_name text first t ∷ [])) others refusal
       → NamesViolate text earlier (first ∷ others) refusal
 
 -- what a call sees of a function of this name
@@ -94,7 +94,7 @@ pub data FunctionTypes (dialect : Dialect) (text : List ℕ) (functions : Signat
       → function_named (spelling text place) functions ≡ None
       → NamesType text [] written parameters
       → written_type result ≡ Ok t
-      → Types dialect text functions (opened parameters) body t
+      → Types dialect text functions (names_context parameters) body t
       → FunctionTypes dialect text functions place written result body (signature_of text place parameters t)
 
 -- the first violation in a function: its name, its parameters, its result's type, its body, and that the body has this type
@@ -115,14 +115,14 @@ pub data FunctionViolates (dialect : Dialect) (text : List ℕ) (functions : Sig
       → function_named (spelling text place) functions ≡ None
       → NamesType text [] written parameters
       → written_type result ≡ Ok t
-      → Violates dialect text functions (opened parameters) body refusal
+      → Violates dialect text functions (names_context parameters) body refusal
       → FunctionViolates dialect text functions place written result body refusal
   -- a body of another type than the declared one
   function_mismatch : {place : Span} {written : List Typed} {result : TypeTree} {body : Tree} {parameters : List Declaration} {t u : Ty}
       → function_named (spelling text place) functions ≡ None
       → NamesType text [] written parameters
       → written_type result ≡ Ok t
-      → Types dialect text functions (opened parameters) body u
+      → Types dialect text functions (names_context parameters) body u
       → ¬ (u ≡ t)
       → FunctionViolates dialect text functions place written result body (Mismatch place.at)
 
@@ -177,7 +177,7 @@ nothing_declared = record { inputs = []; functions = []; sizes = [] }
 pub record ProgramTypes (text : List ℕ) (program : ProgramTree) (declared : Declared) (t : Ty) : Type 0 where
   pub few : are_few program.declarations ≡ true
   pub declarations : DeclarationsType program.dialect text nothing_declared program.declarations declared
-  pub expression : Types program.dialect text declared.functions (opened declared.inputs) program.expression t
+  pub expression : Types program.dialect text declared.functions (names_context declared.inputs) program.expression t
   pub size : size text declared.sizes program.expression ≤ greatest_size
 
 -- the program has these inputs and this type
@@ -192,11 +192,11 @@ pub data ProgramViolates (text : List ℕ) (program : ProgramTree) : Refusal →
       → ProgramViolates text program refusal
   expression_violates : {declared : Declared} {refusal : Refusal} → are_few program.declarations ≡ true
       → DeclarationsType program.dialect text nothing_declared program.declarations declared
-      → Violates program.dialect text declared.functions (opened declared.inputs) program.expression refusal
+      → Violates program.dialect text declared.functions (names_context declared.inputs) program.expression refusal
       → ProgramViolates text program refusal
   big_expression : {declared : Declared} {t : Ty} → are_few program.declarations ≡ true
       → DeclarationsType program.dialect text nothing_declared program.declarations declared
-      → Types program.dialect text declared.functions (opened declared.inputs) program.expression t
+      → Types program.dialect text declared.functions (names_context declared.inputs) program.expression t
       → greatest_size < size text declared.sizes program.expression
       → ProgramViolates text program TooBig
 

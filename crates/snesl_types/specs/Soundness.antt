@@ -6,7 +6,7 @@ use Rattle.snesl_data.specs.declared.fault.Fault.{Fault}
 use Rattle.snesl_data.specs.declared.fault.FaultKind.TheVariants.{Shape}
 use Rattle.snesl_data.specs.Types.{Ty}
 use Rattle.snesl_data.specs.Values.{Value, value_of, HasType}
-use Rattle.snesl_values.specs.Inputs.{Environment, Fits as FitsInputs}
+use Rattle.snesl_values.specs.Inputs.{Environment, FitDeclarations}
 use Rattle.snesl_tree.specs.Tree.{Tree, ProgramTree}
 use Rattle.snesl_evaluation.specs.Answer.{Answer, gives, faults}
 use Rattle.snesl_evaluation.specs.Eval.{Calls, eval, program_value}
@@ -15,16 +15,16 @@ use Rattle.snesl_types.specs.Typing.{Types}
 use Rattle.snesl_types.specs.Programs.{Declared, ProgramTypes}
 
 -- the value is one of the binding's type; a shut name may have any value
-abbrev pub Fits : Dialect → Value → Binding → Type 0
-Fits dialect value (open_to t) = HasType dialect value t
-Fits dialect value shut = Unit {0}
+abbrev pub FitsBinding : Dialect → Value → Binding → Type 0
+FitsBinding dialect value (open_to t) = HasType dialect value t
+FitsBinding dialect value shut = Unit {0}
 
 -- the names of the context have fitting values, in the same order; further names may follow
 abbrev pub Holds : Dialect → Context → Environment → Type 0
 Holds dialect [] environment = Unit {0}
 Holds dialect (entry ∷ context) [] = ⊥
 Holds dialect (entry ∷ context) ((bytes, value) ∷ environment) =
-    (entry.bytes ≡ bytes) × Fits dialect value entry.binding × Holds dialect context environment
+    (entry.bytes ≡ bytes) × FitsBinding dialect value entry.binding × Holds dialect context environment
 
 -- the values are of these types, in order
 abbrev pub HaveTypes : Dialect → List Value → List Ty → Type 0
@@ -55,7 +55,7 @@ TypedExpressionsAreSound =
 abbrev pub TypedProgramsAreSound : Type 0
 TypedProgramsAreSound =
     (text : List ℕ) (program : ProgramTree) (declared : Declared) (t : Ty) (environment : Environment)
-    → ProgramTypes text program declared t → FitsInputs program.dialect declared.inputs environment
+    → ProgramTypes text program declared t → FitDeclarations program.dialect declared.inputs environment
     → Safe (λ value. HasType program.dialect value t) (program_value text program environment)
 
 -- the datum is of the type, or the fault is one that types cannot rule out

@@ -10,7 +10,7 @@ use Rattle.snesl_tree.specs.declared.operator.Prefix.{Prefix}
 use Rattle.snesl_tree.specs.declared.span.Span.{Span}
 use Rattle.snesl_tree.specs.Spelling.{spelling}
 use Rattle.snesl_tree.specs.Tree.{Tree, Trees, Binders, Condition, integer, truth, name, binary, prefix, call, apply, group, pair as pair_tree, binding, choice, literal, filter, each, none, both, none_bound, binder, always, only_where}
-use Rattle.snesl_types.specs.Contexts.{open_to, Context, bound, opened, found, inside, type_in, Signature, Signatures, function_named}
+use Rattle.snesl_types.specs.Contexts.{open_to, Context, bound, names_context, found, inside, type_in, Signature, Signatures, function_named}
 use Rattle.snesl_types.specs.Forms.{operator_result, prefix_result, result_of}
 use Rattle.snesl_types.specs.Sizes.{is_small}
 
@@ -70,8 +70,8 @@ mutual
     each_type : {context : Context} {at : ℕ} {body : Tree} {place : Span} {source : Tree} {others : Binders} {condition : Condition}
         {items : List Declaration} {t : Ty}
         → BindersType dialect text functions context [] (binder place source others) items
-        → ConditionTypes dialect text functions (opened items ++ inside context) condition bool
-        → Types dialect text functions (opened items ++ inside context) body t
+        → ConditionTypes dialect text functions (names_context items ++ inside context) condition bool
+        → Types dialect text functions (names_context items ++ inside context) body t
         → Gives dialect text functions context (each at body (binder place source others) condition) (seq t)
 
   -- these arguments, or items, have these types

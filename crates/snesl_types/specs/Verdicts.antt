@@ -11,7 +11,7 @@ use Rattle.snesl_tree.specs.declared.operator.Builtin.{Builtin}
 use Rattle.snesl_tree.specs.declared.span.Span.{Span}
 use Rattle.snesl_tree.specs.Spelling.{spelling}
 use Rattle.snesl_tree.specs.Tree.{Tree, Trees, Binders, Condition, integer, truth, name, binary, prefix, call, apply, group, pair as pair_tree, binding, choice, literal, filter, each, none, both, none_bound, binder, always, only_where, TypeTree, Typed, DeclarationTree, declares_input, declares_function, ProgramTree}
-use Rattle.snesl_types.specs.Contexts.{Binding, open_to, shut, Context, bound, opened, found, inside, type_in, Signature, Signatures, function_named}
+use Rattle.snesl_types.specs.Contexts.{Binding, open_to, shut, Context, bound, names_context, found, inside, type_in, Signature, Signatures, function_named}
 use Rattle.snesl_types.specs.Forms.{operator_result, prefix_result, result_of, tabs_streamed}
 use Rattle.snesl_types.specs.Sizes.{size, greatest_size}
 use Rattle.snesl_types.specs.Programs.{Declared, and_then, small_type, written_type, with_inputs, signature_of, are_few, nothing_declared}
@@ -108,8 +108,8 @@ abbrev mutual
       and_then (both_of (sized (rule dialect text functions context item)) (sized (rule dialect text functions context condition))) (λ ts. of_filter at ts.0 ts.1)
   rule dialect text functions context (each at body binders condition) =
       and_then (binders_verdict dialect text functions context [] binders) (λ items.
-      and_then (both_of (condition_verdict dialect text functions (opened items ++ inside context) condition)
-      (sized (rule dialect text functions (opened items ++ inside context) body))) (λ ts. of_each at binders ts.1 ts.0))
+      and_then (both_of (condition_verdict dialect text functions (names_context items ++ inside context) condition)
+      (sized (rule dialect text functions (names_context items ++ inside context) body))) (λ ts. of_each at binders ts.1 ts.0))
 
   -- the types of arguments or items behind earlier ones
   pub verdicts : (dialect : Dialect) (text : List ℕ) (functions : Signatures) → Context → List Ty → Trees → Result (List Ty) Refusal
@@ -160,7 +160,7 @@ function_verdict dialect text functions place parameters result body =
     and_then (new_name text place (function_named (spelling text place) functions)) (λ bytes.
     and_then (names_verdict text [] parameters) (λ declarations.
     and_then (written_type result) (λ t.
-    and_then (verdict dialect text functions (opened declarations) body) (of_body place (signature_of text place declarations t)))))
+    and_then (verdict dialect text functions (names_context declarations) body) (of_body place (signature_of text place declarations t)))))
 
 -- a size up to one more than the greatest, which stands for all greater ones
 abbrev pub capped : ℕ → ℕ
@@ -192,7 +192,7 @@ of_expression n declared t = if nat_le n greatest_size then Ok (declared, t) els
 
 abbrev pub expression_verdict : Dialect → List ℕ → Declared → Tree → Result (Declared × Ty) Refusal
 expression_verdict dialect text declared tree =
-    and_then (verdict dialect text declared.functions (opened declared.inputs) tree) (of_expression (capped (size text declared.sizes tree)) declared)
+    and_then (verdict dialect text declared.functions (names_context declared.inputs) tree) (of_expression (capped (size text declared.sizes tree)) declared)
 
 abbrev pub program_verdict : List ℕ → ProgramTree → Result (Declared × Ty) Refusal
 program_verdict text program =
@@ -201,6 +201,6 @@ program_verdict text program =
     else Err TooBig
 
 -- what the code answers is the verdict, unless memory ran out
-abbrev pub IsAnswer : {A B : Type 0} → (A → B) → Result B Refusal → Result A Refusal → Type 0
-IsAnswer view verdict (Ok x) = verdict ≡ Ok (view x)
-IsAnswer view verdict (Err refusal) = (refusal ≡ NoMemory) ⊎ (verdict ≡ Err refusal)
+abbrev pub IsVerdict : {A B : Type 0} → (A → B) → Result B Refusal → Result A Refusal → Type 0
+IsVerdict view verdict (Ok x) = verdict ≡ Ok (view x)
+IsVerdict view verdict (Err refusal) = (refusal ≡ NoMemory) ⊎ (verdict ≡ Err refusal)

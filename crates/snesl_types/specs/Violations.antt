@@ -11,7 +11,7 @@ use Rattle.snesl_tree.specs.declared.operator.Prefix.{Prefix}
 use Rattle.snesl_tree.specs.declared.span.Span.{Span}
 use Rattle.snesl_tree.specs.Spelling.{spelling}
 use Rattle.snesl_tree.specs.Tree.{Tree, Trees, Binders, Condition, name, binary, prefix, call, apply, group, pair as pair_tree, binding, choice, literal, filter, each, both, none_bound, binder, only_where}
-use Rattle.snesl_types.specs.Contexts.{shut, Context, bound, opened, found, inside, type_in, Signature, Signatures, function_named}
+use Rattle.snesl_types.specs.Contexts.{shut, Context, bound, names_context, found, inside, type_in, Signature, Signatures, function_named}
 use Rattle.snesl_types.specs.Forms.{operator_result, prefix_result, result_of, tabs_streamed}
 use Rattle.snesl_types.specs.Sizes.{is_small}
 use Rattle.snesl_types.specs.Typing.{AllAre, Types, Gives, AllTypes, BindersType, ConditionTypes}
@@ -128,25 +128,25 @@ mutual
         → Violates dialect text functions context (each at body binders condition) refusal
     condition_violates : {context : Context} {at : ℕ} {body : Tree} {binders : Binders} {condition : Tree} {items : List Declaration} {refusal : Refusal}
         → BindersType dialect text functions context [] binders items
-        → Violates dialect text functions (opened items ++ inside context) condition refusal
+        → Violates dialect text functions (names_context items ++ inside context) condition refusal
         → Violates dialect text functions context (each at body binders (only_where condition)) refusal
     body_violates : {context : Context} {at : ℕ} {body : Tree} {binders : Binders} {condition : Condition} {items : List Declaration} {t : Ty} {refusal : Refusal}
         → BindersType dialect text functions context [] binders items
-        → ConditionTypes dialect text functions (opened items ++ inside context) condition t
-        → Violates dialect text functions (opened items ++ inside context) body refusal
+        → ConditionTypes dialect text functions (names_context items ++ inside context) condition t
+        → Violates dialect text functions (names_context items ++ inside context) body refusal
         → Violates dialect text functions context (each at body binders condition) refusal
     -- a condition that is no truth value
     condition_mismatch : {context : Context} {at : ℕ} {body : Tree} {binders : Binders} {condition : Condition} {items : List Declaration} {t u : Ty}
         → BindersType dialect text functions context [] binders items
-        → ConditionTypes dialect text functions (opened items ++ inside context) condition t
-        → Types dialect text functions (opened items ++ inside context) body u
+        → ConditionTypes dialect text functions (names_context items ++ inside context) condition t
+        → Types dialect text functions (names_context items ++ inside context) body u
         → ¬ (t ≡ bool)
         → Violates dialect text functions context (each at body binders condition) (Mismatch at)
     -- a comprehension without a binder
     binder_missing : {context : Context} {at : ℕ} {body : Tree} {condition : Condition} {items : List Declaration} {t u : Ty}
         → BindersType dialect text functions context [] none_bound items
-        → ConditionTypes dialect text functions (opened items ++ inside context) condition t
-        → Types dialect text functions (opened items ++ inside context) body u
+        → ConditionTypes dialect text functions (names_context items ++ inside context) condition t
+        → Types dialect text functions (names_context items ++ inside context) body u
         → Violates dialect text functions context (each at body none_bound condition) (Mismatch at)
 
   -- the first violation in arguments, or items

@@ -4,7 +4,7 @@ ghost use Rattle.std.specs.Prelude.{◌≡◌, IfOk, IfErr};
 ghost use Rattle.snesl_grammar.specs.View.{program_of as tree_of_program};
 ghost use Rattle.snesl_types.specs.Programs.{HasTyping, HaveOneTyping, HaveSomeTyping, IsFirstViolation, IsMemoryIfTyped};
 ghost use Rattle.snesl_types.specs.Typed.{program_of, typed_inputs, typed_ty};
-ghost use Rattle.snesl_types.specs.Verdicts.{IsAnswer, program_verdict, expression_verdict};
+ghost use Rattle.snesl_types.specs.Verdicts.{IsVerdict, program_verdict, expression_verdict};
 ghost use Rattle.snesl_types.specs.Views.{declared_in, typing_in};
 ghost use Rattle.snesl_tree.specs.View.{tree_of};
 ghost use Rattle.snesl_data.specs.Types.{ty_of};
@@ -49,7 +49,7 @@ pub fn check(alloc: Global, program: &Program) -> Result<Typed<'_>, Refusal>
 
 // What a program declares, and its type.
 fn typing_of(alloc: Global, program: &Program) -> Result<(Declarations, Ty), Refusal>
-    ensures { IsAnswer (typing_in program.now.text.items)
+    ensures { IsVerdict (typing_in program.now.text.items)
         (program_verdict program.now.text.items (tree_of_program program.now)) result }
 {
     if !few(&program.declarations) {
@@ -79,7 +79,7 @@ fn final_type(
     declarations: &Declarations,
     expr: &Expr,
 ) -> Result<Ty, Refusal>
-    ensures { IsAnswer (λ ty. (declared_in text.now declarations.now, ty_of ty))
+    ensures { IsVerdict (λ ty. (declared_in text.now declarations.now, ty_of ty))
         (expression_verdict dialect text.now (declared_in text.now declarations.now)
         (tree_of expr.now)) result }
 {

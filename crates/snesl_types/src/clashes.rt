@@ -6,7 +6,7 @@ ghost use Rattle.snesl_tree.specs.Tree.{both, none};
 ghost use Rattle.snesl_tree.specs.View.{tree_of, trees_of, binders_of, type_tree, typed_of, declaration_of as declaration_tree};
 ghost use Rattle.snesl_grammar.specs.Spelled.{program_with};
 ghost use Rattle.snesl_types.specs.Views.{declared_in};
-ghost use Rattle.snesl_types.specs.Clashes.{IsFound, parts, sources, FunctionClashes, ProgramClashes};
+ghost use Rattle.snesl_types.specs.Clashes.{IsFound, seen_parts, sources, FunctionClashes, ProgramClashes};
 ghost use Rattle.snesl_types.specs.Misfitting.{ClashesIn, AnyClashesIn, ConditionClashesIn, BoundClashesIn, ExpressionClashes, DeclarationClashes, IsOfAnotherType};
 ghost use Rattle.snesl_types.specs.Names.{condition_in, signatures_in};
 
@@ -261,7 +261,7 @@ fn part_clash(
     at: usize,
     expr: &Expr,
 ) -> Result<Option<Clash>, AllocError>
-    ensures { IsFound (AnyClashesIn scope.now at (parts (tree_of expr.now))) result }
+    ensures { IsFound (AnyClashesIn scope.now at (seen_parts (tree_of expr.now))) result }
 {
     match expr {
         Expr::Integer { .. } | Expr::Truth { .. } | Expr::Name(_) => Ok(None),

@@ -9,7 +9,7 @@ ghost use Rattle.snesl_types.specs.Contexts.{function_named as function_among};
 ghost use Rattle.snesl_types.specs.Names.{signature_in, signatures_in, sizes_in};
 ghost use Rattle.snesl_types.specs.Programs.{written_type, are_few, nothing_declared};
 ghost use Rattle.snesl_types.specs.Sizes.{size};
-ghost use Rattle.snesl_types.specs.Verdicts.{IsAnswer, name_verdict, names_verdict, function_verdict, declarations_verdict, capped};
+ghost use Rattle.snesl_types.specs.Verdicts.{IsVerdict, name_verdict, names_verdict, function_verdict, declarations_verdict, capped};
 ghost use Rattle.snesl_types.specs.Views.{declared_in};
 
 use crate::expressions::type_of;
@@ -62,7 +62,7 @@ pub(crate) fn declarations_of(
     text: &[u8],
     declarations: &[Declaration],
 ) -> Result<Declarations, Refusal>
-    ensures { IsAnswer (declared_in text.now)
+    ensures { IsVerdict (declared_in text.now)
         (declarations_verdict dialect text.now nothing_declared
         (map declaration_tree declarations.now)) result }
 {
@@ -91,7 +91,7 @@ fn function_of(
     functions: &[Function],
     written: &WrittenFunction,
 ) -> Result<Function, Refusal>
-    ensures signature { IsAnswer (signature_in text.now)
+    ensures signature { IsVerdict (signature_in text.now)
         (function_verdict dialect text.now (signatures_in text.now functions.now) written.now.name
         (map typed_of written.now.parameters.items) (type_tree written.now.result)
         (tree_of written.now.body)) result }
@@ -130,7 +130,7 @@ pub(crate) fn parameters_of(
     text: &[u8],
     written: &[Typing],
 ) -> Result<Vec<(Vec<u8>, Ty)>, Refusal>
-    ensures { IsAnswer (λ names. declared names.items)
+    ensures { IsVerdict (λ names. declared names.items)
         (names_verdict text.now [] (map typed_of written.now)) result }
 {
     let mut names = Vec::new(alloc);
@@ -148,7 +148,7 @@ fn named(
     earlier: &[(Vec<u8>, Ty)],
     typing: &Typing,
 ) -> Result<(Vec<u8>, Ty), Refusal>
-    ensures { IsAnswer declaration_of (name_verdict text.now (declared earlier.now)
+    ensures { IsVerdict declaration_of (name_verdict text.now (declared earlier.now)
         (typed_of typing.now)) result }
 {
     let bytes = typing.name.spelled(text);
@@ -162,7 +162,7 @@ fn named(
 
 // The type that a written one means.
 pub(crate) fn type_written(alloc: Global, written: &WrittenType) -> Result<Ty, Refusal>
-    ensures { IsAnswer ty_of (written_type (type_tree written.now)) result }
+    ensures { IsVerdict ty_of (written_type (type_tree written.now)) result }
 {
     match written {
         WrittenType::Int { .. } => Ok(Ty::Int),

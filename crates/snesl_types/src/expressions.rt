@@ -7,7 +7,7 @@ ghost use Rattle.snesl_tree.specs.Spelling.{spelling};
 ghost use Rattle.snesl_tree.specs.Tree.{binding, choice};
 ghost use Rattle.snesl_tree.specs.View.{tree_of, trees_of, binders_of};
 ghost use Rattle.snesl_types.specs.Contexts.{found, function_named as function_among};
-ghost use Rattle.snesl_types.specs.Verdicts.{IsAnswer, both_of, of_binding, of_function, of_binder};
+ghost use Rattle.snesl_types.specs.Verdicts.{IsVerdict, both_of, of_binding, of_function, of_binder};
 ghost use Rattle.snesl_types.specs.Names.{context_of, signatures_in, typed_in, ruled_in, all_typed_in, binders_typed_in, condition_typed_in, condition_in};
 
 use crate::builtins::builtin_type;
@@ -23,7 +23,7 @@ use std::alloc::Global;
 // The type of an expression.
 #[cycle(typing)]
 pub(crate) fn type_of(alloc: Global, scope: &Scope<'_>, expr: &Expr) -> Result<Ty, Refusal>
-    ensures { IsAnswer ty_of (typed_in scope.now (tree_of expr.now)) result }
+    ensures { IsVerdict ty_of (typed_in scope.now (tree_of expr.now)) result }
 {
     let ty = type_by_rule(alloc, scope, expr)?;
     small(ty)
@@ -32,7 +32,7 @@ pub(crate) fn type_of(alloc: Global, scope: &Scope<'_>, expr: &Expr) -> Result<T
 // The type that the rule of its form gives to an expression, whatever the type's size.
 #[cycle(typing)]
 fn type_by_rule(alloc: Global, scope: &Scope<'_>, expr: &Expr) -> Result<Ty, Refusal>
-    ensures { IsAnswer ty_of (ruled_in scope.now (tree_of expr.now)) result }
+    ensures { IsVerdict ty_of (ruled_in scope.now (tree_of expr.now)) result }
 {
     match expr {
         Expr::Integer { value, .. } => {
@@ -133,7 +133,7 @@ fn both_types(
     first: &Expr,
     second: &Expr,
 ) -> Result<(Ty, Ty), Refusal>
-    ensures { IsAnswer (λ types. (ty_of types.0, ty_of types.1))
+    ensures { IsVerdict (λ types. (ty_of types.0, ty_of types.1))
         (both_of (typed_in scope.now (tree_of first.now))
         (typed_in scope.now (tree_of second.now))) result }
 {
@@ -151,7 +151,7 @@ fn let_type(
     value: &Expr,
     body: &Expr,
 ) -> Result<Ty, Refusal>
-    ensures { IsAnswer ty_of (ruled_in scope.now
+    ensures { IsVerdict ty_of (ruled_in scope.now
         (binding name.at name (tree_of value.now) (tree_of body.now))) result }
 {
     let value = type_of(alloc, scope, value)?;
@@ -173,7 +173,7 @@ fn if_type(
     positive: &Expr,
     negative: &Expr,
 ) -> Result<Ty, Refusal>
-    ensures { IsAnswer ty_of (ruled_in scope.now
+    ensures { IsVerdict ty_of (ruled_in scope.now
         (choice at (tree_of condition.now) (tree_of positive.now) (tree_of negative.now))) result }
 {
     let condition = type_of(alloc, scope, condition)?;
@@ -188,7 +188,7 @@ fn condition_type(
     scope: &Scope<'_>,
     condition: &Option<Box<Expr>>,
 ) -> Result<Ty, Refusal>
-    ensures { IsAnswer ty_of (condition_typed_in scope.now (condition_in condition.now)) result }
+    ensures { IsVerdict ty_of (condition_typed_in scope.now (condition_in condition.now)) result }
 {
     match condition {
         Some(condition) => type_of(alloc, scope, condition),
@@ -203,7 +203,7 @@ pub(crate) fn types_of(
     scope: &Scope<'_>,
     arguments: &[Expr],
 ) -> Result<Vec<Ty>, Refusal>
-    ensures { IsAnswer (λ types. map ty_of types.items)
+    ensures { IsVerdict (λ types. map ty_of types.items)
         (all_typed_in scope.now [] (trees_of arguments.now)) result }
 {
     let mut types = Vec::new(alloc);
@@ -221,7 +221,7 @@ pub(crate) fn binder_types(
     scope: &Scope<'_>,
     binders: &[Binder],
 ) -> Result<Vec<(Vec<u8>, Ty)>, Refusal>
-    ensures { IsAnswer (λ items. declared items.items)
+    ensures { IsVerdict (λ items. declared items.items)
         (binders_typed_in scope.now [] (binders_of binders.now)) result }
 {
     let mut items = Vec::new(alloc);
@@ -238,7 +238,7 @@ pub(crate) fn binder_types(
 
 // The type of the elements that a binder over such a source stands for, where its name is not taken.
 fn item_type(alloc: Global, name: Span, taken: bool, source: &Ty) -> Result<Ty, Refusal>
-    ensures { IsAnswer ty_of (of_binder name taken (ty_of source.now)) result }
+    ensures { IsVerdict ty_of (of_binder name taken (ty_of source.now)) result }
 {
     match source {
         _ if taken => Err(Refusal::Name(name.at)),
@@ -249,7 +249,7 @@ fn item_type(alloc: Global, name: Span, taken: bool, source: &Ty) -> Result<Ty, 
 
 // The type that a variable stands for.
 fn variable_type(alloc: Global, scope: &Scope<'_>, name: Span) -> Result<Ty, Refusal>
-    ensures { IsAnswer ty_of (of_binding name
+    ensures { IsVerdict ty_of (of_binding name
         (found (spelling scope.now.text.now name)
         (context_of scope.now.text.now scope.now.names.now))) result }
 {
@@ -262,7 +262,7 @@ fn variable_type(alloc: Global, scope: &Scope<'_>, name: Span) -> Result<Ty, Ref
 
 // The type of a declared function's result, at arguments of these types.
 fn call_type(alloc: Global, scope: &Scope<'_>, name: Span, types: &[Ty]) -> Result<Ty, Refusal>
-    ensures { IsAnswer ty_of (of_function name (map ty_of types.now)
+    ensures { IsVerdict ty_of (of_function name (map ty_of types.now)
         (function_among (spelling scope.now.text.now name)
         (signatures_in scope.now.text.now scope.now.functions.now))) result }
 {

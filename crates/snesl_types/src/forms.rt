@@ -8,7 +8,7 @@ ghost use Rattle.snesl_tree.specs.View.{binders_of};
 ghost use Rattle.snesl_types.specs.Forms.{operator_result, prefix_result};
 ghost use Rattle.snesl_types.specs.Programs.{small_type};
 ghost use Rattle.snesl_types.specs.Sizes.{type_size};
-ghost use Rattle.snesl_types.specs.Verdicts.{IsAnswer, or_refused, are_same, all_same as all_are, of_items, of_choice, of_filter, of_each};
+ghost use Rattle.snesl_types.specs.Verdicts.{IsVerdict, or_refused, are_same, all_same as all_are, of_items, of_choice, of_filter, of_each};
 
 use snesl_data::{Refusal, Ty, copy_ty};
 use snesl_tree::{Binder, Operator, Prefix};
@@ -19,7 +19,7 @@ const GREATEST_TYPE_SIZE: usize = 256;
 
 // The type, where it is not too big.
 pub(crate) fn small(ty: Ty) -> Result<Ty, Refusal>
-    ensures { IsAnswer ty_of (small_type (ty_of ty)) result }
+    ensures { IsVerdict ty_of (small_type (ty_of ty)) result }
 {
     match room_behind(&ty, GREATEST_TYPE_SIZE) {
         Some(_) => Ok(ty),
@@ -51,7 +51,7 @@ pub(crate) fn operator_type(
     left: &Ty,
     right: &Ty,
 ) -> Result<Ty, Refusal>
-    ensures { IsAnswer ty_of (or_refused (Mismatch at)
+    ensures { IsVerdict ty_of (or_refused (Mismatch at)
         (operator_result operator (ty_of left.now) (ty_of right.now))) result }
 {
     match (left, right) {
@@ -65,7 +65,7 @@ pub(crate) fn operator_type(
 
 // Of two integers.
 fn integers_type(at: usize, operator: Operator) -> Result<Ty, Refusal>
-    ensures { IsAnswer ty_of (or_refused (Mismatch at) (operator_result operator int int)) result }
+    ensures { IsVerdict ty_of (or_refused (Mismatch at) (operator_result operator int int)) result }
 {
     match operator {
         Operator::Equal
@@ -86,7 +86,7 @@ fn integers_type(at: usize, operator: Operator) -> Result<Ty, Refusal>
 
 // Of two truth values.
 fn truths_type(at: usize, operator: Operator) -> Result<Ty, Refusal>
-    ensures { IsAnswer ty_of (or_refused (Mismatch at)
+    ensures { IsVerdict ty_of (or_refused (Mismatch at)
         (operator_result operator bool bool)) result }
 {
     match operator {
@@ -103,7 +103,7 @@ fn append_type(
     item: &Ty,
     other: &Ty,
 ) -> Result<Ty, Refusal>
-    ensures { IsAnswer ty_of (or_refused (Mismatch at)
+    ensures { IsVerdict ty_of (or_refused (Mismatch at)
         (operator_result operator (seq (ty_of item.now)) (seq (ty_of other.now)))) result }
 {
     match operator {
@@ -117,7 +117,7 @@ fn append_type(
 
 // Of a vector of such items and an integer.
 fn index_type(alloc: Global, at: usize, operator: Operator, item: &Ty) -> Result<Ty, Refusal>
-    ensures { IsAnswer ty_of (or_refused (Mismatch at)
+    ensures { IsVerdict ty_of (or_refused (Mismatch at)
         (operator_result operator (vec (ty_of item.now)) int)) result }
 {
     match operator {
@@ -128,7 +128,7 @@ fn index_type(alloc: Global, at: usize, operator: Operator, item: &Ty) -> Result
 
 // The type of a prefix operator's value.
 pub(crate) fn prefix_type(at: usize, operator: Prefix, operand: &Ty) -> Result<Ty, Refusal>
-    ensures { IsAnswer ty_of (or_refused (Mismatch at)
+    ensures { IsVerdict ty_of (or_refused (Mismatch at)
         (prefix_result operator (ty_of operand.now))) result }
 {
     match (operator, operand) {
@@ -140,7 +140,7 @@ pub(crate) fn prefix_type(at: usize, operator: Prefix, operand: &Ty) -> Result<T
 
 // The type of a literal of items of these types.
 pub(crate) fn literal_type(alloc: Global, at: usize, types: &[Ty]) -> Result<Ty, Refusal>
-    ensures { IsAnswer ty_of (of_items at (map ty_of types.now)) result }
+    ensures { IsVerdict ty_of (of_items at (map ty_of types.now)) result }
 {
     match types {
         [first, others @ ..] if all_same(first, others) => sequence_of(
@@ -186,7 +186,7 @@ pub(crate) fn choice_type(
     positive: Ty,
     negative: &Ty,
 ) -> Result<Ty, Refusal>
-    ensures { IsAnswer ty_of (of_choice at (ty_of condition.now) (ty_of positive)
+    ensures { IsVerdict ty_of (of_choice at (ty_of condition.now) (ty_of positive)
         (ty_of negative.now)) result }
 {
     if condition.is(&Ty::Bool) && positive.is(negative) {
@@ -198,7 +198,7 @@ pub(crate) fn choice_type(
 
 // The type of a sequence of such items, where the condition is a truth value.
 pub(crate) fn filter_type(alloc: Global, at: usize, item: Ty, condition: &Ty) -> Result<Ty, Refusal>
-    ensures { IsAnswer ty_of (of_filter at (ty_of item) (ty_of condition.now)) result }
+    ensures { IsVerdict ty_of (of_filter at (ty_of item) (ty_of condition.now)) result }
 {
     if condition.is(&Ty::Bool) {
         sequence_of(alloc, item)
@@ -215,7 +215,7 @@ pub(crate) fn each_type(
     body: Ty,
     condition: &Ty,
 ) -> Result<Ty, Refusal>
-    ensures { IsAnswer ty_of (of_each at (binders_of binders.now) (ty_of body)
+    ensures { IsVerdict ty_of (of_each at (binders_of binders.now) (ty_of body)
         (ty_of condition.now)) result }
 {
     match binders {
@@ -225,13 +225,13 @@ pub(crate) fn each_type(
 }
 
 pub(crate) fn sequence_of(alloc: Global, item: Ty) -> Result<Ty, Refusal>
-    ensures { IsAnswer ty_of (Ok (seq (ty_of item))) result }
+    ensures { IsVerdict ty_of (Ok (seq (ty_of item))) result }
 {
     Ok(Ty::Seq(Box::new(alloc, item)?))
 }
 
 pub(crate) fn pair_of(alloc: Global, first: Ty, second: Ty) -> Result<Ty, Refusal>
-    ensures { IsAnswer ty_of (Ok (pair (ty_of first) (ty_of second))) result }
+    ensures { IsVerdict ty_of (Ok (pair (ty_of first) (ty_of second))) result }
 {
     Ok(Ty::Pair(Box::new(alloc, first)?, Box::new(alloc, second)?))
 }

@@ -5,7 +5,7 @@ ghost use Rattle.snesl_data.specs.Types.{ty_of};
 ghost use Rattle.snesl_values.specs.Inputs.{declared};
 ghost use Rattle.snesl_tree.specs.Spelling.{spelling};
 ghost use Rattle.snesl_types.specs.Contexts.{open_to, found, type_in as type_among, function_named as function_among};
-ghost use Rattle.snesl_types.specs.Names.{context_of, meaning_of, seen, signature_in, signatures_in};
+ghost use Rattle.snesl_types.specs.Names.{context_of, found_binding, seen, signature_in, signatures_in};
 
 use snesl_data::{Dialect, Ty};
 use snesl_tree::Span;
@@ -81,7 +81,7 @@ pub(crate) fn look_up<'a>(
     names: &'a Names<'a>,
     crossed: bool,
 ) -> Meaning<'a>
-    ensures { meaning_of result ≡ seen crossed
+    ensures { found_binding result ≡ seen crossed
         (found (spelling text.now name) (context_of text.now names.now)) }
 {
     match names {
@@ -109,7 +109,7 @@ pub(crate) fn look_up<'a>(
 
 // A streamed type is shut once the edge of a comprehension is crossed.
 fn meaning_across(ty: &Ty, crossed: bool) -> Meaning<'_>
-    ensures { meaning_of result ≡ seen crossed (Some (open_to (ty_of ty.now))) }
+    ensures { found_binding result ≡ seen crossed (Some (open_to (ty_of ty.now))) }
 {
     if crossed && !ty.concrete() {
         Meaning::Shut

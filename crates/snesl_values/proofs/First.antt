@@ -6,14 +6,14 @@ use Rattle.std.proofs.lemmas.Bool.{cond-true, cond-false, eqb-true}
 use Rattle.std.proofs.lemmas.List.Folds.{length-prefix_len}
 use Rattle.std.proofs.lemmas.Bool.Decides.{nat_tests}
 use Rattle.snesl_data.specs.Characters.{is_word}
-use Rattle.snesl_values.specs.InputTokens.{Lexeme, integer, sign, bad, is_sign, number_of, minus_lexeme, first}
+use Rattle.snesl_values.specs.InputTokens.{SizedToken, integer, sign, bad, is_sign, number_of, minus_lexeme, first}
 use Rattle.snesl_values.proofs.InputScan.{prefix_passes}
 use Rattle.snesl_values.specs.declared.marks.Mark.{Mark}
 use Rattle.snesl_values.specs.declared.marks.Mark.TheVariants.{Other}
 use Rattle.snesl_values.specs.Marks.{mark_of, sign_mark, word_mark}
 
 -- a token as a scanner sees it, and its length
-abbrev pub seen : Lexeme → Mark × ℕ
+abbrev pub seen : SizedToken → Mark × ℕ
 seen lexeme = (mark_of lexeme.0, lexeme.1)
 
 -- the first byte

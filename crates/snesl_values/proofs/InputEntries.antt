@@ -2,8 +2,8 @@
 use Rattle.std.proofs.Common.{◌≡◌, ℕ, suc, ◌+◌, ◌-◌, ◌≤◌, ◌<◌, Vec, Global, take, take_all, get_or, drop-cons, length-drop, length-append, add-one, List, [], ◌∷◌, ◌++◌, length, drop, Option, Some, None, ◌⊎◌, inl, inr, refl, sym, ap, ◌∙◌, subst, append_assoc, append-nil, arith}
 use Rattle.snesl_data.specs.declared.dialect.Dialect.{Dialect}
 use Rattle.snesl_data.specs.Values.{Value, HasType}
-use Rattle.snesl_values.specs.InputTokens.{Token, word, next_at, next_token, Reads, none, Takes}
-use Rattle.snesl_values.specs.Inputs.{Declaration, Environment, Fits, equals, semicolon, value_tokens, entry_tokens, further_entries, environment_tokens, AreEntries, IsLawful, MayFollow, StopsAt, declared, declaration_of}
+use Rattle.snesl_values.specs.InputTokens.{Token, word, next_at, next_token, HasTokens, none, IsNextToken}
+use Rattle.snesl_values.specs.Inputs.{Declaration, Environment, FitDeclarations, equals, semicolon, value_tokens, entry_tokens, further_entries, environment_tokens, AreEntries, SpellsEnvironment, MayFollow, StopsAt, declared, declaration_of}
 use Rattle.snesl_data.specs.declared.ty.Ty.{Ty as TyTree}
 use Rattle.snesl_values.specs.Wants.{Want, one, perhaps, a_value, Fills, entry_wants, further_wants, wants_of, IsEntry, AllRead, IsStop, IsStopOf}
 use Rattle.snesl_values.specs.declared.inputs.InputError.{InputError}
@@ -30,7 +30,7 @@ pub after_entry : (dialect : Dialect) → (text : List ℕ) (d : Declaration) (w
     → StopsAt (Fills dialect wants) text place n → StopsAt (Fills dialect (entry_wants d wants)) text from n
 after_entry dialect text d wants entry from place n read s =
     stops_behind (Fills dialect (entry_wants d wants)) (Fills dialect wants) text (word d.0 ∷ equals ∷ value_tokens entry.1) from place n
-    (subst (λ name. Reads text from (word name ∷ equals ∷ value_tokens entry.1) place) read.named read.reads)
+    (subst (λ name. HasTokens text from (word name ∷ equals ∷ value_tokens entry.1) place) read.named read.reads)
     (λ us f. entry_in dialect d wants entry.1 us read.has_type f)
     (λ us f.
     let out = entry_out dialect d wants (word d.0 ∷ equals ∷ (value_tokens entry.1 ++ us)) f in
@@ -61,7 +61,7 @@ one_less_end entry es us (inl e) = (further_entries es, e, inl refl)
 one_less_end entry es us (inr e) =
     (further_entries es ++ (semicolon ∷ []), e ∙ ap (λ l. semicolon ∷ l) (append_assoc (entry_tokens entry) (further_entries es) (semicolon ∷ [])), inr refl)
 
-further_lawful : (dialect : Dialect) → (ds : List Declaration) (us : List Token) → Fills dialect (further_wants ds) us → (es : Environment) × Fits dialect ds es × MayEnd es us
+further_lawful : (dialect : Dialect) → (ds : List Declaration) (us : List Token) → Fills dialect (further_wants ds) us → (es : Environment) × FitDeclarations dialect ds es × MayEnd es us
 further_lawful dialect [] us f = ([], tt, at_end dialect us f)
 further_lawful dialect (d ∷ ds) us f =
     let c = one_out dialect semicolon (entry_wants d (further_wants ds)) us f in
@@ -72,7 +72,7 @@ further_lawful dialect (d ∷ ds) us f =
       subst (MayEnd ((d.0, entry.0) ∷ rest.0)) (sym (c.1 ∙ ap (λ l. semicolon ∷ l) entry.3)) (one_more_end (d.0, entry.0) rest.0 entry.1 rest.2),
     )
 
-lawful_further : (dialect : Dialect) → (ds : List Declaration) (es : Environment) (us : List Token) → Fits dialect ds es → MayEnd es us → Fills dialect (further_wants ds) us
+lawful_further : (dialect : Dialect) → (ds : List Declaration) (es : Environment) (us : List Token) → FitDeclarations dialect ds es → MayEnd es us → Fills dialect (further_wants ds) us
 lawful_further dialect [] [] us h m = at_end_in dialect us m
 lawful_further dialect [] (e ∷ es) us h m = absurd h
 lawful_further dialect (d ∷ ds) [] us h m = absurd h
@@ -94,7 +94,7 @@ first_rest entry es us (inl e) = (further_entries es, e, inl refl)
 first_rest entry es us (inr e) =
     (further_entries es ++ (semicolon ∷ []), e ∙ append_assoc (entry_tokens entry) (further_entries es) (semicolon ∷ []), inr refl)
 
-wants_lawful : (dialect : Dialect) → (ds : List Declaration) (us : List Token) → Fills dialect (wants_of ds) us → IsLawful dialect ds us
+wants_lawful : (dialect : Dialect) → (ds : List Declaration) (us : List Token) → Fills dialect (wants_of ds) us → SpellsEnvironment dialect ds us
 wants_lawful dialect [] us f = ([], record { fits = tt; entries = f })
 wants_lawful dialect (d ∷ ds) us f =
     let entry = entry_out dialect d (further_wants ds) us f in
@@ -106,7 +106,7 @@ wants_lawful dialect (d ∷ ds) us f =
       },
     )
 
-lawful_wants : (dialect : Dialect) → (ds : List Declaration) (es : Environment) (us : List Token) → Fits dialect ds es → AreEntries es us → Fills dialect (wants_of ds) us
+lawful_wants : (dialect : Dialect) → (ds : List Declaration) (es : Environment) (us : List Token) → FitDeclarations dialect ds es → AreEntries es us → Fills dialect (wants_of ds) us
 lawful_wants dialect [] [] us h m = m
 lawful_wants dialect [] (e ∷ es) us h m = absurd h
 lawful_wants dialect (d ∷ ds) [] us h m = absurd h
@@ -116,9 +116,9 @@ lawful_wants dialect (d ∷ ds) (e ∷ es) us h m =
     (entry_in dialect d (further_wants ds) e.1 rest.0 h.1 (lawful_further dialect ds es rest.0 h.2 rest.2))
 
 -- what stops by its wants stops in a lawful text
-pub stops_lawful : (dialect : Dialect) → (text : List ℕ) (ds : List Declaration) (n : ℕ) → StopsAt (Fills dialect (wants_of ds)) text 0 n → StopsAt (IsLawful dialect ds) text 0 n
+pub stops_lawful : (dialect : Dialect) → (text : List ℕ) (ds : List Declaration) (n : ℕ) → StopsAt (Fills dialect (wants_of ds)) text 0 n → StopsAt (SpellsEnvironment dialect ds) text 0 n
 stops_lawful dialect text ds n s =
-    stops_behind (IsLawful dialect ds) (Fills dialect (wants_of ds)) text [] 0 0 n none (wants_lawful dialect ds) (λ us l. lawful_wants dialect ds l.0 us l.1.fits l.1.entries) s
+    stops_behind (SpellsEnvironment dialect ds) (Fills dialect (wants_of ds)) text [] 0 0 n none (wants_lawful dialect ds) (λ us l. lawful_wants dialect ds l.0 us l.1.fits l.1.entries) s
 
 -- nothing is wanted any more
 pub nothing_wanted : (dialect : Dialect) → (text : List ℕ) (from : ℕ) → (next_token text from ≡ None → ⊥) → StopsAt (Fills dialect []) text from (next_at text from)
@@ -129,7 +129,7 @@ nothing_wanted dialect text from some = stops_here (Fills dialect []) text from 
     by_next (Some x) e m = let f = m.1 in cc
 
 -- behind the last entry
-pub last_semicolon : (dialect : Dialect) → (text : List ℕ) (from place n : ℕ) → Reads text from (semicolon ∷ []) place → StopsAt (Fills dialect []) text place n
+pub last_semicolon : (dialect : Dialect) → (text : List ℕ) (from place n : ℕ) → HasTokens text from (semicolon ∷ []) place → StopsAt (Fills dialect []) text place n
     → StopsAt (Fills dialect (perhaps semicolon ∷ [])) text from n
 last_semicolon dialect text from place n read s =
     stops_behind (Fills dialect (perhaps semicolon ∷ [])) (Fills dialect []) text (semicolon ∷ []) from place n read
@@ -178,8 +178,8 @@ are_entries (e ∷ es) us some m = m
 pub record SoFar (dialect : Dialect) (text : List ℕ) (ds left : List Declaration) (es : Environment) (at : ℕ) : Type 0 where
   pub within : at ≤ length text
   pub some : 0 < length es
-  pub fits : (later : Environment) → Fits dialect left later → Fits dialect ds (es ++ later)
-  pub reads : Reads text 0 (environment_tokens es) at
+  pub fits : (later : Environment) → FitDeclarations dialect left later → FitDeclarations dialect ds (es ++ later)
+  pub reads : HasTokens text 0 (environment_tokens es) at
   pub stops : (n : ℕ) → StopsAt (Fills dialect (further_wants left)) text at n → StopsAt (Fills dialect (wants_of ds)) text 0 n
 
 pub first_so_far : (dialect : Dialect) → (text : List ℕ) (d : Declaration) (ds : List Declaration) (entry : List ℕ × Value) (end : ℕ) → IsEntry dialect text 0 d entry end
@@ -188,25 +188,25 @@ first_so_far dialect text d ds entry end read = record {
   within = read.within;
   some = omega arith;
   fits = λ later h. (read.named, read.has_type, h);
-  reads = subst (λ l. Reads text 0 l end) (sym (append-nil (entry_tokens entry))) read.reads;
+  reads = subst (λ l. HasTokens text 0 l end) (sym (append-nil (entry_tokens entry))) read.reads;
   stops = λ n s. after_entry dialect text d (further_wants ds) entry 0 end n read s;
 }
 
 pub next_so_far : (dialect : Dialect) → (text : List ℕ) (ds : List Declaration) (d : Declaration) (left : List Declaration) (es : Environment) (entry : List ℕ × Value) (at start end : ℕ)
-    → SoFar dialect text ds (d ∷ left) es at → Takes text at semicolon start → IsEntry dialect text start d entry end → SoFar dialect text ds left (es ++ entry ∷ []) end
+    → SoFar dialect text ds (d ∷ left) es at → IsNextToken text at semicolon start → IsEntry dialect text start d entry end → SoFar dialect text ds left (es ++ entry ∷ []) end
 next_so_far dialect text ds d left es entry at start end s parting read = record {
   within = read.within;
   some = omega (arith, length-append es (entry ∷ []));
-  fits = λ later h. subst (Fits dialect ds) (sym (append_assoc es (entry ∷ []) later)) (s.fits (entry ∷ later) (read.named, read.has_type, h));
-  reads = subst (λ l. Reads text 0 l end) (sym (environment-push es entry s.some)) (reads-append s.reads (reads-append parting.reads read.reads));
+  fits = λ later h. subst (FitDeclarations dialect ds) (sym (append_assoc es (entry ∷ []) later)) (s.fits (entry ∷ later) (read.named, read.has_type, h));
+  reads = subst (λ l. HasTokens text 0 l end) (sym (environment-push es entry s.some)) (reads-append s.reads (reads-append parting.reads read.reads));
   stops = λ n k. s.stops n (after_one dialect text semicolon (entry_wants d (further_wants left)) at start n parting.reads
       (after_entry dialect text d (further_wants left) entry start end n read k));
 }
 
-all_fit : (dialect : Dialect) → (ds : List Declaration) (es : Environment) → Fits dialect ds (es ++ []) → Fits dialect ds es
-all_fit dialect ds es h = subst (Fits dialect ds) (append-nil es) h
+all_fit : (dialect : Dialect) → (ds : List Declaration) (es : Environment) → FitDeclarations dialect ds (es ++ []) → FitDeclarations dialect ds es
+all_fit dialect ds es h = subst (FitDeclarations dialect ds) (append-nil es) h
 
-pub all_read_closed : (dialect : Dialect) → (text : List ℕ) (ds : List Declaration) (es : Environment) (at end : ℕ) → SoFar dialect text ds [] es at → Takes text at semicolon end
+pub all_read_closed : (dialect : Dialect) → (text : List ℕ) (ds : List Declaration) (es : Environment) (at end : ℕ) → SoFar dialect text ds [] es at → IsNextToken text at semicolon end
     → AllRead dialect text ds es end
 all_read_closed dialect text ds es at end s closing = record {
   tokens = environment_tokens es ++ (semicolon ∷ []);

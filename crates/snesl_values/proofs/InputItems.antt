@@ -3,9 +3,9 @@ use Rattle.std.proofs.Common.{◌≡◌, ℕ, suc, ◌+◌, List, [], ◌∷◌,
 use Rattle.snesl_data.specs.declared.dialect.Dialect.{Dialect}
 use Rattle.snesl_data.specs.Types.{Ty, int, bool, pair, vec, seq}
 use Rattle.snesl_data.specs.Values.{Value, a_vec, a_seq, a_pair, value_of, Values, values_of, HasType, AllHaveType}
-use Rattle.snesl_values.specs.InputTokens.{Token, sign, Reads, Takes}
+use Rattle.snesl_values.specs.InputTokens.{Token, sign, HasTokens, IsNextToken}
 use Rattle.snesl_values.specs.Inputs.{value_tokens, items_tokens, further_tokens, comma, left_paren, right_paren, left_bracket, left_brace}
-use Rattle.snesl_values.specs.Wants.{IsRead, AreRead}
+use Rattle.snesl_values.specs.Wants.{IsValueRead, AreRead}
 use Rattle.snesl_data.specs.declared.datum.Datum.{Datum}
 use Rattle.snesl_values.proofs.InputReads.{reads-append}
 
@@ -49,11 +49,11 @@ mapped-push (x ∷ ds) d = ap (λ l. value_of x ∷ l) (mapped-push ds d)
 
 -- the last item was read, and the sign that closes all
 pub items_read : (dialect : Dialect) → (text : List ℕ) (from place behind end : ℕ) (t : Ty) (close : ℕ) (vs news : List Value) (v : Value) → news ≡ vs ++ v ∷ []
-    → from ≤ place → AllHaveType dialect (values_of vs) t → Reads text from (leading_tokens vs) place → IsRead dialect text place t v behind
-    → Takes text behind (sign close) end → AreRead dialect text from t close (values_of news) end
+    → from ≤ place → AllHaveType dialect (values_of vs) t → HasTokens text from (leading_tokens vs) place → IsValueRead dialect text place t v behind
+    → IsNextToken text behind (sign close) end → AreRead dialect text from t close (values_of news) end
 items_read dialect text from place behind end t close vs news v e begun types leading item closing = record {
   have_type = subst (λ l. AllHaveType dialect (values_of l) t) (sym e) (have_type-push dialect vs v t types item.has_type);
-  reads = subst (λ l. Reads text from l end)
+  reads = subst (λ l. HasTokens text from l end)
       (sym (append_assoc (leading_tokens vs) (value_tokens v) (sign close ∷ []))
       ∙ ap (λ l. l ++ (sign close ∷ [])) (items-last vs v) ∙ ap (λ l. items_tokens (values_of l) ++ (sign close ∷ [])) (sym e))
       (reads-append leading (reads-append item.reads closing.reads));
@@ -63,13 +63,13 @@ items_read dialect text from place behind end t close vs news v e begun types le
 
 -- an item was read, and a comma behind it
 pub item_read : (dialect : Dialect) → (text : List ℕ) (from place behind end : ℕ) (t : Ty) (vs news : List Value) (v : Value) → news ≡ vs ++ v ∷ []
-    → Reads text from (leading_tokens vs) place → IsRead dialect text place t v behind → Takes text behind comma end → Reads text from (leading_tokens news) end
+    → HasTokens text from (leading_tokens vs) place → IsValueRead dialect text place t v behind → IsNextToken text behind comma end → HasTokens text from (leading_tokens news) end
 item_read dialect text from place behind end t vs news v e leading item parting =
-    subst (λ l. Reads text from l end) (sym (ap leading_tokens e ∙ leading-push vs v)) (reads-append leading (reads-append item.reads parting.reads))
+    subst (λ l. HasTokens text from l end) (sym (ap leading_tokens e ∙ leading-push vs v)) (reads-append leading (reads-append item.reads parting.reads))
 
 -- a vector, a sequence and a pair were read
-pub vec_read : (dialect : Dialect) → (text : List ℕ) (from place end : ℕ) (a : Ty) (vs : Values) → Takes text from left_bracket place → AreRead dialect text place a 93 vs end
-    → IsRead dialect text from (vec a) (a_vec vs) end
+pub vec_read : (dialect : Dialect) → (text : List ℕ) (from place end : ℕ) (a : Ty) (vs : Values) → IsNextToken text from left_bracket place → AreRead dialect text place a 93 vs end
+    → IsValueRead dialect text from (vec a) (a_vec vs) end
 vec_read dialect text from place end a vs opening all = record {
   has_type = all.have_type;
   reads = reads-append opening.reads all.reads;
@@ -77,8 +77,8 @@ vec_read dialect text from place end a vs opening all = record {
   within = all.within;
 }
 
-pub seq_read : (dialect : Dialect) → (text : List ℕ) (from place end : ℕ) (a : Ty) (vs : Values) → Takes text from left_brace place → AreRead dialect text place a 125 vs end
-    → IsRead dialect text from (seq a) (a_seq vs) end
+pub seq_read : (dialect : Dialect) → (text : List ℕ) (from place end : ℕ) (a : Ty) (vs : Values) → IsNextToken text from left_brace place → AreRead dialect text place a 125 vs end
+    → IsValueRead dialect text from (seq a) (a_seq vs) end
 seq_read dialect text from place end a vs opening all = record {
   has_type = all.have_type;
   reads = reads-append opening.reads all.reads;
@@ -86,9 +86,9 @@ seq_read dialect text from place end a vs opening all = record {
   within = all.within;
 }
 
-pub pair_read : (dialect : Dialect) → (text : List ℕ) (from place behind further last end : ℕ) (a b : Ty) (v w : Value) → Takes text from left_paren place
-    → IsRead dialect text place a v behind → Takes text behind comma further → IsRead dialect text further b w last → Takes text last right_paren end
-    → IsRead dialect text from (pair a b) (a_pair v w) end
+pub pair_read : (dialect : Dialect) → (text : List ℕ) (from place behind further last end : ℕ) (a b : Ty) (v w : Value) → IsNextToken text from left_paren place
+    → IsValueRead dialect text place a v behind → IsNextToken text behind comma further → IsValueRead dialect text further b w last → IsNextToken text last right_paren end
+    → IsValueRead dialect text from (pair a b) (a_pair v w) end
 pair_read dialect text from place behind further last end a b v w opening one parting two closing = record {
   has_type = (one.has_type, two.has_type);
   reads = reads-append opening.reads (reads-append one.reads (reads-append parting.reads (reads-append two.reads closing.reads)));

@@ -11,7 +11,7 @@ use Rattle.snesl_data.specs.declared.dialect.Dialect.{Dialect}
 use Rattle.snesl_data.specs.declared.dialect.Dialect.TheVariants.{Two}
 use Rattle.snesl_data.specs.Integers.{greatest_integer, IsInteger}
 use Rattle.snesl_data.specs.Characters.{is_word, value_from}
-use Rattle.snesl_values.specs.InputTokens.{Token, Lexeme, word, integer, sign, bad, is_sign, negated, minus_lexeme, first, next, next_at, next_token, Reads, none, more, Takes, digits_at, number_of, IsNumber}
+use Rattle.snesl_values.specs.InputTokens.{Token, SizedToken, word, integer, sign, bad, is_sign, negated, minus_lexeme, first, next, next_at, next_token, HasTokens, none, more, IsNextToken, digits_at, number_of, IsNumber}
 
 abbrev pub rest_of : List ℕ → ℕ → List ℕ
 rest_of text at = take (length text - at) (drop at text)
@@ -28,7 +28,7 @@ unfolding next
 next-is text at start e = ap (λ n. first (drop n text)) (sym e)
 
 -- what stands first, by the first byte
-data Stands (b : ℕ) (bs : List ℕ) : Option Lexeme → Type 0 where
+data Stands (b : ℕ) (bs : List ℕ) : Option SizedToken → Type 0 where
   letters : is_ascii_alphabetic b ≡ true → Stands b bs (Some (word (take_while is_word (b ∷ bs)), length (take_while is_word (b ∷ bs))))
   digits : is_ascii_digit b ≡ true
       → Stands b bs (Some (integer (pos (value_from 0 (take_while is_ascii_digit (b ∷ bs)))), length (take_while is_ascii_digit (b ∷ bs))))
@@ -84,24 +84,24 @@ first-sign b bs e =
 
 -- a token that was found
 taken : (text : List ℕ) (at start len : ℕ) (t : Token) → start ≡ next_at text at → at ≤ start → first (drop start text) ≡ Some (t, len)
-    → 0 < len → start + len ≤ length text → Takes text at t (start + len)
+    → 0 < len → start + len ≤ length text → IsNextToken text at t (start + len)
 taken text at start len t e from found some within = record {
-  reads = subst (λ n. Reads text at (t ∷ []) (n + len)) (sym e) (more t len (next-is text at start e ∙ found) none);
+  reads = subst (λ n. HasTokens text at (t ∷ []) (n + len)) (sym e) (more t len (next-is text at start e ∙ found) none);
   moves = omega arith;
   within = within;
 }
 
 next_token-is : (text : List ℕ) (at start : ℕ) → start ≡ next_at text at → start < length text
-    → next_token text at ≡ option_map (λ (lexeme : Lexeme). lexeme.0) (first (get_or text start 0 ∷ drop (suc start) text))
+    → next_token text at ≡ option_map (λ (lexeme : SizedToken). lexeme.0) (first (get_or text start 0 ∷ drop (suc start) text))
 next_token-is text at start e h =
-    ap (option_map (λ (lexeme : Lexeme). lexeme.0)) (next-is text at start e ∙ ap first (drop-cons text start 0 h))
+    ap (option_map (λ (lexeme : SizedToken). lexeme.0)) (next-is text at start e ∙ ap first (drop-cons text start 0 h))
 
 first-nothing : first [] ≡ None
 unfolding first
 first-nothing = refl
 
 pub no_next : (text : List ℕ) (at start : ℕ) → start ≡ next_at text at → length text ≤ start → next_token text at ≡ None
-no_next text at start e h = ap (option_map (λ (lexeme : Lexeme). lexeme.0)) (next-is text at start e ∙ by_cases (drop start text) (omega (arith, length-drop start text)))
+no_next text at start e h = ap (option_map (λ (lexeme : SizedToken). lexeme.0)) (next-is text at start e ∙ by_cases (drop start text) (omega (arith, length-drop start text)))
   where
     by_cases : (bs : List ℕ) → length bs ≡ 0 → first bs ≡ None
     by_cases [] e = first-nothing
@@ -109,7 +109,7 @@ no_next text at start e h = ap (option_map (λ (lexeme : Lexeme). lexeme.0)) (ne
 
 -- a sign
 pub sign_taken : (text : List ℕ) (at start byte : ℕ) → start ≡ next_at text at → at ≤ start → start < length text → get_or text start 0 ≡ byte
-    → is_sign byte ≡ true → Takes text at (sign byte) (start + 1)
+    → is_sign byte ≡ true → IsNextToken text at (sign byte) (start + 1)
 sign_taken text at start byte e from h is lawful =
     taken text at start 1 (sign byte) e from
     (ap first (drop-cons text start 0 h) ∙ first-sign (get_or text start 0) (drop (suc start) text) (ap is_sign is ∙ lawful) ∙ ap (λ b. Some (sign b, 1)) is)
@@ -119,7 +119,7 @@ no_minus_sign : (digits : List ℕ) (c : ℕ) → (minus_lexeme digits).0 ≡ si
 no_minus_sign [] c e = cc
 no_minus_sign (d ∷ ds) c e = cc
 
-sign_only : (b : ℕ) (bs : List ℕ) (c : ℕ) (o : Option Lexeme) → Stands b bs o → option_map (λ (lexeme : Lexeme). lexeme.0) o ≡ Some (sign c) → b ≡ c
+sign_only : (b : ℕ) (bs : List ℕ) (c : ℕ) (o : Option SizedToken) → Stands b bs o → option_map (λ (lexeme : SizedToken). lexeme.0) o ≡ Some (sign c) → b ≡ c
 sign_only b bs c o (letters h) e = cc
 sign_only b bs c o (digits h) e = cc
 sign_only b bs c o (minus h) e = absurd (no_minus_sign (take_while is_ascii_digit bs) c (let f : (minus_lexeme (take_while is_ascii_digit bs)).0 ≡ sign c = cc in f))
@@ -140,7 +140,7 @@ letter_in_word b l = grind (arith, nat_tests)
 
 pub word_taken : (text : List ℕ) (at start len : ℕ) (expected : List ℕ) → start ≡ next_at text at → at ≤ start → start < length text
     → is_ascii_alphabetic (get_or text start 0) ≡ true → len ≡ prefix_len is_word (drop start text) → take len (drop start text) ≡ expected
-    → Takes text at (word expected) (start + len)
+    → IsNextToken text at (word expected) (start + len)
 word_taken text at start len expected e from h letter count same =
     let counted : len ≡ 1 + prefix_len is_word (drop (suc start) text) =
     count ∙ ap (prefix_len is_word) (drop-cons text start 0 h) ∙ cond-true _ (1 + prefix_len is_word (drop (suc start) text)) 0 (letter_in_word (get_or text start 0) letter) in
@@ -158,7 +158,7 @@ no_minus_word : (digits : List ℕ) (w : List ℕ) → (minus_lexeme digits).0 �
 no_minus_word [] w e = cc
 no_minus_word (d ∷ ds) w e = cc
 
-word_only : (b : ℕ) (bs w : List ℕ) (o : Option Lexeme) → Stands b bs o → option_map (λ (lexeme : Lexeme). lexeme.0) o ≡ Some (word w)
+word_only : (b : ℕ) (bs w : List ℕ) (o : Option SizedToken) → Stands b bs o → option_map (λ (lexeme : SizedToken). lexeme.0) o ≡ Some (word w)
     → (is_ascii_alphabetic b ≡ true) × (take_while is_word (b ∷ bs) ≡ w)
 word_only b bs w o (letters h) e = (h, cc)
 word_only b bs w o (digits h) e = cc
@@ -221,14 +221,14 @@ starts_with_digit (b ∷ rest) h = by_test (is_ascii_digit b) refl h
     by_test false e k = absurd (omega arith)
 
 pub positive_taken : (dialect : Dialect) (text : List ℕ) (at start : ℕ) (found : ℤ × ℕ) → start ≡ next_at text at → at ≤ start → start ≤ length text
-    → IsNumber dialect text start false found → Takes text at (integer found.0) found.1
+    → IsNumber dialect text start false found → IsNextToken text at (integer found.0) found.1
 positive_taken dialect text at start found e from within number =
     let ds = digits_at text start in
     let w = starts_with_digit (drop start text) number.some in
     let token : integer (pos (value_from 0 ds)) ≡ integer found.0 = ap integer (sym number.value) in
     let most : length ds ≤ length (drop start text) =
     subst (λ n. n ≤ length (drop start text)) (sym (length-prefix_len is_ascii_digit (drop start text))) (prefix_len-le-length is_ascii_digit (drop start text)) in
-    subst (Takes text at (integer found.0)) (sym number.end)
+    subst (IsNextToken text at (integer found.0)) (sym number.end)
     (taken text at start (length ds) (integer found.0) e from
     (subst (λ bs. first bs ≡ Some (integer (pos (value_from 0 (take_while is_ascii_digit bs))), length (take_while is_ascii_digit bs))) (sym w.2)
     (first-digits w.0 w.1 w.3) ∙ ap (λ t. Some (t, length ds)) token)
@@ -239,7 +239,7 @@ minus_digits [] h = absurd (omega arith)
 minus_digits (d ∷ ds) h = refl
 
 pub negative_taken : (dialect : Dialect) (text : List ℕ) (at start : ℕ) (found : ℤ × ℕ) → start ≡ next_at text at → at ≤ start → start < length text
-    → get_or text start 0 ≡ 45 → IsNumber dialect text (start + 1) true found → Takes text at (integer found.0) found.1
+    → get_or text start 0 ≡ 45 → IsNumber dialect text (start + 1) true found → IsNextToken text at (integer found.0) found.1
 negative_taken dialect text at start found e from below is number =
     let ds = digits_at text (start + 1) in
     let token : integer (negated (value_from 0 ds)) ≡ integer found.0 = ap integer (sym number.value) in
@@ -248,7 +248,7 @@ negative_taken dialect text at start found e from below is number =
     (prefix_len-le-length is_ascii_digit (drop (start + 1) text)) in
     let bytes : drop start text ≡ 45 ∷ drop (start + 1) text = drop-cons text start 0 below ∙ ap (λ b. b ∷ drop (suc start) text) is ∙ ap (λ n. 45 ∷ drop n text) (sym (add-one start)) in
     let end : start + suc (length ds) ≡ found.1 = omega (arith, number.end) in
-    subst (Takes text at (integer found.0)) end
+    subst (IsNextToken text at (integer found.0)) end
     (taken text at start (suc (length ds)) (integer found.0) e from
     (ap first bytes ∙ first-minus (drop (start + 1) text) ∙ ap (λ x. Some x) (minus_digits ds number.some) ∙ ap (λ t. Some (t, suc (length ds))) token)
     (omega arith) (omega (arith, length-drop (start + 1) text)))
@@ -266,7 +266,7 @@ take_while_some p b bs e =
     let count : length (take_while p (b ∷ bs)) ≡ 1 + prefix_len p bs = length-prefix_len p (b ∷ bs) ∙ cond-true (p b) (1 + prefix_len p bs) 0 e in
     omega arith
 
-integer_only : (b : ℕ) (bs : List ℕ) (n : ℤ) (o : Option Lexeme) → Stands b bs o → option_map (λ (lexeme : Lexeme). lexeme.0) o ≡ Some (integer n)
+integer_only : (b : ℕ) (bs : List ℕ) (n : ℤ) (o : Option SizedToken) → Stands b bs o → option_map (λ (lexeme : SizedToken). lexeme.0) o ≡ Some (integer n)
     → ((0 < length (take_while is_ascii_digit (b ∷ bs))) × (pos (value_from 0 (take_while is_ascii_digit (b ∷ bs))) ≡ n))
     ⊎ ((b ≡ 45) × (0 < length (take_while is_ascii_digit bs)) × (negated (value_from 0 (take_while is_ascii_digit bs)) ≡ n))
 integer_only b bs n o (letters h) e = cc
@@ -318,7 +318,7 @@ minus_no_digits text start below is h =
     none_there rest h = omega arith
 
 -- some token comes next where a byte is left
-something : (b : ℕ) (bs : List ℕ) (o : Option Lexeme) → Stands b bs o → option_map (λ (lexeme : Lexeme). lexeme.0) o ≡ None → ⊥
+something : (b : ℕ) (bs : List ℕ) (o : Option SizedToken) → Stands b bs o → option_map (λ (lexeme : SizedToken). lexeme.0) o ≡ None → ⊥
 something b bs o (letters h) e = cc
 something b bs o (digits h) e = cc
 something b bs o (minus h) e = cc
@@ -332,10 +332,10 @@ some_next text at start e h nothing =
 -- what comes next: nothing, or a token
 pub data Coming (text : List ℕ) (at : ℕ) : Type 0 where
   nothing_comes : next_token text at ≡ None → Coming text at
-  comes : (token : Token) (end : ℕ) → Takes text at token end → Coming text at
+  comes : (token : Token) (end : ℕ) → IsNextToken text at token end → Coming text at
 
 -- a lexeme that ends in these bytes
-record IsWithin (bytes : ℕ) (o : Option Lexeme) : Type 0 where
+record IsWithin (bytes : ℕ) (o : Option SizedToken) : Type 0 where
   token : Token
   len : ℕ
   is : o ≡ Some (token, len)
@@ -355,7 +355,7 @@ minus_within bs (d ∷ ds) h = record {
   most = omega arith;
 }
 
-found_within : (b : ℕ) (bs : List ℕ) (o : Option Lexeme) → Stands b bs o → IsWithin (suc (length bs)) o
+found_within : (b : ℕ) (bs : List ℕ) (o : Option SizedToken) → Stands b bs o → IsWithin (suc (length bs)) o
 found_within b bs o (letters h) = record {
   token = word (take_while is_word (b ∷ bs));
   len = length (take_while is_word (b ∷ bs));

@@ -8,7 +8,7 @@ use Rattle.snesl_values.specs.declared.inputs.InputError.{InputError}
 use Rattle.snesl_values.specs.declared.inputs.InputError.TheVariants.{Bad, NoMemory}
 use Rattle.snesl_data.specs.Types.{Ty, int, bool, pair, vec, seq}
 use Rattle.snesl_data.specs.Values.{Value, an_int, a_bool, a_pair, a_vec, a_seq, Values, no_values, more_values, HasType, AllHaveType}
-use Rattle.snesl_values.specs.InputTokens.{Token, word, integer, sign, next_at, next_token, Reads, none}
+use Rattle.snesl_values.specs.InputTokens.{Token, word, integer, sign, next_at, next_token, HasTokens, none}
 use Rattle.snesl_values.specs.Inputs.{value_tokens, items_tokens, further_tokens, left_paren, right_paren, comma, left_bracket, right_bracket, left_brace, right_brace, StopsAt}
 use Rattle.snesl_values.specs.Wants.{Want, one, perhaps, a_value, items, further_items, Fills, IsStop}
 use Rattle.snesl_values.proofs.InputReads.{stops_behind, stops_unless, stops_first}
@@ -143,7 +143,7 @@ pub value_out : (dialect : Dialect) → (t : Ty) (wants : List Want) (us : List 
 value_out dialect t wants us (these, rest, e, (v, h, m), f) = (v, rest, h, e ∙ ap (λ l. l ++ rest) m, f)
 
 -- behind a token that was wanted
-pub after_one : (dialect : Dialect) → (text : List ℕ) (t : Token) (wants : List Want) (from place n : ℕ) → Reads text from (t ∷ []) place
+pub after_one : (dialect : Dialect) → (text : List ℕ) (t : Token) (wants : List Want) (from place n : ℕ) → HasTokens text from (t ∷ []) place
     → StopsAt (Fills dialect wants) text place n → StopsAt (Fills dialect (one t ∷ wants)) text from n
 after_one dialect text t wants from place n read s =
     stops_behind (Fills dialect (one t ∷ wants)) (Fills dialect wants) text (t ∷ []) from place n read
@@ -152,7 +152,7 @@ after_one dialect text t wants from place n read s =
     s
 
 -- behind a value that was wanted
-pub after_value : (dialect : Dialect) → (text : List ℕ) (t : Ty) (v : Value) (wants : List Want) (from place n : ℕ) → HasType dialect v t → Reads text from (value_tokens v) place
+pub after_value : (dialect : Dialect) → (text : List ℕ) (t : Ty) (v : Value) (wants : List Want) (from place n : ℕ) → HasType dialect v t → HasTokens text from (value_tokens v) place
     → StopsAt (Fills dialect wants) text place n → StopsAt (Fills dialect (a_value t ∷ wants)) text from n
 after_value dialect text t v wants from place n h read s =
     stops_behind (Fills dialect (a_value t ∷ wants)) (Fills dialect wants) text (value_tokens v) from place n read

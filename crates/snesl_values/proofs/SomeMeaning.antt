@@ -7,9 +7,9 @@ use Rattle.snesl_data.specs.declared.dialect.Dialect.{Dialect}
 use Rattle.snesl_data.specs.Integers.{is_integer, IsInteger}
 use Rattle.snesl_data.specs.Types.{Ty, int, bool, pair, vec, seq}
 use Rattle.snesl_data.specs.Values.{Value, an_int, a_bool, a_pair, a_vec, a_seq, Values, values_of, AllHaveType}
-use Rattle.snesl_values.specs.InputTokens.{Token, word, integer, sign, bad, next_at, next_token, Reads, none, Takes}
-use Rattle.snesl_values.specs.Inputs.{greatest_input_length, Declaration, Environment, equals, semicolon, comma, left_paren, right_paren, left_bracket, left_brace, StopsAt, IsLawful, InputAnswer, spells, refused_at, InputMeans, too_long, lawful, unlawful}
-use Rattle.snesl_values.specs.Wants.{Want, one, a_value, items, further_items, Fills, entry_wants, further_wants, IsRead, AreRead, IsEntry, AllRead}
+use Rattle.snesl_values.specs.InputTokens.{Token, word, integer, sign, bad, next_at, next_token, HasTokens, none, IsNextToken}
+use Rattle.snesl_values.specs.Inputs.{greatest_input_length, Declaration, Environment, equals, semicolon, comma, left_paren, right_paren, left_bracket, left_brace, StopsAt, SpellsEnvironment, InputAnswer, spells, refused_at, InputMeans, too_long, lawful, unlawful}
+use Rattle.snesl_values.specs.Wants.{Want, one, a_value, items, further_items, Fills, entry_wants, further_wants, IsValueRead, AreRead, IsEntry, AllRead}
 use Rattle.snesl_values.proofs.InputScan.{Coming, nothing_comes, comes, coming}
 use Rattle.snesl_values.proofs.InputReads.{reads-append, first_next}
 use Rattle.snesl_values.proofs.InputWants.{after_one, after_value, another_one, no_integer, no_truth, pair_stops, vec_stops, seq_stops, first_item, later_item}
@@ -22,7 +22,7 @@ data Reading (dialect : Dialect) (text : List ℕ) (from : ℕ) (wants : List Wa
   stopped : (n : ℕ) → ((further : List Want) → StopsAt (Fills dialect (wants ++ further)) text from n) → Reading dialect text from wants IsDone
 
 abbrev ReadingOf : Dialect → List ℕ → Ty → ℕ → Type 0
-ReadingOf dialect text t from = Reading dialect text from (a_value t ∷ []) (λ end. (v : Value) × IsRead dialect text from t v end)
+ReadingOf dialect text t from = Reading dialect text from (a_value t ∷ []) (λ end. (v : Value) × IsValueRead dialect text from t v end)
 
 -- what is read of a value of this type wherever it begins
 abbrev Readable : Dialect → List ℕ → Ty → Type 0
@@ -30,14 +30,14 @@ Readable dialect text t = (from : ℕ) → from ≤ length text → ReadingOf di
 
 -- the next token is this one, or another
 data Whether (text : List ℕ) (from : ℕ) (token : Token) : Type 0 where
-  taken : (end : ℕ) → Takes text from token end → Whether text from token
+  taken : (end : ℕ) → IsNextToken text from token end → Whether text from token
   another : (next_token text from ≡ Some token → ⊥) → Whether text from token
 
 whether : (text : List ℕ) (from : ℕ) (token : Token) → ((other : Token) → (other ≡ token) ⊎ (other ≡ token → ⊥)) → from ≤ length text → Whether text from token
 whether text from token same within = by_next (coming text from within)
   where
-    by_test : (other : Token) (end : ℕ) → Takes text from other end → (other ≡ token) ⊎ (other ≡ token → ⊥) → Whether text from token
-    by_test other end t (inl e) = taken end (subst (λ x. Takes text from x end) e t)
+    by_test : (other : Token) (end : ℕ) → IsNextToken text from other end → (other ≡ token) ⊎ (other ≡ token → ⊥) → Whether text from token
+    by_test other end t (inl e) = taken end (subst (λ x. IsNextToken text from x end) e t)
     by_test other end t (inr n) = another (λ e. let f : Some other ≡ Some token = sym (first_next t.reads) ∙ e in n (cc))
 
     by_next : Coming text from → Whether text from token
@@ -64,26 +64,26 @@ same_word w (sign d) = inr (λ e. cc)
 same_word w (integer n) = inr (λ e. cc)
 same_word w bad = inr (λ e. cc)
 
-one_token : (dialect : Dialect) → (text : List ℕ) (from : ℕ) (token : Token) → Whether text from token → Reading dialect text from (one token ∷ []) (Takes text from token)
+one_token : (dialect : Dialect) → (text : List ℕ) (from : ℕ) (token : Token) → Whether text from token → Reading dialect text from (one token ∷ []) (IsNextToken text from token)
 one_token dialect text from token (taken end t) = done end t
 one_token dialect text from token (another n) = stopped (next_at text from) (λ further. another_one dialect text token further from n)
 
-one_sign : (dialect : Dialect) → (text : List ℕ) (from c : ℕ) → from ≤ length text → Reading dialect text from (one (sign c) ∷ []) (Takes text from (sign c))
+one_sign : (dialect : Dialect) → (text : List ℕ) (from c : ℕ) → from ≤ length text → Reading dialect text from (one (sign c) ∷ []) (IsNextToken text from (sign c))
 one_sign dialect text from c within = one_token dialect text from (sign c) (whether text from (sign c) (same_sign c) within)
 
-one_word : (dialect : Dialect) → (text : List ℕ) (from : ℕ) (w : List ℕ) → from ≤ length text → Reading dialect text from (one (word w) ∷ []) (Takes text from (word w))
+one_word : (dialect : Dialect) → (text : List ℕ) (from : ℕ) (w : List ℕ) → from ≤ length text → Reading dialect text from (one (word w) ∷ []) (IsNextToken text from (word w))
 one_word dialect text from w within = one_token dialect text from (word w) (whether text from (word w) (same_word w) within)
 
 -- integers and truth values
 an_integer : (dialect : Dialect) → (text : List ℕ) → Readable dialect text int
 an_integer dialect text from within = by_next (coming text from within)
   where
-    no_other : (t : Token) (end : ℕ) → Takes text from t end → ((n : ℤ) → IsInteger dialect n → t ≡ integer n → ⊥) → ReadingOf dialect text int from
+    no_other : (t : Token) (end : ℕ) → IsNextToken text from t end → ((n : ℤ) → IsInteger dialect n → t ≡ integer n → ⊥) → ReadingOf dialect text int from
     no_other t end takes n =
         stopped (next_at text from)
         (λ further. no_integer dialect text further from (λ i ranged e. let f : Some t ≡ Some (integer i) = sym (first_next takes.reads) ∙ e in n i ranged (cc)))
 
-    by_range : (n : ℤ) (b : Bool) → is_integer dialect n ≡ b → (end : ℕ) → Takes text from (integer n) end → ReadingOf dialect text int from
+    by_range : (n : ℤ) (b : Bool) → is_integer dialect n ≡ b → (end : ℕ) → IsNextToken text from (integer n) end → ReadingOf dialect text int from
     by_range n true range end t = done end (an_int n, record { has_type = range; reads = t.reads; moves = t.moves; within = t.within })
     by_range n false range end t =
         no_other (integer n) end t (λ m ranged e. let same : n ≡ m = cc in absurd (let f : false ≡ true = sym range ∙ ap (is_integer dialect) same ∙ ranged in cc))
@@ -109,9 +109,9 @@ a_truth dialect text from within =
 a_pair_of : (dialect : Dialect) → (text : List ℕ) (a b : Ty) → Readable dialect text a → Readable dialect text b → Readable dialect text (pair a b)
 a_pair_of dialect text a b first second from within = by_open (one_sign dialect text from 40 within)
   where
-    by_close : (place behind start last : ℕ) (v w : Value) → Takes text from left_paren place → IsRead dialect text place a v behind
-        → Takes text behind comma start → IsRead dialect text start b w last
-        → Reading dialect text last (one right_paren ∷ []) (Takes text last right_paren) → ReadingOf dialect text (pair a b) from
+    by_close : (place behind start last : ℕ) (v w : Value) → IsNextToken text from left_paren place → IsValueRead dialect text place a v behind
+        → IsNextToken text behind comma start → IsValueRead dialect text start b w last
+        → Reading dialect text last (one right_paren ∷ []) (IsNextToken text last right_paren) → ReadingOf dialect text (pair a b) from
     by_close place behind start last v w opening one_read parting other_read (done end closing) =
         done end (a_pair v w, pair_read dialect text from place behind start last end a b v w opening one_read parting other_read closing)
     by_close place behind start last v w opening one_read parting other_read (stopped n s) = stopped n (λ further.
@@ -121,8 +121,8 @@ a_pair_of dialect text a b first second from within = by_open (one_sign dialect 
         (after_one dialect text comma (a_value b ∷ one right_paren ∷ further) behind start n parting.reads
         (after_value dialect text b w (one right_paren ∷ further) start last n other_read.has_type other_read.reads (s further))))))
 
-    by_second : (place behind start : ℕ) (v : Value) → Takes text from left_paren place → IsRead dialect text place a v behind
-        → Takes text behind comma start → ReadingOf dialect text b start → ReadingOf dialect text (pair a b) from
+    by_second : (place behind start : ℕ) (v : Value) → IsNextToken text from left_paren place → IsValueRead dialect text place a v behind
+        → IsNextToken text behind comma start → ReadingOf dialect text b start → ReadingOf dialect text (pair a b) from
     by_second place behind start v opening one_read parting (done last (w, other_read)) =
         by_close place behind start last v w opening one_read parting other_read (one_sign dialect text last 41 other_read.within)
     by_second place behind start v opening one_read parting (stopped n s) = stopped n (λ further.
@@ -131,8 +131,8 @@ a_pair_of dialect text a b first second from within = by_open (one_sign dialect 
         (after_value dialect text a v (one comma ∷ a_value b ∷ one right_paren ∷ further) place behind n one_read.has_type one_read.reads
         (after_one dialect text comma (a_value b ∷ one right_paren ∷ further) behind start n parting.reads (s (one right_paren ∷ further))))))
 
-    by_comma : (place behind : ℕ) (v : Value) → Takes text from left_paren place → IsRead dialect text place a v behind
-        → Reading dialect text behind (one comma ∷ []) (Takes text behind comma) → ReadingOf dialect text (pair a b) from
+    by_comma : (place behind : ℕ) (v : Value) → IsNextToken text from left_paren place → IsValueRead dialect text place a v behind
+        → Reading dialect text behind (one comma ∷ []) (IsNextToken text behind comma) → ReadingOf dialect text (pair a b) from
     by_comma place behind v opening one_read (done start parting) = by_second place behind start v opening one_read parting (second start parting.within)
     by_comma place behind v opening one_read (stopped n s) = stopped n (λ further.
         pair_stops dialect text a b further from n
@@ -140,14 +140,14 @@ a_pair_of dialect text a b first second from within = by_open (one_sign dialect 
         (after_value dialect text a v (one comma ∷ a_value b ∷ one right_paren ∷ further) place behind n one_read.has_type one_read.reads
         (s (a_value b ∷ one right_paren ∷ further)))))
 
-    by_first : (place : ℕ) → Takes text from left_paren place → ReadingOf dialect text a place → ReadingOf dialect text (pair a b) from
+    by_first : (place : ℕ) → IsNextToken text from left_paren place → ReadingOf dialect text a place → ReadingOf dialect text (pair a b) from
     by_first place opening (done behind (v, one_read)) = by_comma place behind v opening one_read (one_sign dialect text behind 44 one_read.within)
     by_first place opening (stopped n s) = stopped n (λ further.
         pair_stops dialect text a b further from n
         (after_one dialect text left_paren (a_value a ∷ one comma ∷ a_value b ∷ one right_paren ∷ further) from place n opening.reads
         (s (one comma ∷ a_value b ∷ one right_paren ∷ further))))
 
-    by_open : Reading dialect text from (one left_paren ∷ []) (Takes text from left_paren) → ReadingOf dialect text (pair a b) from
+    by_open : Reading dialect text from (one left_paren ∷ []) (IsNextToken text from left_paren) → ReadingOf dialect text (pair a b) from
     by_open (done place opening) = by_first place opening (first place opening.within)
     by_open (stopped n s) = stopped n (λ further. pair_stops dialect text a b further from n (s (a_value a ∷ one comma ∷ a_value b ∷ one right_paren ∷ further)))
 
@@ -156,7 +156,7 @@ record ItemsSoFar (dialect : Dialect) (text : List ℕ) (from place : ℕ) (t : 
   within : place ≤ length text
   begun : from ≤ place
   have_type : AllHaveType dialect (values_of vs) t
-  reads : Reads text from (leading_tokens vs) place
+  reads : HasTokens text from (leading_tokens vs) place
   stops : (wants : List Want) (n : ℕ) → StopsAt (Fills dialect (a_value t ∷ further_items t close ∷ wants)) text place n
       → StopsAt (Fills dialect (items t close ∷ wants)) text from n
 
@@ -169,8 +169,8 @@ next_items : (dialect : Dialect) → (text : List ℕ) (t : Ty) (close from : �
     → ReadingOfItems dialect text t close from
 next_items dialect text t close from readable place vs sofar later = by_item (readable place sofar.within)
   where
-    grown : (behind start : ℕ) (v : Value) → IsRead dialect text place t v behind → (next_token text behind ≡ Some (sign close) → ⊥)
-        → Takes text behind comma start → ItemsSoFar dialect text from start t close (vs ++ v ∷ [])
+    grown : (behind start : ℕ) (v : Value) → IsValueRead dialect text place t v behind → (next_token text behind ≡ Some (sign close) → ⊥)
+        → IsNextToken text behind comma start → ItemsSoFar dialect text from start t close (vs ++ v ∷ [])
     grown behind start v read unclosed parting = record {
       within = parting.within;
       begun = omega (arith, sofar.begun, read.moves, parting.moves);
@@ -182,8 +182,8 @@ next_items dialect text t close from readable place vs sofar later = by_item (re
           (after_one dialect text comma (a_value t ∷ further_items t close ∷ wants) behind start n parting.reads s)));
     }
 
-    by_comma : (behind : ℕ) (v : Value) → IsRead dialect text place t v behind → (next_token text behind ≡ Some (sign close) → ⊥)
-        → Reading dialect text behind (one comma ∷ []) (Takes text behind comma) → ReadingOfItems dialect text t close from
+    by_comma : (behind : ℕ) (v : Value) → IsValueRead dialect text place t v behind → (next_token text behind ≡ Some (sign close) → ⊥)
+        → Reading dialect text behind (one comma ∷ []) (IsNextToken text behind comma) → ReadingOfItems dialect text t close from
     by_comma behind v read unclosed (done start parting) =
         later start (vs ++ v ∷ []) (grown behind start v read unclosed parting) (omega (arith, read.moves, parting.moves))
     by_comma behind v read unclosed (stopped n s) = stopped n (λ further.
@@ -191,7 +191,7 @@ next_items dialect text t close from readable place vs sofar later = by_item (re
         (after_value dialect text t v (further_items t close ∷ further) place behind n read.has_type read.reads
         (later_item dialect text t close further behind n unclosed (s (a_value t ∷ further_items t close ∷ further)))))
 
-    by_close : (behind : ℕ) (v : Value) → IsRead dialect text place t v behind → Whether text behind (sign close) → ReadingOfItems dialect text t close from
+    by_close : (behind : ℕ) (v : Value) → IsValueRead dialect text place t v behind → Whether text behind (sign close) → ReadingOfItems dialect text t close from
     by_close behind v read (taken end closing) =
         done end (values_of (vs ++ v ∷ []), items_read dialect text from place behind end t close vs (vs ++ v ∷ []) v refl sofar.begun sofar.have_type sofar.reads read closing)
     by_close behind v read (another unclosed) = by_comma behind v read unclosed (one_sign dialect text behind 44 read.within)
@@ -222,24 +222,24 @@ all_items dialect text t close readable from within = by_close (whether text fro
 a_vec_of : (dialect : Dialect) → (text : List ℕ) (a : Ty) → Readable dialect text a → Readable dialect text (vec a)
 a_vec_of dialect text a readable from within = by_open (one_sign dialect text from 91 within)
   where
-    by_items : (place : ℕ) → Takes text from left_bracket place → ReadingOfItems dialect text a 93 place → ReadingOf dialect text (vec a) from
+    by_items : (place : ℕ) → IsNextToken text from left_bracket place → ReadingOfItems dialect text a 93 place → ReadingOf dialect text (vec a) from
     by_items place opening (done end (vs, all)) = done end (a_vec vs, vec_read dialect text from place end a vs opening all)
     by_items place opening (stopped n s) = stopped n (λ further.
         vec_stops dialect text a further from n (after_one dialect text left_bracket (items a 93 ∷ further) from place n opening.reads (s further)))
 
-    by_open : Reading dialect text from (one left_bracket ∷ []) (Takes text from left_bracket) → ReadingOf dialect text (vec a) from
+    by_open : Reading dialect text from (one left_bracket ∷ []) (IsNextToken text from left_bracket) → ReadingOf dialect text (vec a) from
     by_open (done place opening) = by_items place opening (all_items dialect text a 93 readable place opening.within)
     by_open (stopped n s) = stopped n (λ further. vec_stops dialect text a further from n (s (items a 93 ∷ further)))
 
 a_seq_of : (dialect : Dialect) → (text : List ℕ) (a : Ty) → Readable dialect text a → Readable dialect text (seq a)
 a_seq_of dialect text a readable from within = by_open (one_sign dialect text from 123 within)
   where
-    by_items : (place : ℕ) → Takes text from left_brace place → ReadingOfItems dialect text a 125 place → ReadingOf dialect text (seq a) from
+    by_items : (place : ℕ) → IsNextToken text from left_brace place → ReadingOfItems dialect text a 125 place → ReadingOf dialect text (seq a) from
     by_items place opening (done end (vs, all)) = done end (a_seq vs, seq_read dialect text from place end a vs opening all)
     by_items place opening (stopped n s) = stopped n (λ further.
         seq_stops dialect text a further from n (after_one dialect text left_brace (items a 125 ∷ further) from place n opening.reads (s further)))
 
-    by_open : Reading dialect text from (one left_brace ∷ []) (Takes text from left_brace) → ReadingOf dialect text (seq a) from
+    by_open : Reading dialect text from (one left_brace ∷ []) (IsNextToken text from left_brace) → ReadingOf dialect text (seq a) from
     by_open (done place opening) = by_items place opening (all_items dialect text a 125 readable place opening.within)
     by_open (stopped n s) = stopped n (λ further. seq_stops dialect text a further from n (s (items a 125 ∷ further)))
 
@@ -258,7 +258,7 @@ ReadingOfEntry dialect text d from = Reading dialect text from (entry_wants d []
 an_entry : (dialect : Dialect) → (text : List ℕ) (d : Declaration) (from : ℕ) → from ≤ length text → ReadingOfEntry dialect text d from
 an_entry dialect text d from within = by_name (one_word dialect text from d.0 within)
   where
-    by_value : (behind start : ℕ) → Takes text from (word d.0) behind → Takes text behind equals start → ReadingOf dialect text d.1 start → ReadingOfEntry dialect text d from
+    by_value : (behind start : ℕ) → IsNextToken text from (word d.0) behind → IsNextToken text behind equals start → ReadingOf dialect text d.1 start → ReadingOfEntry dialect text d from
     by_value behind start name is (done end (v, read)) = done end (
       (d.0, v),
       record {
@@ -273,19 +273,19 @@ an_entry dialect text d from within = by_name (one_word dialect text from d.0 wi
         after_one dialect text (word d.0) (one equals ∷ a_value d.1 ∷ further) from behind n name.reads
         (after_one dialect text equals (a_value d.1 ∷ further) behind start n is.reads (s further)))
 
-    by_equals : (behind : ℕ) → Takes text from (word d.0) behind → Reading dialect text behind (one equals ∷ []) (Takes text behind equals) → ReadingOfEntry dialect text d from
+    by_equals : (behind : ℕ) → IsNextToken text from (word d.0) behind → Reading dialect text behind (one equals ∷ []) (IsNextToken text behind equals) → ReadingOfEntry dialect text d from
     by_equals behind name (done start is) = by_value behind start name is (readable dialect text d.1 start is.within)
     by_equals behind name (stopped n s) = stopped n (λ further.
         after_one dialect text (word d.0) (one equals ∷ a_value d.1 ∷ further) from behind n name.reads (s (a_value d.1 ∷ further)))
 
-    by_name : Reading dialect text from (one (word d.0) ∷ []) (Takes text from (word d.0)) → ReadingOfEntry dialect text d from
+    by_name : Reading dialect text from (one (word d.0) ∷ []) (IsNextToken text from (word d.0)) → ReadingOfEntry dialect text d from
     by_name (done behind name) = by_equals behind name (one_sign dialect text behind 61 name.within)
     by_name (stopped n s) = stopped n (λ further. s (one equals ∷ a_value d.1 ∷ further))
 
 -- all declared inputs were read, or the reader stops
 data WholeReading (dialect : Dialect) (text : List ℕ) (ds : List Declaration) : Type 0 where
   all_read : (es : Environment) (end : ℕ) → AllRead dialect text ds es end → WholeReading dialect text ds
-  stopped_at : (n : ℕ) → StopsAt (IsLawful dialect ds) text 0 n → WholeReading dialect text ds
+  stopped_at : (n : ℕ) → StopsAt (SpellsEnvironment dialect ds) text 0 n → WholeReading dialect text ds
 
 -- no input is left
 no_entries : (dialect : Dialect) → (text : List ℕ) (ds : List Declaration) (es : Environment) (at : ℕ) → SoFar dialect text ds [] es at → WholeReading dialect text ds
@@ -300,13 +300,13 @@ next_entry : (dialect : Dialect) → (text : List ℕ) (ds : List Declaration) (
     → SoFar dialect text ds (d ∷ left) es at → ((news : Environment) (end : ℕ) → SoFar dialect text ds left news end → WholeReading dialect text ds) → WholeReading dialect text ds
 next_entry dialect text ds d left es at sofar later = by_semicolon (one_sign dialect text at 59 sofar.within)
   where
-    by_entry : (start : ℕ) → Takes text at semicolon start → ReadingOfEntry dialect text d start → WholeReading dialect text ds
+    by_entry : (start : ℕ) → IsNextToken text at semicolon start → ReadingOfEntry dialect text d start → WholeReading dialect text ds
     by_entry start parting (done end (entry, read)) =
         later (es ++ entry ∷ []) end (next_so_far dialect text ds d left es entry at start end sofar parting read)
     by_entry start parting (stopped n s) = stopped_at n (stops_lawful dialect text ds n (sofar.stops n
         (after_one dialect text semicolon (entry_wants d (further_wants left)) at start n parting.reads (s (further_wants left)))))
 
-    by_semicolon : Reading dialect text at (one semicolon ∷ []) (Takes text at semicolon) → WholeReading dialect text ds
+    by_semicolon : Reading dialect text at (one semicolon ∷ []) (IsNextToken text at semicolon) → WholeReading dialect text ds
     by_semicolon (done start parting) = by_entry start parting (an_entry dialect text d start parting.within)
     by_semicolon (stopped n s) = stopped_at n (stops_lawful dialect text ds n (sofar.stops n (s (entry_wants d (further_wants left)))))
 

@@ -1,6 +1,6 @@
 -- The tokens of a text, one after another.
 use Rattle.std.proofs.Common.{◌≡◌, ℕ, zero, suc, ◌+◌, ◌-◌, ◌<◌, ◌≤◌, List, [], ◌∷◌, length, drop, Option, Some, None, option_map, refl, sym, ap, ◌∙◌, subst, arith}
-use Rattle.snesl_values.specs.InputTokens.{Token, Lexeme, first, next, next_at, Reads, none, more}
+use Rattle.snesl_values.specs.InputTokens.{Token, SizedToken, first, next, next_at, HasTokens, none, more}
 use Rattle.snesl_values.proofs.InputScan.{Coming, nothing_comes, comes, coming, no_next}
 use Rattle.snesl_values.specs.declared.marks.Found.{Found}
 use Rattle.snesl_values.specs.declared.marks.Mark.{Mark}
@@ -8,24 +8,24 @@ use Rattle.snesl_values.specs.Marks.{mark_of, spots_by, spots_in, spots, found_f
 use Rattle.snesl_values.proofs.First.{seen}
 
 -- the next lexeme, and that it ends behind its beginning, within the text
-pub record Comes (text : List ℕ) (at : ℕ) (lexeme : Lexeme) : Type 0 where
+pub record Comes (text : List ℕ) (at : ℕ) (lexeme : SizedToken) : Type 0 where
   pub moves : at < next_at text at + lexeme.1
   pub within : next_at text at + lexeme.1 ≤ length text
 
-no_lexeme : (o : Option Lexeme) → option_map (λ (l : Lexeme). l.0) o ≡ None → o ≡ None
+no_lexeme : (o : Option SizedToken) → option_map (λ (l : SizedToken). l.0) o ≡ None → o ≡ None
 no_lexeme None e = refl
 no_lexeme (Some l) e = absurd (let f : Some l.0 ≡ None = e in cc)
 
 -- what the text has next
-pub data Next (text : List ℕ) (at : ℕ) : Option Lexeme → Type 0 where
+pub data Next (text : List ℕ) (at : ℕ) : Option SizedToken → Type 0 where
   nothing : Next text at None
-  lexeme : (l : Lexeme) → Comes text at l → Next text at (Some l)
+  lexeme : (l : SizedToken) → Comes text at l → Next text at (Some l)
 
 -- the first of tokens that were read, and those behind it
-pub uncons : {text : List ℕ} {from end : ℕ} {t : Token} {ts : List Token} → Reads text from (t ∷ ts) end → (len : ℕ) × (next text from ≡ Some (t, len)) × Reads text (next_at text from + len) ts end
+pub uncons : {text : List ℕ} {from end : ℕ} {t : Token} {ts : List Token} → HasTokens text from (t ∷ ts) end → (len : ℕ) × (next text from ≡ Some (t, len)) × HasTokens text (next_at text from + len) ts end
 uncons (more t len e h) = (len, e, h)
 
-pub unread : {text : List ℕ} {from end : ℕ} → Reads text from [] end → from ≡ end
+pub unread : {text : List ℕ} {from end : ℕ} → HasTokens text from [] end → from ≡ end
 unread none = refl
 
 pub next_is : (text : List ℕ) (at : ℕ) → at ≤ length text → Next text at (next text at)
@@ -42,7 +42,7 @@ at_end : (n : ℕ) (text : List ℕ) (at : ℕ) → at ≤ length text → lengt
 at_end zero text at within over = refl
 at_end (suc n) text at within over = by_next (next text at) (next_is text at within)
   where
-    by_next : (o : Option Lexeme) → Next text at o → spots_by (spots_in n text) text at o ≡ []
+    by_next : (o : Option SizedToken) → Next text at o → spots_by (spots_in n text) text at o ≡ []
     by_next None nothing = refl
     by_next (Some l) (lexeme _ there) = absurd (omega (arith, there.moves, there.within))
 
@@ -52,7 +52,7 @@ enough zero n text at within h k = sym (at_end n text at within (omega arith))
 enough (suc m) zero text at within h k = at_end (suc m) text at within (omega arith)
 enough (suc m) (suc n) text at within h k = by_next (next text at) (next_is text at within) (λ at' within' h' k'. enough m n text at' within' h' k')
   where
-    by_next : (o : Option Lexeme) → Next text at o → ((at' : ℕ) → at' ≤ length text → length text - at' ≤ m → length text - at' ≤ n → spots_in m text at' ≡ spots_in n text at')
+    by_next : (o : Option SizedToken) → Next text at o → ((at' : ℕ) → at' ≤ length text → length text - at' ≤ m → length text - at' ≤ n → spots_in m text at' ≡ spots_in n text at')
         → spots_by (spots_in m text) text at o ≡ spots_by (spots_in n text) text at o
     by_next None nothing same = refl
     by_next (Some l) (lexeme _ there) same =
@@ -68,11 +68,11 @@ spots_none text at e = by_fuel (length text - at)
     by_fuel (suc n) = ap (spots_by (spots_in n text) text at) e
 
 -- where one does
-pub spots_some : (text : List ℕ) (at : ℕ) (l : Lexeme) → at ≤ length text → next text at ≡ Some l → spots text at ≡ (mark_of l.0, at) ∷ spots text (next_at text at + l.1)
+pub spots_some : (text : List ℕ) (at : ℕ) (l : SizedToken) → at ≤ length text → next text at ≡ Some l → spots text at ≡ (mark_of l.0, at) ∷ spots text (next_at text at + l.1)
 unfolding spots
 spots_some text at l within e = by_next (next text at) (next_is text at within) e
   where
-    by_next : (o : Option Lexeme) → Next text at o → o ≡ Some l → spots_in (length text - at) text at ≡ (mark_of l.0, at) ∷ spots_in (length text - (next_at text at + l.1)) text (next_at text at + l.1)
+    by_next : (o : Option SizedToken) → Next text at o → o ≡ Some l → spots_in (length text - at) text at ≡ (mark_of l.0, at) ∷ spots_in (length text - (next_at text at + l.1)) text (next_at text at + l.1)
     by_next None nothing f = absurd (cc)
     by_next (Some x) (lexeme _ there) f =
         let same : x ≡ l = cc in
@@ -94,7 +94,7 @@ unfolding next
 found_some text at start pair e f =
     by_first (first (drop start text)) f ∙ ap (λ n. found_from n (first (drop n text))) e
   where
-    by_first : (o : Option Lexeme) → Some pair ≡ option_map seen o → Some (record { mark = pair.0; end = start + pair.1 }) ≡ found_from start o
+    by_first : (o : Option SizedToken) → Some pair ≡ option_map seen o → Some (record { mark = pair.0; end = start + pair.1 }) ≡ found_from start o
     by_first None f = absurd (cc)
     by_first (Some l) f =
         let same : pair ≡ seen l = cc in

@@ -15,11 +15,11 @@ abbrev pub Environment : Type 0
 Environment = List (List ℕ × Value)
 
 -- the names are the declared ones in order, and each value has its declared type in the dialect
-abbrev pub Fits : Dialect → List Declaration → Environment → Type 0
-Fits dialect [] [] = Unit {0}
-Fits dialect (declaration ∷ declarations) (entry ∷ environment) =
-    (entry.0 ≡ declaration.0) × HasType dialect entry.1 declaration.1 × Fits dialect declarations environment
-Fits dialect _ _ = ⊥
+abbrev pub FitDeclarations : Dialect → List Declaration → Environment → Type 0
+FitDeclarations dialect [] [] = Unit {0}
+FitDeclarations dialect (declaration ∷ declarations) (entry ∷ environment) =
+    (entry.0 ≡ declaration.0) × HasType dialect entry.1 declaration.1 × FitDeclarations dialect declarations environment
+FitDeclarations dialect _ _ = ⊥
 
 -- the declaration that a name and a type are
 abbrev pub declaration_of : (Vec ℕ Global × TyTree) → Declaration

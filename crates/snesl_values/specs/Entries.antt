@@ -4,21 +4,21 @@ use Rattle.snesl_data.specs.declared.dialect.Dialect.{Dialect}
 use Rattle.snesl_data.specs.Types.{Ty}
 use Rattle.snesl_data.specs.Values.{Value, HasType}
 use Rattle.snesl_values.specs.Declarations.{Declaration, Environment}
-use Rattle.snesl_values.specs.InputTokens.{Token, Lexeme, next_at, next}
+use Rattle.snesl_values.specs.InputTokens.{Token, SizedToken, next_at, next}
 use Rattle.snesl_values.specs.Spellings.{value_tokens}
 use Rattle.snesl_values.specs.Places.{value_at}
 use Rattle.snesl_values.specs.declared.places.Placed.{Placed}
 
 -- a name, and the value that is read from its place on
-abbrev pub entry_at : List ℕ → Placed → List ℕ × Value
-entry_at text placed = (placed.name.items, value_at text placed.place)
+abbrev pub entry_from : List ℕ → Placed → List ℕ × Value
+entry_from text placed = (placed.name.items, value_at text placed.place)
 
 -- the same for all of them
 abbrev pub environment_at : List ℕ → List Placed → Environment
-environment_at text all = map (entry_at text) all
+environment_at text all = map (entry_from text) all
 
 -- the token comes next, and `Behind` is true of the offset behind it
-abbrev pub ComesBy : (ℕ → Type 0) → Token → ℕ → Option Lexeme → Type 0
+abbrev pub ComesBy : (ℕ → Type 0) → Token → ℕ → Option SizedToken → Type 0
 ComesBy Behind token start None = ⊥
 ComesBy Behind token start (Some lexeme) = (lexeme.0 ≡ token) × Behind (start + lexeme.1)
 

@@ -15,8 +15,8 @@ pub data Token : Type 0 where
   bad : Token
 
 -- a token and its length in bytes
-abbrev pub Lexeme : Type 0
-Lexeme = Token × ℕ
+abbrev pub SizedToken : Type 0
+SizedToken = Token × ℕ
 
 -- the signs, of one byte each
 abbrev pub is_sign : ℕ → Bool
@@ -33,12 +33,12 @@ signed false n = pos n
 signed true n = negated n
 
 -- a minus with the digits behind it, at least one
-abbrev pub minus_lexeme : List ℕ → Lexeme
+abbrev pub minus_lexeme : List ℕ → SizedToken
 minus_lexeme [] = (bad, 1)
 minus_lexeme digits = (integer (negated (value_from 0 digits)), suc (length digits))
 
 -- the longest token that stands first in bytes, where no blank does; in no bytes stands none
-unfoldable pub first : List ℕ → Option Lexeme
+unfoldable pub first : List ℕ → Option SizedToken
 first [] = None
 first (b ∷ bs) =
     if is_ascii_alphabetic b then (let letters = take_while is_word (b ∷ bs) in Some (word letters, length letters)) else
@@ -51,24 +51,24 @@ unfoldable pub next_at : List ℕ → ℕ → ℕ
 next_at text at = at + prefix_len is_blank (drop at text)
 
 -- the token that comes next from an offset on
-unfoldable pub next : List ℕ → ℕ → Option Lexeme
+unfoldable pub next : List ℕ → ℕ → Option SizedToken
 next text at = first (drop (next_at text at) text)
 
 -- the same without its length
 abbrev pub next_token : List ℕ → ℕ → Option Token
-next_token text at = option_map (λ (lexeme : Lexeme). lexeme.0) (next text at)
+next_token text at = option_map (λ (lexeme : SizedToken). lexeme.0) (next text at)
 
 -- these are the tokens of a text from one offset to another, with blanks before each
-pub data Reads (text : List ℕ) : ℕ → List Token → ℕ → Type 0 where
+pub data HasTokens (text : List ℕ) : ℕ → List Token → ℕ → Type 0 where
   -- no tokens
-  none : {at : ℕ} → Reads text at [] at
+  none : {at : ℕ} → HasTokens text at [] at
   -- a token, and then tokens
   more : {at end : ℕ} {tokens : List Token} (token : Token) (len : ℕ) → next text at ≡ Some (token, len)
-      → Reads text (next_at text at + len) tokens end → Reads text at (token ∷ tokens) end
+      → HasTokens text (next_at text at + len) tokens end → HasTokens text at (token ∷ tokens) end
 
 -- the next token is this one, and ends before this offset
-pub record Takes (text : List ℕ) (at : ℕ) (token : Token) (end : ℕ) : Type 0 where
-  pub reads : Reads text at (token ∷ []) end
+pub record IsNextToken (text : List ℕ) (at : ℕ) (token : Token) (end : ℕ) : Type 0 where
+  pub reads : HasTokens text at (token ∷ []) end
   pub moves : at < end
   pub within : end ≤ length text
 

@@ -8,12 +8,12 @@ use Rattle.snesl_values.specs.declared.inputs.InputError.{InputError}
 use Rattle.snesl_values.specs.declared.inputs.InputError.TheVariants.{Bad, NoMemory}
 use Rattle.snesl_data.specs.declared.refusal.Refusal.{Refusal}
 use Rattle.snesl_data.specs.declared.refusal.Refusal.TheVariants as refusals
-pub use Rattle.snesl_values.specs.Declarations.{Declaration, Environment, Fits, declaration_of, declared}
+pub use Rattle.snesl_values.specs.Declarations.{Declaration, Environment, FitDeclarations, declaration_of, declared}
 pub use Rattle.snesl_values.specs.Spellings.{equals, semicolon, comma, left_paren, right_paren, left_bracket, right_bracket, left_brace, right_brace, value_tokens, items_tokens, further_tokens}
 use Rattle.snesl_values.specs.declared.places.Placed.{Placed}
 use Rattle.snesl_values.specs.Entries.{environment_at}
 use Rattle.snesl_data.specs.Values.{Value}
-use Rattle.snesl_values.specs.InputTokens.{Token, word, next_at, next_token, Reads}
+use Rattle.snesl_values.specs.InputTokens.{Token, word, next_at, next_token, HasTokens}
 
 -- the greatest length of an input text, in bytes
 abbrev pub greatest_input_length : ℕ
@@ -41,20 +41,20 @@ AreEntries environment tokens =
 
 -- the tokens spell this environment for these declarations, in the dialect
 pub record Spells (dialect : Dialect) (declarations : List Declaration) (environment : Environment) (tokens : List Token) : Type 0 where
-  pub fits : Fits dialect declarations environment
+  pub fits : FitDeclarations dialect declarations environment
   pub entries : AreEntries environment tokens
 
 -- the tokens spell some environment
-abbrev pub IsLawful : Dialect → List Declaration → List Token → Type 0
-IsLawful dialect declarations tokens = (environment : Environment) × Spells dialect declarations environment tokens
+abbrev pub SpellsEnvironment : Dialect → List Declaration → List Token → Type 0
+SpellsEnvironment dialect declarations tokens = (environment : Environment) × Spells dialect declarations environment tokens
 
 -- some list of tokens of this kind begins with these
-abbrev pub Begins : (List Token → Type 0) → List Token → Type 0
-Begins Kind front = (rest : List Token) × Kind (front ++ rest)
+abbrev pub CanBecome : (List Token → Type 0) → List Token → Type 0
+CanBecome Kind front = (rest : List Token) × Kind (front ++ rest)
 
 -- what comes next, a token or the end of the text, may stand behind these tokens in lists of this kind
 abbrev pub MayFollow : (List Token → Type 0) → List Token → Option Token → Type 0
-MayFollow Kind front (Some token) = Begins Kind (front ++ (token ∷ []))
+MayFollow Kind front (Some token) = CanBecome Kind (front ++ (token ∷ []))
 MayFollow Kind front None = Kind front
 
 -- reading a list of this kind from an offset on stops at another offset: the tokens up to there begin
@@ -62,8 +62,8 @@ MayFollow Kind front None = Kind front
 pub record StopsAt (Kind : List Token → Type 0) (text : List ℕ) (from stop : ℕ) : Type 0 where
   pub front : List Token
   pub end : ℕ
-  pub reads : Reads text from front end
-  pub begins : Begins Kind front
+  pub reads : HasTokens text from front end
+  pub begins : CanBecome Kind front
   pub refuses : ¬ MayFollow Kind front (next_token text end)
   pub there : stop ≡ next_at text end
 
@@ -78,10 +78,10 @@ pub data InputMeans (dialect : Dialect) (declarations : List Declaration) (text 
   too_long : greatest_input_length < length text → InputMeans dialect declarations text (refused_at greatest_input_length)
   -- a text spells the environment that its tokens do
   lawful : {environment : Environment} {tokens : List Token} {end : ℕ} → length text ≤ greatest_input_length
-      → Reads text 0 tokens end → next_token text end ≡ None → Spells dialect declarations environment tokens
+      → HasTokens text 0 tokens end → next_token text end ≡ None → Spells dialect declarations environment tokens
       → InputMeans dialect declarations text (spells environment)
   -- any other text is refused at the first token that may not stand there, or at its length where it ends too early
-  unlawful : {at : ℕ} → length text ≤ greatest_input_length → StopsAt (IsLawful dialect declarations) text 0 at
+  unlawful : {at : ℕ} → length text ≤ greatest_input_length → StopsAt (SpellsEnvironment dialect declarations) text 0 at
       → InputMeans dialect declarations text (refused_at at)
 
 -- no text has two answers

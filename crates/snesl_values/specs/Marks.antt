@@ -3,7 +3,7 @@ use Rattle.std.specs.Prelude.{ℕ, zero, suc, ◌+◌, ◌-◌, ◌==◌, true, 
 use Rattle.std.specs.Str.{bytes_eq}
 use Rattle.snesl_data.specs.declared.dialect.Dialect.TheVariants.{Two}
 use Rattle.snesl_data.specs.Integers.{is_integer}
-use Rattle.snesl_values.specs.InputTokens.{Token, word, integer, sign, bad, Lexeme, next_at, next}
+use Rattle.snesl_values.specs.InputTokens.{Token, word, integer, sign, bad, SizedToken, next_at, next}
 use Rattle.snesl_values.specs.declared.marks.Bracket.TheVariants.{Round, Square, Curly}
 use Rattle.snesl_values.specs.declared.marks.Found.{Found}
 use Rattle.snesl_values.specs.declared.marks.Mark.{Mark}
@@ -31,12 +31,12 @@ abbrev pub Spot : Type 0
 Spot = Mark × ℕ
 
 -- the mark of a token that begins at this offset, if there is one, and the offset behind it
-abbrev pub found_from : ℕ → Option Lexeme → Option Found
+abbrev pub found_from : ℕ → Option SizedToken → Option Found
 found_from start None = None
 found_from start (Some lexeme) = Some (record { mark = mark_of lexeme.0; end = start + lexeme.1 })
 
 -- the token that comes next, if one does, and then those that `behind` gives from its end on
-abbrev pub spots_by : (ℕ → List Spot) → List ℕ → ℕ → Option Lexeme → List Spot
+abbrev pub spots_by : (ℕ → List Spot) → List ℕ → ℕ → Option SizedToken → List Spot
 spots_by behind text at None = []
 spots_by behind text at (Some lexeme) = (mark_of lexeme.0, at) ∷ behind (next_at text at + lexeme.1)
 

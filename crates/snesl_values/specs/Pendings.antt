@@ -4,21 +4,21 @@ use Rattle.snesl_data.specs.declared.datum.Datum.{Datum}
 use Rattle.snesl_data.specs.Values.{value_of}
 use Rattle.snesl_values.specs.declared.builder.Pending.{Pending}
 use Rattle.snesl_values.specs.declared.builder.Pending.TheVariants.{Items, First, Second}
-use Rattle.snesl_values.specs.Places.{Frame, in_items, in_first, in_second, Reading}
+use Rattle.snesl_values.specs.Places.{OpenPart, in_items, in_first, in_second, Reading}
 
 -- the frame that something open is
-abbrev pub frame_of : Pending → Frame
+abbrev pub frame_of : Pending → OpenPart
 frame_of (Items bracket items) = in_items bracket (map value_of items.items)
 frame_of First = in_first
 frame_of (Second datum) = in_second (value_of datum)
 
 -- the frames of these, the last one innermost, upon other frames
-abbrev pub frames_from : List Frame → List Pending → List Frame
+abbrev pub frames_from : List OpenPart → List Pending → List OpenPart
 frames_from frames [] = frames
 frames_from frames (one ∷ rest) = frames_from (frame_of one ∷ frames) rest
 
 -- the frames of all that is open
-unfoldable pub frames_of : List Pending → List Frame
+unfoldable pub frames_of : List Pending → List OpenPart
 frames_of all = frames_from [] all
 
 -- the same with the value that was just read, if one was

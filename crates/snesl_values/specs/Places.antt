@@ -8,14 +8,14 @@ use Rattle.snesl_values.specs.declared.marks.Mark.TheVariants.{Truth, Number, Op
 use Rattle.snesl_values.specs.Marks.{Spot, spots}
 
 -- what is open: a vector or a sequence with its items so far, or a pair in its first or second part
-pub data Frame : Type 0 where
-  in_items : Bracket → List Value → Frame
-  in_first : Frame
-  in_second : Value → Frame
+pub data OpenPart : Type 0 where
+  in_items : Bracket → List Value → OpenPart
+  in_first : OpenPart
+  in_second : Value → OpenPart
 
 -- what is open, the innermost first, and the value that was just read, if one was
 abbrev pub Reading : Type 0
-Reading = List Frame × Option Value
+Reading = List OpenPart × Option Value
 
 -- what stands for a value where none is spelled
 abbrev pub no_value : Value
@@ -26,18 +26,18 @@ abbrev pub unlawful : Reading
 unlawful = ([], Some no_value)
 
 -- the vector or the sequence of these items, by its bracket
-abbrev pub closed : Bracket → List Value → Value
-closed Square vs = a_vec (values_of vs)
-closed Curly vs = a_seq (values_of vs)
-closed Round vs = no_value
+abbrev pub bracket_value : Bracket → List Value → Value
+bracket_value Square vs = a_vec (values_of vs)
+bracket_value Curly vs = a_seq (values_of vs)
+bracket_value Round vs = no_value
 
 -- a bracket is closed where a value could come next
-abbrev pub close_none : List Frame → Reading
-close_none (in_items b vs ∷ frames) = (frames, Some (closed b vs))
+abbrev pub close_none : List OpenPart → Reading
+close_none (in_items b vs ∷ frames) = (frames, Some (bracket_value b vs))
 close_none _ = unlawful
 
 -- a token where a value comes next
-abbrev pub on_none : List Frame → Mark → Reading
+abbrev pub on_none : List OpenPart → Mark → Reading
 on_none frames (Number n) = (frames, Some (an_int n))
 on_none frames (Truth b) = (frames, Some (a_bool b))
 on_none frames (Open Round) = (in_first ∷ frames, None)
@@ -47,28 +47,28 @@ on_none frames (Close b) = close_none frames
 on_none frames mark = unlawful
 
 -- a token behind a value
-abbrev pub on_some : Value → List Frame → Mark → Reading
+abbrev pub on_some : Value → List OpenPart → Mark → Reading
 on_some v [] mark = ([], Some v)
 on_some v (in_items b vs ∷ frames) Comma = (in_items b (vs ++ v ∷ []) ∷ frames, None)
-on_some v (in_items b vs ∷ frames) (Close c) = (frames, Some (closed b (vs ++ v ∷ [])))
+on_some v (in_items b vs ∷ frames) (Close c) = (frames, Some (bracket_value b (vs ++ v ∷ [])))
 on_some v (in_first ∷ frames) Comma = (in_second v ∷ frames, None)
 on_some v (in_second a ∷ frames) (Close c) = (frames, Some (a_pair a v))
 on_some v frames mark = unlawful
 
 -- a token behind a value that was just read, or else where one comes next
-abbrev pub read_by : Option Value → List Frame → Mark → Reading
-read_by None frames mark = on_none frames mark
-read_by (Some v) frames mark = on_some v frames mark
+abbrev pub after_token : Option Value → List OpenPart → Mark → Reading
+after_token None frames mark = on_none frames mark
+after_token (Some v) frames mark = on_some v frames mark
 
 -- the value at the end of the tokens
-abbrev pub read_value : List Frame → Option Value → Value
+abbrev pub read_value : List OpenPart → Option Value → Value
 read_value [] (Some v) = v
 read_value _ _ = no_value
 
 -- the value that these tokens spell behind what was read so far
-abbrev pub spelled : List Frame → Option Value → List Spot → Value
+abbrev pub spelled : List OpenPart → Option Value → List Spot → Value
 spelled frames value [] = read_value frames value
-spelled frames value (spot ∷ rest) = (let r = read_by value frames spot.0 in spelled r.0 r.1 rest)
+spelled frames value (spot ∷ rest) = (let r = after_token value frames spot.0 in spelled r.0 r.1 rest)
 
 -- the value that is read from an offset on
 unfoldable pub value_at : List ℕ → ℕ → Value

@@ -5,8 +5,8 @@ use Rattle.snesl_values.specs.declared.inputs.InputError.{InputError}
 use Rattle.snesl_values.specs.declared.inputs.InputError.TheVariants.{Bad, NoMemory}
 use Rattle.snesl_data.specs.Types.{Ty}
 use Rattle.snesl_data.specs.Values.{Value, Values, HasType, AllHaveType}
-use Rattle.snesl_values.specs.InputTokens.{Token, word, sign, next_at, next_token, Reads}
-use Rattle.snesl_values.specs.Inputs.{Declaration, Environment, equals, semicolon, value_tokens, items_tokens, further_tokens, entry_tokens, StopsAt, Spells, IsLawful}
+use Rattle.snesl_values.specs.InputTokens.{Token, word, sign, next_at, next_token, HasTokens}
+use Rattle.snesl_values.specs.Inputs.{Declaration, Environment, equals, semicolon, value_tokens, items_tokens, further_tokens, entry_tokens, StopsAt, Spells, SpellsEnvironment}
 
 -- a part of a lawful text that is still to come
 pub data Want : Type 0 where
@@ -56,16 +56,16 @@ IsStop dialect wants text from (Bad at) = (further : List Want) → StopsAt (Fil
 IsStop dialect wants text from NoMemory = Unit {0}
 
 -- a value of this type was read, which ends before this offset
-pub record IsRead (dialect : Dialect) (text : List ℕ) (from : ℕ) (t : Ty) (value : Value) (end : ℕ) : Type 0 where
+pub record IsValueRead (dialect : Dialect) (text : List ℕ) (from : ℕ) (t : Ty) (value : Value) (end : ℕ) : Type 0 where
   pub has_type : HasType dialect value t
-  pub reads : Reads text from (value_tokens value) end
+  pub reads : HasTokens text from (value_tokens value) end
   pub moves : from < end
   pub within : end ≤ length text
 
 -- items of this type were read, with the sign that closes them
 pub record AreRead (dialect : Dialect) (text : List ℕ) (from : ℕ) (t : Ty) (close : ℕ) (values : Values) (end : ℕ) : Type 0 where
   pub have_type : AllHaveType dialect values t
-  pub reads : Reads text from (items_tokens values ++ (sign close ∷ [])) end
+  pub reads : HasTokens text from (items_tokens values ++ (sign close ∷ [])) end
   pub moves : from < end
   pub within : end ≤ length text
 
@@ -73,19 +73,19 @@ pub record AreRead (dialect : Dialect) (text : List ℕ) (from : ℕ) (t : Ty) (
 pub record IsEntry (dialect : Dialect) (text : List ℕ) (from : ℕ) (declaration : Declaration) (entry : List ℕ × Value) (end : ℕ) : Type 0 where
   pub named : entry.0 ≡ declaration.0
   pub has_type : HasType dialect entry.1 declaration.1
-  pub reads : Reads text from (entry_tokens entry) end
+  pub reads : HasTokens text from (entry_tokens entry) end
   pub moves : from < end
   pub within : end ≤ length text
 
 -- all declared inputs were read, up to this offset, and nothing may stand behind them
 pub record AllRead (dialect : Dialect) (text : List ℕ) (declarations : List Declaration) (environment : Environment) (end : ℕ) : Type 0 where
   pub tokens : List Token
-  pub reads : Reads text 0 tokens end
+  pub reads : HasTokens text 0 tokens end
   pub spells : Spells dialect declarations environment tokens
   pub within : end ≤ length text
-  pub no_more : next_token text end ≢ None → StopsAt (IsLawful dialect declarations) text 0 (next_at text end)
+  pub no_more : next_token text end ≢ None → StopsAt (SpellsEnvironment dialect declarations) text 0 (next_at text end)
 
 -- the error of the reader of a whole text
 abbrev pub IsStopOf : Dialect → List Declaration → List ℕ → InputError → Type 0
-IsStopOf dialect declarations text (Bad at) = StopsAt (IsLawful dialect declarations) text 0 at
+IsStopOf dialect declarations text (Bad at) = StopsAt (SpellsEnvironment dialect declarations) text 0 at
 IsStopOf dialect declarations text NoMemory = Unit {0}

@@ -2,7 +2,7 @@
 
 ghost use Rattle.std.specs.Prelude.{◌≡◌, ◌∷◌, [], map, option_map, IfOk, OnOk, Some, None};
 ghost use Rattle.snesl_data.specs.Values.{value_of};
-ghost use Rattle.snesl_values.specs.Places.{value_at, on_none, on_some, close_none, read_value, closed, in_items, in_first, in_second, unlawful};
+ghost use Rattle.snesl_values.specs.Places.{value_at, on_none, on_some, close_none, read_value, bracket_value, in_items, in_first, in_second, unlawful};
 ghost use Rattle.snesl_values.specs.Pendings.{frames_of, reading_of};
 
 use crate::marks::{Bracket, Mark, mark_at};
@@ -108,7 +108,7 @@ fn close_empty(pending: &mut Vec<Pending>) -> Option<Datum>
     ensures { reading_of pending.new.items result ≡ close_none (frames_of pending.old.items) }
 {
     match pending.pop() {
-        Some(Pending::Items(bracket, items)) => Some(closed(bracket, items)),
+        Some(Pending::Items(bracket, items)) => Some(bracket_value(bracket, items)),
         Some(Pending::First) => unlawful(pending),
         Some(Pending::Second(_)) => unlawful(pending),
         None => unlawful(pending),
@@ -154,7 +154,7 @@ fn behind_item(
         }
         Mark::Close(_) => {
             all.push(datum)?;
-            Ok(Some(closed(bracket, all)))
+            Ok(Some(bracket_value(bracket, all)))
         }
         _ => Ok(unlawful(pending)),
     }
@@ -208,8 +208,8 @@ fn unlawful(pending: &mut Vec<Pending>) -> Option<Datum>
 }
 
 // The vector or the sequence of these items, by its bracket.
-fn closed(bracket: Bracket, items: Vec<Datum>) -> Datum
-    ensures { value_of result ≡ closed bracket (map value_of items.items) }
+fn bracket_value(bracket: Bracket, items: Vec<Datum>) -> Datum
+    ensures { value_of result ≡ bracket_value bracket (map value_of items.items) }
 {
     match bracket {
         Bracket::Square => Datum::Vec(items),

@@ -3,10 +3,10 @@
 // An error `Bad` has the offset of the first token that may not stand there, or the text's length.
 
 ghost use Rattle.std.specs.Prelude.{◌≡◌, ◌≤◌, ◌∷◌, [], ◌⊎◌, length, IsTrue, IfOk, IfErr};
-ghost use Rattle.snesl_values.specs.InputTokens.{word, sign, is_sign, Takes};
+ghost use Rattle.snesl_values.specs.InputTokens.{word, sign, is_sign, IsNextToken};
 ghost use Rattle.snesl_data.specs.Types.{ty_of, bool, pair};
 ghost use Rattle.snesl_data.specs.Values.{Value, Values};
-ghost use Rattle.snesl_values.specs.Wants.{one, a_value, items, IsStop, IsRead, AreRead};
+ghost use Rattle.snesl_values.specs.Wants.{one, a_value, items, IsStop, IsValueRead, AreRead};
 
 use crate::inputs::InputError;
 use crate::scan::{behind_sign, behind_word, integer_at, skip_blanks};
@@ -17,7 +17,7 @@ use snesl_data::{Dialect, Ty};
 pub fn expect_sign(dialect: Dialect, text: &[u8], at: usize, byte: u8) -> Result<usize, InputError>
     requires within { at ≤ length text.now }
     requires lawful { IsTrue (is_sign byte) }
-    ensures taken { IfOk result (Takes text.now at (sign byte)) }
+    ensures taken { IfOk result (IsNextToken text.now at (sign byte)) }
     ensures stops { IfErr result (IsStop dialect (one (sign byte) ∷ []) text.now at) }
 {
     match behind_sign(text, at, byte) {
@@ -34,7 +34,7 @@ pub fn expect_word(
     expected: &[u8],
 ) -> Result<usize, InputError>
     requires { at ≤ length text.now }
-    ensures taken { IfOk result (Takes text.now at (word expected.now)) }
+    ensures taken { IfOk result (IsNextToken text.now at (word expected.now)) }
     ensures stops { IfErr result (IsStop dialect (one (word expected.now) ∷ []) text.now at) }
 {
     match behind_word(text, at, expected) {
@@ -48,7 +48,7 @@ pub fn expect_word(
 pub fn check_value(dialect: Dialect, text: &[u8], at: usize, ty: &Ty) -> Result<usize, InputError>
     requires { at ≤ length text.now }
     ensures read { IfOk result (λ end.
-        (value : Value) × IsRead dialect text.now at (ty_of ty.now) value end) }
+        (value : Value) × IsValueRead dialect text.now at (ty_of ty.now) value end) }
     ensures stops { IfErr result (IsStop dialect (a_value (ty_of ty.now) ∷ []) text.now at) }
 {
     match ty {
@@ -77,7 +77,7 @@ pub fn check_value(dialect: Dialect, text: &[u8], at: usize, ty: &Ty) -> Result<
 fn check_truth(dialect: Dialect, text: &[u8], at: usize) -> Result<usize, InputError>
     requires { at ≤ length text.now }
     ensures read { IfOk result (λ end.
-        (value : Value) × IsRead dialect text.now at bool value end) }
+        (value : Value) × IsValueRead dialect text.now at bool value end) }
     ensures stops { IfErr result (IsStop dialect (a_value bool ∷ []) text.now at) }
 {
     if let Some(end) = behind_word(text, at, b"true") {
@@ -100,7 +100,7 @@ fn check_pair(
 ) -> Result<usize, InputError>
     requires { at ≤ length text.now }
     ensures read { IfOk result (λ end. (value : Value) ×
-        IsRead dialect text.now at (pair (ty_of first.now) (ty_of second.now)) value end) }
+        IsValueRead dialect text.now at (pair (ty_of first.now) (ty_of second.now)) value end) }
     ensures stops { IfErr result
         (IsStop dialect (a_value (pair (ty_of first.now) (ty_of second.now)) ∷ []) text.now at) }
 {

@@ -1,7 +1,7 @@
 // The values of declared inputs, kept as the text that spells them.
 
 ghost use Rattle.std.specs.Arc.{arc_value};
-ghost use Rattle.snesl_values.specs.Declarations.{declared, Fits};
+ghost use Rattle.snesl_values.specs.Declarations.{declared, FitDeclarations};
 ghost use Rattle.snesl_values.specs.Entries.{environment_at, ArePlaced};
 
 use crate::builder::datum_at;
@@ -22,7 +22,7 @@ pub struct Inputs {
     pub(crate) all: Vec<Placed>,
     pub(crate) ghost placed: { ∥ ArePlaced dialect (arc_value text).items
         (declared decls.items) all.items ∥₁ },
-    pub(crate) ghost fit: { ∥ Fits dialect (declared decls.items)
+    pub(crate) ghost fit: { ∥ FitDeclarations dialect (declared decls.items)
         (environment_at (arc_value text).items all.items) ∥₁ },
 }
 

@@ -1,7 +1,7 @@
 // Input texts.
 
 ghost use Rattle.std.specs.Prelude.{◌≡◌, ℕ, ◌⊎◌, IfOk, IfErr, IsOk, Err};
-ghost use Rattle.snesl_values.specs.Declarations.{Environment, declared, Fits};
+ghost use Rattle.snesl_values.specs.Declarations.{Environment, declared, FitDeclarations};
 ghost use Rattle.snesl_values.specs.Entries.{environment_at, ArePlaced};
 ghost use Rattle.snesl_values.specs.Inputs.{dialect_of, declarations_of, environment_of, text_in, placed_in, spells, refused_at, InputMeans, OneInputMeaning, SomeInputMeaning};
 ghost use Rattle.snesl_values.specs.declared.inputs.InputError.TheVariants.{Bad, NoMemory};
@@ -105,7 +105,7 @@ pub fn read_inputs(
 
     // The names are the declared ones, and the values have their types.
     ensures fits { IfOk result (λ inputs.
-        Fits dialect (declared decls.now) (environment_of inputs)) }
+        FitDeclarations dialect (declared decls.now) (environment_of inputs)) }
 {
     if bytes.len() > GREATEST_INPUT_LENGTH {
         return Err(InputError::Bad(GREATEST_INPUT_LENGTH));
@@ -142,7 +142,7 @@ fn copy_decls(alloc: Global, decls: &[(Vec<u8>, Ty)]) -> Result<Vec<(Vec<u8>, Ty
 /// A law and no code to run: the values have the names and types of the declarations for which they
 /// were read, in order.
 pub fn inputs_fit(inputs: &Inputs)
-    ensures { Fits (dialect_of inputs.now) (declarations_of inputs.now)
+    ensures { FitDeclarations (dialect_of inputs.now) (declarations_of inputs.now)
         (environment_of inputs.now) }
 {}
 

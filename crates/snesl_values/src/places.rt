@@ -4,7 +4,7 @@ ghost use Rattle.std.specs.Prelude.{◌≤◌, [], length, IfOk, IfErr};
 ghost use Rattle.snesl_values.specs.Declarations.{declared, declaration_of};
 ghost use Rattle.snesl_data.specs.Types.{ty_of};
 ghost use Rattle.snesl_values.specs.Wants.{entry_wants, IsStop, IsStopOf, IsEntry, AllRead};
-ghost use Rattle.snesl_values.specs.Entries.{entry_at, environment_at, IsPlaced, ArePlaced};
+ghost use Rattle.snesl_values.specs.Entries.{entry_from, environment_at, IsPlaced, ArePlaced};
 
 use crate::checker::{check_value, expect_sign, expect_word};
 use crate::inputs::InputError;
@@ -68,7 +68,7 @@ fn read_entry(
 ) -> Result<(Placed, usize), InputError>
     requires { at ≤ length text.now }
     ensures read { IfOk result (λ found. IsEntry dialect text.now at
-        (declaration_of declaration.now) (entry_at text.now found.0) found.1) }
+        (declaration_of declaration.now) (entry_from text.now found.0) found.1) }
     ensures placed { IfOk result (λ found.
         IsPlaced dialect text.now (ty_of declaration.now.1) found.0.place) }
     ensures stops { IfErr result

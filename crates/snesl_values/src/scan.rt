@@ -7,7 +7,7 @@ ghost use Rattle.snesl_data.specs.Blanks.{is_blank};
 ghost use Rattle.snesl_data.specs.Characters.{value_from};
 ghost use Rattle.snesl_data.specs.declared.dialect.Dialect.TheVariants.{Two};
 ghost use Rattle.snesl_data.specs.Integers.{is_integer, IsInteger, greatest_integer};
-ghost use Rattle.snesl_values.specs.InputTokens.{digits_at, number_of, IsNumber, word, integer, sign, is_sign, next_at, next_token, signed, Takes};
+ghost use Rattle.snesl_values.specs.InputTokens.{digits_at, number_of, IsNumber, word, integer, sign, is_sign, next_at, next_token, signed, IsNextToken};
 
 use snesl_data::{Dialect, digits_len, is_blank, word_len};
 
@@ -39,7 +39,7 @@ pub fn skip_blanks(text: &[u8], at: usize) -> usize
 pub fn behind_sign(text: &[u8], at: usize, byte: u8) -> Option<usize>
     requires within { at ≤ length text.now }
     requires lawful { IsTrue (is_sign byte) }
-    ensures taken { IfSome result (Takes text.now at (sign byte)) }
+    ensures taken { IfSome result (IsNextToken text.now at (sign byte)) }
     ensures another { IfNone result (¬ (next_token text.now at ≡ Some (sign byte))) }
 {
     let start = skip_blanks(text, at);
@@ -53,7 +53,7 @@ pub fn behind_sign(text: &[u8], at: usize, byte: u8) -> Option<usize>
 // The offset behind the next token, where that is this word.
 pub fn behind_word(text: &[u8], at: usize, expected: &[u8]) -> Option<usize>
     requires { at ≤ length text.now }
-    ensures taken { IfSome result (Takes text.now at (word expected.now)) }
+    ensures taken { IfSome result (IsNextToken text.now at (word expected.now)) }
     ensures another { IfNone result (¬ (next_token text.now at ≡ Some (word expected.now))) }
 {
     let start = skip_blanks(text, at);
@@ -73,7 +73,7 @@ pub fn behind_word(text: &[u8], at: usize, expected: &[u8]) -> Option<usize>
 pub fn integer_at(dialect: Dialect, text: &[u8], at: usize) -> Option<(i128, usize)>
     requires { at ≤ length text.now }
     ensures taken { IfSome result (λ found.
-        Takes text.now at (integer found.0) found.1 × IsInteger dialect found.0) }
+        IsNextToken text.now at (integer found.0) found.1 × IsInteger dialect found.0) }
     ensures another { IfNone result ((n : ℤ) →
         IsInteger dialect n → ¬ (next_token text.now at ≡ Some (integer n))) }
 {

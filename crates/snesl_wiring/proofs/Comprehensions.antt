@@ -4,7 +4,7 @@ use Rattle.std.specs.Str.{bytes_eq}
 use Rattle.std.proofs.Common.{sym, subst}
 use Rattle.snesl_data.specs.Types.{Ty, seq}
 use Rattle.snesl_values.specs.Inputs.{Declaration}
-use Rattle.snesl_types.specs.Contexts.{open_to, Context, opened, found, inside}
+use Rattle.snesl_types.specs.Contexts.{open_to, Context, names_context, found, inside}
 use Rattle.flow_messages.specs.declared.message.Kind.{Kind}
 use Rattle.flow_messages.specs.declared.message.Kind.TheVariants.{Unit as UnitKind, Bool as BoolKind}
 use Rattle.snesl_translation.specs.Wires.{Wires, stream_of, item_wires, Bound}
@@ -57,27 +57,27 @@ in_step_made at ((name, w) ∷ sources) (more_sources h others) = same_lengths_m
 inside_fits : {kinds : List Kind} {sources : Sources} {items : List Declaration} (inner : Bound) (context : Context) (names : Names) (bytes : List ℕ) (t : Ty) → SourcesFit kinds sources items
     → is_among bytes names ≡ true
     → (is_among bytes (without_items items names) ≡ true → found bytes context ≡ Some (open_to t) → Fits kinds t (wires_named bytes inner))
-    → found bytes (opened items ++ context) ≡ Some (open_to t) → Fits kinds t (wires_named bytes (items_bound sources ++ inner))
+    → found bytes (names_context items ++ context) ≡ Some (open_to t) → Fits kinds t (wires_named bytes (items_bound sources ++ inner))
 inside_fits inner context names bytes t no_sources among h is = h among is
 inside_fits {kinds = kinds} inner context names bytes t (more_sources {name = name} {w = w} {t = s} {sources = sources} {items = items} fit rest) among h is =
     by_test (bytes_eq bytes name) refl is (λ g. inside_fits inner context names bytes t rest among g)
   where
-    by_test : (b : Bool) → bytes_eq bytes name ≡ b → cond b (Some (open_to s)) (found bytes (opened items ++ context)) ≡ Some (open_to t)
+    by_test : (b : Bool) → bytes_eq bytes name ≡ b → cond b (Some (open_to s)) (found bytes (names_context items ++ context)) ≡ Some (open_to t)
         → ((is_among bytes (without_items items names) ≡ true → found bytes context ≡ Some (open_to t) → Fits kinds t (wires_named bytes inner))
-        → found bytes (opened items ++ context) ≡ Some (open_to t) → Fits kinds t (wires_named bytes (items_bound sources ++ inner)))
+        → found bytes (names_context items ++ context) ≡ Some (open_to t) → Fits kinds t (wires_named bytes (items_bound sources ++ inner)))
         → Fits kinds t (cond b (item_wires w) (wires_named bytes (items_bound sources ++ inner)))
     by_test true e is others = let same : s ≡ t = cc in subst (λ t. Fits kinds t (item_wires w)) same (items_fit fit)
     by_test false e is others = others (λ among' is'. h (others_stay bytes name (without_items items names) e among') is') is
 
 bears_items : {kinds : List Kind} {inner : Bound} {context : Context} (sources : Sources) (items : List Declaration) (names : Names) → SourcesFit kinds sources items
-    → Bears kinds inner (without_items items names) context → Bears kinds (items_bound sources ++ inner) names (opened items ++ context)
+    → Bears kinds inner (without_items items names) context → Bears kinds (items_bound sources ++ inner) names (names_context items ++ context)
 bears_items {inner = inner} {context = context} sources items names fit h = record { fits = λ bytes t among is. inside_fits inner context names bytes t fit among (h.fits bytes t) is }
 
 -- what is made inside, whatever it is
 module _ (at : ℕ) (context : Context) (items : List Declaration) (names outer inner_names : Names) (t : Ty) (sources : Bound → ℕ → ℕ → Making Sources) (within : ℕ → Bound → ℕ → ℕ → Making Wires)
-    (usable : AreOpen inner_names (opened items ++ inside context)) (same : outer ≡ without_items items inner_names) (made : SourcesMake sources names context items)
+    (usable : AreOpen inner_names (names_context items ++ inside context)) (same : outer ≡ without_items items inner_names) (made : SourcesMake sources names context items)
     (flagged : (kinds : List Kind) (us : Sources) → SourcesFit kinds us items → Stream kinds (first_flags us) BoolKind)
-    (makes : (f : ℕ) (kinds : List Kind) (bound : Bound) (control : ℕ) → Stream kinds f BoolKind → Bears kinds bound inner_names (opened items ++ inside context) → Stream kinds control UnitKind
+    (makes : (f : ℕ) (kinds : List Kind) (bound : Bound) (control : ℕ) → Stream kinds f BoolKind → Bears kinds bound inner_names (names_context items ++ inside context) → Stream kinds control UnitKind
     → Makes kinds t (within f bound control (length kinds))) where
   pub comprehension_made : AlwaysMakes (λ bound control next.
       and_then (sources bound control next) (λ sources k.

@@ -8,7 +8,7 @@ use Rattle.snesl_values.specs.Inputs.{Declaration}
 use Rattle.snesl_tree.specs.declared.span.Span.{Span}
 use Rattle.snesl_tree.specs.Spelling.{spelling}
 use Rattle.snesl_tree.specs.Tree.{Tree, Trees, both, Binders, binder}
-use Rattle.snesl_types.specs.Contexts.{Context, opened, inside, Signature, Signatures, function_named}
+use Rattle.snesl_types.specs.Contexts.{Context, names_context, inside, Signature, Signatures, function_named}
 use Rattle.snesl_types.specs.Typing.{Types, has_type, Gives, integer_type, truth_type, name_type, binary_type, prefix_type, call_type, apply_type, group_type, pair_type, binding_type, choice_type, literal_type, filter_type, each_type, AllTypes, no_types, more_types, BindersType, no_binders, more_binders, no_condition, condition_type, AllAre}
 use Rattle.flow_messages.specs.declared.message.Kind.{Kind}
 use Rattle.flow_messages.specs.declared.message.Kind.TheVariants.{Unit as UnitKind, Bool as BoolKind}
@@ -79,22 +79,22 @@ module _ (dialect : Dialect) (text : List ℕ) (functions : Signatures) (bodies 
     form_made (each_type {context = context} {at = at} {body = body} {place = place} {source = source} {others = others} {t = t} hb no_condition h) =
         let p = binder_items hb in
         let binders = binder place source others in
-        let inner : TreeMakes (opened p.0 ++ inside context) body t = subst (λ l. TreeMakes (opened l ++ inside context) body t) p.1 (typed_made h) in
+        let inner : TreeMakes (names_context p.0 ++ inside context) body t = subst (λ l. TreeMakes (names_context l ++ inside context) body t) p.1 (typed_made h) in
         comprehension_made at context p.0 (free_of_sources text binders) (without_binders text binders (free text body)) (free text body) (seq t) (tr_binders dialect text bodies binders)
         (λ f b c k. and_then (tr dialect text bodies body b c k) (λ w k. done (segments f w) k))
-        (subst (λ l. AreOpen (free text body) (opened l ++ inside context)) p.1 (free_are_open h)) (p.2 (free text body)) (sources_made hb) (λ kinds us fit. first_flagged hb fit)
+        (subst (λ l. AreOpen (free text body) (names_context l ++ inside context)) p.1 (free_are_open h)) (p.2 (free text body)) (sources_made hb) (λ kinds us fit. first_flagged hb fit)
         (λ f kinds b c there bears units. then_made _ (inner kinds b c bears units) (λ on more w fw. done_made (fits_segments (stream_on more there) fw)))
     form_made (each_type {context = context} {at = at} {body = body} {place = place} {source = source} {others = others} {items = items} {t = t} hb (condition_type {condition = condition} hc) h) =
         let p = binder_items hb in
         let binders = binder place source others in
         let names = free text condition ++ free text body in
-        let within = opened p.0 ++ inside context in
-        let tests : TreeMakes within condition bool = subst (λ l. TreeMakes (opened l ++ inside context) condition bool) p.1 (typed_made hc) in
-        let inner : TreeMakes within body t = subst (λ l. TreeMakes (opened l ++ inside context) body t) p.1 (typed_made h) in
-        let usable : AreOpen (free text body) within = subst (λ l. AreOpen (free text body) (opened l ++ inside context)) p.1 (free_are_open h) in
+        let within = names_context p.0 ++ inside context in
+        let tests : TreeMakes within condition bool = subst (λ l. TreeMakes (names_context l ++ inside context) condition bool) p.1 (typed_made hc) in
+        let inner : TreeMakes within body t = subst (λ l. TreeMakes (names_context l ++ inside context) body t) p.1 (typed_made h) in
+        let usable : AreOpen (free text body) within = subst (λ l. AreOpen (free text body) (names_context l ++ inside context)) p.1 (free_are_open h) in
         comprehension_made at context p.0 (free_of_sources text binders) (without_binders text binders names) names (seq t) (tr_binders dialect text bodies binders)
         (λ f b c k. and_then (tr dialect text bodies condition b c k) (λ d k. and_then (filtered at (free text body) (tr dialect text bodies body) b (stream_of d) k) (λ w k. concatenated at (segments f w) k)))
-        (subst (λ l. AreOpen names (opened l ++ inside context)) p.1 (both_open (free text condition) (free text body) (opened items ++ inside context) (free_are_open hc) (free_are_open h)))
+        (subst (λ l. AreOpen names (names_context l ++ inside context)) p.1 (both_open (free text condition) (free text body) (names_context items ++ inside context) (free_are_open hc) (free_are_open h)))
         (p.2 names) (sources_made hb) (λ kinds us fit. first_flagged hb fit)
         (λ f kinds b c there bears units.
         then_made _ (tests kinds b c (bears_left (free text condition) (free text body) bears) units) (λ on more d fd.

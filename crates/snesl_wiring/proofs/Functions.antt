@@ -9,8 +9,8 @@ use Rattle.snesl_values.specs.Inputs.{Declaration}
 use Rattle.snesl_tree.specs.declared.span.Span.{Span}
 use Rattle.snesl_tree.specs.Spelling.{spelling}
 use Rattle.snesl_tree.specs.Tree.{Tree, Typed, TypeTree, DeclarationTree, declares_input, declares_function}
-use Rattle.snesl_types.specs.Contexts.{opened, Signature, Signatures, function_named}
-use Rattle.snesl_types.specs.Programs.{Declared, with_inputs, with_function, named, signature_of, NamesType, no_names, more_names, FunctionTypes, function_type, DeclarationsType, no_declarations, input_declared, function_declared}
+use Rattle.snesl_types.specs.Contexts.{names_context, Signature, Signatures, function_named}
+use Rattle.snesl_types.specs.Programs.{Declared, with_inputs, with_function, typed_name, signature_of, NamesType, no_names, more_names, FunctionTypes, function_type, DeclarationsType, no_declarations, input_declared, function_declared}
 use Rattle.flow_messages.specs.declared.message.Kind.{Kind}
 use Rattle.snesl_translation.specs.Wires.{Wires}
 use Rattle.snesl_translation.specs.FreeNames.{Names, without, free}
@@ -26,13 +26,13 @@ use Rattle.snesl_wiring.proofs.Expressions.{CallsMake, typed_made}
 -- streams of arguments that fit the types of these parameters are borne by their names
 abbrev ParametersBear : List Kind → List ℕ → List Typed → List Declaration → Type 0
 ParametersBear kinds text written given =
-    (us : List Wires) → AllFit kinds (map (λ declaration. declaration.1) given) us → (names : Names) → Bears kinds (parameters_bound text written us) names (opened given)
+    (us : List Wires) → AllFit kinds (map (λ declaration. declaration.1) given) us → (names : Names) → Bears kinds (parameters_bound text written us) names (names_context given)
 
 none_bear : (kinds : List Kind) (text : List ℕ) → ParametersBear kinds text [] []
 none_bear kinds text us fits names = record { fits = λ bytes t among is. absurd (cc) }
 
 more_bear : (kinds : List Kind) (text : List ℕ) (first : Typed) (others : List Typed) (t : Ty) (given : List Declaration) → ParametersBear kinds text others given
-    → ParametersBear kinds text (first ∷ others) (named text first t ∷ given)
+    → ParametersBear kinds text (first ∷ others) (typed_name text first t ∷ given)
 more_bear kinds text first others t given rest [] fits names = elim fits [ ]
 more_bear kinds text first others t given rest (u ∷ us) (more_fit fit fits) names =
     bears_with names (spelling text first.place) u t fit (rest us fits (without (spelling text first.place) names))
@@ -42,8 +42,8 @@ parameters_bear : (kinds : List Kind) (text : List ℕ) {earlier all : List Decl
 parameters_bear kinds text (no_names {earlier = earlier}) = ([], sym (append-nil earlier), none_bear kinds text)
 parameters_bear kinds text (more_names {earlier = earlier} {first = first} {others = others} {t = t} new is h) =
     let rest = parameters_bear kinds text h in (
-      named text first t ∷ rest.0,
-      rest.1 ∙ append_assoc earlier (named text first t ∷ []) rest.0,
+      typed_name text first t ∷ rest.0,
+      rest.1 ∙ append_assoc earlier (typed_name text first t ∷ []) rest.0,
       more_bear kinds text first others t rest.0 rest.2,
     )
 
@@ -81,8 +81,8 @@ module _ (dialect : Dialect) (text : List ℕ) where
           let given = parameters_bear kinds text names in
           let arguments : AllFit kinds (map (λ declaration. declaration.1) given.0) us =
           subst (λ l. AllFit kinds (map (λ declaration. declaration.1) l) us) given.1 (subst (λ s. AllFit kinds s.parameters us) (sym this) fits) in
-          let bears : Bears kinds (parameters_bound text written us) (free text body) (opened parameters) =
-          subst (λ l. Bears kinds (parameters_bound text written us) (free text body) (opened l)) (sym given.1) (given.2 us arguments (free text body)) in
+          let bears : Bears kinds (parameters_bound text written us) (free text body) (names_context parameters) =
+          subst (λ l. Bears kinds (parameters_bound text written us) (free text body) (names_context l)) (sym given.1) (given.2 us arguments (free text body)) in
           subst (λ s. Makes kinds s.result (tr dialect text bodies body (parameters_bound text written us) control (length kinds))) this
           (typed_made dialect text functions bodies calls typed kinds (parameters_bound text written us) control bears units)
 

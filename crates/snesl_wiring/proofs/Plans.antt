@@ -4,7 +4,7 @@ use Rattle.std.proofs.Common.{sym, ap, ◌∙◌, subst, length-append, append_a
 use Rattle.snesl_data.specs.Types.{Ty}
 use Rattle.snesl_values.specs.Inputs.{Declaration}
 use Rattle.snesl_tree.specs.Tree.{ProgramTree}
-use Rattle.snesl_types.specs.Contexts.{opened}
+use Rattle.snesl_types.specs.Contexts.{names_context}
 use Rattle.snesl_types.specs.Programs.{Declared, ProgramTypes, nothing_declared}
 use Rattle.flow_messages.specs.Cells.{Cell}
 use Rattle.flow_messages.specs.declared.message.Kind.{Kind}
@@ -41,7 +41,7 @@ sourced_made at cells t kinds =
     }
 
 inputs_made : (at : ℕ) (cells : ℕ → List Cell) (declarations : List Declaration) (kinds : List Kind)
-    → IsMade kinds (inputs_sourced at cells declarations (length kinds)) (λ on bound. (names : Names) → Bears on bound names (opened declarations))
+    → IsMade kinds (inputs_sourced at cells declarations (length kinds)) (λ on bound. (names : Names) → Bears on bound names (names_context declarations))
 inputs_made at cells [] kinds = done_made (λ names. record { fits = λ bytes t among is. absurd (cc) })
 inputs_made at cells (declaration ∷ declarations) kinds =
     then_made _ (sourced_made at cells declaration.1 kinds) (λ on more u fu.

@@ -18,7 +18,7 @@ use Rattle.flow_folds.specs.Rows.{LengthRow}
 use Rattle.flow_folds.specs.declared.length.Count.{Count}
 use Rattle.flow_folds.specs.declared.length.Count.TheVariants.{Counting, Due}
 use Rattle.flow_folds.specs.declared.length.Length.{Length}
-use Rattle.flow_folds.specs.LengthMachine.{one_more, length_at_end, length_counts, length_move, length_in_range, length_machine, length_view}
+use Rattle.flow_folds.specs.LengthMachine.{one_element_more, length_at_end, length_counts, length_move, length_in_range, length_machine, length_view}
 use Rattle.flow_base.specs.Members.{NodeOf, node_of}
 use Rattle.flow_base.specs.declared.node.Node.{Node}
 
@@ -77,7 +77,7 @@ counts dialect n zero total e fits {f = f} {r = r} run =
     let same : total ≡ n = omega arith in
     (suc (suc run.0), flag_read dialect n (suc run.0) ((T ∷ f) ∷ []) ((int (pos total) ∷ r) ∷ []) (ended_on dialect n (λ s. Run length_machine dialect (suc run.0) s (f ∷ []) ((int (pos total) ∷ r) ∷ [])) (subst (λ k. IsInteger dialect (pos k)) same fits) (ap (λ k. int (pos k)) same, run.1)))
 counts dialect n (suc more) total e fits {f = f} {r = r} run =
-    let g = counts dialect (one_more dialect n) more total (counted_on n more total (greatest_integer dialect) e (at_most dialect total fits)) fits run in
+    let g = counts dialect (one_element_more dialect n) more total (counted_on n more total (greatest_integer dialect) e (at_most dialect total fits)) fits run in
     (suc g.0, flag_read dialect n g.0 (elements (suc more) (T ∷ f) ∷ []) ((int (pos total) ∷ r) ∷ []) g.1)
 
 abbrev Fit : Dialect → List ℕ → Type 0
@@ -96,7 +96,7 @@ data Owes (dialect : Dialect) : Count → Columns → Columns → Type 0 where
   counted : (n more total : ℕ) → suc n + more ≡ total → (ns : List ℕ) → Fit dialect (total ∷ ns) → Owes dialect (Counting (suc n)) (elements more (T ∷ flags ns) ∷ []) (numbers (total ∷ ns) ∷ [])
   due : (number : ℤ) {i o : Columns} → Owes dialect (Counting zero) i o → Owes dialect (Due number) i (push_column 0 (int number) o)
 
-before_element : (dialect : Dialect) (n : ℕ) (i o : Columns) → Owes dialect (Counting (one_more dialect n)) i o → Owes dialect (Counting n) (push_column 0 F i) o
+before_element : (dialect : Dialect) (n : ℕ) (i o : Columns) → Owes dialect (Counting (one_element_more dialect n)) i o → Owes dialect (Counting n) (push_column 0 F i) o
 before_element dialect zero _ _ (counted _ more total e ns h) =
     let same : total ≡ suc more = omega arith in
     subst (λ k. Owes dialect (Counting zero) (elements k (T ∷ flags ns) ∷ []) (numbers (total ∷ ns) ∷ [])) same (start (total ∷ ns) h)

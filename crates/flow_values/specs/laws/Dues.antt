@@ -10,9 +10,9 @@ use Rattle.flow_base.specs.Lists.{Lists, push}
 use Rattle.flow_base.specs.Flags.{F, T, elements}
 use Rattle.flow_base.specs.Segments.{concatenation_by}
 use Rattle.flow_values.specs.Shapes.{cell_for, first_of, second_of, elements_of, kinds_of}
-use Rattle.flow_values.specs.Flats.{nothing, only_at, ◌⊕◌, width, spread, spread_all}
+use Rattle.flow_values.specs.Flats.{no_cells, only_at, ◌⊕◌, width, spread, spread_all}
 use Rattle.flow_values.specs.laws.Sides.{sides_assoc, nothing_more, push_is, first_only, only_moves, spread_below}
-use Rattle.flow_values.specs.Dues.{DueCell, due, element_dues, dues_of, output_of, items_at}
+use Rattle.flow_values.specs.Dues.{DueCell, due, element_dues, dues_of, output_of, due_items_at}
 
 -- an output that there is
 pub output_is : (n p : ℕ) → p < n → output_of n p ≡ p
@@ -38,22 +38,22 @@ has_edge (seq item) = (width item, refl)
 pub push_side : (p : ℕ) (x : Cell) (xs ys : Lists Cell) → push p x xs ⊕ ys ≡ push p x (xs ⊕ ys)
 push_side p x xs ys = ap (λ l. l ⊕ ys) (sym (push_is p x xs)) ∙ sides_assoc (only_at p (x ∷ [])) xs ys ∙ push_is p x (xs ⊕ ys)
 
-items_append : (n : ℕ) (ds es : List DueCell) → items_at n (ds ++ es) ≡ items_at n ds ⊕ items_at n es
+items_append : (n : ℕ) (ds es : List DueCell) → due_items_at n (ds ++ es) ≡ due_items_at n ds ⊕ due_items_at n es
 items_append n [] es = refl
 items_append n (d ∷ ds) es =
     let p = output_of n d.port in
-    ap (push p d.cell) (items_append n ds es) ∙ sym (push_side p d.cell (items_at n ds) (items_at n es))
+    ap (push p d.cell) (items_append n ds es) ∙ sym (push_side p d.cell (due_items_at n ds) (due_items_at n es))
 
 -- a due item in front of others, at an output that there is
-first_item : (n p : ℕ) (x : Cell) (ds : List DueCell) → p < n → items_at n (due p x ∷ ds) ≡ push p x (items_at n ds)
-first_item n p x ds lt = ap (λ q. push q x (items_at n ds)) (output_is n p lt)
+first_item : (n p : ℕ) (x : Cell) (ds : List DueCell) → p < n → due_items_at n (due p x ∷ ds) ≡ push p x (due_items_at n ds)
+first_item n p x ds lt = ap (λ q. push q x (due_items_at n ds)) (output_is n p lt)
 
-leaf_items : (n p : ℕ) (x : Cell) → p < n → items_at n (due p x ∷ []) ≡ only_at p (x ∷ [])
-leaf_items n p x lt = first_item n p x [] lt ∙ sym (push_is p x nothing) ∙ nothing_more (only_at p (x ∷ []))
+leaf_items : (n p : ℕ) (x : Cell) → p < n → due_items_at n (due p x ∷ []) ≡ only_at p (x ∷ [])
+leaf_items n p x lt = first_item n p x [] lt ∙ sym (push_is p x no_cells) ∙ nothing_more (only_at p (x ∷ []))
 
 -- the elements of a sequence and their flags
-segment_items : (n p : ℕ) (item : Ty) → p < n → ((e : Value) → items_at n (dues_of item (p + 1) e) ≡ spread item (p + 1) e) → (es : List Value) →
-    items_at n (concatenation_by (element_dues p (λ e. dues_of item (p + 1) e)) es ++ (due p T ∷ [])) ≡ only_at p (elements (length es) (T ∷ [])) ⊕ spread_all item (p + 1) es
+segment_items : (n p : ℕ) (item : Ty) → p < n → ((e : Value) → due_items_at n (dues_of item (p + 1) e) ≡ spread item (p + 1) e) → (es : List Value) →
+    due_items_at n (concatenation_by (element_dues p (λ e. dues_of item (p + 1) e)) es ++ (due p T ∷ [])) ≡ only_at p (elements (length es) (T ∷ [])) ⊕ spread_all item (p + 1) es
 segment_items n p item lt each [] = leaf_items n p T lt ∙ sym (nothing_more (only_at p (T ∷ [])))
 segment_items n p item lt each (e ∷ es) =
     let one = dues_of item (p + 1) e in
@@ -63,13 +63,13 @@ segment_items n p item lt each (e ∷ es) =
     let later = spread_all item (p + 1) es in
     let moves : first ⊕ (flags ⊕ later) ≡ flags ⊕ (first ⊕ later) =
     sym (sides_assoc first flags later) ∙ ap (λ l. l ⊕ later) (sym (only_moves p (elements (length es) (T ∷ [])) first (spread_below item (p + 1) e p (omega arith)))) ∙ sides_assoc flags first later in
-    ap (items_at n) (append_assoc (due p F ∷ one) others (due p T ∷ []))
+    ap (due_items_at n) (append_assoc (due p F ∷ one) others (due p T ∷ []))
     ∙ first_item n p F (one ++ (others ++ (due p T ∷ []))) lt
     ∙ ap (push p F) (items_append n one (others ++ (due p T ∷ [])) ∙ ap₂ (λ a b. a ⊕ b) (each e) (segment_items n p item lt each es) ∙ moves)
     ∙ sym (first_only p F (elements (length es) (T ∷ [])) (first ⊕ later))
 
 -- what is due for a value is what it puts on its edges
-pub items_are : (ty : Ty) (n p : ℕ) (v : Value) → p + width ty ≤ n → items_at n (dues_of ty p v) ≡ spread ty p v
+pub items_are : (ty : Ty) (n p : ℕ) (v : Value) → p + width ty ≤ n → due_items_at n (dues_of ty p v) ≡ spread ty p v
 items_are int n p v le = leaf_items n p (cell_for v) (omega arith)
 items_are bool n p v le = leaf_items n p (cell_for v) (omega arith)
 items_are (vec item) n p v le = leaf_items n p (cell_for v) (omega arith)

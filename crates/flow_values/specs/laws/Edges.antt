@@ -9,7 +9,7 @@ use Rattle.flow_base.specs.Ports.{at_port, take_away, NothingAt-from, First-from
 use Rattle.flow_base.specs.Columns.{Columns, columns, with_column, push_column, nothing, At, column_is, columns_same, columns_port, first_at, nothing_read}
 use Rattle.flow_values.specs.Flats.{◌⊕◌, flat, spread_all, Outputs}
 use Rattle.flow_values.specs.laws.Flats.{flat_each}
-use Rattle.flow_values.specs.Dues.{DueCell, output_of, items_at}
+use Rattle.flow_values.specs.Dues.{DueCell, output_of, due_items_at}
 use Rattle.flow_values.specs.laws.Dues.{push_side}
 
 -- an item in front of a list is the first in its column
@@ -28,11 +28,11 @@ push_columns n p x l lt = go p (columns n l) ∙ ap (λ r. with_column p (x ∷ 
 
 -- the first of the due items, in front of the others and of what comes then
 module _ (n : ℕ) (d : DueCell) (ds : List DueCell) (l : Lists Cell) (lt : output_of n d.port < n) where
-  pub at_due : (P : Cell → Columns → Type 0) → P d.cell (columns n (items_at n ds ⊕ l)) → At (output_of n d.port) (columns n (items_at n (d ∷ ds) ⊕ l)) P
-  at_due P h = subst (λ m. At (output_of n d.port) (columns n m) P) (sym (push_side (output_of n d.port) d.cell (items_at n ds) l)) (at_pushed n (output_of n d.port) d.cell (items_at n ds ⊕ l) P lt h)
+  pub at_due : (P : Cell → Columns → Type 0) → P d.cell (columns n (due_items_at n ds ⊕ l)) → At (output_of n d.port) (columns n (due_items_at n (d ∷ ds) ⊕ l)) P
+  at_due P h = subst (λ m. At (output_of n d.port) (columns n m) P) (sym (push_side (output_of n d.port) d.cell (due_items_at n ds) l)) (at_pushed n (output_of n d.port) d.cell (due_items_at n ds ⊕ l) P lt h)
 
-  pub push_due : push_column (output_of n d.port) d.cell (columns n (items_at n ds ⊕ l)) ≡ columns n (items_at n (d ∷ ds) ⊕ l)
-  push_due = push_columns n (output_of n d.port) d.cell (items_at n ds ⊕ l) lt ∙ ap (columns n) (sym (push_side (output_of n d.port) d.cell (items_at n ds) l))
+  pub push_due : push_column (output_of n d.port) d.cell (columns n (due_items_at n ds ⊕ l)) ≡ columns n (due_items_at n (d ∷ ds) ⊕ l)
+  push_due = push_columns n (output_of n d.port) d.cell (due_items_at n ds ⊕ l) lt ∙ ap (columns n) (sym (push_side (output_of n d.port) d.cell (due_items_at n ds) l))
 
 pub none_at : (n : ℕ) → columns n (λ _. []) ≡ nothing n
 none_at n = nothing_read n (λ _. []) (NothingAt-from n (λ _. []) (λ _ _. refl))

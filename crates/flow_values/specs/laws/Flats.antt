@@ -10,7 +10,7 @@ use Rattle.flow_base.specs.Ports.{by_port}
 use Rattle.flow_base.specs.Flags.{T, elements, flags, concatenation, lengths}
 use Rattle.flow_base.specs.Segments.{concatenation_by, elements-append}
 use Rattle.flow_values.specs.Shapes.{cell_for, first_of, second_of, elements_of}
-use Rattle.flow_values.specs.Flats.{nothing, only_at, ◌⊕◌, width, flat, spread, spread_all}
+use Rattle.flow_values.specs.Flats.{no_cells, only_at, ◌⊕◌, width, flat, spread, spread_all}
 use Rattle.flow_values.specs.laws.Sides.{only_here, only_there, only_moves, sides_assoc, nothing_more, both_empty, spread_below, spread_above, all_below, all_none}
 
 -- lists at one port, one after the other
@@ -20,7 +20,7 @@ only_append p xs ys =
     (only_here p (xs ++ ys) ∙ sym (ap₂ (λ a b. a ++ b) (only_here p xs) (only_here p ys)))
     (λ q n. only_there p q (xs ++ ys) n ∙ sym (both_empty (only_at p xs q) (only_at p ys q) (only_there p q xs n) (only_there p q ys n))))
 
-only_none : {A : Type 0} (p : ℕ) → only_at p [] ≡ nothing {A = A}
+only_none : {A : Type 0} (p : ℕ) → only_at p [] ≡ no_cells {A = A}
 only_none {A = A} p = fun_ext (by_port (λ q. only_at {A = A} p [] q ≡ []) p (only_here p []) (λ q n. only_there p q [] n))
 
 -- two of which at each port one is empty, in either order
@@ -64,7 +64,7 @@ pair_all first second p (v ∷ vs) =
     ∙ ap (λ l. spread (pair first second) p v ⊕ l) (pair_all first second p vs)
 
 seq_all : (item : Ty) (p : ℕ) (vs : List Value) → only_at p (flags (lengths (map elements_of vs))) ⊕ spread_all item (p + 1) (concatenation (map elements_of vs)) ≡ spread_all (seq item) p vs
-seq_all item p [] = ap (λ l. l ⊕ nothing) (only_none p)
+seq_all item p [] = ap (λ l. l ⊕ no_cells) (only_none p)
 seq_all item p (v ∷ vs) =
     let es = elements_of v in
     let own = elements (length es) (T ∷ []) in

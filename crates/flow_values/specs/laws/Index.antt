@@ -16,7 +16,7 @@ use Rattle.flow_base.specs.MachineRuns.{Then, reading, writing as wrote, run_is}
 use Rattle.flow_values.specs.Shapes.{is_a, all_are}
 use Rattle.flow_values.specs.Flats.{◌⊕◌, width, spread_all}
 use Rattle.flow_values.specs.laws.Kinds.{both_true}
-use Rattle.flow_values.specs.Dues.{DueCell, dues_of, output_of, items_at}
+use Rattle.flow_values.specs.Dues.{DueCell, dues_of, output_of, due_items_at}
 use Rattle.flow_values.specs.laws.Dues.{has_edge, is_output, items_are}
 use Rattle.flow_values.specs.Rows.{element_at, Picked, IndexRow}
 use Rattle.flow_values.specs.IndexMachine.{IndexState, held, writing, vector_given, element_given, index_move, index_of_kind, index_in_range, index_machine}
@@ -90,7 +90,7 @@ module _ (item : Ty) where
 
   -- what is written: the items that are due, and then these elements
   abbrev written : List DueCell → List Value → Columns
-  written ds es = columns (width item) (items_at (width item) ds ⊕ spread_all item 0 es)
+  written ds es = columns (width item) (due_items_at (width item) ds ⊕ spread_all item 0 es)
 
   -- what an element puts on the edges is due for it
   laid : (e : Value) (es : List Value) → written (dues_of item 0 e) es ≡ written [] (e ∷ es)

@@ -7,7 +7,7 @@ use Rattle.snesl_data.specs.Values.{Value, Values, an_int, a_bool, a_pair, a_vec
 use Rattle.flow_messages.specs.Cells.{Cell, is_of}
 use Rattle.flow_messages.specs.declared.message.Kind.{Kind}
 use Rattle.flow_messages.specs.declared.message.Kind.TheVariants.{Bool as BoolKind, Int as IntKind, Vec as VecKind}
-use Rattle.flow_base.specs.Lists.{IsFull}
+use Rattle.flow_base.specs.Lists.{HasFirst}
 use Rattle.flow_base.specs.Ranges.{AllOf}
 use Rattle.flow_base.specs.Flags.{T, elements}
 use Rattle.flow_values.specs.Shapes.{is_a, all_are, kinds_of, cell_for, first_of, second_of, elements_of, kind_at}
@@ -21,22 +21,22 @@ both_true false b e = absurd (cc)
 pub and_true : (a b : Bool) → a ≡ true → b ≡ true → a && b ≡ true
 and_true a b e f = rw (e, f) refl
 
-pub full_append : (xs ys : List Cell) → IsFull xs → IsFull (xs ++ ys)
+pub full_append : (xs ys : List Cell) → HasFirst xs → HasFirst (xs ++ ys)
 full_append [] ys h = absurd h
 full_append (x ∷ xs) ys h = tt
 
-elements_full : (n : ℕ) → IsFull (elements n (T ∷ []))
+elements_full : (n : ℕ) → HasFirst (elements n (T ∷ []))
 elements_full zero = tt
 elements_full (suc n) = tt
 
-pub flags_here : (p n : ℕ) → IsFull (only_at p (elements n (T ∷ [])) p)
-flags_here p n = subst (λ l. IsFull l) (sym (only_here p (elements n (T ∷ [])))) (elements_full n)
+pub flags_here : (p n : ℕ) → HasFirst (only_at p (elements n (T ∷ [])) p)
+flags_here p n = subst (λ l. HasFirst l) (sym (only_here p (elements n (T ∷ [])))) (elements_full n)
 
 -- at its first edge a value has an item
-pub spread_full : (ty : Ty) (p : ℕ) (v : Value) → IsFull (spread ty p v p)
-spread_full int p v = subst (λ l. IsFull l) (sym (only_here p (cell_for v ∷ []))) tt
-spread_full bool p v = subst (λ l. IsFull l) (sym (only_here p (cell_for v ∷ []))) tt
-spread_full (vec item) p v = subst (λ l. IsFull l) (sym (only_here p (cell_for v ∷ []))) tt
+pub spread_full : (ty : Ty) (p : ℕ) (v : Value) → HasFirst (spread ty p v p)
+spread_full int p v = subst (λ l. HasFirst l) (sym (only_here p (cell_for v ∷ []))) tt
+spread_full bool p v = subst (λ l. HasFirst l) (sym (only_here p (cell_for v ∷ []))) tt
+spread_full (vec item) p v = subst (λ l. HasFirst l) (sym (only_here p (cell_for v ∷ []))) tt
 spread_full (pair first second) p v = full_append (spread first p (first_of v) p) (spread second (p + width first) (second_of v) p) (spread_full first p (first_of v))
 spread_full (seq item) p v = full_append (only_at p (elements (length (elements_of v)) (T ∷ [])) p) (spread_all item (p + 1) (elements_of v) p) (flags_here p (length (elements_of v)))
 

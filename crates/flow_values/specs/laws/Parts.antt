@@ -7,14 +7,14 @@ use Rattle.snesl_data.specs.Values.{Value, an_int, a_bool, a_pair, a_vec}
 use Rattle.flow_messages.specs.Cells.{Cell, flag, int as int_cell, datum}
 use Rattle.flow_base.specs.Lists.{Lists}
 use Rattle.flow_values.specs.Shapes.{is_a, kinds_of, cell_for, first_of, second_of}
-use Rattle.flow_values.specs.Flats.{nothing, only_at, ◌⊕◌, width, spread}
+use Rattle.flow_values.specs.Flats.{no_cells, only_at, ◌⊕◌, width, spread}
 use Rattle.flow_values.specs.laws.Sides.{sides_assoc, nothing_more}
 use Rattle.flow_values.specs.laws.Kinds.{both_true, and_true}
 use Rattle.flow_values.specs.Parts.{parts, Built, with_first, and_then, built}
 
 -- one item at each port from p on
 abbrev pub in_row : {A : Type 0} → ℕ → List A → Lists A
-in_row p [] = nothing
+in_row p [] = no_cells
 in_row p (x ∷ xs) = only_at p (x ∷ []) ⊕ in_row (p + 1) xs
 
 pub in_row-append : {A : Type 0} (p : ℕ) (xs ys : List A) → in_row p (xs ++ ys) ≡ in_row p xs ⊕ in_row (p + length xs) ys

@@ -10,7 +10,7 @@ use Rattle.kahn.specs.declared.want.Want.TheVariants.{Read, Write, Ended, Faulte
 use Rattle.kahn.specs.Processes.{Event, Reads, Writes, Does, reads}
 use Rattle.flow_messages.specs.Cells.{Cell, is_of}
 use Rattle.flow_messages.specs.Signals.{Signal, carry, stop}
-use Rattle.flow_base.specs.Lists.{Lists, push, with_port, IsFull, iff_refl}
+use Rattle.flow_base.specs.Lists.{Lists, push, with_port, HasFirst, iff_refl}
 use Rattle.flow_base.specs.Ports.{at_port, off_port, by_port, put_back, First-from}
 use Rattle.flow_base.specs.Ranges.{AllOf}
 use Rattle.flow_base.specs.Transducers.{BehaviourLaws, IsLawfulTraffic, closed}
@@ -19,11 +19,11 @@ use Rattle.flow_base.specs.Promised.{promised_laws}
 use Rattle.flow_base.specs.Histories.{read_in, reads_push}
 use Rattle.flow_base.specs.ClosedLists.{AreClosed, EndsFrom, closed_full, carried, stopped, closed_rest, closed_more, ends_less, ends_more, ends_closed, closed_ends, end_due, none_due, due_none}
 use Rattle.flow_values.specs.Shapes.{is_a, kinds_of, kind_at}
-use Rattle.flow_values.specs.Flats.{nothing, ◌⊕◌, width, spread, flat}
+use Rattle.flow_values.specs.Flats.{no_cells, ◌⊕◌, width, spread, flat}
 use Rattle.flow_values.specs.laws.Flats.{flat_one}
 use Rattle.flow_values.specs.laws.Sides.{spread_above, nothing_more}
 use Rattle.flow_values.specs.laws.Kinds.{spread_full, spread_kinds, full_append, flags_here}
-use Rattle.flow_values.specs.PrintMachine.{Pending, whole, further, port_of, Reading, next, PrintStage, within, closing, stuck, PrintState, print_state, print_opening, print_stage, want_at, moved, checked, read_at, print_behaviour}
+use Rattle.flow_values.specs.PrintMachine.{Pending, whole, further, port_of, PrintReading, next, PrintStage, within, closing, stuck, PrintState, print_state, print_opening, print_stage, want_at, moved, checked, read_at, print_behaviour}
 use Rattle.flow_values.specs.laws.PrintSteps.{segment, Ends, EndsAfter, next_law}
 
 -- What is still to come: the closed lists of bodies that are just what is to be read, each of the kind of its port, and
@@ -44,7 +44,7 @@ OwesAt stuck ty text i t = ⊥
 abbrev OwesText : PrintState → Lists Signal → List ℕ → Type 0
 OwesText s i t = OwesAt s.step s.ty s.text i t
 
-abbrev OwesAfter : Ty → Option Reading → Lists Signal → List ℕ → Type 0
+abbrev OwesAfter : Ty → Option PrintReading → Lists Signal → List ℕ → Type 0
 OwesAfter ty None i t = ⊥
 OwesAfter ty (Some r) i t = Owed ty r.pending r.text i t
 
@@ -53,15 +53,15 @@ module _ (ty : Ty) (i : Lists Signal) (t : List ℕ) where
   owed_pending : (pending : List Pending) (text : List ℕ) → Owed ty pending text i t ↔ OwesAt (print_stage pending) ty text i t
   owed_pending [] text = (
     λ h. (closed_ends (width ty) i h.bodies h.are_closed (λ p lt. ap (λ l. l p) h.ends.0), h.ends.1),
-    λ h. record { bodies = nothing; are_closed = ends_closed (width ty) i h.0; beyond = λ p le. refl; kinds = λ p. tt; ends = (refl, h.1) },
+    λ h. record { bodies = no_cells; are_closed = ends_closed (width ty) i h.0; beyond = λ p le. refl; kinds = λ p. tt; ends = (refl, h.1) },
   )
   owed_pending (first ∷ others) text = iff_refl
 
-  owed_moved : (s : PrintState) (r : Option Reading) → s.ty ≡ ty → OwesAfter ty r i t ↔ OwesText (moved s r) i t
+  owed_moved : (s : PrintState) (r : Option PrintReading) → s.ty ≡ ty → OwesAfter ty r i t ↔ OwesText (moved s r) i t
   owed_moved s None e = iff_refl
   owed_moved s (Some r) e = subst (λ k. OwesAfter ty (Some r) i t ↔ OwesAt (print_stage r.pending) k r.text i t) (sym e) (owed_pending r.pending r.text)
 
-  pack : (r : Option Reading) (bodies : Lists Cell) → AreClosed (width ty) i bodies → ((p : ℕ) → width ty ≤ p → bodies p ≡ []) → ((p : ℕ) → AllOf (kind_at (kinds_of ty) p) (bodies p)) → EndsAfter r bodies t → OwesAfter ty r i t
+  pack : (r : Option PrintReading) (bodies : Lists Cell) → AreClosed (width ty) i bodies → ((p : ℕ) → width ty ≤ p → bodies p ≡ []) → ((p : ℕ) → AllOf (kind_at (kinds_of ty) p) (bodies p)) → EndsAfter r bodies t → OwesAfter ty r i t
   pack None bodies c b k h = h
   pack (Some r) bodies c b k h = record { bodies = bodies; are_closed = c; beyond = b; kinds = k; ends = h }
 
@@ -89,7 +89,7 @@ module _ (ty : Ty) (i : Lists Signal) (t : List ℕ) where
         let packed = pack (next first x others text) less (closed_rest (width ty) here (carry x) i h.bodies r front.2 h.are_closed) beyond kinds after in
         subst (λ b. OwesAfter ty (checked b (next first x others text)) i t) (sym yes) packed
 
-    unpack : (r : Option Reading) → fits ≡ true → ((l : Lists Cell) → EndsAfter r l t → Ends (first ∷ others) text (push here x l) t) → OwesAfter ty r i t → Owed ty (first ∷ others) text (push here (carry x) i) t
+    unpack : (r : Option PrintReading) → fits ≡ true → ((l : Lists Cell) → EndsAfter r l t → Ends (first ∷ others) text (push here x l) t) → OwesAfter ty r i t → Owed ty (first ∷ others) text (push here (carry x) i) t
     unpack None is law h = absurd h
     unpack (Some r) is law h =
         let more = push here x h.bodies in
@@ -108,11 +108,11 @@ module _ (ty : Ty) (i : Lists Signal) (t : List ℕ) where
     back true is h = unpack (next first x others text) is (λ l. (next_law first others text t l x).1) h
 
 -- an item is there to be read
-pending_full : (first : Pending) (others : List Pending) (text : List ℕ) (bodies : Lists Cell) (t : List ℕ) → Ends (first ∷ others) text bodies t → IsFull (bodies (port_of first))
-pending_full (whole behind ty p c) others text bodies t h = subst (λ l. IsFull (l p)) (sym h.3) (full_append (spread ty p h.0 p) (h.1 p) (spread_full ty p h.0))
-pending_full (further item p c) others text bodies t h = subst (λ l. IsFull (l p)) (sym h.3) (full_append (segment item p h.0 p) (h.1 p) (full_append _ _ (flags_here p _)))
+pending_full : (first : Pending) (others : List Pending) (text : List ℕ) (bodies : Lists Cell) (t : List ℕ) → Ends (first ∷ others) text bodies t → HasFirst (bodies (port_of first))
+pending_full (whole behind ty p c) others text bodies t h = subst (λ l. HasFirst (l p)) (sym h.3) (full_append (spread ty p h.0 p) (h.1 p) (spread_full ty p h.0))
+pending_full (further item p c) others text bodies t h = subst (λ l. HasFirst (l p)) (sym h.3) (full_append (segment item p h.0 p) (h.1 p) (full_append _ _ (flags_here p _)))
 
-owed_full : (ty : Ty) (first : Pending) (others : List Pending) (text : List ℕ) (i : Lists Signal) (t : List ℕ) → port_of first < width ty → Owed ty (first ∷ others) text i t → IsFull (i (port_of first))
+owed_full : (ty : Ty) (first : Pending) (others : List Pending) (text : List ℕ) (i : Lists Signal) (t : List ℕ) → port_of first < width ty → Owed ty (first ∷ others) text i t → HasFirst (i (port_of first))
 owed_full ty first others text i t lt h = closed_full (i (port_of first)) (h.bodies (port_of first)) (h.are_closed (port_of first) lt)
 
 -- where an item is to be read, no end comes
@@ -121,7 +121,7 @@ no_stop ty first others text i t lt h =
     let p = port_of first in
     let e : stop ∷ i p ≡ closed (h.bodies p) = sym (at_port p (stop ∷ i p) i) ∙ h.are_closed p lt in
     let none = stopped (i p) (h.bodies p) e in
-    subst (λ l. IsFull l) none.0 (pending_full first others text h.bodies t h.ends)
+    subst (λ l. HasFirst l) none.0 (pending_full first others text h.bodies t h.ends)
 
 -- where an end is due, no item comes
 no_carry : (n p : ℕ) (x : Cell) (i : Lists Signal) → p < n → EndsFrom p n (push p (carry x) i) → ⊥
@@ -163,7 +163,7 @@ module _ (ty : Ty) (text : List ℕ) (at : ℕ) where
   abbrev state : PrintStage → PrintState
   state step = print_state ty step text at
 
-  moved_opening : (s : PrintState) (r : Option Reading) → print_opening (moved s r).ty (moved s r).at ≡ print_opening s.ty s.at
+  moved_opening : (s : PrintState) (r : Option PrintReading) → print_opening (moved s r).ty (moved s r).at ≡ print_opening s.ty s.at
   moved_opening s None = refl
   moved_opening s (Some r) = refl
 
@@ -220,7 +220,7 @@ module _ (ty : Ty) (text : List ℕ) (at : ℕ) where
   never_beyond : (first : Pending) (others : List Pending) (i : Lists Signal) (t : List ℕ) → nat_lt (port_of first) (width ty) ≡ false → Owed ty (first ∷ others) text i t → ⊥
   never_beyond first others i t e h =
       let le : width ty ≤ port_of first = grind (arith, nat_tests) in
-      subst (λ l. IsFull l) (h.beyond (port_of first) le) (pending_full first others text h.bodies t h.ends)
+      subst (λ l. HasFirst l) (h.beyond (port_of first) le) (pending_full first others text h.bodies t h.ends)
 
   each_within : (first : Pending) (others : List Pending) (b : Bool) → nat_lt (port_of first) (width ty) ≡ b → Keeps print_behaviour promise (state (within first others)) (cond b (Read (port_of first)) (Faulted (record { kind = Shape; at = at })))
   each_within first others true e = reads_within first others (lt_of (port_of first) (width ty) e)
@@ -229,7 +229,7 @@ module _ (ty : Ty) (text : List ℕ) (at : ℕ) where
   each_closing : (p : ℕ) (b : Bool) → nat_lt p (width ty) ≡ b → Keeps print_behaviour promise (state (closing p)) (cond b (Read p) Ended)
   each_closing p true e = reads_closing p (lt_of p (width ty) e)
   each_closing p false e = record {
-    nothing = (text, (due_none p (width ty) (λ _. []) e (λ r lt. refl), refl));
+    no_cells = (text, (due_none p (width ty) (λ _. []) e (λ r lt. refl), refl));
     ins = λ i o h. none_due p (width ty) i e h.1.0;
     outs = λ i o h q lt. absurd (omega arith);
   }
@@ -240,14 +240,14 @@ module _ (ty : Ty) (text : List ℕ) (at : ℕ) where
   each_step stuck = record { place = refl; never = λ i o h. h.1 }
 
 -- What came in is one value of the type, and the text in the end is its text.
-pub record Printed (ty : Ty) (i : Lists Signal) (t : List ℕ) : Type 0 where
+pub record PrintedValue (ty : Ty) (i : Lists Signal) (t : List ℕ) : Type 0 where
   pub value : Value
   pub is_one : is_a ty value ≡ true
   pub came : (p : ℕ) → p < width ty → i p ≡ closed (flat ty 0 (value ∷ []) p)
   pub text_is : t ≡ text_of_value value
 
 -- before the value, a value is owed, and its text
-opened_text : (ty : Ty) (at : ℕ) (i : Lists Signal) (t : List ℕ) → OwesText (print_opening ty at) i t ↔ Printed ty i t
+opened_text : (ty : Ty) (at : ℕ) (i : Lists Signal) (t : List ℕ) → OwesText (print_opening ty at) i t ↔ PrintedValue ty i t
 opened_text ty at i t = (
   λ h.
       let first = h.ends in
@@ -263,7 +263,7 @@ opened_text ty at i t = (
     are_closed = λ p lt. h.came p lt ∙ ap (λ l. closed (l p)) (flat_one ty 0 h.value);
     beyond = λ p le. spread_above ty 0 h.value p (omega arith);
     kinds = λ p. let e : 0 + p ≡ p = omega arith in subst (λ q. AllOf (kind_at (kinds_of ty) p) (spread ty 0 h.value q)) e (spread_kinds ty 0 p h.value h.is_one);
-    ends = (h.value, nothing, h.is_one, sym (nothing_more (spread ty 0 h.value)), (refl, h.text_is ∙ sym (append-nil (text_of_value h.value))));
+    ends = (h.value, no_cells, h.is_one, sym (nothing_more (spread ty 0 h.value)), (refl, h.text_is ∙ sym (append-nil (text_of_value h.value))));
   },
 )
 
@@ -345,7 +345,7 @@ text_in_the_end (Writes q m ∷ h) s t (wants, is, does) e = absurd (no_write s 
 
 -- What it printed where it has ended: it read one value of the type, and its text is the text of that value.
 abbrev pub PrintsText : PrintState → Type 0
-PrintsText start = (h : List (Event Signal)) (s : PrintState) → Does print_behaviour.process start h s → print_behaviour.process.want s ≡ Ended → Printed start.ty (λ p. reads p h) s.text
+PrintsText start = (h : List (Event Signal)) (s : PrintState) → Does print_behaviour.process start h s → print_behaviour.process.want s ≡ Ended → PrintedValue start.ty (λ p. reads p h) s.text
 
 from_opened : (ty : Ty) (at : ℕ) → PrintsText (print_opening ty at)
 from_opened ty at h s does e = (opened_text ty at (read_in h) s.text).0 (text_in_the_end h (print_opening ty at) s does e)

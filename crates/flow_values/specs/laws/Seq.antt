@@ -15,7 +15,7 @@ use Rattle.flow_base.specs.MachineRuns.{Then, reading, writing, run_is}
 use Rattle.flow_values.specs.Shapes.{all_are, kinds_of}
 use Rattle.flow_values.specs.Flats.{◌⊕◌, width, spread_all}
 use Rattle.flow_values.specs.laws.Kinds.{both_true, and_true}
-use Rattle.flow_values.specs.Dues.{DueCell, dues_of, items_at, DuesOfKind, DuesInRange}
+use Rattle.flow_values.specs.Dues.{DueCell, dues_of, due_items_at, DuesOfKind, DuesInRange}
 use Rattle.flow_values.specs.laws.Dues.{is_output, items_are}
 use Rattle.flow_values.specs.Rows.{SeqRow}
 use Rattle.flow_values.specs.SeqMachine.{seq_given, seq_move, seq_machine}
@@ -46,7 +46,7 @@ sound item (d ∷ ds) = (is_output (width item) d.port, omega arith, λ h. h, λ
 module _ (item : Ty) where
   -- what is written: the items that are due, and then the elements of these vectors
   abbrev written : List DueCell → List Value → Columns
-  written ds vectors = columns (width (seq item)) (items_at (width (seq item)) ds ⊕ spread_all (seq item) 0 vectors)
+  written ds vectors = columns (width (seq item)) (due_items_at (width (seq item)) ds ⊕ spread_all (seq item) 0 vectors)
 
   -- what a vector of such items puts on the edges is due for it
   laid : (vs : Values) (vectors : List Value) → written (dues_of (seq item) 0 (a_vec vs)) vectors ≡ written [] (a_vec vs ∷ vectors)

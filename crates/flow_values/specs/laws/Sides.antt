@@ -9,7 +9,7 @@ use Rattle.flow_base.specs.Lists.{Lists, push}
 use Rattle.flow_base.specs.Ports.{at_port, off_port, by_port}
 use Rattle.flow_base.specs.Flags.{T, elements}
 use Rattle.flow_values.specs.Shapes.{kinds_of, first_of, second_of, elements_of}
-use Rattle.flow_values.specs.Flats.{nothing, only_at, ◌⊕◌, width, spread, spread_all}
+use Rattle.flow_values.specs.Flats.{no_cells, only_at, ◌⊕◌, width, spread, spread_all}
 
 pub only_here : {A : Type 0} (p : ℕ) (xs : List A) → only_at p xs p ≡ xs
 only_here p xs = elim (eqb_tells p p) [ inl h ↦ rw h.0 refl | inr h ↦ absurd (h.1 refl) ]
@@ -20,7 +20,7 @@ only_there p q xs n = elim (eqb_tells q p) [ inl h ↦ absurd (n h.1) | inr h �
 pub sides_assoc : {A : Type 0} (xs ys zs : Lists A) → (xs ⊕ ys) ⊕ zs ≡ xs ⊕ (ys ⊕ zs)
 sides_assoc xs ys zs = fun_ext (λ q. append_assoc (xs q) (ys q) (zs q))
 
-pub nothing_more : {A : Type 0} (xs : Lists A) → xs ⊕ nothing ≡ xs
+pub nothing_more : {A : Type 0} (xs : Lists A) → xs ⊕ no_cells ≡ xs
 nothing_more xs = fun_ext (λ q. append-nil (xs q))
 
 -- one item in front of the others

@@ -23,7 +23,7 @@ use Rattle.flow_values.specs.Parts.{parts, Built, built, part_fits}
 use Rattle.flow_values.specs.laws.Parts.{in_row, built-parts, built-is, parts-length, spread-parts}
 use Rattle.flow_values.specs.laws.PartFits.{part_kind, part_is}
 use Rattle.flow_values.specs.Rows.{AreTabs, TabRow}
-use Rattle.flow_values.specs.TabMachine.{TabState, start, at_flag, at_item, at_end, flag_taking, closed, grown, item_given, item_port, vector_cell, tab_move, CellsInRange, tab_in_range, tab_machine}
+use Rattle.flow_values.specs.TabMachine.{TabState, start, at_flag, at_item, at_end, flag_taking, with_element, grown, item_given, item_port, vector_cell, tab_move, CellsInRange, tab_in_range, tab_machine}
 use Rattle.flow_values.specs.laws.Edges.{at_pushed, push_columns, none_at, on_edges}
 
 -- Ranges.
@@ -64,7 +64,7 @@ module _ (dialect : Dialect) where
       go true = ((h, tt), h)
       go false = (tt, tt)
 
-  ranged_closed : (ty : Ty) (es : List Value) (got : List Cell) (made : Built) → built ty got ≡ made → AllInRange dialect (values_of es) → CellsInRange dialect got → OfNext (closed es made) (tab_in_range dialect)
+  ranged_closed : (ty : Ty) (es : List Value) (got : List Cell) (made : Built) → built ty got ≡ made → AllInRange dialect (values_of es) → CellsInRange dialect got → OfNext (with_element es made) (tab_in_range dialect)
   ranged_closed ty es got (Some (e, [])) made h g =
       let are = built-is ty got e [] made in
       all_in_range es e h (parts_in_range ty e are.0 (subst (CellsInRange dialect) (are.1 ∙ append-nil (parts ty e)) g))
@@ -77,7 +77,7 @@ module _ (dialect : Dialect) where
       all : List Cell
       all = got ++ x ∷ []
 
-      go : (inside fits more : Bool) → OfNext (cond inside (cond fits (cond more (Ok (at_item es all)) (closed es (built ty all))) (Err Shape)) (Err Shape)) (tab_in_range dialect)
+      go : (inside fits more : Bool) → OfNext (cond inside (cond fits (cond more (Ok (at_item es all)) (with_element es (built ty all))) (Err Shape)) (Err Shape)) (tab_in_range dialect)
       go true true true = (h, cells_in_range got x g r)
       go true true false = ranged_closed ty es all (built ty all) refl h (cells_in_range got x g r)
       go true false more = tt
@@ -153,12 +153,12 @@ module _ (ty : Ty) where
       )
 
   -- where an item leads that is the next of a value
-  leads : (es : List Value) (got : List Cell) (x : Cell) (more : Bool) → length got < width ty → part_fits ty (length got) x ≡ true → nat_lt (length (got ++ x ∷ [])) (width ty) ≡ more → item_given ty es got x ≡ cond more (Ok (at_item es (got ++ x ∷ []))) (closed es (built ty (got ++ x ∷ [])))
+  leads : (es : List Value) (got : List Cell) (x : Cell) (more : Bool) → length got < width ty → part_fits ty (length got) x ≡ true → nat_lt (length (got ++ x ∷ [])) (width ty) ≡ more → item_given ty es got x ≡ cond more (Ok (at_item es (got ++ x ∷ []))) (with_element es (built ty (got ++ x ∷ [])))
   leads es got x more lt fits e =
       let inside : nat_lt (length got) (width ty) ≡ true = grind (arith, nat_tests, lt) in
       ap (λ b. cond b (cond (part_fits ty (length got) x) (grown ty es (got ++ x ∷ [])) (Err Shape)) (Err Shape)) inside
       ∙ ap (λ b. cond b (grown ty es (got ++ x ∷ [])) (Err Shape)) fits
-      ∙ ap (λ b. cond b (Ok (at_item es (got ++ x ∷ []))) (closed es (built ty (got ++ x ∷ [])))) e
+      ∙ ap (λ b. cond b (Ok (at_item es (got ++ x ∷ []))) (with_element es (built ty (got ++ x ∷ [])))) e
 
   -- the items of an element, and then a run, are a run
   element_run : (e : Value) (x : Cell) (cells got : List Cell) (es : List Value) (l : Lists Cell) (o : List Cell) → is_concrete ty ≡ true → is_a ty e ≡ true → parts ty e ≡ got ++ x ∷ cells → Does (at_flag (es ++ e ∷ [])) l o → Does (at_item es got) (in_row (suc (length got)) (x ∷ cells) ⊕ l) o
@@ -169,7 +169,7 @@ module _ (ty : Ty) where
       let made : built ty (got ++ x ∷ []) ≡ Some (e, []) = ap (built ty) (sym are ∙ sym (append-nil (parts ty e))) ∙ built-parts ty e [] c is in
       let fits = part_is ty e got x [] c is are in
       subst (λ m. Does (at_item es got) m o) (sym (row_first (suc (length got)) x [] l))
-      (item_run es got x (at_flag (es ++ e ∷ [])) l o (omega (arith, whole)) fits (leads es got x false (omega (arith, whole)) fits outside ∙ ap (closed es) made) r)
+      (item_run es got x (at_flag (es ++ e ∷ [])) l o (omega (arith, whole)) fits (leads es got x false (omega (arith, whole)) fits outside ∙ ap (with_element es) made) r)
   element_run e x (y ∷ cells) got es l o c is are r =
       let size = length-append got (x ∷ []) in
       let whole : length got + suc (suc (length cells)) ≡ width ty = sym (length-append got (x ∷ y ∷ cells)) ∙ sym (ap length are) ∙ parts-length ty e c in
@@ -268,13 +268,13 @@ module _ (ty : Ty) where
         owes_as (at_item es got) (suc (length got)) x (in_row (suc (length got)) (x ∷ []) ⊕ later) later written written (map datum vectors) lt (row_first (suc (length got)) x [] later) refl
         (itemed es got e (x ∷ []) vs vectors c is are tabs parts_are)
 
-    to_made : (made : Built) (i o : Columns) → built ty (got ++ x ∷ []) ≡ made → OnNext (closed es made) (λ s. Owes s i o) → Owes (at_item es got) (push_column (suc (length got)) x i) o
+    to_made : (made : Built) (i o : Columns) → built ty (got ++ x ∷ []) ≡ made → OnNext (with_element es made) (λ s. Owes s i o) → Owes (at_item es got) (push_column (suc (length got)) x i) o
     to_made (Some (e, [])) i o made h = let are = built-is ty (got ++ x ∷ []) e [] made in to_last e i o are.0 (sym (append-nil (parts ty e)) ∙ sym are.1) h
     to_made (Some (e, y ∷ ys)) i o made h = absurd h
     to_made None i o made h = absurd h
 
   item_earlier : (es : List Value) (got : List Cell) (x : Cell) (inside fits more : Bool) (i o : Columns) → nat_lt (length got) (width ty) ≡ inside →
-      OnNext (cond inside (cond fits (cond more (Ok (at_item es (got ++ x ∷ []))) (closed es (built ty (got ++ x ∷ [])))) (Err Shape)) (Err Shape)) (λ s. Owes s i o) → Owes (at_item es got) (push_column (cond inside (suc (length got)) 0) x i) o
+      OnNext (cond inside (cond fits (cond more (Ok (at_item es (got ++ x ∷ []))) (with_element es (built ty (got ++ x ∷ [])))) (Err Shape)) (Err Shape)) (λ s. Owes s i o) → Owes (at_item es got) (push_column (cond inside (suc (length got)) 0) x i) o
   item_earlier es got x true true true i o e h = to_more es got x (item_below ty got true e) i o h
   item_earlier es got x true true false i o e h = to_made es got x (item_below ty got true e) (built ty (got ++ x ∷ [])) i o refl h
   item_earlier es got x true false more i o e h = absurd h

@@ -2,7 +2,7 @@ use Rattle.std.proofs.Common.{length, [], sym, subst, ◌∙◌}
 use Rattle.flow_graph.specs.Graphs.{edges_of, states_so_far, edges_so_far}
 use Rattle.flow_graph.specs.Networks.{AreOpened}
 use Rattle.flow_nodes.specs.StreamNodes.{node_behaviour}
-use Rattle.flow_plans.specs.Layouts.{layout, IsNetworkOf}
+use Rattle.flow_plans.specs.Layouts.{layout, IsNetworkOfPlan}
 use Rattle.flow_plans.specs.Ports.{kinds_after}
 use Rattle.flow_assembly.specs.Openings.{AllOpen}
 use Rattle.flow_assembly.specs.Ready.{plan_of}
@@ -15,8 +15,8 @@ build-requires c = is_joined (plan_of c.args.plan.now) (length c.args.plan.now.s
 
 pub returns-clause-network : goal.returns-clause-network
 returns-clause-network c =
-    subst (λ states. IsNetworkOf node_behaviour (plan_of c.args.plan.now) states (edges_of c.build.result)) (sym c.build.ensures.nodes)
-    (subst (IsNetworkOf node_behaviour (plan_of c.args.plan.now) (states_so_far c.args.network.builder)) (sym c.build.ensures.edges)
+    subst (λ states. IsNetworkOfPlan node_behaviour (plan_of c.args.plan.now) states (edges_of c.build.result)) (sym c.build.ensures.nodes)
+    (subst (IsNetworkOfPlan node_behaviour (plan_of c.args.plan.now) (states_so_far c.args.network.builder)) (sym c.build.ensures.edges)
     (is_network (plan_of c.args.plan.now) (length c.args.plan.now.steps.items) c.args.network.supply.items c.args.network.places.items (states_so_far c.args.network.builder) (edges_so_far c.args.network.builder) c.requires.built (plan_ended c.args.plan.now) (kinds_after [] (plan_of c.args.plan.now)) c.openings_perform.ensures (plan_fits c.args.plan.now c.requires.wired)))
 
 pub returns-clause-edges : goal.returns-clause-edges

@@ -12,7 +12,7 @@ use Rattle.snesl_evaluation.specs.declared.scope.Column.{Column}
 use Rattle.snesl_evaluation.specs.Builtins.{applied, binary_answer, items_at, seq_answer, truth_at}
 use Rattle.snesl_evaluation.specs.Eval.{calls_of, eval, in_step, kept, rows_of}
 use Rattle.snesl_evaluation.specs.Results.{Answers}
-use Rattle.snesl_evaluation.specs.Scopes.{all_in, binders_in, calls_in, column_of, each_in, entered, environment_in, eval_in, kept_at, kept_in, names_of, row_at, where_in}
+use Rattle.snesl_evaluation.specs.Scopes.{all_in, binders_in, calls_in, bound_items_of, each_in, entered, environment_in, eval_in, kept_at, kept_in, names_of, names_at, where_in}
 use Rattle.snesl_evaluation.proofs.Arguments.{values_given, values_faults, values_all, columns_given, columns_faults, columns_all}
 use Rattle.snesl_evaluation.proofs.Passed.{halt_passes, parameters_seen, parameters_differ, filter_seen}
 use Rattle.snesl_evaluation.proofs.Reading.{behind}
@@ -85,7 +85,7 @@ pub all_columns-returns-in_err-sequence : goal.all_columns-returns-in_err-sequen
 all_columns-returns-in_err-sequence t c =
     let context = c.args.context.now in
     let scope = c.args.scope.now in
-    let columns = λ (all : Vec Column Global). map (column_of context.text.now) all.items in
+    let columns = λ (all : Vec Column Global). map (bound_items_of context.text.now) all.items in
     let binders = c.args.binders.now in
     let binder = c.binder-item.result in
     halt_passes value_of columns c.from_residual.result c.in_err-sequence.field-0.0 (eval_in context scope (tree_of binder.source)) (binders_in context scope (binders_of binders)) c.from_residual.ensures.1 c.in_err-sequence.ensures
@@ -96,7 +96,7 @@ pub all_columns-returns-in_err-items : goal.all_columns-returns-in_err-items
 all_columns-returns-in_err-items t c =
     let context = c.args.context.now in
     let scope = c.args.scope.now in
-    let columns = λ (all : Vec Column Global). map (column_of context.text.now) all.items in
+    let columns = λ (all : Vec Column Global). map (bound_items_of context.text.now) all.items in
     let binders = c.args.binders.now in
     let binder = c.binder-item.result in
     halt_passes (λ (all : Vec Datum Global). map value_of all.items) columns c.from_residual-in_err-items.result c.in_err-items.field-0.0 (items_at binder.name.at (value_of c.in_ok-sequence.sequence)) (binders_in context scope (binders_of binders)) c.from_residual-in_err-items.ensures.1 c.in_err-items.ensures
@@ -110,30 +110,30 @@ all_columns-loop-binder-preserved t c =
     let binders = c.args.binders.now in
     let i = c.loop-binder.binder-index in
     c.loop-binder.invariant
-    ∙ columns_given context scope (map (column_of context.text.now) c.loop-binder.columns.items) binders i c.binder-item.result (value_of c.in_ok-sequence.sequence) (map value_of c.in_ok-items.items.items) c.loop-binder-test.true c.binder-item.is c.in_ok-sequence.ensures c.in_ok-items.ensures
+    ∙ columns_given context scope (map (bound_items_of context.text.now) c.loop-binder.columns.items) binders i c.binder-item.result (value_of c.in_ok-sequence.sequence) (map value_of c.in_ok-items.items.items) c.loop-binder-test.true c.binder-item.is c.in_ok-sequence.ensures c.in_ok-items.ensures
     ∙ ap (λ done. behind done (binders_in context scope (binders_of (drop (i + 1) binders)))) (sym (c.in_ok-add_column.ensures context.text.now))
 
 pub all_columns-returns : goal.all_columns-returns
 all_columns-returns t c =
     let context = c.args.context.now in
-    c.loop-binder.invariant ∙ columns_all context c.args.scope.now (map (column_of context.text.now) c.loop-binder.columns.items) c.args.binders.now c.loop-binder.binder-index (omega arith)
+    c.loop-binder.invariant ∙ columns_all context c.args.scope.now (map (bound_items_of context.text.now) c.loop-binder.columns.items) c.args.binders.now c.loop-binder.binder-index (omega arith)
 
 pub rows-returns-in_err-value : goal.rows-returns-in_err-value
 rows-returns-in_err-value t c =
     let text = c.args.context.now.text.now in
     let dialect = c.args.context.now.dialect in
-    let columns = map (column_of text) c.args.columns.now in
+    let columns = map (bound_items_of text) c.args.columns.now in
     let f = λ (row : Environment). eval dialect (tree_of c.args.body.now) text (calls_in c.args.context.now) (row ++ environment_in text c.args.scope.now) in
     let i = c.loop-index.index in
     let level = level_seen text c.args.number c.args.columns.now ∙ c.requires in
-    halt_passes value_of (λ (values : Vec Datum Global). map value_of values.items) c.from_residual.result c.in_err-value.field-0.0 (f (row_at i columns)) (go_all f (rows_of c.args.number columns)) c.from_residual.ensures.1 c.in_err-value.ensures
+    halt_passes value_of (λ (values : Vec Datum Global). map value_of values.items) c.from_residual.result c.in_err-value.field-0.0 (f (names_at i columns)) (go_all f (rows_of c.args.number columns)) c.from_residual.ensures.1 c.in_err-value.ensures
     (λ kind at e. c.loop-index.invariant ∙ row_faults f c.args.number columns i (map value_of c.loop-index.values.items) kind at level (omega arith) e)
 
 pub rows-loop-index-preserved : goal.rows-loop-index-preserved
 rows-loop-index-preserved t c =
     let text = c.args.context.now.text.now in
     let dialect = c.args.context.now.dialect in
-    let columns = map (column_of text) c.args.columns.now in
+    let columns = map (bound_items_of text) c.args.columns.now in
     let f = λ (row : Environment). eval dialect (tree_of c.args.body.now) text (calls_in c.args.context.now) (row ++ environment_in text c.args.scope.now) in
     let i = c.loop-index.index in
     let level = level_seen text c.args.number c.args.columns.now ∙ c.requires in
@@ -145,7 +145,7 @@ pub rows-returns : goal.rows-returns
 rows-returns t c =
     let text = c.args.context.now.text.now in
     let dialect = c.args.context.now.dialect in
-    let columns = map (column_of text) c.args.columns.now in
+    let columns = map (bound_items_of text) c.args.columns.now in
     let f = λ (row : Environment). eval dialect (tree_of c.args.body.now) text (calls_in c.args.context.now) (row ++ environment_in text c.args.scope.now) in
     let done = map value_of c.loop-index.values.items in
     let ended : c.loop-index.index ≡ c.args.number = omega arith in
@@ -156,17 +156,17 @@ rows-returns t c =
 pub rows_where-returns-in_err-found : goal.rows_where-returns-in_err-found
 rows_where-returns-in_err-found t c =
     let text = c.args.context.now.text.now in
-    let columns = map (column_of text) c.args.columns.now in
+    let columns = map (bound_items_of text) c.args.columns.now in
     let f = λ (row : Environment). kept_at c.args.context.now (row ++ environment_in text c.args.scope.now) c.args.at (tree_of c.args.body.now) (tree_of c.args.condition.now) in
     let i = c.loop-index.index in
     let level = level_seen text c.args.number c.args.columns.now ∙ c.requires in
-    halt_passes (λ (found : Option Datum). option_to_list (option_map value_of found)) (λ (values : Vec Datum Global). map value_of values.items) c.from_residual.result c.in_err-found.field-0.0 (f (row_at i columns)) (go_join f (rows_of c.args.number columns)) c.from_residual.ensures.1 c.in_err-found.ensures
+    halt_passes (λ (found : Option Datum). option_to_list (option_map value_of found)) (λ (values : Vec Datum Global). map value_of values.items) c.from_residual.result c.in_err-found.field-0.0 (f (names_at i columns)) (go_join f (rows_of c.args.number columns)) c.from_residual.ensures.1 c.in_err-found.ensures
     (λ kind at e. c.loop-index.invariant ∙ kept_faults f c.args.number columns i (map value_of c.loop-index.values.items) kind at level (omega arith) e)
 
 pub rows_where-loop-index-preserved : goal.rows_where-loop-index-preserved
 rows_where-loop-index-preserved t c =
     let text = c.args.context.now.text.now in
-    let columns = map (column_of text) c.args.columns.now in
+    let columns = map (bound_items_of text) c.args.columns.now in
     let f = λ (row : Environment). kept_at c.args.context.now (row ++ environment_in text c.args.scope.now) c.args.at (tree_of c.args.body.now) (tree_of c.args.condition.now) in
     let i = c.loop-index.index in
     let level = level_seen text c.args.number c.args.columns.now ∙ c.requires in
@@ -177,7 +177,7 @@ rows_where-loop-index-preserved t c =
 pub rows_where-returns : goal.rows_where-returns
 rows_where-returns t c =
     let text = c.args.context.now.text.now in
-    let columns = map (column_of text) c.args.columns.now in
+    let columns = map (bound_items_of text) c.args.columns.now in
     let f = λ (row : Environment). kept_at c.args.context.now (row ++ environment_in text c.args.scope.now) c.args.at (tree_of c.args.body.now) (tree_of c.args.condition.now) in
     let done = map value_of c.loop-index.values.items in
     let ended : c.loop-index.index ≡ c.args.number = omega arith in

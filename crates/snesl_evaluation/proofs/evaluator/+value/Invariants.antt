@@ -8,7 +8,7 @@ use Rattle.snesl_tree.specs.declared.expr.Expr.{size-Expr}
 use Rattle.snesl_tree.specs.View.{tree_of, trees_of, binders_of}
 use Rattle.snesl_evaluation.specs.Answer.{go, gives}
 use Rattle.snesl_evaluation.specs.Eval.{rows_of}
-use Rattle.snesl_evaluation.specs.Scopes.{weight, weight_of, all_in, binders_in, each_in, where_in, column_of}
+use Rattle.snesl_evaluation.specs.Scopes.{weight, weight_of, all_in, binders_in, each_in, where_in, bound_items_of}
 use Rattle.snesl_evaluation.proofs.evaluator.+value.Given as goal
 
 -- the deeper of an expression and its helpers comes first, behind the weight of the functions that it may call
@@ -87,14 +87,14 @@ invariant-all_values-loop-expr l =
 abbrev pub invariant-all_columns-loop-binder : goal.invariant-all_columns-loop-binder
 invariant-all_columns-loop-binder l =
     binders_in l.context l.scope (binders_of l.binders)
-    ≡ go (binders_in l.context l.scope (binders_of (drop l.binder-index l.binders))) (λ later. gives (map (column_of l.context.text.now) l.columns.items ++ later))
+    ≡ go (binders_in l.context l.scope (binders_of (drop l.binder-index l.binders))) (λ later. gives (map (bound_items_of l.context.text.now) l.columns.items ++ later))
 
 abbrev pub invariant-rows-loop-index : goal.invariant-rows-loop-index
 invariant-rows-loop-index l =
-    each_in l.context l.scope (tree_of l.body) (rows_of l.number (map (column_of l.context.text.now) l.columns))
-    ≡ go (each_in l.context l.scope (tree_of l.body) (drop l.index (rows_of l.number (map (column_of l.context.text.now) l.columns)))) (λ later. gives (map value_of l.values.items ++ later))
+    each_in l.context l.scope (tree_of l.body) (rows_of l.number (map (bound_items_of l.context.text.now) l.columns))
+    ≡ go (each_in l.context l.scope (tree_of l.body) (drop l.index (rows_of l.number (map (bound_items_of l.context.text.now) l.columns)))) (λ later. gives (map value_of l.values.items ++ later))
 
 abbrev pub invariant-rows_where-loop-index : goal.invariant-rows_where-loop-index
 invariant-rows_where-loop-index l =
-    where_in l.context l.scope l.at (tree_of l.body) (tree_of l.condition) (rows_of l.number (map (column_of l.context.text.now) l.columns))
-    ≡ go (where_in l.context l.scope l.at (tree_of l.body) (tree_of l.condition) (drop l.index (rows_of l.number (map (column_of l.context.text.now) l.columns)))) (λ later. gives (map value_of l.values.items ++ later))
+    where_in l.context l.scope l.at (tree_of l.body) (tree_of l.condition) (rows_of l.number (map (bound_items_of l.context.text.now) l.columns))
+    ≡ go (where_in l.context l.scope l.at (tree_of l.body) (tree_of l.condition) (drop l.index (rows_of l.number (map (bound_items_of l.context.text.now) l.columns)))) (λ later. gives (map value_of l.values.items ++ later))

@@ -1,19 +1,19 @@
 use Rattle.std.proofs.Common.{leb, ap, sym, ◌∙◌, inl, inr}
-use Rattle.snesl_expressions.specs.Machine.{closes}
+use Rattle.snesl_expressions.specs.Machine.{binds_at}
 use Rattle.snesl_expressions.specs.Parsing.{frame_of}
 use Rattle.snesl_expressions.proofs.Piles.{zero_test}
 use Rattle.snesl_expressions.proofs.forms.is_closed_at.Goals as goal
 
 pub returns-in-Binary : goal.returns-in-Binary
-returns-in-Binary c = ap (leb c.args.tightness) c.level_of.ensures.exact ∙ sym (ap (λ form. closes c.args.tightness (frame_of form)) c.in-Binary.is)
+returns-in-Binary c = ap (leb c.args.tightness) c.level_of.ensures.exact ∙ sym (ap (λ form. binds_at c.args.tightness (frame_of form)) c.in-Binary.is)
 
 pub returns-in-Prefix : goal.returns-in-Prefix
-returns-in-Prefix c = sym (ap (λ form. closes c.args.tightness (frame_of form)) c.in-Prefix.is)
+returns-in-Prefix c = sym (ap (λ form. binds_at c.args.tightness (frame_of form)) c.in-Prefix.is)
 
 -- the two forms that bind least
 pub returns-in-LetBody : goal.returns-in-LetBody
 returns-in-LetBody c =
     zero_test c.args.tightness ∙ elim c.in-LetBody.is [
-      | inl body ↦ sym (ap (λ form. closes c.args.tightness (frame_of form)) body.3)
-      | inr branch ↦ sym (ap (λ form. closes c.args.tightness (frame_of form)) branch.3)
+      | inl body ↦ sym (ap (λ form. binds_at c.args.tightness (frame_of form)) body.3)
+      | inr branch ↦ sym (ap (λ form. binds_at c.args.tightness (frame_of form)) branch.3)
     ]

@@ -4,7 +4,7 @@ use Rattle.snesl_types.specs.Typed.{typed_inputs, typed_text, typed_tree}
 use Rattle.flow_nodes.specs.StreamNodes.{node_behaviour}
 use Rattle.flow_graph.specs.Graphs.{states_of, edges_of}
 use Rattle.flow_graph.specs.Limits.{most_nodes, most_edges}
-use Rattle.flow_plans.specs.Layouts.{layout, places, edges_needed, IsNetworkOf}
+use Rattle.flow_plans.specs.Layouts.{layout, places, edges_needed, IsNetworkOfPlan}
 use Rattle.flow_plans.specs.Ports.{AreWired}
 use Rattle.flow_plans.specs.Views.{steps_of}
 use Rattle.flow_assembly.specs.Openings.{AllOpen}
@@ -47,7 +47,7 @@ returns-clause-holds c =
 pub returns-clause-network : goal.returns-clause-network
 returns-clause-network c =
     let graph = c.in_ok-assembled.assembled.graph in
-    subst (λ plan. IsNetworkOf node_behaviour plan (states_of graph) (edges_of graph)) (ap (λ d. steps_of d c.in_ok-steps.steps.items) c.dialect.ensures ∙ c.in_ok-steps.ensures.steps)
+    subst (λ plan. IsNetworkOfPlan node_behaviour plan (states_of graph) (edges_of graph)) (ap (λ d. steps_of d c.in_ok-steps.steps.items) c.dialect.ensures ∙ c.in_ok-steps.ensures.steps)
     c.in_ok-assembled.ensures.network
 
 pub returns-clause-opens : goal.returns-clause-opens

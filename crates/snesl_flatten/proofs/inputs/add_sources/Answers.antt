@@ -5,7 +5,7 @@ use Rattle.std.specs.Arc.{arc_value}
 use Rattle.snesl_data.specs.Types.{ty_of}
 use Rattle.snesl_values.specs.Places.{value_at}
 use Rattle.flow_base.specs.Columns.{columns}
-use Rattle.flow_inputs.specs.Items.{items_at}
+use Rattle.flow_inputs.specs.Items.{items_from}
 use Rattle.flow_inputs.specs.TextSources.{items_in}
 use Rattle.flow_inputs.specs.Ways.{way_to, leaf_at}
 use Rattle.flow_values.specs.Shapes.{kinds_of, kind_at}
@@ -33,7 +33,7 @@ loop-edge-preserved c =
     let source = c.in_ok-source.source in
     let lt : i < width t = omega (arith, c.loop-edge-test.true, c.edge_count-edge-end.ensures) in
     let kept : (arc_value c.in_ok-shared.shared).items ≡ text = ap (λ v. v.items) c.in_ok-shared.ensures.cases in
-    let is : items_in source ≡ items_at text (way_to t i) (leaf_at t i) place = c.in_ok-source.ensures.items ∙ ap (λ (l : List ℕ). items_at l (way_to t i) (leaf_at t i) place) kept in
+    let is : items_in source ≡ items_from text (way_to t i) (leaf_at t i) place = c.in_ok-source.ensures.items ∙ ap (λ (l : List ℕ). items_from l (way_to t i) (leaf_at t i) place) kept in
     let holds = c.text_holds_edges.ensures in
     let next : suc i ≡ i + 1 = omega arith in
     record {

@@ -2,7 +2,7 @@ use Rattle.std.proofs.Common.{◌≡◌, ◌+◌, ℕ, List, Some, suc, take, ma
 use Rattle.std.proofs.lemmas.List.{length-map}
 use Rattle.std.specs.Arc.{arc_value}
 use Rattle.snesl_values.specs.Entries.{environment_at, ArePlaced}
-use Rattle.snesl_values.specs.Inputs.{Environment, Fits, declared, declaration_of, dialect_of, environment_of, placed_in, text_in}
+use Rattle.snesl_values.specs.Inputs.{Environment, FitDeclarations, declared, declaration_of, dialect_of, environment_of, placed_in, text_in}
 use Rattle.snesl_values.specs.Places.{value_at as spelled_at}
 use Rattle.snesl_translation.specs.Programs.{columns_of}
 use Rattle.snesl_flatten.specs.Sources.{all_kinds, cells_in, kind_in}
@@ -45,7 +45,7 @@ loop-number-preserved c =
     let n = c.unwrap-place.result in
     let text = (arc_value c.text.result.now).items in
     let d = declaration_of c.index-declarations-number.result in
-    let fits = subst (λ l. Fits (dialect_of inputs) l es) c.requires.declares c.inputs_fit.ensures in
+    let fits = subst (λ l. FitDeclarations (dialect_of inputs) l es) c.requires.declares c.inputs_fit.ensures in
     let placed = subst (λ l. ArePlaced (dialect_of inputs) (text_in inputs) l (placed_in inputs)) c.requires.declares c.inputs_are_placed.ensures.placed in
     let kept = subst (λ (t : List ℕ). ArePlaced (dialect_of inputs) t ds (placed_in inputs)) (sym c.text.ensures) placed in
     let there = declared_at c.args.declarations.now i c.index-declarations-number.result c.loop-number-test.true c.index-declarations-number.is in
@@ -69,6 +69,6 @@ pub returns-clause-cells : goal.returns-clause-cells
 returns-clause-cells c =
     let ds = declared c.args.declarations.now in
     let inputs = c.args.inputs.now in
-    let fits = subst (λ l. Fits (dialect_of inputs) l (environment_of inputs)) c.requires.declares c.inputs_fit.ensures in
+    let fits = subst (λ l. FitDeclarations (dialect_of inputs) l (environment_of inputs)) c.requires.declares c.inputs_fit.ensures in
     let all = length-map c.args.declarations.now declaration_of in
     c.loop-number.invariant.cells ∙ columns_all (dialect_of inputs) ds (environment_of inputs) c.loop-number.number fits (omega (arith, all))

@@ -2,7 +2,7 @@ use Rattle.std.proofs.Common.{arith, length, subst, sym, IsTrue, take}
 use Rattle.std.specs.List.{AllByRecursion}
 use Rattle.std.specs.Char.{is_ascii_digit}
 use Rattle.std.proofs.Common.{get_or}
-use Rattle.snesl_lexer.specs.Lexical.{IsWithin}
+use Rattle.snesl_lexer.specs.Lexical.{IsTokenWithin}
 use Rattle.snesl_lexer.proofs.Lexing.{prefix_passes, sign_within}
 use Rattle.snesl_lexer.proofs.lexer.first_token.Goals as goal
 use Rattle.snesl_lexer.proofs.lexer.first_token.Goals.{then-text-gt1, else-text-gt1}
@@ -13,7 +13,7 @@ number-requires c =
 
 pub returns-clause-within : goal.returns-clause-within
 returns-clause-within c =
-    subst (IsWithin (length c.args.text.now)) (sym c.sign_token.ensures)
+    subst (IsTokenWithin (length c.args.text.now)) (sym c.sign_token.ensures)
     (sign_within (get_or c.args.text.now 0 0) c.if-text-gt1.next (length c.args.text.now) (omega arith) (λ one.
     elim c.if-text-gt1.branch [
       | then-text-gt1 w ↦ absurd (omega arith)

@@ -1,7 +1,7 @@
 use Rattle.std.proofs.Common.{◌+◌, ◌∙◌, ap, arith, get_or, sym}
 use Rattle.std.proofs.lemmas.List.Sums.{fold_more}
 use Rattle.snesl_look.proofs.Declarations.{Reaches, goes_on, restarts}
-use Rattle.snesl_look.specs.Functions.{depth_behind}
+use Rattle.snesl_look.specs.Functions.{depth_after_byte}
 use Rattle.snesl_look.proofs.functions.declaration_at.Goals as goal
 use Rattle.snesl_look.proofs.functions.declaration_at.Goals.{then-text-place-eq59+then-depth-eq0+else-place-offset, else-text-place-eq59, else-text-place-eq59-via-then-text-place-eq59+else-depth-eq0, else-text-place-eq59-via-else-text-place-eq59}
 
@@ -29,7 +29,7 @@ loop-place-preserved c =
     ] in
     let behind = c.depth_behind-depth.ensures in
     record {
-      deep = behind.depth ∙ ap (λ d. depth_behind d (get_or text place 0)) known.deep ∙ sym (fold_more depth_behind 0 text place 0 c.loop-place-test.true);
+      deep = behind.depth ∙ ap (λ d. depth_after_byte d (get_or text place 0)) known.deep ∙ sym (fold_more depth_after_byte 0 text place 0 c.loop-place-test.true);
       few = omega (arith, behind.few, known.few);
       begins = next.begins;
       reached = next.reached;

@@ -1,7 +1,7 @@
 use Rattle.snesl_grammar.specs.Limits.{greatest_depth}
 use Rattle.snesl_expressions.specs.Readers.{within}
 use Rattle.snesl_expressions.specs.Machine.{expressions}
-use Rattle.snesl_syntax.specs.Programs.{carried, programs}
+use Rattle.snesl_syntax.specs.Programs.{lifted, programs}
 use Rattle.snesl_syntax.specs.ProgramMachine.{program_state}
 use Rattle.snesl_syntax.specs.Dialects.{in_rest}
 use Rattle.snesl_syntax.specs.DialectMachine.{dialect_state}
@@ -13,7 +13,7 @@ returns-in_err-machine c =
     let around = in_rest c.args.dialect in
     let move = (programs expressions).move (program_state c.args.machine) c.args.token in
     let error = c.in_err-machine.field-0.0 in
-    stop_passed dialect_state c.from_residual.result error (within greatest_depth (carried around move)) c.from_residual.ensures.1
+    stop_passed dialect_state c.from_residual.result error (within greatest_depth (lifted around move)) c.from_residual.ensures.1
     (stop_carried greatest_depth around move error c.in_err-machine.ensures)
 
 pub returns : goal.returns

@@ -4,7 +4,7 @@ use Rattle.snesl_grammar.specs.Limits.{greatest_depth}
 use Rattle.snesl_expressions.specs.Readers.{within}
 use Rattle.snesl_expressions.specs.Machine.{expressions}
 use Rattle.snesl_expressions.specs.Parsing.{state_of}
-use Rattle.snesl_syntax.specs.Programs.{in_body, carried}
+use Rattle.snesl_syntax.specs.Programs.{in_body, lifted}
 use Rattle.snesl_syntax.specs.TypeMachine.{Steps}
 use Rattle.snesl_syntax.specs.ProgramMachine.{header_of, program_state}
 use Rattle.snesl_syntax.proofs.Parts.{step_carried, stop_carried, machine_stops, stop_passed}
@@ -15,7 +15,7 @@ returns-in_err-machine c =
     let around = in_body (header_of (map declaration_of c.args.done.items) c.args.header) in
     let move = expressions.move (state_of c.args.machine) c.args.token in
     let error = c.in_err-machine.field-0.0 in
-    stop_passed program_state c.from_residual.result error (within greatest_depth (carried around move)) c.from_residual.ensures.1
+    stop_passed program_state c.from_residual.result error (within greatest_depth (lifted around move)) c.from_residual.ensures.1
     (stop_carried greatest_depth around move error (machine_stops error (within greatest_depth move) c.in_err-machine.ensures))
 
 pub returns : goal.returns

@@ -5,8 +5,8 @@ use Rattle.snesl_tree.specs.Spelling.{spelling}
 use Rattle.snesl_tree.specs.Tree.{call, apply, literal, each, both, none, binding}
 use Rattle.snesl_tree.specs.View.{tree_of, trees_of, binders_of}
 use Rattle.snesl_tree.proofs.Arguments.{tree_of-Call, tree_of-Apply, tree_of-Literal}
-use Rattle.snesl_types.specs.Clashes.{IsFound, parts, sources}
-use Rattle.snesl_types.specs.Contexts.{opened, inside, bound}
+use Rattle.snesl_types.specs.Clashes.{IsFound, seen_parts, sources}
+use Rattle.snesl_types.specs.Contexts.{names_context, inside, bound}
 use Rattle.snesl_types.specs.Misfitting.{ClashesIn, AnyClashesIn}
 use Rattle.snesl_types.specs.Names.{context_of, condition_in, binders_typed_in}
 use Rattle.snesl_types.proofs.Misfitting.{two_first, later, any_found, source_found, part_found, let_found, in_each_condition, in_each_body, in_let, in_one}
@@ -15,38 +15,38 @@ use Rattle.snesl_types.proofs.clashes.+clashing.Goals as goal
 
 pub part_clash-returns-in-Prefix : goal.part_clash-returns-in-Prefix
 part_clash-returns-in-Prefix t c =
-    in_one c.args.scope.now c.args.at (parts (tree_of c.args.expr.now)) (tree_of c.deref.result.now) c.clash_in.result
-    (ap (λ x. parts (tree_of x)) c.in-Prefix.is ∙ ap (λ x. both (tree_of x) none) (sym c.deref.ensures)) c.clash_in.ensures
+    in_one c.args.scope.now c.args.at (seen_parts (tree_of c.args.expr.now)) (tree_of c.deref.result.now) c.clash_in.result
+    (ap (λ x. seen_parts (tree_of x)) c.in-Prefix.is ∙ ap (λ x. both (tree_of x) none) (sym c.deref.ensures)) c.clash_in.ensures
 
 pub part_clash-returns-in-Group : goal.part_clash-returns-in-Group
 part_clash-returns-in-Group t c =
-    in_one c.args.scope.now c.args.at (parts (tree_of c.args.expr.now)) (tree_of c.deref-in-Group.result.now) c.clash_in-in-Group.result
-    (ap (λ x. parts (tree_of x)) c.in-Group.is ∙ ap (λ x. both (tree_of x) none) (sym c.deref-in-Group.ensures)) c.clash_in-in-Group.ensures
+    in_one c.args.scope.now c.args.at (seen_parts (tree_of c.args.expr.now)) (tree_of c.deref-in-Group.result.now) c.clash_in-in-Group.result
+    (ap (λ x. seen_parts (tree_of x)) c.in-Group.is ∙ ap (λ x. both (tree_of x) none) (sym c.deref-in-Group.ensures)) c.clash_in-in-Group.ensures
 
 pub part_clash-returns-in-Let : goal.part_clash-returns-in-Let
 part_clash-returns-in-Let t c =
-    in_one c.args.scope.now c.args.at (parts (tree_of c.args.expr.now)) (tree_of c.deref-in-Let.result.now) c.clash_in-in-Let.result
-    (ap (λ x. parts (tree_of x)) c.in-Let.is ∙ ap (λ x. both (tree_of x) none) (sym c.deref-in-Let.ensures)) c.clash_in-in-Let.ensures
+    in_one c.args.scope.now c.args.at (seen_parts (tree_of c.args.expr.now)) (tree_of c.deref-in-Let.result.now) c.clash_in-in-Let.result
+    (ap (λ x. seen_parts (tree_of x)) c.in-Let.is ∙ ap (λ x. both (tree_of x) none) (sym c.deref-in-Let.ensures)) c.clash_in-in-Let.ensures
 
 pub part_clash-returns-in-Call : goal.part_clash-returns-in-Call
 part_clash-returns-in-Call t c =
     let tree = ap tree_of c.in-Call.is ∙ tree_of-Call c.in-Call.at c.in-Call.function c.in-Call.arguments ∙ ap (λ l. call c.in-Call.at c.in-Call.function (trees_of l)) (sym c.deref-in-Call.ensures.value) in
-    subst (λ x. IsFound (AnyClashesIn c.args.scope.now c.args.at (parts x)) c.any_clash.result) (sym tree) c.any_clash.ensures
+    subst (λ x. IsFound (AnyClashesIn c.args.scope.now c.args.at (seen_parts x)) c.any_clash.result) (sym tree) c.any_clash.ensures
 
 pub part_clash-returns-in-Apply : goal.part_clash-returns-in-Apply
 part_clash-returns-in-Apply t c =
     let tree = ap tree_of c.in-Apply.is ∙ tree_of-Apply c.in-Apply.function c.in-Apply.arguments ∙ ap (λ l. apply c.in-Apply.function (trees_of l)) (sym c.deref-in-Apply.ensures.value) in
-    subst (λ x. IsFound (AnyClashesIn c.args.scope.now c.args.at (parts x)) c.any_clash-in-Apply.result) (sym tree) c.any_clash-in-Apply.ensures
+    subst (λ x. IsFound (AnyClashesIn c.args.scope.now c.args.at (seen_parts x)) c.any_clash-in-Apply.result) (sym tree) c.any_clash-in-Apply.ensures
 
 pub part_clash-returns-in-Literal : goal.part_clash-returns-in-Literal
 part_clash-returns-in-Literal t c =
     let tree = ap tree_of c.in-Literal.is ∙ tree_of-Literal c.in-Literal.at c.in-Literal.items ∙ ap (λ l. literal c.in-Literal.at (trees_of l)) (sym c.deref-in-Literal.ensures.value) in
-    subst (λ x. IsFound (AnyClashesIn c.args.scope.now c.args.at (parts x)) c.any_clash-in-Literal.result) (sym tree) c.any_clash-in-Literal.ensures
+    subst (λ x. IsFound (AnyClashesIn c.args.scope.now c.args.at (seen_parts x)) c.any_clash-in-Literal.result) (sym tree) c.any_clash-in-Literal.ensures
 
 pub part_clash-returns-in-Each : goal.part_clash-returns-in-Each
 part_clash-returns-in-Each t c =
     let tree = ap tree_of c.in-Each.is ∙ tree_of-Each c.in-Each.at c.in-Each.body c.in-Each.binders c.in-Each.condition in
-    subst (λ x. IsFound (AnyClashesIn c.args.scope.now c.args.at (parts x)) c.source_clash.result) (sym tree)
+    subst (λ x. IsFound (AnyClashesIn c.args.scope.now c.args.at (seen_parts x)) c.source_clash.result) (sym tree)
     (subst (λ l. IsFound (AnyClashesIn c.args.scope.now c.args.at (sources (binders_of l))) c.source_clash.result) c.deref-in-Each.ensures.value c.source_clash.ensures)
 
 pub two_clash-returns : goal.two_clash-returns
@@ -105,12 +105,12 @@ inner_clash-returns-then-is_nothing t c =
     let items = declared c.deref-in-Ok.result.now in
     let bound_by : binders_typed_in scope [] (binders_of c.deref-in-Each.result.now) ≡ Ok items =
     c.in-Ok.ensures ∙ ap (λ l. Ok (declared l)) (sym c.deref-in-Ok.ensures.value) in
-    let within : Within inner scope (opened items ++ inside (context_of scope.text.now scope.names.now)) = record {
+    let within : Within inner scope (names_context items ++ inside (context_of scope.text.now scope.names.now)) = record {
       dialect = c.with_names-inner.ensures.dialect;
       text = c.with_names-inner.ensures.text;
       functions = c.with_names-inner.ensures.functions;
       names = ap (context_of inner.text.now) c.with_names-inner.ensures.names
-          ∙ ap (λ text. opened items ++ inside (context_of text scope.names.now)) c.with_names-inner.ensures.text;
+          ∙ ap (λ text. names_context items ++ inside (context_of text scope.names.now)) c.with_names-inner.ensures.text;
     } in
     let tree = ap tree_of c.in-Each.is ∙ tree_of-Each c.in-Each.at c.in-Each.body c.in-Each.binders c.in-Each.condition
     ∙ ap (λ l. each c.in-Each.at (tree_of c.in-Each.body.value) (binders_of l) (condition_in c.in-Each.condition)) (sym c.deref-in-Each.ensures.value) in
@@ -126,12 +126,12 @@ inner_clash-returns-else-is_nothing t c =
     let items = declared c.deref-in-Ok.result.now in
     let bound_by : binders_typed_in scope [] (binders_of c.deref-in-Each.result.now) ≡ Ok items =
     c.in-Ok.ensures ∙ ap (λ l. Ok (declared l)) (sym c.deref-in-Ok.ensures.value) in
-    let within : Within inner scope (opened items ++ inside (context_of scope.text.now scope.names.now)) = record {
+    let within : Within inner scope (names_context items ++ inside (context_of scope.text.now scope.names.now)) = record {
       dialect = c.with_names-inner.ensures.dialect;
       text = c.with_names-inner.ensures.text;
       functions = c.with_names-inner.ensures.functions;
       names = ap (context_of inner.text.now) c.with_names-inner.ensures.names
-          ∙ ap (λ text. opened items ++ inside (context_of text scope.names.now)) c.with_names-inner.ensures.text;
+          ∙ ap (λ text. names_context items ++ inside (context_of text scope.names.now)) c.with_names-inner.ensures.text;
     } in
     let tree = ap tree_of c.in-Each.is ∙ tree_of-Each c.in-Each.at c.in-Each.body c.in-Each.binders c.in-Each.condition
     ∙ ap (λ l. each c.in-Each.at (tree_of c.in-Each.body.value) (binders_of l) (condition_in c.in-Each.condition)) (sym c.deref-in-Each.ensures.value) in

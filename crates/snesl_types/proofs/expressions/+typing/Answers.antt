@@ -5,9 +5,9 @@ use Rattle.snesl_tree.specs.Tree.{call, apply, literal}
 use Rattle.snesl_tree.specs.View.{tree_of, trees_of, binders_of}
 use Rattle.snesl_tree.proofs.Arguments.{tree_of-Call, tree_of-Apply, tree_of-Literal}
 use Rattle.snesl_types.specs.Names.{context_of, ruled_in, typed_in, all_typed_in, binders_typed_in, condition_in}
-use Rattle.snesl_types.specs.Contexts.{opened, inside}
+use Rattle.snesl_types.specs.Contexts.{names_context, inside}
 use Rattle.snesl_values.specs.Inputs.{declared}
-use Rattle.snesl_types.specs.Verdicts.{IsAnswer, of_each}
+use Rattle.snesl_types.specs.Verdicts.{IsVerdict, of_each}
 use Rattle.snesl_data.specs.declared.refusal.Refusal.TheVariants.{NoMemory}
 use Rattle.snesl_types.proofs.Scopes.{tree_of-Each, Within, each_condition_refused, each_body_refused, each_answered}
 use Rattle.snesl_types.proofs.InOrder.{refusal_passes, map_push, types_given, types_refused, types_all, binders_refused, binders_all}
@@ -18,7 +18,7 @@ pub type_by_rule-returns-in_err-types-in-Call : goal.type_by_rule-returns-in_err
 type_by_rule-returns-in_err-types-in-Call t c =
     let scope = c.args.scope.now in
     let tree = ap tree_of c.in-Call.is ∙ tree_of-Call c.in-Call.at c.in-Call.function c.in-Call.arguments ∙ ap (λ l. call c.in-Call.at c.in-Call.function (trees_of l)) (sym c.deref-in-Call.ensures.value) in
-    subst (λ x. IsAnswer ty_of (ruled_in scope x) c.from_residual-in_err-types-in-Call.result) (sym tree)
+    subst (λ x. IsVerdict ty_of (ruled_in scope x) c.from_residual-in_err-types-in-Call.result) (sym tree)
     (refused_first ty_of (all_typed_in scope [] (trees_of c.deref-in-Call.result.now)) _
     c.in_err-types-in-Call.field-0.0 c.from_residual-in_err-types-in-Call.result c.from_residual-in_err-types-in-Call.ensures c.in_err-types-in-Call.ensures)
 
@@ -26,7 +26,7 @@ pub type_by_rule-returns-in_ok-types-in-Call : goal.type_by_rule-returns-in_ok-t
 type_by_rule-returns-in_ok-types-in-Call t c =
     let scope = c.args.scope.now in
     let tree = ap tree_of c.in-Call.is ∙ tree_of-Call c.in-Call.at c.in-Call.function c.in-Call.arguments ∙ ap (λ l. call c.in-Call.at c.in-Call.function (trees_of l)) (sym c.deref-in-Call.ensures.value) in
-    subst (λ x. IsAnswer ty_of (ruled_in scope x) c.builtin_type.result) (sym tree)
+    subst (λ x. IsVerdict ty_of (ruled_in scope x) c.builtin_type.result) (sym tree)
     (answered_second ty_of (all_typed_in scope [] (trees_of c.deref-in-Call.result.now)) _ (map ty_of c.deref-in-Call-2.result.now) c.builtin_type.result
     (c.in_ok-types-in-Call.ensures ∙ ap (λ l. Ok (map ty_of l)) (sym c.deref-in-Call-2.ensures.value)) c.builtin_type.ensures)
 
@@ -34,7 +34,7 @@ pub type_by_rule-returns-in_err-types-in-Apply : goal.type_by_rule-returns-in_er
 type_by_rule-returns-in_err-types-in-Apply t c =
     let scope = c.args.scope.now in
     let tree = ap tree_of c.in-Apply.is ∙ tree_of-Apply c.in-Apply.function c.in-Apply.arguments ∙ ap (λ l. apply c.in-Apply.function (trees_of l)) (sym c.deref-in-Apply.ensures.value) in
-    subst (λ x. IsAnswer ty_of (ruled_in scope x) c.from_residual-in_err-types-in-Apply.result) (sym tree)
+    subst (λ x. IsVerdict ty_of (ruled_in scope x) c.from_residual-in_err-types-in-Apply.result) (sym tree)
     (refused_first ty_of (all_typed_in scope [] (trees_of c.deref-in-Apply.result.now)) _
     c.in_err-types-in-Apply.field-0.0 c.from_residual-in_err-types-in-Apply.result c.from_residual-in_err-types-in-Apply.ensures c.in_err-types-in-Apply.ensures)
 
@@ -42,7 +42,7 @@ pub type_by_rule-returns-in_ok-types-in-Apply : goal.type_by_rule-returns-in_ok-
 type_by_rule-returns-in_ok-types-in-Apply t c =
     let scope = c.args.scope.now in
     let tree = ap tree_of c.in-Apply.is ∙ tree_of-Apply c.in-Apply.function c.in-Apply.arguments ∙ ap (λ l. apply c.in-Apply.function (trees_of l)) (sym c.deref-in-Apply.ensures.value) in
-    subst (λ x. IsAnswer ty_of (ruled_in scope x) c.call_type.result) (sym tree)
+    subst (λ x. IsVerdict ty_of (ruled_in scope x) c.call_type.result) (sym tree)
     (answered_second ty_of (all_typed_in scope [] (trees_of c.deref-in-Apply.result.now)) _ (map ty_of c.deref-in-Apply-2.result.now) c.call_type.result
     (c.in_ok-types-in-Apply.ensures ∙ ap (λ l. Ok (map ty_of l)) (sym c.deref-in-Apply-2.ensures.value)) c.call_type.ensures)
 
@@ -50,7 +50,7 @@ pub type_by_rule-returns-in_err-types-in-Literal : goal.type_by_rule-returns-in_
 type_by_rule-returns-in_err-types-in-Literal t c =
     let scope = c.args.scope.now in
     let tree = ap tree_of c.in-Literal.is ∙ tree_of-Literal c.in-Literal.at c.in-Literal.items ∙ ap (λ l. literal c.in-Literal.at (trees_of l)) (sym c.deref-in-Literal.ensures.value) in
-    subst (λ x. IsAnswer ty_of (ruled_in scope x) c.from_residual-in_err-types-in-Literal.result) (sym tree)
+    subst (λ x. IsVerdict ty_of (ruled_in scope x) c.from_residual-in_err-types-in-Literal.result) (sym tree)
     (refused_first ty_of (all_typed_in scope [] (trees_of c.deref-in-Literal.result.now)) _
     c.in_err-types-in-Literal.field-0.0 c.from_residual-in_err-types-in-Literal.result c.from_residual-in_err-types-in-Literal.ensures c.in_err-types-in-Literal.ensures)
 
@@ -58,7 +58,7 @@ pub type_by_rule-returns-in_ok-types-in-Literal : goal.type_by_rule-returns-in_o
 type_by_rule-returns-in_ok-types-in-Literal t c =
     let scope = c.args.scope.now in
     let tree = ap tree_of c.in-Literal.is ∙ tree_of-Literal c.in-Literal.at c.in-Literal.items ∙ ap (λ l. literal c.in-Literal.at (trees_of l)) (sym c.deref-in-Literal.ensures.value) in
-    subst (λ x. IsAnswer ty_of (ruled_in scope x) c.literal_type.result) (sym tree)
+    subst (λ x. IsVerdict ty_of (ruled_in scope x) c.literal_type.result) (sym tree)
     (answered_second ty_of (all_typed_in scope [] (trees_of c.deref-in-Literal.result.now)) _ (map ty_of c.deref-in-Literal-2.result.now) c.literal_type.result
     (c.in_ok-types-in-Literal.ensures ∙ ap (λ l. Ok (map ty_of l)) (sym c.deref-in-Literal-2.ensures.value)) c.literal_type.ensures)
 
@@ -66,7 +66,7 @@ pub type_by_rule-returns-in_err-items-in-Each : goal.type_by_rule-returns-in_err
 type_by_rule-returns-in_err-items-in-Each t c =
     let scope = c.args.scope.now in
     let each_tree = ap tree_of c.in-Each.is ∙ tree_of-Each c.in-Each.at c.in-Each.body c.in-Each.binders c.in-Each.condition in
-    subst (λ x. IsAnswer ty_of (ruled_in scope x) c.from_residual-in_err-items-in-Each.result) (sym each_tree)
+    subst (λ x. IsVerdict ty_of (ruled_in scope x) c.from_residual-in_err-items-in-Each.result) (sym each_tree)
     (refused_first ty_of (binders_typed_in scope [] (binders_of c.in-Each.binders.items)) _
     c.in_err-items-in-Each.field-0.0 c.from_residual-in_err-items-in-Each.result c.from_residual-in_err-items-in-Each.ensures
     (subst (λ l. (c.in_err-items-in-Each.field-0.0 ≡ NoMemory) ⊎ (binders_typed_in scope [] (binders_of l) ≡ Err c.in_err-items-in-Each.field-0.0)) c.deref-in-Each.ensures.value c.in_err-items-in-Each.ensures))
@@ -80,12 +80,12 @@ type_by_rule-returns-in_err-condition-in-Each t c =
     let bound_by : binders_typed_in scope [] (binders_of c.in-Each.binders.items) ≡ Ok items =
     ap (λ l. binders_typed_in scope [] (binders_of l)) (sym c.deref-in-Each.ensures.value)
     ∙ c.in_ok-items-in-Each.ensures ∙ ap (λ l. Ok (declared l)) (sym c.deref-in-Each-2.ensures.value) in
-    let within : Within inner scope (opened items ++ inside (context_of scope.text.now scope.names.now)) = record {
+    let within : Within inner scope (names_context items ++ inside (context_of scope.text.now scope.names.now)) = record {
       dialect = c.with_names-inner.ensures.dialect;
       text = c.with_names-inner.ensures.text;
       functions = c.with_names-inner.ensures.functions;
       names = ap (context_of inner.text.now) c.with_names-inner.ensures.names
-          ∙ ap (λ text. opened items ++ inside (context_of text scope.names.now)) c.with_names-inner.ensures.text;
+          ∙ ap (λ text. names_context items ++ inside (context_of text scope.names.now)) c.with_names-inner.ensures.text;
     } in
     each_condition_refused inner scope items within (tree_of c.args.expr.now) (tree_of c.in-Each.body.value) (binders_of c.in-Each.binders.items) (condition_in c.in-Each.condition) each_tree bound_by
     c.in_err-condition-in-Each.field-0.0 c.from_residual-in_err-condition-in-Each.result c.from_residual-in_err-condition-in-Each.ensures c.in_err-condition-in-Each.ensures
@@ -99,12 +99,12 @@ type_by_rule-returns-in_err-body-in-Each t c =
     let bound_by : binders_typed_in scope [] (binders_of c.in-Each.binders.items) ≡ Ok items =
     ap (λ l. binders_typed_in scope [] (binders_of l)) (sym c.deref-in-Each.ensures.value)
     ∙ c.in_ok-items-in-Each.ensures ∙ ap (λ l. Ok (declared l)) (sym c.deref-in-Each-2.ensures.value) in
-    let within : Within inner scope (opened items ++ inside (context_of scope.text.now scope.names.now)) = record {
+    let within : Within inner scope (names_context items ++ inside (context_of scope.text.now scope.names.now)) = record {
       dialect = c.with_names-inner.ensures.dialect;
       text = c.with_names-inner.ensures.text;
       functions = c.with_names-inner.ensures.functions;
       names = ap (context_of inner.text.now) c.with_names-inner.ensures.names
-          ∙ ap (λ text. opened items ++ inside (context_of text scope.names.now)) c.with_names-inner.ensures.text;
+          ∙ ap (λ text. names_context items ++ inside (context_of text scope.names.now)) c.with_names-inner.ensures.text;
     } in
     each_body_refused inner scope items within (tree_of c.args.expr.now) (tree_of c.in-Each.body.value) (binders_of c.in-Each.binders.items) (condition_in c.in-Each.condition) each_tree bound_by
     (ty_of c.in_ok-condition-in-Each.condition) c.in_err-body-in-Each.field-0.0 c.from_residual-in_err-body-in-Each.result c.from_residual-in_err-body-in-Each.ensures
@@ -120,17 +120,17 @@ type_by_rule-returns-in_ok-body-in-Each t c =
     let bound_by : binders_typed_in scope [] (binders_of c.in-Each.binders.items) ≡ Ok items =
     ap (λ l. binders_typed_in scope [] (binders_of l)) (sym c.deref-in-Each.ensures.value)
     ∙ c.in_ok-items-in-Each.ensures ∙ ap (λ l. Ok (declared l)) (sym c.deref-in-Each-2.ensures.value) in
-    let within : Within inner scope (opened items ++ inside (context_of scope.text.now scope.names.now)) = record {
+    let within : Within inner scope (names_context items ++ inside (context_of scope.text.now scope.names.now)) = record {
       dialect = c.with_names-inner.ensures.dialect;
       text = c.with_names-inner.ensures.text;
       functions = c.with_names-inner.ensures.functions;
       names = ap (context_of inner.text.now) c.with_names-inner.ensures.names
-          ∙ ap (λ text. opened items ++ inside (context_of text scope.names.now)) c.with_names-inner.ensures.text;
+          ∙ ap (λ text. names_context items ++ inside (context_of text scope.names.now)) c.with_names-inner.ensures.text;
     } in
     each_answered inner scope items within (tree_of c.args.expr.now) (tree_of c.in-Each.body.value) (binders_of c.in-Each.binders.items) (condition_in c.in-Each.condition) each_tree bound_by
     (ty_of c.in_ok-condition-in-Each.condition) (ty_of c.in_ok-body-in-Each.body) c.each_type.result
     c.in_ok-condition-in-Each.ensures (ap (λ x. typed_in inner (tree_of x)) (sym c.deref-in-Each-3.ensures) ∙ c.in_ok-body-in-Each.ensures)
-    (subst (λ l. IsAnswer ty_of (of_each c.in-Each.at (binders_of l) (ty_of c.in_ok-body-in-Each.body) (ty_of c.in_ok-condition-in-Each.condition)) c.each_type.result) c.deref-in-Each-4.ensures.value c.each_type.ensures)
+    (subst (λ l. IsVerdict ty_of (of_each c.in-Each.at (binders_of l) (ty_of c.in_ok-body-in-Each.body) (ty_of c.in_ok-condition-in-Each.condition)) c.each_type.result) c.deref-in-Each-4.ensures.value c.each_type.ensures)
 
 pub types_of-returns-in_err-ty : goal.types_of-returns-in_err-ty
 types_of-returns-in_err-ty t c =

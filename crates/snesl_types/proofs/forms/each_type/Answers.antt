@@ -4,12 +4,12 @@ use Rattle.snesl_data.specs.declared.ty.Ty.{Ty as TyTree}
 use Rattle.snesl_data.specs.Types.{Ty, ty_of}
 use Rattle.snesl_tree.specs.declared.expr.Binder.{Binder}
 use Rattle.snesl_tree.specs.View.{binders_of}
-use Rattle.snesl_types.specs.Verdicts.{IsAnswer, of_filter, of_each}
+use Rattle.snesl_types.specs.Verdicts.{IsVerdict, of_filter, of_each}
 use Rattle.snesl_types.proofs.forms.each_type.Goals as goal
 
 -- where there is a binder, the body and the condition decide
 of_some : (at : ℕ) (binders : List Binder) (t u : Ty) (r : Result TyTree Refusal) → 1 ≤ length binders
-    → IsAnswer ty_of (of_filter at t u) r → IsAnswer ty_of (of_each at (binders_of binders) t u) r
+    → IsVerdict ty_of (of_filter at t u) r → IsVerdict ty_of (of_each at (binders_of binders) t u) r
 of_some at [] t u r h a = absurd (omega arith)
 of_some at (first ∷ others) t u r h a = a
 

@@ -1,6 +1,6 @@
 use Rattle.std.proofs.Common.{subst}
 use Rattle.std.specs.Prelude.{IfOk}
-use Rattle.snesl_values.specs.Inputs.{declarations_of, environment_of, Fits}
+use Rattle.snesl_values.specs.Inputs.{declarations_of, environment_of, FitDeclarations}
 use Rattle.snesl_evaluation.specs.Eval.{program_value}
 use Rattle.snesl_evaluation.specs.Results.{IsAnswer}
 use Rattle.snesl_grammar.specs.View.{program_of as tree_of_program}
@@ -17,5 +17,5 @@ pub returns-clause-sound : goal.returns-clause-sound
 returns-clause-sound c =
     let environment = environment_of c.args.inputs.now in
     result_is_sound c.args.typed.now environment c.program.result.now c.evaluate.result
-    (subst (λ declarations. Fits (typed_dialect c.args.typed.now) declarations environment) c.requires.fits
-    (subst (λ dialect. Fits dialect (declarations_of c.args.inputs.now) environment) c.requires.in_dialect c.inputs_fit.ensures)) c.program.ensures c.evaluate.ensures.exact
+    (subst (λ declarations. FitDeclarations (typed_dialect c.args.typed.now) declarations environment) c.requires.fits
+    (subst (λ dialect. FitDeclarations dialect (declarations_of c.args.inputs.now) environment) c.requires.in_dialect c.inputs_fit.ensures)) c.program.ensures c.evaluate.ensures.exact

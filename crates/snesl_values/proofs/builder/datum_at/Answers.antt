@@ -4,7 +4,7 @@ use Rattle.std.proofs.lemmas.Bool.{eqb-true}
 use Rattle.snesl_data.specs.declared.datum.Datum.{Datum}
 use Rattle.snesl_data.specs.Values.{Value, value_of}
 use Rattle.snesl_values.specs.Marks.{spots}
-use Rattle.snesl_values.specs.Places.{Reading, read_by, read_value, spelled}
+use Rattle.snesl_values.specs.Places.{Reading, after_token, read_value, spelled}
 use Rattle.snesl_values.specs.Pendings.{frames_of}
 use Rattle.snesl_values.proofs.Pendings.{spells_on, spells_whole, spells_end, spells_first, spells_past}
 use Rattle.snesl_values.proofs.builder.datum_at.Goals as goal
@@ -41,7 +41,7 @@ tokens-preserved-in_ok-last-in-Some-last c =
     record {
       same = ap (λ (r : Reading). spelled r.0 r.1 (spots text f.end)) c.in_ok-last-in-Some-last.ensures
           ∙ sym (spells_on text c.tokens.at f frames (option_map value_of c.tokens.last) _ c.tokens.invariant.within c.in-Some.ensures.next
-          (ap (λ o. read_by (option_map value_of o) frames f.mark) c.in-Some-last.is))
+          (ap (λ o. after_token (option_map value_of o) frames f.mark) c.in-Some-last.is))
           ∙ c.tokens.invariant.same;
       within = c.in-Some.ensures.within;
     }
@@ -54,7 +54,7 @@ tokens-preserved c =
     record {
       same = ap (λ (r : Reading). spelled r.0 r.1 (spots text f.end)) c.in_ok-last-in-None-last.ensures
           ∙ sym (spells_on text c.tokens.at f frames (option_map value_of c.tokens.last) _ c.tokens.invariant.within c.in-Some.ensures.next
-          (ap (λ o. read_by (option_map value_of o) frames f.mark) c.in-None-last.is))
+          (ap (λ o. after_token (option_map value_of o) frames f.mark) c.in-None-last.is))
           ∙ c.tokens.invariant.same;
       within = c.in-Some.ensures.within;
     }

@@ -3,7 +3,7 @@ use Rattle.snesl_data.specs.Types.{ty_of, pair, vec, seq, int}
 use Rattle.snesl_data.specs.Values.{values_of, an_int, a_pair, a_vec, a_seq, no_values}
 use Rattle.snesl_values.specs.InputTokens.{none}
 use Rattle.snesl_values.specs.Inputs.{left_paren, comma, right_paren, left_bracket, left_brace, StopsAt}
-use Rattle.snesl_values.specs.Wants.{one, a_value, items, further_items, Fills, IsStop, IsRead}
+use Rattle.snesl_values.specs.Wants.{one, a_value, items, further_items, Fills, IsStop, IsValueRead}
 use Rattle.snesl_values.proofs.InputWants.{passed_on, stop_of, pair_stops, vec_stops, seq_stops, after_one, after_value, first_item, later_item, no_integer}
 use Rattle.snesl_values.proofs.InputItems.{have_type-push, items_read, item_read, vec_read, seq_read, pair_read}
 use Rattle.snesl_values.proofs.checker.+values.Goals as goal
@@ -153,7 +153,7 @@ check_value-returns-in_ok-items-in-Vec-clause-read t c =
     let end = c.in_ok-items-in-Vec.items in
     let same : vec a ≡ ty_of c.args.ty.now = ap (λ x. vec (ty_of x)) c.deref-in-Vec.ensures ∙ sym (ap ty_of c.in-Vec.is) in (
       a_vec all.0,
-      subst (λ u. IsRead c.args.dialect text c.args.at u (a_vec all.0) end) same
+      subst (λ u. IsValueRead c.args.dialect text c.args.at u (a_vec all.0) end) same
           (vec_read c.args.dialect text c.args.at c.in_ok-start-in-Vec.start end a all.0 c.in_ok-start-in-Vec.ensures.taken all.1),
     )
 
@@ -165,7 +165,7 @@ check_value-returns-in_ok-items-in-Seq-clause-read t c =
     let end = c.in_ok-items-in-Seq.items in
     let same : seq a ≡ ty_of c.args.ty.now = ap (λ x. seq (ty_of x)) c.deref-in-Seq.ensures ∙ sym (ap ty_of c.in-Seq.is) in (
       a_seq all.0,
-      subst (λ u. IsRead c.args.dialect text c.args.at u (a_seq all.0) end) same
+      subst (λ u. IsValueRead c.args.dialect text c.args.at u (a_seq all.0) end) same
           (seq_read c.args.dialect text c.args.at c.in_ok-start-in-Seq.start end a all.0 c.in_ok-start-in-Seq.ensures.taken all.1),
     )
 
@@ -249,6 +249,6 @@ check_value-returns-in-Some-clause-read t c =
     let n = c.in-Some.field-0-0 in
     let taken = c.in-Some.ensures.taken in (
       an_int n,
-      subst (λ x. IsRead c.args.dialect text c.args.at (ty_of x) (an_int n) c.in-Some.end) (sym c.in-Int.is)
+      subst (λ x. IsValueRead c.args.dialect text c.args.at (ty_of x) (an_int n) c.in-Some.end) (sym c.in-Int.is)
           (record { has_type = taken.1; reads = taken.0.reads; moves = taken.0.moves; within = taken.0.within }),
     )

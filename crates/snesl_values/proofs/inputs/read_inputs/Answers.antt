@@ -3,8 +3,8 @@ use Rattle.std.specs.Arc.{arc_value}
 use Rattle.snesl_values.specs.Entries.{environment_at, ArePlaced}
 use Rattle.snesl_values.specs.Inputs.{dialect_of, declarations_of, environment_of, text_in}
 use Rattle.snesl_values.specs.declared.inputs.InputError.TheVariants.{Bad}
-use Rattle.snesl_values.specs.Declarations.{declared, Fits}
-use Rattle.snesl_values.specs.Inputs.{StopsAt, IsLawful, InputMeans, spells, too_long, lawful, unlawful}
+use Rattle.snesl_values.specs.Declarations.{declared, FitDeclarations}
+use Rattle.snesl_values.specs.Inputs.{StopsAt, SpellsEnvironment, InputMeans, spells, too_long, lawful, unlawful}
 use Rattle.snesl_values.proofs.InputScan.{some_next, no_next}
 use Rattle.snesl_values.proofs.InputWants.{passed_on}
 use Rattle.snesl_values.proofs.InputAnswers.{no_ok, IsRight, right_stop, lawful_answered, unlawful_answered, not_refused}
@@ -44,7 +44,7 @@ returns-then-end-bytes-clause-refused c =
     inr (
       _,
       refl,
-      unlawful (omega arith) (subst (StopsAt (IsLawful c.args.dialect (declared c.args.decls.now)) c.args.bytes.now 0) (sym c.skip_blanks-end.ensures.offset)
+      unlawful (omega arith) (subst (StopsAt (SpellsEnvironment c.args.dialect (declared c.args.decls.now)) c.args.bytes.now 0) (sym c.skip_blanks-end.ensures.offset)
           (c.in_ok-all.ensures.read.no_more (some_next c.args.bytes.now c.in_ok-all.behind c.skip_blanks-end.result c.skip_blanks-end.ensures.offset (omega arith)))),
     )
 
@@ -54,7 +54,7 @@ returns-then-end-bytes-clause-lawful c =
     (inr (
       _,
       refl,
-      unlawful (omega arith) (subst (StopsAt (IsLawful c.args.dialect (declared c.args.decls.now)) c.args.bytes.now 0) (sym c.skip_blanks-end.ensures.offset)
+      unlawful (omega arith) (subst (StopsAt (SpellsEnvironment c.args.dialect (declared c.args.decls.now)) c.args.bytes.now 0) (sym c.skip_blanks-end.ensures.offset)
           (c.in_ok-all.ensures.read.no_more (some_next c.args.bytes.now c.in_ok-all.behind c.skip_blanks-end.result c.skip_blanks-end.ensures.offset (omega arith)))),
     ))
 
@@ -64,7 +64,7 @@ returns-then-end-bytes-clause-unlawful c =
     (inr (
       _,
       refl,
-      unlawful (omega arith) (subst (StopsAt (IsLawful c.args.dialect (declared c.args.decls.now)) c.args.bytes.now 0) (sym c.skip_blanks-end.ensures.offset)
+      unlawful (omega arith) (subst (StopsAt (SpellsEnvironment c.args.dialect (declared c.args.decls.now)) c.args.bytes.now 0) (sym c.skip_blanks-end.ensures.offset)
           (c.in_ok-all.ensures.read.no_more (some_next c.args.bytes.now c.in_ok-all.behind c.skip_blanks-end.result c.skip_blanks-end.ensures.offset (omega arith)))),
     ))
 
@@ -90,8 +90,8 @@ invariant_of-result c =
     record {
       placed = ∣ subst (λ (t : List ℕ). ArePlaced c.args.dialect t (declared c.in_ok-decls.decls.items) c.in_ok-all.all.items) (sym kept)
           (subst (λ ds. ArePlaced c.args.dialect c.args.bytes.now ds c.in_ok-all.all.items) (sym c.in_ok-decls.ensures) c.in_ok-all.ensures.placed) ∣₁;
-      fit = ∣ subst (λ (t : List ℕ). Fits c.args.dialect (declared c.in_ok-decls.decls.items) (environment_at t c.in_ok-all.all.items)) (sym kept)
-          (subst (λ ds. Fits c.args.dialect ds (environment_at c.args.bytes.now c.in_ok-all.all.items)) (sym c.in_ok-decls.ensures) c.in_ok-all.ensures.read.spells.fits) ∣₁;
+      fit = ∣ subst (λ (t : List ℕ). FitDeclarations c.args.dialect (declared c.in_ok-decls.decls.items) (environment_at t c.in_ok-all.all.items)) (sym kept)
+          (subst (λ ds. FitDeclarations c.args.dialect ds (environment_at c.args.bytes.now c.in_ok-all.all.items)) (sym c.in_ok-decls.ensures) c.in_ok-all.ensures.read.spells.fits) ∣₁;
     }
 
 pub returns-clause-in_dialect : goal.returns-clause-in_dialect
@@ -105,7 +105,7 @@ returns-clause-declares c = c.in_ok-decls.ensures
 pub returns-clause-fits : goal.returns-clause-fits
 unfolding environment_of
 returns-clause-fits c =
-    subst (λ (t : List ℕ). Fits c.args.dialect (declared c.args.decls.now) (environment_at t c.in_ok-all.all.items)) (sym (ap (λ v. v.items) c.in_ok-text.ensures.ok ∙ c.in_ok-copy.ensures.items)) c.in_ok-all.ensures.read.spells.fits
+    subst (λ (t : List ℕ). FitDeclarations c.args.dialect (declared c.args.decls.now) (environment_at t c.in_ok-all.all.items)) (sym (ap (λ v. v.items) c.in_ok-text.ensures.ok ∙ c.in_ok-copy.ensures.items)) c.in_ok-all.ensures.read.spells.fits
 
 pub returns-clause-kept : goal.returns-clause-kept
 unfolding text_in

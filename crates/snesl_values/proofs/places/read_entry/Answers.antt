@@ -1,5 +1,5 @@
 use Rattle.std.proofs.Common.{◌∷◌, [], sym, ◌∙◌, subst, arith}
-use Rattle.snesl_values.specs.InputTokens.{word, Takes}
+use Rattle.snesl_values.specs.InputTokens.{word, IsNextToken}
 use Rattle.snesl_values.specs.Inputs.{declaration_of, equals, value_tokens}
 use Rattle.snesl_values.specs.Wants.{one, a_value, entry_wants, IsStop}
 use Rattle.snesl_values.proofs.InputReads.{reads-append}
@@ -22,7 +22,7 @@ pub returns-in_err-start-clause-stops : goal.returns-in_err-start-clause-stops
 returns-in_err-start-clause-stops c =
     let text = c.args.text.now in
     let d = declaration_of c.args.declaration.now in
-    let name = subst (λ w. Takes text c.args.at (word w) c.in_ok-behind_name.behind_name) c.deref.ensures.value c.in_ok-behind_name.ensures.taken in
+    let name = subst (λ w. IsNextToken text c.args.at (word w) c.in_ok-behind_name.behind_name) c.deref.ensures.value c.in_ok-behind_name.ensures.taken in
     let e = c.in_err-start.field-0.0 in
     passed_on (IsStop c.args.dialect (entry_wants d []) text c.args.at) c.from_residual-in_err-start.result e c.from_residual-in_err-start.ensures.1
     (stop_of c.args.dialect text (one equals ∷ []) (entry_wants d []) c.in_ok-behind_name.behind_name c.args.at e
@@ -33,7 +33,7 @@ pub returns-in_err-end-clause-stops : goal.returns-in_err-end-clause-stops
 returns-in_err-end-clause-stops c =
     let text = c.args.text.now in
     let d = declaration_of c.args.declaration.now in
-    let name = subst (λ w. Takes text c.args.at (word w) c.in_ok-behind_name.behind_name) c.deref.ensures.value c.in_ok-behind_name.ensures.taken in
+    let name = subst (λ w. IsNextToken text c.args.at (word w) c.in_ok-behind_name.behind_name) c.deref.ensures.value c.in_ok-behind_name.ensures.taken in
     let e = c.in_err-end.field-0.0 in
     passed_on (IsStop c.args.dialect (entry_wants d []) text c.args.at) c.from_residual-in_err-end.result e c.from_residual-in_err-end.ensures.1
     (stop_of c.args.dialect text (a_value d.1 ∷ []) (entry_wants d []) c.in_ok-start.start c.args.at e
@@ -47,7 +47,7 @@ returns-clause-read c =
     let copied = c.in_ok-name.ensures.items in
     let named = copied ∙ c.deref-2.ensures.value in
     let same = c.deref.ensures.value ∙ sym named in
-    let name = subst (λ w. Takes text c.args.at (word w) c.in_ok-behind_name.behind_name) same c.in_ok-behind_name.ensures.taken in
+    let name = subst (λ w. IsNextToken text c.args.at (word w) c.in_ok-behind_name.behind_name) same c.in_ok-behind_name.ensures.taken in
     let sign = c.in_ok-start.ensures.taken in
     let read = told c.args.dialect text c.in_ok-start.start (declaration_of c.args.declaration.now).1 c.in_ok-end.end sign.within c.in_ok-end.ensures.read in
     record {

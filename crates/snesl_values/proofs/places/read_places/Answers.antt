@@ -7,7 +7,7 @@ use Rattle.snesl_values.proofs.InputEntries.{SoFar, first_so_far, next_so_far, a
 use Rattle.snesl_data.specs.declared.dialect.Dialect.{Dialect}
 use Rattle.snesl_values.specs.Declarations.{Declaration}
 use Rattle.snesl_values.specs.declared.places.Placed.{Placed}
-use Rattle.snesl_values.specs.Entries.{entry_at, environment_at, ArePlaced}
+use Rattle.snesl_values.specs.Entries.{entry_from, environment_at, ArePlaced}
 use Rattle.snesl_values.proofs.Entries.{entries-push, placed-push}
 use Rattle.snesl_values.proofs.places.read_places.Goals as goal
 
@@ -39,8 +39,8 @@ loop-declaration-init c =
     record {
       so_far =
           subst (λ l. SoFar c.args.dialect text (declared decls) left (environment_at text l) c.in_ok-input.at) (sym pushed)
-          (subst (λ ds. SoFar c.args.dialect text ds left (entry_at text c.in_ok-input.input ∷ []) c.in_ok-input.at) (sym first)
-          (first_so_far c.args.dialect text (declaration_of c.index-decls-0.result) left (entry_at text c.in_ok-input.input) c.in_ok-input.at c.in_ok-input.ensures.read));
+          (subst (λ ds. SoFar c.args.dialect text ds left (entry_from text c.in_ok-input.input ∷ []) c.in_ok-input.at) (sym first)
+          (first_so_far c.args.dialect text (declaration_of c.index-decls-0.result) left (entry_from text c.in_ok-input.input) c.in_ok-input.at c.in_ok-input.ensures.read));
       front = declaration_of c.index-decls-0.result ∷ [];
       whole = first;
       placed = subst (ArePlaced c.args.dialect text (declaration_of c.index-decls-0.result ∷ [])) (sym pushed) (c.in_ok-input.ensures.placed, tt);
@@ -95,7 +95,7 @@ loop-declaration-preserved c =
     let next = next_declared items k c.declaration-item.result c.loop-declaration-test.true c.declaration-item.is in
     let es = environment_at text c.loop-declaration.all.items in
     let left = declared (drop (k + 1) items) in
-    let entry = entry_at text c.in_ok-input-2.input in
+    let entry = entry_from text c.in_ok-input-2.input in
     let pushed = ap (environment_at text) c.in_ok-push-2.ensures.items ∙ entries-push text c.loop-declaration.all.items c.in_ok-input-2.input in
     let front = c.loop-declaration.invariant.front in
     record {

@@ -4,7 +4,7 @@ use Rattle.flow_graph.specs.Graphs.{states_so_far, edges_so_far}
 use Rattle.flow_nodes.specs.StreamNodes.{node_behaviour, state_of}
 use Rattle.flow_plans.specs.Plans.{fork, sink}
 use Rattle.flow_plans.specs.Ports.{kinds_after}
-use Rattle.flow_plans.specs.Layouts.{layout, uses, behind}
+use Rattle.flow_plans.specs.Layouts.{layout, uses, places_after}
 use Rattle.flow_assembly.specs.Ready.{plan_of}
 use Rattle.flow_assembly.proofs.Putting.{left_to_come, one_behind, put_may, none_put, sink_put, fork_put, put_same, plan_fits, sink_next, fork_next, sink_big, fork_big}
 use Rattle.flow_assembly.proofs.Fitting.{passed_on}
@@ -82,7 +82,7 @@ returns-then-outputs-eq1 c =
     let one : uses c.args.stream (plan_of c.args.plan.now) ≡ 1 = sym (c.requires.counted c.args.stream) ∙ sym c.uses-outputs.ensures ∙ c.if-outputs-eq1.true in
     record {
       so_far = none_put (plan_of c.args.plan.now) now.places.items c.args.at c.args.stream c.args.kind now.supply.items states (edges_so_far now.builder) c.requires.so_far c.requires.inside c.requires.later c.requires.next one;
-      nodes = omega (arith, ap (λ n. length (behind c.args.at c.args.stream c.args.kind n)) one);
+      nodes = omega (arith, ap (λ n. length (places_after c.args.at c.args.stream c.args.kind n)) one);
       supply = refl;
       places = refl;
       big = λ e. cc;
@@ -92,14 +92,14 @@ returns-then-outputs-eq1 c =
 pub returns-then-outputs-eq0-clause-nodes : goal.returns-then-outputs-eq0-clause-nodes
 returns-then-outputs-eq0-clause-nodes c =
     let none : uses c.args.stream (plan_of c.args.plan.now) ≡ 0 = sym (c.requires.counted c.args.stream) ∙ sym c.uses-outputs.ensures ∙ c.if-outputs-eq0.true in
-    omega (arith, ap length c.in_ok-attach.ensures.nodes, length_push (states_so_far c.args.self.now.builder) (state_of c.sink_of-sink.result), ap (λ n. length (behind c.args.at c.args.stream c.args.kind n)) none)
+    omega (arith, ap length c.in_ok-attach.ensures.nodes, length_push (states_so_far c.args.self.now.builder) (state_of c.sink_of-sink.result), ap (λ n. length (places_after c.args.at c.args.stream c.args.kind n)) none)
 
 pub returns-clause-nodes : goal.returns-clause-nodes
 returns-clause-nodes c =
     let n = c.uses-outputs.result in
     let many : uses c.args.stream (plan_of c.args.plan.now) ≡ n = sym (c.requires.counted c.args.stream) ∙ sym c.uses-outputs.ensures in
     let le : 2 ≤ n = omega (arith, c.if-outputs-eq1.false, c.if-outputs-eq0.false) in
-    omega (arith, ap length c.in_ok-node.ensures.nodes, length_push (states_so_far c.args.self.now.builder) (state_of c.fork_of-fork.result), ap (λ n. length (behind c.args.at c.args.stream c.args.kind n)) many, one_behind c.args.at c.args.stream c.args.kind n le)
+    omega (arith, ap length c.in_ok-node.ensures.nodes, length_push (states_so_far c.args.self.now.builder) (state_of c.fork_of-fork.result), ap (λ n. length (places_after c.args.at c.args.stream c.args.kind n)) many, one_behind c.args.at c.args.stream c.args.kind n le)
 
 pub returns-in_err-attach-clause-so_far : goal.returns-in_err-attach-clause-so_far
 returns-in_err-attach-clause-so_far c = none_done _ c.from_residual.result c.from_residual.ensures.0

@@ -4,7 +4,7 @@ use Rattle.snesl_data.specs.declared.refusal.Refusal.TheVariants.{TooBig}
 use Rattle.flow_graph.specs.Graphs.{states_so_far, edges_so_far}
 use Rattle.flow_plans.specs.Layouts.{uses}
 use Rattle.flow_plans.specs.Ports.{kinds_after}
-use Rattle.flow_assembly.specs.Ready.{plan_of, IsWithin}
+use Rattle.flow_assembly.specs.Ready.{plan_of, KeepsLimits}
 use Rattle.std.proofs.lemmas.List.{length-set}
 use Rattle.flow_assembly.specs.Joined.{supplier, port_after}
 use Rattle.flow_assembly.proofs.Putting.{plan_fits}
@@ -77,7 +77,7 @@ returns-in_err-join c =
       supply = none_done _ r no;
       places = c.in_err-join.ensures.places ∙ at.invariant.places;
       big = λ e. too_many_edges plan states edges (length (drop (at.port + 1) c.args.reads.now))
-          (subst (IsWithin plan states edges) (read_length c.args.reads.now at.port c.loop-port-test.true) at.invariant.within)
+          (subst (KeepsLimits plan states edges) (read_length c.args.reads.now at.port c.loop-port-test.true) at.invariant.within)
           (c.in_err-join.ensures.big (passed_on r x TooBig is e));
       memory = same_error _ r x is c.in_err-join.ensures.memory;
     }

@@ -3,7 +3,7 @@ use Rattle.snesl_data.specs.Types.{ty_of}
 use Rattle.snesl_data.specs.Values.{value_of}
 use Rattle.flow_messages.specs.Cells.{cell_of}
 use Rattle.flow_values.specs.Parts.{built}
-use Rattle.flow_values.specs.TabMachine.{Makes}
+use Rattle.flow_values.specs.TabMachine.{MakesDatum}
 use Rattle.flow_values.proofs.Building.{all_there, refused_answer, stopped_answer}
 use Rattle.flow_values.proofs.tab.Tab.close.Goals as goal
 
@@ -19,5 +19,5 @@ returns-in_err-datum-clause-state c =
     let there = all_there (ty_of self.element) self.items.items self.kinds.items c.len.result c.len-2.result (c.len.ensures ∙ self.items.ok.0) (c.len-2.ensures ∙ self.kinds.ok.0) self.kinds_are c.if-len.false in
     let stop = c.in_err-datum.field-0.0 in
     let copied : map cell_of c.in_ok-items.items.items ≡ map cell_of self.items.items = c.in_ok-items.ensures ∙ ap (map cell_of) c.deref.ensures.value in
-    let made : Makes (built (ty_of self.element) (map cell_of self.items.items)) (Err stop) c.build.new.items.items = subst (λ l. Makes (built (ty_of self.element) l) (Err stop) c.build.new.items.items) copied c.in_err-datum.ensures in
+    let made : MakesDatum (built (ty_of self.element) (map cell_of self.items.items)) (Err stop) c.build.new.items.items = subst (λ l. MakesDatum (built (ty_of self.element) l) (Err stop) c.build.new.items.items) copied c.in_err-datum.ensures in
     stopped_answer (ty_of self.element) (map value_of self.elements.items) (map cell_of self.items.items) self.items_fit there _ _ refl c.from_residual-in_err-datum.result stop c.build.new.items.items made c.from_residual-in_err-datum.ensures.1

@@ -1,5 +1,5 @@
 use Rattle.std.proofs.Common.{subst}
-use Rattle.snesl_values.specs.Inputs.{Fits, dialect_of, environment_of}
+use Rattle.snesl_values.specs.Inputs.{FitDeclarations, dialect_of, environment_of}
 use Rattle.snesl_types.specs.Typed.{typed_inputs, typed_text, typed_tree, typed_ty}
 use Rattle.snesl_types.specs.declared.typed.Typed.{Typed}
 use Rattle.snesl_flatten.specs.PlanViews.{plan_typed, plan_states, plan_edges}
@@ -14,5 +14,5 @@ returns c =
     let environment = environment_of inputs in
     network_means (typed_text typed) (typed_tree typed) (typed_inputs typed) environment (plan_states plan) (plan_edges plan) c.graph_is_a_network.ensures.network c.requires.sources
     (typed_ty typed) typed.typed
-    (subst (λ dialect. Fits dialect (typed_inputs typed) environment) c.requires.in_dialect (subst (λ declarations. Fits (dialect_of inputs) declarations environment) c.requires.fits c.inputs_fit.ensures))
+    (subst (λ dialect. FitDeclarations dialect (typed_inputs typed) environment) c.requires.in_dialect (subst (λ declarations. FitDeclarations (dialect_of inputs) declarations environment) c.requires.fits c.inputs_fit.ensures))
     c.programs_are_planned.ensures c.soundness.ensures.programs c.plan_is_its_flow.ensures.forth c.plan_is_its_flow.ensures.back c.ended_is_lawful.ensures.complete c.print_tells.ensures

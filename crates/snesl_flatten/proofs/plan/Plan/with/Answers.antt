@@ -3,12 +3,12 @@ use Rattle.snesl_values.specs.Inputs.{environment_of}
 use Rattle.snesl_types.specs.Typed.{typed_inputs, typed_text, typed_tree}
 use Rattle.flow_base.specs.Columns.{Columns}
 use Rattle.flow_nodes.specs.StreamNodes.{node_behaviour}
-use Rattle.flow_plans.specs.Layouts.{layout, IsNetworkOf}
+use Rattle.flow_plans.specs.Layouts.{layout, IsNetworkOfPlan}
 use Rattle.flow_assembly.specs.Openings.{AllOpen}
 use Rattle.snesl_translation.specs.Programs.{columns_of}
 use Rattle.snesl_flatten.specs.Networks.{program_steps}
 use Rattle.snesl_flatten.specs.PlanViews.{plan_typed, plan_states, plan_edges}
-use Rattle.snesl_flatten.specs.Sources.{all_kinds, written}
+use Rattle.snesl_flatten.specs.Sources.{all_kinds, source_columns}
 use Rattle.snesl_flatten.proofs.SetSources.{sources_fit}
 use Rattle.snesl_flatten.proofs.plan.Plan.with.Goals as goal
 
@@ -17,7 +17,7 @@ returns-clause-network c =
     let typed = plan_typed c.args.self in
     let plan = c.set_sources.new.self in
     let environment = environment_of c.args.inputs in
-    subst (λ (columns : Columns). IsNetworkOf node_behaviour (program_steps (typed_text typed) (typed_tree typed) (typed_inputs typed) (written columns)) (plan_states plan) (plan_edges plan))
+    subst (λ (columns : Columns). IsNetworkOfPlan node_behaviour (program_steps (typed_text typed) (typed_tree typed) (typed_inputs typed) (source_columns columns)) (plan_states plan) (plan_edges plan))
     (c.in_ok-sources.ensures.cells ∙ ap (λ inputs. columns_of inputs environment) c.decls.ensures)
     c.set_sources.ensures.sources.network
 
@@ -26,7 +26,7 @@ returns-clause-opens c =
     let typed = plan_typed c.args.self in
     let plan = c.set_sources.new.self in
     let environment = environment_of c.args.inputs in
-    subst (λ (columns : Columns). AllOpen (layout (program_steps (typed_text typed) (typed_tree typed) (typed_inputs typed) (written columns))) (plan_states plan))
+    subst (λ (columns : Columns). AllOpen (layout (program_steps (typed_text typed) (typed_tree typed) (typed_inputs typed) (source_columns columns))) (plan_states plan))
     (c.in_ok-sources.ensures.cells ∙ ap (λ inputs. columns_of inputs environment) c.decls.ensures)
     c.set_sources.ensures.sources.opens
 
