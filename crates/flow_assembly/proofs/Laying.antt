@@ -11,7 +11,7 @@ use Rattle.flow_plans.specs.declared.operation.Step.{Step as StepData}
 use Rattle.flow_plans.specs.Plans.{Step}
 use Rattle.flow_plans.specs.Ports.{kinds_read, kinds_written, AreWired, kinds_after}
 use Rattle.flow_plans.specs.Views.{operation_of, steps_of}
-use Rattle.flow_plans.specs.Layouts.{Placed, uses, places_after, numbered, all_behind, layout_from}
+use Rattle.flow_plans.specs.Layouts.{Placed, uses, places_after, numbered, all_after, layout_from}
 use Rattle.flow_assembly.specs.Openings.{IsUsable}
 use Rattle.flow_assembly.proofs.Fitting.{FitsKinds, bound, changed, some_same}
 
@@ -78,30 +78,30 @@ replicate_each f s k (suc n) at = ap (λ o. bind o (λ y. option_map (λ zs. y �
 
 -- The transducers
 
-behind_fits : (kinds : List Kind) (at s : ℕ) (kind : Kind) (n : ℕ) → slice_get kinds s ≡ Some kind → (k : ℕ) (placed : Placed) → slice_get (places_after at s kind n) k ≡ Some placed → FitsKinds kinds placed
-behind_fits kinds at s kind zero is zero placed there = subst (FitsKinds kinds) (some_same there) (record {
+after_fits : (kinds : List Kind) (at s : ℕ) (kind : Kind) (n : ℕ) → slice_get kinds s ≡ Some kind → (k : ℕ) (placed : Placed) → slice_get (places_after at s kind n) k ≡ Some placed → FitsKinds kinds placed
+after_fits kinds at s kind zero is zero placed there = subst (FitsKinds kinds) (some_same there) (record {
   usable = tt;
   reads = ap (λ o. bind o (λ y. Some (y ∷ []))) is;
   writes = refl;
 })
-behind_fits kinds at s kind zero is (suc k) placed there = absurd (cc)
-behind_fits kinds at s kind (suc zero) is k placed there = absurd (cc)
-behind_fits kinds at s kind (suc (suc n)) is zero placed there = subst (FitsKinds kinds) (some_same there) (record {
+after_fits kinds at s kind zero is (suc k) placed there = absurd (cc)
+after_fits kinds at s kind (suc zero) is k placed there = absurd (cc)
+after_fits kinds at s kind (suc (suc n)) is zero placed there = subst (FitsKinds kinds) (some_same there) (record {
   usable = omega arith;
   reads = ap (λ o. bind o (λ y. Some (y ∷ []))) is;
   writes = replicate_each (slice_get kinds) s kind (suc (suc n)) is;
 })
-behind_fits kinds at s kind (suc (suc n)) is (suc k) placed there = absurd (cc)
+after_fits kinds at s kind (suc (suc n)) is (suc k) placed there = absurd (cc)
 
 module _ (plan : List Step) where
-  all_behind_fits : (kinds : List Kind) (at s : ℕ) (written : List Kind) → ((q : ℕ) (k : Kind) → slice_get written q ≡ Some k → slice_get kinds (s + q) ≡ Some k)
-      → (k : ℕ) (placed : Placed) → slice_get (all_behind plan at s written) k ≡ Some placed → FitsKinds kinds placed
-  all_behind_fits kinds at s [] is k placed there = absurd (cc)
-  all_behind_fits kinds at s (kind ∷ written) is k placed there =
+  all_after_fits : (kinds : List Kind) (at s : ℕ) (written : List Kind) → ((q : ℕ) (k : Kind) → slice_get written q ≡ Some k → slice_get kinds (s + q) ≡ Some k)
+      → (k : ℕ) (placed : Placed) → slice_get (all_after plan at s written) k ≡ Some placed → FitsKinds kinds placed
+  all_after_fits kinds at s [] is k placed there = absurd (cc)
+  all_after_fits kinds at s (kind ∷ written) is k placed there =
       let e : s + zero ≡ s = omega arith in
-      all_append (FitsKinds kinds) (places_after at s kind (uses s plan)) (all_behind plan at (suc s) written)
-      (behind_fits kinds at s kind (uses s plan) (subst (λ t. slice_get kinds t ≡ Some kind) e (is zero kind refl)))
-      (all_behind_fits kinds at (suc s) written (λ q j there. let e : s + suc q ≡ suc s + q = omega arith in subst (λ t. slice_get kinds t ≡ Some j) e (is (suc q) j there)))
+      all_append (FitsKinds kinds) (places_after at s kind (uses s plan)) (all_after plan at (suc s) written)
+      (after_fits kinds at s kind (uses s plan) (subst (λ t. slice_get kinds t ≡ Some kind) e (is zero kind refl)))
+      (all_after_fits kinds at (suc s) written (λ q j there. let e : s + suc q ≡ suc s + q = omega arith in subst (λ t. slice_get kinds t ≡ Some j) e (is (suc q) j there)))
       k placed there
 
   pub layout_fits : (ks : List Kind) (steps : List Step) → AllUsable steps → AreWired ks steps → (k : ℕ) (placed : Placed) → slice_get (layout_from plan (length ks) steps) k ≡ Some placed → FitsKinds (kinds_after ks steps) placed
@@ -117,5 +117,5 @@ module _ (plan : List Step) where
         writes = numbered_each (slice_get all) (length ks) written new;
       } in
       let later = subst (λ s. (k : ℕ) (placed : Placed) → slice_get (layout_from plan s steps) k ≡ Some placed → FitsKinds all placed) (length-append ks written) (layout_fits (ks ++ written) steps usable.1 wired.1) in
-      all_append (FitsKinds all) ((record { at = step.at; operation = step.operation; reads = step.reads; writes = numbered (length ks) written }) ∷ all_behind plan step.at (length ks) written) (layout_from plan (length ks + length written) steps)
-      (first_or (FitsKinds all) (record { at = step.at; operation = step.operation; reads = step.reads; writes = numbered (length ks) written }) this (all_behind plan step.at (length ks) written) (all_behind_fits all step.at (length ks) written new)) later k placed there
+      all_append (FitsKinds all) ((record { at = step.at; operation = step.operation; reads = step.reads; writes = numbered (length ks) written }) ∷ all_after plan step.at (length ks) written) (layout_from plan (length ks + length written) steps)
+      (first_or (FitsKinds all) (record { at = step.at; operation = step.operation; reads = step.reads; writes = numbered (length ks) written }) this (all_after plan step.at (length ks) written) (all_after_fits all step.at (length ks) written new)) later k placed there

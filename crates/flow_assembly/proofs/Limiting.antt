@@ -10,7 +10,7 @@ use Rattle.flow_graph.specs.Limits.{most_nodes, most_edges}
 use Rattle.flow_nodes.specs.StreamNodes.{NodeKind, member}
 use Rattle.flow_plans.specs.Plans.{Step}
 use Rattle.flow_plans.specs.Ports.{kinds_written}
-use Rattle.flow_plans.specs.Layouts.{Placed, times, uses, layout, layout_from, all_behind, edges_needed}
+use Rattle.flow_plans.specs.Layouts.{Placed, times, uses, layout, layout_from, all_after, edges_needed}
 use Rattle.flow_assembly.specs.Ready.{IsTooBig, KeepsLimits}
 use Rattle.flow_assembly.proofs.Fitting.{some_same}
 
@@ -43,8 +43,8 @@ module _ (plan : List Step) (states : List State) (edges : List Edge) where
   too_many_nodes placed at full = inl (omega (arith, slice_get_within (layout plan) (length states) placed at))
 
   -- the last edge is refused where one is due at the node to come
-  pub too_many_behind : (placed : Placed) (s : ℕ) → KeepsLimits plan states edges 0 → slice_get (layout plan) (length states) ≡ Some placed → placed.reads ≡ s ∷ [] → length edges ≡ most_edges → IsTooBig plan
-  too_many_behind placed s within at one_read full =
+  pub too_many_after : (placed : Placed) (s : ℕ) → KeepsLimits plan states edges 0 → slice_get (layout plan) (length states) ≡ Some placed → placed.reads ≡ s ∷ [] → length edges ≡ most_edges → IsTooBig plan
+  too_many_after placed s within at one_read full =
       let count : edges_needed (drop (length states) (layout plan)) ≡ length placed.reads + edges_needed (drop (suc (length states)) (layout plan)) = ap edges_needed (drop_at (layout plan) (length states) placed at) in
       let one : length placed.reads ≡ 1 = ap length one_read in
       inr (omega (arith, within.all_edges, count, one))
@@ -66,7 +66,7 @@ uses_few : (plan : List Step) (s t : ℕ) (steps : List Step) → uses s steps �
 uses_few plan s t [] = omega arith
 uses_few plan s t (step ∷ steps) =
     let kinds = kinds_written step.operation in
-    omega (arith, times_few s step.reads, uses_few plan s (t + length kinds) steps, needed_both (all_behind plan step.at t kinds) (layout_from plan (t + length kinds) steps))
+    omega (arith, times_few s step.reads, uses_few plan s (t + length kinds) steps, needed_both (all_after plan step.at t kinds) (layout_from plan (t + length kinds) steps))
 
 pub too_many_uses : (plan : List Step) (s : ℕ) → most_edges < uses s plan → IsTooBig plan
 too_many_uses plan s many = inr (omega (arith, uses_few plan s 0 plan))

@@ -10,7 +10,7 @@ use Rattle.flow_graph.specs.declared.edge.Edge.{Edge}
 use Rattle.flow_rows.specs.Lists.{bind}
 use Rattle.flow_plans.specs.Layouts.{Placed, StreamPort, ports_from, inputs_from, outputs_from, first_at, without_first, edge_between, edges_from, edges_between, stream_from, stream_to}
 use Rattle.flow_assembly.specs.declared.network.Port.{Port}
-use Rattle.flow_assembly.specs.Joined.{supplier, edge_from, port_after, at_stream, run_of, inputs_behind, IsInOrder}
+use Rattle.flow_assembly.specs.Joined.{supplier, edge_from, port_after, at_stream, run_of, inputs_after, IsInOrder}
 use Rattle.flow_assembly.proofs.Fitting.{bound, stands_at, some_same}
 use Rattle.flow_assembly.proofs.Limiting.{drop_at}
 
@@ -137,24 +137,24 @@ outputs_run nodes r t first n there only = elim (cases_lt r (length nodes)) [
         let found = bound (slice_get nodes r) (λ (w : Placed). slice_get w.writes (first + zero)) t (there zero (omega arith)) in
         absurd (omega (arith, slice_get_within nodes r found.0 found.1))
 
-pub from_start : (k : ℕ) (nodes : List Placed) → inputs_from k nodes ≡ inputs_behind k 0 nodes
+pub from_start : (k : ℕ) (nodes : List Placed) → inputs_from k nodes ≡ inputs_after k 0 nodes
 from_start k [] = refl
 from_start k (placed ∷ nodes) = refl
 
 -- one input port, and those after it
 next_input : (nodes : List Placed) (r p s : ℕ) → stream_to nodes r p ≡ Some s
-    → inputs_behind r p (drop r nodes) ≡ (record { node = r; port = p; stream = s }) ∷ inputs_behind r (p + 1) (drop r nodes)
+    → inputs_after r p (drop r nodes) ≡ (record { node = r; port = p; stream = s }) ∷ inputs_after r (p + 1) (drop r nodes)
 next_input nodes r p s to =
     let found = bound (slice_get nodes r) (λ (w : Placed). slice_get w.reads p) s to in
     let e : suc p ≡ p + 1 = omega arith in
-    ap (inputs_behind r p) (drop_at nodes r found.0 found.1)
+    ap (inputs_after r p) (drop_at nodes r found.0 found.1)
     ∙ ap (λ l. ports_from r p l ++ inputs_from (suc r) (drop (suc r) nodes)) (drop_at found.0.reads p s found.2)
     ∙ ap (λ q. (record { node = r; port = p; stream = s }) ∷ (ports_from r q (drop q found.0.reads) ++ inputs_from (suc r) (drop (suc r) nodes))) e
-    ∙ ap (λ l. (record { node = r; port = p; stream = s }) ∷ inputs_behind r (p + 1) l) (sym (drop_at nodes r found.0 found.1))
+    ∙ ap (λ l. (record { node = r; port = p; stream = s }) ∷ inputs_after r (p + 1) l) (sym (drop_at nodes r found.0 found.1))
 
 -- where a node has no more of them, those of the next node come
 no_more_inputs : (nodes : List Placed) (r p : ℕ) → ((q s : ℕ) → stream_to nodes r q ≡ Some s → q < p)
-    → inputs_behind r p (drop r nodes) ≡ inputs_behind (suc r) 0 (drop (suc r) nodes)
+    → inputs_after r p (drop r nodes) ≡ inputs_after (suc r) 0 (drop (suc r) nodes)
 no_more_inputs nodes r p all = elim (cases_lt r (length nodes)) [
   | inl lt ↦
       let node = stands_at nodes r lt in
@@ -164,12 +164,12 @@ no_more_inputs nodes r p all = elim (cases_lt r (length nodes)) [
             absurd (omega (arith, all p stream.0 (ap (λ o. bind o (λ (w : Placed). slice_get w.reads p)) node.1 ∙ stream.1)))
         | inr le ↦ le
       ] in
-      ap (inputs_behind r p) (drop_at nodes r node.0 node.1)
+      ap (inputs_after r p) (drop_at nodes r node.0 node.1)
       ∙ ap (λ l. ports_from r p l ++ inputs_from (suc r) (drop (suc r) nodes)) (drop_of_length-le node.0.reads few)
       ∙ from_start (suc r) (drop (suc r) nodes)
   | inr past ↦
       let later = drop_of_length-le nodes (let le : length nodes ≤ suc r = omega arith in le) in
-      ap (inputs_behind r p) (drop_of_length-le nodes past) ∙ ap (inputs_behind (suc r) 0) (sym later)
+      ap (inputs_after r p) (drop_of_length-le nodes past) ∙ ap (inputs_after (suc r) 0) (sym later)
 ]
 
 -- The order
@@ -227,7 +227,7 @@ module _ (nodes : List Placed) (left : ℕ → ℕ) (supply : List Port) (r p : 
       output = record { node = from.node; port = from.port; stream = s }
 
       rest : List StreamPort
-      rest = inputs_behind r (p + 1) (drop r nodes)
+      rest = inputs_after r (p + 1) (drop r nodes)
 
       starts : at_stream s is.ports_left ≡ output ∷ (run_of s (port_after from) (left' s) ++ to_come_at s)
       starts = is.supplied s there ∙ (let e : left s ≡ suc (left' s) = omega arith in ap (λ n. run_of s from n ++ to_come_at s) e)
@@ -265,4 +265,4 @@ module _ (nodes : List Placed) (left : ℕ → ℕ) (supply : List Port) (r p : 
 pub all_ordered : (nodes : List Placed) (left : ℕ → ℕ) (supply : List Port) (r : ℕ) (edges : List Edge) → IsInOrder nodes left supply r 0 edges → length nodes ≤ r
     → edges ≡ edges_between nodes
 all_ordered nodes left supply r edges is past =
-    sym (append-nil edges) ∙ ap (λ l. edges ++ edges_from (inputs_behind r 0 l) is.ports_left) (sym (drop_of_length-le nodes past)) ∙ is.edges_are
+    sym (append-nil edges) ∙ ap (λ l. edges ++ edges_from (inputs_after r 0 l) is.ports_left) (sym (drop_of_length-le nodes past)) ∙ is.edges_are

@@ -21,7 +21,7 @@ use Rattle.flow_assembly.specs.declared.counted_steps.CountedSteps.{CountedSteps
 use Rattle.flow_assembly.specs.Ready.{plan_of, left_before, ComeNext, IsPutTo, KeepsLimits, IsTooBig}
 use Rattle.flow_assembly.proofs.Fitting.{FitsKinds, some_same}
 use Rattle.flow_assembly.proofs.Laying.{layout_fits, steps_usable}
-use Rattle.flow_assembly.proofs.Limiting.{node_within, edge_within, too_many_nodes, too_many_behind}
+use Rattle.flow_assembly.proofs.Limiting.{node_within, edge_within, too_many_nodes, too_many_after}
 use Rattle.flow_assembly.proofs.Joining.{added, may_join, joined, passed, relabelled, IsAmong, IsFresh}
 
 abbrev State : Type 0
@@ -174,22 +174,22 @@ sink_next plan states at s kind next none =
     let e : length states + 0 ≡ length states = omega arith in
     ap (slice_get (layout plan)) (sym e) ∙ first
 
-fork_behind : (at s : ℕ) (kind : Kind) (n : ℕ) → 2 ≤ n → slice_get (places_after at s kind n) 0 ≡ Some (record { at = at; operation = fork kind n; reads = s ∷ []; writes = replicate n s })
-fork_behind at s kind zero le = absurd (omega arith)
-fork_behind at s kind (suc zero) le = absurd (omega arith)
-fork_behind at s kind (suc (suc n)) le = refl
+fork_after : (at s : ℕ) (kind : Kind) (n : ℕ) → 2 ≤ n → slice_get (places_after at s kind n) 0 ≡ Some (record { at = at; operation = fork kind n; reads = s ∷ []; writes = replicate n s })
+fork_after at s kind zero le = absurd (omega arith)
+fork_after at s kind (suc zero) le = absurd (omega arith)
+fork_after at s kind (suc (suc n)) le = refl
 
 pub fork_next : (plan : List Step) (states : List State) (at s : ℕ) (kind : Kind) (n : ℕ) → ComeNext plan states (places_after at s kind (uses s plan)) → uses s plan ≡ n → 2 ≤ n
     → slice_get (layout plan) (length states) ≡ Some (record { at = at; operation = fork kind n; reads = s ∷ []; writes = replicate n s })
 fork_next plan states at s kind n next many le =
-    let first = next 0 (record { at = at; operation = fork kind n; reads = s ∷ []; writes = replicate n s }) (ap (λ m. slice_get (places_after at s kind m) 0) many ∙ fork_behind at s kind n le) in
+    let first = next 0 (record { at = at; operation = fork kind n; reads = s ∷ []; writes = replicate n s }) (ap (λ m. slice_get (places_after at s kind m) 0) many ∙ fork_after at s kind n le) in
     let e : length states + 0 ≡ length states = omega arith in
     ap (slice_get (layout plan)) (sym e) ∙ first
 
-pub one_behind : (at s : ℕ) (kind : Kind) (n : ℕ) → 2 ≤ n → length (places_after at s kind n) ≡ 1
-one_behind at s kind zero le = absurd (omega arith)
-one_behind at s kind (suc zero) le = absurd (omega arith)
-one_behind at s kind (suc (suc n)) le = refl
+pub one_after : (at s : ℕ) (kind : Kind) (n : ℕ) → 2 ≤ n → length (places_after at s kind n) ≡ 1
+one_after at s kind zero le = absurd (omega arith)
+one_after at s kind (suc zero) le = absurd (omega arith)
+one_after at s kind (suc (suc n)) le = refl
 
 -- All of it
 
@@ -243,11 +243,11 @@ module _ (plan : List Step) (found : List ℕ) (at s : ℕ) (kind : Kind) (suppl
   -- where a limit is met the network of the plan is over it
   pub sink_big : uses s plan ≡ 0 → (length states ≡ most_nodes) ⊎ (length edges ≡ most_edges) → IsTooBig plan
   sink_big none (inl full) = too_many_nodes plan states edges (record { at = at; operation = sink kind; reads = s ∷ []; writes = [] }) (sink_next plan states at s kind next none) full
-  sink_big none (inr full) = too_many_behind plan states edges (record { at = at; operation = sink kind; reads = s ∷ []; writes = [] }) s is.within (sink_next plan states at s kind next none) refl full
+  sink_big none (inr full) = too_many_after plan states edges (record { at = at; operation = sink kind; reads = s ∷ []; writes = [] }) s is.within (sink_next plan states at s kind next none) refl full
 
   pub fork_big : (n : ℕ) → uses s plan ≡ n → 2 ≤ n → (length states ≡ most_nodes) ⊎ (length edges ≡ most_edges) → IsTooBig plan
   fork_big n many le (inl full) = too_many_nodes plan states edges (record { at = at; operation = fork kind n; reads = s ∷ []; writes = replicate n s }) (fork_next plan states at s kind n next many le) full
-  fork_big n many le (inr full) = too_many_behind plan states edges (record { at = at; operation = fork kind n; reads = s ∷ []; writes = replicate n s }) s is.within (fork_next plan states at s kind n next many le) refl full
+  fork_big n many le (inr full) = too_many_after plan states edges (record { at = at; operation = fork kind n; reads = s ∷ []; writes = replicate n s }) s is.within (fork_next plan states at s kind n next many le) refl full
 
 -- the same network, said in another way
 pub put_same : (plan : List Step) (s : ℕ) (supply supply' : List Port) (found found' : List ℕ) (states states' : List State) (edges edges' : List Edge)

@@ -12,7 +12,7 @@ use Rattle.flow_graph.specs.Limits.{most_edges}
 use Rattle.flow_graph.specs.Networks.{MayJoin}
 use Rattle.flow_nodes.specs.StreamNodes.{NodeKind, member, node_behaviour}
 use Rattle.flow_plans.specs.Plans.{Step}
-use Rattle.flow_plans.specs.Layouts.{Placed, times, uses, places_after, all_behind, layout, stream_to}
+use Rattle.flow_plans.specs.Layouts.{Placed, times, uses, places_after, all_after, layout, stream_to}
 use Rattle.flow_assembly.specs.declared.network.Port.{Port}
 use Rattle.flow_assembly.specs.Openings.{OpeningsPerform}
 use Rattle.flow_assembly.specs.Joined.{supplier, edge_from, port_after, IsJoinedTo}
@@ -85,27 +85,27 @@ read_within plan reads p states states2 edges edges2 edge lt within room one two
 -- What comes next
 
 module _ (plan : List Step) (at first_stream q : ℕ) (kinds : List Kind) (kind : Kind) (lt : q < length kinds) (is : get_or kinds q kind ≡ kind) where
-  all_now : all_behind plan at (first_stream + q) (drop q kinds) ≡ places_after at (first_stream + q) kind (uses (first_stream + q) plan) ++ all_behind plan at (first_stream + (q + 1)) (drop (q + 1) kinds)
+  all_now : all_after plan at (first_stream + q) (drop q kinds) ≡ places_after at (first_stream + q) kind (uses (first_stream + q) plan) ++ all_after plan at (first_stream + (q + 1)) (drop (q + 1) kinds)
   all_now =
       let e : suc q ≡ q + 1 = omega arith in
       let f : suc (first_stream + q) ≡ first_stream + (q + 1) = omega arith in
-      ap (all_behind plan at (first_stream + q)) (drop-cons kinds q kind lt ∙ ap (λ k. k ∷ drop (suc q) kinds) is ∙ ap (λ n. kind ∷ drop n kinds) e)
-      ∙ ap (λ n. places_after at (first_stream + q) kind (uses (first_stream + q) plan) ++ all_behind plan at n (drop (q + 1) kinds)) f
+      ap (all_after plan at (first_stream + q)) (drop-cons kinds q kind lt ∙ ap (λ k. k ∷ drop (suc q) kinds) is ∙ ap (λ n. kind ∷ drop n kinds) e)
+      ∙ ap (λ n. places_after at (first_stream + q) kind (uses (first_stream + q) plan) ++ all_after plan at n (drop (q + 1) kinds)) f
 
-  pub first_next : (states : List State) → ComeNext plan states (all_behind plan at (first_stream + q) (drop q kinds)) → ComeNext plan states (places_after at (first_stream + q) kind (uses (first_stream + q) plan))
+  pub first_next : (states : List State) → ComeNext plan states (all_after plan at (first_stream + q) (drop q kinds)) → ComeNext plan states (places_after at (first_stream + q) kind (uses (first_stream + q) plan))
   first_next states next k placed at_k =
-      next k placed (ap (λ l. slice_get l k) all_now ∙ get_front (places_after at (first_stream + q) kind (uses (first_stream + q) plan)) (all_behind plan at (first_stream + (q + 1)) (drop (q + 1) kinds)) k placed at_k)
+      next k placed (ap (λ l. slice_get l k) all_now ∙ get_front (places_after at (first_stream + q) kind (uses (first_stream + q) plan)) (all_after plan at (first_stream + (q + 1)) (drop (q + 1) kinds)) k placed at_k)
 
-  pub later_next : (states states2 : List State) → ComeNext plan states (all_behind plan at (first_stream + q) (drop q kinds)) → length states2 ≡ length states + length (places_after at (first_stream + q) kind (uses (first_stream + q) plan))
-      → ComeNext plan states2 (all_behind plan at (first_stream + (q + 1)) (drop (q + 1) kinds))
+  pub later_next : (states states2 : List State) → ComeNext plan states (all_after plan at (first_stream + q) (drop q kinds)) → length states2 ≡ length states + length (places_after at (first_stream + q) kind (uses (first_stream + q) plan))
+      → ComeNext plan states2 (all_after plan at (first_stream + (q + 1)) (drop (q + 1) kinds))
   later_next states states2 next longer k placed at_k =
       let front = places_after at (first_stream + q) kind (uses (first_stream + q) plan) in
       let e : length states + (length front + k) ≡ length states2 + k = omega (arith, longer) in
       subst (λ n. slice_get (layout plan) n ≡ Some placed) e
-      (next (length front + k) placed (ap (λ l. slice_get l (length front + k)) all_now ∙ get_back front (all_behind plan at (first_stream + (q + 1)) (drop (q + 1) kinds)) k placed at_k))
+      (next (length front + k) placed (ap (λ l. slice_get l (length front + k)) all_now ∙ get_back front (all_after plan at (first_stream + (q + 1)) (drop (q + 1) kinds)) k placed at_k))
 
-  pub count_next : length (all_behind plan at (first_stream + q) (drop q kinds)) ≡ length (places_after at (first_stream + q) kind (uses (first_stream + q) plan)) + length (all_behind plan at (first_stream + (q + 1)) (drop (q + 1) kinds))
-  count_next = ap length all_now ∙ length-append (places_after at (first_stream + q) kind (uses (first_stream + q) plan)) (all_behind plan at (first_stream + (q + 1)) (drop (q + 1) kinds))
+  pub count_next : length (all_after plan at (first_stream + q) (drop q kinds)) ≡ length (places_after at (first_stream + q) kind (uses (first_stream + q) plan)) + length (all_after plan at (first_stream + (q + 1)) (drop (q + 1) kinds))
+  count_next = ap length all_now ∙ length-append (places_after at (first_stream + q) kind (uses (first_stream + q) plan)) (all_after plan at (first_stream + (q + 1)) (drop (q + 1) kinds))
 
 -- what stands inside a list does not hang on what stands for other places
 pub same_default : {A : Type 0} (xs : List A) (k : ℕ) (d e : A) → k < length xs → get_or xs k e ≡ get_or xs k d

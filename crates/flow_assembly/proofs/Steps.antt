@@ -15,7 +15,7 @@ use Rattle.flow_nodes.specs.StreamNodes.{NodeKind, member, node_behaviour}
 use Rattle.flow_rows.specs.Lists.{bind, each}
 use Rattle.flow_plans.specs.Plans.{Step}
 use Rattle.flow_plans.specs.Ports.{kinds_read, kinds_written, AreWired, kinds_after}
-use Rattle.flow_plans.specs.Layouts.{Placed, times, uses, numbered, all_behind, layout, layout_from, places_from, stream_from, stream_to, Performs}
+use Rattle.flow_plans.specs.Layouts.{Placed, times, uses, numbered, all_after, layout, layout_from, places_from, stream_from, stream_to, Performs}
 use Rattle.flow_assembly.specs.declared.network.Port.{Port}
 use Rattle.flow_assembly.specs.Openings.{Opens}
 use Rattle.flow_assembly.specs.Joined.{supplier, IsJoinedTo}
@@ -139,7 +139,7 @@ module _ (plan : List Step) (i : ℕ) (step : Step) (now : drop i plan ≡ step 
   placed = record { at = step.at; operation = step.operation; reads = step.reads; writes = numbered (length supply) kinds }
 
   abbrev pub all_put : List Placed
-  all_put = all_behind plan step.at (length supply) kinds
+  all_put = all_after plan step.at (length supply) kinds
 
   abbrev to_come : List Placed
   to_come = layout_from plan (length supply + length kinds) (drop (i + 1) plan)
@@ -150,8 +150,8 @@ module _ (plan : List Step) (i : ℕ) (step : Step) (now : drop i plan ≡ step 
   pub placed_at : slice_get (layout plan) (length states) ≡ Some placed
   placed_at = head_of (layout plan) (length states) placed (all_put ++ to_come) laid
 
-  laid_behind : drop (length states + 1) (layout plan) ≡ all_put ++ to_come
-  laid_behind = drop_further (layout plan) (length states) 1 ∙ ap (drop 1) laid
+  laid_after : drop (length states + 1) (layout plan) ≡ all_put ++ to_come
+  laid_after = drop_further (layout plan) (length states) 1 ∙ ap (drop 1) laid
 
   reads_here : (q : ℕ) → stream_to (layout plan) (length states) q ≡ slice_get step.reads q
   reads_here q = ap (λ o. bind o (λ (p : Placed). slice_get p.reads q)) placed_at
@@ -207,10 +207,10 @@ module _ (plan : List Step) (i : ℕ) (step : Step) (now : drop i plan ≡ step 
       let same : uses s (drop (length found2) plan) ≡ uses s (drop (i + 1) plan) = ap (λ m. uses s (drop m plan)) count in
       omega (arith, before, here, none, same)
 
-  pub step_next : (states2 : List State) (first : ℕ) (kinds2 : List Kind) → length states2 ≡ length states + 1 → first ≡ length supply → kinds2 ≡ kinds → ComeNext plan states2 (all_behind plan step.at first kinds2)
+  pub step_next : (states2 : List State) (first : ℕ) (kinds2 : List Kind) → length states2 ≡ length states + 1 → first ≡ length supply → kinds2 ≡ kinds → ComeNext plan states2 (all_after plan step.at first kinds2)
   step_next states2 first kinds2 count is same k other at =
-      let here : slice_get all_put k ≡ Some other = ap (λ l. slice_get (all_behind plan step.at (length supply) l) k) (sym same) ∙ ap (λ s. slice_get (all_behind plan step.at s kinds2) k) (sym is) ∙ at in
-      ap (λ m. slice_get (layout plan) (m + k)) count ∙ sym (get_dropped (layout plan) (length states + 1) k) ∙ ap (λ l. slice_get l k) laid_behind ∙ get_front all_put to_come k other here
+      let here : slice_get all_put k ≡ Some other = ap (λ l. slice_get (all_after plan step.at (length supply) l) k) (sym same) ∙ ap (λ s. slice_get (all_after plan step.at s kinds2) k) (sym is) ∙ at in
+      ap (λ m. slice_get (layout plan) (m + k)) count ∙ sym (get_dropped (layout plan) (length states + 1) k) ∙ ap (λ l. slice_get l k) laid_after ∙ get_front all_put to_come k other here
 
   -- the streams that the step writes have its outputs as their suppliers
   module _ (node outputs : ℕ) (supply3 supply4 : List Port) (found2 : List ℕ) (states3 : List State) (edges3 : List Edge) (reads : List ℕ) (at : node ≡ length states) (many : outputs ≡ length kinds) (fits : outputs < 2 ^ 64)
@@ -287,16 +287,16 @@ module _ (plan : List Step) (i : ℕ) (step : Step) (now : drop i plan ≡ step 
 
   -- and with what stands after its streams it is built
   pub step_built : (node : ℕ) (kinds2 : List Kind) (first : ℕ) (supply5 : List Port) (found5 : List ℕ) (states5 : List State) (edges5 : List Edge) → node ≡ length states → kinds2 ≡ kinds → first ≡ length supply
-      → IsPutTo plan (first + length kinds2) supply5 found5 states5 edges5 → length states5 ≡ length states + 1 + length (all_behind plan step.at first kinds2) → length supply5 ≡ length supply + length kinds
+      → IsPutTo plan (first + length kinds2) supply5 found5 states5 edges5 → length states5 ≡ length states + 1 + length (all_after plan step.at first kinds2) → length supply5 ≡ length supply + length kinds
       → found5 ≡ found ++ node ∷ [] → IsBuiltTo plan (i + 1) supply5 found5 states5 edges5
   step_built node kinds2 first supply5 found5 states5 edges5 at same here put many streams longer =
       let count : length found5 ≡ i + 1 = step_found node found5 longer in
-      let behind_same : all_behind plan step.at first kinds2 ≡ all_put = ap (λ s. all_behind plan step.at s kinds2) here ∙ ap (all_behind plan step.at (length supply)) same in
-      let nodes5 : length states5 ≡ (length states + 1) + length all_put = many ∙ ap (λ l. length states + 1 + length l) behind_same in
+      let after_same : all_after plan step.at first kinds2 ≡ all_put = ap (λ s. all_after plan step.at s kinds2) here ∙ ap (all_after plan step.at (length supply)) same in
+      let nodes5 : length states5 ≡ (length states + 1) + length all_put = many ∙ ap (λ l. length states + 1 + length l) after_same in
       let places5 : suc (length states + length all_put) ≡ length states5 = omega (arith, nodes5) in
       record {
         inside = omega (arith, built.inside, nodes5, length-drop (length states) (layout plan), ap length laid, length-append all_put to_come);
-        nodes = ap (λ m. drop m (layout plan)) nodes5 ∙ drop_further (layout plan) (length states + 1) (length all_put) ∙ ap (drop (length all_put)) laid_behind ∙ drop-append_seam all_put to_come
+        nodes = ap (λ m. drop m (layout plan)) nodes5 ∙ drop_further (layout plan) (length states + 1) (length all_put) ∙ ap (drop (length all_put)) laid_after ∙ drop-append_seam all_put to_come
             ∙ ap (λ s. layout_from plan s (drop (i + 1) plan)) (sym streams);
         streams = omega (arith, streams, ap length (kinds_next [] plan i step (drop (i + 1) plan) now), length-append (kinds_after [] (take i plan)) kinds, built.streams);
         steps = count;

@@ -36,15 +36,15 @@ run_of s from zero = []
 run_of s from (suc n) = record { node = from.node; port = from.port; stream = s } ∷ run_of s (port_after from) n
 
 -- the input ports of these nodes, from port p of the first of them on, which is node r
-abbrev pub inputs_behind : (r p : ℕ) → List Placed → List StreamPort
-inputs_behind r p [] = []
-inputs_behind r p (placed ∷ nodes) = ports_from r p (drop p placed.reads) ++ inputs_from (suc r) nodes
+abbrev pub inputs_after : (r p : ℕ) → List Placed → List StreamPort
+inputs_after r p [] = []
+inputs_after r p (placed ∷ nodes) = ports_from r p (drop p placed.reads) ++ inputs_from (suc r) nodes
 
 -- The input ports before port p of node r have the edges that they are to have. Of the output ports that are left, those of a
 -- stream are the ones from its supplier on, for as many uses as it has left, and those of nodes from r on.
 pub record IsInOrder (nodes : List Placed) (left : ℕ → ℕ) (supply : List Port) (r p : ℕ) (edges : List Edge) : Type 0 where
   pub ports_left : List StreamPort
-  pub edges_are : edges ++ edges_from (inputs_behind r p (drop r nodes)) ports_left ≡ edges_between nodes
+  pub edges_are : edges ++ edges_from (inputs_after r p (drop r nodes)) ports_left ≡ edges_between nodes
   pub supplied : (s : ℕ) → s < length supply
       → at_stream s ports_left ≡ run_of s (supplier supply s) (left s) ++ at_stream s (outputs_from r (drop r nodes))
   pub to_come : (s : ℕ) → length supply ≤ s → at_stream s ports_left ≡ at_stream s (outputs_from r (drop r nodes))

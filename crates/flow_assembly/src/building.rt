@@ -4,7 +4,7 @@ ghost use Rattle.std.specs.Prelude.{◌≡◌, ℕ, ◌+◌, ◌<◌, ◌≤◌,
 ghost use Rattle.std.specs.List.{slice_get};
 ghost use Rattle.snesl_data.specs.declared.refusal.Refusal.TheVariants.{TooBig, NoMemory};
 ghost use Rattle.flow_graph.specs.Graphs.{states_so_far, edges_so_far};
-ghost use Rattle.flow_plans.specs.Layouts.{times, uses, places_after, all_behind, layout, stream_to};
+ghost use Rattle.flow_plans.specs.Layouts.{times, uses, places_after, all_after, layout, stream_to};
 ghost use Rattle.flow_plans.specs.Ports.{AreWired, kinds_after};
 ghost use Rattle.flow_assembly.specs.Joined.{IsJoinedTo};
 ghost use Rattle.flow_assembly.specs.Ready.{plan_of, IsCounted, IsTooBig, KeepsLimits, IsBuiltTo, IsPutTo, ComeNext};
@@ -41,7 +41,7 @@ impl Network {
         self.read_streams(plan, &step.reads, place)?;
         let first = self.supply.len();
         self.add_streams(place, kinds.len())?;
-        self.put_all_behind(plan, step.at, first, &kinds)?;
+        self.put_all_after(plan, step.at, first, &kinds)?;
         Ok(())
     }
 
@@ -84,7 +84,7 @@ impl Network {
     }
 
     // Puts what stands after the streams of these kinds, the first of which has this number.
-    fn put_all_behind(
+    fn put_all_after(
         &mut self,
         plan: &CountedSteps,
         at: usize,
@@ -97,7 +97,7 @@ impl Network {
         requires later { (s : ℕ) → first ≤ s → uses s (plan_of plan.now) ≡
             uses s (drop (length self.old.places.items) (plan_of plan.now)) }
         requires next { ComeNext (plan_of plan.now) (states_so_far self.old.builder)
-            (all_behind (plan_of plan.now) at first kinds.now) }
+            (all_after (plan_of plan.now) at first kinds.now) }
         requires so_far { IsPutTo
             (plan_of plan.now) first self.old.supply.items self.old.places.items
             (states_so_far self.old.builder) (edges_so_far self.old.builder) }
@@ -106,20 +106,20 @@ impl Network {
             (states_so_far self.new.builder) (edges_so_far self.new.builder)) }
         ensures nodes { OnOk result (length (states_so_far self.new.builder) ≡
             length (states_so_far self.old.builder) + length
-            (all_behind (plan_of plan.now) at first kinds.now)) }
+            (all_after (plan_of plan.now) at first kinds.now)) }
         ensures supply { OnOk result (length self.new.supply.items ≡ length self.old.supply.items) }
         ensures places { self.new.places.items ≡ self.old.places.items }
         ensures big { result ≡ Err TooBig → IsTooBig (plan_of plan.now) }
         ensures memory { IfErr result (λ refusal. (refusal ≡ TooBig) ⊎ (refusal ≡ NoMemory)) }
     {
         for (port, kind) in kinds.iter().enumerate() {
-            self.put_behind(plan, at, first + port, *kind)?;
+            self.put_after(plan, at, first + port, *kind)?;
         }
         Ok(())
     }
 
     // Puts what stands after one stream.
-    fn put_behind(
+    fn put_after(
         &mut self,
         plan: &CountedSteps,
         at: usize,

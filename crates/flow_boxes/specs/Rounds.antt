@@ -95,7 +95,7 @@ pub record IsCarried (w r : Contents) (e : ℕ) : Type 0 where
   pub arrived : r.ends.received e ++ r.ends.coming e ≡ w.ends.sent e
   -- what is coming is what was sent and not received
   pub coming : r.ends.coming e ≡ drop (length (r.ends.received e)) (w.ends.sent e)
-  -- nothing is left behind
+  -- nothing is left after
   pub leaving : w.leaving e ≡ []
   -- what is not held is room
   pub room : w.ends.room e + held r.ends e ≡ w.capacity

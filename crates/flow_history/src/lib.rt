@@ -42,7 +42,7 @@ impl<T> History<T> {
         History { of: PhantomData }
     }
 
-    /// The history with another behind it.
+    /// The history with another after it.
     #[inline(always)]
     pub fn followed_by(&self, later: &History<T>) -> History<T>
         ensures { result.items ≡ self.now.items ++ later.now.items }

@@ -46,9 +46,9 @@ left_ahead text same way alike leaf at end s u pieces e f first =
     (subst (λ w. left same w leaf at s ≡ pieces ++ left same w leaf end u) f first)
 
 -- where pieces are left and then others, the others are the last of all
-pub rest_behind : (all rest pieces others : List Piece) → IsRest all rest → rest ≡ pieces ++ others → IsRest all others
-rest_behind all rest [] others is e = subst (IsRest all) e is
-rest_behind all rest (x ∷ pieces) others is e = rest_behind all (pieces ++ others) pieces others (nexts all rest x (pieces ++ others) is e).left refl
+pub rest_after : (all rest pieces others : List Piece) → IsRest all rest → rest ≡ pieces ++ others → IsRest all others
+rest_after all rest [] others is e = subst (IsRest all) e is
+rest_after all rest (x ∷ pieces) others is e = rest_after all (pieces ++ others) pieces others (nexts all rest x (pieces ++ others) is e).left refl
 
 -- and the pieces are what is written next
 sends_pieces : (text : List ℕ) (way : List Component) (leaf : Leaf) (place : ℕ) (rest pieces others : List Piece) → IsRest (left text way leaf place opening_state) rest → rest ≡ pieces ++ others

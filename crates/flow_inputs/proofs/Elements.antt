@@ -14,7 +14,7 @@ use Rattle.flow_inputs.specs.declared.turns.State.{State}
 use Rattle.flow_inputs.specs.declared.turns.Piece.TheVariants.{Flag, Int}
 use Rattle.flow_inputs.specs.Turns.{state, turn_after_value, at_value, at_leaf, made}
 use Rattle.flow_inputs.specs.Left.{left}
-use Rattle.flow_inputs.proofs.Lefts.{behind_turn, left_found}
+use Rattle.flow_inputs.proofs.Lefts.{after_turn, left_found}
 
 -- a comma and an integer, where an element comes next
 two_tokens : (text : List ℕ) (way : List Component) (at level : ℕ) (n : ℤ) (f : Found) → at + 1 ≤ length text → made way level ≡ Some Elements → slice_get way level ≡ None
@@ -22,10 +22,10 @@ two_tokens : (text : List ℕ) (way : List Component) (at level : ℕ) (n : ℤ)
     → left text way Ints at (state level Behind) ≡ Int n ∷ left text way Ints f.end (state level Behind)
 two_tokens text way at level n f within elements last comma number is =
     left_found text way Ints at (state level Behind) (record { mark = Comma; end = at + 1 }) (omega (arith, within)) comma
-    ∙ ap (λ o. behind_turn text way Ints (turn_after_value o level Comma) (at + 1)) elements
+    ∙ ap (λ o. after_turn text way Ints (turn_after_value o level Comma) (at + 1)) elements
     ∙ left_found text way Ints (at + 1) (state level Value) f within number
-    ∙ ap (λ o. behind_turn text way Ints (at_value o Ints level f.mark (at + 1)) f.end) last
-    ∙ ap (λ m. behind_turn text way Ints (at_leaf Ints level m (at + 1)) f.end) is
+    ∙ ap (λ o. after_turn text way Ints (at_value o Ints level f.mark (at + 1)) f.end) last
+    ∙ ap (λ m. after_turn text way Ints (at_leaf Ints level m (at + 1)) f.end) is
 
 pub element_left : (text : List ℕ) (way : List Component) (leaf : Leaf) (at : ℕ) (s : State) (n : ℤ) (f : Found) → leaf ≡ Ints → s.mode ≡ Behind → at + 1 ≤ length text → made way s.level ≡ Some Elements → slice_get way s.level ≡ None
     → Some (record { mark = Comma; end = at + 1 }) ≡ found_from (next_at text at) (next text at) → Some f ≡ found_from (next_at text (at + 1)) (next text (at + 1)) → f.mark ≡ Number n

@@ -23,14 +23,14 @@ use Rattle.flow_inputs.specs.Left.{left, cell}
 use Rattle.snesl_values.proofs.Spots.{unread}
 use Rattle.snesl_values.proofs.Readings.{reads-split, read, ends_inside}
 use Rattle.flow_inputs.specs.Passing.{Passes, PassesParts}
-use Rattle.flow_inputs.proofs.Lefts.{left_turn, behind_turn}
+use Rattle.flow_inputs.proofs.Lefts.{left_turn, after_turn}
 
 -- the first token was read, the others are to be, and what a scanner makes of it
 pub record Turned (text : List ℕ) (from : ℕ) (t : Token) (ts : List Token) (end : ℕ) : Type 0 where
   pub at : ℕ
   pub inside : at ≤ length text
   pub rest : HasTokens text at ts end
-  pub turns : (way : List Component) (leaf : Leaf) (s : State) → left text way leaf from s ≡ behind_turn text way leaf (turn way leaf s (mark_of t) from) at
+  pub turns : (way : List Component) (leaf : Leaf) (s : State) → left text way leaf from s ≡ after_turn text way leaf (turn way leaf s (mark_of t) from) at
 
 pub turned : {text : List ℕ} {from end : ℕ} {t : Token} {ts : List Token} → from ≤ length text → HasTokens text from (t ∷ ts) end → Turned text from t ts end
 turned {text = text} {from = from} {t = t} inside r =
@@ -49,11 +49,11 @@ cells vector text way leaf at s = map (cell vector) (left text way leaf at s)
 -- by what the turn does
 pub then_moved : {text : List ℕ} {from end : ℕ} {t : Token} {ts : List Token} (vector : ℕ → Value) (way : List Component) (leaf : Leaf) (s : State) (level : ℕ) (mode : Mode) (w : Turned text from t ts end)
     → turn way leaf s (mark_of t) from ≡ writes_nothing level mode → cells vector text way leaf from s ≡ cells vector text way leaf w.at (state level mode)
-then_moved {text = text} vector way leaf s level mode w e = ap (map (cell vector)) (w.turns way leaf s ∙ ap (λ (u : Turn). behind_turn text way leaf u w.at) e)
+then_moved {text = text} vector way leaf s level mode w e = ap (map (cell vector)) (w.turns way leaf s ∙ ap (λ (u : Turn). after_turn text way leaf u w.at) e)
 
 pub then_wrote : {text : List ℕ} {from end : ℕ} {t : Token} {ts : List Token} (vector : ℕ → Value) (way : List Component) (leaf : Leaf) (s : State) (piece : Piece) (level : ℕ) (mode : Mode) (w : Turned text from t ts end)
     → turn way leaf s (mark_of t) from ≡ wrote piece level mode → cells vector text way leaf from s ≡ cell vector piece ∷ cells vector text way leaf w.at (state level mode)
-then_wrote {text = text} vector way leaf s piece level mode w e = ap (map (cell vector)) (w.turns way leaf s ∙ ap (λ (u : Turn). behind_turn text way leaf u w.at) e)
+then_wrote {text = text} vector way leaf s piece level mode w e = ap (map (cell vector)) (w.turns way leaf s ∙ ap (λ (u : Turn). after_turn text way leaf u w.at) e)
 
 number_passes : {way : List Component} {leaf : Leaf} {level : ℕ} {mode : ℕ → Mode} → Passes way leaf level mode → (depth place : ℕ) (n : ℤ) → turn way leaf (state level (mode depth)) (mark_of (integer n)) place ≡ writes_nothing level (mode depth)
 number_passes {way = way} {leaf = leaf} {level = level} {mode = mode} p depth place n = by_range (is_integer Two n)

@@ -21,12 +21,12 @@ use Rattle.flow_inputs.specs.Left.{written_from, left}
 use Rattle.snesl_values.proofs.Spots.{spots_none, spots_some}
 
 -- what is written by a turn and after it
-abbrev pub behind_turn : List ℕ → List Component → Leaf → Turn → ℕ → List Piece
-behind_turn text way leaf u end = option_to_list u.0 ++ left text way leaf end u.1
+abbrev pub after_turn : List ℕ → List Component → Leaf → Turn → ℕ → List Piece
+after_turn text way leaf u end = option_to_list u.0 ++ left text way leaf end u.1
 
 -- at the next token, and where there is none
 pub left_turn : (text : List ℕ) (way : List Component) (leaf : Leaf) (at : ℕ) (s : State) (l : SizedToken) → at ≤ length text → next text at ≡ Some l
-    → left text way leaf at s ≡ behind_turn text way leaf (turn way leaf s (mark_of l.0) at) (next_at text at + l.1)
+    → left text way leaf at s ≡ after_turn text way leaf (turn way leaf s (mark_of l.0) at) (next_at text at + l.1)
 unfolding left
 left_turn text way leaf at s l inside_vector e = ap (written_from way leaf s) (spots_some text at l inside_vector e)
 
@@ -43,30 +43,30 @@ lost_at : (way : List Component) (leaf : Leaf) (level : ℕ) (spots : List Spot)
 lost_at way leaf level [] = refl
 lost_at way leaf level (x ∷ xs) = lost_run way leaf xs
 
-behind_all : (way : List Component) (leaf : Leaf) (spots : List Spot) → written_from way leaf (state 0 Behind) spots ≡ []
-behind_all way leaf [] = refl
-behind_all way leaf (x ∷ xs) = lost_run way leaf xs
+after_all : (way : List Component) (leaf : Leaf) (spots : List Spot) → written_from way leaf (state 0 Behind) spots ≡ []
+after_all way leaf [] = refl
+after_all way leaf (x ∷ xs) = lost_run way leaf xs
 
 pub left_done : (text : List ℕ) (way : List Component) (leaf : Leaf) (at : ℕ) (s : State) → is_done s ≡ true → left text way leaf at s ≡ []
 unfolding left
 left_done text way leaf at s done = by_mode s.mode s.level done
   where
     by_mode : (mode : Mode) (level : ℕ) → is_done_by mode level ≡ true → written_from way leaf (state level mode) (spots text at) ≡ []
-    by_mode Behind level e = ap (λ n. written_from way leaf (state n Behind) (spots text at)) (eqb-true level 0 e) ∙ behind_all way leaf (spots text at)
+    by_mode Behind level e = ap (λ n. written_from way leaf (state n Behind) (spots text at)) (eqb-true level 0 e) ∙ after_all way leaf (spots text at)
     by_mode Lost level e = lost_at way leaf level (spots text at)
     by_mode _ level e = absurd (cc)
 
 -- by what was found
 pub left_found : (text : List ℕ) (way : List Component) (leaf : Leaf) (at : ℕ) (s : State) (f : Found) → at ≤ length text → Some f ≡ found_from (next_at text at) (next text at)
-    → left text way leaf at s ≡ behind_turn text way leaf (turn way leaf s f.mark at) f.end
+    → left text way leaf at s ≡ after_turn text way leaf (turn way leaf s f.mark at) f.end
 left_found text way leaf at s f inside_vector e = by_next (next text at) refl e
   where
-    by_next : (o : Option SizedToken) → next text at ≡ o → Some f ≡ found_from (next_at text at) o → left text way leaf at s ≡ behind_turn text way leaf (turn way leaf s f.mark at) f.end
+    by_next : (o : Option SizedToken) → next text at ≡ o → Some f ≡ found_from (next_at text at) o → left text way leaf at s ≡ after_turn text way leaf (turn way leaf s f.mark at) f.end
     by_next None is e = absurd (cc)
     by_next (Some l) is e =
         let g : Found = record { mark = mark_of l.0; end = next_at text at + l.1 } in
         let same : g ≡ f = cc in
-        left_turn text way leaf at s l inside_vector is ∙ ap (λ (f : Found). behind_turn text way leaf (turn way leaf s f.mark at) f.end) same
+        left_turn text way leaf at s l inside_vector is ∙ ap (λ (f : Found). after_turn text way leaf (turn way leaf s f.mark at) f.end) same
 
 pub left_unfound : (text : List ℕ) (way : List Component) (leaf : Leaf) (at : ℕ) (s : State) → None ≡ found_from (next_at text at) (next text at) → left text way leaf at s ≡ []
 left_unfound text way leaf at s e = by_next (next text at) refl e
@@ -97,12 +97,12 @@ opened_deeper : (step : Option Component) (leaf : Leaf) (level : ℕ) (mark : Ma
 opened_deeper step leaf level (Close Curly) place = omega arith
 opened_deeper step leaf level mark place = value_deeper step leaf level mark place
 
-behind_deeper : (step : Option Component) (level : ℕ) (mark : Mark) → OneDeeper 0 (turn_after_value step level mark)
-behind_deeper (Some Elements) level Comma = omega arith
-behind_deeper (Some First) level Comma = omega arith
-behind_deeper (Some Elements) level (Close Curly) = omega arith
-behind_deeper (Some Second) level (Close Round) = omega arith
-behind_deeper _ level mark = omega arith
+after_deeper : (step : Option Component) (level : ℕ) (mark : Mark) → OneDeeper 0 (turn_after_value step level mark)
+after_deeper (Some Elements) level Comma = omega arith
+after_deeper (Some First) level Comma = omega arith
+after_deeper (Some Elements) level (Close Curly) = omega arith
+after_deeper (Some Second) level (Close Round) = omega arith
+after_deeper _ level mark = omega arith
 
 passed_deeper : (step : Option Component) (level : ℕ) (mark : Mark) → depth_of (passed step level mark).1.mode ≡ 0
 passed_deeper (Some Second) level Comma = refl
@@ -140,7 +140,7 @@ turn_deeper way leaf s mark place = by_mode s.mode
     by_mode : (mode : Mode) → OneDeeper (depth_of mode) (turn_by mode way leaf s.level mark place)
     by_mode Value = value_deeper _ leaf s.level mark place
     by_mode Opened = opened_deeper _ leaf s.level mark place
-    by_mode Behind = behind_deeper (made way s.level) s.level mark
+    by_mode Behind = after_deeper (made way s.level) s.level mark
     by_mode (Passing depth) = passing_deeper (made way s.level) s.level depth mark
     by_mode Flagging = flagging_deeper s.level mark
     by_mode (Counting depth) = counting_deeper s.level depth mark

@@ -28,7 +28,7 @@ use Rattle.flow_inputs.specs.Ways.{items_on_edge, LeadsToEdge, to_int, to_bool, 
 use Rattle.snesl_values.proofs.Spots.{unread}
 use Rattle.snesl_values.proofs.Readings.{reads-split, ends_inside}
 use Rattle.snesl_values.proofs.Tells.{wide}
-use Rattle.flow_inputs.proofs.Lefts.{behind_turn}
+use Rattle.flow_inputs.proofs.Lefts.{after_turn}
 use Rattle.flow_inputs.proofs.Law.{turned, cells, then_moved, then_wrote, over_value, over_items, passing_passes, counting_passes, within_passes}
 
 -- the way back
@@ -47,7 +47,7 @@ first_opened vector {text = text} way leaf level v ts {from = from} {end = end} 
         → cells vector text way leaf from (state level Opened) ≡ cells vector text way leaf from (state level ValueNext)
     alike r e =
         let w = turned inside r in
-        ap (map (cell vector)) (w.turns way leaf (state level Opened) ∙ ap (λ (u : Turn). behind_turn text way leaf u w.at) (e _) ∙ sym (w.turns way leaf (state level ValueNext)))
+        ap (map (cell vector)) (w.turns way leaf (state level Opened) ∙ ap (λ (u : Turn). after_turn text way leaf u w.at) (e _) ∙ sym (w.turns way leaf (state level ValueNext)))
 
     of_number : (n : ℤ) (place : ℕ) (b : Bool) → turn way leaf (state level Opened) (cond b (Number n) Other) place ≡ turn way leaf (state level ValueNext) (cond b (Number n) Other) place
     of_number n place true = refl
@@ -70,7 +70,7 @@ first_flagged vector {text = text} way level v ts {from = from} {end = end} insi
         → cells vector text way Flags from (state level Flagging) ≡ F ∷ cells vector text way Flags from (state level (Counting 0))
     alike {t = t} r e f =
         let w = turned inside r in
-        let one = ap (map (cell vector)) (w.turns way Flags (state level Flagging) ∙ ap (λ (u : Turn). behind_turn text way Flags u w.at) (e from)) in
+        let one = ap (map (cell vector)) (w.turns way Flags (state level Flagging) ∙ ap (λ (u : Turn). after_turn text way Flags u w.at) (e from)) in
         let two = ap (map (cell vector)) (w.turns way Flags (state level (Counting 0)) ∙ ap (λ o. option_to_list o ++ left text way Flags w.at (turn way Flags (state level (Counting 0)) (mark_of t) from).1) (f from)) in
         one ∙ ap (λ l. F ∷ l) (sym two)
 

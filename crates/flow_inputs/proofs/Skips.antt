@@ -27,7 +27,7 @@ use Rattle.flow_inputs.specs.declared.turns.Piece.{Piece}
 use Rattle.flow_inputs.specs.Turns.{Turn, turn, state, writes_nothing}
 use Rattle.flow_inputs.specs.Passing.{Passes, PassesParts, depth_after, SameLeft}
 use Rattle.flow_inputs.specs.Left.{left}
-use Rattle.flow_inputs.proofs.Lefts.{behind_turn, left_turn, left_none}
+use Rattle.flow_inputs.proofs.Lefts.{after_turn, left_turn, left_none}
 
 -- neither a bracket nor a comma
 abbrev is_plain : ℕ → Bool
@@ -184,15 +184,15 @@ module _ (text : List ℕ) (way : List Component) (leaf : Leaf) (level : ℕ) (m
           ∙ sym (left_none text way leaf other (state level (mode depth)) (sym (next-same text at other e) ∙ f))
       by_next (Some l) f =
           left_turn text way leaf at (state level (mode depth)) l within f
-          ∙ ap (λ (u : Turn). behind_turn text way leaf u (next_at text at + l.1)) (passes.anywhere depth at other (mark_of l.0))
-          ∙ ap (λ n. behind_turn text way leaf (turn way leaf (state level (mode depth)) (mark_of l.0) other) (n + l.1)) e
+          ∙ ap (λ (u : Turn). after_turn text way leaf u (next_at text at + l.1)) (passes.anywhere depth at other (mark_of l.0))
+          ∙ ap (λ n. after_turn text way leaf (turn way leaf (state level (mode depth)) (mark_of l.0) other) (n + l.1)) e
           ∙ sym (left_turn text way leaf other (state level (mode depth)) l inside (sym (next-same text at other e) ∙ f))
 
   -- after a token that is passed over
-  left_behind : (at : ℕ) (l : SizedToken) → at ≤ length text → next_at text at ≡ at → next text at ≡ Some l → Calm (mark_of l.0) → left_from at ≡ left_from (at + l.1)
-  left_behind at l within here e calm =
+  left_after : (at : ℕ) (l : SizedToken) → at ≤ length text → next_at text at ≡ at → next text at ≡ Some l → Calm (mark_of l.0) → left_from at ≡ left_from (at + l.1)
+  left_after at l within here e calm =
       left_turn text way leaf at (state level (mode depth)) l within e
-      ∙ ap (λ (u : Turn). behind_turn text way leaf u (next_at text at + l.1)) (calm_turn (mark_of l.0) calm at)
+      ∙ ap (λ (u : Turn). after_turn text way leaf u (next_at text at + l.1)) (calm_turn (mark_of l.0) calm at)
       ∙ ap (λ n. left_from (n + l.1)) here
 
   -- where no blank stands, token by token
@@ -211,7 +211,7 @@ module _ (text : List ℕ) (way : List Component) (leaf : Leaf) (level : ℕ) (m
           let is : next text at ≡ Some l = next-first text at here ∙ ap first e ∙ w.is in
           let comes = comes_is text at l within is in
           let most : l.1 ≤ prefix_len is_plain (drop at text) = subst (λ bytes. l.1 ≤ prefix_len is_plain bytes) (sym e) w.most in
-          left_behind at l within here is w.calm
+          left_after at l within here is w.calm
           ∙ later (at + l.1) (omega (arith, here, comes.within)) (omega (arith, here, comes.moves))
           ∙ ap left_from (end-between is_plain text at l.1 most)
 
@@ -297,24 +297,24 @@ nonzero : (n : ℕ) → eqb n 0 ≡ false → 0 < n
 nonzero n h = grind (arith, nat_tests)
 
 -- the depth after a closing bracket that is passed over, and after a comma
-behind_close : (depth deeper : ℕ) → cond (depth == 0) None (Some (depth - 1)) ≡ Some deeper → depth ≡ deeper + 1
-behind_close depth deeper e = by_test (eqb depth 0) refl e
+after_close : (depth deeper : ℕ) → cond (depth == 0) None (Some (depth - 1)) ≡ Some deeper → depth ≡ deeper + 1
+after_close depth deeper e = by_test (eqb depth 0) refl e
   where
     by_test : (t : Bool) → eqb depth 0 ≡ t → cond t None (Some (depth - 1)) ≡ Some deeper → depth ≡ deeper + 1
     by_test true h e = absurd (cc)
     by_test false h e = omega (arith, some_same e, nonzero depth h)
 
-behind_comma : (depth deeper : ℕ) (t : Bool) → cond t None (Some depth) ≡ Some deeper → (t ≡ false) × (depth ≡ deeper)
-behind_comma depth deeper true e = absurd (cc)
-behind_comma depth deeper false e = (refl, some_same e)
+after_comma : (depth deeper : ℕ) (t : Bool) → cond t None (Some depth) ≡ Some deeper → (t ≡ false) × (depth ≡ deeper)
+after_comma depth deeper true e = absurd (cc)
+after_comma depth deeper false e = (refl, some_same e)
 
 -- a turn by a mark that is passed over
 turn_past : (way : List Component) (leaf : Leaf) (level : ℕ) (mode : ℕ → Mode) → Passes way leaf level mode → (commas : Bool) → (IsTrue commas → PassesParts way leaf level mode 0)
     → (mark : Mark) (depth deeper place : ℕ) → depth_after mark depth commas ≡ Some deeper → turn way leaf (state level (mode depth)) mark place ≡ writes_nothing level (mode deeper)
 turn_past way leaf level mode p commas q (Open b) depth deeper place e = p.opens depth place b ∙ ap (λ n. writes_nothing level (mode n)) (some_same e)
-turn_past way leaf level mode p commas q (Close b) depth deeper place e = ap (λ n. turn way leaf (state level (mode n)) (Close b) place) (behind_close depth deeper e) ∙ p.closes deeper place b
+turn_past way leaf level mode p commas q (Close b) depth deeper place e = ap (λ n. turn way leaf (state level (mode n)) (Close b) place) (after_close depth deeper e) ∙ p.closes deeper place b
 turn_past way leaf level mode p commas q Comma depth deeper place e =
-    let w = behind_comma depth deeper (depth == 0 && not commas) e in
+    let w = after_comma depth deeper (depth == 0 && not commas) e in
     by_depth depth commas q w.0 ∙ ap (λ n. writes_nothing level (mode n)) w.1
   where
     by_depth : (depth : ℕ) (commas : Bool) → (IsTrue commas → PassesParts way leaf level mode 0) → (depth == 0 && not commas) ≡ false → turn way leaf (state level (mode depth)) Comma place ≡ writes_nothing level (mode depth)
@@ -346,15 +346,15 @@ byte_past text commas at depth deeper inside e way leaf level mode p q = by_test
         let w = sign_first b bs h in
         let blanks : next_at text at ≡ at = none_blank text at b bs here (not_blank b h) in
         left_turn text way leaf at (state level (mode depth)) w.token (omega arith) (next-first text at blanks ∙ ap first here ∙ w.is)
-        ∙ ap (λ m. behind_turn text way leaf (turn way leaf (state level (mode depth)) m at) (next_at text at + w.token.1)) w.mark
-        ∙ ap (λ (u : Turn). behind_turn text way leaf u (next_at text at + w.token.1)) (turn_past way leaf level mode p commas q (sign_mark b) depth deeper at (sym e))
+        ∙ ap (λ m. after_turn text way leaf (turn way leaf (state level (mode depth)) m at) (next_at text at + w.token.1)) w.mark
+        ∙ ap (λ (u : Turn). after_turn text way leaf u (next_at text at + w.token.1)) (turn_past way leaf level mode p commas q (sign_mark b) depth deeper at (sym e))
         ∙ ap (λ n. left text way leaf n (state level (mode deeper))) (omega (arith, blanks, w.one))
 
 -- such a byte opens one bracket at most
-pub behind_deeper : (mark : Mark) (depth deeper : ℕ) (commas : Bool) → Some deeper ≡ depth_after mark depth commas → deeper ≤ depth + 1
-behind_deeper (Open b) depth deeper commas e = omega (arith, some_same e)
-behind_deeper (Close b) depth deeper commas e = omega (arith, behind_close depth deeper (sym e))
-behind_deeper Comma depth deeper commas e = omega (arith, (behind_comma depth deeper (depth == 0 && not commas) (sym e)).1)
-behind_deeper (Truth b) depth deeper commas e = omega (arith, some_same e)
-behind_deeper (Number n) depth deeper commas e = omega (arith, some_same e)
-behind_deeper Other depth deeper commas e = omega (arith, some_same e)
+pub after_deeper : (mark : Mark) (depth deeper : ℕ) (commas : Bool) → Some deeper ≡ depth_after mark depth commas → deeper ≤ depth + 1
+after_deeper (Open b) depth deeper commas e = omega (arith, some_same e)
+after_deeper (Close b) depth deeper commas e = omega (arith, after_close depth deeper (sym e))
+after_deeper Comma depth deeper commas e = omega (arith, (after_comma depth deeper (depth == 0 && not commas) (sym e)).1)
+after_deeper (Truth b) depth deeper commas e = omega (arith, some_same e)
+after_deeper (Number n) depth deeper commas e = omega (arith, some_same e)
+after_deeper Other depth deeper commas e = omega (arith, some_same e)

@@ -64,12 +64,12 @@ module _ (vector : ℕ → Value) where
   opened_fine step leaf level mark place = value_fine step leaf level mark place
 
   -- after a value
-  behind_fine : (step : Option Component) (leaf : Leaf) (level : ℕ) (mark : Mark) → Fine leaf (turn_after_value step level mark)
-  behind_fine (Some Elements) leaf level Comma = (tt, tt)
-  behind_fine (Some First) leaf level Comma = (tt, tt)
-  behind_fine (Some Elements) leaf level (Close Curly) = (tt, tt)
-  behind_fine (Some Second) leaf level (Close Round) = (tt, tt)
-  behind_fine _ leaf level mark = (tt, tt)
+  after_fine : (step : Option Component) (leaf : Leaf) (level : ℕ) (mark : Mark) → Fine leaf (turn_after_value step level mark)
+  after_fine (Some Elements) leaf level Comma = (tt, tt)
+  after_fine (Some First) leaf level Comma = (tt, tt)
+  after_fine (Some Elements) leaf level (Close Curly) = (tt, tt)
+  after_fine (Some Second) leaf level (Close Round) = (tt, tt)
+  after_fine _ leaf level mark = (tt, tt)
 
   -- in a part that is passed over, outside its brackets
   passed_fine : (step : Option Component) (leaf : Leaf) (level : ℕ) (mark : Mark) → Fine leaf (passed step level mark)
@@ -115,7 +115,7 @@ module _ (vector : ℕ → Value) where
   turn_fine : (mode : Mode) (way : List Component) (leaf : Leaf) (level : ℕ) (mark : Mark) (place : ℕ) → FlagsOnly leaf mode → Fine leaf (turn_by mode way leaf level mark place)
   turn_fine ValueNext way leaf level mark place e = value_fine (slice_get way level) leaf level mark place
   turn_fine Opened way leaf level mark place e = opened_fine (slice_get way level) leaf level mark place
-  turn_fine Behind way leaf level mark place e = behind_fine (made way level) leaf level mark
+  turn_fine Behind way leaf level mark place e = after_fine (made way level) leaf level mark
   turn_fine (Passing depth) way leaf level mark place e = passing_fine (made way level) leaf level depth mark
   turn_fine Flagging way leaf level mark place e = flagging_fine leaf level mark e
   turn_fine (Counting depth) way leaf level mark place e = counting_fine leaf level depth mark e

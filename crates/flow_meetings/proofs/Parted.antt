@@ -142,8 +142,8 @@ module _ {X : Type 0} (view : X → View) (joins : X → X → ℕ → Type 0) (
         (front_now old front back r w is count less inside x y a b x_is y_is) (back_now old front back r w is count less inside x y a b x_is y_is) joined room
 
     -- the reader's end comes to the front, and the writer's to the back
-    pub opened_behind : length front ≡ w → r < w → w < length old → x ≡ get_or front r x → y ≡ get_or back 0 y → OpensHere false true (get_or front r x) a → OpensHere true false (get_or back 0 y) b → joins b a e → slots_of b e ≡ capacity → Whole old (set front r a ++ set back 0 b)
-    opened_behind count less inside x_is y_is at_r at_w joined room =
+    pub opened_after : length front ≡ w → r < w → w < length old → x ≡ get_or front r x → y ≡ get_or back 0 y → OpensHere false true (get_or front r x) a → OpensHere true false (get_or back 0 y) b → joins b a e → slots_of b e ≡ capacity → Whole old (set front r a ++ set back 0 b)
+    opened_after count less inside x_is y_is at_r at_w joined room =
         whole old (set front r a ++ set back 0 b) b a
         (each_place old front back w r is count less inside x y a b x_is y_is Each
         (here r false true x a (ne_eqb w r (λ h. omega (arith, h, less))) (eq-eqb r r refl) (subst (λ z. OpensHere false true z a) (sym x_is) at_r))

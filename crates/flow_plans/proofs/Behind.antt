@@ -6,7 +6,7 @@ use Rattle.flow_messages.specs.declared.message.Kind.{Kind}
 use Rattle.flow_rows.specs.Decoded.{items_of_kind}
 use Rattle.flow_plans.specs.Plans.{Step, made_by}
 use Rattle.flow_plans.specs.Ports.{kinds_read, kinds_written}
-use Rattle.flow_plans.specs.Layouts.{Placed, places_after, uses, numbered, all_behind}
+use Rattle.flow_plans.specs.Layouts.{Placed, places_after, uses, numbered, all_after}
 
 -- the transducer of a step, the first stream of which has this number
 abbrev pub node_of : Step → ℕ → Placed
@@ -31,13 +31,13 @@ copies_append : (xs ys : List Placed) → AreCopies xs → AreCopies ys → AreC
 copies_append [] ys h g = g
 copies_append (x ∷ xs) ys h g = (h.0, copies_append xs ys h.1 g)
 
-behind_copies : (at s : ℕ) (kind : Kind) (n : ℕ) → AreCopies (places_after at s kind n)
-behind_copies at s kind zero = (record { kind = kind; stream = s; count = zero; reads = refl; writes = refl; kinds_read = refl; kinds_written = refl; made = λ a. refl }, tt)
-behind_copies at s kind (suc zero) = tt
-behind_copies at s kind (suc (suc n)) =
+after_copies : (at s : ℕ) (kind : Kind) (n : ℕ) → AreCopies (places_after at s kind n)
+after_copies at s kind zero = (record { kind = kind; stream = s; count = zero; reads = refl; writes = refl; kinds_read = refl; kinds_written = refl; made = λ a. refl }, tt)
+after_copies at s kind (suc zero) = tt
+after_copies at s kind (suc (suc n)) =
     (record { kind = kind; stream = s; count = suc (suc n); reads = refl; writes = refl; kinds_read = refl; kinds_written = length-replicate (suc (suc n)) kind; made = λ a. refl }, tt)
 
-pub all_behind_copies : (plan : List Step) (at s : ℕ) (kinds : List Kind) → AreCopies (all_behind plan at s kinds)
-all_behind_copies plan at s [] = tt
-all_behind_copies plan at s (kind ∷ kinds) =
-    copies_append (places_after at s kind (uses s plan)) (all_behind plan at (suc s) kinds) (behind_copies at s kind (uses s plan)) (all_behind_copies plan at (suc s) kinds)
+pub all_after_copies : (plan : List Step) (at s : ℕ) (kinds : List Kind) → AreCopies (all_after plan at s kinds)
+all_after_copies plan at s [] = tt
+all_after_copies plan at s (kind ∷ kinds) =
+    copies_append (places_after at s kind (uses s plan)) (all_after plan at (suc s) kinds) (after_copies at s kind (uses s plan)) (all_after_copies plan at (suc s) kinds)

@@ -62,13 +62,13 @@ module _ {S : Type 0} {b : Behaviour S} {plan : List Step} {states : List S} {ed
         ap (λ o. bind o (slice_get streams)) (stream_out given k placed there e is ∙ ap (λ l. slice_get l q) copy.writes ∙ replicate_place copy.count copy.stream q port) ∙ came
 
   -- where what holds below a copy holds after it, it holds after all copies that stand in a row
-  pub behind_all : (Holds : ℕ → Type 0) → ((k : ℕ) (placed : Placed) → slice_get (layout plan) k ≡ Some placed → IsCopy placed → Holds k → Holds (suc k))
+  pub after_all : (Holds : ℕ → Type 0) → ((k : ℕ) (placed : Placed) → slice_get (layout plan) k ≡ Some placed → IsCopy placed → Holds k → Holds (suc k))
       → (before copies rest : List Placed) → AreCopies copies → layout plan ≡ before ++ (copies ++ rest) → Holds (length before) → Holds (length (before ++ copies))
-  behind_all Holds next before [] rest all is holds = subst (λ (l : List Placed). Holds (length l)) (sym (append-nil before)) holds
-  behind_all Holds next before (placed ∷ copies) rest all is holds =
+  after_all Holds next before [] rest all is holds = subst (λ (l : List Placed). Holds (length l)) (sym (append-nil before)) holds
+  after_all Holds next before (placed ∷ copies) rest all is holds =
       let there : slice_get (layout plan) (length before) ≡ Some placed = ap (λ l. slice_get l (length before)) is ∙ get_right before (placed ∷ (copies ++ rest)) (length before) 0 (omega arith) in
       let more = before ++ placed ∷ [] in
       let long : suc (length before) ≡ length more = omega (arith, length_push before placed) in
       let first : Holds (length more) = subst Holds long (next (length before) placed there all.0 holds) in
       subst (λ (l : List Placed). Holds (length l)) (append_assoc before (placed ∷ []) copies)
-      (behind_all Holds next more copies rest all.1 (is ∙ sym (append_assoc before (placed ∷ []) (copies ++ rest))) first)
+      (after_all Holds next more copies rest all.1 (is ∙ sym (append_assoc before (placed ∷ []) (copies ++ rest))) first)

@@ -19,13 +19,13 @@ use Rattle.flow_graph.specs.Laws.{IsNetwork, IsWithinLimits}
 use Rattle.flow_graph.specs.Flows.{bodies_in, bodies_out, HasRow, IsLawfulFlow}
 use Rattle.flow_plans.specs.Plans.{Step, made_by, streams_at, run}
 use Rattle.flow_plans.specs.Ports.{kinds_written}
-use Rattle.flow_plans.specs.Layouts.{Placed, layout, layout_from, all_behind, AreCarried}
+use Rattle.flow_plans.specs.Layouts.{Placed, layout, layout_from, all_after, AreCarried}
 use Rattle.flow_plans.specs.PlanFlows.{PlanIsFlow}
 use Rattle.flow_plans.proofs.Places.{get_left, get_right, get_there, columns_are, replicate_columns, each_length, each_place, each_more, numbered_place}
 use Rattle.flow_plans.proofs.Written.{written_length}
-use Rattle.flow_plans.proofs.Behind.{node_of, IsCopy, all_behind_copies}
+use Rattle.flow_plans.proofs.Behind.{node_of, IsCopy, all_after_copies}
 use Rattle.flow_plans.proofs.Nodes.{IsPlanned, stream_on, stream_out, port_out, edge_from, edge_out, edge_to, writer_before, writer_there, same_kind, performs, row_of_made, out_of_kind}
-use Rattle.flow_plans.proofs.FlowsBelow.{IsCarried, AreCarriedBelow, carried_next, read_at, one_read, copied, behind_all}
+use Rattle.flow_plans.proofs.FlowsBelow.{IsCarried, AreCarriedBelow, carried_next, read_at, one_read, copied, after_all}
 
 -- what a run ends with begins with what it began with
 run_keeps : (steps : List Step) (streams all : Columns) → run steps streams ≡ Some all → (more : Columns) × (all ≡ streams ++ more)
@@ -111,8 +111,8 @@ module _ {S : Type 0} {b : Behaviour S} {plan : List Step} {states : List S} {ed
         ∙ ap (option_map (λ xs. replicate copy.count xs)) (items_forth copy.kind came_in came_of_kind)
         ∙ ap Some (replicate_columns copy.count outs came_in each_out) ∙ ap (λ n. Some (columns n outs)) (sym copy.kinds_written))
 
-    behind_copy : Holds (suc k)
-    behind_copy = record {
+    after_copy : Holds (suc k)
+    after_copy = record {
       below = carried_next plan edges bodies all k holds.below (λ e inside is. carried e came_in (copied given bodies all k placed there copy holds.below e inside is));
       rows = rows_next k holds.rows copy_row;
     }
@@ -168,8 +168,8 @@ module _ {S : Type 0} {b : Behaviour S} {plan : List Step} {states : List S} {ed
           ap (λ n. made_by step.operation (columns n ins)) (sym n_reads) ∙ ap (made_by step.operation) (sym read_is) ∙ made
           ∙ ap Some written_is ∙ ap (λ n. Some (columns n outs)) writes_long)
 
-      behind_step : Holds (suc k)
-      behind_step = record { below = carried_next plan edges bodies all k holds.below step_carries; rows = rows_next k holds.rows step_row }
+      after_step : Holds (suc k)
+      after_step = record { below = carried_next plan edges bodies all k holds.below step_carries; rows = rows_next k holds.rows step_row }
 
   -- so it holds as far as the last node, where it holds before the node of some step from which the plan runs
   holds_all : (steps : List Step) (before : List Placed) (s : ℕ) (streams : Columns) → layout plan ≡ before ++ layout_from plan s steps → s ≡ length streams
@@ -182,7 +182,7 @@ module _ {S : Type 0} {b : Behaviour S} {plan : List Step} {states : List S} {ed
       let written = bind_gives (made_by step.operation read.0) (λ w. run steps (streams ++ w)) read.2 in
       let more = run_keeps steps (streams ++ written.0) all written.2 in
       let placed = node_of step (length streams) in
-      let copies = all_behind plan step.at s kinds in
+      let copies = all_after plan step.at s kinds in
       let rest = layout_from plan (s + length kinds) steps in
       let longer : s + length kinds ≡ length (streams ++ written.0) = omega (arith, length-append streams written.0, long, written_length step.operation read.0 written.0 written.1) in
       let place : layout plan ≡ before ++ (placed ∷ (copies ++ rest)) = is ∙ ap (λ n. before ++ (node_of step n ∷ (copies ++ rest))) long in
@@ -190,8 +190,8 @@ module _ {S : Type 0} {b : Behaviour S} {plan : List Step} {states : List S} {ed
       let longer_front = before ++ placed ∷ [] in
       let is_more : layout plan ≡ longer_front ++ (copies ++ rest) = place ∙ sym (append_assoc before (placed ∷ []) (copies ++ rest)) in
       let first : Holds (length longer_front) =
-      subst Holds (let e : suc k ≡ length longer_front = omega (arith, length_push before placed) in e) (behind_step step streams read.0 written.0 more.0 read.1 written.1 more.1 k there holds) in
-      let behind = behind_all given Holds behind_copy longer_front copies rest (all_behind_copies plan step.at s kinds) is_more first in
+      subst Holds (let e : suc k ≡ length longer_front = omega (arith, length_push before placed) in e) (after_step step streams read.0 written.0 more.0 read.1 written.1 more.1 k there holds) in
+      let behind = after_all given Holds after_copy longer_front copies rest (all_after_copies plan step.at s kinds) is_more first in
       holds_all steps (longer_front ++ copies) (s + length kinds) (streams ++ written.0) (is_more ∙ sym (append_assoc longer_front copies rest)) longer written.2 behind
 
   plan_carries : run plan [] ≡ Some all → (bodies : ℕ → List Cell) × IsLawfulFlow b states edges bodies × AreCarried plan all edges bodies

@@ -17,12 +17,12 @@ use Rattle.flow_graph.specs.Laws.{IsNetwork, IsWithinLimits}
 use Rattle.flow_graph.specs.Flows.{bodies_in, bodies_out, IsLawfulFlow}
 use Rattle.flow_plans.specs.Plans.{Step, made_by, streams_at, run}
 use Rattle.flow_plans.specs.Ports.{kinds_written}
-use Rattle.flow_plans.specs.Layouts.{Placed, layout, layout_from, all_behind, AreCarried}
+use Rattle.flow_plans.specs.Layouts.{Placed, layout, layout_from, all_after, AreCarried}
 use Rattle.flow_plans.specs.PlanFlows.{FlowIsPlan}
 use Rattle.flow_plans.proofs.Places.{get_right, columns_place, columns_replicate, each_columns, numbered_place}
-use Rattle.flow_plans.proofs.Behind.{node_of, IsCopy, all_behind_copies}
+use Rattle.flow_plans.proofs.Behind.{node_of, IsCopy, all_after_copies}
 use Rattle.flow_plans.proofs.Nodes.{IsPlanned, stream_out, port_out, edge_out, node_inside, made_of_row, writer_there}
-use Rattle.flow_plans.proofs.FlowsBelow.{AreCarriedBelow, carried_next, carried_more, read_at, copied, behind_all}
+use Rattle.flow_plans.proofs.FlowsBelow.{AreCarriedBelow, carried_next, carried_more, read_at, copied, after_all}
 
 module _ {S : Type 0} {b : Behaviour S} {plan : List Step} {states : List S} {edges : List Edge} (given : IsPlanned b plan states edges) (bodies : ℕ → List Cell) (flow : IsLawfulFlow b states edges bodies) where
   made_at : (k : ℕ) (placed : Placed) → slice_get (layout plan) k ≡ Some placed
@@ -45,9 +45,9 @@ module _ {S : Type 0} {b : Behaviour S} {plan : List Step} {states : List S} {ed
       let same : ins 0 ≡ g.0 = (items_back copy.kind (ins 0) g.0 g.1).0 in
       columns_replicate copy.count outs g.0 g.2 q lt ∙ sym same
 
-  behind_copy : (streams : Columns) (k : ℕ) (placed : Placed) → slice_get (layout plan) k ≡ Some placed → IsCopy placed → AreCarriedBelow plan edges bodies streams k
+  after_copy : (streams : Columns) (k : ℕ) (placed : Placed) → slice_get (layout plan) k ≡ Some placed → IsCopy placed → AreCarriedBelow plan edges bodies streams k
       → AreCarriedBelow plan edges bodies streams (suc k)
-  behind_copy streams k placed there copy below = carried_next plan edges bodies streams k below (λ e inside is.
+  after_copy streams k placed there copy below = carried_next plan edges bodies streams k below (λ e inside is.
       let port = port_out given k placed there e inside is in
       copied given bodies streams k placed there copy below e inside is
       ∙ ap Some (sym (copy_writes k placed there copy (edge_at edges e).writer_port (omega (arith, port, copy.kinds_written))) ∙ out_is k e inside is))
@@ -67,8 +67,8 @@ module _ {S : Type 0} {b : Behaviour S} {plan : List Step} {states : List S} {ed
         ∙ ap (λ o. bind o (λ w. run steps (streams ++ w))) (made_at k (node_of step s) there) ∙ ran
 
     -- and what it writes are the streams of the next numbers
-    behind_step : AreCarriedBelow plan edges bodies (streams ++ written step k) (suc k)
-    behind_step = carried_next plan edges bodies (streams ++ written step k) k (carried_more plan edges bodies streams (written step k) k below) (λ e inside is.
+    after_step : AreCarriedBelow plan edges bodies (streams ++ written step k) (suc k)
+    after_step = carried_next plan edges bodies (streams ++ written step k) k (carried_more plan edges bodies streams (written step k) k below) (λ e inside is.
         let kinds = kinds_written step.operation in
         let q = (edge_at edges e).writer_port in
         let port : q < length kinds = port_out given k (node_of step s) there e inside is in
@@ -86,14 +86,14 @@ module _ {S : Type 0} {b : Behaviour S} {plan : List Step} {states : List S} {ed
       let kinds = kinds_written step.operation in
       let placed = node_of step s in
       let out = written step k in
-      let copies = all_behind plan step.at s kinds in
+      let copies = all_after plan step.at s kinds in
       let rest = layout_from plan (s + length kinds) steps in
       let there : slice_get (layout plan) k ≡ Some placed = ap (λ l. slice_get l k) is ∙ get_right before (placed ∷ (copies ++ rest)) k 0 (omega arith) in
       let more = before ++ placed ∷ [] in
       let is_more : layout plan ≡ more ++ (copies ++ rest) = is ∙ sym (append_assoc before (placed ∷ []) (copies ++ rest)) in
       let first : AreCarriedBelow plan edges bodies (streams ++ out) (length more) =
-      subst (AreCarriedBelow plan edges bodies (streams ++ out)) (let e : suc k ≡ length more = omega (arith, length_push before placed) in e) (behind_step step s k there streams long below) in
-      let behind = behind_all given (AreCarriedBelow plan edges bodies (streams ++ out)) (behind_copy (streams ++ out)) more copies rest (all_behind_copies plan step.at s kinds) is_more first in
+      subst (AreCarriedBelow plan edges bodies (streams ++ out)) (let e : suc k ≡ length more = omega (arith, length_push before placed) in e) (after_step step s k there streams long below) in
+      let behind = after_all given (AreCarriedBelow plan edges bodies (streams ++ out)) (after_copy (streams ++ out)) more copies rest (all_after_copies plan step.at s kinds) is_more first in
       let longer : length (streams ++ out) ≡ s + length kinds = omega (arith, length-append streams out, long, columns_length (length kinds) (bodies_out edges bodies k)) in
       let others = runs_from steps (more ++ copies) (s + length kinds) (streams ++ out) (is_more ∙ sym (append_assoc more copies rest)) longer behind in
       (others.0, step_runs step s k there streams long below steps others.0 others.1, others.2)

@@ -18,7 +18,7 @@ use Rattle.flow_graph.specs.Networks.{state_at}
 use Rattle.flow_graph.specs.Replacements.{MayReplace}
 use Rattle.flow_plans.specs.Plans.{Operation, Step, source}
 use Rattle.flow_plans.specs.Ports.{kinds_read, kinds_written}
-use Rattle.flow_plans.specs.Layouts.{Placed, times, uses, places_after, numbered, all_behind, layout_from, places_from, layout, places, stream_from, stream_to, ports_from, inputs_from, outputs_from, edges_from, edges_between, Performs, IsNetworkOfPlan}
+use Rattle.flow_plans.specs.Layouts.{Placed, times, uses, places_after, numbered, all_after, layout_from, places_from, layout, places, stream_from, stream_to, ports_from, inputs_from, outputs_from, edges_from, edges_between, Performs, IsNetworkOfPlan}
 use Rattle.flow_plans.specs.Settings.{with_source, IsLaidBut, SourceIsSet}
 use Rattle.flow_plans.proofs.Places.{get_right}
 use Rattle.flow_plans.proofs.Behind.{node_of}
@@ -51,23 +51,23 @@ uses_set t (x ∷ steps) zero step other at_i same = ap (λ l. times t l + uses 
 uses_set t (x ∷ steps) (suc i) step other at_i same = ap (λ n. times t x.reads + n) (uses_set t steps i step other at_i same)
 
 module _ (plan other : List Step) (same : (t : ℕ) → uses t plan ≡ uses t other) where
-  behind_same : (at s : ℕ) (kinds : List Kind) → all_behind plan at s kinds ≡ all_behind other at s kinds
-  behind_same at s [] = refl
-  behind_same at s (kind ∷ kinds) = ap₂ (λ n l. places_after at s kind n ++ l) (same s) (behind_same at (suc s) kinds)
+  after_same : (at s : ℕ) (kinds : List Kind) → all_after plan at s kinds ≡ all_after other at s kinds
+  after_same at s [] = refl
+  after_same at s (kind ∷ kinds) = ap₂ (λ n l. places_after at s kind n ++ l) (same s) (after_same at (suc s) kinds)
 
   layout_same : (s : ℕ) (steps : List Step) → layout_from plan s steps ≡ layout_from other s steps
   layout_same s [] = refl
   layout_same s (step ∷ steps) =
       let kinds = kinds_written step.operation in
-      ap₂ (λ l r. node_of step s ∷ (l ++ r)) (behind_same step.at s kinds) (layout_same (s + length kinds) steps)
+      ap₂ (λ l r. node_of step s ∷ (l ++ r)) (after_same step.at s kinds) (layout_same (s + length kinds) steps)
 
   places_same : (k s : ℕ) (steps : List Step) → places_from plan k s steps ≡ places_from other k s steps
   places_same k s [] = refl
   places_same k s (step ∷ steps) =
       let kinds = kinds_written step.operation in
-      let copies = all_behind plan step.at s kinds in
+      let copies = all_after plan step.at s kinds in
       ap (λ l. k ∷ l) (places_same (suc (k + length copies)) (s + length kinds) steps)
-      ∙ ap (λ (l : List Placed). k ∷ places_from other (suc (k + length l)) (s + length kinds) steps) (behind_same step.at s kinds)
+      ∙ ap (λ (l : List Placed). k ∷ places_from other (suc (k + length l)) (s + length kinds) steps) (after_same step.at s kinds)
 
 -- a step with another operation that writes the same kinds leaves all nodes where they were
 places_set : (plan : List Step) (k s : ℕ) (steps : List Step) (i : ℕ) (step : Step) (operation : Operation) → slice_get steps i ≡ Some step
@@ -75,11 +75,11 @@ places_set : (plan : List Step) (k s : ℕ) (steps : List Step) (i : ℕ) (step 
     → places_from plan k s (slice_set steps i (record step { operation = operation })) ≡ places_from plan k s steps
 places_set plan k s [] i step operation at_i same = absurd (cc)
 places_set plan k s (x ∷ steps) zero step operation at_i same =
-    ap (λ kinds. k ∷ places_from plan (suc (k + length (all_behind plan step.at s kinds))) (s + length kinds) steps) same
+    ap (λ kinds. k ∷ places_from plan (suc (k + length (all_after plan step.at s kinds))) (s + length kinds) steps) same
     ∙ ap (λ y. places_from plan k s (y ∷ steps)) (sym (some_same x step at_i))
 places_set plan k s (x ∷ steps) (suc i) step operation at_i same =
     let kinds = kinds_written x.operation in
-    ap (λ l. k ∷ l) (places_set plan (suc (k + length (all_behind plan x.at s kinds))) (s + length kinds) steps i step operation at_i same)
+    ap (λ l. k ∷ l) (places_set plan (suc (k + length (all_after plan x.at s kinds))) (s + length kinds) steps i step operation at_i same)
 
 -- Where the node of a step stands, and what the layout is with another operation there.
 record Stands (plan : List Step) (k s : ℕ) (steps : List Step) (i : ℕ) (step : Step) (operation : Operation) : Type 0 where
@@ -103,12 +103,12 @@ stands plan k s (x ∷ steps) zero step operation at_i same = subst (λ y. Stand
       there = refl;
       same_operation = refl;
       is_set = ap (λ kinds.
-          record { at = step.at; operation = operation; reads = step.reads; writes = numbered s kinds } ∷ (all_behind plan step.at s kinds ++ layout_from plan (s + length kinds) steps)) same;
+          record { at = step.at; operation = operation; reads = step.reads; writes = numbered s kinds } ∷ (all_after plan step.at s kinds ++ layout_from plan (s + length kinds) steps)) same;
     }
 stands plan k s (x ∷ steps) (suc i) step operation at_i same =
     let kinds = kinds_written x.operation in
     let first = node_of x s in
-    let copies = all_behind plan x.at s kinds in
+    let copies = all_after plan x.at s kinds in
     let rest = layout_from plan (s + length kinds) steps in
     let others = stands plan (suc (k + length copies)) (s + length kinds) steps i step operation at_i same in
     record {

@@ -46,9 +46,9 @@ numbered s (kind ∷ kinds) = s ∷ numbered (suc s) kinds
 
 module _ (plan : List Step) where
   -- what stands after the streams of these kinds, the first of which has this number
-  abbrev pub all_behind : (at s : ℕ) → List Kind → List Placed
-  all_behind at s [] = []
-  all_behind at s (kind ∷ kinds) = places_after at s kind (uses s plan) ++ all_behind at (suc s) kinds
+  abbrev pub all_after : (at s : ℕ) → List Kind → List Placed
+  all_after at s [] = []
+  all_after at s (kind ∷ kinds) = places_after at s kind (uses s plan) ++ all_after at (suc s) kinds
 
   -- the transducers of these steps of the plan, the first of which writes the stream of this number
   abbrev pub layout_from : ℕ → List Step → List Placed
@@ -56,14 +56,14 @@ module _ (plan : List Step) where
   layout_from s (step ∷ steps) =
       let kinds = kinds_written step.operation in
       record { at = step.at; operation = step.operation; reads = step.reads; writes = numbered s kinds }
-      ∷ (all_behind step.at s kinds ++ layout_from (s + length kinds) steps)
+      ∷ (all_after step.at s kinds ++ layout_from (s + length kinds) steps)
 
   -- the numbers of the nodes of these steps, where the first of them is node k
   abbrev pub places_from : (k s : ℕ) → List Step → List ℕ
   places_from k s [] = []
   places_from k s (step ∷ steps) =
       let kinds = kinds_written step.operation in
-      k ∷ places_from (suc (k + length (all_behind step.at s kinds))) (s + length kinds) steps
+      k ∷ places_from (suc (k + length (all_after step.at s kinds))) (s + length kinds) steps
 
 -- the transducers of the network of a plan, in order
 abbrev pub layout : List Step → List Placed

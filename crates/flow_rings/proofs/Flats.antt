@@ -46,15 +46,15 @@ followed_fit k before [] all i d low = absurd (omega (arith, low))
 followed_fit k before (x ∷ xs) all zero d low = all.0.1
 followed_fit k before (x ∷ xs) all (suc i) d low = let up : suc i < suc (length xs) = low in followed_fit k (before ++ x ∷ []) xs all.1 i d (omega arith)
 
-not_behind : (before : List Flat) → ended (signals (messages_of before)) ≡ false → ended (signals (messages_of (before ++ EndFlat ∷ []))) ≡ true
-not_behind before unended = ap (λ (ms : List Msg). ended (signals ms)) (map-append message_of before (EndFlat ∷ [])) ∙ ended-snoc (messages_of before) (message_of EndFlat) unended
+not_after : (before : List Flat) → ended (signals (messages_of before)) ≡ false → ended (signals (messages_of (before ++ EndFlat ∷ []))) ≡ true
+not_after before unended = ap (λ (ms : List Msg). ended (signals ms)) (map-append message_of before (EndFlat ∷ [])) ∙ ended-snoc (messages_of before) (message_of EndFlat) unended
 
 -- what followed has its end last
 pub followed_last : (k : Kind) (before xs : List Flat) → Allowed (MayBePut k) before xs → orderly (signals (messages_of xs)) ≡ true
 unfolding signals orderly
 followed_last k before [] all = refl
 followed_last k before (EndFlat ∷ []) all = refl
-followed_last k before (EndFlat ∷ y ∷ xs) all = let was = not_behind before all.0.0 in let is = all.1.0.0 in cc
+followed_last k before (EndFlat ∷ y ∷ xs) all = let was = not_after before all.0.0 in let is = all.1.0.0 in cc
 followed_last k before (UnitFlat ∷ xs) all = followed_last k (before ++ UnitFlat ∷ []) xs all.1
 followed_last k before (BoolFlat b ∷ xs) all = followed_last k (before ++ BoolFlat b ∷ []) xs all.1
 followed_last k before (IntFlat n ∷ xs) all = followed_last k (before ++ IntFlat n ∷ []) xs all.1

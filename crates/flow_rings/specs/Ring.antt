@@ -1,4 +1,4 @@
--- The ring behind an end of an edge: of messages, or of scalars of one kind.
+-- The ring after an end of an edge: of messages, or of scalars of one kind.
 use Rattle.std.specs.Prelude.{◌≡◌, ℕ, List, Option, Some, None}
 use Rattle.std.specs.declared.alloc.Global.{Global}
 use Rattle.rtrb.specs.Ring as ring

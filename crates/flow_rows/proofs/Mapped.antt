@@ -69,12 +69,12 @@ module _ {A B : Type 0} (f : A → B) where
       ∙ map_some_map (λ p. (f x ∷ p.0, p.1)) both_parts (front n xs)
       ∙ sym (map_some_map both_parts (λ p. (x ∷ p.0, p.1)) (front n xs))
 
-  abbrev cut_behind : {C : Type 0} → List ℕ → Option (List C × List C) → Option (List (List C))
-  cut_behind ns o = bind o (λ p. option_map (λ groups. p.0 ∷ groups) (cut ns p.1))
+  abbrev cut_after : {C : Type 0} → List ℕ → Option (List C × List C) → Option (List (List C))
+  cut_after ns o = bind o (λ p. option_map (λ groups. p.0 ∷ groups) (cut ns p.1))
 
-  behind_map : (ns : List ℕ) (o : Option (List A × List A)) → ((xs : List A) → cut ns (map f xs) ≡ option_map (map (map f)) (cut ns xs)) → cut_behind ns (option_map both_parts o) ≡ option_map (map (map f)) (cut_behind ns o)
-  behind_map ns None ih = refl
-  behind_map ns (Some (l, rest)) ih =
+  after_map : (ns : List ℕ) (o : Option (List A × List A)) → ((xs : List A) → cut ns (map f xs) ≡ option_map (map (map f)) (cut ns xs)) → cut_after ns (option_map both_parts o) ≡ option_map (map (map f)) (cut_after ns o)
+  after_map ns None ih = refl
+  after_map ns (Some (l, rest)) ih =
       ap (option_map (λ groups. map f l ∷ groups)) (ih rest)
       ∙ map_some_map (λ groups. map f l ∷ groups) (map (map f)) (cut ns rest)
       ∙ sym (map_some_map (map (map f)) (λ groups. l ∷ groups) (cut ns rest))
@@ -82,7 +82,7 @@ module _ {A B : Type 0} (f : A → B) where
   pub cut_map : (ns : List ℕ) (xs : List A) → cut ns (map f xs) ≡ option_map (map (map f)) (cut ns xs)
   cut_map [] [] = refl
   cut_map [] (x ∷ xs) = refl
-  cut_map (n ∷ ns) xs = ap (cut_behind ns) (front_map n xs) ∙ behind_map ns (front n xs) (cut_map ns)
+  cut_map (n ∷ ns) xs = ap (cut_after ns) (front_map n xs) ∙ after_map ns (front n xs) (cut_map ns)
 
   paired_groups : (ls rs : List (List A)) → paired (map (map f) ls) (map (map f) rs) ≡ option_map (map both_parts) (paired ls rs)
   paired_groups [] [] = refl

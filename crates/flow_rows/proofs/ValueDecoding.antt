@@ -170,8 +170,8 @@ data_vectors_back item xs vs e =
 front_columns : (n : ℕ) (xs ys : Columns) → length xs ≡ n → take n (xs ++ ys) ≡ xs
 front_columns n xs ys e = ap (λ k. take k (xs ++ ys)) (sym e) ∙ take-append_seam xs ys
 
-behind_columns : (n : ℕ) (xs ys : Columns) → length xs ≡ n → drop n (xs ++ ys) ≡ ys
-behind_columns n xs ys e = ap (λ k. drop k (xs ++ ys)) (sym e) ∙ go xs
+after_columns : (n : ℕ) (xs ys : Columns) → length xs ≡ n → drop n (xs ++ ys) ≡ ys
+after_columns n xs ys e = ap (λ k. drop k (xs ++ ys)) (sym e) ∙ go xs
   where
     go : (xs : Columns) → drop (length xs) (xs ++ ys) ≡ ys
     go [] = refl
@@ -199,7 +199,7 @@ values_forth (pair first second) vs are =
     let apart = pairs_apart first second ps (subst (AllAre (pair first second)) g.1 are) in
     let laid_are : columns_of_values (pair first second) vs ≡ columns_of_values first l ++ columns_of_values second r = ap (columns_of_values (pair first second)) g.1 ∙ laid_pair first second (map a_pair_of ps) ∙ ap₂ (λ a b. columns_of_values first a ++ columns_of_values second b) (lefts_of ps) (rights_of ps) in
     let left : values first (take (width first) (columns_of_values first l ++ columns_of_values second r)) ≡ Some l = ap (values first) (front_columns (width first) (columns_of_values first l) (columns_of_values second r) (laid_length first l)) ∙ values_forth first l apart.0 in
-    let right : values second (drop (width first) (columns_of_values first l ++ columns_of_values second r)) ≡ Some r = ap (values second) (behind_columns (width first) (columns_of_values first l) (columns_of_values second r) (laid_length first l)) ∙ values_forth second r apart.1 in
+    let right : values second (drop (width first) (columns_of_values first l ++ columns_of_values second r)) ≡ Some r = ap (values second) (after_columns (width first) (columns_of_values first l) (columns_of_values second r) (laid_length first l)) ∙ values_forth second r apart.1 in
     ap (values (pair first second)) laid_are ∙ rw (left, right, paired_forth ps) (ap Some (sym g.1))
 values_forth (seq item) vs are =
     let g = all_map (seq item) a_seq_of (seq_is item) vs are in

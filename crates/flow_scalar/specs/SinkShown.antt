@@ -10,7 +10,7 @@ abbrev pub EachFits : Kind → List Signal → Type 0
 EachFits kind [] = Unit {0}
 EachFits kind (m ∷ ms) = Leads (on_kind kind (λ _. Ok (tt {0}))) m tt × EachFits kind ms
 
--- so many items of the kind are certain, one behind another
+-- so many items of the kind are certain, one after another
 pub record Shown (kind : Kind) (n : ℕ) (coming : List Signal) : Type 0 where
   pub block : List Signal
   pub first : IsPrefix block coming

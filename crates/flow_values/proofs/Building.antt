@@ -42,8 +42,8 @@ parts_more ty got x fit next = record { each = at }
     ]
 
 -- the place after the items in memory
-pub fits_behind : (ty : Ty) (items : List Item) (x : Item) (n : ℕ) → n ≡ length items → true ≡ part_fits ty n (cell_of x) → part_fits ty (length (map cell_of items)) (cell_of x) ≡ true
-fits_behind ty items x n all fits = ap (λ k. part_fits ty k (cell_of x)) (length-map items cell_of ∙ sym all) ∙ sym fits
+pub fits_after : (ty : Ty) (items : List Item) (x : Item) (n : ℕ) → n ≡ length items → true ≡ part_fits ty n (cell_of x) → part_fits ty (length (map cell_of items)) (cell_of x) ≡ true
+fits_after ty items x n all fits = ap (λ k. part_fits ty k (cell_of x)) (length-map items cell_of ∙ sym all) ∙ sym fits
 
 -- all fit where it may have been added
 pub parts_pushed : (ty : Ty) (old new : List Item) (x : Item) (pushed : Bool) → PartsFit ty (map cell_of old) → part_fits ty (length (map cell_of old)) (cell_of x) ≡ true → new ≡ if pushed then (old ++ x ∷ []) else old → PartsFit ty (map cell_of new)

@@ -75,27 +75,27 @@ front-cond : (u : List ℕ) (b : Bool) (r : PrintReading) → cond b (Some (read
 front-cond u true r = refl
 front-cond u false r = refl
 
-said_behind : (u v w : List ℕ) (after : List Pending) → Some (reading after ((u ++ v) ++ w)) ≡ Some (reading after (u ++ (v ++ w)))
-said_behind u v w after = ap (λ l. Some (reading after l)) (append_assoc u v w)
+said_after : (u v w : List ℕ) (after : List Pending) → Some (reading after ((u ++ v) ++ w)) ≡ Some (reading after (u ++ (v ++ w)))
+said_after u v w after = ap (λ l. Some (reading after l)) (append_assoc u v w)
 
-entered_behind : (ty : Ty) (p c : ℕ) (x : Cell) (after : List Pending) (u v : List ℕ) → entered_value ty p c x after (u ++ v) ≡ in_front u (entered_value ty p c x after v)
-entered_behind int p c (int_cell n) after u v = said_behind u v _ after
-entered_behind int p c _ after u v = refl
-entered_behind bool p c (flag true) after u v = said_behind u v _ after
-entered_behind bool p c (flag false) after u v = said_behind u v _ after
-entered_behind bool p c _ after u v = refl
-entered_behind (vec item) p c (datum a) after u v = ap (λ l. cond (is_a (vec item) a) (Some (reading after l)) None) (append_assoc u v _) ∙ front-cond u (is_a (vec item) a) (reading after _)
-entered_behind (vec item) p c _ after u v = refl
-entered_behind (pair first second) p c x after u v = ap (entered_value first p 0 x _) (append_assoc u v (codes "(")) ∙ entered_behind first p 0 x _ u (v ++ codes "(")
-entered_behind (seq item) p c (flag false) after u v = said_behind u v _ _
-entered_behind (seq item) p c (flag true) after u v = said_behind u v _ _
-entered_behind (seq item) p c _ after u v = refl
+entered_after : (ty : Ty) (p c : ℕ) (x : Cell) (after : List Pending) (u v : List ℕ) → entered_value ty p c x after (u ++ v) ≡ in_front u (entered_value ty p c x after v)
+entered_after int p c (int_cell n) after u v = said_after u v _ after
+entered_after int p c _ after u v = refl
+entered_after bool p c (flag true) after u v = said_after u v _ after
+entered_after bool p c (flag false) after u v = said_after u v _ after
+entered_after bool p c _ after u v = refl
+entered_after (vec item) p c (datum a) after u v = ap (λ l. cond (is_a (vec item) a) (Some (reading after l)) None) (append_assoc u v _) ∙ front-cond u (is_a (vec item) a) (reading after _)
+entered_after (vec item) p c _ after u v = refl
+entered_after (pair first second) p c x after u v = ap (entered_value first p 0 x _) (append_assoc u v (codes "(")) ∙ entered_after first p 0 x _ u (v ++ codes "(")
+entered_after (seq item) p c (flag false) after u v = said_after u v _ _
+entered_after (seq item) p c (flag true) after u v = said_after u v _ _
+entered_after (seq item) p c _ after u v = refl
 
 -- what leads from no text leads from any
 pub finds_entered : (ty : Ty) (p c : ℕ) (x : Cell) (said : List ℕ) (old new : Ahead) → old.pending.items ≡ [] → old.text.items ≡ said → ((after : List Pending) → entered_value ty p c x (stack old.pending.items after) old.text.items ≡ Some (reading (stack new.pending.items after) new.text.items)) →
     (after : List Pending) (before : List ℕ) → entered_value ty p c x after (before ++ said) ≡ Some (reading (stack new.pending.items after) (before ++ new.text.items))
 finds_entered ty p c x said old new none is leads after before =
-    entered_behind ty p c x after before said
+    entered_after ty p c x after before said
     ∙ ap (in_front before) (ap₂ (λ l u. entered_value ty p c x (stack l after) u) (sym none) (sym is) ∙ leads after)
 
 -- the last of a list that has one

@@ -27,7 +27,7 @@ comma_if false = []
 -- What is still to be read of a value.
 pub data Pending : Type 0 where
   -- a value of the type, on edges from this port on, printed after a comma or not, and so many brackets closed after it
-  whole : (behind_comma : Bool) → Ty → (port : ℕ) → (brackets : ℕ) → Pending
+  whole : (after_comma : Bool) → Ty → (port : ℕ) → (brackets : ℕ) → Pending
   -- further elements of a sequence of such items, whose flags are at this port, and so many brackets closed after it
   further : Ty → (port : ℕ) → (brackets : ℕ) → Pending
 

@@ -21,7 +21,7 @@ pub(crate) fn stall_message(
     stalled_message(alloc, program, full, enough)
 }
 
-// The offset of the form whose node writes this edge. The nodes that join what it writes to its readers stand behind it. An
+// The offset of the form whose node writes this edge. The nodes that join what it writes to its readers stand after it. An
 // input has no form. The network is made a second time for that: `None` too where memory was refused to it.
 fn form_of_edge(alloc: Global, program: &[u8], input: &[u8], edge: usize) -> Option<usize> {
     let drawing = drawing_of_job(alloc, program, input).ok()?;

@@ -84,7 +84,7 @@ fn second_of(rt: &impl Clock) -> u64 {
     }
 }
 
-// Runs a program with a gate that watches. The value is written behind the end of its line.
+// Runs a program with a gate that watches. The value is written after the end of its line.
 pub(crate) fn run_watched<
     H: Threads + Clock + Eprint + Clone + Drop + Send + Sync + 'static,
     W: Write,

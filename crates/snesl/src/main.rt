@@ -47,7 +47,7 @@ fn args_of<R: Env + AllocGlobal>(rt: &R) -> io::Result<Vec<String>> {
     }
 }
 
-// `?` for the program's name and, where there is one, for the word behind it.
+// `?` for the program's name and, where there is one, for the word after it.
 fn unreadable_args<R: Env + AllocGlobal>(rt: &R) -> io::Result<Vec<String>> {
     let mut args = vec![in rt.alloc(); String::from_str(rt.alloc(), "?")?]?;
     match rt.arg(1, &mut []) {

@@ -7,7 +7,7 @@ use Rattle.std.proofs.lemmas.List.{get_or_append_left, get_or-drop, get_or_past,
 use Rattle.snesl_console.specs.Job.{BeginsWithSeparator, at_the_end, before_line_feed, before_carriage_return, EndsLine, NoSeparatorBefore, IsJob, parted, program_alone}
 use Rattle.snesl_console.specs.Parts.{AreParts, fitting, most_of_program, too_long}
 use Rattle.snesl_console.specs.Beginnings.{IsScanned, IsParted, IsUndecided}
-use Rattle.snesl_console.proofs.Jobs.{HasForm, form, NoLineFeed, passed_line, none_behind, none_inside, line_feed, line_ends, ways, split_here}
+use Rattle.snesl_console.proofs.Jobs.{HasForm, form, NoLineFeed, passed_line, none_after, none_inside, line_feed, line_ends, ways, split_here}
 use Rattle.snesl_console.proofs.SomeJob.{some_job}
 use Rattle.snesl_console.proofs.Parts.{few_are_open, halves, open_parted}
 use Rattle.snesl_console.proofs.Streaming.{rest_is}
@@ -95,7 +95,7 @@ feed_found bytes line from n scanned found = (
   line_feed bytes from n found,
 )
 
--- and there is none behind `from`
+-- and there is none after `from`
 pub none_found : (bytes : List ℕ) (line from : ℕ) → IsScanned bytes line from → position (λ b. b == 10) (drop from bytes) ≡ None
     → IsScanned bytes line (length bytes)
 none_found bytes line from scanned missing =
@@ -107,7 +107,7 @@ none_found bytes line from scanned missing =
       passed = scanned.passed;
       unended = λ k low high e. ⊎_elim
           (λ h. scanned.unended k low h e)
-          (λ h. none_behind bytes from (length bytes) missing k h high e)
+          (λ h. none_after bytes from (length bytes) missing k h high e)
           (cases_lt k from);
     }
 
@@ -137,7 +137,7 @@ module _ (bytes : List ℕ) (line from n : ℕ) (scanned : IsScanned bytes line 
       (λ k h e. no_feed_on bytes rest line (line + n) (omega (arith, inside)) none (line + k) (omega arith) (omega arith)
       (sym (get_or-drop line job k 0) ∙ e))))
 
-  -- so the next line begins behind it
+  -- so the next line begins after it
   pub passed_by : ¬ IsSeparator (take n (drop line bytes)) → (rest : List ℕ) → NoSeparatorBefore (suc (line + n)) (bytes ++ rest)
   passed_by not rest =
       passed_line (bytes ++ rest) line (line + n)

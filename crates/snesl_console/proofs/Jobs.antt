@@ -56,7 +56,7 @@ NoLineFeed job at end = (k : ℕ) → at ≤ k → k < end → get_or job k 0 �
 at_seam : (job front back : List ℕ) (at : ℕ) → job ≡ front ++ back → length front ≡ at → drop at job ≡ back
 at_seam job front back at e h = ap (λ n. drop n job) (sym h) ∙ ap (drop (length front)) e ∙ drop-append_seam front back
 
--- so the next line begins behind that place
+-- so the next line begins after that place
 pub passed_line : (job : List ℕ) (at end : ℕ) → NoLineFeed job at end → ((input : List ℕ) → ¬ BeginsWithSeparator (drop at job) input)
     → NoSeparatorBefore at job → NoSeparatorBefore (suc end) job
 passed_line job at end none not_here before front back input e inside ends found =
@@ -83,8 +83,8 @@ none-cond : (t : Bool) (n : ℕ) → cond t (Some n) None ≡ None → t ≡ fal
 none-cond true n e = cc
 none-cond false n e = refl
 
-pub none_behind : (job : List ℕ) (at end : ℕ) → position (λ b. b == 10) (drop at job) ≡ None → NoLineFeed job at end
-none_behind job at end missing k low high e =
+pub none_after : (job : List ℕ) (at end : ℕ) → position (λ b. b == 10) (drop at job) ≡ None → NoLineFeed job at end
+none_after job at end missing k low high e =
     let first = position_or_len (λ b. b == 10) (drop at job) in
     let past : length (drop at job) ≤ first = ltb-false first (length (drop at job)) (none-cond (nat_lt first (length (drop at job))) first missing) in
     ⊎_elim
@@ -126,7 +126,7 @@ pub split_nowhere : (job : List ℕ) (at : ℕ) → position (λ b. b == 10) (dr
     → ((input : List ℕ) → ¬ BeginsWithSeparator (drop at job) input) → NoSeparatorBefore at job → IsJob job job []
 split_nowhere job at missing not_here before =
     program_alone job (λ n front back input e h ends found.
-    passed_line job at n (none_behind job at n missing) not_here before front back input e (omega arith) ends found)
+    passed_line job at n (none_after job at n missing) not_here before front back input e (omega arith) ends found)
 
 -- how a job can be split
 abbrev pub IsParted : List ℕ → List ℕ → List ℕ → Type 0
@@ -168,7 +168,7 @@ pub one_job : HaveOneJob
 one_job job program input program' input' p q =
     one_way job program input program' input' (ways job program input p) (ways job program' input' q)
 
--- what stands behind the line
+-- what stands after the line
 pub nothing_follows : (bytes behind : List ℕ) → bytes ≡ codes "---" ++ behind → behind ≡ [] → BeginsWithSeparator bytes behind
 nothing_follows bytes behind e f =
     subst (λ l. BeginsWithSeparator l behind) (sym e)

@@ -96,7 +96,7 @@ few_are_open front few =
     let size = job_size front job.0 job.1 job.2 in
     open_before front [] job.0 job.1 (subst (λ l. IsJob l job.0 job.1) (sym (append-nil front)) job.2) (omega (arith, size.0)) (omega (arith, size.0))
 
--- nor does what goes on to a separator behind which the input text may go on
+-- nor does what goes on to a separator after which the input text may go on
 pub open_parted : (front more program input : List ℕ) → ((rest : List ℕ) → IsJob (front ++ (more ++ rest)) program (input ++ rest))
     → length program ≤ 65537 → length input ≤ 16777216 → IsOpen front
 open_parted front more program input job few short p i all =

@@ -29,14 +29,14 @@ separator_here bytes = by_dashes (begins_with (codes "---") bytes)
     by_line_end behind e some (inr not_feed) (inl (input, f)) = inl (input, carriage_return_follows bytes behind input e f)
     by_line_end behind e some (inr not_feed) (inr not_return) = inr (no_line_end bytes behind e some not_feed not_return)
 
-    by_behind : (behind : List ℕ) → bytes ≡ codes "---" ++ behind
+    by_after : (behind : List ℕ) → bytes ≡ codes "---" ++ behind
         → ((input : List ℕ) × BeginsWithSeparator bytes input) ⊎ ((input : List ℕ) → ¬ BeginsWithSeparator bytes input)
-    by_behind [] e = inl ([], nothing_follows bytes [] e refl)
-    by_behind (b ∷ bs) e = by_line_end (b ∷ bs) e (λ f. cc) (begins_with (codes "\n") (b ∷ bs)) (begins_with (codes "\r\n") (b ∷ bs))
+    by_after [] e = inl ([], nothing_follows bytes [] e refl)
+    by_after (b ∷ bs) e = by_line_end (b ∷ bs) e (λ f. cc) (begins_with (codes "\n") (b ∷ bs)) (begins_with (codes "\r\n") (b ∷ bs))
 
     by_dashes : ((rest : List ℕ) × (bytes ≡ codes "---" ++ rest)) ⊎ ((rest : List ℕ) → bytes ≢ codes "---" ++ rest)
         → ((input : List ℕ) × BeginsWithSeparator bytes input) ⊎ ((input : List ℕ) → ¬ BeginsWithSeparator bytes input)
-    by_dashes (inl (behind, e)) = by_behind behind e
+    by_dashes (inl (behind, e)) = by_after behind e
     by_dashes (inr none) = inr (no_dashes bytes none)
 
 -- from the begin of a line on, with the number of bytes that are left

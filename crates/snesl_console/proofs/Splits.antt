@@ -20,7 +20,7 @@ use Rattle.snesl_console.proofs.Parts.{read_is_needed, input_is_needed, input_is
 abbrev pub Parts : Type 0
 Parts = Vec ℕ Global × Vec ℕ Global
 
--- memory was refused behind what was read
+-- memory was refused after what was read
 pub memory_refused : (reader : ReadEffect) (read : List ℕ) (result : Result Parts JobError) → IsErrAnd result (λ e. e ≡ NoMemory) → IsRead reader read
     → HasSplit reader result
 memory_refused reader read (Ok parts) is h = absurd is
@@ -44,7 +44,7 @@ scanned_on bytes more line scanned =
       unended = λ k low high e. scanned.unended k low high (sym (get_or_append_left bytes more 0 k high) ∙ e);
     }
 
--- behind the bytes that were read so far
+-- after the bytes that were read so far
 module _ {R : Type 0} (remaining : R → Option (List ℕ)) (first now : Counted R) (bytes : List ℕ)
     (taken : Consumes (remaining (counted_inner first)) (remaining (counted_inner now)) bytes) (worked : failures_of now ≡ failures_of first) where
   these_on : (last : Counted R) (more : List ℕ) → (read_effect remaining now last).these more → (read_effect remaining first last).these (bytes ++ more)

@@ -7,7 +7,7 @@ pub data BeginsWithSeparator : List ℕ → List ℕ → Type 0 where
   before_line_feed : (input : List ℕ) → BeginsWithSeparator (codes "---\n" ++ input) input
   before_carriage_return : (input : List ℕ) → BeginsWithSeparator (codes "---\r\n" ++ input) input
 
--- a line begins behind these bytes
+-- a line begins after these bytes
 abbrev pub EndsLine : List ℕ → Type 0
 EndsLine front = (front ≡ []) ⊎ ((others : List ℕ) × (front ≡ others ++ 10 ∷ []))
 

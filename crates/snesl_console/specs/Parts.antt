@@ -1,4 +1,4 @@
--- The parts of a job, each cut behind the first byte that is too many, and which beginning of a job decides them.
+-- The parts of a job, each cut after the first byte that is too many, and which beginning of a job decides them.
 use Rattle.std.specs.Prelude.{◌≡◌, ◌<◌, ◌≤◌, ℕ, List, [], ◌++◌, length, take}
 use Rattle.snesl_console.specs.Job.{IsJob}
 
@@ -10,7 +10,7 @@ most_of_program = 65537
 abbrev pub most_of_input : ℕ
 most_of_input = 16777217
 
--- the program and the input text of a job, each cut behind the first byte that is too many
+-- the program and the input text of a job, each cut after the first byte that is too many
 pub data AreParts (job program input : List ℕ) : Type 0 where
   fitting : (behind : List ℕ) → IsJob job program behind → length program ≤ most_of_program → input ≡ take most_of_input behind
       → AreParts job program input

@@ -36,7 +36,7 @@ refusal_of NoMemory = refusals.NoMemory
 abbrev pub GivesMore : ReadEffect → ℕ → List ℕ → Type 0
 GivesMore reader most more = reader.these more × (length more ≤ most) × reader.worked
 
--- one call of the reader put so many bytes behind others, none only at its end; or memory was refused to them; or it failed
+-- one call of the reader put so many bytes after others, none only at its end; or memory was refused to them; or it failed
 abbrev pub HasReadMore : ReadEffect → ℕ → List ℕ → List ℕ → Result ℕ JobError → Type 0
 HasReadMore reader room old new (Ok n) =
     (more : List ℕ) × GivesMore reader room more × (new ≡ old ++ more) × (length more ≡ n) × (n ≡ 0 → reader.ended)

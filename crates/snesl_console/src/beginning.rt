@@ -64,7 +64,7 @@ fn is_separator(line: &[u8]) -> bool
     line == SEPARATOR || line == SEPARATOR_AND_RETURN
 }
 
-// The parts of a job that ends behind these bytes, whose last line begins here.
+// The parts of a job that ends after these bytes, whose last line begins here.
 pub(crate) fn parts_at_end(alloc: Global, mut bytes: Vec<u8>, line: usize) -> (Vec<u8>, Vec<u8>)
     requires { IsScanned bytes.items line (length bytes.items) }
     ensures { AreParts bytes.items result.0.items result.1.items }

@@ -6,7 +6,7 @@ use Rattle.std.specs.Char.{is_ascii_digit, is_ascii_alphabetic}
 abbrev pub is_word : ℕ → Bool
 is_word b = is_ascii_alphabetic b || is_ascii_digit b || b == 95
 
--- the number that digits write, behind the digits of another
+-- the number that digits write, after the digits of another
 abbrev pub value_from : ℕ → List ℕ → ℕ
 value_from n [] = n
 value_from n (c ∷ cs) = value_from (10 * n + (c - 48)) cs

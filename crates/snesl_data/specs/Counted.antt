@@ -19,7 +19,7 @@ most_failures = 0xffff_ffff_ffff_ffff
 abbrev pub one_more : ℕ → ℕ
 one_more n = min (suc n) most_failures
 
--- the failures behind a call, from those before it
+-- the failures after a call, from those before it
 abbrev pub counted : ℕ → Bool → ℕ
 counted n has_failed = if has_failed then one_more n else n
 

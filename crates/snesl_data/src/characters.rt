@@ -5,14 +5,14 @@ ghost use Rattle.std.specs.List.{prefix_len};
 ghost use Rattle.std.specs.Char.{is_ascii_digit};
 ghost use Rattle.snesl_data.specs.Characters.{is_word};
 
-// Whether the byte may stand in a word behind the first letter.
+// Whether the byte may stand in a word after the first letter.
 fn is_word(b: u8) -> bool
     ensures { result ≡ is_word b }
 {
     b.is_ascii_alphanumeric() || b == b'_'
 }
 
-/// How many bytes at the front may stand in a word behind the first letter.
+/// How many bytes at the front may stand in a word after the first letter.
 pub fn word_len(text: &[u8]) -> usize
     ensures count { result ≡ prefix_len is_word text.now }
     ensures within { result ≤ length text.now }

@@ -11,14 +11,14 @@ module _ {X : Type 0} (h : X → List ℕ) where
   flat_map_more : (xs : List X) (i : ℕ) (d : X) → i < length xs → flat_map h (take (i + 1) xs) ≡ flat_map h (take i xs) ++ h (get_or xs i d)
   flat_map_more xs i d within = ap (flat_map h) (take_more xs i d within) ∙ flat_map-push (take i xs) (get_or xs i d)
 
-  -- behind the pieces of the elements before this one stands its own
+  -- after the pieces of the elements before this one stands its own
   pub one_more : (xs : List X) (i : ℕ) (d : X) (old so_far new : List ℕ) → i < length xs
       → so_far ≡ old ++ flat_map h (take i xs) → new ≡ so_far ++ h (get_or xs i d) → new ≡ old ++ flat_map h (take (i + 1) xs)
   one_more xs i d old so_far new within before made =
       made ∙ ap (λ t. t ++ h (get_or xs i d)) before ∙ append_assoc old (flat_map h (take i xs)) (h (get_or xs i d))
       ∙ ap (λ t. old ++ t) (sym (flat_map_more xs i d within))
 
--- behind an offset that counts as the end stands what stands behind the end
+-- after an offset that counts as the end stands what stands after the end
 drop_min : (n : ℕ) (xs : List ℕ) → drop (min n (length xs)) xs ≡ drop n xs
 drop_min n xs = grind (arith, drop_all)
 

@@ -12,7 +12,7 @@ line_and_column program at = decimal (line_of program at) ++ codes ":" ++ decima
 abbrev pub form_at : List ℕ → ℕ → List ℕ
 form_at program at = take 40 (drop (column_of program at - 1) (line_text program at))
 
--- how many messages went over an edge, behind a blank, where that is known
+-- how many messages went over an edge, after a blank, where that is known
 abbrev pub messages_part : Option ℕ → List ℕ
 messages_part None = []
 messages_part (Some messages) = codes " " ++ decimal messages

@@ -1,8 +1,8 @@
 -- Strings of DOT, the language in which a network is drawn.
 use Rattle.std.specs.Prelude.{◌≡◌, ℕ, List, [], ◌∷◌, ◌++◌, Option, Some, None, Bool, true, false, ◌==◌, nat_lt, if◌then◌else◌, flat_map}
 
--- A quote and a backslash stand behind a backslash, a line feed is written `\n`, another byte before the blank is a blank, and one
--- behind `~` is `?`.
+-- A quote and a backslash stand after a backslash, a line feed is written `\n`, another byte before the blank is a blank, and one
+-- after `~` is `?`.
 abbrev pub quoted_byte : ℕ → List ℕ
 quoted_byte byte =
     if byte == 34 then 92 ∷ 34 ∷ []
@@ -16,13 +16,13 @@ quoted_byte byte =
 abbrev pub quoted : List ℕ → List ℕ
 quoted text = flat_map quoted_byte text
 
--- What stands behind the string that these bytes begin, where a quote ends it; a backslash and the byte behind it never end it.
+-- What stands after the string that these bytes begin, where a quote ends it; a backslash and the byte after it never end it.
 -- `escaped` says that the last byte was such a backslash.
-abbrev pub behind_string : (escaped : Bool) → List ℕ → Option (List ℕ)
-behind_string escaped [] = None
-behind_string true (byte ∷ bytes) = behind_string false bytes
-behind_string false (byte ∷ bytes) = if byte == 34 then Some bytes else behind_string (byte == 92) bytes
+abbrev pub after_string : (escaped : Bool) → List ℕ → Option (List ℕ)
+after_string escaped [] = None
+after_string true (byte ∷ bytes) = after_string false bytes
+after_string false (byte ∷ bytes) = if byte == 34 then Some bytes else after_string (byte == 92) bytes
 
--- a quote behind these bytes ends their string, and none among them does, whatever stands behind it
+-- a quote after these bytes ends their string, and none among them does, whatever stands after it
 abbrev pub EndsWithText : List ℕ → Type 0
-EndsWithText text = (behind : List ℕ) → behind_string false (text ++ 34 ∷ behind) ≡ Some behind
+EndsWithText text = (behind : List ℕ) → after_string false (text ++ 34 ∷ behind) ≡ Some behind

@@ -39,7 +39,7 @@ pub fn drawing_of(
     Ok(Drawing { nodes, edges })
 }
 
-// The nodes: that of each step, and behind it those that join what it writes to its readers, which are none of a step.
+// The nodes: that of each step, and after it those that join what it writes to its readers, which are none of a step.
 fn drawn_nodes(
     alloc: Global,
     steps: &[Step],

@@ -5,7 +5,7 @@ ghost use Rattle.snesl_draw.specs.Quoting.{EndsWithText, quoted, quoted_byte};
 
 use std::alloc::{AllocError, Global};
 
-/// A text as it stands between the quotes of a string of DOT: a quote and a backslash behind a backslash, a line feed as
+/// A text as it stands between the quotes of a string of DOT: a quote and a backslash after a backslash, a line feed as
 /// `\n`, a blank for another control character, and `?` for what is no character of ASCII. So no text ends the string that
 /// it stands in. The error is that memory was refused.
 pub fn quoted(alloc: Global, text: &[u8]) -> Result<Vec<u8>, AllocError>

@@ -1,4 +1,4 @@
--- Items in parts, seen from behind a part that is begun.
+-- Items in parts, seen from after a part that is begun.
 use Rattle.std.proofs.Common.{◌≡◌, ℕ, zero, suc, ◌<◌, ◌≤◌, ◌≢◌, Bool, true, false, List, [], ◌∷◌, ◌++◌, map, drop, length, slice_get, Option, Some, None, refl, sym, ap, ◌∙◌, append_assoc, arith}
 use Rattle.snesl_data.specs.declared.fault.FaultKind.{FaultKind}
 use Rattle.snesl_data.specs.declared.fault.FaultKind.TheVariants.{Part}
@@ -11,7 +11,7 @@ abbrev pub begun : ℕ → List Value → List (List Value) → Answer (List (Li
 begun at [] parts = gives parts
 begun at (v ∷ vs) parts = go (begun at vs parts) (into_first at v)
 
--- the parts that are done, and those behind them
+-- the parts that are done, and those after them
 abbrev pub behind : ℕ → List Value → List Value → List (List Value) → Answer (List Value)
 behind at done part parts = go (begun at part parts) (λ all. gives (done ++ map sequence all))
 

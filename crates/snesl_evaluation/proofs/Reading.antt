@@ -3,7 +3,7 @@ use Rattle.std.proofs.Common.{◌≡◌, ℕ, zero, suc, ◌+◌, ◌<◌, ◌�
 use Rattle.snesl_data.specs.declared.fault.FaultKind.{FaultKind}
 use Rattle.snesl_evaluation.specs.Answer.{Answer, gives, faults, go, go_all, go_join}
 
--- an answer behind what was read
+-- an answer after what was read
 abbrev pub behind : {B : Type 0} → List B → Answer (List B) → Answer (List B)
 behind done answer = go answer (λ later. gives (done ++ later))
 

@@ -126,7 +126,7 @@ empty_none : (n : ℕ) → drop n (replicate n nothing) ≡ []
 empty_none zero = refl
 empty_none (suc n) = empty_none n
 
--- no row is left behind the last
+-- no row is left after the last
 pub no_rows : (n : ℕ) (columns : BoundItems) → drop n (rows_of n columns) ≡ []
 no_rows n [] = empty_none n
 no_rows n (column ∷ columns) = beside_none column.0 column.1 (rows_of n columns) n (no_rows n columns)

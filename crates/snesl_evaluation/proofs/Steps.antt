@@ -8,7 +8,7 @@ use Rattle.snesl_evaluation.specs.Eval.{BoundItems, rows_of}
 use Rattle.snesl_evaluation.specs.Scopes.{names_at}
 use Rattle.snesl_evaluation.proofs.Rows.{is_level, drop_rows, no_rows}
 
--- an answer behind what is done
+-- an answer after what is done
 abbrev pub after : List Value → Answer (List Value) → Answer (List Value)
 after done answer = go answer (λ later. gives (done ++ later))
 

@@ -84,12 +84,12 @@ first_height (column ∷ columns) = length column.items.items
 abbrev pub are_level : ℕ → List Column → Bool
 are_level n columns = list_all (λ column. length column.items.items == n) columns
 
--- the answer of a function behind these declarations
+-- the answer of a function after these declarations
 abbrev pub entered : Dialect → List ℕ → ℕ → Function → List Declaration → List Value → Answer Value
 entered dialect text at function earlier values =
     function_answer dialect at text (calls_of dialect text (map declaration_of earlier)) (map typed_of function.parameters.items) (tree_of function.body) values
 
--- calls of this name are, in each dialect, calls of this function, which stands behind these declarations
+-- calls of this name are, in each dialect, calls of this function, which stands after these declarations
 abbrev pub IsCalled : List ℕ → List Declaration → List ℕ → Function → List Declaration → Type 0
 IsCalled text declarations name function earlier =
     (dialect : Dialect) (at : ℕ) (values : List Value)

@@ -60,7 +60,7 @@ pub fn count_up(alloc: Global, n: usize) -> Result<Vec<Datum>, AllocError>
     Ok(numbers)
 }
 
-// Copies of these behind the others.
+// Copies of these after the others.
 pub fn add_copies(alloc: Global, values: &mut Vec<Datum>, all: &[Datum]) -> Result<(), AllocError>
     ensures { OnOk result (map value_of values.new.items ≡ map value_of values.old.items ++
         map value_of all.now) }

@@ -138,7 +138,7 @@ brace_keeps at _ _ _ e (spells_each_condition {at = begun} colon bar {frames = s
     (stands_after h (λ here. each_where_rule colon bar at wb b w) (omega arith))
 brace_keeps at _ _ _ _ _ w fits = tt
 
--- in braces with nothing given, only their token is behind those of the frames around
+-- in braces with nothing given, only their token is after those of the frames around
 braces_alone : {given : List Token} (ts us : List Token) (begun t : Token) → given ≡ []
     → ts ++ (begun ∷ (us ++ (t ∷ []))) ≡ ((ts ++ (begun ∷ given)) ++ us) ++ (t ∷ [])
 braces_alone ts us begun t e =
@@ -193,7 +193,7 @@ else_keeps at _ _ _ e (spells_positive {at = begun} next {frames = s} {condition
     (stands_operand (spells_negative next at h low wc room w (omega arith)) (omega (arith, depth_pos c)))
 else_keeps at _ _ _ _ _ w fits = tt
 
--- what a closing token does, behind forms that are closed with it
+-- what a closing token does, after forms that are closed with it
 pub closing_good : {deep : ℕ} (kind : Kind) (found : List Frame → Tree → Option (TokenMove State)) → Keeps deep kind found
     → (at : ℕ) {frames : List Frame} {ts us : List Token} {last : Tree}
     → Spells deep frames ts → ((here : ℕ) → Whole here us last) → depth last + length frames ≤ deep

@@ -1,4 +1,4 @@
--- What a token behind an operand does, with the open forms in a vector.
+-- What a token after an operand does, with the open forms in a vector.
 use Rattle.std.proofs.Common.{◌≡◌, ℕ, zero, suc, ◌+◌, ◌≤◌, ◌<◌, Bool, true, false, List, [], ◌∷◌, ◌++◌, length, cond, Some, None, Ok, Err, All, IsTrue, ◌↔◌, refl, sym, ap, ◌∙◌, arith, le-leb, inl, inr, eqb}
 use Rattle.std.specs.Option.{is_some}
 use Rattle.std.proofs.lemmas.Bool.{lt-leb, lt-ltb, le-ltb, cases_Bool, eqb-false}
@@ -23,7 +23,7 @@ use Rattle.snesl_expressions.specs.Parsing.{frame_of, piled, frames_of}
 use Rattle.snesl_expressions.proofs.Rows.{binder_count-binders_of}
 use Rattle.snesl_expressions.proofs.Piles.{frames_of-push, length-frames_of, reduce_closes, reduce_keeps}
 
--- an item behind others is no body of a comprehension, and has no condition
+-- an item after others is no body of a comprehension, and has no condition
 pub given_colon : (items : List Expr) (at : ℕ) (s : List Frame) (e : Tree) → 0 < length items → colon_move (in_braces at (trees_of items) ∷ s) e ≡ None
 given_colon [] at s e h = absurd (omega arith)
 given_colon (x ∷ items) at s e h = refl

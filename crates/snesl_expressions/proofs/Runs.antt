@@ -1,4 +1,4 @@
--- A whole expression is read, and closing the forms behind it gives its tree.
+-- A whole expression is read, and closing the forms after it gives its tree.
 use Rattle.std.proofs.Common.{◌≡◌, ℕ, zero, suc, ◌+◌, ◌≤◌, ◌<◌, Bool, true, false, cond, List, [], ◌∷◌, ◌++◌, length, Option, Some, None, Ok, refl, sym, ◌∙◌, ap, max, arith, le-leb, lt-ltb}
 use Rattle.std.proofs.lemmas.Bool.{lt-leb}
 use Rattle.snesl_lexer.specs.declared.token.Kind.TheVariants as kinds
@@ -26,7 +26,7 @@ pub record Goes (d : ℕ) (from : State) (ts : List Token) (to : State) : Type 0
 no_tokens : {d : ℕ} {s : State} → Goes d s [] s
 no_tokens = record { reads = refl }
 
--- tokens that lead to a state, and those behind them
+-- tokens that lead to a state, and those after them
 goes_then : {d : ℕ} {s r n : State} {ts us : List Token} → Goes d s ts r → Goes d r us n → Goes d s (ts ++ us) n
 goes_then {d = d} {s = s} {r = r} {ts = ts} {us = us} first further =
     record { reads = goes_on expressions d s r ts us first.reads ∙ further.reads }
@@ -156,7 +156,7 @@ move_word frames builtins.Seq at = refl
 move_word frames builtins.Fst at = refl
 move_word frames builtins.Snd at = refl
 
--- what is left behind a whole expression: closing all down to its level gives it
+-- what is left after a whole expression: closing all down to its level gives it
 pub record Reads (d : ℕ) (frames : List Frame) (here : ℕ) (ts : List Token) (tree : Tree) : Type 0 where
   pub left : List Frame
   pub last : Tree
@@ -174,7 +174,7 @@ infix_then {frames = frames} {tree = tree} at o r low h further =
     ∙ ap (infix_move o at) (r.folds (left_level o) (omega arith) ∙ reduce_stays (left_level o) frames tree (stays_outside frames o low))
     ∙ at_level_fits (level o) frames found low) h further)
 
--- what a closing token does behind an expression, it does behind what is left of it
+-- what a closing token does after an expression, it does after what is left of it
 closed_alike : (found : List Frame → Tree → Option (TokenMove State)) {d : ℕ} {frames : List Frame} {ts : List Token} {tree : Tree}
     (r : Reads d frames 0 ts tree) → closing_move found r.left r.last ≡ closing_move found frames tree
 closed_alike found r = ap (λ x. found x.frames x.last) (r.folds 0 (omega arith))
@@ -212,7 +212,7 @@ apply_holds f = record { any_may_stand = λ given frames. omega arith; comma_add
 braces_hold : (at : ℕ) → HoldsArguments (in_braces at)
 braces_hold at = record { any_may_stand = λ given frames. omega arith; comma_adds = λ given frames last. refl }
 
--- what is left behind arguments: closing all gives the last one, in the frame with those before it
+-- what is left after arguments: closing all gives the last one, in the frame with those before it
 pub record ReadsArguments (d : ℕ) (frames : List Frame) (frame : Trees → Frame) (ts : List Token) (arguments : Trees) : Type 0 where
   pub left : List Frame
   pub last : Tree
@@ -222,7 +222,7 @@ pub record ReadsArguments (d : ℕ) (frames : List Frame) (frame : Trees → Fra
   pub folds : reduce 0 left last ≡ reduce 0 (frame front ∷ frames) final
   pub parts : added front final ≡ arguments
 
--- the last argument behind those before it
+-- the last argument after those before it
 last_argument : {d : ℕ} {frames : List Frame} {frame : Trees → Frame} (given : Trees) {ts us : List Token} {final : Tree}
     → Reads d (frame given ∷ frames) 0 us final
     → ((n : State) → Goes d (operand (frame given ∷ frames)) us n → Goes d (operand (frame none ∷ frames)) ts n)
@@ -248,7 +248,7 @@ arguments_then found make t r moves closes further =
     goes_then r.runs (free_then t
     (moves r.left r.last ∙ ap (λ x. found x.frames x.last) r.folds ∙ closes r.front r.final ∙ ap (λ x. free (make x)) r.parts) further)
 
--- what is left behind binders: closing all gives the last source, in the frame with the binders before it
+-- what is left after binders: closing all gives the last source, in the frame with the binders before it
 pub record ReadsBinders (d : ℕ) (frames : List Frame) (at : ℕ) (body : Tree) (ts : List Token) (binders : Binders) : Type 0 where
   pub left : List Frame
   pub last : Tree
@@ -259,7 +259,7 @@ pub record ReadsBinders (d : ℕ) (frames : List Frame) (at : ℕ) (body : Tree)
   pub folds : reduce 0 left last ≡ reduce 0 (in_source at body front place ∷ frames) source
   pub parts : bound_also front place source ≡ binders
 
--- the last binder behind those before it
+-- the last binder after those before it
 last_binder : {d : ℕ} {frames : List Frame} {at : ℕ} {body : Tree} {binders : Binders} {place : Span} {ts us : List Token} {source : Tree}
     → Reads d (in_source at body binders place ∷ frames) 0 us source
     → ((n : State) → Goes d (operand (in_source at body binders place ∷ frames)) us n → Goes d (binder_name frames at body none_bound) ts n)
@@ -287,7 +287,7 @@ binders_then found t r moves closes further =
     goes_then r.runs (free_then t
     (moves r.left r.last ∙ ap (λ x. found x.frames x.last) r.folds ∙ closes r.front r.place r.source r.parts) further)
 
--- a semicolon behind fewer than eight binders
+-- a semicolon after fewer than eight binders
 semicolon_ends : (at : ℕ) (frames : List Frame) (body : Tree) (binders : Binders) → binder_count binders < greatest_binder_count
     → (front : Binders) (place : Span) (source : Tree) → bound_also front place source ≡ binders
     → closing_move semicolon_move (in_source at body front place ∷ frames) source ≡ free (binder_name frames at body binders)
@@ -409,7 +409,7 @@ mutual
       last_argument arguments r (λ n further. arguments_then comma_move (λ x. operand (frame x ∷ frames)) (token kinds.Comma comma) ra (λ left last. refl)
       (λ front final. holds.comma_adds front frames final) further)
 
-  -- binders, behind the colon
+  -- binders, after the colon
   pub binders_run : {ts : List Token} {binders : Binders} → WholeBinders ts binders → (d : ℕ) (frames : List Frame) (at : ℕ) (body : Tree)
       → suc (depth_of_binders binders + length frames) ≤ d → ReadsBinders d frames at body ts binders
   binders_run (one_binder place within {source = source} w) d frames at body fits =

@@ -1,4 +1,4 @@
--- The tokens that lead to a state: those of its open forms, and those behind them.
+-- The tokens that lead to a state: those of its open forms, and those after them.
 use Rattle.std.proofs.Common.{◌≡◌, ℕ, suc, ◌+◌, ◌≤◌, ◌<◌, List, [], ◌∷◌, ◌++◌, length, refl, sym, subst, arith, append_assoc}
 use Rattle.snesl_lexer.specs.declared.token.Kind.TheVariants.{In, Let, If, Then, Else, LeftParen, LeftBrace, Colon, Semicolon, Comma, Bar, Equals}
 use Rattle.snesl_lexer.specs.declared.token.Token.{Token}
@@ -12,13 +12,13 @@ use Rattle.snesl_grammar.specs.Expressions.{token, name_token, added, bound_also
 use Rattle.snesl_expressions.specs.Machine.{Frame, in_binary, in_prefix, in_call, in_apply, in_group, in_second, in_value, in_let_body, in_condition, in_positive, in_negative, in_braces, in_filter, in_source, in_each_condition, State, operand, after, opening, let_name, let_equals, binder_name, binder_in, floor}
 use Rattle.snesl_expressions.proofs.Depths.{arguments_pos}
 
--- the tokens of arguments that are given, with the comma behind them
+-- the tokens of arguments that are given, with the comma after them
 pub data Given : List Token → Trees → Type 0 where
   -- none is given yet
   no_given : Given [] none
   some_given : (comma : ℕ) {ts : List Token} {given : Trees} → WholeArguments ts given → Given (ts ++ (token Comma comma ∷ [])) given
 
--- the tokens of binders that are whole, with the semicolon behind them
+-- the tokens of binders that are whole, with the semicolon after them
 pub data Bound : List Token → Binders → Type 0 where
   -- none is whole yet
   no_bound : Bound [] none_bound

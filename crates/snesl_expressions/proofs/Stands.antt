@@ -70,7 +70,7 @@ operand_good {deep = deep} {frames = frames} {ts = ts} h room kinds.If at =
     (λ low want. stands_operand (spells_condition h low want) want)
 operand_good h room _ at = tt
 
--- what an operator does behind an operand
+-- what an operator does after an operand
 joining_good : {deep : ℕ} {frames : List Frame} {ts us : List Token} {last : Tree}
     → Spells deep frames ts → ((here : ℕ) → Whole here us last) → depth last + length frames ≤ deep
     → (operator : Operator) (at : ℕ) → Good deep (ts ++ us) (token (sign operator) at) (joining operator at frames last)

@@ -18,9 +18,9 @@ use Rattle.snesl_expressions.specs.Readers.{TokenMove, free, Reader}
 pub data Frame : Type 0 where
   -- the right operand is open
   in_binary : (at : ℕ) (operator : Operator) (left : Tree) → Frame
-  -- the operand behind its operator is open
+  -- the operand after its operator is open
   in_prefix : (at : ℕ) (operator : Prefix) → Frame
-  -- an argument is open, behind those that are given
+  -- an argument is open, after those that are given
   in_call : (at : ℕ) (function : Builtin) (given : Trees) → Frame
   in_apply : (function : Span) (given : Trees) → Frame
   -- the first expression in parentheses is open, or the second part of a pair
@@ -33,11 +33,11 @@ pub data Frame : Type 0 where
   in_condition : (at : ℕ) → Frame
   in_positive : (at : ℕ) (condition : Tree) → Frame
   in_negative : (at : ℕ) (condition positive : Tree) → Frame
-  -- an item in braces is open, behind those that are given; the first may be the body of a comprehension
+  -- an item in braces is open, after those that are given; the first may be the body of a comprehension
   in_braces : (at : ℕ) (given : Trees) → Frame
-  -- the condition behind an item is open
+  -- the condition after an item is open
   in_filter : (at : ℕ) (item : Tree) → Frame
-  -- the source of a comprehension's binder is open, behind binders that are whole, or its condition
+  -- the source of a comprehension's binder is open, after binders that are whole, or its condition
   in_source : (at : ℕ) (body : Tree) (binders : Binders) (place : Span) → Frame
   in_each_condition : (at : ℕ) (body : Tree) (binders : Binders) → Frame
 
@@ -106,7 +106,7 @@ infix_move operator at folded = at_level (level operator) folded.frames (Some (r
   next = operand (in_binary at operator folded.last ∷ folded.frames);
 }))
 
--- a parenthesis behind a name opens a function's arguments
+-- a parenthesis after a name opens a function's arguments
 abbrev pub apply_move : List Frame → Tree → Option (TokenMove State)
 apply_move frames (name place) = open_move frames (operand (in_apply place none ∷ frames))
 apply_move frames _ = None
@@ -166,11 +166,11 @@ abbrev pub else_move : List Frame → Tree → Option (TokenMove State)
 else_move (in_positive at condition ∷ frames) last = free (operand (in_negative at condition last ∷ frames))
 else_move _ last = None
 
--- what a closing token does, behind forms that are closed with it
+-- what a closing token does, after forms that are closed with it
 abbrev pub closing_move : (List Frame → Tree → Option (TokenMove State)) → List Frame → Tree → Option (TokenMove State)
 closing_move found frames last = let folded = reduce 0 frames last in found folded.frames folded.last
 
--- what an operator does, behind forms that bind as tightly as its left operand has to
+-- what an operator does, after forms that bind as tightly as its left operand has to
 abbrev pub joining : Operator → ℕ → List Frame → Tree → Option (TokenMove State)
 joining operator at frames last = infix_move operator at (reduce (left_level operator) frames last)
 
@@ -202,7 +202,7 @@ operand_move frames kinds.Let at = at_level 0 frames (open_move frames (let_name
 operand_move frames kinds.If at = at_level 0 frames (open_move frames (operand (in_condition at ∷ frames)))
 operand_move frames _ at = None
 
--- the same behind an operand
+-- the same after an operand
 abbrev pub after_move : List Frame → Tree → Kind → ℕ → Option (TokenMove State)
 after_move frames last kinds.Or at = joining Or at frames last
 after_move frames last kinds.And at = joining And at frames last

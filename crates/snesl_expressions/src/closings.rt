@@ -1,4 +1,4 @@
-// What stands behind an operand: operators, and what ends a part of a form.
+// What stands after an operand: operators, and what ends a part of a form.
 
 ghost use Rattle.std.specs.Prelude.{◌∷◌};
 ghost use Rattle.snesl_tree.specs.View.{tree_of, trees_of, binders_of};
@@ -31,7 +31,7 @@ pub enum Ending {
     Else,
 }
 
-/// Behind an operand.
+/// After an operand.
 pub fn after(
     alloc: Global,
     forms: Vec<Form>,
@@ -73,7 +73,7 @@ pub fn after(
     }
 }
 
-// Where an operator stands behind an operand.
+// Where an operator stands after an operand.
 fn infix(
     alloc: Global,
     forms: Vec<Form>,
@@ -96,7 +96,7 @@ fn infix(
     go_in(outer, Form::Binary { at, operator, left })
 }
 
-// Where a parenthesis opens behind an operand: only behind a function's name.
+// Where a parenthesis opens after an operand: only after a function's name.
 fn apply(alloc: Global, forms: Vec<Form>, last: Measured) -> Result<Machine, StepError>
     ensures { Gives result (within greatest_depth
         (apply_move (frames_of forms.items) (tree_of last.expr.value))) }

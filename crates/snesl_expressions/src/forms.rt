@@ -73,7 +73,7 @@ pub enum Form {
         at: usize,
         given: Arguments,
     },
-    /// The condition behind an item.
+    /// The condition after an item.
     Filter {
         at: usize,
         item: Measured,

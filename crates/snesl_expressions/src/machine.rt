@@ -111,7 +111,7 @@ pub fn open_at(forms: Vec<Form>, point: Point) -> Result<Machine, StepError>
     Ok(Machine { forms, point })
 }
 
-/// Behind an expression.
+/// After an expression.
 pub fn behind(forms: Vec<Form>, last: Measured) -> Result<Machine, StepError>
     ensures { Gives result (Ok (after (frames_of forms.items) (tree_of last.expr.value))) }
 {
@@ -157,7 +157,7 @@ impl Machine {
         }
     }
 
-    /// The machine behind the next token.
+    /// The machine after the next token.
     ///
     /// # Errors
     ///

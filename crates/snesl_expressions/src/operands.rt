@@ -134,7 +134,7 @@ pub fn let_name(forms: Vec<Form>, at: usize, token: Token) -> Result<Machine, St
     }
 }
 
-/// Behind the name of a `let`.
+/// After the name of a `let`.
 pub fn let_equals(
     forms: Vec<Form>,
     at: usize,
@@ -182,7 +182,7 @@ pub fn binder_name(
     }
 }
 
-/// Behind the name of a comprehension's next binder.
+/// After the name of a comprehension's next binder.
 pub fn binder_in(
     forms: Vec<Form>,
     at: usize,

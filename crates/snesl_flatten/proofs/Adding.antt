@@ -77,11 +77,11 @@ module _ (old : Steps) (program : Program) (inputs : List Declaration) (next_is 
   abbrev translated : Dialect → List ℕ → List DeclarationData → Bound → ℕ → ℕ → Making Wires
   translated dialect text functions bound control k = tr dialect text (bodies_of dialect text (map declaration_of functions)) (tree_of program.expr) bound control k
 
-  abbrev behind_inputs : (at control : ℕ) → Bound → ℕ → Making Wires
-  behind_inputs at control bound k = and_then (translated program.dialect program.text.items program.declarations.items bound control k) (λ w k. print_step at w k)
+  abbrev after_inputs : (at control : ℕ) → Bound → ℕ → Making Wires
+  after_inputs at control bound k = and_then (translated program.dialect program.text.items program.declarations.items bound control k) (λ w k. print_step at w k)
 
-  abbrev behind_control : (at control k : ℕ) → Making Wires
-  behind_control at control k = and_then (inputs_sourced at unset_cells inputs k) (λ bound k. behind_inputs at control bound k)
+  abbrev after_control : (at control k : ℕ) → Making Wires
+  after_control at control k = and_then (inputs_sourced at unset_cells inputs k) (λ bound k. after_inputs at control bound k)
 
   abbrev plan : Making Wires
   plan = program_plan program.text.items (tree_of_program program) inputs unset_cells
@@ -90,19 +90,19 @@ module _ (old : Steps) (program : Program) (inputs : List Declaration) (next_is 
     abbrev control_made : Steps → ℕ → Type 0
     control_made new control = HasMade old new (control_sourced begin (next_in old)) control
 
-    at_first : (new : Steps) (r : Result WiresData Refusal) → Adds wires_of old new (and_then (control_sourced begin (next_in old)) (λ control k. behind_control begin control k)) r → Adds wires_of old new plan r
+    at_first : (new : Steps) (r : Result WiresData Refusal) → Adds wires_of old new (and_then (control_sourced begin (next_in old)) (λ control k. after_control begin control k)) r → Adds wires_of old new plan r
     at_first new r h =
-        subst (λ a. Adds wires_of old new (and_then (control_sourced a zero) (λ control k. behind_control a control k)) r) begin_is
-        (subst (λ n. Adds wires_of old new (and_then (control_sourced begin n) (λ control k. behind_control begin control k)) r) next_is h)
+        subst (λ a. Adds wires_of old new (and_then (control_sourced a zero) (λ control k. after_control a control k)) r) begin_is
+        (subst (λ n. Adds wires_of old new (and_then (control_sourced begin n) (λ control k. after_control begin control k)) r) next_is h)
 
     pub control_refused : (new : Steps) (e : Refusal) (r : Result WiresData Refusal) → IsErr r × IsErrAnd r (λ g. g ≡ e) → Adds (λ (n : ℕ). n) old new (control_sourced begin (next_in old)) (Err e) → Adds wires_of old new plan r
-    control_refused new e r exit adds = at_first new r (exits_first (λ (n : ℕ). n) wires_of old new new (control_sourced begin (next_in old)) (λ control k. behind_control begin control k) e r exit adds)
+    control_refused new e r exit adds = at_first new r (exits_first (λ (n : ℕ). n) wires_of old new new (control_sourced begin (next_in old)) (λ control k. after_control begin control k) e r exit adds)
 
     pub inputs_refused : {C : Type 0} (view : C → Bound) (first new : Steps) (control : ℕ) (declarations : List Declaration) → declarations ≡ inputs → (e : Refusal) (r : Result WiresData Refusal) → IsErr r × IsErrAnd r (λ g. g ≡ e)
         → control_made first control → Adds view first new (inputs_sourced begin unset_cells declarations (next_in first)) (Err e) → Adds wires_of old new plan r
     inputs_refused view first new control declarations same e r exit made adds =
-        at_first new r (made_then wires_of old first new (control_sourced begin (next_in old)) (λ control k. behind_control begin control k) control r made
-        (exits_first view wires_of first new new (inputs_sourced begin unset_cells inputs (next_in first)) (λ bound k. behind_inputs begin control bound k) e r exit
+        at_first new r (made_then wires_of old first new (control_sourced begin (next_in old)) (λ control k. after_control begin control k) control r made
+        (exits_first view wires_of first new new (inputs_sourced begin unset_cells inputs (next_in first)) (λ bound k. after_inputs begin control bound k) e r exit
         (subst (λ l. Adds view first new (inputs_sourced begin unset_cells l (next_in first)) (Err e)) same adds)))
 
     pub program_added : (first second new : Steps) (control : ℕ) (declarations : List Declaration) (bound bound' : Bound) (context : ProgramContext) (r : Result WiresData Refusal) → declarations ≡ inputs → bound' ≡ bound
@@ -111,7 +111,7 @@ module _ (old : Steps) (program : Program) (inputs : List Declaration) (next_is 
         → Adds wires_of second new (printed second begin context (tree_of program.expr) bound' control) r → Adds wires_of old new plan r
     program_added first second new control declarations bound bound' context r same same_bound dialect text functions made made_inputs adds =
         let on : dialect_of_steps second ≡ program.dialect = made_inputs.dialect ∙ made.dialect ∙ dialect in
-        at_first new r (made_then wires_of old first new (control_sourced begin (next_in old)) (λ control k. behind_control begin control k) control r made
-        (made_then wires_of first second new (inputs_sourced begin unset_cells inputs (next_in first)) (λ bound k. behind_inputs begin control bound k) bound r
+        at_first new r (made_then wires_of old first new (control_sourced begin (next_in old)) (λ control k. after_control begin control k) control r made
+        (made_then wires_of first second new (inputs_sourced begin unset_cells inputs (next_in first)) (λ bound k. after_inputs begin control bound k) bound r
         (subst (λ l. HasMade first second (inputs_sourced begin unset_cells l (next_in first)) bound) same made_inputs)
         (subst (λ m. Adds wires_of second new m r) (λ i. and_then (translated (on i) (text i) (functions i) (same_bound i) control (next_in second)) (λ w k. print_step begin w k)) adds)))

@@ -15,7 +15,7 @@ use Rattle.flow_graph.specs.Networks.{state_at}
 use Rattle.flow_graph.specs.Replacements.{MayReplace}
 use Rattle.flow_plans.specs.Plans.{Step, print}
 use Rattle.flow_plans.specs.Ports.{kinds_written}
-use Rattle.flow_plans.specs.Layouts.{Placed, all_behind, layout_from, layout, numbered}
+use Rattle.flow_plans.specs.Layouts.{Placed, all_after, layout_from, layout, numbered}
 use Rattle.flow_plans.proofs.Places.{get_right}
 use Rattle.flow_assembly.specs.Openings.{AllOpen}
 use Rattle.snesl_translation.specs.Wires.{Wires, type_of_wires, numbers_of}
@@ -34,7 +34,7 @@ last_from plan s [] at ty reads = ([], refl)
 last_from plan s (step ∷ steps) at ty reads =
     let kinds = kinds_written step.operation in
     let first : Placed = record { at = step.at; operation = step.operation; reads = step.reads; writes = numbered s kinds } in
-    let behind = all_behind plan step.at s kinds in
+    let behind = all_after plan step.at s kinds in
     let g = last_from plan (s + length kinds) steps at ty reads in
     (first ∷ (behind ++ g.0), ap (λ l. first ∷ (behind ++ l)) g.1 ∙ ap (λ l. first ∷ l) (sym (append_assoc behind g.0 (print_placed at ty reads ∷ []))))
 

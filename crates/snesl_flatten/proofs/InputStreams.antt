@@ -47,7 +47,7 @@ module _ (dialect : Dialect) (ds : List Declaration) (es : Environment) (fits : 
     pub value_typed : is_a d.1 v ≡ true
     value_typed = subst (λ v. is_a d.1 v ≡ true) value_is (fit_at dialect ds es i d fits there).2
 
-    -- its columns behind those of the inputs before it
+    -- its columns after those of the inputs before it
     pub cells_added : (columns : Columns) → columns ≡ columns_of (take i ds) (take i es) → columns ++ columns_of_values d.1 (v ∷ []) ≡ columns_of (take (suc i) ds) (take (suc i) es)
     cells_added columns so_far =
         let g = fit_at dialect ds es i d fits there in

@@ -20,7 +20,7 @@ use Rattle.flow_graph.specs.Networks.{state_at, AreOpened}
 use Rattle.flow_graph.specs.Replacements.{MayReplace}
 use Rattle.flow_plans.specs.Plans.{Step, source}
 use Rattle.flow_plans.specs.Ports.{kinds_written}
-use Rattle.flow_plans.specs.Layouts.{Placed, all_behind, layout, places, places_from, IsNetworkOfPlan}
+use Rattle.flow_plans.specs.Layouts.{Placed, all_after, layout, places, places_from, IsNetworkOfPlan}
 use Rattle.flow_plans.specs.Settings.{with_source, IsLaidBut, SourceIsSet}
 use Rattle.flow_assembly.specs.Openings.{Opens, AllOpen, OpeningsPerform}
 use Rattle.snesl_translation.specs.Wires.{type_of_wires}
@@ -57,7 +57,7 @@ places_length : (plan : List Step) (k s : ℕ) (steps : List Step) → length (p
 places_length plan k s [] = refl
 places_length plan k s (step ∷ steps) =
     let kinds = kinds_written step.operation in
-    ap suc (places_length plan (suc (k + length (all_behind plan step.at s kinds))) (s + length kinds) steps)
+    ap suc (places_length plan (suc (k + length (all_after plan step.at s kinds))) (s + length kinds) steps)
 
 -- the next source has a place among those of the steps
 pub next_within : (text : List ℕ) (program : ProgramTree) (inputs : List Declaration) (columns : Columns) (states : List NodeState) (edges : List Edge) → HasSources text program inputs columns states edges

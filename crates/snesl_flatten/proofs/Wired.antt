@@ -13,7 +13,7 @@ use Rattle.flow_messages.specs.contracts.message.Kind.{the_type}
 use Rattle.flow_graph.proofs.KindTests.{same_kind}
 use Rattle.flow_plans.specs.Plans.{Step}
 use Rattle.flow_plans.specs.Ports.{AreWired, kinds_written}
-use Rattle.flow_plans.specs.Layouts.{all_behind, layout_from, layout}
+use Rattle.flow_plans.specs.Layouts.{all_after, layout_from, layout}
 use Rattle.snesl_translation.specs.Programs.{unset_cells}
 use Rattle.snesl_wiring.specs.Wirings.{PlansAreWired}
 use Rattle.snesl_flatten.specs.Networks.{program_steps}
@@ -42,7 +42,7 @@ layout_long : (plan : List Step) (s : ℕ) (steps : List Step) → length steps 
 layout_long plan s [] = omega arith
 layout_long plan s (step ∷ steps) =
     let kinds = kinds_written step.operation in
-    let behind = all_behind plan step.at s kinds in
+    let behind = all_after plan step.at s kinds in
     let others = layout_from plan (s + length kinds) steps in
     omega (arith, length-append behind others, layout_long plan (s + length kinds) steps)
 

@@ -1,4 +1,4 @@
--- What stands behind the sources of a program.
+-- What stands after the sources of a program.
 use Rattle.std.specs.Prelude.{ℕ}
 use Rattle.snesl_tree.specs.Tree.{Tree}
 use Rattle.flow_plans.specs.Plans.{print}
@@ -10,7 +10,7 @@ use Rattle.snesl_steps.specs.declared.steps.Steps.{Steps}
 use Rattle.snesl_translator.specs.Translated.{bodies_in}
 use Rattle.snesl_translator.specs.declared.translator.ProgramContext.{ProgramContext}
 
--- the steps of an expression behind these, and a Print of its value
+-- the steps of an expression after these, and a Print of its value
 abbrev pub printed : Steps → ℕ → ProgramContext → Tree → Bound → ℕ → Making Wires
 printed steps at context tree bound control =
     and_then (tr (dialect_of_steps steps) context.text.now (bodies_in (dialect_of_steps steps) context) tree bound control (next_in steps)) (λ w k.

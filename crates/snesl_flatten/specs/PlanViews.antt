@@ -33,7 +33,7 @@ pub record HoldsNetwork (plan : Plan) : Type 0 where
   pub sources : HasSources (typed_text (plan_typed plan)) (typed_tree (plan_typed plan)) (typed_inputs (plan_typed plan)) [] (plan_states plan) (plan_edges plan)
   pub places_are : plan.places.items ≡ places (plan_steps plan)
 
--- node k is the source of a stream of the inputs: those are the steps behind the first one, in order
+-- node k is the source of a stream of the inputs: those are the steps after the first one, in order
 abbrev pub IsInputSource : Plan → ℕ → Type 0
 IsInputSource plan k =
     (n : ℕ) × (n < length (all_kinds (typed_inputs (plan_typed plan)))) × (k ≡ slice_index_or (places (plan_steps plan)) (suc n) 0)

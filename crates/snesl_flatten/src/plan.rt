@@ -81,7 +81,7 @@ impl<'a> Plan<'a> {
         Ok(plan.graph)
     }
 
-    // Puts these sources in place of those of the inputs, in order. Those are the steps behind the first one, the source of the
+    // Puts these sources in place of those of the inputs, in order. Those are the steps after the first one, the source of the
     // control stream.
     fn set_sources(&mut self, sources: Vec<TextSource>)
         requires sources { HasSources (typed_text (plan_typed self.old))

@@ -12,7 +12,7 @@
 //   N        a small number, the same at each place of the form; in a function its own number
 //   X Y Z    new names: X of a `let`; Y and Z of the binders of a comprehension, or of parameters or inputs
 //
-// Behind `'` a letter stands for the type itself, behind `?` for a value of it as an input text has it, and behind `.` for a
+// After `'` a letter stands for the type itself, after `?` for a value of it as an input text has it, and after `.` for a
 // short expression. In T[XY] the names X and Y are bound, and where Y or Z is, it stands in one more comprehension. The
 // last column tells types: in X:O that X is a name of type O, in O:I that O is `int`.
 

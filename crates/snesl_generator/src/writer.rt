@@ -53,7 +53,7 @@ struct Writer {
     alloc: Global,
 }
 
-/// The job that a seed decides: a program, and behind a line `---` the input text. None where it would be too long.
+/// The job that a seed decides: a program, and after a line `---` the input text. None where it would be too long.
 pub fn random_job(alloc: Global, seed: u64) -> Result<Option<String>, AllocError> {
     let mut writer = Writer {
         dice: Dice::new(seed),
@@ -130,7 +130,7 @@ impl Writer {
         self.text.push_str(written.as_str())
     }
 
-    // Begins the part of a form that a letter stands for, where the names behind it are bound.
+    // Begins the part of a form that a letter stands for, where the names after it are bound.
     fn part(&mut self, mut form: Begun, letter: u8) -> Result<(), AllocError> {
         let kind = self.kind_of(&form, letter)?;
         let table = match form.mark {

@@ -88,11 +88,11 @@ mutual
     filter_rule : {here at : ℕ} (bar closed : ℕ) {ts us : List Token} {item condition : Tree}
         → Whole 0 ts item → Whole 0 us condition
         → Whole here (token LeftBrace at ∷ (ts ++ (token Bar bar ∷ (us ++ (token RightBrace closed ∷ []))))) (filter at item condition)
-    -- a comprehension has a body and, behind a colon, binders
+    -- a comprehension has a body and, after a colon, binders
     each_rule : {here at : ℕ} (colon closed : ℕ) {ts us : List Token} {body : Tree} {binders : Binders}
         → Whole 0 ts body → WholeBinders us binders
         → Whole here (token LeftBrace at ∷ (ts ++ (token Colon colon ∷ (us ++ (token RightBrace closed ∷ []))))) (each at body binders always)
-    -- and behind a bar it may have a condition
+    -- and after a bar it may have a condition
     each_where_rule : {here at : ℕ} (colon bar closed : ℕ) {ts us vs : List Token} {body condition : Tree} {binders : Binders}
         → Whole 0 ts body → WholeBinders us binders → Whole 0 vs condition
         → Whole here (token LeftBrace at ∷ (ts ++ (token Colon colon ∷ (us ++ (token Bar bar ∷ (vs ++ (token RightBrace closed ∷ [])))))))
@@ -102,7 +102,7 @@ mutual
   pub data WholeArguments : List Token → Trees → Type 0 where
     -- one argument
     one_rule : {ts : List Token} {only : Tree} → Whole 0 ts only → WholeArguments ts (both only none)
-    -- arguments, and behind a comma one more
+    -- arguments, and after a comma one more
     more_rule : (comma : ℕ) {ts us : List Token} {arguments : Trees} {last : Tree}
         → WholeArguments ts arguments → Whole 0 us last
         → WholeArguments (ts ++ (token Comma comma ∷ us)) (added arguments last)
@@ -112,7 +112,7 @@ mutual
     -- one binder: a name in a source
     one_binder : (place : Span) (within : ℕ) {ts : List Token} {source : Tree}
         → Whole 0 ts source → WholeBinders (name_token place ∷ token In within ∷ ts) (binder place source none_bound)
-    -- fewer than eight binders, and behind a semicolon one more
+    -- fewer than eight binders, and after a semicolon one more
     more_binders : (semicolon : ℕ) (place : Span) (within : ℕ) {ts us : List Token} {binders : Binders} {source : Tree}
         → WholeBinders ts binders → binder_count binders < greatest_binder_count → Whole 0 us source
         → WholeBinders (ts ++ (token Semicolon semicolon ∷ name_token place ∷ token In within ∷ us)) (bound_also binders place source)
@@ -131,10 +131,10 @@ mutual
     binary_right : {here deep : ℕ} (operator : Operator) (at : ℕ) {ts us : List Token} {left : Tree}
         → here ≤ level operator → Whole (left_level operator) ts left → depth left ≤ deep → Front (suc (level operator)) deep us
         → Front here (suc deep) (ts ++ (token (sign operator) at ∷ us))
-    -- the tokens end in the operand behind its operator
+    -- the tokens end in the operand after its operator
     prefix_operand : {here deep at : ℕ} (operator : Prefix) {ts : List Token}
         → here ≤ prefix_level → Front prefix_level deep ts → Front here (suc deep) (token (prefix_sign operator) at ∷ ts)
-    -- the tokens end behind a built-in function's name
+    -- the tokens end after a built-in function's name
     call_word : {here deep at : ℕ} (function : Builtin) → Front here (suc (suc deep)) (token (word function) at ∷ [])
     -- the tokens end in a function's arguments
     call_arguments : {here deep at opened : ℕ} (function : Builtin) {ts : List Token}
@@ -147,7 +147,7 @@ mutual
     -- the tokens end in the second part of a pair
     pair_second : {here deep at : ℕ} (comma : ℕ) {ts us : List Token} {first : Tree}
         → Whole 0 ts first → depth first ≤ deep → Front 0 deep us → Front here (suc deep) (token LeftParen at ∷ (ts ++ (token Comma comma ∷ us)))
-    -- the tokens end behind `let`, behind the name, in the value, in the body
+    -- the tokens end after `let`, after the name, in the value, in the body
     let_word : {deep at : ℕ} → Front 0 (suc (suc deep)) (token Let at ∷ [])
     let_name : {deep at : ℕ} (place : Span) → Front 0 (suc (suc deep)) (token Let at ∷ name_token place ∷ [])
     let_value : {deep at equals : ℕ} (place : Span) {ts : List Token}
@@ -166,7 +166,7 @@ mutual
     -- the tokens end in the items in braces, the first of which may be the body of a comprehension
     brace_items : {here deep at : ℕ} {ts : List Token}
         → FrontArguments deep ts → Front here (suc deep) (token LeftBrace at ∷ ts)
-    -- the tokens end in the condition behind an item
+    -- the tokens end in the condition after an item
     filter_condition : {here deep at : ℕ} (bar : ℕ) {ts us : List Token} {item : Tree}
         → Whole 0 ts item → depth item ≤ deep → Front 0 deep us
         → Front here (suc deep) (token LeftBrace at ∷ (ts ++ (token Bar bar ∷ us)))
@@ -199,7 +199,7 @@ mutual
 
   -- a binder whose source has at most this depth begins with the tokens
   pub data FrontBinder : ℕ → List Token → Type 0 where
-    -- no tokens yet, or the tokens end behind the name
+    -- no tokens yet, or the tokens end after the name
     no_binder : {deep : ℕ} → FrontBinder (suc deep) []
     binder_name : {deep : ℕ} (place : Span) → FrontBinder (suc deep) (name_token place ∷ [])
     -- the tokens end in the source

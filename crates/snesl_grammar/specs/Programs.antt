@@ -33,10 +33,10 @@ program_depth program = max (declarations_depth program.declarations) (depth pro
 
 -- the tokens are these parameters, parted by commas: one or more
 pub data WholeParameters : List Token → List Typed → Type 0 where
-  -- one parameter: a name, and behind a colon its type
+  -- one parameter: a name, and after a colon its type
   one_parameter : (place : Span) (colon : ℕ) {ts : List Token} {written : TypeTree}
       → WholeType ts written → WholeParameters (name_token place ∷ token Colon colon ∷ ts) (typed place written ∷ [])
-  -- parameters, and behind a comma one more
+  -- parameters, and after a comma one more
   more_parameters : (comma : ℕ) (place : Span) (colon : ℕ) {ts us : List Token} {given : List Typed} {written : TypeTree}
       → WholeParameters ts given → WholeType us written
       → WholeParameters (ts ++ (token Comma comma ∷ name_token place ∷ token Colon colon ∷ us)) (given ++ typed place written ∷ [])
@@ -77,7 +77,7 @@ pub data WholeProgram : List Token → ProgramTree → Type 0 where
 
 -- a parameter whose type has at most this depth begins with the tokens
 pub data FrontParameter : ℕ → List Token → Type 0 where
-  -- no tokens yet, or the tokens end behind the name
+  -- no tokens yet, or the tokens end after the name
   no_parameter : {deep : ℕ} → FrontParameter (suc deep) []
   parameter_name : {deep : ℕ} (place : Span) → FrontParameter (suc deep) (name_token place ∷ [])
   -- the tokens end in the type
@@ -95,17 +95,17 @@ pub data FrontParameters : ℕ → List Token → Type 0 where
 
 -- a declaration of at most this depth begins with the tokens
 pub data FrontDeclaration : ℕ → List Token → Type 0 where
-  -- the tokens end behind `input`, behind the name, in the type
+  -- the tokens end after `input`, after the name, in the type
   input_word : {deep : ℕ} (at : ℕ) → FrontDeclaration (suc deep) (token Input at ∷ [])
   input_name : {deep : ℕ} (at : ℕ) (place : Span) → FrontDeclaration (suc deep) (token Input at ∷ name_token place ∷ [])
   input_type : {deep : ℕ} (at : ℕ) (place : Span) (colon : ℕ) {ts : List Token}
       → FrontType deep ts → FrontDeclaration deep (token Input at ∷ name_token place ∷ token Colon colon ∷ ts)
-  -- the tokens end behind `function`, behind the name, in the parameters
+  -- the tokens end after `function`, after the name, in the parameters
   function_word : {deep : ℕ} (at : ℕ) → FrontDeclaration (suc deep) (token Function at ∷ [])
   function_name : {deep : ℕ} (at : ℕ) (place : Span) → FrontDeclaration (suc deep) (token Function at ∷ name_token place ∷ [])
   function_parameters : {deep : ℕ} (at : ℕ) (place : Span) (opened : ℕ) {ts : List Token}
       → FrontParameters deep ts → FrontDeclaration deep (token Function at ∷ name_token place ∷ token LeftParen opened ∷ ts)
-  -- the tokens end behind the parameters, in the type of the result, in the body
+  -- the tokens end after the parameters, in the type of the result, in the body
   function_closed : {deep : ℕ} (at : ℕ) (place : Span) (opened closed : ℕ) {ts : List Token} {parameters : List Typed}
       → WholeParameters ts parameters → parameters_depth parameters ≤ deep
       → FrontDeclaration deep (token Function at ∷ name_token place ∷ token LeftParen opened ∷ (ts ++ (token RightParen closed ∷ [])))
@@ -122,7 +122,7 @@ pub data FrontDeclaration : ℕ → List Token → Type 0 where
 
 -- a program of at most this depth begins with the tokens
 pub data FrontProgram : ℕ → List Token → Type 0 where
-  -- the tokens end in the dialect, behind `dialect` or behind 2
+  -- the tokens end in the dialect, after `dialect` or after 2
   dialect_word : {deep : ℕ} (at : ℕ) → FrontProgram (suc deep) (token DialectWord at ∷ [])
   dialect_number : {deep : ℕ} (at number : ℕ) → FrontProgram (suc deep) (token DialectWord at ∷ token (Integer (pos 2)) number ∷ [])
   -- the tokens end in a declaration

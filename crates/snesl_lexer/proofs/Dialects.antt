@@ -15,7 +15,7 @@ use Rattle.snesl_lexer.specs.declared.lexer.First.{First}
 use Rattle.snesl_lexer.specs.declared.lexer.First.TheVariants.{Blank, Found, Bad}
 use Rattle.snesl_lexer.specs.Words.{word_kind}
 use Rattle.snesl_lexer.specs.Signs.{sign_token}
-use Rattle.snesl_lexer.specs.Lexical.{number, head_or, first, behind_blanks, kind_found, kinds_from, first_kinds, dialect_named, dialect_of, Tokens, none_left, skips, takes}
+use Rattle.snesl_lexer.specs.Lexical.{number, head_or, first, after_blanks, kind_found, kinds_from, first_kinds, dialect_named, dialect_of, Tokens, none_left, skips, takes}
 use Rattle.snesl_lexer.specs.Lexemes.{StandsFirst}
 use Rattle.snesl_lexer.specs.Readings.{TokensNameTheirDialect}
 use Rattle.snesl_lexer.proofs.Longest.{stands_first}
@@ -50,14 +50,14 @@ found_kept dialect (b ∷ bs) kind len e = by_class (is_blank b) (is_ascii_alpha
     by_class false false true f = number_kept dialect digits kind len f
     by_class false false false f = f
 
--- bytes that begin with no blank are no tokens, or a token and those behind it
+-- bytes that begin with no blank are no tokens, or a token and those after it
 data Next (dialect : Dialect) : List ℕ → List Token → Type 0 where
   ends : Next dialect [] []
   comes : {bs : List ℕ} {ts : List Token} (at : ℕ) (kind : Kind) (len : ℕ) → first dialect bs ≡ Found kind len
       → Tokens dialect (at + len) (drop len bs) ts → Next dialect bs (record { kind = kind; at = at } ∷ ts)
 
--- the tokens of bytes are those behind their blanks
-next_token : (dialect : Dialect) → {at : ℕ} {bs : List ℕ} {ts : List Token} → Tokens dialect at bs ts → Next dialect (behind_blanks bs) ts
+-- the tokens of bytes are those after their blanks
+next_token : (dialect : Dialect) → {at : ℕ} {bs : List ℕ} {ts : List Token} → Tokens dialect at bs ts → Next dialect (after_blanks bs) ts
 next_token dialect none_left = ends
 next_token dialect (skips {bs = []} e h) = cc
 next_token dialect (skips {bs = b ∷ bs} {ts = ts} e h) =
@@ -76,7 +76,7 @@ kinds_of ts = map (λ (t : Token). t.kind) ts
 -- the first tokens of the first dialect are of the first kinds
 of_first_kinds : (n at : ℕ) (bs : List ℕ) (ts : List Token) → Tokens One at bs ts → kinds_of (take n ts) ≡ first_kinds n bs
 of_first_kinds zero at bs ts h = refl
-of_first_kinds (suc n) at bs ts h = by_next (of_first_kinds n) (behind_blanks bs) ts (next_token One h)
+of_first_kinds (suc n) at bs ts h = by_next (of_first_kinds n) (after_blanks bs) ts (next_token One h)
   where
     by_next : ((at : ℕ) (bs : List ℕ) (ts : List Token) → Tokens One at bs ts → kinds_of (take n ts) ≡ first_kinds n bs)
         → (rest : List ℕ) (us : List Token) → Next One rest us
@@ -92,7 +92,7 @@ AreOfKinds dialect n =
 
 of_all_kinds : (dialect : Dialect) (n : ℕ) → AreOfKinds dialect n
 of_all_kinds dialect zero at bs ts h all = refl
-of_all_kinds dialect (suc n) at bs ts h all = by_next (of_all_kinds dialect n) (behind_blanks bs) ts (next_token dialect h) all
+of_all_kinds dialect (suc n) at bs ts h all = by_next (of_all_kinds dialect n) (after_blanks bs) ts (next_token dialect h) all
   where
     by_first : AreOfKinds dialect n → (rest : List ℕ) (at : ℕ) (us : List Token) (kind : Kind) (len : ℕ) → first dialect rest ≡ Found kind len
         → Tokens dialect (at + len) (drop len rest) us → (it : First) → first One rest ≡ it

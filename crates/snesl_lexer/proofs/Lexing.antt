@@ -13,7 +13,7 @@ use Rattle.snesl_lexer.specs.Tables.{kind_in}
 use Rattle.snesl_lexer.specs.Signs.{one_byte_signs, two_byte_signs, longer_sign, sign_token}
 use Rattle.snesl_lexer.proofs.Tables.{kind_in_passes}
 use Rattle.snesl_data.specs.Characters.{value_from}
-use Rattle.snesl_lexer.specs.Lexical.{number, first, Tokens, none_left, skips, takes, BadAt, bad_here, bad_later, bad_behind, IsTokenWithin}
+use Rattle.snesl_lexer.specs.Lexical.{number, first, Tokens, none_left, skips, takes, BadAt, bad_here, bad_later, bad_after, IsTokenWithin}
 
 value_from-grows : (n : ℕ) (cs : List ℕ) → n ≤ value_from n cs
 value_from-grows n [] = omega arith
@@ -41,7 +41,7 @@ prefix_passes p (x ∷ xs) = by_test (p x) refl (prefix_passes p xs)
     by_test true e h = rw one-add (e, h)
     by_test false e h = tt
 
--- a sign ends within the text: the byte behind its first one counts as 0 where there is none
+-- a sign ends within the text: the byte after its first one counts as 0 where there is none
 pub sign_within : (b next n : ℕ) → 0 < n → (n ≡ 1 → next ≡ 0) → IsTokenWithin n (sign_token b next)
 sign_within b next n some alone = by_signs (kind_in two_byte_signs (b ∷ next ∷ [])) refl (kind_in one_byte_signs (b ∷ []))
   where
@@ -77,7 +77,7 @@ blank_bad dialect text at n e h = bad_later (sym (e ∙ ap (first dialect) (rest
 
 pub found_bad : (dialect : Dialect) → (text : List ℕ) (at : ℕ) (k : Kind) (len n : ℕ) → Found k len ≡ first dialect (rest_of text at)
     → BadAt dialect (at + len) (drop (at + len) text) n → BadAt dialect at (drop at text) n
-found_bad dialect text at k len n e h = bad_behind k len (sym (e ∙ ap (first dialect) (rest_is text at))) (subst (λ bs. BadAt dialect (at + len) bs n) (sym (drop-drop len at text)) h)
+found_bad dialect text at k len n e h = bad_after k len (sym (e ∙ ap (first dialect) (rest_is text at))) (subst (λ bs. BadAt dialect (at + len) bs n) (sym (drop-drop len at text)) h)
 
 pub bad_now : (dialect : Dialect) → (text : List ℕ) (at : ℕ) → at < length text → Bad ≡ first dialect (rest_of text at) → BadAt dialect at (drop at text) at
 bad_now dialect text at h e = by_cases (drop at text) (omega (arith, length-drop at text)) (e ∙ ap (first dialect) (rest_is text at))

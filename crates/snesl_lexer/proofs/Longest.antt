@@ -140,7 +140,7 @@ digit_row b bs m t (digits_row h all) = all
 digit_row b bs m t (one_row mark e) = absurd (both_ways _ mark.no_digit t)
 digit_row b bs m t (two_row mark e) = absurd (both_ways _ mark.no_digit t)
 
--- the signs that bytes may begin with: one byte, or the byte behind it too
+-- the signs that bytes may begin with: one byte, or the byte after it too
 Signs : ℕ → List ℕ → Type 0
 Signs b bs =
     ((bs ≡ []) × (kind : Kind) × (kind_in one_byte_signs (b ∷ []) ≡ Some kind))
@@ -218,7 +218,7 @@ no_zero : (b : ℕ) (kind : Kind) → kind_in two_byte_signs (b ∷ 0 ∷ []) �
 no_zero b kind e =
     let ends : false ≡ true = kind_in_passes (λ text. not (eqb (get_or text 1 1) 0)) two_byte_signs (b ∷ 0 ∷ []) kind refl e in cc
 
--- a sign at the front is that of the byte behind the first one, or of the first one alone
+-- a sign at the front is that of the byte after the first one, or of the first one alone
 data Standing (b : ℕ) (bs : List ℕ) : ℕ → Type 0 where
   alone : {kind : Kind} → kind_in one_byte_signs (b ∷ []) ≡ Some kind → Standing b bs 0
   with_next : {kind : Kind} → kind_in two_byte_signs (b ∷ head_or bs ∷ []) ≡ Some kind → Standing b bs 1

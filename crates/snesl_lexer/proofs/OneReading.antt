@@ -4,7 +4,7 @@ use Rattle.snesl_data.specs.declared.dialect.Dialect.{Dialect}
 use Rattle.snesl_lexer.specs.declared.token.Token.{Token}
 use Rattle.snesl_lexer.specs.declared.lexer.First.{First}
 use Rattle.snesl_lexer.specs.declared.lexer.First.TheVariants.{Blank, Found, Bad}
-use Rattle.snesl_lexer.specs.Lexical.{first, dialect_of, Tokens, none_left, skips, takes, BadAt, bad_here, bad_later, bad_behind}
+use Rattle.snesl_lexer.specs.Lexical.{first, dialect_of, Tokens, none_left, skips, takes, BadAt, bad_here, bad_later, bad_after}
 use Rattle.snesl_lexer.specs.Readings.{Reads, HaveOneReading}
 use Rattle.snesl_lexer.proofs.Longest.{found_some}
 
@@ -28,26 +28,26 @@ one_tokens dialect (takes k len e h) us (takes {at = at} {bs = bs} {ts = vs} k' 
 pub no_both : (dialect : Dialect) → {at : ℕ} {bs : List ℕ} {ts : List Token} → Tokens dialect at bs ts → (n : ℕ) → BadAt dialect at bs n → ⊥
 no_both dialect (skips e h) n (bad_here b bs f) = cc
 no_both dialect (skips e h) n (bad_later f k) = no_both dialect h n k
-no_both dialect (skips e h) n (bad_behind k len f r) = cc
+no_both dialect (skips e h) n (bad_after k len f r) = cc
 no_both dialect (takes k len e h) n (bad_here b bs f) = cc
 no_both dialect (takes k len e h) n (bad_later f r) = cc
-no_both dialect (takes k len e h) n (bad_behind {at = at} {bs = bs} k' len' f r) =
+no_both dialect (takes k len e h) n (bad_after {at = at} {bs = bs} k' len' f r) =
     let lens : len' ≡ len = cc in
     no_both dialect h n (subst (λ m. BadAt dialect (at + m) (drop m bs) n) lens r)
 no_both dialect none_left n (bad_later f k) = cc
-no_both dialect none_left n (bad_behind k len f r) = cc
+no_both dialect none_left n (bad_after k len f r) = cc
 
 -- bytes have one first bad byte at most
 pub one_bad : (dialect : Dialect) → {at n : ℕ} {bs : List ℕ} → BadAt dialect at bs n → (m : ℕ) → BadAt dialect at bs m → n ≡ m
 one_bad dialect (bad_here b bs e) m (bad_here c cs f) = refl
 one_bad dialect (bad_here b bs e) m (bad_later f k) = cc
-one_bad dialect (bad_here b bs e) m (bad_behind k len f r) = cc
+one_bad dialect (bad_here b bs e) m (bad_after k len f r) = cc
 one_bad dialect (bad_later e h) m (bad_here b bs f) = cc
 one_bad dialect (bad_later e h) m (bad_later f k) = one_bad dialect h m k
-one_bad dialect (bad_later e h) m (bad_behind k len f r) = cc
-one_bad dialect (bad_behind k len e h) m (bad_here b bs f) = cc
-one_bad dialect (bad_behind k len e h) m (bad_later f r) = cc
-one_bad dialect (bad_behind k len e h) m (bad_behind {at = at} {bs = bs} k' len' f r) =
+one_bad dialect (bad_later e h) m (bad_after k len f r) = cc
+one_bad dialect (bad_after k len e h) m (bad_here b bs f) = cc
+one_bad dialect (bad_after k len e h) m (bad_later f r) = cc
+one_bad dialect (bad_after k len e h) m (bad_after {at = at} {bs = bs} k' len' f r) =
     let lens : len' ≡ len = cc in
     one_bad dialect h m (subst (λ i. BadAt dialect (at + i) (drop i bs) m) lens r)
 
@@ -67,7 +67,7 @@ some_reading dialect (suc n) at (b ∷ bs) below =
     ]
     by_first (Found kind len) e rest = elim (rest len (found_some dialect (b ∷ bs) kind len e)) [
       | inl tokens ↦ inl (record { kind = kind; at = at } ∷ tokens.0, takes kind len e tokens.1)
-      | inr bad ↦ inr (bad.0, bad_behind kind len e bad.1)
+      | inr bad ↦ inr (bad.0, bad_after kind len e bad.1)
     ]
     by_first Bad e rest = inr (at, bad_here b bs e)
 

@@ -36,20 +36,20 @@ first dialect (b ∷ bs) =
     (if is_ascii_digit b then number dialect (take_while is_ascii_digit (b ∷ bs)) else
     sign_token b (head_or bs)))
 
--- the bytes behind blanks
-abbrev pub behind_blanks : List ℕ → List ℕ
-behind_blanks bs = drop (prefix_len is_blank bs) bs
+-- the bytes after blanks
+abbrev pub after_blanks : List ℕ → List ℕ
+after_blanks bs = drop (prefix_len is_blank bs) bs
 
--- the kind of this token where one was found, and the bytes behind it
+-- the kind of this token where one was found, and the bytes after it
 abbrev pub kind_found : List ℕ → First → Option (Kind × List ℕ)
 kind_found bs (Found kind len) = Some (kind, drop len bs)
 kind_found bs _ = None
 
--- the kind of the token that comes next behind blanks, and the bytes behind it; the first dialect reads it
+-- the kind of the token that comes next after blanks, and the bytes after it; the first dialect reads it
 abbrev pub next_kind : List ℕ → Option (Kind × List ℕ)
-next_kind bs = kind_found (behind_blanks bs) (first One (behind_blanks bs))
+next_kind bs = kind_found (after_blanks bs) (first One (after_blanks bs))
 
--- this kind, and then those of the bytes behind it
+-- this kind, and then those of the bytes after it
 abbrev pub kinds_from : Option (Kind × List ℕ) → (List ℕ → List Kind) → List Kind
 kinds_from None more = []
 kinds_from (Some (kind, rest)) more = kind ∷ more rest
@@ -82,10 +82,10 @@ pub data Tokens (dialect : Dialect) : ℕ → List ℕ → List Token → Type 0
 pub data BadAt (dialect : Dialect) : ℕ → List ℕ → ℕ → Type 0 where
   -- nothing lawful stands first
   bad_here : {at : ℕ} (b : ℕ) (bs : List ℕ) → first dialect (b ∷ bs) ≡ Bad → BadAt dialect at (b ∷ bs) at
-  -- it stands behind a blank
+  -- it stands after a blank
   bad_later : {at n : ℕ} {bs : List ℕ} → first dialect bs ≡ Blank → BadAt dialect (at + 1) (drop 1 bs) n → BadAt dialect at bs n
-  -- it stands behind a token
-  bad_behind : {at n : ℕ} {bs : List ℕ} (k : Kind) (len : ℕ) → first dialect bs ≡ Found k len
+  -- it stands after a token
+  bad_after : {at n : ℕ} {bs : List ℕ} (k : Kind) (len : ℕ) → first dialect bs ≡ Found k len
       → BadAt dialect (at + len) (drop len bs) n → BadAt dialect at bs n
 
 -- a token, if one was found, has at least one byte and at most this many

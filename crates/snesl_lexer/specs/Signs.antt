@@ -46,6 +46,6 @@ longer_sign (Some kind) _ = Found kind 2
 longer_sign None (Some kind) = Found kind 1
 longer_sign None None = Bad
 
--- the token of a sign, by its first byte and the byte behind it
+-- the token of a sign, by its first byte and the byte after it
 abbrev pub sign_token : ℕ → ℕ → First
 sign_token b next = longer_sign (kind_in two_byte_signs (b ∷ next ∷ [])) (kind_in one_byte_signs (b ∷ []))

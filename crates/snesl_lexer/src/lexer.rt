@@ -9,7 +9,7 @@ ghost use Rattle.snesl_data.specs.Blanks.{is_blank};
 ghost use Rattle.snesl_lexer.specs.Tables.{kind_in};
 ghost use Rattle.snesl_lexer.specs.Words.{word_kind};
 ghost use Rattle.snesl_lexer.specs.Signs.{one_byte_signs, two_byte_signs, sign_token};
-ghost use Rattle.snesl_lexer.specs.Lexical.{number, first, behind_blanks, next_kind, dialect_of, Tokens, IsTokenWithin, IsBadOf};
+ghost use Rattle.snesl_lexer.specs.Lexical.{number, first, after_blanks, next_kind, dialect_of, Tokens, IsTokenWithin, IsBadOf};
 ghost use Rattle.snesl_lexer.specs.Lexemes.{FirstIsLongest};
 ghost use Rattle.snesl_lexer.specs.Readings.{HaveOneReading, TokensNameTheirDialect};
 
@@ -175,21 +175,21 @@ fn blanks_len(text: &[u8]) -> usize
     text.iter().take_while(|b| is_blank(**b)).count()
 }
 
-// The bytes behind the blanks at the front.
-fn behind_blanks(text: &[u8]) -> &[u8]
-    ensures { result.now ≡ behind_blanks text.now }
+// The bytes after the blanks at the front.
+fn after_blanks(text: &[u8]) -> &[u8]
+    ensures { result.now ≡ after_blanks text.now }
 {
     &text[blanks_len(text)..]
 }
 
-// The kind of the token that comes next behind blanks, and the bytes behind it. The first dialect
+// The kind of the token that comes next after blanks, and the bytes after it. The first dialect
 // reads it.
 fn next_kind(text: &[u8]) -> Option<(Kind, &[u8])>
     ensures { MatchOption result
         (next_kind text.now ≡ None)
         (λ found. next_kind text.now ≡ Some (found.0, found.1.now)) }
 {
-    let rest = behind_blanks(text);
+    let rest = after_blanks(text);
     if rest.is_empty() {
         return None;
     }

@@ -3,7 +3,7 @@ use Rattle.std.proofs.Common.{◌≡◌, ◌∙◌, ℕ, ◌+◌, ◌<◌, ◌�
 use Rattle.std.proofs.Math.Nat.{eq-or-lt_of_le}
 use Rattle.snesl_look.specs.Functions.{BeginsDeclaration, EndsDeclaration, depth_at}
 
--- the last declaration that began, not behind the offset, has not ended before a place
+-- the last declaration that began, not after the offset, has not ended before a place
 pub record Reaches (text : List ℕ) (offset start place : ℕ) : Type 0 where
   pub begins : BeginsDeclaration text start
   pub reached : start ≤ place

@@ -6,7 +6,7 @@ use Rattle.std.proofs.Math.Seq.{take-append-add}
 use Rattle.std.specs.List.{after_last, position_or_len, suffix_len}
 use Rattle.snesl_look.specs.Places.{is_line_feed, line_text}
 
--- a part of two lists one behind the other, from before the seam to behind it
+-- a part of two lists one after the other, from before the seam to after it
 part_over_seam : (a b : List ℕ) (before behind : ℕ) → before ≤ length a
     → take (length a + behind - (length a - before)) (drop (length a - before) (a ++ b)) ≡ drop (length a - before) a ++ take behind b
 part_over_seam a b before behind within =
@@ -15,7 +15,7 @@ part_over_seam a b before behind within =
     let many : length a + behind - (length a - before) ≡ length tail + behind = omega (arith, long) in
     rw (drop-append-le (length a - before) a b (omega arith), many) (take-append-add tail b behind)
 
--- a part of a text, from before a place to behind it
+-- a part of a text, from before a place to after it
 part_around : (text : List ℕ) (place before behind : ℕ) → place ≤ length text → before ≤ place
     → take (place + behind - (place - before)) (drop (place - before) text) ≡ drop (place - before) (take place text) ++ take behind (drop place text)
 part_around text place before behind within few =
@@ -24,11 +24,11 @@ part_around text place before behind within few =
     let part = part_over_seam (take place text) (drop place text) before behind (omega (arith, long, few)) in
     rw (long, whole) at part
 
--- behind an offset that counts as the end stands what stands behind the end
+-- after an offset that counts as the end stands what stands after the end
 drop_min : (n : ℕ) (xs : List ℕ) → drop (min n (length xs)) xs ≡ drop n xs
 drop_min n xs = grind (arith, drop_all)
 
--- an offset behind the text's end counts as that end
+-- an offset after the text's end counts as that end
 pub line_text-min : (text : List ℕ) (offset : ℕ) → line_text text (min offset (length text)) ≡ line_text text offset
 line_text-min text offset = rw (take_min offset text, drop_min offset text) refl
 
@@ -50,7 +50,7 @@ line_around text place before behind within begins few ends =
 pub rest_is : (xs : List ℕ) (n : ℕ) → take (length xs - n) (drop n xs) ≡ drop n xs
 rest_is xs n = take_all (length xs - n) (drop n xs) (omega (arith, length-drop n xs))
 
--- a part of a line that begins where the line ends, if it would begin behind that, and has at most 120 bytes
+-- a part of a line that begins where the line ends, if it would begin after that, and has at most 120 bytes
 pub part_is : (line : List ℕ) (from start shown : ℕ) → start ≡ min from (length line)
     → shown ≡ min 120 (length (take (length line - start) (drop start line)))
     → take shown (take (length line - start) (drop start line)) ≡ take 120 (drop from line)

@@ -19,7 +19,7 @@ type_text (seq item) = codes "{" ++ type_text item ++ codes "}"
 abbrev pub quoted_type : Ty → List ℕ
 quoted_type t = codes "`" ++ type_text t ++ codes "`"
 
--- further types, each behind a comma
+-- further types, each after a comma
 abbrev pub others : List Ty → List ℕ
 others [] = []
 others (t ∷ ts) = codes ", " ++ quoted_type t ++ others ts

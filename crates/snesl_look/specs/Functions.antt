@@ -12,7 +12,7 @@ opens byte = byte == 40 || byte == 91 || byte == 123
 abbrev pub is_closing : ℕ → Bool
 is_closing byte = byte == 41 || byte == 93 || byte == 125
 
--- how many brackets are open behind a byte before which so many are
+-- how many brackets are open after a byte before which so many are
 abbrev pub depth_after_byte : ℕ → ℕ → ℕ
 depth_after_byte depth byte = if opens byte then depth + 1 else if is_closing byte then depth - 1 else depth
 
@@ -24,7 +24,7 @@ depth_at text place = fold depth_after_byte 0 (take place text)
 abbrev pub EndsDeclaration : List ℕ → ℕ → Type 0
 EndsDeclaration text place = (place < length text) × (slice_index text place ≡ 59) × (depth_at text place ≡ 0)
 
--- a declaration may begin there: at the beginning, or behind the end of another
+-- a declaration may begin there: at the beginning, or after the end of another
 abbrev pub BeginsDeclaration : List ℕ → ℕ → Type 0
 BeginsDeclaration text place = (place ≡ 0) ⊎ ((end : ℕ) × (place ≡ end + 1) × EndsDeclaration text end)
 
@@ -43,25 +43,25 @@ pub record IsDeclarationAt (text : List ℕ) (offset : ℕ) (declaration : List 
 abbrev pub NoneAt : List ℕ → ℕ → Type 0
 NoneAt text offset = (k : ℕ) → offset ≤ k → ¬ EndsDeclaration text k
 
--- what stands behind the blanks at the front
-abbrev pub behind_blanks : List ℕ → List ℕ
-behind_blanks text = drop (prefix_len is_blank text) text
+-- what stands after the blanks at the front
+abbrev pub after_blanks : List ℕ → List ℕ
+after_blanks text = drop (prefix_len is_blank text) text
 
 -- the word at the front
 abbrev pub front_word : List ℕ → List ℕ
 front_word text = take (prefix_len is_word text) text
 
--- what stands behind it
-abbrev pub behind_word : List ℕ → List ℕ
-behind_word text = drop (prefix_len is_word text) text
+-- what stands after it
+abbrev pub after_word : List ℕ → List ℕ
+after_word text = drop (prefix_len is_word text) text
 
 -- the first word of a declaration is `function`
 abbrev pub DeclaresFunction : List ℕ → Type 0
-DeclaresFunction declaration = front_word (behind_blanks declaration) ≡ codes "function"
+DeclaresFunction declaration = front_word (after_blanks declaration) ≡ codes "function"
 
 -- and this is its second word
 abbrev pub HasName : List ℕ → List ℕ → Type 0
-HasName declaration name = DeclaresFunction declaration × (name ≡ front_word (behind_blanks (behind_word (behind_blanks declaration))))
+HasName declaration name = DeclaresFunction declaration × (name ≡ front_word (after_blanks (after_word (after_blanks declaration))))
 
 -- the offset lies in the declaration of a function of this name
 abbrev pub IsNamedAt : List ℕ → ℕ → List ℕ → Type 0

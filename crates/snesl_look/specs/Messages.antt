@@ -32,7 +32,7 @@ shown_from line column = if nat_le (length line) 120 then 0 else column - 61
 abbrev pub shown_part : List ℕ → ℕ → List ℕ
 shown_part line from = take 120 (drop from line)
 
--- the bytes of a line, behind its number
+-- the bytes of a line, after its number
 abbrev pub line_part : (number : ℕ) → (part : List ℕ) → List ℕ
 line_part number part = gutter number ++ codes " |\n" ++ decimal number ++ codes " | " ++ map shown_byte part ++ codes "\n"
 
@@ -47,7 +47,7 @@ place_part line number column =
     let part = shown_part line from in
     line_part number part ++ caret_part number part (column - from)
 
--- a text behind the gutter, between others
+-- a text after the gutter, between others
 abbrev pub remark : (number : ℕ) → (before text behind : List ℕ) → List ℕ
 remark number before text behind = gutter number ++ before ++ text ++ behind
 

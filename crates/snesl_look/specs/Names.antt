@@ -76,7 +76,7 @@ pub record IsNearestAt (text : List ℕ) (at : ℕ) (word : List ℕ) (place : �
 abbrev pub NoneNear : (text : List ℕ) → (at : ℕ) → (word : List ℕ) → Type 0
 NoneNear text at word = (k : ℕ) → IsOther text at k → most_edits word < distance_at text word k
 
--- a program, and behind it the built-in functions
+-- a program, and after it the built-in functions
 abbrev pub searched : List ℕ → List ℕ
 searched program = program ++ built_ins
 

@@ -10,7 +10,7 @@ is_line_feed byte = byte == 10
 abbrev pub line_of : List ℕ → ℕ → ℕ
 line_of text offset = count_by is_line_feed (take offset text) + 1
 
--- its column: one more than the bytes behind the last of them
+-- its column: one more than the bytes after the last of them
 abbrev pub column_of : List ℕ → ℕ → ℕ
 column_of text offset = length (after_last is_line_feed (take offset text)) + 1
 

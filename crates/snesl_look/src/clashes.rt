@@ -156,7 +156,7 @@ fn append_two(note: &mut Vec<u8>, first: &Ty, second: &Ty) -> Result<(), AllocEr
     append_quoted(note, second)
 }
 
-// Further types, each behind a comma.
+// Further types, each after a comma.
 fn append_others(note: &mut Vec<u8>, types: &[Ty]) -> Result<(), AllocError>
     ensures { OnOk result (note.new.items ≡ note.old.items ++ others (map ty_of types.now)) }
 {

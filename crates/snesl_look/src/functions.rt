@@ -3,7 +3,7 @@
 ghost use Rattle.std.specs.Prelude.{◌≡◌, ◌↔◌, ◌<◌, ◌≤◌, ◌+◌, ◌^◌, IsTrue, MatchOption, length};
 ghost use Rattle.std.specs.List.{prefix_len};
 ghost use Rattle.snesl_data.specs.Blanks.{is_blank};
-ghost use Rattle.snesl_look.specs.Functions.{IsDeclarationAt, DeclaresFunction, HasName, IsNamedAt, NoneAt, NoneNamedAt, behind_blanks, behind_word, depth_after_byte, front_word};
+ghost use Rattle.snesl_look.specs.Functions.{IsDeclarationAt, DeclaresFunction, HasName, IsNamedAt, NoneAt, NoneNamedAt, after_blanks, after_word, depth_after_byte, front_word};
 
 use snesl_data::{is_blank, word_len};
 
@@ -11,7 +11,7 @@ use snesl_data::{is_blank, word_len};
 const FUNCTION: &[u8] = b"function";
 
 /// The name of the function in whose declaration an offset of a program lies: a declaration ends with the first `;` that
-/// stands in no bracket. `None` where the offset lies in another declaration or behind all of them.
+/// stands in no bracket. `None` where the offset lies in another declaration or after all of them.
 pub fn function_at(program: &[u8], offset: usize) -> Option<&[u8]>
     ensures { MatchOption result (NoneNamedAt program.now offset)
         (λ name. IsNamedAt program.now offset name.now) }
@@ -41,7 +41,7 @@ fn declaration_at(text: &[u8], offset: usize) -> Option<&[u8]>
     None
 }
 
-// How many brackets are open behind a byte.
+// How many brackets are open after a byte.
 fn depth_after_byte(depth: usize, byte: u8) -> usize
     requires { depth < 2 ^ 63 }
     ensures depth { result ≡ depth_after_byte depth byte }
@@ -62,9 +62,9 @@ fn name_of(declaration: &[u8]) -> Option<&[u8]>
     if !is_function(declaration) {
         return None;
     }
-    let from_word = behind_blanks(declaration);
-    let behind = behind_word(from_word);
-    let from_name = behind_blanks(behind);
+    let from_word = after_blanks(declaration);
+    let behind = after_word(from_word);
+    let from_name = after_blanks(behind);
     Some(front_word(from_name))
 }
 
@@ -72,7 +72,7 @@ fn name_of(declaration: &[u8]) -> Option<&[u8]>
 fn is_function(declaration: &[u8]) -> bool
     ensures { IsTrue result ↔ DeclaresFunction declaration.now }
 {
-    let from_word = behind_blanks(declaration);
+    let from_word = after_blanks(declaration);
     front_word(from_word) == FUNCTION
 }
 
@@ -83,16 +83,16 @@ pub(crate) fn front_word(text: &[u8]) -> &[u8]
     &text[..word_len(text)]
 }
 
-// What stands behind it.
-fn behind_word(text: &[u8]) -> &[u8]
-    ensures { result.now ≡ behind_word text.now }
+// What stands after it.
+fn after_word(text: &[u8]) -> &[u8]
+    ensures { result.now ≡ after_word text.now }
 {
     &text[word_len(text)..]
 }
 
-// What stands behind the blanks at the front.
-fn behind_blanks(text: &[u8]) -> &[u8]
-    ensures { result.now ≡ behind_blanks text.now }
+// What stands after the blanks at the front.
+fn after_blanks(text: &[u8]) -> &[u8]
+    ensures { result.now ≡ after_blanks text.now }
 {
     &text[blanks_len(text)..]
 }

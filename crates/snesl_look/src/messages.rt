@@ -21,7 +21,7 @@ const MOST_BEFORE: usize = 61;
 // As many blanks as a number may have digits.
 const BLANKS: &[u8] = b"                    ";
 
-// What stands before the name of a function in which a fault lies, and behind it.
+// What stands before the name of a function in which a fault lies, and after it.
 const IN_FUNCTION: &[u8] = b" = note: this is in the function `";
 
 const LED_HERE: &[u8] = b"`; which call of it led here is not known\n";
@@ -256,7 +256,7 @@ fn append_place(
     append_caret(message, alloc, position.line, part, position.column - from)
 }
 
-// The bytes of a line, behind its number.
+// The bytes of a line, after its number.
 fn append_line(
     message: &mut Vec<u8>,
     alloc: Global,
@@ -317,7 +317,7 @@ fn append_hint(message: &mut Vec<u8>, number: usize, hint: Option<&str>) -> Resu
     }
 }
 
-// A text behind the gutter, between others.
+// A text after the gutter, between others.
 fn append_remark(
     message: &mut Vec<u8>,
     number: usize,

@@ -44,7 +44,7 @@ pub fn near_name(alloc: Global, program: &[u8], at: usize) -> Result<Option<Vec<
     Ok(Some(meant))
 }
 
-// The program, and behind it the built-in functions.
+// The program, and after it the built-in functions.
 fn searched(alloc: Global, program: &[u8]) -> Result<Vec<u8>, AllocError>
     ensures { IfOk result (λ text. text.items ≡ searched program.now) }
 {
@@ -138,7 +138,7 @@ fn name_at(text: &[u8], place: usize) -> &[u8]
     front_word(&text[place.min(text.len())..])
 }
 
-// Whether the byte may stand in a word behind the first letter.
+// Whether the byte may stand in a word after the first letter.
 fn is_word(byte: u8) -> bool
     ensures { result ≡ is_word byte }
 {

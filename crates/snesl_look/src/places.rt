@@ -13,7 +13,7 @@ pub struct Position {
     pub column: usize,
 }
 
-/// The place of an offset, which counts the bytes before it. An offset behind the text's end counts as that end.
+/// The place of an offset, which counts the bytes before it. An offset after the text's end counts as that end.
 pub fn position_of(text: &[u8], offset: usize) -> Position
     ensures line { result.line ≡ line_of text.now offset }
     ensures column { result.column ≡ column_of text.now offset }
@@ -76,7 +76,7 @@ fn line_feeds(text: &[u8]) -> usize
     text.iter().filter(|byte| **byte == b'\n').count()
 }
 
-// The length of what stands behind the last line feed.
+// The length of what stands after the last line feed.
 fn last_line_len(text: &[u8]) -> usize
     ensures count { result ≡ length (after_last is_line_feed text.now) }
     ensures within { result ≤ length text.now }

@@ -52,7 +52,7 @@ module _ (text input : List ℕ) where
         few = meant.few;
       }
 
-  -- what is answered behind a `?`
+  -- what is answered after a `?`
   pub passed_on : {A : Type 0} (r : Result A Refusal) (e : Refusal) → IsErrAnd r (λ x. x ≡ e) → HasNoNetwork text input e → IfErr r (HasNoNetwork text input)
   passed_on (Ok x) e is none = absurd is
   passed_on (Err x) e is none = subst (HasNoNetwork text input) (sym is) none

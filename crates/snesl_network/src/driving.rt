@@ -37,7 +37,7 @@ use std::thread::Threads;
 ///
 /// In this order: `BadConfig` exactly where the configuration is not lawful; the refusals of the program text, of its
 /// typing and of the input text; `TooBig` where the network is greater than a graph may be; `NoThread` only where the
-/// drive starts threads. Each comes only where none before it does. `NoMemory` may come at any time behind the first
+/// drive starts threads. Each comes only where none before it does. `NoMemory` may come at any time after the first
 /// where memory is refused.
 pub fn drive_program<R: Threads, G: Gate + Send + Sync + Drop + 'static>(
     rt: &R,

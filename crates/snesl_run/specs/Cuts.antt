@@ -4,7 +4,7 @@ use Rattle.snesl_meaning.specs.Meaning.{Meaning, Means}
 use Rattle.snesl_console.specs.Job.{IsJob}
 use Rattle.snesl_console.specs.Parts.{AreParts}
 
--- the parts of a job, each cut behind the first byte that is too many, mean what its program and its input text do
+-- the parts of a job, each cut after the first byte that is too many, mean what its program and its input text do
 abbrev pub CutsChangeNothing : Type 0
 CutsChangeNothing =
     (job program input cut_program cut_input : List ℕ) (m : Meaning) → IsJob job program input → AreParts job cut_program cut_input

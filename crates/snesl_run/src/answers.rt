@@ -26,7 +26,7 @@ use std::thread::Threads;
 /// Answers the job that a reader gives, and returns the exit status. `words` are those of a command
 /// line, the first of which is the program's name; `settings` tells what they set.
 ///
-/// A job is a program, and behind the first line `---` its input text; without such a line all of it
+/// A job is a program, and after the first line `---` its input text; without such a line all of it
 /// is the program ([`split_job`] says what of it is read). One line is printed on `out`: the value (status 0), `fault N at K` (2), `stalled` (3), or
 /// `refused N at K` or `refused N` (1). Where the words are refused, that is `refused 10` (1), and
 /// then the job is not read.
@@ -38,7 +38,7 @@ use std::thread::Threads;
 /// and of `out` only where 12 is.
 ///
 /// What is printed is the answer of each job that begins with what was read, or of just that where the reader has ended. No
-/// byte is read that does not decide the parts of the job: where the program is too long nothing behind it is, and else
+/// byte is read that does not decide the parts of the job: where the program is too long nothing after it is, and else
 /// no more than one byte over the input text's limit.
 pub fn answer<R: Read, W: Write, E: Write>(
     rt: &impl Threads,

@@ -39,7 +39,7 @@ use std::thread::Threads;
 ///   was written.
 /// - `Output`: all nodes have ended, and a write failed or took no byte, and no other call failed. The writer has taken a
 ///   beginning of the line, and no second try was made, at an interrupted call either.
-/// - `NoMemory`: memory was refused, at any time behind the first. Nothing was written, since memory is taken before the
+/// - `NoMemory`: memory was refused, at any time after the first. Nothing was written, since memory is taken before the
 ///   first write.
 pub fn run<R: Threads, W: Write, G: Gate + Send + Sync + Drop + 'static>(
     rt: &R,

@@ -37,9 +37,9 @@ in_turn first second third =
     (append_assoc first.steps m.steps (third m.given m.next).steps) refl refl
 
 -- what was there before is added to what the rest gives, which adds nothing else
-nothing_behind : (others : Making Bound) → and_then others (λ others k. done ([] ++ others) k) ≡ others
+nothing_after : (others : Making Bound) → and_then others (λ others k. done ([] ++ others) k) ≡ others
 unfolding and_then
-nothing_behind others = same_making (and_then others (λ others k. done ([] ++ others) k)) others (append-nil others.steps) refl refl
+nothing_after others = same_making (and_then others (λ others k. done ([] ++ others) k)) others (append-nil others.steps) refl refl
 
 -- these steps in front of those of a making
 abbrev before_all : {A : Type 0} → List Step → Making A → Making A
@@ -51,12 +51,12 @@ first_given first f rest =
     let later = rest (f first.given) first.next in
     same_making (and_then (and_then first (λ x k. done (f x) k)) rest) (before_all first.steps later) (ap (λ l. l ++ later.steps) (append-nil first.steps)) refl refl
 
--- one binding and then others, behind those before
-moved_behind : (first : Making Wires) (entry : List ℕ × Wires) (before : Bound) (all : ℕ → Making Bound) → entry.1 ≡ first.given →
+-- one binding and then others, after those before
+moved_after : (first : Making Wires) (entry : List ℕ × Wires) (before : Bound) (all : ℕ → Making Bound) → entry.1 ≡ first.given →
     before_all first.steps (and_then (all first.next) (λ others k. done ((before ++ entry ∷ []) ++ others) k))
     ≡ and_then (and_then first (λ u k. and_then (all k) (λ others k. done ((entry.0, u) ∷ others) k))) (λ others k. done (before ++ others) k)
 unfolding and_then
-moved_behind first entry before all e =
+moved_after first entry before all e =
     let others = all first.next in
     same_making (before_all first.steps (and_then others (λ others k. done ((before ++ entry ∷ []) ++ others) k)))
     (and_then (and_then first (λ u k. and_then (all k) (λ others k. done ((entry.0, u) ∷ others) k))) (λ others k. done (before ++ others) k))
@@ -78,7 +78,7 @@ module _ (move : Wires → ℕ → Making Wires) (names : Names) where
       ap (λ rest. and_then one rest) same
       ∙ sym (in_turn one (λ now k. each_moved move names xs now k) (λ now k. each_moved move names ys now k))
 
-  -- the others behind those that were moved before
+  -- the others after those that were moved before
   abbrev behind : Bound → Making Bound → Making Bound
   behind before others = and_then others (λ others k. done (before ++ others) k)
 
@@ -95,7 +95,7 @@ module _ (move : Wires → ℕ → Making Wires) (names : Names) where
       ∙ ap (λ e. before_all m.steps e) (
       others_are now m.next
       ∙ ap (λ ns. behind now (all_moved move ns bound m.next)) names')
-      ∙ moved_behind m (entry.0, m.given) before (λ k. all_moved move (without entry.0 (but_for before names)) bound k) refl
+      ∙ moved_after m (entry.0, m.given) before (λ k. all_moved move (without entry.0 (but_for before names)) bound k) refl
 
   each_is_all : (bound before : Bound) (next : ℕ) → each_moved move names bound before next ≡ behind before (all_moved move (but_for before names) bound next)
   each_is_all [] before next = sym (done_first [] next (λ others k. done (before ++ others) k) ∙ ap (λ l. done l next) (append-nil before))
@@ -107,7 +107,7 @@ module _ (move : Wires → ℕ → Making Wires) (names : Names) where
       by_test others_are false = done_first before next (λ now k. each_moved move names bound now k) ∙ others_are before next
 
   pub all_in_turn : (bound : Bound) (next : ℕ) → each_moved move names bound [] next ≡ all_moved move names bound next
-  all_in_turn bound next = each_is_all bound [] next ∙ nothing_behind (all_moved move names bound next)
+  all_in_turn bound next = each_is_all bound [] next ∙ nothing_after (all_moved move names bound next)
 
 -- one binding
 
@@ -138,7 +138,7 @@ module _ (move : Wires → ℕ → Making Wires) (names : Names) (entry : List �
       subst (λ making. HasMade old new making given) (one_is (next_in old) named)
       (subst (λ x. HasMade old new (and_then (move entry.1 (next_in old)) (λ u k. done (with_it u) k)) x) (sym is) (then_done old new (move entry.1 (next_in old)) with_it u made))
 
--- the bindings of a frame, and then those behind it
+-- the bindings of a frame, and then those after it
 module _ (move : Wires → ℕ → Making Wires) (names : Names) (bound first others before : Bound) (frames : bound ≡ first ++ others) (old : Steps) where
   abbrev rest : Bound → ℕ → Making Bound
   rest now k = each_moved move names others now k

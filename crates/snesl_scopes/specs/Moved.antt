@@ -17,7 +17,7 @@ abbrev pub but_for : Bound → Names → Names
 but_for [] names = names
 but_for (entry ∷ moved) names = but_for moved (without entry.0 names)
 
--- one more, behind those that were moved before, where it is among the names that are left
+-- one more, after those that were moved before, where it is among the names that are left
 abbrev pub one_moved : (Wires → ℕ → Making Wires) → Names → List ℕ × Wires → Bound → ℕ → Making Bound
 one_moved move names entry before next =
     if is_among entry.0 (but_for before names)

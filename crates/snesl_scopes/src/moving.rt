@@ -70,7 +70,7 @@ fn move_all<'a>(
     Ok(moved)
 }
 
-// Moves what is in scope, from the innermost bindings outwards, and adds it behind what was moved before.
+// Moves what is in scope, from the innermost bindings outwards, and adds it after what was moved before.
 fn move_scope<'a>(
     steps: &mut Steps,
     at: usize,

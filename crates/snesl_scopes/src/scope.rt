@@ -14,7 +14,7 @@ use std::alloc::{AllocError, Global};
 #[derive(Clone, Copy)]
 pub enum Scope<'a> {
     Nothing,
-    /// These bindings, of which the first hides others of its name, and behind them another scope.
+    /// These bindings, of which the first hides others of its name, and after them another scope.
     Frame(&'a [Binding<'a>], &'a Scope<'a>),
 }
 

@@ -31,7 +31,7 @@ use std::alloc::Global;
 /// A number is what `str::parse` reads: decimal digits, before which one plus may stand. The refusal is
 /// `Refusal::NoMemory` where memory was refused. It is `Refusal::BadConfig` for a word that is none of these options, so
 /// for `--help` too, an option that stands there twice or has no value, and a value that is not as the table says. A `--`
-/// with no word behind it says nothing.
+/// with no word after it says nothing.
 pub fn settings<'a>(alloc: Global, words: &'a [&'a str]) -> Result<Config, Refusal>
     ensures lawful { IfOk result (λ config. IsLawful config) }
     ensures refused { IfErr result (λ refusal. (refusal ≡ BadConfig) ⊎ (refusal ≡ NoMemory)) }

@@ -12,7 +12,7 @@ use Rattle.snesl_steps.specs.declared.steps.Steps.{Steps}
 pub done_made : {A : Type 0} (steps : Steps) (x : A) → HasMade steps steps (done x (next_in steps)) x
 done_made steps x = record { dialect = refl; steps = sym (append-nil (steps_in steps)); next = refl; given = refl }
 
--- behind a first making that was made, what is added by the rest is added by both
+-- after a first making that was made, what is added by the rest is added by both
 pub made_then : {A B C : Type 0} (view : A → C) (old middle new : Steps) (first : Making B) (rest : B → ℕ → Making C) (given : B) (result : Result A Refusal)
     → HasMade old middle first given → Adds view middle new (rest given (next_in middle)) result → Adds view old new (and_then first rest) result
 unfolding and_then
@@ -77,7 +77,7 @@ abbrev pub Continues : Steps → Steps → Making (Unit {0}) → Making (Unit {0
 Continues old now rest whole =
     (new : Steps) (result : Result (Unit {0}) Refusal) → Adds (λ x. x) now new rest result → Adds (λ x. x) old new whole result
 
--- the item at an index, and the others behind it
+-- the item at an index, and the others after it
 pub from_index : {A : Type 0} (xs : List A) (i : ℕ) (x : A) → i < length xs → get_or xs i x ∷ drop (i + 1) xs ≡ drop i xs
 from_index xs i x within =
     let n : i + 1 ≡ suc i = omega arith in

@@ -8,7 +8,7 @@ use Rattle.snesl_translation.specs.Makings.{Making}
 use Rattle.snesl_steps.specs.Views.{dialect_of_steps, steps_in, next_in}
 use Rattle.snesl_steps.specs.declared.steps.Steps.{Steps}
 
--- just the steps of this making are there now behind the others
+-- just the steps of this making are there now after the others
 pub record HasMade {B : Type 0} (old new : Steps) (making : Making B) (value : B) : Type 0 where
   pub dialect : dialect_of_steps new ≡ dialect_of_steps old
   pub steps : steps_in new ≡ steps_in old ++ making.steps

@@ -189,7 +189,7 @@ pub(crate) fn next_wires(alloc: Global, ty: &Ty, next: &mut usize) -> Result<Wir
     }
 }
 
-// The next number, and then the one behind it is the next.
+// The next number, and then the one after it is the next.
 pub(crate) fn next_number(next: &mut usize) -> Result<usize, AllocError>
     ensures number { IfOk result (λ number. number ≡ next.old) }
     ensures next { OnOk result (next.new ≡ next.old + 1) }

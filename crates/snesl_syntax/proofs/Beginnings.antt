@@ -1,4 +1,4 @@
--- What the grammar lists as the beginning of a program behind its dialect can be completed to one.
+-- What the grammar lists as the beginning of a program after its dialect can be completed to one.
 use Rattle.std.proofs.Common.{◌≡◌, ℕ, max, ◌≤◌, List, [], ◌∷◌, ◌++◌, refl, sym, ◌∙◌, ap, subst, arith, append_assoc}
 use Rattle.snesl_lexer.specs.declared.token.Kind.TheVariants.{Int, Function, LeftParen, RightParen, Colon, Semicolon, Comma, Equals}
 use Rattle.snesl_lexer.specs.declared.token.Token.{Token}
@@ -111,7 +111,7 @@ parameters_pos (more_parameters comma place colon {given = given} {written = wri
 abbrev short : Typed
 short = typed spot (int_type 0)
 
--- the rest of a function behind its parameters
+-- the rest of a function after its parameters
 abbrev short_rest : List Token
 short_rest = token RightParen 0 ∷ token Colon 0 ∷ token Int 0 ∷ token Equals 0 ∷ leaf ∷ token Semicolon 0 ∷ []
 
@@ -224,7 +224,7 @@ module _ {State : Type 0} (expressions : Reader State Tree) (right : ReadsExpres
       let made : Rest = record { declarations = done; expression = c.1 } in
       (c.0, made, subst (λ x. WholeRest x made) (sym (append_assoc ts us c.0)) (rest_rule ws c.2), omega arith)
 
-  -- The reader of programs behind their dialect reads what the grammar says, where that of expressions does.
+  -- The reader of programs after their dialect reads what the grammar says, where that of expressions does.
   pub rests_are_read : IsReaderOfRests (programs expressions)
   rests_are_read = record {
     reads = λ d ts rest w h. rest_reads expressions right d ts rest w h;

@@ -1,4 +1,4 @@
--- Which tokens are a program behind its dialect, and which begin one.
+-- Which tokens are a program after its dialect, and which begin one.
 use Rattle.std.proofs.Common.{ℕ, max, ◌≤◌, List, ◌++◌}
 use Rattle.snesl_lexer.specs.declared.token.Token.{Token}
 use Rattle.snesl_tree.specs.Tree.{Tree, depth, DeclarationTree}

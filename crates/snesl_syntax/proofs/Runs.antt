@@ -1,4 +1,4 @@
--- A whole program is read behind its dialect, where expressions are.
+-- A whole program is read after its dialect, where expressions are.
 use Rattle.std.proofs.Common.{◌≡◌, ℕ, max, ◌≤◌, List, [], ◌∷◌, ◌++◌, Some, None, Ok, refl, ◌∙◌, ap, arith}
 use Rattle.snesl_lexer.specs.declared.token.Kind.TheVariants.{Dialect, Input, Function, LeftParen, RightParen, Colon, Semicolon, Comma, Equals}
 use Rattle.snesl_lexer.specs.declared.token.Token.{Token}
@@ -38,7 +38,7 @@ module _ {State : Type 0} (expressions : Reader State Tree) (right : ReadsExpres
   abbrev reader : Reader (ProgramState State) Rest
   reader = programs expressions
 
-  -- the token behind a whole type ends it
+  -- the token after a whole type ends it
   type_end_step : (d : ℕ) (owner : TypeOf) (s : TypeState) (written : TypeTree) (t : Token) (next : ProgramState State)
       → types.finished s ≡ Some written → type_end expressions owner t.kind written ≡ free next → step reader d (in_type owner s) t ≡ Ok next
   type_end_step d owner s written t next f e =
@@ -79,7 +79,7 @@ module _ {State : Type 0} (expressions : Reader State Tree) (right : ReadsExpres
       goes_on reader d (in_type owner types.start) (in_type owner r.0) ts (t ∷ rest) (type_goes d owner ts r.0 r.1)
       ∙ steps_on reader d (in_type owner r.0) next t rest (type_end_step d owner r.0 written t next r.2 e)
 
-  -- what is left behind parameters: the last one's type is open, and whole
+  -- what is left after parameters: the last one's type is open, and whole
   record ReadsParameters (d : ℕ) (done : List DeclarationTree) (function : Span) (ts : List Token) (parameters : List Typed) : Type 0 where
     pub given : List Typed
     pub place : Span
@@ -181,7 +181,7 @@ module _ {State : Type 0} (expressions : Reader State Tree) (right : ReadsExpres
       goes_on reader d (between []) (between given) ts us (reads_declarations ws d (omega arith))
       ∙ reads_declaration w d given (omega arith)
 
-  -- the expression is read behind the declarations as it is by itself
+  -- the expression is read after the declarations as it is by itself
   reads_final : (d : ℕ) (done : List DeclarationTree) (us : List Token) (r : State) → go expressions d expressions.start us ≡ Ok r
       → (s : ProgramState State) × (go reader d (between done) us ≡ Ok s) × (finished_program expressions s ≡ with_expression expressions done (expressions.finished r))
   reads_final d done [] r e =
@@ -199,7 +199,7 @@ module _ {State : Type 0} (expressions : Reader State Tree) (right : ReadsExpres
         refl,
       )
 
-  -- a whole program is read behind its dialect
+  -- a whole program is read after its dialect
   pub rest_reads : (d : ℕ) (ts : List Token) (rest : Rest) → WholeRest ts rest → rest_depth rest ≤ d
       → (s : ProgramState State) × (go reader d reader.start ts ≡ Ok s) × (reader.finished s ≡ Some rest)
   rest_reads d ts rest (rest_rule {ts = front} {us = back} {declarations = declarations} {expression = expression} ws w) h =

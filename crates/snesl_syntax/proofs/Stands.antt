@@ -1,4 +1,4 @@
--- What was read of a program behind its dialect stands in the grammar.
+-- What was read of a program after its dialect stands in the grammar.
 use Rattle.std.proofs.Common.{◌≡◌, ℕ, suc, max, ◌≤◌, List, [], ◌∷◌, ◌++◌, Option, Some, None, Ok, refl, sym, subst, arith, append_assoc}
 use Rattle.std.proofs.lemmas.List.{append-nil}
 use Rattle.snesl_lexer.specs.declared.token.Kind.{Kind}
@@ -23,7 +23,7 @@ pub record Declared (d : ℕ) (done : List DeclarationTree) (ts : List Token) : 
   pub are : WholeDeclarations ts done
   pub shallow : declarations_depth done ≤ d
 
--- the tokens behind a function's opening parenthesis that lead to its next parameter
+-- the tokens after a function's opening parenthesis that lead to its next parameter
 pub data Given : ℕ → List Typed → List Token → Type 0 where
   given_none : {d : ℕ} → Given d [] []
   given_more : {d : ℕ} (comma : ℕ) {given : List Typed} {ts : List Token}
@@ -51,7 +51,7 @@ pub data OpensBody : ℕ → Header → List Token → Type 0 where
       (ts ++ (token Function at ∷ name_token function ∷ token LeftParen opened
       ∷ (us ++ (token RightParen closed ∷ token Colon colon ∷ (vs ++ (token Equals equals ∷ []))))))
 
--- the parameters behind one more, and their depth
+-- the parameters after one more, and their depth
 pub given_and : {d : ℕ} {given : List Typed} {us : List Token} → Given d given us → (place : Span) (colon : ℕ) (vs : List Token) (written : TypeTree)
     → WholeType vs written → type_depth written ≤ d
     → WholeParameters (us ++ (name_token place ∷ token Colon colon ∷ vs)) (given ++ typed place written ∷ [])

@@ -1,4 +1,4 @@
--- Whole programs are read as the grammar says, where they are behind their dialect.
+-- Whole programs are read as the grammar says, where they are after their dialect.
 use Rattle.std.proofs.Common.{◌≡◌, ℕ, zero, suc, pos, ◌≤◌, List, [], ◌∷◌, ◌++◌, Option, Some, None, Ok, refl, sym, ◌∙◌, ap, subst, arith, append_assoc}
 use Rattle.snesl_data.specs.declared.dialect.Dialect.{Dialect}
 use Rattle.snesl_data.specs.declared.dialect.Dialect.TheVariants.{One, Two}
@@ -17,7 +17,7 @@ use Rattle.snesl_syntax.proofs.Rests.{WholeRest, rest_rule, FrontRest, rest_in_d
 use Rattle.snesl_syntax.proofs.Beginnings.{spot, leaf}
 use Rattle.snesl_syntax.proofs.Exact.{IsReaderOfPrograms}
 
--- a dialect and the rest behind it are a program, and what begins a rest begins one
+-- a dialect and the rest after it are a program, and what begins a rest begins one
 named_whole : {named us : List Token} {dialect : Dialect} {rest : Rest} → WholeDialect named dialect → WholeRest us rest
     → WholeProgram (named ++ us) (program_in dialect rest)
 named_whole n (rest_rule ws w) = program_rule n ws w
@@ -40,7 +40,7 @@ module _ {State : Type 0} (rests : Reader State Rest) (right : IsReaderOfRests r
       → go reader d (in_rest dialect s) ts ≡ Ok (in_rest dialect r)
   rest_goes d dialect ts s r e = go_carried rests reader (in_rest dialect) (λ x t found f. ap (lifted (in_rest dialect)) f) d ts s r e
 
-  -- what is read of a program behind its dialect
+  -- what is read of a program after its dialect
   record ReadsRest (d : ℕ) (dialect : Dialect) (ts : List Token) (r : State) : Type 0 where
     pub state : DialectState State
     pub runs : go reader d beginning ts ≡ Ok state
@@ -63,7 +63,7 @@ module _ {State : Type 0} (rests : Reader State Rest) (right : IsReaderOfRests r
         finished = refl;
       }
 
-  -- the rest is read behind its dialect as it is by itself
+  -- the rest is read after its dialect as it is by itself
   reads_named : {named : List Token} {dialect : Dialect} → WholeDialect named dialect → (d : ℕ) (us : List Token) (r : State)
       → go rests d rests.start us ≡ Ok r → ReadsRest d dialect (named ++ us) r
   reads_named no_dialect d us r e = reads_first d us r e
@@ -172,7 +172,7 @@ module _ {State : Type 0} (rests : Reader State Rest) (right : IsReaderOfRests r
   stands_whole least (stands_semicolon at number) program f = absurd (let never : ⊥ = cc in never)
   stands_whole least (stands_rest {s = state} us n e) program f = rest_is_whole n us state program least e f
 
-  -- what begins a rest behind a dialect can be completed to a program
+  -- what begins a rest after a dialect can be completed to a program
   named_completes : (d : ℕ) {named : List Token} {dialect : Dialect} → WholeDialect named dialect → (us : List Token) → FrontRest d us
       → (rest : List Token) × (program : ProgramTree) × WholeProgram ((named ++ us) ++ rest) program × (program_depth program ≤ d)
   named_completes d {named = named} {dialect = dialect} n us f =

@@ -1,4 +1,4 @@
--- How programs are read from their dialect on, given how they are behind it.
+-- How programs are read from their dialect on, given how they are after it.
 use Rattle.std.specs.Prelude.{zero, suc, pos, Option, Some, None}
 use Rattle.snesl_data.specs.declared.dialect.Dialect.{Dialect}
 use Rattle.snesl_data.specs.declared.dialect.Dialect.TheVariants.{One, Two}

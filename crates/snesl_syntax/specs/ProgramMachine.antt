@@ -1,4 +1,4 @@
--- The states that the reader of programs behind their dialect is in, and what it returns.
+-- The states that the reader of programs after their dialect is in, and what it returns.
 use Rattle.std.specs.Prelude.{◌≡◌, List, map, Option, Some, None}
 use Rattle.snesl_tree.specs.Tree.{DeclarationTree}
 use Rattle.snesl_tree.specs.View.{tree_of, type_tree, typed_of, declaration_of}
@@ -15,18 +15,18 @@ use Rattle.snesl_syntax.specs.Programs.{Rest, TypeOf, of_input, of_parameter, of
 use Rattle.snesl_syntax.specs.Programs.{Header as OpenFunction}
 use Rattle.snesl_syntax.specs.TypeMachine.{type_state}
 
--- what a type is of, behind these declarations
+-- what a type is of, after these declarations
 abbrev pub owner_of : List DeclarationTree → Owner → TypeOf
 owner_of done (owners.Input name) = of_input done name
 owner_of done (owners.Parameter function given name) = of_parameter done function (map typed_of given.items) name
 owner_of done (owners.Result function parameters) = of_result done function (map typed_of parameters.items)
 
--- a function before its body, behind these declarations
+-- a function before its body, after these declarations
 abbrev pub header_of : List DeclarationTree → Header → OpenFunction
 header_of done header =
     record { done = done; function = header.name; parameters = map typed_of header.parameters.items; result = type_tree header.result }
 
--- the state at this point, behind these declarations
+-- the state at this point, after these declarations
 abbrev pub state_at : List DeclarationTree → ProgramPoint → ProgramState State
 state_at done points.Between = between done
 state_at done points.Input = awaits_input done

@@ -1,4 +1,4 @@
--- How programs are read behind their dialect, given how expressions are.
+-- How programs are read after their dialect, given how expressions are.
 use Rattle.std.specs.Prelude.{ℕ, List, [], ◌∷◌, ◌++◌, Option, Some, None}
 use Rattle.snesl_lexer.specs.declared.token.Kind.{Kind}
 use Rattle.snesl_lexer.specs.declared.token.Kind.TheVariants as kinds
@@ -9,28 +9,28 @@ use Rattle.snesl_expressions.specs.Readers.{TokenMove, free, Reader}
 use Rattle.snesl_syntax.specs.Types.{TypeState, types}
 use Rattle.snesl_grammar.specs.Programs.{typed}
 
--- a program behind its dialect: its declarations in order, and its expression
+-- a program after its dialect: its declarations in order, and its expression
 pub record Rest : Type 0 where
   pub declarations : List DeclarationTree
   pub expression : Tree
 
--- what a type is of, behind the declarations that are whole
+-- what a type is of, after the declarations that are whole
 pub data TypeOf : Type 0 where
   -- an input
   of_input : (done : List DeclarationTree) (place : Span) → TypeOf
-  -- a parameter of a function, behind those that are given
+  -- a parameter of a function, after those that are given
   of_parameter : (done : List DeclarationTree) (function : Span) (given : List Typed) (place : Span) → TypeOf
   -- the result of a function
   of_result : (done : List DeclarationTree) (function : Span) (parameters : List Typed) → TypeOf
 
--- a function before its body, behind the declarations that are whole
+-- a function before its body, after the declarations that are whole
 pub record Header : Type 0 where
   pub done : List DeclarationTree
   pub function : Span
   pub parameters : List Typed
   pub result : TypeTree
 
--- What may come next behind a dialect, behind the declarations that are whole. Expressions are read in states of their own.
+-- What may come next after a dialect, after the declarations that are whole. Expressions are read in states of their own.
 pub data ProgramState (State : Type 0) : Type 0 where
   -- a declaration or the expression begins
   between : (done : List DeclarationTree) → ProgramState State
@@ -121,6 +121,6 @@ module _ {State : Type 0} (expressions : Reader State Tree) where
   finished_program (in_final done state) = with_expression done (expressions.finished state)
   finished_program _ = None
 
-  -- behind their dialect, programs are read from before their first declaration
+  -- after their dialect, programs are read from before their first declaration
   abbrev pub programs : Reader (ProgramState State) Rest
   programs = record { start = between []; move = program_move; finished = finished_program }

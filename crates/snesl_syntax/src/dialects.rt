@@ -21,7 +21,7 @@ pub enum DialectMachine {
     Beginning,
     /// The number of the dialect.
     Number,
-    /// The semicolon behind it.
+    /// The semicolon after it.
     Semicolon,
     /// The rest of the program.
     Rest {
@@ -30,7 +30,7 @@ pub enum DialectMachine {
     },
 }
 
-/// A program's dialect, and the parts behind it.
+/// A program's dialect, and the parts after it.
 #[derive(Drop)]
 pub struct Whole {
     pub dialect: Dialect,
@@ -71,7 +71,7 @@ fn number(token: Token) -> Result<DialectMachine, StepError>
     }
 }
 
-// Behind the number.
+// After the number.
 fn semicolon(alloc: Global, token: Token) -> Result<DialectMachine, StepError>
     ensures { Steps dialect_state result (step reader greatest_depth awaits_semicolon token) }
 {
@@ -88,7 +88,7 @@ fn semicolon(alloc: Global, token: Token) -> Result<DialectMachine, StepError>
 }
 
 impl DialectMachine {
-    /// The machine behind the next token.
+    /// The machine after the next token.
     pub fn step(self, alloc: Global, token: Token) -> Result<DialectMachine, StepError>
         ensures { Steps dialect_state result (step reader greatest_depth
             (dialect_state self) token) }

@@ -63,7 +63,7 @@ fn parse_tokens(alloc: Global, tokens: &[Token], len: usize) -> Result<Whole, Re
 /// - an integer, `true`, `false` or a name; a built-in function or a name with one or more
 ///   arguments in parentheses; an expression or a pair of two in parentheses; and in braces one or
 ///   more items, `{item | condition}`, or a comprehension `{body : name in source; ..}`, of one to
-///   eight binders, with `| condition` behind them or without
+///   eight binders, with `| condition` after them or without
 ///
 /// `int` and `bool`, an integer, a truth value and a name have depth 1; every other type and
 /// expression has 1 more than its deepest part. A program is as deep as its deepest type, function

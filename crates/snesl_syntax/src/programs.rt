@@ -1,4 +1,4 @@
-// The reader of a program behind its dialect, between two tokens, and what a token makes of it.
+// The reader of a program after its dialect, between two tokens, and what a token makes of it.
 
 ghost use Rattle.std.specs.Prelude.{◌≡◌, Ok, map, IfOk};
 ghost use Rattle.snesl_lexer.specs.declared.token.Kind.TheVariants.{Semicolon};
@@ -49,13 +49,13 @@ pub enum ProgramPoint {
     Between,
     /// The name of an input.
     Input,
-    /// The colon behind it.
+    /// The colon after it.
     InputColon {
         name: Span,
     },
     /// The name of a function.
     Function,
-    /// The parenthesis behind it.
+    /// The parenthesis after it.
     Open {
         function: Span,
     },
@@ -64,13 +64,13 @@ pub enum ProgramPoint {
         function: Span,
         given: Vec<Typing>,
     },
-    /// The colon behind it.
+    /// The colon after it.
     ParameterColon {
         function: Span,
         given: Vec<Typing>,
         name: Span,
     },
-    /// The colon behind the parameters.
+    /// The colon after the parameters.
     ResultColon {
         function: Span,
         parameters: Vec<Typing>,
@@ -89,7 +89,7 @@ pub enum ProgramPoint {
     Final(Machine),
 }
 
-/// The reader of a program behind its dialect, between two tokens, with the declarations that are
+/// The reader of a program after its dialect, between two tokens, with the declarations that are
 /// whole.
 #[derive(Drop)]
 pub struct ProgramMachine {
@@ -97,7 +97,7 @@ pub struct ProgramMachine {
     point: ProgramPoint,
 }
 
-/// The parts of a program behind its dialect.
+/// The parts of a program after its dialect.
 #[derive(Drop)]
 pub struct Parsed {
     pub declarations: Vec<Declaration>,
@@ -151,7 +151,7 @@ fn input_name(done: Vec<Declaration>, token: Token) -> Result<ProgramMachine, St
     }
 }
 
-// Behind the name of an input.
+// After the name of an input.
 fn input_colon(
     alloc: Global,
     done: Vec<Declaration>,
@@ -185,7 +185,7 @@ fn function_name(done: Vec<Declaration>, token: Token) -> Result<ProgramMachine,
     }
 }
 
-// Behind the name of a function.
+// After the name of a function.
 fn open(
     alloc: Global,
     done: Vec<Declaration>,
@@ -231,7 +231,7 @@ fn parameter_name(
     }
 }
 
-// Behind the name of a parameter.
+// After the name of a parameter.
 fn parameter_colon(
     alloc: Global,
     done: Vec<Declaration>,
@@ -258,7 +258,7 @@ fn parameter_colon(
     }
 }
 
-// Behind the parameters of a function.
+// After the parameters of a function.
 fn result_colon(
     alloc: Global,
     done: Vec<Declaration>,
@@ -283,7 +283,7 @@ fn result_colon(
     }
 }
 
-// Behind the type of an input.
+// After the type of an input.
 fn input_end(
     mut done: Vec<Declaration>,
     name: Span,
@@ -303,7 +303,7 @@ fn input_end(
     }
 }
 
-// Behind the type of a parameter.
+// After the type of a parameter.
 fn parameter_end(
     done: Vec<Declaration>,
     function: Span,
@@ -335,7 +335,7 @@ fn parameter_end(
     }
 }
 
-// Behind the type of a result.
+// After the type of a result.
 fn result_end(
     alloc: Global,
     done: Vec<Declaration>,
@@ -355,7 +355,7 @@ fn result_end(
     }
 }
 
-// Behind a type.
+// After a type.
 fn type_ended(
     alloc: Global,
     done: Vec<Declaration>,
@@ -388,7 +388,7 @@ fn type_ended(
     }
 }
 
-// In a type, or behind it.
+// In a type, or after it.
 fn in_type(
     alloc: Global,
     done: Vec<Declaration>,
@@ -447,7 +447,7 @@ fn function_ended(
     at_point(done, ProgramPoint::Between)
 }
 
-// In the body of a function, or behind it.
+// In the body of a function, or after it.
 fn in_body(
     alloc: Global,
     done: Vec<Declaration>,
@@ -483,7 +483,7 @@ impl ProgramMachine {
         }
     }
 
-    /// The machine behind the next token.
+    /// The machine after the next token.
     pub fn step(self, alloc: Global, token: Token) -> Result<ProgramMachine, StepError>
         ensures { Steps program_state result (step (programs expressions) greatest_depth
             (program_state self) token) }

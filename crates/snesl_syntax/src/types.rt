@@ -68,7 +68,7 @@ fn enter(forms: Vec<TypeForm>, form: TypeForm) -> Result<TypeMachine, StepError>
     go_in(forms, form)
 }
 
-// Behind a type.
+// After a type.
 fn behind(forms: Vec<TypeForm>, last: WrittenType) -> Result<TypeMachine, StepError>
     ensures { Steps type_state result (Ok (type_ended (frames_of forms.items) (type_tree last))) }
 {
@@ -94,7 +94,7 @@ fn begins(forms: Vec<TypeForm>, token: Token) -> Result<TypeMachine, StepError>
     }
 }
 
-// Behind the first part of a pair.
+// After the first part of a pair.
 fn first_ended(
     forms: Vec<TypeForm>,
     at: usize,
@@ -110,7 +110,7 @@ fn first_ended(
     }
 }
 
-// Behind the second part of a pair.
+// After the second part of a pair.
 fn second_ended(
     alloc: Global,
     forms: Vec<TypeForm>,
@@ -136,7 +136,7 @@ fn second_ended(
     }
 }
 
-// Behind the item of a vector.
+// After the item of a vector.
 fn vector_ended(
     alloc: Global,
     forms: Vec<TypeForm>,
@@ -159,7 +159,7 @@ fn vector_ended(
     }
 }
 
-// Behind the item of a sequence.
+// After the item of a sequence.
 fn sequence_ended(
     alloc: Global,
     forms: Vec<TypeForm>,
@@ -182,7 +182,7 @@ fn sequence_ended(
     }
 }
 
-// Behind a type.
+// After a type.
 fn ended(
     alloc: Global,
     mut forms: Vec<TypeForm>,
@@ -214,7 +214,7 @@ impl TypeMachine {
         }
     }
 
-    /// The machine behind the next token.
+    /// The machine after the next token.
     pub fn step(self, alloc: Global, token: Token) -> Result<TypeMachine, StepError>
         ensures { Steps type_state result (step types greatest_depth (type_state self) token) }
     {

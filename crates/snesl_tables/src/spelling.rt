@@ -1,6 +1,6 @@
 // Bytes spelled as text.
 //
-// A text stands for its bytes, but for a backslash and what is behind it:
+// A text stands for its bytes, but for a backslash and what is after it:
 //
 //   \t \n \r \0     a tab, a line feed, a carriage return, the byte 0
 //   \xHH            the byte of two hexadecimal digits, so `\x5c` for a backslash and `\x20` for a blank
@@ -15,7 +15,7 @@ use thiserror::Error;
 /// Why a text spells no bytes.
 #[derive(Clone, Copy, Debug, Error)]
 pub enum SpellingError {
-    /// A backslash with none of the listed forms behind it.
+    /// A backslash with none of the listed forms after it.
     #[error("a backslash begins no escape")]
     Escape,
     /// A repeated piece that has no count, is not closed or not opened, or stands in another.
@@ -59,7 +59,7 @@ pub fn spelled(alloc: Global, text: &str) -> Result<Vec<u8>, SpellingError> {
 }
 
 impl Speller {
-    // Takes what is behind one backslash, up to the next.
+    // Takes what is after one backslash, up to the next.
     fn escape(&mut self, piece: &str) -> Result<(), SpellingError> {
         match piece.as_bytes() {
             [b'x', high, low, rest @ ..] => {
@@ -128,7 +128,7 @@ fn repeated(alloc: Global, piece: &[u8], count: usize) -> Result<Vec<u8>, Spelli
     Ok(pieces)
 }
 
-// The count, at least one, of a piece that begins `[COUNT:`, and what is behind it.
+// The count, at least one, of a piece that begins `[COUNT:`, and what is after it.
 fn counted(piece: &str) -> Option<(usize, &str)> {
     let (count, rest) = piece.strip_prefix('[')?.split_once(':')?;
     match count.parse::<usize>() {
@@ -137,7 +137,7 @@ fn counted(piece: &str) -> Option<(usize, &str)> {
     }
 }
 
-// The byte that this letter stands for behind a backslash.
+// The byte that this letter stands for after a backslash.
 fn byte_of_letter(letter: u8) -> Option<u8>
     ensures tab { letter ≡ 116 → result ≡ Some 9 }
     ensures line_feed { letter ≡ 110 → result ≡ Some 10 }

@@ -1,10 +1,10 @@
 // Tables of jobs and their answers, as text.
 //
-// A row begins with the lines of a job, the last of which ends in no line feed. Behind them stand the other lines
+// A row begins with the lines of a job, the last of which ends in no line feed. After them stand the other lines
 // below, in any order. All but numbers are spelled as `spelling.rt` says.
 //
-//   job TEXT        the program, and behind a line `---` the input text
-//       TEXT        a further line of the job, behind four blanks
+//   job TEXT        the program, and after a line `---` the input text
+//       TEXT        a further line of the job, after four blanks
 //   prints LINE     the line on standard output, without its line feed. Each row has it
 //   says LINE       the line on standard error, without its line feed; with no such line there is none
 //   status N        the exit status; with no such line it is 0

@@ -38,7 +38,7 @@ fn a_program_may_end_at_no_capacity(rt: HostRuntime) {
 }
 
 #[test]
-fn a_fault_is_found_behind_stalls(rt: HostRuntime) {
+fn a_fault_is_found_after_stalls(rt: HostRuntime) {
     let program = b"let s = iota(300) in length(s ++ s) / 0";
     let size = least_capacity(&rt, rt.alloc(), program, b"", 16);
     let want = Fault {

@@ -30,7 +30,7 @@ impl Stop {
     }
 }
 
-/// Which calls go wrong: some behind those that work. The calls behind them work again.
+/// Which calls go wrong: some after those that work. The calls after them work again.
 #[derive(Clone, Copy)]
 pub struct Trouble {
     pub works: u64,
@@ -46,7 +46,7 @@ pub const SOUND: Trouble = Trouble {
 };
 
 impl Trouble {
-    /// All calls fail behind so many.
+    /// All calls fail after so many.
     pub fn behind(works: usize) -> Trouble {
         Trouble {
             works: works as u64,
@@ -55,7 +55,7 @@ impl Trouble {
         }
     }
 
-    // Whether a call goes wrong, behind so many others.
+    // Whether a call goes wrong, after so many others.
     fn strikes(&self, behind: u64) -> bool {
         match behind.checked_sub(self.works) {
             Some(number) => number < self.fails,

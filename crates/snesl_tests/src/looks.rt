@@ -29,7 +29,7 @@ fn places_are_counted_from_one(rt: HostRuntime) {
 }
 
 #[test]
-fn behind_the_end_is_the_end(rt: HostRuntime) {
+fn after_the_end_is_the_end(rt: HostRuntime) {
     assert_eq!(rt; position_of(TEXT, 26), Position { line: 5, column: 1 });
     assert_eq!(rt; position_of(TEXT, 27), Position { line: 5, column: 1 });
     assert_eq!(rt;

@@ -34,7 +34,7 @@ fn assert_refused<R: Abort + Threads>(
     assert_answer(rt, alloc, &["snesl"], job, troubles, wanted);
 }
 
-// Asserts that a job is not read, since the call behind so many fails.
+// Asserts that a job is not read, since the call after so many fails.
 fn assert_unread<R: Abort + Threads>(rt: &R, alloc: Global, job: &[u8], reads: usize) {
     let wanted = Wanted {
         reads: reads.wrapping_add(1),
@@ -48,7 +48,7 @@ fn assert_unread<R: Abort + Threads>(rt: &R, alloc: Global, job: &[u8], reads: u
 }
 
 // So many blanks, and then these bytes.
-fn behind_blanks(alloc: Global, blanks: usize, bytes: &[u8]) -> Result<Vec<u8>, AllocError> {
+fn after_blanks(alloc: Global, blanks: usize, bytes: &[u8]) -> Result<Vec<u8>, AllocError> {
     let mut job = vec![in alloc; b' '; blanks]?;
     job.extend_from_slice(bytes)?;
     Ok(job)
@@ -59,7 +59,7 @@ fn behind_blanks(alloc: Global, blanks: usize, bytes: &[u8]) -> Result<Vec<u8>, 
 const LONG: [(usize, &[u8], usize); 6] = [
     (PROGRAM + 10, b"", PROGRAM + 1),
     (PROGRAM + 1, b"\n---\n1", PROGRAM + 1),
-    // A separator may begin at the limit, or a byte behind it, until another byte shows that none does.
+    // A separator may begin at the limit, or a byte after it, until another byte shows that none does.
     (PROGRAM - 1, b"\n--x---\n1", PROGRAM + 3),
     (PROGRAM - 1, b"\n---x\n1", PROGRAM + 4),
     (PROGRAM - 1, b"\n---\rx", PROGRAM + 5),
@@ -77,12 +77,12 @@ const AT_LIMIT: [(usize, &[u8]); 4] = [
 #[test]
 fn programs_about_their_limit(rt: HostRuntime) -> Result<(), Fail> {
     for (blanks, bytes, reads) in LONG {
-        let job = behind_blanks(rt.alloc(), blanks, bytes)?;
+        let job = after_blanks(rt.alloc(), blanks, bytes)?;
         assert_refused(&rt, rt.alloc(), &job, reads, b"refused 1\n");
         assert_unread(&rt, rt.alloc(), &job, reads - 1);
     }
     for (blanks, bytes) in AT_LIMIT {
-        let job = behind_blanks(rt.alloc(), blanks, bytes)?;
+        let job = after_blanks(rt.alloc(), blanks, bytes)?;
         let reads = job.len().wrapping_add(1);
         assert_refused(&rt, rt.alloc(), &job, reads, b"refused 3 at 65536\n");
     }
@@ -116,7 +116,7 @@ fn parted(
 // A program of one byte too many is not cut, so its input text is read.
 #[test]
 fn a_program_one_byte_over_its_limit_is_whole(rt: HostRuntime) -> Result<(), Fail> {
-    let job = behind_blanks(rt.alloc(), PROGRAM, b"\n---\nx = 1")?;
+    let job = after_blanks(rt.alloc(), PROGRAM, b"\n---\nx = 1")?;
     let reads = job.len().wrapping_add(1);
     assert_refused(&rt, rt.alloc(), &job, reads, b"refused 1\n");
     let parts = parted(rt.alloc(), &job, (b" \n", b"x = 1", b""))?;
@@ -124,11 +124,11 @@ fn a_program_one_byte_over_its_limit_is_whole(rt: HostRuntime) -> Result<(), Fai
     Ok(())
 }
 
-// Behind an input text that is too long nothing is read.
+// After an input text that is too long nothing is read.
 #[test]
 fn a_long_input_is_cut(rt: HostRuntime) -> Result<(), Fail> {
     let mut job = Vec::from_slice(rt.alloc(), b"1\n---\n")?;
-    job.extend_from_slice(&behind_blanks(rt.alloc(), INPUT, b"abc")?)?;
+    job.extend_from_slice(&after_blanks(rt.alloc(), INPUT, b"abc")?)?;
     let parts = parted(rt.alloc(), &job, (b"1\n", b" a", b"bc"))?;
     assert_eq!(rt; parts, Some((2, INPUT + 1)));
     Ok(())

@@ -14,7 +14,7 @@ use std::test::Fail;
 use std::thread;
 use std::thread::Threads;
 
-// Says no to one start, behind so many.
+// Says no to one start, after so many.
 #[derive(Drop)]
 struct Refusing {
     behind: usize,
@@ -53,7 +53,7 @@ impl Gate for Slow {
     }
 }
 
-// Asserts what a run in three threads answers whose start is refused behind so many: no thread and an empty writer, or the value
+// Asserts what a run in three threads answers whose start is refused after so many: no thread and an empty writer, or the value
 // where it makes no such start. Each thread that was started has made a turn, so it was joined.
 fn assert_refused<R: Abort + Threads>(
     rt: &R,

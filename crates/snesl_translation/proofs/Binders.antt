@@ -46,7 +46,7 @@ sources_on streams more (source ∷ sources) [] all h = absurd h
 sources_on streams more (source ∷ sources) (item ∷ items) all (groups, others, is, same, named, c, rest) =
     (groups, others, is, same, named, carried_on streams more source.1 (seq item.1) (map a_seq_of groups) c, sources_on streams more sources items others rest)
 
--- makings one behind the other
+-- makings one after the other
 
 -- an expression, and then sources
 head_goes : (streams : Columns) (s : Ty) (items : List Declaration) (first : Making Wires) (rest : Wires → ℕ → Making Sources) (o : Option (List Value)) (after : List Value → Option (List BoundItems))

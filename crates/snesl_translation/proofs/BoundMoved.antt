@@ -75,14 +75,14 @@ stay_other bytes x names among = by_test (bytes_eq bytes x) refl
 pub wires_here : (bytes : List ℕ) (entry : List ℕ × Wires) (bound : Bound) → bytes_eq bytes entry.0 ≡ true → wires_named bytes (entry ∷ bound) ≡ entry.1
 wires_here bytes entry bound e = ap (λ b. cond b entry.1 (wires_named bytes bound)) e
 
-pub wires_behind : (bytes : List ℕ) (entry : List ℕ × Wires) (bound : Bound) → bytes_eq bytes entry.0 ≡ false → wires_named bytes (entry ∷ bound) ≡ wires_named bytes bound
-wires_behind bytes entry bound e = ap (λ b. cond b entry.1 (wires_named bytes bound)) e
+pub wires_after : (bytes : List ℕ) (entry : List ℕ × Wires) (bound : Bound) → bytes_eq bytes entry.0 ≡ false → wires_named bytes (entry ∷ bound) ≡ wires_named bytes bound
+wires_after bytes entry bound e = ap (λ b. cond b entry.1 (wires_named bytes bound)) e
 
 pub bound_here : (bytes : List ℕ) (entry : List ℕ × Wires) (bound : Bound) → bytes_eq bytes entry.0 ≡ true → is_bound bytes (entry ∷ bound) ≡ true
 bound_here bytes entry bound e = ap (λ b. cond b true (is_bound bytes bound)) e
 
-pub bound_behind : (bytes : List ℕ) (entry : List ℕ × Wires) (bound : Bound) → bytes_eq bytes entry.0 ≡ false → is_bound bytes (entry ∷ bound) ≡ is_bound bytes bound
-bound_behind bytes entry bound e = ap (λ b. cond b true (is_bound bytes bound)) e
+pub bound_after : (bytes : List ℕ) (entry : List ℕ × Wires) (bound : Bound) → bytes_eq bytes entry.0 ≡ false → is_bound bytes (entry ∷ bound) ≡ is_bound bytes bound
+bound_after bytes entry bound e = ap (λ b. cond b true (is_bound bytes bound)) e
 
 -- of each of the names that is bound this holds, and of its wires
 abbrev pub ForNames : Names → Bound → (List ℕ → Wires → Type 0) → Type 0
@@ -122,16 +122,16 @@ module _ (move : Wires → ℕ → Making Wires) (After : Columns → List ℕ �
           subst (After l bytes) (sym (wires_here bytes (entry.0, u) given e)) (subst (λ x. After l x u) (sym (same_bytes bytes entry.0 e)) here),
         )
         by_test false e =
-            let g = behind bytes (others_stay bytes entry.0 names e among) (sym (bound_behind bytes entry bound e) ∙ held) in (
-              bound_behind bytes (entry.0, u) given e ∙ g.0,
-              subst (After l bytes) (sym (wires_behind bytes (entry.0, u) given e)) g.1,
+            let g = behind bytes (others_stay bytes entry.0 names e among) (sym (bound_after bytes entry bound e) ∙ held) in (
+              bound_after bytes (entry.0, u) given e ∙ g.0,
+              subst (After l bytes) (sym (wires_after bytes (entry.0, u) given e)) g.1,
             )
 
     moves_behind : (streams more : Columns) → ForNames names (entry ∷ bound) (Moves streams) → ForNames (without entry.0 names) bound (Moves (streams ++ more))
     moves_behind streams more h bytes among held =
         let other = stay_other bytes entry.0 names among in
-        let moves = h bytes (stay_among bytes entry.0 names among) (bound_behind bytes entry bound other ∙ held) in
-        moves_on streams more bytes (wires_named bytes bound) (subst (Moves streams bytes) (wires_behind bytes entry bound other) moves)
+        let moves = h bytes (stay_among bytes entry.0 names among) (bound_after bytes entry bound other ∙ held) in
+        moves_on streams more bytes (wires_named bytes bound) (subst (Moves streams bytes) (wires_after bytes entry bound other) moves)
 
     entry_moved : (streams : Columns) → ForNames names (entry ∷ bound) (Moves streams) → is_among entry.0 names ≡ true
         → ((later : Columns) → ForNames (without entry.0 names) bound (Moves later) → AllMoved (without entry.0 names) bound later)
@@ -163,9 +163,9 @@ module _ (move : Wires → ℕ → Making Wires) (After : Columns → List ℕ �
     entry_left streams h not ih =
         let behind : ForNames names bound (Moves streams) = λ bytes among held.
         let other = other_name bytes not among in
-        subst (Moves streams bytes) (wires_behind bytes entry bound other) (h bytes among (bound_behind bytes entry bound other ∙ held)) in
+        subst (Moves streams bytes) (wires_after bytes entry bound other) (h bytes among (bound_after bytes entry bound other ∙ held)) in
         let d = ih behind in
-        (d.0, d.1, d.2, λ bytes among held. d.3 bytes among (sym (bound_behind bytes entry bound (other_name bytes not among)) ∙ held))
+        (d.0, d.1, d.2, λ bytes among held. d.3 bytes among (sym (bound_after bytes entry bound (other_name bytes not among)) ∙ held))
 
   -- where the wires of each of these names are moved so, all are
   pub all_moved_does : (names : Names) (bound : Bound) (streams : Columns) → ForNames names bound (Moves streams)

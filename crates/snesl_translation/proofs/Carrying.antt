@@ -59,9 +59,9 @@ streams_joined (n ∷ ns) ms streams cs ds e f =
 
 -- new streams
 
-get_behind : (front more : Columns) (c : List Cell) → slice_get (front ++ (c ∷ more)) (length front) ≡ Some c
-get_behind [] more c = refl
-get_behind (s ∷ front) more c = get_behind front more c
+get_after : (front more : Columns) (c : List Cell) → slice_get (front ++ (c ∷ more)) (length front) ≡ Some c
+get_after [] more c = refl
+get_after (s ∷ front) more c = get_after front more c
 
 -- a list of so many and so many is two
 split : {A : Type 0} (m n : ℕ) (cs : List A) → length cs ≡ m + n → (front : List A) × (rest : List A) × (cs ≡ front ++ rest) × (length front ≡ m) × (length rest ≡ n)
@@ -73,10 +73,10 @@ split (suc m) n (c ∷ cs) e =
 
 one_column : (k : ℕ) (front more cs : Columns) → k ≡ length front → length cs ≡ 1 → streams_at (k ∷ []) (front ++ (cs ++ more)) ≡ Some cs
 one_column k front more [] e one = absurd (omega (arith))
-one_column k front more (c ∷ []) e one = both_there k [] (front ++ (c ∷ more)) c [] (ap (slice_get (front ++ (c ∷ more))) e ∙ get_behind front more c) refl
+one_column k front more (c ∷ []) e one = both_there k [] (front ++ (c ∷ more)) c [] (ap (slice_get (front ++ (c ∷ more))) e ∙ get_after front more c) refl
 one_column k front more (c ∷ d ∷ cs) e one = absurd (omega (arith))
 
--- streams that are added behind others are those of the wires from there on
+-- streams that are added after others are those of the wires from there on
 from_there : (t : Ty) (k : ℕ) (front more cs : Columns) → k ≡ length front → length cs ≡ width t → streams_at (numbers_of (wires_from t k)) (front ++ (cs ++ more)) ≡ Some cs
 from_there int k front more cs e w = one_column k front more cs e w
 from_there bool k front more cs e w = one_column k front more cs e w
@@ -95,7 +95,7 @@ from_there (seq item) k front more [] e w = absurd (omega (arith))
 from_there (seq item) k front more (c ∷ cs) e w =
     let behind : suc k ≡ length (front ++ (c ∷ [])) = omega (arith, e, length-append front (c ∷ [])) in
     let items : streams_at (numbers_of (wires_from item (suc k))) ((front ++ (c ∷ [])) ++ (cs ++ more)) ≡ Some cs = from_there item (suc k) (front ++ (c ∷ [])) more cs behind (omega (arith)) in
-    both_there k (numbers_of (wires_from item (suc k))) (front ++ (c ∷ (cs ++ more))) c cs (ap (slice_get (front ++ (c ∷ (cs ++ more)))) e ∙ get_behind front (cs ++ more) c)
+    both_there k (numbers_of (wires_from item (suc k))) (front ++ (c ∷ (cs ++ more))) c cs (ap (slice_get (front ++ (c ∷ (cs ++ more)))) e ∙ get_after front (cs ++ more) c)
     (subst (λ l. streams_at (numbers_of (wires_from item (suc k))) l ≡ Some cs) (append_assoc front (c ∷ []) (cs ++ more)) items)
 
 pub fresh : (t : Ty) (streams cs : Columns) → length cs ≡ width t → streams_at (numbers_of (wires_from t (length streams))) (streams ++ cs) ≡ Some cs
@@ -162,7 +162,7 @@ tested_stops streams at operation reads given next read there made =
     ap (λ o. bind o (λ read. bind (made_by operation read) (λ written. Some (streams ++ written)))) there
     ∙ ap (λ o. bind o (λ written. Some (streams ++ written))) made
 
--- makings one behind the other
+-- makings one after the other
 
 module _ {A : Type 0} (first : Making A) (streams more : Columns) (ran : run first.steps streams ≡ Some (streams ++ more)) (next : first.next ≡ length (streams ++ more)) where
   pub then_makes : (rest : A → ℕ → Making Wires) (t : Ty) (vs : List Value) → Makes (streams ++ more) t (rest first.given (length (streams ++ more))) vs → Makes streams t (and_then first rest) vs

@@ -166,14 +166,14 @@ choice_value at (gives (a_vec vs)) b c = refl
 choice_value at (gives (a_seq vs)) b c = refl
 
 module _ (dialect : Dialect) (at : ℕ) (names others : Names) (positive negative : Bound → ℕ → ℕ → Making Wires) where
-  -- the steps behind the first filter
+  -- the steps after the first filter
   abbrev negated : Bound → Wires → Wires → ℕ → Making Wires
   negated bound d u k =
       and_then (prefix_streams dialect at Not d k) (λ e k.
       and_then (filtered at others negative bound (stream_of e) k) (λ v k.
       and_then (appended at u v k) (λ w k. tested at the_check (stream_of w ∷ []) (item_wires w) k)))
 
-  -- the steps behind the condition
+  -- the steps after the condition
   abbrev both_filters : Bound → Wires → ℕ → Making Wires
   both_filters bound d k = and_then (filtered at names positive bound (stream_of d) k) (λ u k. negated bound d u k)
 

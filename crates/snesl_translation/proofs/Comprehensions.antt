@@ -67,16 +67,16 @@ without_last [] name names = refl
 without_last (item ∷ items) name names = without_swapped name item.0 (without_items items names) ∙ ap (without item.0) (without_last items name names)
 
 -- a name that is left is none of the items'
-among_behind : (items : List Declaration) (names : Names) (context : Context) (bytes : List ℕ) → is_among bytes (without_items items names) ≡ true
+among_after : (items : List Declaration) (names : Names) (context : Context) (bytes : List ℕ) → is_among bytes (without_items items names) ≡ true
     → (is_among bytes names ≡ true) × (found bytes (names_context items ++ context) ≡ found bytes context)
-among_behind [] names context bytes among = (among, refl)
-among_behind (item ∷ items) names context bytes among =
-    let rest = among_behind items names context bytes (stay_among bytes item.0 (without_items items names) among) in
+among_after [] names context bytes among = (among, refl)
+among_after (item ∷ items) names context bytes among =
+    let rest = among_after items names context bytes (stay_among bytes item.0 (without_items items names) among) in
     (rest.0, ap (λ b. cond b (Some (open_to item.1)) (found bytes (names_context items ++ context))) (stay_other bytes item.0 (without_items items names) among) ∙ rest.1)
 
-pub open_behind : (items : List Declaration) (names : Names) (context : Context) → AreOpen names (names_context items ++ context) → AreOpen (without_items items names) context
-open_behind items names context usable bytes among =
-    let p = among_behind items names context bytes among in
+pub open_after : (items : List Declaration) (names : Names) (context : Context) → AreOpen names (names_context items ++ context) → AreOpen (without_items items names) context
+open_after items names context usable bytes among =
+    let p = among_after items names context bytes among in
     let o = usable bytes p.0 in
     (o.0, sym p.1 ∙ o.1)
 
@@ -109,7 +109,7 @@ items_borne streams given context ns environments long (source ∷ sources) (ite
     subst (λ name. Bears streams ((name, item_wires source.1) ∷ (items_bound sources ++ given)) names (names_context (item ∷ items) ++ context) (concatenation (inner_instances ns all environments))) (sym named)
     (subst (Bears streams ((item.0, item_wires source.1) ∷ (items_bound sources ++ given)) names (names_context (item ∷ items) ++ context)) (sym instances) here)
 
--- makings one behind the other
+-- makings one after the other
 
 pub does_go : {A : Type 0} (streams : Columns) (t : Ty) (first : Making A) (rest : A → ℕ → Making Wires) (First : Columns → A → Type 0) (d : Does streams first First) (o : Option (List Value))
     → GoesTo (streams ++ d.0) t (rest first.given (length (streams ++ d.0))) o → GoesTo streams t (and_then first rest) o
@@ -170,7 +170,7 @@ GoesInside within inside_value names context t =
 module _ (context : Context) (at place : ℕ) (item : Declaration) (items : List Declaration) (t : Ty) (inner_names : Names) (within : ℕ → Bound → ℕ → ℕ → Making Wires)
     (columns : Environment → Option BoundItems) (inside_value : List Environment → Option Value)
     (usable : AreOpen inner_names (names_context (item ∷ items) ++ inside context)) (goes : GoesInside within inside_value inner_names (names_context (item ∷ items) ++ inside context) t) where
-  -- what stands behind the sources
+  -- what stands after the sources
   abbrev outer_names : Names
   outer_names = without_items (item ∷ items) inner_names
 
@@ -183,8 +183,8 @@ module _ (context : Context) (at place : ℕ) (item : Declaration) (items : List
   abbrev moved_making : Sources → Bound → ℕ → Making Wires
   moved_making sources bound k = and_then (all_moved (distributed at (first_flags sources)) outer_names bound k) (λ inner k. units_making sources inner k)
 
-  abbrev behind_sources : Bound → Sources → ℕ → Making Wires
-  behind_sources bound sources k = and_then (in_step at sources k) (λ _ k. moved_making sources bound k)
+  abbrev after_sources : Bound → Sources → ℕ → Making Wires
+  after_sources bound sources k = and_then (in_step at sources k) (λ _ k. moved_making sources bound k)
 
   -- where the flags of the first sequence say how often there is a row
   units_go : (streams : Columns) (sources : Sources) (inner : Bound) (ns : List ℕ) (all : List BoundItems) (environments : List Environment)
@@ -220,18 +220,18 @@ module _ (context : Context) (at place : ℕ) (item : Declaration) (items : List
       let inner = copied (zip ns environments) in
       let making = all_moved (distributed at f) outer_names bound (length streams) in
       let does : Does streams making (λ l given. Bears l given outer_names (inside context) inner) =
-      bears_distributed at f ns outer_names context bound environments inner streams (open_behind (item ∷ items) inner_names (inside context) usable) flagged (dist_zip ns environments long) bears in
+      bears_distributed at f ns outer_names context bound environments inner streams (open_after (item ∷ items) inner_names (inside context) usable) flagged (dist_zip ns environments long) bears in
       let on = streams ++ does.0 in
       does_go streams t making (λ inner k. units_making sources inner k) (λ l given. Bears l given outer_names (inside context) inner) does
       (each inside_value (inner_instances ns all environments))
       (units_go on sources making.given ns all environments (sources_on streams does.0 sources (item ∷ items) all c) fit long (grown (f ∷ []) streams does.0 (flags ns ∷ []) flagged) does.3)
 
-  behind_go : (streams : Columns) (sources : Sources) (bound : Bound) (all : List BoundItems) (environments : List Environment)
+  after_go : (streams : Columns) (sources : Sources) (bound : Bound) (all : List BoundItems) (environments : List Environment)
       → SourcesCarry streams sources (item ∷ items) all → length all ≡ length environments → Bears streams bound outer_names context environments
-      → GoesTo streams t (behind_sources bound sources (length streams))
+      → GoesTo streams t (after_sources bound sources (length streams))
       (bind (each (λ columns. given_by (rows_in_step place columns)) all) (at_all_rows place columns inside_value environments))
-  behind_go streams [] bound all environments c long bears = absurd c
-  behind_go streams (source ∷ sources) bound all environments (groups, others, is, same, named, c, rest) long bears = by_case (all_fit ns others) refl
+  after_go streams [] bound all environments c long bears = absurd c
+  after_go streams (source ∷ sources) bound all environments (groups, others, is, same, named, c, rest) long bears = by_case (all_fit ns others) refl
     where
       ns : List ℕ
       ns = lengths groups
@@ -264,17 +264,17 @@ module _ (context : Context) (at place : ℕ) (item : Declaration) (items : List
       runs : run first.steps streams ≡ only_if (all_fit ns others) streams
       runs = lengths_test at f streams ns sources items others (length streams) flagged (sym same ∙ sym (counts groups)) rest
 
-      by_case : (b : Bool) → all_fit ns others ≡ b → GoesTo streams t (behind_sources bound (source ∷ sources) (length streams))
+      by_case : (b : Bool) → all_fit ns others ≡ b → GoesTo streams t (after_sources bound (source ∷ sources) (length streams))
           (bind (each (λ columns. given_by (rows_in_step place columns)) all) (at_all_rows place columns inside_value environments))
       by_case false e =
-          subst (GoesTo streams t (behind_sources bound (source ∷ sources) (length streams)))
+          subst (GoesTo streams t (after_sources bound (source ∷ sources) (length streams)))
           (sym (ap (λ o. bind o (at_all_rows place columns inside_value environments)) (rows ∙ ap (λ b. only_if b (rows_each ns all)) e)))
           (first_stops first (λ _ k. moved_making (source ∷ sources) bound k) streams (runs ∙ ap (λ b. only_if b streams) e))
       by_case true e =
           let back = sym (append-nil streams) in
           let does : Does streams first (λ l _. Unit {0}) = ([], runs ∙ ap (λ b. only_if b streams) e ∙ ap Some back, lengths_next at f sources (length streams) ∙ ap length back, tt {0}) in
           let on = streams ++ [] in
-          subst (GoesTo streams t (behind_sources bound (source ∷ sources) (length streams)))
+          subst (GoesTo streams t (after_sources bound (source ∷ sources) (length streams)))
           (sym (ap (λ o. bind o (at_all_rows place columns inside_value environments)) (rows ∙ ap (λ b. only_if b (rows_each ns all)) e) ∙ inner_values place columns inside_value ns all environments))
           (does_go streams t first (λ _ k. moved_making (source ∷ sources) bound k) (λ l _. Unit {0}) does (each inside_value (inner_instances ns all environments))
           (moved_go on (source ∷ sources) bound ns all environments (sources_on streams [] (source ∷ sources) (item ∷ items) all carried) (fit ∙ e) (sym count ∙ long)
@@ -289,12 +289,12 @@ module _ (context : Context) (at place : ℕ) (item : Declaration) (items : List
       (each_value place columns inside_value) (names ++ without_items (item ∷ items) inner_names) context t
   comprehension_means names sources h streams bound control environments bears controls =
       let first = sources bound control (length streams) in
-      subst (GoesTo streams t (and_then first (λ sources k. behind_sources bound sources k))) (sym (each_values place columns inside_value environments))
-      (sources_go streams (item ∷ items) t first (λ sources k. behind_sources bound sources k) (each columns environments)
+      subst (GoesTo streams t (and_then first (λ sources k. after_sources bound sources k))) (sym (each_values place columns inside_value environments))
+      (sources_go streams (item ∷ items) t first (λ sources k. after_sources bound sources k) (each columns environments)
       (λ all. bind (each (λ columns. given_by (rows_in_step place columns)) all) (at_all_rows place columns inside_value environments))
       (h streams bound control environments (borne_left streams bound names outer_names context environments bears) controls)
       (λ more sources all is c.
-      behind_go (streams ++ more) sources bound all environments c (each_length columns environments all is)
+      after_go (streams ++ more) sources bound all environments c (each_length columns environments all is)
       (borne_on streams more bound outer_names context environments (borne_right streams bound names outer_names context environments bears))))
 
 -- the steps of a comprehension, whatever is made inside

@@ -90,7 +90,7 @@ module _ (dialect : Dialect) (text : List ℕ) (functions : Signatures) (calls :
         (further_mean at t (single at (free text first) (tr dialect text bodies first)) (λ environment. go (eval dialect first text calls environment) (λ v. gives (v ∷ []))) (free text first)
         (first_item_means dialect text calls bodies context at first t (free_are_open h) (typed_means h)) rest same)
 
-    -- items behind a sequence that means this
+    -- items after a sequence that means this
     further_mean : {context : Context} {trees : Trees} {ts : List Ty} (at : ℕ) (t : Ty) (sequence : Bound → ℕ → ℕ → Making Wires) (before : Environment → Answer (List Value)) (names : Names)
         → SequenceMeans dialect text calls bodies context sequence before names t → AllTypes dialect text functions context trees ts → AllAre t ts
         → FurtherMean dialect text calls bodies context at sequence before names trees t

@@ -40,7 +40,7 @@ use Rattle.snesl_translation.proofs.Operands.{firsts_of, seconds_of, both_mean}
 use Rattle.snesl_translation.proofs.Appending.{append_goes}
 use Rattle.snesl_translation.proofs.BuiltinMeanings.{means_same}
 
--- a making that goes, behind one that does something
+-- a making that goes, after one that does something
 pub then_go : {A : Type 0} (first : Making A) (rest : A → ℕ → Making Wires) (streams : Columns) (First : Columns → A → Type 0) (t : Ty) (o : Option (List Value))
     → (d : Does streams first First) → GoesTo (streams ++ d.0) t (rest first.given (length (streams ++ d.0))) o → GoesTo streams t (and_then first rest) o
 then_go first rest streams First t None d stops = rest_stops first streams d.0 d.1 d.2 rest stops
@@ -243,7 +243,7 @@ module _ (context : Context) (at : ℕ) (t : Ty) where
   append_goes_to streams u v ps c d =
       subst (GoesTo streams (seq t) (appended at u v (length streams))) (given_all (λ p. append_answer at p.0 p.1) ps) (append_goes One at streams u v t ps c d)
 
-  -- that of a sequence and of one item behind it
+  -- that of a sequence and of one item after it
   pub followed_means : (names others : Names) (before item : Bound → ℕ → ℕ → Making Wires) (sequences : Environment → Answer (List Value)) (one : Environment → Answer Value)
       → AreOpen others context → IsTranslation before (λ environment. given_by (seq_answer (sequences environment))) names context (seq t) → IsTranslation item (λ environment. given_by (one environment)) others context t
       → IsTranslation (followed at before others item)

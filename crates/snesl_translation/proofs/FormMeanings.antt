@@ -106,7 +106,7 @@ module _ (dialect : Dialect) (text : List ℕ) (calls : Calls) (bodies : Bodies)
       → SequenceMeans (single at (free text first) (tr dialect text bodies first)) (λ environment. go (eval dialect first text calls environment) (λ v. gives (v ∷ []))) (free text first) t
   first_item_means at first t usable h = single_means context at t (free text first) (tr dialect text bodies first) (λ environment. eval dialect first text calls environment) usable h
 
-  -- a literal, where its first item with the others behind it means this
+  -- a literal, where its first item with the others after it means this
   pub literal_means : (at : ℕ) (first : Tree) (others : Trees) (t : Ty)
       → FurtherMean at (single at (free text first) (tr dialect text bodies first)) (λ environment. go (eval dialect first text calls environment) (λ v. gives (v ∷ []))) (free text first) others t
       → ItemsMean at (both first others) t
@@ -132,7 +132,7 @@ module _ (dialect : Dialect) (text : List ℕ) (calls : Calls) (bodies : Bodies)
       same (faults kind place) = refl
       same (gives vs) = ap (λ l. given_by (seq_answer (gives l))) (sym (append-nil vs))
 
-  -- the values of what stands before, with an item behind it
+  -- the values of what stands before, with an item after it
   abbrev pub with_item : (Environment → Answer (List Value)) → Tree → Environment → Answer (List Value)
   with_item before item environment = go (before environment) (λ vs. go (eval dialect item text calls environment) (λ v. gives (vs ++ v ∷ [])))
 

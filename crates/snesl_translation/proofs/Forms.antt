@@ -20,7 +20,7 @@ use Rattle.snesl_translation.specs.Meaning.{Bears, IsTranslation}
 use Rattle.snesl_translation.proofs.Carrying.{grown, carried_on, then_makes, rest_stops, first_stops, two_carry}
 use Rattle.snesl_translation.proofs.Instances.{each_two, each_length}
 
--- makings one behind the other go where what they make does
+-- makings one after the other go where what they make does
 pub two_go : (streams : Columns) (s t : Ty) (first : Making Wires) (rest : Wires → ℕ → Making Wires) (o : Option (List Value)) (after : List Value → Option (List Value))
     → GoesTo streams s first o
     → ((more : Columns) (w : Wires) (vs : List Value) → o ≡ Some vs → Carries (streams ++ more) w s vs → GoesTo (streams ++ more) t (rest w (length (streams ++ more))) (after vs))

@@ -91,7 +91,7 @@ each_length {A = A} f (x ∷ xs) vs e = by_case (f x) (each f xs) (each_length f
 
 -- groups
 
--- the answers of two lists, one behind the other
+-- the answers of two lists, one after the other
 pub each_append : {X A : Type 0} (f : X → Option A) (xs ys : List X) → each f (xs ++ ys) ≡ bind (each f xs) (λ vs. option_map (λ ws. vs ++ ws) (each f ys))
 each_append {A = A} f [] ys = by_case (each f ys)
   where

@@ -101,8 +101,8 @@ front_there zero vs le = (([], vs), refl)
 front_there (suc n) [] le = absurd (omega (arith))
 front_there (suc n) (v ∷ vs) le = let g = front_there n vs (omega (arith)) in (at_front v g.0, ap (option_map (at_front v)) g.1)
 
-cut_behind : (n : ℕ) (ns : List ℕ) (vs : List Value) (p : List Value × List Value) (groups : List (List Value)) → front n vs ≡ Some p → cut ns p.1 ≡ Some groups → cut (n ∷ ns) vs ≡ Some (p.0 ∷ groups)
-cut_behind n ns vs p groups e f = ap (λ o. bind o (λ p. option_map (λ groups. p.0 ∷ groups) (cut ns p.1))) e ∙ ap (option_map (λ groups. p.0 ∷ groups)) f
+cut_after : (n : ℕ) (ns : List ℕ) (vs : List Value) (p : List Value × List Value) (groups : List (List Value)) → front n vs ≡ Some p → cut ns p.1 ≡ Some groups → cut (n ∷ ns) vs ≡ Some (p.0 ∷ groups)
+cut_after n ns vs p groups e f = ap (λ o. bind o (λ p. option_map (λ groups. p.0 ∷ groups) (cut ns p.1))) e ∙ ap (option_map (λ groups. p.0 ∷ groups)) f
 
 cut_there : (ns : List ℕ) (vs : List Value) → sum ns ≡ length vs → (groups : List (List Value)) × (cut ns vs ≡ Some groups)
 cut_there [] [] e = ([], refl)
@@ -114,7 +114,7 @@ cut_there (n ∷ ns) vs e =
     let sizes : length vs ≡ length f.0.0 + length f.0.1 = ap length b.1 ∙ length-append f.0.0 f.0.1 in
     let first : n ≡ length f.0.0 = b.0 in
     let g = cut_there ns f.0.1 (omega (arith)) in
-    (f.0.0 ∷ g.0, cut_behind n ns vs f.0 g.0 f.1 g.1)
+    (f.0.0 ∷ g.0, cut_after n ns vs f.0 g.0 f.1 g.1)
 
 cut_fits : (ns : List ℕ) (vs : List Value) → only_if (sum ns == length vs) ns ≡ option_map lengths (cut ns vs)
 cut_fits ns vs = go_on (sum ns == length vs) (cut ns vs) refl refl

@@ -116,7 +116,7 @@ inputs_does at cells dialect (declaration ∷ declarations) (entry ∷ environme
     (λ l bound. (names : Names) → Bears l bound names (names_context declarations) (environment ∷ [])) (λ l bound. (names : Names) → Bears l bound names (names_context (declaration ∷ declarations)) ((entry ∷ environment) ∷ [])) others
     (done_does ((declaration.0, u) ∷ bound) last (λ l bound. (names : Names) → Bears l bound names (names_context (declaration ∷ declarations)) ((entry ∷ environment) ∷ [])) borne))
 
--- those of a program's sources are so behind the control stream
+-- those of a program's sources are so after the control stream
 cells_agree : (declarations : List Declaration) (environment : Environment) → Agrees (cells_of declarations environment) 1 (columns_of declarations environment)
 unfolding Agrees
 cells_agree declarations environment k i is lt = ap (λ j. get_or (columns_of declarations environment) j []) (omega (arith, is))

@@ -1,4 +1,4 @@
--- Steps that run one behind the other.
+-- Steps that run one after the other.
 use Rattle.std.specs.Prelude.{◌≡◌, List, [], ◌∷◌, ◌++◌, Option, Some, None, refl}
 use Rattle.std.proofs.Common.{sym, ◌∙◌}
 use Rattle.flow_base.specs.Columns.{Columns}
@@ -14,7 +14,7 @@ pub bind_same : {A B : Type 0} (o : Option A) (f g : A → Option B) → ((x : A
 bind_same None f g same = refl
 bind_same (Some x) f g same = same x
 
--- steps behind others run on the streams of those
+-- steps after others run on the streams of those
 pub in_turn : (first second : List Step) (streams : Columns) → run (first ++ second) streams ≡ bind (run first streams) (run second)
 in_turn [] second streams = refl
 in_turn (step ∷ first) second streams =

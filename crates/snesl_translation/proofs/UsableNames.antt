@@ -13,7 +13,7 @@ use Rattle.snesl_types.specs.Typing.{Types, has_type, Gives, integer_type, truth
 use Rattle.snesl_translation.specs.FreeNames.{Names, is_among, without, without_binders, free, free_of_all, free_of_sources, free_of_condition}
 use Rattle.snesl_translation.specs.Sources.{without_items}
 use Rattle.snesl_translation.proofs.Borne.{AreOpen, found_outside}
-use Rattle.snesl_translation.proofs.Comprehensions.{open_behind}
+use Rattle.snesl_translation.proofs.Comprehensions.{open_after}
 
 among_either : (bytes : List ℕ) (names others : Names) → is_among bytes (names ++ others) ≡ true → (is_among bytes names ≡ true) ⊎ (is_among bytes others ≡ true)
 among_either bytes [] others h = inr h
@@ -41,7 +41,7 @@ outside_open : (names : Names) (context : Context) → AreOpen names (inside con
 outside_open names context h bytes among = let o = h bytes among in (o.0, (found_outside bytes context o.0 o.1).0)
 
 module _ {dialect : Dialect} {text : List ℕ} {functions : Signatures} where
-  -- the items of binders behind others
+  -- the items of binders after others
   abbrev pub binder_items : {context : Context} {earlier all : List Declaration} {binders : Binders} → BindersType dialect text functions context earlier binders all
       → (items : List Declaration) × (all ≡ earlier ++ items) × ((names : Names) → without_binders text binders names ≡ without_items items names)
   binder_items (no_binders {earlier = earlier}) = ([], sym (append-nil earlier), λ names. refl)
@@ -66,7 +66,7 @@ module _ {dialect : Dialect} {text : List ℕ} {functions : Signatures} where
     form_open (pair_type {context = context} {first = first} {second = second} h g) = both_open (free text first) (free text second) context (free_are_open h) (free_are_open g)
     form_open (binding_type {context = context} {place = place} {value = value} {body = body} {t = s} h g) =
         let name = spelling text place in
-        both_open (free text value) (without name (free text body)) context (free_are_open h) (open_behind ((name, s) ∷ []) (free text body) context (free_are_open g))
+        both_open (free text value) (without name (free text body)) context (free_are_open h) (open_after ((name, s) ∷ []) (free text body) context (free_are_open g))
     form_open (choice_type {context = context} {condition = condition} {positive = positive} {negative = negative} h g k) =
         both_open (free text condition) (free text positive ++ free text negative) context (free_are_open h) (both_open (free text positive) (free text negative) context (free_are_open g) (free_are_open k))
     form_open (literal_type h same) = all_open h
@@ -75,7 +75,7 @@ module _ {dialect : Dialect} {text : List ℕ} {functions : Signatures} where
         let p = binder_items hb in
         let names = free_of_condition text condition ++ free text body in
         let inner : AreOpen names (names_context items ++ inside context) = both_open (free_of_condition text condition) (free text body) (names_context items ++ inside context) (condition_open hc) (free_are_open h) in
-        let outer : AreOpen (without_items items names) context = outside_open (without_items items names) context (open_behind items names (inside context) inner) in
+        let outer : AreOpen (without_items items names) context = outside_open (without_items items names) context (open_after items names (inside context) inner) in
         let same : without_items items names ≡ without_binders text (binder place source others) names = ap (λ l. without_items l names) p.1 ∙ sym (p.2 names) in
         both_open (free_of_sources text (binder place source others)) (without_binders text (binder place source others) names) context (sources_open hb) (subst (λ l. AreOpen l context) same outer)
 

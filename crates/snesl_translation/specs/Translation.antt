@@ -135,7 +135,7 @@ abbrev pub single : ℕ → Names → (Bound → (control next : ℕ) → Making
 single at names item bound control next =
     and_then (stepped at (const (Truth true)) (control ∷ []) bool next) (λ d k. filtered at names item bound (stream_of d) k)
 
--- a sequence with one item behind it
+-- a sequence with one item after it
 abbrev pub followed : ℕ → (Bound → (control next : ℕ) → Making Wires) → Names → (Bound → (control next : ℕ) → Making Wires) → Bound → (control next : ℕ) → Making Wires
 followed at sequence names item bound control next =
     and_then (sequence bound control next) (λ u k. and_then (single at names item bound control k) (λ v k. appended at u v k))
@@ -214,13 +214,13 @@ module _ (dialect : Dialect) (text : List ℕ) (calls : Bodies) where
     tr_all (both first others) bound control next =
         and_then (tr first bound control next) (λ u k. and_then (tr_all others bound control k) (λ us k. done (u ∷ us) k))
 
-    -- the items of a literal: the first one, and the others behind it
+    -- the items of a literal: the first one, and the others after it
     pub tr_items : ℕ → Trees → Bound → (control next : ℕ) → Making Wires
     tr_items at none bound control next = done nowhere next
     tr_items at (both first others) bound control next =
         tr_further at (λ b c n. single at (free text first) (λ b c n. tr first b c n) b c n) others bound control next
 
-    -- a sequence with further items behind it: it is followed by the first of them, and so by the others
+    -- a sequence with further items after it: it is followed by the first of them, and so by the others
     pub tr_further : ℕ → (Bound → (control next : ℕ) → Making Wires) → Trees → Bound → (control next : ℕ) → Making Wires
     tr_further at sequence none bound control next = sequence bound control next
     tr_further at sequence (both item others) bound control next =

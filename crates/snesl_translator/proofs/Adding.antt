@@ -1,4 +1,4 @@
--- What calls add, one behind another and over lists.
+-- What calls add, one after another and over lists.
 use Rattle.std.proofs.Common.{◌≡◌, ◌<◌, ◌≤◌, ◌+◌, ◌∙◌, ℕ, suc, List, [], ◌∷◌, ◌++◌, length, map, take, drop, get_or, Result, Ok, Err, refl, sym, ap, subst, append-nil, take_all, drop-cons}
 use Rattle.std.proofs.lemmas.List.{map-append, take_more, take-append-drop}
 use Rattle.snesl_data.specs.declared.dialect.Dialect.{Dialect}
@@ -10,7 +10,7 @@ use Rattle.snesl_steps.specs.declared.steps.Steps.{Steps}
 use Rattle.snesl_steps.proofs.Adding.{done_made, made_then, then_done, refused_first}
 use Rattle.snesl_translator.proofs.Listed.{made_all, made_all-append}
 
--- behind a first making that was made the rest is added, in the same dialect
+-- after a first making that was made the rest is added, in the same dialect
 pub then_adds : {A B C : Type 0} {old middle : Steps} {first : Making B} {given : B} (view : A → C) (new : Steps) (rest : Dialect → B → ℕ → Making C) (result : Result A Refusal)
     → HasMade old middle first given → Adds view middle new (rest (dialect_of_steps middle) given (next_in middle)) result → Adds view old new (and_then first (rest (dialect_of_steps old))) result
 then_adds {old = old} {middle = middle} {first = first} {given = given} view new rest result made adds =

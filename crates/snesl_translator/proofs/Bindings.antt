@@ -25,7 +25,7 @@ parameter_bound text parameters arguments i parameter wires l m p q =
     ∙ ap (λ us. parameters_bound text (map typed_of (parameter ∷ drop (suc i) parameters)) (map wires_of us)) (drop-cons arguments i wires m ∙ ap (λ x. x ∷ drop (suc i) arguments) (sym q))
     ∙ ap (λ j. (spelling text parameter.name, wires_of wires) ∷ parameters_bound text (map typed_of (drop j parameters)) (map wires_of (drop j arguments))) (sym (add-one i))
 
--- behind as many as there are of both
+-- after as many as there are of both
 pub parameters_end : (text : List ℕ) (parameters : List Typing) (arguments : List Wires) (i : ℕ) → i ≡ min (length parameters) (length arguments)
     → parameters_bound text (map typed_of (drop i parameters)) (map wires_of (drop i arguments)) ≡ []
 parameters_end text [] arguments zero e = refl

@@ -24,29 +24,29 @@ module _ (dialect : Dialect) (text : List ℕ) (bodies : Bodies) (at : ℕ) (bou
   abbrev further : (Bound → (control next : ℕ) → Making Wires) → Trees → ℕ → Making Wires
   further sequence items next = tr_further dialect text bodies at sequence items bound control next
 
-  -- items behind a sequence that was made
+  -- items after a sequence that was made
   abbrev behind : Wires → Trees → ℕ → Making Wires
   behind u items next = further (λ b c n. done u n) items next
 
   -- an item, appended to a sequence that was made
-  abbrev last_behind : Wires → Tree → ℕ → Making Wires
-  last_behind u item next = and_then (single at (free text item) (λ b c n. tr dialect text bodies item b c n) bound control next) (λ v k. appended at u v k)
+  abbrev last_after : Wires → Tree → ℕ → Making Wires
+  last_after u item next = and_then (single at (free text item) (λ b c n. tr dialect text bodies item b c n) bound control next) (λ v k. appended at u v k)
 
-  -- items come behind a sequence once it was made
-  pub further_behind : (sequence : Bound → (control next : ℕ) → Making Wires) (items : Trees) (next : ℕ) → further sequence items next ≡ and_then (sequence bound control next) (λ u k. behind u items k)
+  -- items come after a sequence once it was made
+  pub further_after : (sequence : Bound → (control next : ℕ) → Making Wires) (items : Trees) (next : ℕ) → further sequence items next ≡ and_then (sequence bound control next) (λ u k. behind u items k)
   unfolding and_then
-  further_behind sequence none next = sym (then_nothing (sequence bound control next))
-  further_behind sequence (both item others) next =
+  further_after sequence none next = sym (then_nothing (sequence bound control next))
+  further_after sequence (both item others) next =
       let made = sequence bound control next in
-      further_behind (λ b c n. followed at sequence (free text item) (λ b c n. tr dialect text bodies item b c n) b c n) others next
-      ∙ in_turn made (λ u k. last_behind u item k) (λ w k. behind w others k)
+      further_after (λ b c n. followed at sequence (free text item) (λ b c n. tr dialect text bodies item b c n) b c n) others next
+      ∙ in_turn made (λ u k. last_after u item k) (λ w k. behind w others k)
       ∙ ap (λ (m : Making Wires). record { steps = made.steps ++ m.steps; given = m.given; next = m.next })
-      (sym (further_behind (λ b c n. followed at (λ b c n. done made.given n) (free text item) (λ b c n. tr dialect text bodies item b c n) b c n) others made.next))
+      (sym (further_after (λ b c n. followed at (λ b c n. done made.given n) (free text item) (λ b c n. tr dialect text bodies item b c n) b c n) others made.next))
 
   -- the first of them is appended, and then come the others
-  pub one_behind : (u : Wires) (item : Tree) (others : Trees) (next : ℕ) → behind u (both item others) next ≡ and_then (last_behind u item next) (λ w k. behind w others k)
+  pub one_after : (u : Wires) (item : Tree) (others : Trees) (next : ℕ) → behind u (both item others) next ≡ and_then (last_after u item next) (λ w k. behind w others k)
   unfolding and_then
-  one_behind u item others next = further_behind (λ b c n. followed at (λ b c n. done u n) (free text item) (λ b c n. tr dialect text bodies item b c n) b c n) others next
+  one_after u item others next = further_after (λ b c n. followed at (λ b c n. done u n) (free text item) (λ b c n. tr dialect text bodies item b c n) b c n) others next
 
   further_parted : (sequence : Bound → (control next : ℕ) → Making Wires) (xs ys : List Expr) (next : ℕ)
       → further sequence (trees_of (xs ++ ys)) next ≡ further (λ b c n. tr_further dialect text bodies at sequence (trees_of xs) b c n) (trees_of ys) next
@@ -54,9 +54,9 @@ module _ (dialect : Dialect) (text : List ℕ) (bodies : Bodies) (at : ℕ) (bou
   further_parted sequence (x ∷ xs) ys next = further_parted (λ b c n. followed at sequence (free text (tree_of x)) (λ b c n. tr dialect text bodies (tree_of x) b c n) b c n) xs ys next
 
   -- first some of them, and then the others
-  pub behind_parted : (u : Wires) (xs ys : List Expr) (next : ℕ) → behind u (trees_of (xs ++ ys)) next ≡ and_then (behind u (trees_of xs) next) (λ w k. behind w (trees_of ys) k)
-  behind_parted u xs ys next =
-      further_parted (λ b c n. done u n) xs ys next ∙ further_behind (λ b c n. tr_further dialect text bodies at (λ b c n. done u n) (trees_of xs) b c n) (trees_of ys) next
+  pub after_parted : (u : Wires) (xs ys : List Expr) (next : ℕ) → behind u (trees_of (xs ++ ys)) next ≡ and_then (behind u (trees_of xs) next) (λ w k. behind w (trees_of ys) k)
+  after_parted u xs ys next =
+      further_parted (λ b c n. done u n) xs ys next ∙ further_after (λ b c n. tr_further dialect text bodies at (λ b c n. done u n) (trees_of xs) b c n) (trees_of ys) next
 
 module _ (context : ProgramContext) (scope : Scope) (at control : ℕ) where
   -- an item, appended to a sequence, from the next stream on
@@ -64,12 +64,12 @@ module _ (context : ProgramContext) (scope : Scope) (at control : ℕ) where
   last_in dialect u item next = and_then (single_in dialect context scope at item control next) (λ v k. appended at u v k)
 
   -- one more item was appended
-  pub item_behind : {old middle second new : Steps} (u all v w : Wires) (xs : List Expr) (i : ℕ) (x : Expr) → i < length xs → x ≡ get_or xs i x
+  pub item_after : {old middle second new : Steps} (u all v w : Wires) (xs : List Expr) (i : ℕ) (x : Expr) → i < length xs → x ≡ get_or xs i x
       → HasMade old middle (further_in (dialect_of_steps old) context scope at u (trees_of (take i xs)) control (next_in old)) all
       → HasMade middle second (single_in (dialect_of_steps middle) context scope at (tree_of x) control (next_in middle)) v
       → HasMade second new (appended at all v (next_in second)) w
       → HasMade old new (further_in (dialect_of_steps old) context scope at u (trees_of (take (i + 1) xs)) control (next_in old)) w
-  item_behind {old = old} {middle = middle} {second = second} {new = new} u all v w xs i x l is made item_made last_made =
+  item_after {old = old} {middle = middle} {second = second} {new = new} u all v w xs i x l is made item_made last_made =
       let dialect = dialect_of_steps old in
       let text = context.text.now in
       let bodies = bodies_in dialect context in
@@ -79,18 +79,18 @@ module _ (context : ProgramContext) (scope : Scope) (at control : ℕ) where
       let last : HasMade middle new (last_in dialect all (tree_of x) (next_in middle)) w =
       made_then (λ u. u) middle second new (single_in dialect context scope at (tree_of x) control (next_in middle)) (λ v k. appended at all v k) v (Ok w) item_made' last_made in
       let more : HasMade middle new (further_in dialect context scope at all (both (tree_of x) none) control (next_in middle)) w =
-      subst (λ (m : Making Wires). HasMade middle new m w) (sym (one_behind dialect text bodies at (bound_of scope) control all (tree_of x) none (next_in middle)))
+      subst (λ (m : Making Wires). HasMade middle new m w) (sym (one_after dialect text bodies at (bound_of scope) control all (tree_of x) none (next_in middle)))
       (then_done middle new (last_in dialect all (tree_of x) (next_in middle)) (λ w. w) w last) in
       subst (λ ys. HasMade old new (further_in dialect context scope at u (trees_of ys) control (next_in old)) w) (sym there)
-      (subst (λ (m : Making Wires). HasMade old new m w) (sym (behind_parted dialect text bodies at (bound_of scope) control u (take i xs) (x ∷ []) (next_in old)))
+      (subst (λ (m : Making Wires). HasMade old new m w) (sym (after_parted dialect text bodies at (bound_of scope) control u (take i xs) (x ∷ []) (next_in old)))
       (made_then (λ u. u) old middle new (further_in dialect context scope at u (trees_of (take i xs)) control (next_in old)) (λ w k. further_in dialect context scope at w (trees_of (x ∷ [])) control k) all (Ok w) made more))
 
   -- one more item was refused
-  pub item_not_behind : {old middle : Steps} (new : Steps) (u all : Wires) (xs : List Expr) (i : ℕ) (x : Expr) (e : Refusal) → i < length xs → x ≡ get_or xs i x
+  pub item_not_after : {old middle : Steps} (new : Steps) (u all : Wires) (xs : List Expr) (i : ℕ) (x : Expr) (e : Refusal) → i < length xs → x ≡ get_or xs i x
       → HasMade old middle (further_in (dialect_of_steps old) context scope at u (trees_of (take i xs)) control (next_in old)) all
       → Adds wires_of middle new (last_in (dialect_of_steps middle) all (tree_of x) (next_in middle)) (Err e)
       → Adds wires_of old new (further_in (dialect_of_steps old) context scope at u (trees_of xs) control (next_in old)) (Err e)
-  item_not_behind {old = old} {middle = middle} new u all xs i x e l is made refused =
+  item_not_after {old = old} {middle = middle} new u all xs i x e l is made refused =
       let dialect = dialect_of_steps old in
       let text = context.text.now in
       let bodies = bodies_in dialect context in
@@ -99,15 +99,15 @@ module _ (context : ProgramContext) (scope : Scope) (at control : ℕ) where
       let refused' : Adds wires_of middle new (last_in dialect all (tree_of x) (next_in middle)) (Err e) =
       subst (λ d. Adds wires_of middle new (last_in d all (tree_of x) (next_in middle)) (Err e)) made.dialect refused in
       let rest : Adds wires_of middle new (further_in dialect context scope at all (trees_of (x ∷ others)) control (next_in middle)) (Err e) =
-      subst (λ (m : Making Wires). Adds wires_of middle new m (Err e)) (sym (one_behind dialect text bodies at (bound_of scope) control all (tree_of x) (trees_of others) (next_in middle)))
+      subst (λ (m : Making Wires). Adds wires_of middle new m (Err e)) (sym (one_after dialect text bodies at (bound_of scope) control all (tree_of x) (trees_of others) (next_in middle)))
       (refused_first wires_of wires_of middle new new (last_in dialect all (tree_of x) (next_in middle)) (λ w k. further_in dialect context scope at w (trees_of others) control k) e refused') in
       subst (λ ys. Adds wires_of old new (further_in dialect context scope at u (trees_of ys) control (next_in old)) (Err e)) there
-      (subst (λ (m : Making Wires). Adds wires_of old new m (Err e)) (sym (behind_parted dialect text bodies at (bound_of scope) control u (take i xs) (x ∷ others) (next_in old)))
+      (subst (λ (m : Making Wires). Adds wires_of old new m (Err e)) (sym (after_parted dialect text bodies at (bound_of scope) control u (take i xs) (x ∷ others) (next_in old)))
       (made_then wires_of old middle new (further_in dialect context scope at u (trees_of (take i xs)) control (next_in old)) (λ w k. further_in dialect context scope at w (trees_of (x ∷ others)) control k) all (Err e) made rest))
 
   -- all items were appended
-  pub all_behind : {old new : Steps} (u w : Wires) (xs : List Expr) (i : ℕ) → length xs ≤ i
+  pub all_after : {old new : Steps} (u w : Wires) (xs : List Expr) (i : ℕ) → length xs ≤ i
       → HasMade old new (further_in (dialect_of_steps old) context scope at u (trees_of (take i xs)) control (next_in old)) w
       → HasMade old new (further_in (dialect_of_steps old) context scope at u (trees_of xs) control (next_in old)) w
-  all_behind {old = old} {new = new} u w xs i l made =
+  all_after {old = old} {new = new} u w xs i l made =
       subst (λ ys. HasMade old new (further_in (dialect_of_steps old) context scope at u (trees_of ys) control (next_in old)) w) (take_all i xs l) made

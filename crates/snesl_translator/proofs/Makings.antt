@@ -10,12 +10,12 @@ in_turn first second rest =
     let last = rest middle.given middle.next in
     ap (λ steps. record { steps = steps; given = last.given; next = last.next }) (append_assoc first.steps middle.steps last.steps)
 
--- nothing behind a making changes it
+-- nothing after a making changes it
 pub then_nothing : {A : Type 0} (first : Making A) → and_then first (λ x k. done x k) ≡ first
 unfolding and_then
 then_nothing first = ap (λ steps. record { steps = steps; given = first.given; next = first.next }) (append-nil first.steps)
 
--- behind one that gives something of what it made
+-- after one that gives something of what it made
 pub one_in_turn : {A D E : Type 0} (a : Making A) (g : A → D) (rest : D → ℕ → Making E)
     → and_then (and_then a (λ x k. done (g x) k)) rest ≡ and_then a (λ x k. rest (g x) k)
 unfolding and_then
@@ -23,7 +23,7 @@ one_in_turn a g rest =
     let last = rest (g a.given) a.next in
     ap (λ steps. record { steps = steps; given = last.given; next = last.next }) (append_assoc a.steps [] last.steps)
 
--- behind three makings that give one thing
+-- after three makings that give one thing
 pub three_in_turn : {A B C D E : Type 0} (a : Making A) (b : A → ℕ → Making B) (c : A → B → ℕ → Making C) (g : A → B → C → D) (rest : D → ℕ → Making E)
     → and_then (and_then a (λ x k. and_then (b x k) (λ y k. and_then (c x y k) (λ z k. done (g x y z) k)))) rest
     ≡ and_then a (λ x k. and_then (b x k) (λ y k. and_then (c x y k) (λ z k. rest (g x y z) k)))

@@ -34,7 +34,7 @@ pub same_opened : {f f' : ℕ} {b b' : Bound} {c c' : ℕ} → f ≡ f' → b �
 same_opened {f' = f'} {b = b} {b' = b'} {c = c} e h g =
     ap (λ x. opened x b c) e ∙ ap (λ x. opened f' x c) h ∙ ap (λ x. opened f' b' x) g
 
--- a comprehension behind its sequences, with what follows the opening of its rows
+-- a comprehension after its sequences, with what follows the opening of its rows
 abbrev pub each_rest : ℕ → Names → Bound → Sources → (Opened → ℕ → Making Wires) → ℕ → Making Wires
 each_rest at names bound sources rest next =
     and_then (in_step at sources next) (λ _ k.

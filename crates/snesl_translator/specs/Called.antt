@@ -9,13 +9,13 @@ use Rattle.snesl_translation.specs.Makings.{Making, done}
 use Rattle.snesl_translation.specs.Translation.{nowhere, tr}
 use Rattle.snesl_translation.specs.Functions.{bodies_of, parameters_bound}
 
--- the steps of a function that stands behind these declarations, at these streams of its arguments
+-- the steps of a function that stands after these declarations, at these streams of its arguments
 abbrev pub entered : Dialect → List ℕ → Function → List Declaration → List Wires → (control next : ℕ) → Making Wires
 entered dialect text function earlier arguments control next =
     tr dialect text (bodies_of dialect text (map declaration_of earlier)) (tree_of function.body)
     (parameters_bound text (map typed_of function.parameters.items) arguments) control next
 
--- calls of this name are, in each dialect, calls of this function, which stands behind these declarations
+-- calls of this name are, in each dialect, calls of this function, which stands after these declarations
 abbrev pub IsCalled : List ℕ → List Declaration → List ℕ → Function → List Declaration → Type 0
 IsCalled text declarations name function earlier =
     (dialect : Dialect) (at : ℕ) (arguments : List Wires) (control next : ℕ)

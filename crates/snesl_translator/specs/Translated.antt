@@ -22,7 +22,7 @@ use Rattle.snesl_translator.specs.Rows.{Opened, each_opened}
 abbrev pub bodies_in : Dialect → ProgramContext → Bodies
 bodies_in dialect context = bodies_of dialect context.text.now (map declaration_of context.functions.now)
 
--- the steps of an expression behind these
+-- the steps of an expression after these
 abbrev pub translated : Steps → ProgramContext → Scope → Tree → ℕ → Making Wires
 translated steps context scope tree control =
     tr (dialect_of_steps steps) context.text.now (bodies_in (dialect_of_steps steps) context) tree (bound_of scope) control (next_in steps)
@@ -47,7 +47,7 @@ single_in dialect context scope at item control next =
 abbrev pub always_true : ℕ → (control next : ℕ) → Making ℕ
 always_true at control next = and_then (stepped at (const (Truth true)) (control ∷ []) bool next) (λ d k. done (stream_of d) k)
 
--- those of further items of a literal, behind a sequence that was made
+-- those of further items of a literal, after a sequence that was made
 abbrev pub further_in : Dialect → ProgramContext → Scope → ℕ → Wires → Trees → (control next : ℕ) → Making Wires
 further_in dialect context scope at sequence items control next =
     tr_further dialect context.text.now (bodies_in dialect context) at (λ b c n. done sequence n) items (bound_of scope) control next
@@ -64,13 +64,13 @@ where_in dialect context rows at body condition next =
     and_then (filtered at (free context.text.now body) (λ b c n. tr dialect context.text.now (bodies_in dialect context) body b c n) rows.bound (stream_of d) k) (λ w k.
     concatenated at (segments rows.flags w) k))
 
--- a comprehension behind its sequences, and one with a condition
+-- a comprehension after its sequences, and one with a condition
 abbrev pub each_behind : Dialect → ProgramContext → Scope → ℕ → Sources → Tree → Binders → ℕ → Making Wires
 each_behind dialect context scope at sources body binders next =
     and_then (each_opened at (without_binders context.text.now binders (free context.text.now body)) sources (bound_of scope) next) (λ rows k.
     body_in dialect context rows body k)
 
-abbrev pub where_behind : Dialect → ProgramContext → Scope → ℕ → Sources → (body condition : Tree) → Binders → ℕ → Making Wires
-where_behind dialect context scope at sources body condition binders next =
+abbrev pub where_after : Dialect → ProgramContext → Scope → ℕ → Sources → (body condition : Tree) → Binders → ℕ → Making Wires
+where_after dialect context scope at sources body condition binders next =
     let names = without_binders context.text.now binders (free context.text.now condition ++ free context.text.now body) in
     and_then (each_opened at names sources (bound_of scope) next) (λ rows k. where_in dialect context rows at body condition k)

@@ -13,7 +13,7 @@ ghost use Rattle.snesl_steps.specs.Added.{Adds};
 ghost use Rattle.snesl_scopes.specs.Scopes.{bound_of};
 ghost use Rattle.snesl_translator.specs.Called.{entered};
 ghost use Rattle.snesl_translator.specs.Rows.{rows_of};
-ghost use Rattle.snesl_translator.specs.Translated.{all_in, binders_in, bodies_in, body_in, each_behind, filtered_in, further_in, single_in, translated, where_behind, where_in};
+ghost use Rattle.snesl_translator.specs.Translated.{all_in, binders_in, bodies_in, body_in, each_behind, filtered_in, further_in, single_in, translated, where_after, where_in};
 
 use crate::forms::{always_true, flat, named, one_of, paired, sequence};
 use crate::frames::{bind_parameters, one_bound};
@@ -356,7 +356,7 @@ fn enter(
     Ok(w)
 }
 
-// A literal: its first item, and the others behind it.
+// A literal: its first item, and the others after it.
 #[cycle(translate)]
 #[inline(never)]
 fn literal_form(
@@ -380,7 +380,7 @@ fn literal_form(
     }
 }
 
-// A sequence with items behind it: each is appended to all that stand before it.
+// A sequence with items after it: each is appended to all that stand before it.
 #[cycle(translate)]
 #[inline(never)]
 fn further(
@@ -444,7 +444,7 @@ fn each_form(
     each_over(steps, context, at, body, binders, &sources, scope)
 }
 
-// A comprehension behind its sources, in a frame of its own: sources nest, and need nothing of what comes behind them.
+// A comprehension after its sources, in a frame of its own: sources nest, and need nothing of what comes after them.
 #[cycle(translate)]
 #[inline(never)]
 fn each_over(
@@ -489,7 +489,7 @@ fn each_where(
     )
 }
 
-// The same behind its sources.
+// The same after its sources.
 #[cycle(translate)]
 #[inline(never)]
 fn where_over(
@@ -503,7 +503,7 @@ fn where_over(
     scope: &Scope<'_>,
 ) -> Result<Wires, Refusal>
     ensures { Adds wires_of steps.old steps.new
-        (where_behind (dialect_of_steps steps.old) context.now scope.now at
+        (where_after (dialect_of_steps steps.old) context.now scope.now at
         (bindings_of sources.now) (tree_of body.now) (tree_of condition.now)
         (binders_of binders.now) (next_in steps.old)) result }
 {

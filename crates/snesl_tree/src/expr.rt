@@ -82,7 +82,7 @@ pub enum Expr {
         item: Box<Expr>,
         condition: Box<Expr>,
     },
-    /// `{body : name in source; ..}`, or with `| condition` behind the binders.
+    /// `{body : name in source; ..}`, or with `| condition` after the binders.
     Each {
         at: usize,
         body: Box<Expr>,

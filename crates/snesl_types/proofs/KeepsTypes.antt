@@ -129,7 +129,7 @@ module _ (dialect : Dialect) where
   literal_safe t ts (v ∷ vs) a h = (h.0, alike t ts vs a h.1)
   literal_safe t ts [] a h = absurd h
 
-  -- what the binders of a comprehension declare behind earlier ones, and that their columns fit it
+  -- what the binders of a comprehension declare after earlier ones, and that their columns fit it
   record BindersSafe (earlier all : List Declaration) (answer : Answer BoundItems) : Type 0 where
     new : List Declaration
     same : all ≡ earlier ++ new

@@ -13,7 +13,7 @@ use Rattle.snesl_tree.specs.Spelling.{spelling}
 use Rattle.snesl_tree.specs.Tree.{Tree, Trees, Binders, Condition, integer, truth, name, binary, prefix, call, apply, group, pair as pair_tree, binding, choice, literal, filter, each, none, both, none_bound, binder, always, only_where, TypeTree, Typed, DeclarationTree, ProgramTree}
 use Rattle.snesl_types.specs.Contexts.{type_in, Signature, Signatures}
 use Rattle.snesl_types.specs.Sizes.{BodySizes, body_size, size, size_of_all, size_of_binders, size_of_condition, greatest_size}
-use Rattle.snesl_types.specs.Programs.{and_then, written_type, Declared, with_function, typed_name, NamesType, no_names, more_names, NamesViolate, named_twice, type_refused, later_names_violate, signature_of, FunctionTypes, function_type, FunctionViolates, function_twice, parameter_violates, result_refused, function_body_violates, function_mismatch, DeclarationsType, no_declarations, input_declared, function_declared, DeclarationsViolate, input_violates, function_violates, behind_input_violates, behind_function_violates, nothing_declared, ProgramTypes, ProgramViolates, many_declarations, declaration_violates, expression_violates, big_expression}
+use Rattle.snesl_types.specs.Programs.{and_then, written_type, Declared, with_function, typed_name, NamesType, no_names, more_names, NamesViolate, named_twice, type_refused, later_names_violate, signature_of, FunctionTypes, function_type, FunctionViolates, function_twice, parameter_violates, result_refused, function_body_violates, function_mismatch, DeclarationsType, no_declarations, input_declared, function_declared, DeclarationsViolate, input_violates, function_violates, after_input_violates, after_function_violates, nothing_declared, ProgramTypes, ProgramViolates, many_declarations, declaration_violates, expression_violates, big_expression}
 use Rattle.snesl_types.specs.Verdicts.{new_name, name_verdict, names_verdict, of_body, function_verdict, capped, with_capped_function, declarations_verdict, of_expression, expression_verdict, program_verdict}
 use Rattle.snesl_data.proofs.SameTypes.{same_eq, same_of}
 use Rattle.snesl_types.proofs.Same.{not_true}
@@ -152,9 +152,9 @@ declarations_violate_complete (input_violates (later_names_violate e w v)) = abs
     none_left : {text : List ℕ} {earlier : List Declaration} {r : Refusal} → NamesViolate text earlier [] r → ⊥
     none_left v = elim v [ ]
 declarations_violate_complete (function_violates v) = then_err _ (then_err _ (function_violates_complete v))
-declarations_violate_complete {text = text} {earlier = earlier} (behind_input_violates {declared = declared} (more_names e w no_names) v) =
+declarations_violate_complete {text = text} {earlier = earlier} (after_input_violates {declared = declared} (more_names e w no_names) v) =
     then_ok _ (then_ok _ (name_ok text earlier.inputs declared e w) refl) (declarations_violate_complete v)
-declarations_violate_complete {dialect = dialect} {text = text} (behind_function_violates {earlier = earlier} {body = body} {signature = signature} {others = others} f v) =
+declarations_violate_complete {dialect = dialect} {text = text} (after_function_violates {earlier = earlier} {body = body} {signature = signature} {others = others} f v) =
     then_ok _ (then_ok _ (function_complete f) refl)
     (ap (λ d. declarations_verdict dialect text d others) (with_capped text earlier signature body) ∙ declarations_violate_complete v)
 

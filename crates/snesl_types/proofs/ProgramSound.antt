@@ -14,7 +14,7 @@ use Rattle.snesl_types.specs.Contexts.{names_context, type_in, Signature, Signat
 use Rattle.snesl_types.specs.Sizes.{size, greatest_size}
 use Rattle.snesl_types.specs.Ranges.{IsInRange, DeclarationsInRange, ProgramInRange}
 use Rattle.snesl_types.specs.Typing.{Types}
-use Rattle.snesl_types.specs.Programs.{and_then, written_type, Declared, with_inputs, with_function, typed_name, NamesType, no_names, more_names, NamesViolate, named_twice, type_refused, later_names_violate, signature_of, FunctionTypes, function_type, FunctionViolates, function_twice, parameter_violates, result_refused, function_body_violates, function_mismatch, DeclarationsType, no_declarations, input_declared, function_declared, DeclarationsViolate, input_violates, function_violates, behind_input_violates, behind_function_violates, are_few, nothing_declared, ProgramTypes, ProgramViolates, many_declarations, declaration_violates, expression_violates, big_expression, HasTyping, HaveOneTyping, HaveSomeTyping, IsFirstViolation, IsMemoryIfTyped}
+use Rattle.snesl_types.specs.Programs.{and_then, written_type, Declared, with_inputs, with_function, typed_name, NamesType, no_names, more_names, NamesViolate, named_twice, type_refused, later_names_violate, signature_of, FunctionTypes, function_type, FunctionViolates, function_twice, parameter_violates, result_refused, function_body_violates, function_mismatch, DeclarationsType, no_declarations, input_declared, function_declared, DeclarationsViolate, input_violates, function_violates, after_input_violates, after_function_violates, are_few, nothing_declared, ProgramTypes, ProgramViolates, many_declarations, declaration_violates, expression_violates, big_expression, HasTyping, HaveOneTyping, HaveSomeTyping, IsFirstViolation, IsMemoryIfTyped}
 use Rattle.snesl_types.specs.Verdicts.{verdict, new_name, name_verdict, names_verdict, of_body, function_verdict, capped, with_capped_function, declarations_verdict, expression_verdict, program_verdict}
 use Rattle.snesl_data.proofs.SameTypes.{same_eq, same_of}
 use Rattle.snesl_types.proofs.Outcomes.{Outcome, given, violated, out_of_range, then_outcome}
@@ -25,7 +25,7 @@ module _ (dialect : Dialect) (text : List ℕ) where
   abbrev pub OfNames : List Declaration → List Typed → Result (List Declaration) Refusal → Type 0
   OfNames earlier written r = Outcome (NamesType text earlier written) (NamesViolate text earlier written) (Unit {0}) r
 
-  -- one name, and what others behind it give
+  -- one name, and what others after it give
   name_outcome : (earlier : List Declaration) (first : Typed) (others : List Typed) {B : Type 0} {G : B → Type 0} {V : Refusal → Type 0} {R : Type 0} (next : Declaration → Result B Refusal)
       → ((r : Refusal) → NamesViolate text earlier (first ∷ []) r → V r)
       → ((t : Ty) → type_in (spelling text first.place) earlier ≡ None → written_type first.written ≡ Ok t → Outcome G V R (next (typed_name text first t)))
@@ -102,7 +102,7 @@ module _ (dialect : Dialect) (text : List ℕ) where
       go_on : (t : Ty) → type_in (spelling text first.place) earlier.inputs ≡ None → written_type first.written ≡ Ok t → {r : Result Declared Refusal}
           → OfDeclarations (with_inputs earlier (earlier.inputs ++ (typed_name text first t ∷ []))) others r → OfDeclarations earlier (declares_input first ∷ others) r
       go_on t e w (given found) = given (found.0, input_declared (more_names e w no_names) found.1, found.2)
-      go_on t e w (violated v) = violated (behind_input_violates (more_names e w no_names) v)
+      go_on t e w (violated v) = violated (after_input_violates (more_names e w no_names) v)
       go_on t e w (out_of_range n) = out_of_range (λ h. n h.1)
 
       Behind : Type 0
@@ -129,7 +129,7 @@ module _ (dialect : Dialect) (text : List ℕ) where
       go_on : (signature : Signature) → FunctionTypes dialect text earlier.functions place written result body signature → {r : Result Declared Refusal}
           → OfDeclarations (with_function text earlier signature body) others r → OfDeclarations earlier (declares_function place written result body ∷ others) r
       go_on signature f (given found) = given (found.0, function_declared f found.1, found.2)
-      go_on signature f (violated v) = violated (behind_function_violates f v)
+      go_on signature f (violated v) = violated (after_function_violates f v)
       go_on signature f (out_of_range n) = out_of_range (λ h. n h.1)
 
       of_function : ((signature : Signature) → OfDeclarations (with_function text earlier signature body) others

@@ -38,7 +38,7 @@ pub seen_here : (o : Option Binding) → seen false o ≡ o
 seen_here None = refl
 seen_here (Some binding) = refl
 
--- what is seen of declared names, and behind them
+-- what is seen of declared names, and after them
 pub found-opened : (bytes : List ℕ) (declarations : List Declaration) (t : Ty) → Some t ≡ type_in bytes declarations → found bytes (names_context declarations) ≡ Some (open_to t)
 found-opened bytes [] t e = cc
 found-opened bytes (declaration ∷ declarations) t e = by_test (bytes_eq bytes declaration.0) e (found-opened bytes declarations t)

@@ -10,7 +10,7 @@ use Rattle.snesl_tree.specs.declared.span.Span.{Span}
 use Rattle.snesl_tree.specs.Tree.{Tree, Trees, Binders, TypeTree, int_type, bool_type, pair_type, vector_type, sequence_type, Typed, DeclarationTree, ProgramTree}
 use Rattle.snesl_types.specs.Contexts.{Context, Signatures}
 use Rattle.snesl_types.specs.Sizes.{is_small}
-use Rattle.snesl_types.specs.Programs.{Declared, small_type, and_then, written_type, NamesViolate, FunctionViolates, DeclarationsViolate, ProgramViolates, named_twice, type_refused, later_names_violate, function_twice, parameter_violates, result_refused, function_body_violates, function_mismatch, input_violates, function_violates, behind_input_violates, behind_function_violates, many_declarations, declaration_violates, expression_violates, big_expression}
+use Rattle.snesl_types.specs.Programs.{Declared, small_type, and_then, written_type, NamesViolate, FunctionViolates, DeclarationsViolate, ProgramViolates, named_twice, type_refused, later_names_violate, function_twice, parameter_violates, result_refused, function_body_violates, function_mismatch, input_violates, function_violates, after_input_violates, after_function_violates, many_declarations, declaration_violates, expression_violates, big_expression}
 use Rattle.snesl_types.specs.Violations.{Violates, AnyViolates, BindersViolate, big_type, unbound, streamed, left_violates, right_violates, operands_mismatch, operand_violates, operand_mismatch, argument_violates, arguments_mismatch, tab_streamed, call_violates, call_unbound, call_mismatch, inner_violates, first_part_violates, second_part_violates, value_violates, binding_violates, choice_violates, positive_violates, negative_violates, choice_mismatch, item_violates, items_mismatch, filtered_violates, filter_violates, filter_mismatch, binder_violates, condition_violates, body_violates, condition_mismatch, binder_missing, first_violates, later_violates, source_violates, bound_twice, binder_mismatch, later_binder_violates}
 
 -- a name, a mismatch, a streamed type, or a size
@@ -117,8 +117,8 @@ function_of_typing (function_mismatch _ _ _ _ _) = tt
 declarations_of_typing : {dialect : Dialect} {text : List ℕ} {earlier : Declared} {declarations : List DeclarationTree} {refusal : Refusal} → DeclarationsViolate dialect text earlier declarations refusal → IsOfTyping refusal
 declarations_of_typing (input_violates v) = names_of_typing v
 declarations_of_typing (function_violates v) = function_of_typing v
-declarations_of_typing (behind_input_violates _ v) = declarations_of_typing v
-declarations_of_typing (behind_function_violates _ v) = declarations_of_typing v
+declarations_of_typing (after_input_violates _ v) = declarations_of_typing v
+declarations_of_typing (after_function_violates _ v) = declarations_of_typing v
 
 pub program_of_typing : {text : List ℕ} {program : ProgramTree} {refusal : Refusal} → ProgramViolates text program refusal → IsOfTyping refusal
 program_of_typing (many_declarations _) = tt

@@ -155,7 +155,7 @@ pub data FunctionClashes (dialect : Dialect) (text : List ℕ) (functions : Sign
       → Types dialect text functions (names_context names) within u → ¬ (u ≡ t)
       → FunctionClashes dialect text functions at place written result within (body u t)
 
--- these types clash at the offset: in a function behind what was declared before it, or in the final expression
+-- these types clash at the offset: in a function after what was declared before it, or in the final expression
 pub data ProgramClashes (text : List ℕ) (program : ProgramTree) (at : ℕ) (clash : Clash) : Type 0 where
   in_function : (before after : List DeclarationTree) {declared : Declared} {place : Span} {written : List Typed} {result : TypeTree} {within : Tree}
       → program.declarations ≡ before ++ (declares_function place written result within ∷ after)

@@ -57,11 +57,11 @@ typed_in scope tree = verdict scope.dialect scope.text.now (signatures_in scope.
 abbrev pub ruled_in : Scope → Tree → Result Ty Refusal
 ruled_in scope tree = rule scope.dialect scope.text.now (signatures_in scope.text.now scope.functions.now) (context_of scope.text.now scope.names.now) tree
 
--- of arguments, or items, behind earlier ones
+-- of arguments, or items, after earlier ones
 abbrev pub all_typed_in : Scope → List Ty → Trees → Result (List Ty) Refusal
 all_typed_in scope earlier trees = verdicts scope.dialect scope.text.now (signatures_in scope.text.now scope.functions.now) (context_of scope.text.now scope.names.now) earlier trees
 
--- of binders behind earlier ones
+-- of binders after earlier ones
 abbrev pub binders_typed_in : Scope → List Declaration → Binders → Result (List Declaration) Refusal
 binders_typed_in scope earlier binders = binders_verdict scope.dialect scope.text.now (signatures_in scope.text.now scope.functions.now) (context_of scope.text.now scope.names.now) earlier binders
 

@@ -146,11 +146,11 @@ pub data DeclarationsViolate (dialect : Dialect) (text : List ℕ) : Declared �
   function_violates : {earlier : Declared} {place : Span} {written : List Typed} {result : TypeTree} {body : Tree} {others : List DeclarationTree} {refusal : Refusal}
       → FunctionViolates dialect text earlier.functions place written result body refusal
       → DeclarationsViolate dialect text earlier (declares_function place written result body ∷ others) refusal
-  behind_input_violates : {earlier : Declared} {inputs : List Declaration} {declared : Typed} {others : List DeclarationTree} {refusal : Refusal}
+  after_input_violates : {earlier : Declared} {inputs : List Declaration} {declared : Typed} {others : List DeclarationTree} {refusal : Refusal}
       → NamesType text earlier.inputs (declared ∷ []) inputs
       → DeclarationsViolate dialect text (with_inputs earlier inputs) others refusal
       → DeclarationsViolate dialect text earlier (declares_input declared ∷ others) refusal
-  behind_function_violates : {earlier : Declared} {place : Span} {written : List Typed} {result : TypeTree} {body : Tree} {signature : Signature} {others : List DeclarationTree} {refusal : Refusal}
+  after_function_violates : {earlier : Declared} {place : Span} {written : List Typed} {result : TypeTree} {body : Tree} {signature : Signature} {others : List DeclarationTree} {refusal : Refusal}
       → FunctionTypes dialect text earlier.functions place written result body signature
       → DeclarationsViolate dialect text (with_function text earlier signature body) others refusal
       → DeclarationsViolate dialect text earlier (declares_function place written result body ∷ others) refusal

@@ -111,13 +111,13 @@ abbrev mutual
       and_then (both_of (condition_verdict dialect text functions (names_context items ++ inside context) condition)
       (sized (rule dialect text functions (names_context items ++ inside context) body))) (λ ts. of_each at binders ts.1 ts.0))
 
-  -- the types of arguments or items behind earlier ones
+  -- the types of arguments or items after earlier ones
   pub verdicts : (dialect : Dialect) (text : List ℕ) (functions : Signatures) → Context → List Ty → Trees → Result (List Ty) Refusal
   verdicts dialect text functions context earlier none = Ok earlier
   verdicts dialect text functions context earlier (both first others) =
       and_then (sized (rule dialect text functions context first)) (λ t. verdicts dialect text functions context (earlier ++ (t ∷ [])) others)
 
-  -- the names of binders behind earlier ones, with the types of their elements
+  -- the names of binders after earlier ones, with the types of their elements
   pub binders_verdict : (dialect : Dialect) (text : List ℕ) (functions : Signatures) → Context → List Declaration → Binders → Result (List Declaration) Refusal
   binders_verdict dialect text functions context earlier none_bound = Ok earlier
   binders_verdict dialect text functions context earlier (binder place source others) =
@@ -138,13 +138,13 @@ abbrev pub new_name : {A : Type 0} → List ℕ → Span → Option A → Result
 new_name text place (Some earlier) = Err (Name place.at)
 new_name text place None = Ok (spelling text place)
 
--- a name behind earlier ones, with its type
+-- a name after earlier ones, with its type
 abbrev pub name_verdict : List ℕ → List Declaration → Typed → Result Declaration Refusal
 name_verdict text earlier first =
     and_then (new_name text first.place (type_in (spelling text first.place) earlier)) (λ bytes.
     and_then (written_type first.written) (λ t. Ok (bytes, t)))
 
--- names behind earlier ones, with their types
+-- names after earlier ones, with their types
 abbrev pub names_verdict : List ℕ → List Declaration → List Typed → Result (List Declaration) Refusal
 names_verdict text earlier [] = Ok earlier
 names_verdict text earlier (first ∷ others) =

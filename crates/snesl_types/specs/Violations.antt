@@ -158,7 +158,7 @@ mutual
         → Types dialect text functions context first t → AnyViolates dialect text functions context others refusal
         → AnyViolates dialect text functions context (both first others) refusal
 
-  -- the first violation in binders behind these earlier ones: of a binder first its sequence, then its name, then that it is a sequence
+  -- the first violation in binders after these earlier ones: of a binder first its sequence, then its name, then that it is a sequence
   pub data BindersViolate (dialect : Dialect) (text : List ℕ) (functions : Signatures) : Context → List Declaration → Binders → Refusal → Type 0 where
     source_violates : {context : Context} {earlier : List Declaration} {place : Span} {source : Tree} {others : Binders} {refusal : Refusal}
         → Violates dialect text functions context source refusal

@@ -75,7 +75,7 @@ pub fn clash_at(alloc: Global, program: &Program, at: usize) -> Result<Option<Cl
     )
 }
 
-// In declarations, or in the final expression behind them.
+// In declarations, or in the final expression after them.
 fn program_clash(
     dialect: Dialect,
     alloc: Global,
@@ -122,7 +122,7 @@ fn final_clash(
     clash_in(alloc, &scope, at, expr)
 }
 
-// In the declaration behind as many others.
+// In the declaration after as many others.
 fn declaration_clash(
     dialect: Dialect,
     alloc: Global,
@@ -146,7 +146,7 @@ fn declaration_clash(
     }
 }
 
-// In a function behind these.
+// In a function after these.
 fn function_clash(
     dialect: Dialect,
     alloc: Global,

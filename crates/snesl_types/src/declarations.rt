@@ -83,7 +83,7 @@ pub(crate) fn declarations_of(
     Ok(Declarations { inputs, functions })
 }
 
-// What a call sees of a function behind these.
+// What a call sees of a function after these.
 fn function_of(
     dialect: Dialect,
     alloc: Global,
@@ -141,7 +141,7 @@ pub(crate) fn parameters_of(
     Ok(names)
 }
 
-// A name behind earlier ones, with its type.
+// A name after earlier ones, with its type.
 fn named(
     alloc: Global,
     text: &[u8],

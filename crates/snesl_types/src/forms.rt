@@ -21,14 +21,14 @@ const GREATEST_TYPE_SIZE: usize = 256;
 pub(crate) fn small(ty: Ty) -> Result<Ty, Refusal>
     ensures { IsVerdict ty_of (small_type (ty_of ty)) result }
 {
-    match room_behind(&ty, GREATEST_TYPE_SIZE) {
+    match room_after(&ty, GREATEST_TYPE_SIZE) {
         Some(_) => Ok(ty),
         None => Err(Refusal::TooBig),
     }
 }
 
 // What a type's size leaves of this room, where it is not over it.
-fn room_behind(ty: &Ty, room: usize) -> Option<usize>
+fn room_after(ty: &Ty, room: usize) -> Option<usize>
     ensures fits { IfSome result (λ rest. rest + type_size (ty_of ty.now) ≡ room) }
     ensures over { IfNone result (room < type_size (ty_of ty.now)) }
 {
@@ -36,10 +36,10 @@ fn room_behind(ty: &Ty, room: usize) -> Option<usize>
     match ty {
         Ty::Int | Ty::Bool => Some(rest),
         Ty::Pair(first, second) => {
-            let rest = room_behind(first, rest)?;
-            room_behind(second, rest)
+            let rest = room_after(first, rest)?;
+            room_after(second, rest)
         }
-        Ty::Vec(item) | Ty::Seq(item) => room_behind(item, rest),
+        Ty::Vec(item) | Ty::Seq(item) => room_after(item, rest),
     }
 }
 

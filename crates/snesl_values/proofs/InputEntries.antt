@@ -8,8 +8,8 @@ use Rattle.snesl_data.specs.declared.ty.Ty.{Ty as TyTree}
 use Rattle.snesl_values.specs.Wants.{Want, one, perhaps, a_value, Fills, entry_wants, further_wants, wants_of, IsEntry, AllRead, IsStop, IsStopOf}
 use Rattle.snesl_values.specs.declared.inputs.InputError.{InputError}
 use Rattle.snesl_values.specs.declared.inputs.InputError.TheVariants.{Bad, NoMemory}
-use Rattle.snesl_values.proofs.InputReads.{reads-append, stops_behind, stops_here}
-use Rattle.snesl_values.proofs.InputWants.{one_in, one_out, value_in, value_out, one_value, behind_head, after_one}
+use Rattle.snesl_values.proofs.InputReads.{reads-append, stops_after, stops_here}
+use Rattle.snesl_values.proofs.InputWants.{one_in, one_out, value_in, value_out, one_value, after_head, after_one}
 
 -- an entry and what follows it
 entry_in : (dialect : Dialect) → (d : Declaration) (wants : List Want) (v : Value) (us : List Token) → HasType dialect v d.1 → Fills dialect wants us
@@ -29,16 +29,16 @@ entry_out dialect d wants us f =
 pub after_entry : (dialect : Dialect) → (text : List ℕ) (d : Declaration) (wants : List Want) (entry : List ℕ × Value) (from place n : ℕ) → IsEntry dialect text from d entry place
     → StopsAt (Fills dialect wants) text place n → StopsAt (Fills dialect (entry_wants d wants)) text from n
 after_entry dialect text d wants entry from place n read s =
-    stops_behind (Fills dialect (entry_wants d wants)) (Fills dialect wants) text (word d.0 ∷ equals ∷ value_tokens entry.1) from place n
+    stops_after (Fills dialect (entry_wants d wants)) (Fills dialect wants) text (word d.0 ∷ equals ∷ value_tokens entry.1) from place n
     (subst (λ name. HasTokens text from (word name ∷ equals ∷ value_tokens entry.1) place) read.named read.reads)
     (λ us f. entry_in dialect d wants entry.1 us read.has_type f)
     (λ us f.
     let out = entry_out dialect d wants (word d.0 ∷ equals ∷ (value_tokens entry.1 ++ us)) f in
-    let same = behind_head equals equals _ _ (behind_head (word d.0) (word d.0) _ _ out.3) in
+    let same = after_head equals equals _ _ (after_head (word d.0) (word d.0) _ _ out.3) in
     subst (Fills dialect wants) (sym (one_value entry.1 out.0 us out.1 same).1) out.4)
     s
 
--- what may stand behind the entries
+-- what may stand after the entries
 abbrev MayEnd : Environment → List Token → Type 0
 MayEnd es us = (us ≡ further_entries es) ⊎ (us ≡ further_entries es ++ (semicolon ∷ []))
 
@@ -118,7 +118,7 @@ lawful_wants dialect (d ∷ ds) (e ∷ es) us h m =
 -- what stops by its wants stops in a lawful text
 pub stops_lawful : (dialect : Dialect) → (text : List ℕ) (ds : List Declaration) (n : ℕ) → StopsAt (Fills dialect (wants_of ds)) text 0 n → StopsAt (SpellsEnvironment dialect ds) text 0 n
 stops_lawful dialect text ds n s =
-    stops_behind (SpellsEnvironment dialect ds) (Fills dialect (wants_of ds)) text [] 0 0 n none (wants_lawful dialect ds) (λ us l. lawful_wants dialect ds l.0 us l.1.fits l.1.entries) s
+    stops_after (SpellsEnvironment dialect ds) (Fills dialect (wants_of ds)) text [] 0 0 n none (wants_lawful dialect ds) (λ us l. lawful_wants dialect ds l.0 us l.1.fits l.1.entries) s
 
 -- nothing is wanted any more
 pub nothing_wanted : (dialect : Dialect) → (text : List ℕ) (from : ℕ) → (next_token text from ≡ None → ⊥) → StopsAt (Fills dialect []) text from (next_at text from)
@@ -128,11 +128,11 @@ nothing_wanted dialect text from some = stops_here (Fills dialect []) text from 
     by_next None e m = some e
     by_next (Some x) e m = let f = m.1 in cc
 
--- behind the last entry
+-- after the last entry
 pub last_semicolon : (dialect : Dialect) → (text : List ℕ) (from place n : ℕ) → HasTokens text from (semicolon ∷ []) place → StopsAt (Fills dialect []) text place n
     → StopsAt (Fills dialect (perhaps semicolon ∷ [])) text from n
 last_semicolon dialect text from place n read s =
-    stops_behind (Fills dialect (perhaps semicolon ∷ [])) (Fills dialect []) text (semicolon ∷ []) from place n read
+    stops_after (Fills dialect (perhaps semicolon ∷ [])) (Fills dialect []) text (semicolon ∷ []) from place n read
     (λ us f. (semicolon ∷ [], us, refl, inr refl, f))
     (λ us f. by_end us (at_end dialect (semicolon ∷ us) f))
     s

@@ -17,7 +17,7 @@ size (pair a b) = suc (size a + size b)
 size (vec a) = suc (size a)
 size (seq a) = suc (size a)
 
--- the items, with a comma behind each
+-- the items, with a comma after each
 abbrev pub leading_tokens : List Value → List Token
 leading_tokens [] = []
 leading_tokens (v ∷ vs) = value_tokens v ++ (comma ∷ leading_tokens vs)
@@ -61,7 +61,7 @@ items_read dialect text from place behind end t close vs news v e begun types le
   within = closing.within;
 }
 
--- an item was read, and a comma behind it
+-- an item was read, and a comma after it
 pub item_read : (dialect : Dialect) → (text : List ℕ) (from place behind end : ℕ) (t : Ty) (vs news : List Value) (v : Value) → news ≡ vs ++ v ∷ []
     → HasTokens text from (leading_tokens vs) place → IsValueRead dialect text place t v behind → IsNextToken text behind comma end → HasTokens text from (leading_tokens news) end
 item_read dialect text from place behind end t vs news v e leading item parting =

@@ -5,7 +5,7 @@ use Rattle.snesl_data.specs.Values.{Value}
 use Rattle.snesl_values.specs.InputTokens.{Token, SizedToken, word, next_at, next_token, HasTokens, none, more}
 use Rattle.snesl_values.specs.Inputs.{Declaration, Environment, FitDeclarations, equals, semicolon, entry_tokens, further_entries, environment_tokens, AreEntries, Spells, SpellsEnvironment, MayFollow, StopsAt, InputAnswer, spells, refused_at, InputMeans, too_long, lawful, unlawful}
 use Rattle.snesl_values.proofs.InputReads.{first_next}
-use Rattle.snesl_values.proofs.InputWants.{one_value, behind_head}
+use Rattle.snesl_values.proofs.InputWants.{one_value, after_head}
 
 -- of two readings from one place one goes on from the other
 data GoOn (text : List ℕ) (ts us : List Token) (a b : ℕ) : Type 0 where
@@ -85,7 +85,7 @@ same_entry : (d : Declaration) (e f : List ℕ × Value) → e.0 ≡ d.0 → f.0
 same_entry d e f h k v = let names : e.0 ≡ f.0 = h ∙ sym k in ap (λ name. (name, e.1)) names ∙ ap (λ x. (f.0, x)) v
 
 entry_parts : (e f : List ℕ × Value) (r s : List Token) → entry_tokens e ++ r ≡ entry_tokens f ++ s → (e.1 ≡ f.1) × (r ≡ s)
-entry_parts e f r s same = one_value e.1 f.1 r s (behind_head equals equals _ _ (behind_head (word e.0) (word f.0) _ _ same))
+entry_parts e f r s same = one_value e.1 f.1 r s (after_head equals equals _ _ (after_head (word e.0) (word f.0) _ _ same))
 
 one_further_environment : (dialect : Dialect) → (ds : List Declaration) (es fs : Environment) (r s : List Token) → FitDeclarations dialect ds es → FitDeclarations dialect ds fs
     → further_entries es ++ r ≡ further_entries fs ++ s → es ≡ fs
@@ -96,7 +96,7 @@ one_further_environment dialect (d ∷ ds) [] fs r s h k e = absurd h
 one_further_environment dialect (d ∷ ds) (x ∷ es) [] r s h k e = absurd k
 one_further_environment dialect (d ∷ ds) (x ∷ es) (y ∷ fs) r s h k e =
     let parts = entry_parts x y (further_entries es ++ r) (further_entries fs ++ s)
-    (sym (append_assoc (entry_tokens x) (further_entries es) r) ∙ behind_head semicolon semicolon _ _ e ∙ append_assoc (entry_tokens y) (further_entries fs) s) in
+    (sym (append_assoc (entry_tokens x) (further_entries es) r) ∙ after_head semicolon semicolon _ _ e ∙ append_assoc (entry_tokens y) (further_entries fs) s) in
     let rest = one_further_environment dialect ds es fs r s h.2 k.2 parts.1 in
     ap (λ z. z ∷ es) (same_entry d x y h.0 k.0 parts.0) ∙ ap (λ l. y ∷ l) rest
 

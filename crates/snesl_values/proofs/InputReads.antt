@@ -36,11 +36,11 @@ stops_here L text from begins refuses = record {
   there = refl;
 }
 
--- what stops behind these tokens
-pub stops_behind : (L M : List Token → Type 0) (text : List ℕ) (ts : List Token) (from place n : ℕ) → HasTokens text from ts place
+-- what stops after these tokens
+pub stops_after : (L M : List Token → Type 0) (text : List ℕ) (ts : List Token) (from place n : ℕ) → HasTokens text from ts place
     → ((us : List Token) → M us → L (ts ++ us)) → ((us : List Token) → L (ts ++ us) → M us)
     → StopsAt M text place n → StopsAt L text from n
-stops_behind L M text ts from place n read into back s = record {
+stops_after L M text ts from place n read into back s = record {
   front = ts ++ s.front;
   end = s.end;
   reads = reads-append read s.reads;

@@ -11,7 +11,7 @@ use Rattle.snesl_data.specs.Values.{Value, an_int, a_bool, a_pair, a_vec, a_seq,
 use Rattle.snesl_values.specs.InputTokens.{Token, word, integer, sign, next_at, next_token, HasTokens, none}
 use Rattle.snesl_values.specs.Inputs.{value_tokens, items_tokens, further_tokens, left_paren, right_paren, comma, left_bracket, right_bracket, left_brace, right_brace, StopsAt}
 use Rattle.snesl_values.specs.Wants.{Want, one, perhaps, a_value, items, further_items, Fills, IsStop}
-use Rattle.snesl_values.proofs.InputReads.{stops_behind, stops_unless, stops_first}
+use Rattle.snesl_values.proofs.InputReads.{stops_after, stops_unless, stops_first}
 
 -- the signs that close items
 abbrev pub Closes : ℕ → Type 0
@@ -48,25 +48,25 @@ seq_parts vs r = ap (λ l. left_brace ∷ l) (append_assoc (items_tokens vs) (ri
 sign_number : (m n : ℕ) (r s : List Token) → sign m ∷ r ≡ sign n ∷ s → m ≡ n
 sign_number m n r s e = cc
 
-pub behind_head : (x y : Token) (r s : List Token) → x ∷ r ≡ y ∷ s → r ≡ s
-behind_head x y r s e = cc
+pub after_head : (x y : Token) (r s : List Token) → x ∷ r ≡ y ∷ s → r ≡ s
+after_head x y r s e = cc
 
 mutual
   -- tokens begin with one value at most
   pub one_value : (v w : Value) (r s : List Token) → value_tokens v ++ r ≡ value_tokens w ++ s → (v ≡ w) × (r ≡ s)
-  one_value (an_int n) (an_int m) r s e = let same : n ≡ m = cc in (ap an_int same, behind_head _ _ r s e)
-  one_value (a_bool true) (a_bool true) r s e = (refl, behind_head _ _ r s e)
-  one_value (a_bool false) (a_bool false) r s e = (refl, behind_head _ _ r s e)
+  one_value (an_int n) (an_int m) r s e = let same : n ≡ m = cc in (ap an_int same, after_head _ _ r s e)
+  one_value (a_bool true) (a_bool true) r s e = (refl, after_head _ _ r s e)
+  one_value (a_bool false) (a_bool false) r s e = (refl, after_head _ _ r s e)
   one_value (a_pair a b) (a_pair c d) r s e =
-      let f = behind_head _ _ _ _ (sym (pair_parts a b r) ∙ e ∙ pair_parts c d s) in
+      let f = after_head _ _ _ _ (sym (pair_parts a b r) ∙ e ∙ pair_parts c d s) in
       let g = one_value a c (comma ∷ (value_tokens b ++ (right_paren ∷ r))) (comma ∷ (value_tokens d ++ (right_paren ∷ s))) f in
-      let h = one_value b d (right_paren ∷ r) (right_paren ∷ s) (behind_head _ _ _ _ g.1) in
-      (ap (λ x. a_pair x b) g.0 ∙ ap (λ x. a_pair c x) h.0, behind_head _ _ r s h.1)
+      let h = one_value b d (right_paren ∷ r) (right_paren ∷ s) (after_head _ _ _ _ g.1) in
+      (ap (λ x. a_pair x b) g.0 ∙ ap (λ x. a_pair c x) h.0, after_head _ _ r s h.1)
   one_value (a_vec vs) (a_vec ws) r s e =
-      let f = one_items vs ws 93 r s (inl refl) (behind_head _ _ _ _ (sym (vec_parts vs r) ∙ e ∙ vec_parts ws s)) in
+      let f = one_items vs ws 93 r s (inl refl) (after_head _ _ _ _ (sym (vec_parts vs r) ∙ e ∙ vec_parts ws s)) in
       (ap a_vec f.0, f.1)
   one_value (a_seq vs) (a_seq ws) r s e =
-      let f = one_items vs ws 125 r s (inr refl) (behind_head _ _ _ _ (sym (seq_parts vs r) ∙ e ∙ seq_parts ws s)) in
+      let f = one_items vs ws 125 r s (inr refl) (after_head _ _ _ _ (sym (seq_parts vs r) ∙ e ∙ seq_parts ws s)) in
       (ap a_seq f.0, f.1)
   one_value (a_bool true) (a_bool false) r s e = cc
   one_value (a_bool false) (a_bool true) r s e = cc
@@ -85,7 +85,7 @@ mutual
   -- and with one list of items at most, where a sign closes it
   pub one_items : (vs ws : Values) (close : ℕ) (r s : List Token) → Closes close
       → items_tokens vs ++ (sign close ∷ r) ≡ items_tokens ws ++ (sign close ∷ s) → (vs ≡ ws) × (r ≡ s)
-  one_items no_values no_values close r s c e = (refl, behind_head _ _ r s e)
+  one_items no_values no_values close r s c e = (refl, after_head _ _ r s e)
   one_items no_values (more_values w ws) close r s c e =
       absurd (no_value w close (further_tokens ws ++ (sign close ∷ s)) r c (sym (append_assoc (value_tokens w) (further_tokens ws) (sign close ∷ s)) ∙ sym e))
   one_items (more_values v vs) no_values close r s c e =
@@ -98,12 +98,12 @@ mutual
 
   pub one_further : (vs ws : Values) (close : ℕ) (r s : List Token) → Closes close
       → further_tokens vs ++ (sign close ∷ r) ≡ further_tokens ws ++ (sign close ∷ s) → (vs ≡ ws) × (r ≡ s)
-  one_further no_values no_values close r s c e = (refl, behind_head _ _ r s e)
+  one_further no_values no_values close r s c e = (refl, after_head _ _ r s e)
   one_further no_values (more_values w ws) close r s c e = absurd (no_comma close _ r c (sym e))
   one_further (more_values v vs) no_values close r s c e = absurd (no_comma close _ s c e)
   one_further (more_values v vs) (more_values w ws) close r s c e =
       let f = one_value v w (further_tokens vs ++ (sign close ∷ r)) (further_tokens ws ++ (sign close ∷ s))
-      (sym (append_assoc (value_tokens v) (further_tokens vs) (sign close ∷ r)) ∙ behind_head _ _ _ _ e ∙ append_assoc (value_tokens w) (further_tokens ws) (sign close ∷ s)) in
+      (sym (append_assoc (value_tokens v) (further_tokens vs) (sign close ∷ r)) ∙ after_head _ _ _ _ e ∙ append_assoc (value_tokens w) (further_tokens ws) (sign close ∷ s)) in
       let g = one_further vs ws close r s c f.1 in
       (ap (λ x. more_values x vs) f.0 ∙ ap (λ x. more_values w x) g.0, g.1)
 
@@ -142,20 +142,20 @@ pub value_out : (dialect : Dialect) → (t : Ty) (wants : List Want) (us : List 
     → (v : Value) × (rest : List Token) × HasType dialect v t × (us ≡ value_tokens v ++ rest) × Fills dialect wants rest
 value_out dialect t wants us (these, rest, e, (v, h, m), f) = (v, rest, h, e ∙ ap (λ l. l ++ rest) m, f)
 
--- behind a token that was wanted
+-- after a token that was wanted
 pub after_one : (dialect : Dialect) → (text : List ℕ) (t : Token) (wants : List Want) (from place n : ℕ) → HasTokens text from (t ∷ []) place
     → StopsAt (Fills dialect wants) text place n → StopsAt (Fills dialect (one t ∷ wants)) text from n
 after_one dialect text t wants from place n read s =
-    stops_behind (Fills dialect (one t ∷ wants)) (Fills dialect wants) text (t ∷ []) from place n read
+    stops_after (Fills dialect (one t ∷ wants)) (Fills dialect wants) text (t ∷ []) from place n read
     (one_in dialect t wants)
-    (λ us f. let out = one_out dialect t wants (t ∷ us) f in subst (Fills dialect wants) (sym (behind_head t t us out.0 out.1)) out.2)
+    (λ us f. let out = one_out dialect t wants (t ∷ us) f in subst (Fills dialect wants) (sym (after_head t t us out.0 out.1)) out.2)
     s
 
--- behind a value that was wanted
+-- after a value that was wanted
 pub after_value : (dialect : Dialect) → (text : List ℕ) (t : Ty) (v : Value) (wants : List Want) (from place n : ℕ) → HasType dialect v t → HasTokens text from (value_tokens v) place
     → StopsAt (Fills dialect wants) text place n → StopsAt (Fills dialect (a_value t ∷ wants)) text from n
 after_value dialect text t v wants from place n h read s =
-    stops_behind (Fills dialect (a_value t ∷ wants)) (Fills dialect wants) text (value_tokens v) from place n read
+    stops_after (Fills dialect (a_value t ∷ wants)) (Fills dialect wants) text (value_tokens v) from place n read
     (λ us f. value_in dialect t v wants us h f)
     (λ us f.
     let out = value_out dialect t wants (value_tokens v ++ us) f in
@@ -234,7 +234,7 @@ pub pair_stops : (dialect : Dialect) → (text : List ℕ) (a b : Ty) (wants : L
     → StopsAt (Fills dialect (one left_paren ∷ a_value a ∷ one comma ∷ a_value b ∷ one right_paren ∷ wants)) text from n
     → StopsAt (Fills dialect (a_value (pair a b) ∷ wants)) text from n
 pair_stops dialect text a b wants from n s =
-    stops_behind (Fills dialect (a_value (pair a b) ∷ wants)) (Fills dialect (one left_paren ∷ a_value a ∷ one comma ∷ a_value b ∷ one right_paren ∷ wants)) text [] from from n none
+    stops_after (Fills dialect (a_value (pair a b) ∷ wants)) (Fills dialect (one left_paren ∷ a_value a ∷ one comma ∷ a_value b ∷ one right_paren ∷ wants)) text [] from from n none
     (pair_in dialect a b wants)
     (λ us f. let out = value_out dialect (pair a b) wants us f in
     subst (Fills dialect (one left_paren ∷ a_value a ∷ one comma ∷ a_value b ∷ one right_paren ∷ wants)) (sym out.3) (pair_of dialect a b wants out.0 out.1 out.2 out.4))
@@ -334,7 +334,7 @@ bracket_of dialect a wants (a_seq vs) rest h f = absurd h
 pub vec_stops : (dialect : Dialect) → (text : List ℕ) (a : Ty) (wants : List Want) (from n : ℕ) → StopsAt (Fills dialect (one left_bracket ∷ items a 93 ∷ wants)) text from n
     → StopsAt (Fills dialect (a_value (vec a) ∷ wants)) text from n
 vec_stops dialect text a wants from n s =
-    stops_behind (Fills dialect (a_value (vec a) ∷ wants)) (Fills dialect (one left_bracket ∷ items a 93 ∷ wants)) text [] from from n none
+    stops_after (Fills dialect (a_value (vec a) ∷ wants)) (Fills dialect (one left_bracket ∷ items a 93 ∷ wants)) text [] from from n none
     (bracket_in dialect a wants)
     (λ us f. let out = value_out dialect (vec a) wants us f in
     subst (Fills dialect (one left_bracket ∷ items a 93 ∷ wants)) (sym out.3) (bracket_of dialect a wants out.0 out.1 out.2 out.4))
@@ -360,13 +360,13 @@ brace_of dialect a wants (a_seq vs) rest h f =
 pub seq_stops : (dialect : Dialect) → (text : List ℕ) (a : Ty) (wants : List Want) (from n : ℕ) → StopsAt (Fills dialect (one left_brace ∷ items a 125 ∷ wants)) text from n
     → StopsAt (Fills dialect (a_value (seq a) ∷ wants)) text from n
 seq_stops dialect text a wants from n s =
-    stops_behind (Fills dialect (a_value (seq a) ∷ wants)) (Fills dialect (one left_brace ∷ items a 125 ∷ wants)) text [] from from n none
+    stops_after (Fills dialect (a_value (seq a) ∷ wants)) (Fills dialect (one left_brace ∷ items a 125 ∷ wants)) text [] from from n none
     (brace_in dialect a wants)
     (λ us f. let out = value_out dialect (seq a) wants us f in
     subst (Fills dialect (one left_brace ∷ items a 125 ∷ wants)) (sym out.3) (brace_of dialect a wants out.0 out.1 out.2 out.4))
     s
 
--- the error behind a `?`
+-- the error after a `?`
 pub passed_on : {A : Type 0} (P : InputError → Type 0) (r : Result A InputError) (e : InputError) → IsErrAnd r (λ x. x ≡ e) → P e → IfErr r P
 passed_on P (Ok x) e h p = tt
 passed_on P (Err x) e h p = subst P (sym h) p

@@ -53,7 +53,7 @@ unfolding frames_of
 read_empty [] v none = refl
 read_empty (x ∷ all) v none = absurd (omega arith)
 
--- the tokens behind one that was found
+-- the tokens after one that was found
 pub spots_found : (text : List ℕ) (at : ℕ) (f : Found) → at ≤ length text → Some f ≡ found_from (next_at text at) (next text at) → spots text at ≡ (f.mark, at) ∷ spots text f.end
 spots_found text at f within e = by_next (next text at) refl e
   where

@@ -151,7 +151,7 @@ a_pair_of dialect text a b first second from within = by_open (one_sign dialect 
     by_open (done place opening) = by_first place opening (first place opening.within)
     by_open (stopped n s) = stopped n (λ further. pair_stops dialect text a b further from n (s (a_value a ∷ one comma ∷ a_value b ∷ one right_paren ∷ further)))
 
--- some items were read from an offset on, each with a comma behind it
+-- some items were read from an offset on, each with a comma after it
 record ItemsSoFar (dialect : Dialect) (text : List ℕ) (from place : ℕ) (t : Ty) (close : ℕ) (vs : List Value) : Type 0 where
   within : place ≤ length text
   begun : from ≤ place

@@ -7,7 +7,7 @@ use Rattle.snesl_values.specs.declared.marks.Mark.{Mark}
 use Rattle.snesl_values.specs.Marks.{mark_of, spots_by, spots_in, spots, found_from}
 use Rattle.snesl_values.proofs.First.{seen}
 
--- the next lexeme, and that it ends behind its beginning, within the text
+-- the next lexeme, and that it ends after its beginning, within the text
 pub record Comes (text : List ℕ) (at : ℕ) (lexeme : SizedToken) : Type 0 where
   pub moves : at < next_at text at + lexeme.1
   pub within : next_at text at + lexeme.1 ≤ length text
@@ -21,7 +21,7 @@ pub data Next (text : List ℕ) (at : ℕ) : Option SizedToken → Type 0 where
   nothing : Next text at None
   lexeme : (l : SizedToken) → Comes text at l → Next text at (Some l)
 
--- the first of tokens that were read, and those behind it
+-- the first of tokens that were read, and those after it
 pub uncons : {text : List ℕ} {from end : ℕ} {t : Token} {ts : List Token} → HasTokens text from (t ∷ ts) end → (len : ℕ) × (next text from ≡ Some (t, len)) × HasTokens text (next_at text from + len) ts end
 uncons (more t len e h) = (len, e, h)
 

@@ -17,7 +17,7 @@ entry_from text placed = (placed.name.items, value_at text placed.place)
 abbrev pub environment_at : List ℕ → List Placed → Environment
 environment_at text all = map (entry_from text) all
 
--- the token comes next, and `Behind` is true of the offset behind it
+-- the token comes next, and `Behind` is true of the offset after it
 abbrev pub ComesBy : (ℕ → Type 0) → Token → ℕ → Option SizedToken → Type 0
 ComesBy Behind token start None = ⊥
 ComesBy Behind token start (Some lexeme) = (lexeme.0 ≡ token) × Behind (start + lexeme.1)

@@ -22,7 +22,7 @@ SizedToken = Token × ℕ
 abbrev pub is_sign : ℕ → Bool
 is_sign b = list_any (λ c. c == b) (codes "=;,()[]{}")
 
--- the integer that a number writes behind a minus
+-- the integer that a number writes after a minus
 abbrev pub negated : ℕ → ℤ
 negated zero = pos 0
 negated (suc n) = negsuc n
@@ -32,7 +32,7 @@ abbrev pub signed : Bool → ℕ → ℤ
 signed false n = pos n
 signed true n = negated n
 
--- a minus with the digits behind it, at least one
+-- a minus with the digits after it, at least one
 abbrev pub minus_lexeme : List ℕ → SizedToken
 minus_lexeme [] = (bad, 1)
 minus_lexeme digits = (integer (negated (value_from 0 digits)), suc (length digits))

@@ -33,7 +33,7 @@ abbrev pub environment_tokens : Environment → List Token
 environment_tokens [] = []
 environment_tokens (entry ∷ environment) = entry_tokens entry ++ further_entries environment
 
--- the tokens are the entries; behind the last one a semicolon may stand
+-- the tokens are the entries; after the last one a semicolon may stand
 abbrev pub AreEntries : Environment → List Token → Type 0
 AreEntries [] tokens = tokens ≡ []
 AreEntries environment tokens =
@@ -52,7 +52,7 @@ SpellsEnvironment dialect declarations tokens = (environment : Environment) × S
 abbrev pub CanBecome : (List Token → Type 0) → List Token → Type 0
 CanBecome Kind front = (rest : List Token) × Kind (front ++ rest)
 
--- what comes next, a token or the end of the text, may stand behind these tokens in lists of this kind
+-- what comes next, a token or the end of the text, may stand after these tokens in lists of this kind
 abbrev pub MayFollow : (List Token → Type 0) → List Token → Option Token → Type 0
 MayFollow Kind front (Some token) = CanBecome Kind (front ++ (token ∷ []))
 MayFollow Kind front None = Kind front

@@ -30,7 +30,7 @@ mark_of bad = Other
 abbrev pub Spot : Type 0
 Spot = Mark × ℕ
 
--- the mark of a token that begins at this offset, if there is one, and the offset behind it
+-- the mark of a token that begins at this offset, if there is one, and the offset after it
 abbrev pub found_from : ℕ → Option SizedToken → Option Found
 found_from start None = None
 found_from start (Some lexeme) = Some (record { mark = mark_of lexeme.0; end = start + lexeme.1 })

@@ -46,7 +46,7 @@ on_none frames (Open Curly) = (in_items Curly [] ∷ frames, None)
 on_none frames (Close b) = close_none frames
 on_none frames mark = unlawful
 
--- a token behind a value
+-- a token after a value
 abbrev pub on_some : Value → List OpenPart → Mark → Reading
 on_some v [] mark = ([], Some v)
 on_some v (in_items b vs ∷ frames) Comma = (in_items b (vs ++ v ∷ []) ∷ frames, None)
@@ -55,7 +55,7 @@ on_some v (in_first ∷ frames) Comma = (in_second v ∷ frames, None)
 on_some v (in_second a ∷ frames) (Close c) = (frames, Some (a_pair a v))
 on_some v frames mark = unlawful
 
--- a token behind a value that was just read, or else where one comes next
+-- a token after a value that was just read, or else where one comes next
 abbrev pub after_token : Option Value → List OpenPart → Mark → Reading
 after_token None frames mark = on_none frames mark
 after_token (Some v) frames mark = on_some v frames mark
@@ -65,7 +65,7 @@ abbrev pub read_value : List OpenPart → Option Value → Value
 read_value [] (Some v) = v
 read_value _ _ = no_value
 
--- the value that these tokens spell behind what was read so far
+-- the value that these tokens spell after what was read so far
 abbrev pub spelled : List OpenPart → Option Value → List Spot → Value
 spelled frames value [] = read_value frames value
 spelled frames value (spot ∷ rest) = (let r = after_token value frames spot.0 in spelled r.0 r.1 rest)

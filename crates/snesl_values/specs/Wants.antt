@@ -18,7 +18,7 @@ pub data Want : Type 0 where
   a_value : Ty → Want
   -- items of this type and the sign that closes them
   items : Ty → ℕ → Want
-  -- the same behind an item
+  -- the same after an item
   further_items : Ty → ℕ → Want
 
 -- the tokens are all that is wanted
@@ -39,7 +39,7 @@ Fills dialect (want ∷ wants) tokens =
 abbrev pub entry_wants : Declaration → List Want → List Want
 entry_wants declaration wants = one (word declaration.0) ∷ one equals ∷ a_value declaration.1 ∷ wants
 
--- the wants behind an entry, where these inputs are still to come
+-- the wants after an entry, where these inputs are still to come
 abbrev pub further_wants : List Declaration → List Want
 further_wants [] = perhaps semicolon ∷ []
 further_wants (declaration ∷ declarations) = one semicolon ∷ entry_wants declaration (further_wants declarations)
@@ -49,7 +49,7 @@ abbrev pub wants_of : List Declaration → List Want
 wants_of [] = []
 wants_of (declaration ∷ declarations) = entry_wants declaration (further_wants declarations)
 
--- the error of a reader of these wants, whatever is wanted behind them: the offset at which it stops, or that
+-- the error of a reader of these wants, whatever is wanted after them: the offset at which it stops, or that
 -- memory was refused
 abbrev pub IsStop : Dialect → List Want → List ℕ → ℕ → InputError → Type 0
 IsStop dialect wants text from (Bad at) = (further : List Want) → StopsAt (Fills dialect (wants ++ further)) text from at
@@ -77,7 +77,7 @@ pub record IsEntry (dialect : Dialect) (text : List ℕ) (from : ℕ) (declarati
   pub moves : from < end
   pub within : end ≤ length text
 
--- all declared inputs were read, up to this offset, and nothing may stand behind them
+-- all declared inputs were read, up to this offset, and nothing may stand after them
 pub record AllRead (dialect : Dialect) (text : List ℕ) (declarations : List Declaration) (environment : Environment) (end : ℕ) : Type 0 where
   pub tokens : List Token
   pub reads : HasTokens text 0 tokens end

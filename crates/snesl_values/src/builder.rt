@@ -9,7 +9,7 @@ use crate::marks::{Bracket, Mark, mark_at};
 use snesl_data::Datum;
 use std::alloc::{AllocError, Global};
 
-// What is open behind the tokens read so far.
+// What is open after the tokens read so far.
 #[derive(Drop)]
 pub(crate) enum Pending {
     // A vector or a sequence, by its bracket, with its items so far.
@@ -115,7 +115,7 @@ fn close_empty(pending: &mut Vec<Pending>) -> Option<Datum>
     }
 }
 
-// Reads a token behind a value. The result is the value that is whole then, if one is.
+// Reads a token after a value. The result is the value that is whole then, if one is.
 fn behind_value(
     alloc: Global,
     pending: &mut Vec<Pending>,
@@ -126,15 +126,15 @@ fn behind_value(
         on_some (value_of datum) (frames_of pending.old.items) mark) }
 {
     match pending.pop() {
-        Some(Pending::Items(bracket, items)) => behind_item(pending, bracket, items, datum, mark),
-        Some(Pending::First) => behind_first(pending, datum, mark),
-        Some(Pending::Second(first)) => behind_second(alloc, pending, first, datum, mark),
+        Some(Pending::Items(bracket, items)) => after_item(pending, bracket, items, datum, mark),
+        Some(Pending::First) => after_first(pending, datum, mark),
+        Some(Pending::Second(first)) => after_second(alloc, pending, first, datum, mark),
         None => Ok(Some(datum)),
     }
 }
 
-// The same behind an item of a vector or a sequence.
-fn behind_item(
+// The same after an item of a vector or a sequence.
+fn after_item(
     pending: &mut Vec<Pending>,
     bracket: Bracket,
     items: Vec<Datum>,
@@ -160,8 +160,8 @@ fn behind_item(
     }
 }
 
-// The same behind the first part of a pair.
-fn behind_first(
+// The same after the first part of a pair.
+fn after_first(
     pending: &mut Vec<Pending>,
     datum: Datum,
     mark: Mark,
@@ -178,8 +178,8 @@ fn behind_first(
     }
 }
 
-// The same behind the second part of a pair.
-fn behind_second(
+// The same after the second part of a pair.
+fn after_second(
     alloc: Global,
     pending: &mut Vec<Pending>,
     first: Datum,

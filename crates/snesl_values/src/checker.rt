@@ -9,10 +9,10 @@ ghost use Rattle.snesl_data.specs.Values.{Value, Values};
 ghost use Rattle.snesl_values.specs.Wants.{one, a_value, items, IsStop, IsValueRead, AreRead};
 
 use crate::inputs::InputError;
-use crate::scan::{behind_sign, behind_word, integer_at, skip_blanks};
+use crate::scan::{after_sign, after_word, integer_at, skip_blanks};
 use snesl_data::{Dialect, Ty};
 
-// The offset behind the sign of this byte, which has to come next.
+// The offset after the sign of this byte, which has to come next.
 #[inline(always)]
 pub fn expect_sign(dialect: Dialect, text: &[u8], at: usize, byte: u8) -> Result<usize, InputError>
     requires within { at ≤ length text.now }
@@ -20,13 +20,13 @@ pub fn expect_sign(dialect: Dialect, text: &[u8], at: usize, byte: u8) -> Result
     ensures taken { IfOk result (IsNextToken text.now at (sign byte)) }
     ensures stops { IfErr result (IsStop dialect (one (sign byte) ∷ []) text.now at) }
 {
-    match behind_sign(text, at, byte) {
+    match after_sign(text, at, byte) {
         Some(end) => Ok(end),
         None => Err(InputError::Bad(skip_blanks(text, at))),
     }
 }
 
-// The offset behind this word, which has to come next.
+// The offset after this word, which has to come next.
 pub fn expect_word(
     dialect: Dialect,
     text: &[u8],
@@ -37,13 +37,13 @@ pub fn expect_word(
     ensures taken { IfOk result (IsNextToken text.now at (word expected.now)) }
     ensures stops { IfErr result (IsStop dialect (one (word expected.now) ∷ []) text.now at) }
 {
-    match behind_word(text, at, expected) {
+    match after_word(text, at, expected) {
         Some(end) => Ok(end),
         None => Err(InputError::Bad(skip_blanks(text, at))),
     }
 }
 
-// The offset behind the value of this type that comes next.
+// The offset after the value of this type that comes next.
 #[cycle(values)]
 pub fn check_value(dialect: Dialect, text: &[u8], at: usize, ty: &Ty) -> Result<usize, InputError>
     requires { at ≤ length text.now }
@@ -73,23 +73,23 @@ pub fn check_value(dialect: Dialect, text: &[u8], at: usize, ty: &Ty) -> Result<
     }
 }
 
-// The offset behind the truth value that comes next.
+// The offset after the truth value that comes next.
 fn check_truth(dialect: Dialect, text: &[u8], at: usize) -> Result<usize, InputError>
     requires { at ≤ length text.now }
     ensures read { IfOk result (λ end.
         (value : Value) × IsValueRead dialect text.now at bool value end) }
     ensures stops { IfErr result (IsStop dialect (a_value bool ∷ []) text.now at) }
 {
-    if let Some(end) = behind_word(text, at, b"true") {
+    if let Some(end) = after_word(text, at, b"true") {
         return Ok(end);
     }
-    match behind_word(text, at, b"false") {
+    match after_word(text, at, b"false") {
         Some(end) => Ok(end),
         None => Err(InputError::Bad(skip_blanks(text, at))),
     }
 }
 
-// The offset behind the pair of these types that comes next.
+// The offset after the pair of these types that comes next.
 #[cycle(values)]
 fn check_pair(
     dialect: Dialect,
@@ -105,14 +105,14 @@ fn check_pair(
         (IsStop dialect (a_value (pair (ty_of first.now) (ty_of second.now)) ∷ []) text.now at) }
 {
     let at_first = expect_sign(dialect, text, at, b'(')?;
-    let behind_first = check_value(dialect, text, at_first, first)?;
-    let at_second = expect_sign(dialect, text, behind_first, b',')?;
-    let behind_second = check_value(dialect, text, at_second, second)?;
-    let end = expect_sign(dialect, text, behind_second, b')')?;
+    let after_first = check_value(dialect, text, at_first, first)?;
+    let at_second = expect_sign(dialect, text, after_first, b',')?;
+    let after_second = check_value(dialect, text, at_second, second)?;
+    let end = expect_sign(dialect, text, after_second, b')')?;
     Ok(end)
 }
 
-// The offset behind the closing sign of the items of this type that come next, with commas between
+// The offset after the closing sign of the items of this type that come next, with commas between
 // them.
 #[cycle(values)]
 fn check_items(
@@ -128,13 +128,13 @@ fn check_items(
         AreRead dialect text.now at (ty_of item.now) close values end) }
     ensures stops { IfErr result (IsStop dialect (items (ty_of item.now) close ∷ []) text.now at) }
 {
-    if let Some(end) = behind_sign(text, at, close) {
+    if let Some(end) = after_sign(text, at, close) {
         return Ok(end);
     }
     let mut from = at;
     'each: loop {
         let behind = check_value(dialect, text, from, item)?;
-        if let Some(end) = behind_sign(text, behind, close) {
+        if let Some(end) = after_sign(text, behind, close) {
             return Ok(end);
         }
         from = expect_sign(dialect, text, behind, b',')?;

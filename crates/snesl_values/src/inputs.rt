@@ -59,7 +59,7 @@ impl From<InputError> for Refusal {
 
 /// The values of the declared inputs, read from a text of at most 16,777,216 bytes. For each
 /// declaration, a name and a type, the text has `name = value`, in their order, with `;` between
-/// two, and one more `;` may stand behind the last.
+/// two, and one more `;` may stand after the last.
 ///
 /// A value is an integer, `true` or `false`, a pair `(a,b)`, a vector `[a,b]` or a sequence
 /// `{a,b}`, as its type says. An integer lies in the range of the dialect, and may have a minus

@@ -31,16 +31,16 @@ pub enum Mark {
     Other,
 }
 
-/// A token, and the offset behind it, in bytes from the start of the text.
+/// A token, and the offset after it, in bytes from the start of the text.
 #[derive(Clone, Copy, Debug, PartialEq, Eq)]
 pub struct Found {
     pub mark: Mark,
     pub end: usize,
 }
 
-/// The token that comes next from the offset `at` on, behind blanks, with the offset behind it, or
+/// The token that comes next from the offset `at` on, after blanks, with the offset after it, or
 /// `None` where only blanks are left. Offsets are in bytes from the start of the text, and `at`
-/// must not be behind its end.
+/// must not be after its end.
 #[inline(always)]
 pub fn mark_at(text: &[u8], at: usize) -> Option<Found>
     requires { at ≤ length text.now }
@@ -83,7 +83,7 @@ fn first_mark(bytes: &[u8]) -> (Mark, usize)
     (sign_mark(byte), 1)
 }
 
-// The token that a minus begins, by the bytes behind it, and its length with the minus.
+// The token that a minus begins, by the bytes after it, and its length with the minus.
 #[inline(always)]
 fn minus_mark(rest: &[u8]) -> (Mark, usize)
     requires { length rest.now < 2 ^ 63 }

@@ -8,7 +8,7 @@ ghost use Rattle.snesl_values.specs.Entries.{entry_from, environment_at, IsPlace
 
 use crate::checker::{check_value, expect_sign, expect_word};
 use crate::inputs::InputError;
-use crate::scan::behind_sign;
+use crate::scan::after_sign;
 use snesl_data::{Dialect, Ty};
 use std::alloc::Global;
 
@@ -21,7 +21,7 @@ pub struct Placed {
 }
 
 /// The names and places of the declared inputs with which the text begins, in order, and the offset
-/// behind them, in bytes from the start of the text.
+/// after them, in bytes from the start of the text.
 ///
 /// # Errors
 ///
@@ -52,13 +52,13 @@ pub fn read_places(
         all.push(input)?;
         at = end;
     }
-    match behind_sign(text, at, b';') {
+    match after_sign(text, at, b';') {
         Some(end) => Ok((all, end)),
         None => Ok((all, at)),
     }
 }
 
-// The name and the place of the declared input that comes next, and the offset behind it.
+// The name and the place of the declared input that comes next, and the offset after it.
 fn read_entry(
     dialect: Dialect,
     alloc: Global,
@@ -74,8 +74,8 @@ fn read_entry(
     ensures stops { IfErr result
         (IsStop dialect (entry_wants (declaration_of declaration.now) []) text.now at) }
 {
-    let behind_name = expect_word(dialect, text, at, &declaration.0)?;
-    let start = expect_sign(dialect, text, behind_name, b'=')?;
+    let after_name = expect_word(dialect, text, at, &declaration.0)?;
+    let start = expect_sign(dialect, text, after_name, b'=')?;
     let end = check_value(dialect, text, start, &declaration.1)?;
     let name = Vec::from_slice(alloc, &declaration.0)?;
     Ok((Placed { name, place: start }, end))

@@ -11,7 +11,7 @@ ghost use Rattle.snesl_values.specs.InputTokens.{digits_at, number_of, IsNumber,
 
 use snesl_data::{Dialect, digits_len, is_blank, word_len};
 
-// The greatest number that may stand behind a minus, in the wider dialect.
+// The greatest number that may stand after a minus, in the wider dialect.
 const GREATEST_MAGNITUDE: u128 = 1 << 127;
 
 // How many bytes at the front are blanks.
@@ -34,9 +34,9 @@ pub fn skip_blanks(text: &[u8], at: usize) -> usize
     at + blanks_len(&text[at..])
 }
 
-// The offset behind the next token, where that is the sign of this byte.
+// The offset after the next token, where that is the sign of this byte.
 #[inline(always)]
-pub fn behind_sign(text: &[u8], at: usize, byte: u8) -> Option<usize>
+pub fn after_sign(text: &[u8], at: usize, byte: u8) -> Option<usize>
     requires within { at ≤ length text.now }
     requires lawful { IsTrue (is_sign byte) }
     ensures taken { IfSome result (IsNextToken text.now at (sign byte)) }
@@ -50,8 +50,8 @@ pub fn behind_sign(text: &[u8], at: usize, byte: u8) -> Option<usize>
     }
 }
 
-// The offset behind the next token, where that is this word.
-pub fn behind_word(text: &[u8], at: usize, expected: &[u8]) -> Option<usize>
+// The offset after the next token, where that is this word.
+pub fn after_word(text: &[u8], at: usize, expected: &[u8]) -> Option<usize>
     requires { at ≤ length text.now }
     ensures taken { IfSome result (IsNextToken text.now at (word expected.now)) }
     ensures another { IfNone result (¬ (next_token text.now at ≡ Some (word expected.now))) }
@@ -68,7 +68,7 @@ pub fn behind_word(text: &[u8], at: usize, expected: &[u8]) -> Option<usize>
     }
 }
 
-// The next token, where that is an integer of the dialect, and the offset behind it.
+// The next token, where that is an integer of the dialect, and the offset after it.
 #[inline(always)]
 pub fn integer_at(dialect: Dialect, text: &[u8], at: usize) -> Option<(i128, usize)>
     requires { at ≤ length text.now }
@@ -85,7 +85,7 @@ pub fn integer_at(dialect: Dialect, text: &[u8], at: usize) -> Option<(i128, usi
     }
 }
 
-// The integer of this sign that the digits from here on write, and the offset behind them.
+// The integer of this sign that the digits from here on write, and the offset after them.
 #[inline(always)]
 fn number_at(dialect: Dialect, text: &[u8], from: usize, is_negative: bool) -> Option<(i128, usize)>
     requires { from ≤ length text.now }
@@ -137,7 +137,7 @@ fn magnitude(digits: &[u8]) -> Option<u128>
     Some(u128::from(value))
 }
 
-// The number that this one and the digits behind it write, where it is not over the greatest
+// The number that this one and the digits after it write, where it is not over the greatest
 // magnitude.
 fn wide_magnitude(number: u128, digits: &[u8]) -> Option<u128>
     requires within { number ≤ suc (greatest_integer Two) }

@@ -13,7 +13,7 @@ use Rattle.snesl_translation.specs.Makings.{Making, done, and_then}
 use Rattle.snesl_translation.specs.FreeNames.{Names, is_among, without}
 use Rattle.snesl_translation.specs.Moving.{all_moved}
 use Rattle.snesl_translation.specs.Translation.{wires_named}
-use Rattle.snesl_translation.proofs.BoundMoved.{others_stay, stay_among, stay_other, wires_here, wires_behind}
+use Rattle.snesl_translation.proofs.BoundMoved.{others_stay, stay_among, stay_other, wires_here, wires_after}
 use Rattle.snesl_translation.proofs.Borne.{AreOpen, found_outside}
 use Rattle.snesl_wiring.proofs.Fitting.{Stream, stream_on, Extends, Fits, fits_on}
 use Rattle.snesl_wiring.proofs.Making.{IsMade, Makes, done_made, then_made}
@@ -62,11 +62,11 @@ bears_with {kinds = kinds} {bound = bound} {context = context} names name w s fi
 
 -- moved names
 
--- of the names behind an entry
+-- of the names after an entry
 behind : {kinds : List Kind} {bound : Bound} {names : Names} {context : Context} (entry : List ℕ × Wires) → Bears kinds (entry ∷ bound) names context → Bears kinds bound (without entry.0 names) context
 behind {kinds = kinds} {bound = bound} {names = names} entry h = record {
   fits = λ bytes t among is.
-      subst (Fits kinds t) (wires_behind bytes entry bound (stay_other bytes entry.0 names among)) (h.fits bytes t (stay_among bytes entry.0 names among) is);
+      subst (Fits kinds t) (wires_after bytes entry bound (stay_other bytes entry.0 names among)) (h.fits bytes t (stay_among bytes entry.0 names among) is);
 }
 
 -- an entry of the type that its name has in the context, before others
@@ -93,7 +93,7 @@ module _ (flag : ℕ) (move : Wires → ℕ → Making Wires) (context : Context
     where
       -- an entry whose name is not among them
       left : is_among entry.0 names ≡ false → Bears kinds bound names context
-      left not = record { fits = λ bytes t among is. subst (Fits kinds t) (wires_behind bytes entry bound (other bytes among (bytes_eq bytes entry.0) refl)) (h.fits bytes t among is) }
+      left not = record { fits = λ bytes t among is. subst (Fits kinds t) (wires_after bytes entry bound (other bytes among (bytes_eq bytes entry.0) refl)) (h.fits bytes t among is) }
         where
           other : (bytes : List ℕ) → is_among bytes names ≡ true → (b : Bool) → bytes_eq bytes entry.0 ≡ b → bytes_eq bytes entry.0 ≡ false
           other bytes among false e = e

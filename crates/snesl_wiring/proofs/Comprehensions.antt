@@ -15,7 +15,7 @@ use Rattle.snesl_translation.specs.Translation.{wires_named, Sources, first_flag
 use Rattle.snesl_translation.specs.Sources.{without_items}
 use Rattle.snesl_translation.proofs.BoundMoved.{others_stay}
 use Rattle.snesl_translation.proofs.Borne.{AreOpen, found_outside}
-use Rattle.snesl_translation.proofs.Comprehensions.{open_behind}
+use Rattle.snesl_translation.proofs.Comprehensions.{open_after}
 use Rattle.snesl_wiring.proofs.Fitting.{Stream, stream_on, Extends, further, no_reads, more_reads, Fits, fits_on, items_fit, flags_fit}
 use Rattle.snesl_wiring.proofs.Making.{IsMade, Makes, done_made, then_made, tested_made}
 use Rattle.snesl_wiring.proofs.Moving.{distributed_made}
@@ -89,7 +89,7 @@ module _ (at : ℕ) (context : Context) (items : List Declaration) (names outer 
       then_made _ (made kinds bound control (bears_left names outer h) units) (λ on more us fs.
       let f = first_flags us in
       let flags : Stream on f BoolKind = flagged on us fs in
-      let usable_outside : AreOpen outer (inside context) = subst (λ l. AreOpen l (inside context)) (sym same) (open_behind items inner_names (inside context) usable) in
+      let usable_outside : AreOpen outer (inside context) = subst (λ l. AreOpen l (inside context)) (sym same) (open_after items inner_names (inside context) usable) in
       then_made _ (in_step_made at us fs) (λ on' more' _ _.
       then_made _ (all_moved_made f (distributed at f) (inside context) (λ kinds w bytes s there is fit. distributed_made at f w (found_outside bytes context s is).1 there fit)
       outer bound on' usable_outside (stream_on more' flags) (bears_inside (bears_on (further more more') (bears_right names outer h)))) (λ on'' more'' inner fi.

@@ -106,7 +106,7 @@ module _ (dialect : Dialect) (text : List ℕ) (functions : Signatures) (bodies 
         further_made at t (single at (free text first) (tr dialect text bodies first)) (free text first)
         (single_made at context (free text first) t (tr dialect text bodies first) (free_are_open h) (typed_made h)) rest same
 
-    -- items behind a sequence of this type
+    -- items after a sequence of this type
     further_made : {context : Context} {trees : Trees} {ts : List Ty} (at : ℕ) (t : Ty) (sequence : Bound → ℕ → ℕ → Making Wires) (names : Names)
         → AlwaysMakes sequence names context (seq t) → AllTypes dialect text functions context trees ts → AllAre t ts
         → AlwaysMakes (tr_further dialect text bodies at sequence trees) (names ++ free_of_all text trees) context (seq t)
@@ -115,11 +115,11 @@ module _ (dialect : Dialect) (text : List ℕ) (functions : Signatures) (bodies 
     further_made at t sequence names made (more_types {context = context} {first = item} {others = others} h rest) (e, same) =
         let behind = followed at sequence (free text item) (tr dialect text bodies item) in
         let item_made : TreeMakes context item t = subst (TreeMakes context item) e (typed_made h) in
-        let made_behind : AlwaysMakes behind (names ++ free text item) context (seq t) =
+        let made_after : AlwaysMakes behind (names ++ free text item) context (seq t) =
         two_made context names (free text item) (seq t) (seq t) (seq t) sequence (single at (free text item) (tr dialect text bodies item)) (λ u v k. appended at u v k) made
         (single_made at context (free text item) t (tr dialect text bodies item) (free_are_open h) item_made) (λ kinds u v fu fv. appended_made at u v fu fv) in
         subst (λ names'. AlwaysMakes (tr_further dialect text bodies at sequence (both item others)) names' context (seq t)) (append_assoc names (free text item) (free_of_all text others))
-        (further_made at t behind (names ++ free text item) made_behind rest same)
+        (further_made at t behind (names ++ free text item) made_after rest same)
 
     sources_made : {context : Context} {earlier all : List Declaration} {binders : Binders} (h : BindersType dialect text functions context earlier binders all)
         → SourcesMake (tr_binders dialect text bodies binders) (free_of_sources text binders) context (binder_items h).0

@@ -106,14 +106,14 @@ numbers_read (fits_segments there items) = more_reads there (numbers_read items)
 abbrev Stand : List Kind → ℕ → List Kind → Type 0
 Stand kinds number new = (i : ℕ) (kind : Kind) → slice_get new i ≡ Some kind → slice_get kinds (number + i) ≡ Some kind
 
-get_behind : (kinds more : List Kind) (i : ℕ) → slice_get (kinds ++ more) (length kinds + i) ≡ slice_get more i
-get_behind [] more i = let same : 0 + i ≡ i = omega (arith) in ap (slice_get more) same
-get_behind (kind ∷ kinds) more i =
+get_after : (kinds more : List Kind) (i : ℕ) → slice_get (kinds ++ more) (length kinds + i) ≡ slice_get more i
+get_after [] more i = let same : 0 + i ≡ i = omega (arith) in ap (slice_get more) same
+get_after (kind ∷ kinds) more i =
     let same : suc (length kinds) + i ≡ suc (length kinds + i) = omega (arith) in
-    ap (slice_get (kind ∷ (kinds ++ more))) same ∙ get_behind kinds more i
+    ap (slice_get (kind ∷ (kinds ++ more))) same ∙ get_after kinds more i
 
 new_stand : (kinds more : List Kind) → Stand (kinds ++ more) (length kinds) more
-new_stand kinds more i kind there = get_behind kinds more i ∙ there
+new_stand kinds more i kind there = get_after kinds more i ∙ there
 
 first_stands : (kinds : List Kind) (number : ℕ) (kind : Kind) (others : List Kind) → Stand kinds number (kind ∷ others) → Stream kinds number kind
 first_stands kinds number kind others h =
@@ -131,7 +131,7 @@ left_stands kinds number new more h i kind there = h i kind (get_append new more
 right_stands : (kinds : List Kind) (number : ℕ) (new more : List Kind) → Stand kinds number (new ++ more) → Stand kinds (number + length new) more
 right_stands kinds number new more h i kind there =
     let same : number + (length new + i) ≡ (number + length new) + i = omega (arith) in
-    subst (λ n. slice_get kinds n ≡ Some kind) same (h (length new + i) kind (get_behind new more i ∙ there))
+    subst (λ n. slice_get kinds n ≡ Some kind) same (h (length new + i) kind (get_after new more i ∙ there))
 
 fits_from : (kinds : List Kind) (number : ℕ) (t : Ty) → Stand kinds number (kinds_of t) → Fits kinds t (wires_from t number)
 fits_from kinds number int h = fits_wire tt (first_stands kinds number _ [] h)
@@ -143,10 +143,10 @@ fits_from kinds number (pair s t) h =
 fits_from kinds number (seq item) h =
     fits_segments (first_stands kinds number BoolKind (kinds_of item) h) (fits_from kinds (suc number) item (others_stand kinds number BoolKind (kinds_of item) h))
 
--- the streams of a type that stand behind others
+-- the streams of a type that stand after others
 pub new_fit : (kinds : List Kind) (t : Ty) → Fits (kinds ++ kinds_of t) t (wires_from t (length kinds))
 new_fit kinds t = fits_from (kinds ++ kinds_of t) (length kinds) t (new_stand kinds (kinds_of t))
 
--- one stream that stands behind others
+-- one stream that stands after others
 pub new_stream : (kinds : List Kind) (kind : Kind) → Stream (kinds ++ (kind ∷ [])) (length kinds) kind
 new_stream kinds kind = first_stands (kinds ++ (kind ∷ [])) (length kinds) kind [] (new_stand kinds (kind ∷ []))

@@ -1,4 +1,4 @@
--- Sequences: one behind another, joined, parted, and filtered.
+-- Sequences: one after another, joined, parted, and filtered.
 use Rattle.std.specs.Prelude.{ℕ, List, length, refl}
 use Rattle.snesl_data.specs.Types.{Ty, bool, pair, seq}
 use Rattle.snesl_types.specs.Contexts.{Context}

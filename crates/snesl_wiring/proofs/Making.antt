@@ -1,4 +1,4 @@
--- Makings whose steps are wired: each step by itself, and one making behind another.
+-- Makings whose steps are wired: each step by itself, and one making after another.
 use Rattle.std.specs.Prelude.{◌≡◌, ℕ, ◌+◌, List, [], ◌∷◌, ◌++◌, length, Some, refl}
 use Rattle.std.specs.List.{slice_get}
 use Rattle.std.proofs.Common.{sym, ap, ◌∙◌, subst, length-append, append-nil}
@@ -11,7 +11,7 @@ use Rattle.snesl_translation.specs.Wires.{Wires, wires_from, stream_of}
 use Rattle.snesl_translation.specs.Makings.{Making, done, and_then, stepped, tested}
 use Rattle.snesl_wiring.proofs.Fitting.{Stream, Extends, extends_append, Reads, reads_each, Fits, new_fit, new_stream}
 
--- behind streams of these kinds the steps are wired, the next stream has the next number, and this holds of what is given
+-- after streams of these kinds the steps are wired, the next stream has the next number, and this holds of what is given
 pub record IsMade {A : Type 0} (kinds : List Kind) (making : Making A) (Holds : List Kind → A → Type 0) : Type 0 where
   pub wired : AreWired kinds making.steps
   pub counted : making.next ≡ length (kinds_after kinds making.steps)
@@ -21,7 +21,7 @@ pub record IsMade {A : Type 0} (kinds : List Kind) (making : Making A) (Holds : 
 abbrev pub Makes : List Kind → Ty → Making Wires → Type 0
 Makes kinds t making = IsMade kinds making (λ on w. Fits on t w)
 
--- steps behind others
+-- steps after others
 
 stays_after : (kinds : List Kind) (steps : List Step) (number : ℕ) (kind : Kind) → slice_get kinds number ≡ Some kind → slice_get (kinds_after kinds steps) number ≡ Some kind
 stays_after kinds [] number kind there = there
@@ -40,7 +40,7 @@ wired_append : (kinds : List Kind) (steps others : List Step) → AreWired kinds
 wired_append kinds [] others h g = g
 wired_append kinds (step ∷ steps) others h g = (h.0, wired_append (kinds ++ kinds_written step.operation) steps others h.1 g)
 
--- makings one behind the other
+-- makings one after the other
 
 pub done_made : {A : Type 0} {kinds : List Kind} {x : A} {Holds : List Kind → A → Type 0} → Holds kinds x → IsMade kinds (done x (length kinds)) Holds
 done_made h = record { wired = tt; counted = refl; holds = h }

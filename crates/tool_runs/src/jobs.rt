@@ -1,7 +1,7 @@
 // Tries the jobs of the tables in the folder that the program runs in, and says what differs.
 //
 // Each file whose name ends in `.jobs` is a table (`table.rt` of snesl_tables has its form). A line is printed for each job that
-// is answered otherwise than its row tells, and then how many jobs there are and how many differ. Behind it stands how the
+// is answered otherwise than its row tells, and then how many jobs there are and how many differ. After it stands how the
 // programs of the jobs ended as networks beside their plain evaluation (`beside.rt`), then how many worked rows there are, and how
 // their programs ended by the drives of several threads (`drives.rt`). It is an error where something differs, where there is no
 // table, and where a table cannot be read or has no row.

@@ -87,7 +87,7 @@ fn task_of(mut words: Args) -> Result<Task> {
     }
 }
 
-// What is asked of random programs, by at most two words, each with a number behind it.
+// What is asked of random programs, by at most two words, each with a number after it.
 fn wish_of(words: &mut Args) -> Result<Wish> {
     let mut wish = Wish::usual();
     for _ in 0..2 {

@@ -13,7 +13,7 @@ fn a_thousand_numbers_cross_in_order(rt: HostRuntime) -> Result<(), Fail> {
 }
 
 #[test]
-fn nothing_is_left_behind_a_mark(rt: HostRuntime) -> Result<(), Fail> {
+fn nothing_is_left_after_a_mark(rt: HostRuntime) -> Result<(), Fail> {
     let messages = numbers_and_end(rt.alloc(), 1_000)?;
     let (taken, left) = send_and_finish(&rt, rt.alloc(), 4, messages)?;
     assert_eq!(rt; (are_numbers_and_end(&taken, 1_000), left), (true, Some(0)));

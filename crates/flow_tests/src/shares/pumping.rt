@@ -28,7 +28,7 @@ fn apart(alloc: Global) -> Result<Config, AllocError> {
 
 // Whether there is room on the only edge that the first of sixteen shares writes, after a pump that moved a message and came to
 // rest. Nothing where it is not so.
-fn room_behind<T: Transducer + Drop, E: Ends + Drop>(
+fn room_after<T: Transducer + Drop, E: Ends + Drop>(
     shares: Vec<Share<T, E>>,
     config: &Config,
 ) -> Option<bool>
@@ -55,13 +55,13 @@ fn room_behind<T: Transducer + Drop, E: Ends + Drop>(
 fn room_on_boxes(alloc: Global) -> Result<Option<bool>, Fail> {
     let config = apart(alloc)?;
     let shares = deal(alloc, graph_of(alloc, SUM_OF_FIVE)?, &config)?;
-    Ok(room_behind(shares, &config))
+    Ok(room_after(shares, &config))
 }
 
 fn room_on_rings(alloc: Global) -> Result<Option<bool>, Fail> {
     let config = apart(alloc)?;
     let shares = deal_rings(alloc, graph_of(alloc, SUM_OF_FIVE)?, &config)?;
-    Ok(room_behind(shares, &config))
+    Ok(room_after(shares, &config))
 }
 
 #[test]

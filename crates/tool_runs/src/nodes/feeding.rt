@@ -12,7 +12,7 @@ use std::fmt;
 const MOST_STEPS: usize = 100;
 
 /// What comes in at a node, and what it did. It is shown as the messages that the node read and wrote, in order, with `<` or `>` and
-/// the port before each, and behind them the text that it gathered, where it gathers one.
+/// the port before each, and after them the text that it gathered, where it gathers one.
 #[derive(Drop)]
 pub struct Fed {
     alloc: Global,

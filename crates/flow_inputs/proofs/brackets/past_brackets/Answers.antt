@@ -1,10 +1,10 @@
 use Rattle.std.proofs.Common.{◌∙◌, arith}
-use Rattle.flow_inputs.proofs.Skips.{byte_past, behind_deeper}
+use Rattle.flow_inputs.proofs.Skips.{byte_past, after_deeper}
 use Rattle.flow_inputs.proofs.brackets.past_brackets.Goals as goal
 
 pub bytes-preserved : goal.bytes-preserved
 bytes-preserved c =
-    let deeper = behind_deeper _ c.bytes.depth c.in-Some.behind c.args.passes_commas c.in-Some.ensures in
+    let deeper = after_deeper _ c.bytes.depth c.in-Some.behind c.args.passes_commas c.in-Some.ensures in
     record {
       same = λ way leaf level mode passes parts.
           c.bytes.invariant.same way leaf level mode passes parts

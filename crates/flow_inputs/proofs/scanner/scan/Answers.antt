@@ -3,7 +3,7 @@ use Rattle.std.specs.Prelude.{option_to_list, is_some}
 use Rattle.flow_inputs.specs.declared.turns.Piece.{Piece}
 use Rattle.flow_inputs.specs.Turns.{Turn, turn, state, depth_of}
 use Rattle.flow_inputs.specs.Left.{left}
-use Rattle.flow_inputs.proofs.Lefts.{behind_turn, left_done, left_found, left_unfound, turn_deeper}
+use Rattle.flow_inputs.proofs.Lefts.{after_turn, left_done, left_found, left_unfound, turn_deeper}
 use Rattle.flow_inputs.proofs.scanner.scan.Goals as goal
 
 -- where nothing was written, what is left is left after
@@ -25,7 +25,7 @@ returns-then-is_some-clause-first c =
     sym c.tokens.invariant.same
     ∙ c.past-from.ensures.same way leaf c.tokens.state.level
     ∙ left_found text way leaf c.past-from.result.0 s f c.past-from.ensures.within c.in-Some.ensures.next
-    ∙ ap (λ (u : Turn). behind_turn text way leaf u f.end) (sym c.turn-piece.ensures)
+    ∙ ap (λ (u : Turn). after_turn text way leaf u f.end) (sym c.turn-piece.ensures)
 
 pub returns-then-is_some-clause-shallow : goal.returns-then-is_some-clause-shallow
 returns-then-is_some-clause-shallow c =
@@ -50,7 +50,7 @@ tokens-preserved c =
       same = sym (sym c.tokens.invariant.same
           ∙ c.past-from.ensures.same way leaf c.tokens.state.level
           ∙ left_found text way leaf c.past-from.result.0 s f c.past-from.ensures.within c.in-Some.ensures.next
-          ∙ ap (λ (u : Turn). behind_turn text way leaf u f.end) (sym c.turn-piece.ensures)
+          ∙ ap (λ (u : Turn). after_turn text way leaf u f.end) (sym c.turn-piece.ensures)
           ∙ ap (λ l. l ++ left text way leaf f.end c.turn-piece.result.1) (unwritten c.turn-piece.result.0 (sym c.if-is_some.ensures)));
       within = c.in-Some.ensures.within;
       shallow = omega (arith, is, deeper, c.past-from.ensures.shallow, c.in-Some.ensures.moves);

@@ -1,5 +1,5 @@
 use Rattle.std.proofs.Common.{arith}
-use Rattle.flow_meetings.proofs.Parted.{on_all, on_three, opened_own, opened_before, opened_behind}
+use Rattle.flow_meetings.proofs.Parted.{on_all, on_three, opened_own, opened_before, opened_after}
 use Rattle.flow_meetings.proofs.opening_everywhere.open_edge.Goals as goal
 
 pub returns-then-owner : goal.returns-then-owner
@@ -27,7 +27,7 @@ returns-else-owner-2 g c =
     let new = c.open_with-else-owner-2.new in
     let done = c.open_with-else-owner-2.ensures in
     on_all c.open_with-else-owner-2.result (λ at_w at_r joined room. (
-    opened_behind g.E.Ends.view g.E.Meeting.joins g.E.Meeting.slots g.E.Opening.opens g.met.E.Opening.opens_refl c.args.owner c.args.edge c.args.capacity
+    opened_after g.E.Ends.view g.E.Meeting.joins g.E.Meeting.slots g.E.Opening.opens g.met.E.Opening.opens_refl c.args.owner c.args.edge c.args.capacity
     c.args.ends.now parts.result.0.now parts.result.1.now parts.ensures.value c.index-front-owner-else-owner-2.result c.index-back-0-else-owner-2.result new.other new.self
     parts.ensures.front_len (omega (arith, c.if-owner.false, c.if-owner-2.false)) c.requires.writer c.index-front-owner-else-owner-2.is c.index-back-0-else-owner-2.is at_r at_w joined room
     )) done.writer done.reader done.joined done.places

@@ -38,7 +38,7 @@ run-requires-clause-kinds g c =
     let v = g.E.Ends.view c.loop-k.ends in
     let inside : c.loop-k.k < length mid = omega arith in
     λ q l. subst (TakesKind (v.kind (edge_of (outputs_of x) q))) (laws.same_kinds_out (placed_state x) q) ((node_there laws c.args.nodes.now.items (g.E.Ends.view c.args.ends.now) c.requires.there c.requires.apart c.requires.own mid v c.loop-k.k c.loop-k.moved c.loop-k.invariant.passed
-        x inside c.index_mut.ensures.value).kinds q l)
+    x inside c.index_mut.ensures.value).kinds q l)
 
 pub returns-in_err-moved-clause-lost : goal.returns-in_err-moved-clause-lost
 returns-in_err-moved-clause-lost g c =

@@ -11,7 +11,7 @@ use Rattle.snesl_evaluation.specs.Eval.{rows_of}
 use Rattle.snesl_evaluation.specs.Scopes.{weight, weight_of, all_in, binders_in, each_in, where_in, bound_items_of}
 use Rattle.snesl_evaluation.proofs.evaluator.+value.Given as goal
 
--- the deeper of an expression and its helpers comes first, behind the weight of the functions that it may call
+-- the deeper of an expression and its helpers comes first, after the weight of the functions that it may call
 abbrev rank : ℕ → ℕ → ℕ → ℕ
 rank depth functions place = 4 * (depth + functions) + place
 

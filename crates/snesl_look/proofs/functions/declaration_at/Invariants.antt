@@ -2,7 +2,7 @@ use Rattle.std.proofs.Common.{◌≡◌, ℕ, ◌<◌, ◌≤◌}
 use Rattle.snesl_look.specs.Functions.{BeginsDeclaration, EndsDeclaration, depth_at}
 use Rattle.snesl_look.proofs.functions.declaration_at.Given as goal
 
--- the last declaration that began, not behind the offset, has not ended before this place
+-- the last declaration that began, not after the offset, has not ended before this place
 abbrev pub invariant-loop-place : goal.invariant-loop-place
 invariant-loop-place l = record {
   deep : l.depth ≡ depth_at l.text l.place;

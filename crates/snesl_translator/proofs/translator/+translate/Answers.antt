@@ -24,11 +24,11 @@ use Rattle.snesl_scopes.specs.Scopes.{bound_of}
 use Rattle.snesl_scopes.specs.declared.scope.Scope.{Scope}
 use Rattle.snesl_translator.specs.declared.translator.ProgramContext.{ProgramContext}
 use Rattle.snesl_translator.specs.Rows.{each_opened, rows_of, where_opened}
-use Rattle.snesl_translator.specs.Translated.{always_true, bodies_in, body_in, each_behind, filtered_in, further_in, single_in, translated, where_behind, where_in}
+use Rattle.snesl_translator.specs.Translated.{always_true, bodies_in, body_in, each_behind, filtered_in, further_in, single_in, translated, where_after, where_in}
 use Rattle.snesl_translator.proofs.Expressions.{tr_in}
 use Rattle.snesl_translator.proofs.Adding.{item_made, item_refused, items_made, none_made, then_adds}
 use Rattle.snesl_translator.proofs.Listed.{argument_in, arguments_listed, source_in, sources_listed}
-use Rattle.snesl_translator.proofs.Literals.{all_behind, further_behind, item_behind, item_not_behind}
+use Rattle.snesl_translator.proofs.Literals.{all_after, further_after, item_after, item_not_after}
 use Rattle.snesl_translator.proofs.Makings.{in_turn, one_in_turn}
 use Rattle.snesl_translator.proofs.Opening.{each_opens, each_rest, where_opens}
 use Rattle.snesl_translator.proofs.translator.+translate.Goals as goal
@@ -288,12 +288,12 @@ call_form-returns t c =
 
 -- literals
 
--- a literal is its first item, and then the others behind it
+-- a literal is its first item, and then the others after it
 literal_listed : (dialect : Dialect) (context : ProgramContext) (scope : Scope) (at control : ℕ) (first : Expr) (others : List Expr) (next : ℕ)
     → and_then (single_in dialect context scope at (tree_of first) control next) (λ u k. further_in dialect context scope at u (trees_of others) control k)
     ≡ tr_in dialect context scope (literal at (trees_of (first ∷ others))) control next
 literal_listed dialect context scope at control first others next =
-    sym (further_behind dialect context.text.now (bodies_in dialect context) at (bound_of scope) control (λ b c n. single at (free context.text.now (tree_of first)) (λ b c n. tr dialect context.text.now (bodies_in dialect context) (tree_of first) b c n) b c n) (trees_of others) next)
+    sym (further_after dialect context.text.now (bodies_in dialect context) at (bound_of scope) control (λ b c n. single at (free context.text.now (tree_of first)) (λ b c n. tr dialect context.text.now (bodies_in dialect context) (tree_of first) b c n) b c n) (trees_of others) next)
 
 pub literal_form-returns-in_err-sequence-in-Some : goal.literal_form-returns-in_err-sequence-in-Some
 literal_form-returns-in_err-sequence-in-Some t c =
@@ -341,7 +341,7 @@ further-loop-item-init t c = done_made c.args.steps.now (wires_of c.args.sequenc
 
 pub further-loop-item-preserved : goal.further-loop-item-preserved
 further-loop-item-preserved t c =
-    item_behind c.args.context.now c.args.scope.now c.args.at c.args.control (wires_of c.args.sequence) (wires_of c.loop-item.all) (wires_of c.in_ok-last.last) (wires_of c.in_ok-all.all) c.args.items.now c.loop-item.item-index c.item-item.result
+    item_after c.args.context.now c.args.scope.now c.args.at c.args.control (wires_of c.args.sequence) (wires_of c.loop-item.all) (wires_of c.in_ok-last.last) (wires_of c.in_ok-all.all) c.args.items.now c.loop-item.item-index c.item-item.result
     c.loop-item-test.true c.item-item.is c.loop-item.invariant c.in_ok-last.ensures c.in_ok-all.ensures
 
 pub further-returns-in_err-last : goal.further-returns-in_err-last
@@ -354,7 +354,7 @@ further-returns-in_err-last t c =
     let new = c.single.new.steps in
     let refusal = c.in_err-last.field-0.0 in
     exits wires_of c.args.steps.now new _ refusal c.from_residual.result c.from_residual.ensures
-    (item_not_behind context scope at control new (wires_of c.args.sequence) (wires_of c.loop-item.all) c.args.items.now c.loop-item.item-index c.item-item.result refusal c.loop-item-test.true c.item-item.is c.loop-item.invariant
+    (item_not_after context scope at control new (wires_of c.args.sequence) (wires_of c.loop-item.all) c.args.items.now c.loop-item.item-index c.item-item.result refusal c.loop-item-test.true c.item-item.is c.loop-item.invariant
     (refused_first wires_of wires_of middle new new (single_in (dialect_of_steps middle) context scope at (tree_of c.item-item.result) control (next_in middle)) (λ v k. appended at (wires_of c.loop-item.all) v k) refusal c.in_err-last.ensures))
 
 pub further-returns-in_err-all : goal.further-returns-in_err-all
@@ -367,12 +367,12 @@ further-returns-in_err-all t c =
     let new = c.append.new.steps in
     let refusal = c.in_err-all.field-0.0 in
     exits wires_of c.args.steps.now new _ refusal c.from_residual-in_err-all.result c.from_residual-in_err-all.ensures
-    (item_not_behind context scope at control new (wires_of c.args.sequence) all c.args.items.now c.loop-item.item-index c.item-item.result refusal c.loop-item-test.true c.item-item.is c.loop-item.invariant
+    (item_not_after context scope at control new (wires_of c.args.sequence) all c.args.items.now c.loop-item.item-index c.item-item.result refusal c.loop-item-test.true c.item-item.is c.loop-item.invariant
     (then_adds wires_of new (λ d v k. appended at all v k) (Err refusal) c.in_ok-last.ensures c.in_err-all.ensures))
 
 pub further-returns : goal.further-returns
 further-returns t c =
-    all_behind c.args.context.now c.args.scope.now c.args.at c.args.control (wires_of c.args.sequence) (wires_of c.loop-item.all) c.args.items.now c.loop-item.item-index c.loop-item-test.false c.loop-item.invariant
+    all_after c.args.context.now c.args.scope.now c.args.at c.args.control (wires_of c.args.sequence) (wires_of c.loop-item.all) c.args.items.now c.loop-item.item-index c.loop-item-test.false c.loop-item.invariant
 
 -- comprehensions
 
@@ -446,7 +446,7 @@ each_where-returns t c =
     let result = c.where_over.result in
     then_adds wires_of new (λ d sources k. each_rest at names (bound_of scope) sources (λ rows k. where_in d context rows at body condition k) k) result c.in_ok-sources.ensures
     (subst (λ (m : Making WiresOf). Adds wires_of first new m result) (each_opens at names (bound_of scope) sources (λ rows k. where_in d context rows at body condition k) (next_in first))
-    (subst (λ (l : List Binding). Adds wires_of first new (where_behind d context scope at (bindings_of l) body condition binders (next_in first)) result) c.deref.ensures.value c.where_over.ensures))
+    (subst (λ (l : List Binding). Adds wires_of first new (where_after d context scope at (bindings_of l) body condition binders (next_in first)) result) c.deref.ensures.value c.where_over.ensures))
 
 pub where_over-returns-in_err-rows : goal.where_over-returns-in_err-rows
 where_over-returns-in_err-rows t c =

@@ -12,7 +12,7 @@ use Rattle.snesl_translator.specs.Translated.{further_in}
 use Rattle.snesl_translator.proofs.Listed.{argument_in, made_all, source_in}
 use Rattle.snesl_translator.proofs.translator.+translate.Given as goal
 
--- the deeper of an expression and its helpers comes first, behind the weight of the functions that it may call
+-- the deeper of an expression and its helpers comes first, after the weight of the functions that it may call
 abbrev rank : ℕ → ℕ → ℕ → ℕ
 rank depth functions place = 7 * (depth + functions) + place
 

@@ -1,6 +1,6 @@
 use Rattle.std.proofs.Common.{sym, ◌∙◌, refl, arith}
 use Rattle.snesl_values.specs.Inputs.{declaration_of}
-use Rattle.snesl_types.proofs.SameDecls.{same_on, other_length, none_behind}
+use Rattle.snesl_types.proofs.SameDecls.{same_on, other_length, none_after}
 use Rattle.snesl_types.proofs.fits.same_decls.Goals as goal
 
 pub returns-then-decls-others : goal.returns-then-decls-others
@@ -26,7 +26,7 @@ loop-number-preserved c =
 pub returns : goal.returns
 returns c = (
   (λ t. c.loop-number.invariant.1
-      (none_behind declaration_of c.args.decls.now c.loop-number.number (omega arith)
-      ∙ sym (none_behind declaration_of c.args.others.now c.loop-number.number (omega arith)))),
+      (none_after declaration_of c.args.decls.now c.loop-number.number (omega arith)
+      ∙ sym (none_after declaration_of c.args.others.now c.loop-number.number (omega arith)))),
   (λ e. refl),
 )

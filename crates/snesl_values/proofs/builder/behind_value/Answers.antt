@@ -8,21 +8,21 @@ use Rattle.snesl_values.proofs.builder.behind_value.Goals as goal
 
 pub returns-in-Some-Items : goal.returns-in-Some-Items
 returns-in-Some-Items c =
-    subst (λ (f : List OpenPart). IfOk c.behind_item.result (λ last. reading_of c.behind_item.new.pending.items last ≡ on_some (value_of c.args.datum) f c.args.mark))
+    subst (λ (f : List OpenPart). IfOk c.after_item.result (λ last. reading_of c.after_item.new.pending.items last ≡ on_some (value_of c.args.datum) f c.args.mark))
     (popped c.args.pending.now.items c.pop.new.self.items c.in-Some-Items.field-0 (Items c.in-Some-Items.bracket c.in-Some-Items.items) c.in-Some-Items.ensures.items c.in-Some-Items.field-0-is)
-    c.behind_item.ensures
+    c.after_item.ensures
 
 pub returns-in-Some-First : goal.returns-in-Some-First
 returns-in-Some-First c =
-    subst (λ (f : List OpenPart). IfOk c.behind_first.result (λ last. reading_of c.behind_first.new.pending.items last ≡ on_some (value_of c.args.datum) f c.args.mark))
+    subst (λ (f : List OpenPart). IfOk c.after_first.result (λ last. reading_of c.after_first.new.pending.items last ≡ on_some (value_of c.args.datum) f c.args.mark))
     (popped c.args.pending.now.items c.pop.new.self.items c.in-Some-First.field-0 First c.in-Some-First.ensures.items c.in-Some-First.field-0-is)
-    c.behind_first.ensures
+    c.after_first.ensures
 
 pub returns-in-Some-Second : goal.returns-in-Some-Second
 returns-in-Some-Second c =
-    subst (λ (f : List OpenPart). IfOk c.behind_second.result (λ last. reading_of c.behind_second.new.pending.items last ≡ on_some (value_of c.args.datum) f c.args.mark))
+    subst (λ (f : List OpenPart). IfOk c.after_second.result (λ last. reading_of c.after_second.new.pending.items last ≡ on_some (value_of c.args.datum) f c.args.mark))
     (popped c.args.pending.now.items c.pop.new.self.items c.in-Some-Second.field-0 (Second c.in-Some-Second.first) c.in-Some-Second.ensures.items c.in-Some-Second.field-0-is)
-    c.behind_second.ensures
+    c.after_second.ensures
 
 pub returns-in-None : goal.returns-in-None
 returns-in-None c =

@@ -18,17 +18,17 @@ check_pair-returns-in_err-at_first-clause-stops t c =
     (λ n h further. pair_stops c.args.dialect text a b further c.args.at n (h (a_value a ∷ one comma ∷ a_value b ∷ one right_paren ∷ further)))
     c.in_err-at_first.ensures.stops)
 
-pub check_pair-returns-in_err-behind_first-clause-stops : goal.check_pair-returns-in_err-behind_first-clause-stops
-check_pair-returns-in_err-behind_first-clause-stops t c =
+pub check_pair-returns-in_err-after_first-clause-stops : goal.check_pair-returns-in_err-after_first-clause-stops
+check_pair-returns-in_err-after_first-clause-stops t c =
     let text = c.args.text.now in
     let a = ty_of c.args.first.now in
     let b = ty_of c.args.second.now in
-    passed_on (IsStop c.args.dialect (a_value (pair a b) ∷ []) text c.args.at) c.from_residual-in_err-behind_first.result c.in_err-behind_first.field-0.0 c.from_residual-in_err-behind_first.ensures.1
-    (stop_of c.args.dialect text (a_value a ∷ []) (a_value (pair a b) ∷ []) c.in_ok-at_first.at_first c.args.at c.in_err-behind_first.field-0.0
+    passed_on (IsStop c.args.dialect (a_value (pair a b) ∷ []) text c.args.at) c.from_residual-in_err-after_first.result c.in_err-after_first.field-0.0 c.from_residual-in_err-after_first.ensures.1
+    (stop_of c.args.dialect text (a_value a ∷ []) (a_value (pair a b) ∷ []) c.in_ok-at_first.at_first c.args.at c.in_err-after_first.field-0.0
     (λ n h further. pair_stops c.args.dialect text a b further c.args.at n
     (after_one c.args.dialect text left_paren (a_value a ∷ one comma ∷ a_value b ∷ one right_paren ∷ further) c.args.at c.in_ok-at_first.at_first n c.in_ok-at_first.ensures.taken.reads
     (h (one comma ∷ a_value b ∷ one right_paren ∷ further))))
-    c.in_err-behind_first.ensures.stops)
+    c.in_err-after_first.ensures.stops)
 
 pub check_pair-returns-in_err-at_second-clause-stops : goal.check_pair-returns-in_err-at_second-clause-stops
 check_pair-returns-in_err-at_second-clause-stops t c =
@@ -36,28 +36,28 @@ check_pair-returns-in_err-at_second-clause-stops t c =
     let a = ty_of c.args.first.now in
     let b = ty_of c.args.second.now in
     passed_on (IsStop c.args.dialect (a_value (pair a b) ∷ []) text c.args.at) c.from_residual-in_err-at_second.result c.in_err-at_second.field-0.0 c.from_residual-in_err-at_second.ensures.1
-    (stop_of c.args.dialect text (one comma ∷ []) (a_value (pair a b) ∷ []) c.in_ok-behind_first.behind_first c.args.at c.in_err-at_second.field-0.0
+    (stop_of c.args.dialect text (one comma ∷ []) (a_value (pair a b) ∷ []) c.in_ok-after_first.after_first c.args.at c.in_err-at_second.field-0.0
     (λ n h further. pair_stops c.args.dialect text a b further c.args.at n
     (after_one c.args.dialect text left_paren (a_value a ∷ one comma ∷ a_value b ∷ one right_paren ∷ further) c.args.at c.in_ok-at_first.at_first n c.in_ok-at_first.ensures.taken.reads
-    (after_value c.args.dialect text a c.in_ok-behind_first.ensures.read.0 (one comma ∷ a_value b ∷ one right_paren ∷ further) c.in_ok-at_first.at_first c.in_ok-behind_first.behind_first n
-    c.in_ok-behind_first.ensures.read.1.has_type c.in_ok-behind_first.ensures.read.1.reads
+    (after_value c.args.dialect text a c.in_ok-after_first.ensures.read.0 (one comma ∷ a_value b ∷ one right_paren ∷ further) c.in_ok-at_first.at_first c.in_ok-after_first.after_first n
+    c.in_ok-after_first.ensures.read.1.has_type c.in_ok-after_first.ensures.read.1.reads
     (h (a_value b ∷ one right_paren ∷ further)))))
     c.in_err-at_second.ensures.stops)
 
-pub check_pair-returns-in_err-behind_second-clause-stops : goal.check_pair-returns-in_err-behind_second-clause-stops
-check_pair-returns-in_err-behind_second-clause-stops t c =
+pub check_pair-returns-in_err-after_second-clause-stops : goal.check_pair-returns-in_err-after_second-clause-stops
+check_pair-returns-in_err-after_second-clause-stops t c =
     let text = c.args.text.now in
     let a = ty_of c.args.first.now in
     let b = ty_of c.args.second.now in
-    passed_on (IsStop c.args.dialect (a_value (pair a b) ∷ []) text c.args.at) c.from_residual-in_err-behind_second.result c.in_err-behind_second.field-0.0 c.from_residual-in_err-behind_second.ensures.1
-    (stop_of c.args.dialect text (a_value b ∷ []) (a_value (pair a b) ∷ []) c.in_ok-at_second.at_second c.args.at c.in_err-behind_second.field-0.0
+    passed_on (IsStop c.args.dialect (a_value (pair a b) ∷ []) text c.args.at) c.from_residual-in_err-after_second.result c.in_err-after_second.field-0.0 c.from_residual-in_err-after_second.ensures.1
+    (stop_of c.args.dialect text (a_value b ∷ []) (a_value (pair a b) ∷ []) c.in_ok-at_second.at_second c.args.at c.in_err-after_second.field-0.0
     (λ n h further. pair_stops c.args.dialect text a b further c.args.at n
     (after_one c.args.dialect text left_paren (a_value a ∷ one comma ∷ a_value b ∷ one right_paren ∷ further) c.args.at c.in_ok-at_first.at_first n c.in_ok-at_first.ensures.taken.reads
-    (after_value c.args.dialect text a c.in_ok-behind_first.ensures.read.0 (one comma ∷ a_value b ∷ one right_paren ∷ further) c.in_ok-at_first.at_first c.in_ok-behind_first.behind_first n
-    c.in_ok-behind_first.ensures.read.1.has_type c.in_ok-behind_first.ensures.read.1.reads
-    (after_one c.args.dialect text comma (a_value b ∷ one right_paren ∷ further) c.in_ok-behind_first.behind_first c.in_ok-at_second.at_second n c.in_ok-at_second.ensures.taken.reads
+    (after_value c.args.dialect text a c.in_ok-after_first.ensures.read.0 (one comma ∷ a_value b ∷ one right_paren ∷ further) c.in_ok-at_first.at_first c.in_ok-after_first.after_first n
+    c.in_ok-after_first.ensures.read.1.has_type c.in_ok-after_first.ensures.read.1.reads
+    (after_one c.args.dialect text comma (a_value b ∷ one right_paren ∷ further) c.in_ok-after_first.after_first c.in_ok-at_second.at_second n c.in_ok-at_second.ensures.taken.reads
     (h (one right_paren ∷ further))))))
-    c.in_err-behind_second.ensures.stops)
+    c.in_err-after_second.ensures.stops)
 
 pub check_pair-returns-in_err-end-clause-stops : goal.check_pair-returns-in_err-end-clause-stops
 check_pair-returns-in_err-end-clause-stops t c =
@@ -65,14 +65,14 @@ check_pair-returns-in_err-end-clause-stops t c =
     let a = ty_of c.args.first.now in
     let b = ty_of c.args.second.now in
     passed_on (IsStop c.args.dialect (a_value (pair a b) ∷ []) text c.args.at) c.from_residual-in_err-end.result c.in_err-end.field-0.0 c.from_residual-in_err-end.ensures.1
-    (stop_of c.args.dialect text (one right_paren ∷ []) (a_value (pair a b) ∷ []) c.in_ok-behind_second.behind_second c.args.at c.in_err-end.field-0.0
+    (stop_of c.args.dialect text (one right_paren ∷ []) (a_value (pair a b) ∷ []) c.in_ok-after_second.after_second c.args.at c.in_err-end.field-0.0
     (λ n h further. pair_stops c.args.dialect text a b further c.args.at n
     (after_one c.args.dialect text left_paren (a_value a ∷ one comma ∷ a_value b ∷ one right_paren ∷ further) c.args.at c.in_ok-at_first.at_first n c.in_ok-at_first.ensures.taken.reads
-    (after_value c.args.dialect text a c.in_ok-behind_first.ensures.read.0 (one comma ∷ a_value b ∷ one right_paren ∷ further) c.in_ok-at_first.at_first c.in_ok-behind_first.behind_first n
-    c.in_ok-behind_first.ensures.read.1.has_type c.in_ok-behind_first.ensures.read.1.reads
-    (after_one c.args.dialect text comma (a_value b ∷ one right_paren ∷ further) c.in_ok-behind_first.behind_first c.in_ok-at_second.at_second n c.in_ok-at_second.ensures.taken.reads
-    (after_value c.args.dialect text b c.in_ok-behind_second.ensures.read.0 (one right_paren ∷ further) c.in_ok-at_second.at_second c.in_ok-behind_second.behind_second n
-    c.in_ok-behind_second.ensures.read.1.has_type c.in_ok-behind_second.ensures.read.1.reads
+    (after_value c.args.dialect text a c.in_ok-after_first.ensures.read.0 (one comma ∷ a_value b ∷ one right_paren ∷ further) c.in_ok-at_first.at_first c.in_ok-after_first.after_first n
+    c.in_ok-after_first.ensures.read.1.has_type c.in_ok-after_first.ensures.read.1.reads
+    (after_one c.args.dialect text comma (a_value b ∷ one right_paren ∷ further) c.in_ok-after_first.after_first c.in_ok-at_second.at_second n c.in_ok-at_second.ensures.taken.reads
+    (after_value c.args.dialect text b c.in_ok-after_second.ensures.read.0 (one right_paren ∷ further) c.in_ok-at_second.at_second c.in_ok-after_second.after_second n
+    c.in_ok-after_second.ensures.read.1.has_type c.in_ok-after_second.ensures.read.1.reads
     (h further))))))
     c.in_err-end.ensures.stops)
 
@@ -138,11 +138,11 @@ check_pair-returns-clause-read t c =
     let text = c.args.text.now in
     let a = ty_of c.args.first.now in
     let b = ty_of c.args.second.now in
-    let v = c.in_ok-behind_first.ensures.read.0 in
-    let w = c.in_ok-behind_second.ensures.read.0 in (
+    let v = c.in_ok-after_first.ensures.read.0 in
+    let w = c.in_ok-after_second.ensures.read.0 in (
       a_pair v w,
-      pair_read c.args.dialect text c.args.at c.in_ok-at_first.at_first c.in_ok-behind_first.behind_first c.in_ok-at_second.at_second c.in_ok-behind_second.behind_second c.in_ok-end.end a b v w
-          c.in_ok-at_first.ensures.taken c.in_ok-behind_first.ensures.read.1 c.in_ok-at_second.ensures.taken c.in_ok-behind_second.ensures.read.1 c.in_ok-end.ensures.taken,
+      pair_read c.args.dialect text c.args.at c.in_ok-at_first.at_first c.in_ok-after_first.after_first c.in_ok-at_second.at_second c.in_ok-after_second.after_second c.in_ok-end.end a b v w
+          c.in_ok-at_first.ensures.taken c.in_ok-after_first.ensures.read.1 c.in_ok-at_second.ensures.taken c.in_ok-after_second.ensures.read.1 c.in_ok-end.ensures.taken,
     )
 
 pub check_value-returns-in_ok-items-in-Vec-clause-read : goal.check_value-returns-in_ok-items-in-Vec-clause-read
@@ -197,15 +197,15 @@ check_items-returns-in_err-behind-clause-stops t c =
     (λ n h further. c.each.invariant.stops further n (h (further_items a c.args.close ∷ further)))
     c.in_err-behind.ensures.stops)
 
-pub check_items-returns-in-Some-behind_sign-clause-read : goal.check_items-returns-in-Some-behind_sign-clause-read
-check_items-returns-in-Some-behind_sign-clause-read t c =
+pub check_items-returns-in-Some-after_sign-clause-read : goal.check_items-returns-in-Some-after_sign-clause-read
+check_items-returns-in-Some-after_sign-clause-read t c =
     let text = c.args.text.now in
     let a = ty_of c.args.item.now in
     let before = c.each.invariant.before in
     let v = c.in_ok-behind.ensures.read.0 in (
       values_of (before ++ v ∷ []),
-      items_read c.args.dialect text c.args.at c.each.from c.in_ok-behind.behind c.in-Some-behind_sign.end a c.args.close before (before ++ v ∷ []) v refl
-          c.each.invariant.begun c.each.invariant.have_type c.each.invariant.reads c.in_ok-behind.ensures.read.1 c.in-Some-behind_sign.ensures.taken,
+      items_read c.args.dialect text c.args.at c.each.from c.in_ok-behind.behind c.in-Some-after_sign.end a c.args.close before (before ++ v ∷ []) v refl
+          c.each.invariant.begun c.each.invariant.have_type c.each.invariant.reads c.in_ok-behind.ensures.read.1 c.in-Some-after_sign.ensures.taken,
     )
 
 pub check_items-returns-in_err-from-clause-stops : goal.check_items-returns-in_err-from-clause-stops
@@ -218,7 +218,7 @@ check_items-returns-in_err-from-clause-stops t c =
     (stop_of c.args.dialect text (one comma ∷ []) (items a c.args.close ∷ []) c.in_ok-behind.behind c.args.at e
     (λ n h further. c.each.invariant.stops further n
     (after_value c.args.dialect text a c.in_ok-behind.ensures.read.0 (further_items a c.args.close ∷ further) c.each.from c.in_ok-behind.behind n read.has_type read.reads
-    (later_item c.args.dialect text a c.args.close further c.in_ok-behind.behind n c.in_default-behind_sign.ensures.another
+    (later_item c.args.dialect text a c.args.close further c.in_ok-behind.behind n c.in_default-after_sign.ensures.another
     (h (a_value a ∷ further_items a c.args.close ∷ further)))))
     c.in_err-from.ensures.stops)
 
@@ -239,7 +239,7 @@ check_items-each-preserved t c =
           c.each.invariant.reads read comma_read;
       stops = λ wants n s. c.each.invariant.stops wants n
           (after_value c.args.dialect text a v (further_items a c.args.close ∷ wants) c.each.from c.in_ok-behind.behind n read.has_type read.reads
-          (later_item c.args.dialect text a c.args.close wants c.in_ok-behind.behind n c.in_default-behind_sign.ensures.another
+          (later_item c.args.dialect text a c.args.close wants c.in_ok-behind.behind n c.in_default-after_sign.ensures.another
           (after_one c.args.dialect text comma (a_value a ∷ further_items a c.args.close ∷ wants) c.in_ok-behind.behind c.in_ok-from.from n comma_read.reads s)));
     }
 

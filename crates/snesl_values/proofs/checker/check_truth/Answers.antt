@@ -21,5 +21,5 @@ truth_read dialect text from end b t e taken =
 pub returns-in-Some-clause-read : goal.returns-in-Some-clause-read
 returns-in-Some-clause-read c = truth_read c.args.dialect c.args.text.now c.args.at c.in-Some.end true _ refl c.in-Some.ensures.taken
 
-pub returns-in-Some-behind_word-clause-read : goal.returns-in-Some-behind_word-clause-read
-returns-in-Some-behind_word-clause-read c = truth_read c.args.dialect c.args.text.now c.args.at c.in-Some-behind_word.end false _ refl c.in-Some-behind_word.ensures.taken
+pub returns-in-Some-after_word-clause-read : goal.returns-in-Some-after_word-clause-read
+returns-in-Some-after_word-clause-read c = truth_read c.args.dialect c.args.text.now c.args.at c.in-Some-after_word.end false _ refl c.in-Some-after_word.ensures.taken

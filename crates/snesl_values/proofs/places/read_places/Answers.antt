@@ -49,8 +49,8 @@ loop-declaration-init c =
 pub expect_sign-requires-clause-within : goal.expect_sign-requires-clause-within
 expect_sign-requires-clause-within c = c.loop-declaration.invariant.so_far.within
 
-pub behind_sign-requires-clause-within : goal.behind_sign-requires-clause-within
-behind_sign-requires-clause-within c = c.loop-declaration.invariant.so_far.within
+pub after_sign-requires-clause-within : goal.after_sign-requires-clause-within
+after_sign-requires-clause-within c = c.loop-declaration.invariant.so_far.within
 
 pub returns-in_err-start-clause-stops : goal.returns-in_err-start-clause-stops
 returns-in_err-start-clause-stops c =

@@ -2,7 +2,7 @@ use Rattle.std.proofs.Common.{◌≡◌, ◌+◌, ◌∙◌, refl, inr, sym, ap,
 use Rattle.std.proofs.lemmas.List.{length_push, length-append}
 use Rattle.flow_graph.specs.Graphs.{states_so_far, edges_so_far}
 use Rattle.flow_nodes.specs.StreamNodes.{state_of}
-use Rattle.flow_plans.specs.Layouts.{all_behind}
+use Rattle.flow_plans.specs.Layouts.{all_after}
 use Rattle.flow_plans.specs.Ports.{kinds_written}
 use Rattle.flow_plans.specs.Views.{operation_of, step_of}
 use Rattle.snesl_data.specs.declared.refusal.Refusal.TheVariants.{TooBig, NoMemory}
@@ -35,27 +35,27 @@ read_streams-requires-clause-joined c =
     step_joined (plan_of c.args.plan.now) c.args.number (step_of c.args.plan.now.dialect c.index-step.result.now) (step_now c.args.plan.now c.args.number c.index-step.result.now c.requires.inside c.index-step.ensures) c.requires.wired c.args.self.now.supply.items c.args.self.now.places.items (states_so_far c.args.self.now.builder) (edges_so_far c.args.self.now.builder) c.requires.built (state_of c.in_ok-node.node) c.in_ok-place.place c.deref.result.now c.push.new.self.items (states_so_far c.node.new.self) (edges_so_far c.node.new.self) c.in_ok-node.ensures c.in_ok-place.ensures.number c.deref.ensures.value
     c.in_ok-push.ensures.items c.in_ok-place.ensures.nodes c.in_ok-place.ensures.edges
 
-pub put_all_behind-requires-clause-inside : goal.put_all_behind-requires-clause-inside
-put_all_behind-requires-clause-inside c =
+pub put_all_after-requires-clause-inside : goal.put_all_after-requires-clause-inside
+put_all_after-requires-clause-inside c =
     let kinds = (same_kinds (step_of c.args.plan.now.dialect c.index-step.result.now) (state_of c.in_ok-node.node) c.in_ok-kinds.kinds.items (c.openings_perform.ensures c.index-step.result.now.at (operation_of c.args.plan.now.dialect c.index-step.result.now.operation) (state_of c.in_ok-node.node) (plan_fits c.args.plan.now c.requires.wired (length (states_so_far c.args.self.now.builder)) (placed (plan_of c.args.plan.now) c.args.number (step_of c.args.plan.now.dialect c.index-step.result.now) (step_now c.args.plan.now c.args.number c.index-step.result.now c.requires.inside c.index-step.ensures) c.requires.wired c.args.self.now.supply.items c.args.self.now.places.items (states_so_far c.args.self.now.builder) (edges_so_far c.args.self.now.builder) c.requires.built) (placed_at (plan_of c.args.plan.now) c.args.number (step_of c.args.plan.now.dialect c.index-step.result.now) (step_now c.args.plan.now c.args.number c.index-step.result.now c.requires.inside c.index-step.ensures) c.requires.wired c.args.self.now.supply.items c.args.self.now.places.items (states_so_far c.args.self.now.builder) (edges_so_far c.args.self.now.builder) c.requires.built)).usable c.in_ok-node.ensures) c.in_ok-kinds.ensures) in
     let many : c.len.result ≡ length (kinds_written (operation_of c.args.plan.now.dialect c.index-step.result.now.operation)) = omega (arith, c.len.ensures, c.in_ok-kinds.kinds.ok.0, ap length kinds) in
     let room = step_inside (plan_of c.args.plan.now) c.args.number (step_of c.args.plan.now.dialect c.index-step.result.now) (step_now c.args.plan.now c.args.number c.index-step.result.now c.requires.inside c.index-step.ensures) c.requires.wired c.args.self.now.supply.items c.args.self.now.places.items (states_so_far c.args.self.now.builder) (edges_so_far c.args.self.now.builder) c.requires.built c.in_ok-place.place c.len.result c.read_streams.new.self.supply.items c.add_streams.new.self.supply.items c.push.new.self.items (states_so_far c.read_streams.new.self.builder) (edges_so_far c.read_streams.new.self.builder) c.deref.result.now
     c.in_ok-place.ensures.number many c.len.type_inv c.deref.ensures.value c.in_ok-read_streams.ensures.supply c.in_ok-add_streams.ensures.supply c.in_ok-read_streams.ensures.joined c.len-first.result (omega (arith, c.len-first.ensures, c.read_streams.new.self.supply.ok.0, c.in_ok-read_streams.ensures.supply)) in
     omega (arith, room, c.len.ensures, c.in_ok-kinds.kinds.ok.0, ap length c.deref-2.ensures.value)
 
-pub put_all_behind-requires-clause-later : goal.put_all_behind-requires-clause-later
-put_all_behind-requires-clause-later c = λ s le.
+pub put_all_after-requires-clause-later : goal.put_all_after-requires-clause-later
+put_all_after-requires-clause-later c = λ s le.
     let places = c.in_ok-add_streams.ensures.places ∙ c.in_ok-read_streams.ensures.places in
     step_later (plan_of c.args.plan.now) c.args.number (step_of c.args.plan.now.dialect c.index-step.result.now) (step_now c.args.plan.now c.args.number c.index-step.result.now c.requires.inside c.index-step.ensures) c.requires.wired c.args.self.now.supply.items c.args.self.now.places.items (states_so_far c.args.self.now.builder) (edges_so_far c.args.self.now.builder) c.requires.built c.add_streams.new.self.places.items (ap length places ∙ step_found (plan_of c.args.plan.now) c.args.number (step_of c.args.plan.now.dialect c.index-step.result.now) (step_now c.args.plan.now c.args.number c.index-step.result.now c.requires.inside c.index-step.ensures) c.requires.wired c.args.self.now.supply.items c.args.self.now.places.items (states_so_far c.args.self.now.builder) (edges_so_far c.args.self.now.builder) c.requires.built c.in_ok-place.place c.push.new.self.items c.in_ok-push.ensures.items) c.len-first.result s (omega (arith, c.len-first.ensures, c.read_streams.new.self.supply.ok.0, c.in_ok-read_streams.ensures.supply)) le
 
-pub put_all_behind-requires-clause-next : goal.put_all_behind-requires-clause-next
-put_all_behind-requires-clause-next c =
+pub put_all_after-requires-clause-next : goal.put_all_after-requires-clause-next
+put_all_after-requires-clause-next c =
     let kinds = (same_kinds (step_of c.args.plan.now.dialect c.index-step.result.now) (state_of c.in_ok-node.node) c.in_ok-kinds.kinds.items (c.openings_perform.ensures c.index-step.result.now.at (operation_of c.args.plan.now.dialect c.index-step.result.now.operation) (state_of c.in_ok-node.node) (plan_fits c.args.plan.now c.requires.wired (length (states_so_far c.args.self.now.builder)) (placed (plan_of c.args.plan.now) c.args.number (step_of c.args.plan.now.dialect c.index-step.result.now) (step_now c.args.plan.now c.args.number c.index-step.result.now c.requires.inside c.index-step.ensures) c.requires.wired c.args.self.now.supply.items c.args.self.now.places.items (states_so_far c.args.self.now.builder) (edges_so_far c.args.self.now.builder) c.requires.built) (placed_at (plan_of c.args.plan.now) c.args.number (step_of c.args.plan.now.dialect c.index-step.result.now) (step_now c.args.plan.now c.args.number c.index-step.result.now c.requires.inside c.index-step.ensures) c.requires.wired c.args.self.now.supply.items c.args.self.now.places.items (states_so_far c.args.self.now.builder) (edges_so_far c.args.self.now.builder) c.requires.built)).usable c.in_ok-node.ensures) c.in_ok-kinds.ensures) in
     let states = ap states_so_far c.in_ok-add_streams.ensures.builder ∙ c.in_ok-read_streams.ensures.nodes ∙ c.in_ok-place.ensures.nodes in
     step_next (plan_of c.args.plan.now) c.args.number (step_of c.args.plan.now.dialect c.index-step.result.now) (step_now c.args.plan.now c.args.number c.index-step.result.now c.requires.inside c.index-step.ensures) c.requires.wired c.args.self.now.supply.items c.args.self.now.places.items (states_so_far c.args.self.now.builder) (edges_so_far c.args.self.now.builder) c.requires.built (states_so_far c.add_streams.new.self.builder) c.len-first.result c.deref-2.result.now (ap length states ∙ length_push (states_so_far c.args.self.now.builder) (state_of c.in_ok-node.node)) (omega (arith, c.len-first.ensures, c.read_streams.new.self.supply.ok.0, c.in_ok-read_streams.ensures.supply)) (c.deref-2.ensures.value ∙ kinds)
 
-pub put_all_behind-requires-clause-so_far : goal.put_all_behind-requires-clause-so_far
-put_all_behind-requires-clause-so_far c =
+pub put_all_after-requires-clause-so_far : goal.put_all_after-requires-clause-so_far
+put_all_after-requires-clause-so_far c =
     let kinds = (same_kinds (step_of c.args.plan.now.dialect c.index-step.result.now) (state_of c.in_ok-node.node) c.in_ok-kinds.kinds.items (c.openings_perform.ensures c.index-step.result.now.at (operation_of c.args.plan.now.dialect c.index-step.result.now.operation) (state_of c.in_ok-node.node) (plan_fits c.args.plan.now c.requires.wired (length (states_so_far c.args.self.now.builder)) (placed (plan_of c.args.plan.now) c.args.number (step_of c.args.plan.now.dialect c.index-step.result.now) (step_now c.args.plan.now c.args.number c.index-step.result.now c.requires.inside c.index-step.ensures) c.requires.wired c.args.self.now.supply.items c.args.self.now.places.items (states_so_far c.args.self.now.builder) (edges_so_far c.args.self.now.builder) c.requires.built) (placed_at (plan_of c.args.plan.now) c.args.number (step_of c.args.plan.now.dialect c.index-step.result.now) (step_now c.args.plan.now c.args.number c.index-step.result.now c.requires.inside c.index-step.ensures) c.requires.wired c.args.self.now.supply.items c.args.self.now.places.items (states_so_far c.args.self.now.builder) (edges_so_far c.args.self.now.builder) c.requires.built)).usable c.in_ok-node.ensures) c.in_ok-kinds.ensures) in
     let many : c.len.result ≡ length (kinds_written (operation_of c.args.plan.now.dialect c.index-step.result.now.operation)) = omega (arith, c.len.ensures, c.in_ok-kinds.kinds.ok.0, ap length kinds) in
     let states = c.in_ok-read_streams.ensures.nodes ∙ c.in_ok-place.ensures.nodes in
@@ -70,11 +70,11 @@ returns-clause-built c =
     let kinds = (same_kinds (step_of c.args.plan.now.dialect c.index-step.result.now) (state_of c.in_ok-node.node) c.in_ok-kinds.kinds.items (c.openings_perform.ensures c.index-step.result.now.at (operation_of c.args.plan.now.dialect c.index-step.result.now.operation) (state_of c.in_ok-node.node) (plan_fits c.args.plan.now c.requires.wired (length (states_so_far c.args.self.now.builder)) (placed (plan_of c.args.plan.now) c.args.number (step_of c.args.plan.now.dialect c.index-step.result.now) (step_now c.args.plan.now c.args.number c.index-step.result.now c.requires.inside c.index-step.ensures) c.requires.wired c.args.self.now.supply.items c.args.self.now.places.items (states_so_far c.args.self.now.builder) (edges_so_far c.args.self.now.builder) c.requires.built) (placed_at (plan_of c.args.plan.now) c.args.number (step_of c.args.plan.now.dialect c.index-step.result.now) (step_now c.args.plan.now c.args.number c.index-step.result.now c.requires.inside c.index-step.ensures) c.requires.wired c.args.self.now.supply.items c.args.self.now.places.items (states_so_far c.args.self.now.builder) (edges_so_far c.args.self.now.builder) c.requires.built)).usable c.in_ok-node.ensures) c.in_ok-kinds.ensures) in
     let states = ap states_so_far c.in_ok-add_streams.ensures.builder ∙ c.in_ok-read_streams.ensures.nodes ∙ c.in_ok-place.ensures.nodes in
     let here : c.len-first.result ≡ length c.args.self.now.supply.items = omega (arith, c.len-first.ensures, c.read_streams.new.self.supply.ok.0, c.in_ok-read_streams.ensures.supply) in
-    step_built (plan_of c.args.plan.now) c.args.number (step_of c.args.plan.now.dialect c.index-step.result.now) (step_now c.args.plan.now c.args.number c.index-step.result.now c.requires.inside c.index-step.ensures) c.requires.wired c.args.self.now.supply.items c.args.self.now.places.items (states_so_far c.args.self.now.builder) (edges_so_far c.args.self.now.builder) c.requires.built c.in_ok-place.place c.deref-2.result.now c.len-first.result c.put_all_behind.new.self.supply.items c.put_all_behind.new.self.places.items
-    (states_so_far c.put_all_behind.new.self.builder) (edges_so_far c.put_all_behind.new.self.builder) c.in_ok-place.ensures.number (c.deref-2.ensures.value ∙ kinds) here c.in_ok-put_all_behind.ensures.so_far
-    (c.in_ok-put_all_behind.ensures.nodes ∙ ap (λ n. n + length (all_behind (plan_of c.args.plan.now) c.index-step.result.now.at c.len-first.result c.deref-2.result.now)) (ap length states ∙ length_push (states_so_far c.args.self.now.builder) (state_of c.in_ok-node.node)))
-    (omega (arith, c.in_ok-put_all_behind.ensures.supply, ap length c.in_ok-add_streams.ensures.supply, length-append c.read_streams.new.self.supply.items (ports_of c.in_ok-place.place c.len.result), ports_length c.in_ok-place.place c.len.result, c.in_ok-read_streams.ensures.supply, c.len.ensures, c.in_ok-kinds.kinds.ok.0, ap length kinds))
-    (c.in_ok-put_all_behind.ensures.places ∙ c.in_ok-add_streams.ensures.places ∙ c.in_ok-read_streams.ensures.places ∙ c.in_ok-push.ensures.items)
+    step_built (plan_of c.args.plan.now) c.args.number (step_of c.args.plan.now.dialect c.index-step.result.now) (step_now c.args.plan.now c.args.number c.index-step.result.now c.requires.inside c.index-step.ensures) c.requires.wired c.args.self.now.supply.items c.args.self.now.places.items (states_so_far c.args.self.now.builder) (edges_so_far c.args.self.now.builder) c.requires.built c.in_ok-place.place c.deref-2.result.now c.len-first.result c.put_all_after.new.self.supply.items c.put_all_after.new.self.places.items
+    (states_so_far c.put_all_after.new.self.builder) (edges_so_far c.put_all_after.new.self.builder) c.in_ok-place.ensures.number (c.deref-2.ensures.value ∙ kinds) here c.in_ok-put_all_after.ensures.so_far
+    (c.in_ok-put_all_after.ensures.nodes ∙ ap (λ n. n + length (all_after (plan_of c.args.plan.now) c.index-step.result.now.at c.len-first.result c.deref-2.result.now)) (ap length states ∙ length_push (states_so_far c.args.self.now.builder) (state_of c.in_ok-node.node)))
+    (omega (arith, c.in_ok-put_all_after.ensures.supply, ap length c.in_ok-add_streams.ensures.supply, length-append c.read_streams.new.self.supply.items (ports_of c.in_ok-place.place c.len.result), ports_length c.in_ok-place.place c.len.result, c.in_ok-read_streams.ensures.supply, c.len.ensures, c.in_ok-kinds.kinds.ok.0, ap length kinds))
+    (c.in_ok-put_all_after.ensures.places ∙ c.in_ok-add_streams.ensures.places ∙ c.in_ok-read_streams.ensures.places ∙ c.in_ok-push.ensures.items)
 
 pub returns-in_err-node : goal.returns-in_err-node
 returns-in_err-node c =
@@ -106,12 +106,12 @@ returns-in_err-read_streams c =
       memory = same_error _ r x c.from_residual-in_err-read_streams.ensures.1 c.in_err-read_streams.ensures.memory;
     }
 
-pub returns-in_err-put_all_behind : goal.returns-in_err-put_all_behind
-returns-in_err-put_all_behind c =
-    let r = c.from_residual-in_err-put_all_behind.result in
-    let x = c.in_err-put_all_behind.field-0.0 in
+pub returns-in_err-put_all_after : goal.returns-in_err-put_all_after
+returns-in_err-put_all_after c =
+    let r = c.from_residual-in_err-put_all_after.result in
+    let x = c.in_err-put_all_after.field-0.0 in
     record {
-      built = none_done _ r c.from_residual-in_err-put_all_behind.ensures.0;
-      big = λ e. c.in_err-put_all_behind.ensures.big (passed_on r x TooBig c.from_residual-in_err-put_all_behind.ensures.1 e);
-      memory = same_error _ r x c.from_residual-in_err-put_all_behind.ensures.1 c.in_err-put_all_behind.ensures.memory;
+      built = none_done _ r c.from_residual-in_err-put_all_after.ensures.0;
+      big = λ e. c.in_err-put_all_after.ensures.big (passed_on r x TooBig c.from_residual-in_err-put_all_after.ensures.1 e);
+      memory = same_error _ r x c.from_residual-in_err-put_all_after.ensures.1 c.in_err-put_all_after.ensures.memory;
     }

@@ -4,7 +4,7 @@ use Rattle.flow_inputs.specs.declared.turns.Piece.TheVariants.{Int}
 use Rattle.flow_inputs.specs.Left.{left}
 use Rattle.snesl_values.specs.Places.{value_at}
 use Rattle.flow_inputs.specs.Items.{opening_state}
-use Rattle.flow_inputs.proofs.Blocks.{left_ahead, rest_behind, sends_ahead, said_ints}
+use Rattle.flow_inputs.proofs.Blocks.{left_ahead, rest_after, sends_ahead, said_ints}
 use Rattle.flow_inputs.proofs.source.TextSource.scan_ints.Goals as goal
 
 pub invariant_of-self : goal.invariant_of-self
@@ -18,7 +18,7 @@ invariant_of-self c =
     record {
       inside = subst (λ t. f.result.at ≤ length t) text_is f.ensures.within;
       shallow = f.ensures.shallow;
-      rest = rest_behind (left text way n.leaf n.place opening_state) (left text way n.leaf n.at n.state) pieces (left text way n.leaf f.result.at f.result.state) n.rest
+      rest = rest_after (left text way n.leaf n.place opening_state) (left text way n.leaf n.at n.state) pieces (left text way n.leaf f.result.at f.result.state) n.rest
           (left_ahead text _ way _ n.leaf n.at f.result.at n.state f.result.state pieces text_is c.deref-3.ensures.value f.ensures.first);
     }
 

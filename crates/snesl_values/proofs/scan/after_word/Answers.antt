@@ -5,8 +5,8 @@ use Rattle.std.proofs.lemmas.Bool.Decides.{Decides-eqb}
 use Rattle.std.proofs.lemmas.Slice.Eq.{slice_eq-Decides}
 use Rattle.snesl_data.specs.Characters.{is_word}
 use Rattle.snesl_values.proofs.InputScan.{rest_is, word_taken, another_word}
-use Rattle.snesl_values.proofs.scan.behind_word.Goals as goal
-use Rattle.snesl_values.proofs.scan.behind_word.Goals.{then-start-text-via-then-start-text, then-start-text-via-else-start-text+then-not-is_ascii_alphabetic}
+use Rattle.snesl_values.proofs.scan.after_word.Goals as goal
+use Rattle.snesl_values.proofs.scan.after_word.Goals.{then-start-text-via-then-start-text, then-start-text-via-else-start-text+then-not-is_ascii_alphabetic}
 
 pub returns-then-eq-clause-taken : goal.returns-then-eq-clause-taken
 returns-then-eq-clause-taken c =

@@ -1,6 +1,6 @@
 use Rattle.std.proofs.Common.{◌∙◌, ap, drop}
 use Rattle.snesl_look.proofs.Offsets.{rest_is}
-use Rattle.snesl_look.proofs.functions.behind_word.Goals as goal
+use Rattle.snesl_look.proofs.functions.after_word.Goals as goal
 
 pub returns : goal.returns
 returns c = let text = c.args.text.now in rest_is text c.word_len.result ∙ ap (λ n. drop n text) c.word_len.ensures.count

@@ -4,7 +4,7 @@ use Rattle.snesl_values.specs.declared.builder.Pending.TheVariants.{Second}
 use Rattle.snesl_values.specs.Places.{in_first, on_some}
 use Rattle.snesl_values.specs.Pendings.{frames_of}
 use Rattle.snesl_values.proofs.Pendings.{pushed}
-use Rattle.snesl_values.proofs.builder.behind_first.Goals as goal
+use Rattle.snesl_values.proofs.builder.after_first.Goals as goal
 
 pub returns-in_ok-push-in-Comma : goal.returns-in_ok-push-in-Comma
 returns-in_ok-push-in-Comma c =

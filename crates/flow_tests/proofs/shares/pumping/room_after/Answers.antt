@@ -1,6 +1,6 @@
 use Rattle.std.proofs.Common.{◌≡◌, false, sym, subst, arith}
 use Rattle.std.proofs.lemmas.List.Elements.{All-get_or}
-use Rattle.flow_tests.proofs.shares.pumping.room_behind.Goals as goal
+use Rattle.flow_tests.proofs.shares.pumping.room_after.Goals as goal
 
 pub pump-share-requires-clause-fed : goal.pump-share-requires-clause-fed
 pump-share-requires-clause-fed g c =

@@ -1,7 +1,7 @@
 use Rattle.std.proofs.Common.{arith}
 use Rattle.snesl_values.proofs.InputScan.{sign_taken, another_sign}
-use Rattle.snesl_values.proofs.scan.behind_sign.Goals as goal
-use Rattle.snesl_values.proofs.scan.behind_sign.Goals.{else-start-text-via-then-start-text+else-text-start, else-start-text-via-else-start-text}
+use Rattle.snesl_values.proofs.scan.after_sign.Goals as goal
+use Rattle.snesl_values.proofs.scan.after_sign.Goals.{else-start-text-via-then-start-text+else-text-start, else-start-text-via-else-start-text}
 
 pub returns-then-text-start-clause-taken : goal.returns-then-text-start-clause-taken
 returns-then-text-start-clause-taken c =

@@ -5,7 +5,7 @@ use Rattle.snesl_values.specs.declared.builder.Pending.TheVariants.{Items}
 use Rattle.snesl_values.specs.Places.{Reading, in_items, on_some}
 use Rattle.snesl_values.specs.Pendings.{frames_of}
 use Rattle.snesl_values.proofs.Pendings.{pushed}
-use Rattle.snesl_values.proofs.builder.behind_item.Goals as goal
+use Rattle.snesl_values.proofs.builder.after_item.Goals as goal
 
 pub returns-in_ok-push-in-Comma-2 : goal.returns-in_ok-push-in-Comma-2
 returns-in_ok-push-in-Comma-2 c =

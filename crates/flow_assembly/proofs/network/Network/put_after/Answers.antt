@@ -6,12 +6,12 @@ use Rattle.flow_plans.specs.Plans.{fork, sink}
 use Rattle.flow_plans.specs.Ports.{kinds_after}
 use Rattle.flow_plans.specs.Layouts.{layout, uses, places_after}
 use Rattle.flow_assembly.specs.Ready.{plan_of}
-use Rattle.flow_assembly.proofs.Putting.{left_to_come, one_behind, put_may, none_put, sink_put, fork_put, put_same, plan_fits, sink_next, fork_next, sink_big, fork_big}
+use Rattle.flow_assembly.proofs.Putting.{left_to_come, one_after, put_may, none_put, sink_put, fork_put, put_same, plan_fits, sink_next, fork_next, sink_big, fork_big}
 use Rattle.flow_assembly.proofs.Fitting.{passed_on}
 use Rattle.flow_assembly.proofs.Refused.{none_done, same_error}
 use Rattle.flow_assembly.specs.Joined.{supplier, port_after}
 use Rattle.snesl_data.specs.declared.refusal.Refusal.TheVariants.{TooBig}
-use Rattle.flow_assembly.proofs.network.Network.put_behind.Goals as goal
+use Rattle.flow_assembly.proofs.network.Network.put_after.Goals as goal
 
 pub attach-requires-clause-opened : goal.attach-requires-clause-opened
 attach-requires-clause-opened c = subst (λ s. node_behaviour.opening s ≡ s) (sym c.sink_of-sink.ensures) refl
@@ -99,7 +99,7 @@ returns-clause-nodes c =
     let n = c.uses-outputs.result in
     let many : uses c.args.stream (plan_of c.args.plan.now) ≡ n = sym (c.requires.counted c.args.stream) ∙ sym c.uses-outputs.ensures in
     let le : 2 ≤ n = omega (arith, c.if-outputs-eq1.false, c.if-outputs-eq0.false) in
-    omega (arith, ap length c.in_ok-node.ensures.nodes, length_push (states_so_far c.args.self.now.builder) (state_of c.fork_of-fork.result), ap (λ n. length (places_after c.args.at c.args.stream c.args.kind n)) many, one_behind c.args.at c.args.stream c.args.kind n le)
+    omega (arith, ap length c.in_ok-node.ensures.nodes, length_push (states_so_far c.args.self.now.builder) (state_of c.fork_of-fork.result), ap (λ n. length (places_after c.args.at c.args.stream c.args.kind n)) many, one_after c.args.at c.args.stream c.args.kind n le)
 
 pub returns-in_err-attach-clause-so_far : goal.returns-in_err-attach-clause-so_far
 returns-in_err-attach-clause-so_far c = none_done _ c.from_residual.result c.from_residual.ensures.0
