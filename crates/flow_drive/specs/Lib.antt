@@ -48,3 +48,10 @@ pub use Rattle.flow_meetings.specs.Deals as ShareDeals
 pub use Rattle.flow_meetings.specs.Open
 pub use Rattle.flow_meetings.specs.SharedNetworks
 pub use Rattle.flow_rounds.specs.Epochs as ShareEpochs
+pub use Rattle.flow_base.specs.Visits as NodeVisits
+pub use Rattle.flow_boxes.specs.Reserved
+pub use Rattle.flow_graph.specs.FlowTheorems
+pub use Rattle.flow_graph.specs.Laws
+pub use Rattle.flow_graph.specs.Schedules
+pub use Rattle.flow_messages.specs.Blocks
+pub use Rattle.flow_messages.specs.Kinds

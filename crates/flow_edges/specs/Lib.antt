@@ -29,3 +29,7 @@ pub use Rattle.flow_rings.specs.Rings
 pub use Rattle.flow_boxes.specs.declared.boxes.Boxes
 pub use Rattle.flow_boxes.specs.Contents
 pub use Rattle.flow_boxes.specs.Rounds
+pub use Rattle.flow_messages.specs.Blocks
+pub use Rattle.flow_messages.specs.Kinds
+pub use Rattle.flow_rings.specs.Ring
+pub use Rattle.flow_boxes.specs.Reserved

@@ -39,3 +39,12 @@ pub use Rattle.flow_folds.specs.ScalarCells
 pub use Rattle.flow_folds.specs.Scalars
 pub use Rattle.flow_folds.specs.ScanAddBlocks
 pub use Rattle.flow_folds.specs.ScanAddMachine
+pub use Rattle.snesl_operators.specs.Operators
+pub use Rattle.snesl_operators.specs.Reductions
+pub use Rattle.flow_messages.specs.Ends
+pub use Rattle.flow_base.specs.Computed
+pub use Rattle.flow_base.specs.Visits
+pub use Rattle.flow_base.specs.Workers
+pub use Rattle.flow_folds.specs.declared.length.Count
+pub use Rattle.flow_folds.specs.declared.reduce.Stage as ReduceStage
+pub use Rattle.flow_folds.specs.declared.scan_add.Stage as ScanAddStage

@@ -28,3 +28,5 @@ pub use Rattle.flow_values.specs.SeqMachine
 pub use Rattle.flow_values.specs.IndexMachine
 pub use Rattle.flow_values.specs.PrintMachine
 pub use Rattle.flow_values.specs.Rows as ValueBlocks
+pub use Rattle.flow_values.specs.Parts
+pub use Rattle.flow_values.specs.laws.Print

@@ -13,3 +13,4 @@ pub use Rattle.snesl_grammar.specs.Limits
 pub use Rattle.snesl_grammar.specs.View as GrammarView
 pub use Rattle.snesl_tree.specs.Tree
 pub use Rattle.snesl_tree.specs.View
+pub use Rattle.snesl_tree.specs.Spelling

@@ -22,3 +22,5 @@ pub use Rattle.snesl_data.specs.Faults
 pub use Rattle.snesl_data.specs.Refusals
 pub use Rattle.snesl_data.specs.Text
 pub use Rattle.snesl_data.specs.Counted as Counts
+pub use Rattle.snesl_data.specs.Blanks
+pub use Rattle.snesl_data.specs.Characters
