@@ -8,7 +8,7 @@ use Rattle.snesl_values.proofs.builder.close_empty.Goals as goal
 
 pub returns-in-Some-Items : goal.returns-in-Some-Items
 returns-in-Some-Items c =
-    ap (λ (v : Value). let r : Reading = (frames_of c.pop.new.self.items, Some v) in r) c.closed.ensures
+    ap (λ (v : Value). let r : Reading = (frames_of c.pop.new.self.items, Some v) in r) c.bracket_value.ensures
     ∙ ap close_none (popped c.args.pending.now.items c.pop.new.self.items c.in-Some-Items.field-0 (Items c.in-Some-Items.bracket c.in-Some-Items.items) c.in-Some-Items.ensures.items c.in-Some-Items.field-0-is)
 
 pub returns-in-Some-First : goal.returns-in-Some-First
