@@ -229,7 +229,7 @@ module _ (ty : Ty) (text : List ℕ) (at : ℕ) where
   each_closing : (p : ℕ) (b : Bool) → nat_lt p (width ty) ≡ b → Keeps print_behaviour promise (state (closing p)) (cond b (Read p) Ended)
   each_closing p true e = reads_closing p (lt_of p (width ty) e)
   each_closing p false e = record {
-    no_cells = (text, (due_none p (width ty) (λ _. []) e (λ r lt. refl), refl));
+    nothing = (text, (due_none p (width ty) (λ _. []) e (λ r lt. refl), refl));
     ins = λ i o h. none_due p (width ty) i e h.1.0;
     outs = λ i o h q lt. absurd (omega arith);
   }
