@@ -1,5 +1,5 @@
 -- Lists of messages, one message later.
-use Rattle.std.proofs.Common.{◌≡◌, ℕ, zero, suc, true, false, List, [], ◌∷◌, ◌++◌, map, replicate, take, refl, ap, sym, ◌∙◌}
+use Rattle.std.proofs.Common.{◌≡◌, ℕ, zero, suc, true, false, List, [], ◌∷◌, ◌++◌, map, replicate, take, refl, ap}
 use Rattle.flow_messages.specs.declared.message.Item.{Item as ItemType}
 use Rattle.flow_messages.specs.declared.message.Msg.{Msg}
 use Rattle.flow_messages.specs.declared.message.Msg.TheVariants.{Item, End}

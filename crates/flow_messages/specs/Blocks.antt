@@ -1,6 +1,6 @@
 -- What items of one kind say, side by side.
 use Rattle.std.specs.Prelude.{ℕ, ℤ, Bool, List, map, replicate}
-use Rattle.flow_messages.specs.Cells.{Cell, unit, flag, int}
+use Rattle.flow_messages.specs.Cells.{unit, flag, int}
 use Rattle.flow_messages.specs.Signals.{Signal, carry}
 
 -- so many units

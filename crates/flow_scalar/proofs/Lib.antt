@@ -1,7 +1,6 @@
 pub mod BinaryBlocks
 pub mod ConstBlocks
 pub mod ForkBlocks
-pub mod ForkKinds
 pub mod IotaBlocks
 pub mod Leading
 pub mod Sending

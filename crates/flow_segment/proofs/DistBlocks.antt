@@ -19,14 +19,6 @@ use Rattle.flow_segment.specs.DistMachine.{DistState, at_start, at_flag, at_copy
 use Rattle.flow_segment.proofs.Leading.{item_leads}
 use Rattle.flow_segment.proofs.Blocks.{no_block}
 
--- an edge that takes an item takes each of its kind
-one_kind : (j k : Kind) (x : Cell) → is_of j x ≡ true → is_of k x ≡ true → j ≡ k
-one_kind j k x as_j as_k = grind (arith)
-
-pub fits_takes : (of : Option Kind) (k : Kind) (x : Cell) → is_of k x ≡ true → FitsEdge of (carry x) → TakesKind of k
-fits_takes None k x is fits = tt
-fits_takes (Some j) k x is fits = one_kind j k x fits is
-
 -- how far a worker is that holds nothing, and one that holds this item
 pub empty_at : (held : Option Item) (copies : Bool) → held ≡ None → dist_state held copies ≡ at_start
 empty_at held copies none = ap (λ o. dist_state o copies) none

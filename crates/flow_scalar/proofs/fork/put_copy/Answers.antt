@@ -8,7 +8,7 @@ use Rattle.flow_messages.specs.Signals.{carry}
 use Rattle.flow_messages.specs.declared.message.Kind.TheVariants.{Unit as UnitKind, Bool as BoolKind, Int as IntKind}
 use Rattle.flow_messages.specs.Kinds.{FitsEdge}
 use Rattle.flow_messages.proofs.Fitting.{kind_fits}
-use Rattle.flow_scalar.proofs.ForkKinds.{fits_takes}
+use Rattle.flow_messages.proofs.Fitting.{fits_takes}
 use Rattle.flow_base.specs.Visits.{Wrote}
 use Rattle.flow_scalar.proofs.ForkBlocks.{one_put}
 use Rattle.flow_scalar.proofs.fork.put_copy.Goals as goal

@@ -10,7 +10,8 @@ use Rattle.flow_messages.specs.Kinds.{FitsEdge}
 use Rattle.flow_messages.specs.declared.message.Kind.TheVariants.{Unit as UnitKind, Bool as BoolKind, Int as IntKind}
 use Rattle.flow_messages.specs.Blocks.{flag_signals, int_signals}
 use Rattle.flow_messages.specs.Signals.{carry}
-use Rattle.flow_segment.proofs.DistBlocks.{fits_takes, same_block, flags_same, ints_same}
+use Rattle.flow_segment.proofs.DistBlocks.{same_block, flags_same, ints_same}
+use Rattle.flow_messages.proofs.Fitting.{fits_takes}
 use Rattle.flow_segment.proofs.dist.put_copies.Goals as goal
 
 pub put_units-requires-clause-kind : goal.put_units-requires-clause-kind

@@ -1,4 +1,3 @@
-use Rattle.std.proofs.Common.{take}
 use Rattle.flow_messages.specs.Ends.{PutAll}
 use Rattle.flow_messages.specs.Blocks.{unit_signals}
 use Rattle.flow_messages.proofs.ends.Ends.put_units.Given as goal

@@ -1,4 +1,4 @@
-use Rattle.std.proofs.Common.{◌≡◌, ◌+◌, ◌<◌, ◌≤◌, take, length, arith, add-one, ap, subst, sym, ◌∙◌}
+use Rattle.std.proofs.Common.{◌≡◌, ◌<◌, take, length, arith, add-one, subst, sym, ◌∙◌}
 use Rattle.flow_messages.specs.Ends.{TakenAll}
 use Rattle.flow_messages.proofs.Blocks.{taken_none, taken_next}
 use Rattle.flow_messages.proofs.ends.Ends.skip.Goals as goal

@@ -1,9 +1,6 @@
-use Rattle.std.proofs.Common.{◌≡◌, ◌+◌, ◌-◌, ◌<◌, ◌≤◌, true, false, [], ◌∷◌, ◌++◌, length, take, drop, refl, sym, ap, ◌∙◌, subst, arith}
-use Rattle.std.proofs.lemmas.List.{take-append-drop, length-take-le}
-use Rattle.flow_messages.specs.Signals.{signals, ended, orderly}
+use Rattle.std.proofs.Common.{◌≡◌, [], ◌∷◌, ◌++◌, sym, subst}
 use Rattle.flow_messages.specs.Stores.{content_of}
 use Rattle.flow_messages.specs.Lines.{gone}
-use Rattle.flow_messages.proofs.Signals.{ended-snoc, orderly-snoc}
 use Rattle.flow_messages.proofs.Lines.{fifo_put, count_put}
 use Rattle.flow_messages.proofs.line.Line.put.Goals as goal
 

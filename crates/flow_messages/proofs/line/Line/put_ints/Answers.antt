@@ -1,10 +1,8 @@
-use Rattle.std.proofs.Common.{◌≡◌, ◌+◌, ◌-◌, ◌<◌, ◌≤◌, true, false, [], ◌∷◌, ◌++◌, length, take, drop, refl, sym, ap, ◌∙◌, subst, arith}
-use Rattle.std.proofs.lemmas.List.{take-append-drop, length-take-le}
+use Rattle.std.proofs.Common.{◌≡◌, false, ◌++◌, sym, ap, ◌∙◌}
 use Rattle.flow_messages.specs.Signals.{signals, ended, orderly}
 use Rattle.flow_messages.specs.Stores.{content_of}
-use Rattle.flow_messages.specs.Lines.{gone}
 use Rattle.flow_messages.specs.Contents.{int_messages}
-use Rattle.flow_messages.specs.declared.message.Item.TheVariants.{Bool as BoolItem, Int as IntItem}
+use Rattle.flow_messages.specs.declared.message.Item.TheVariants.{Int as IntItem}
 use Rattle.flow_messages.proofs.Signals.{ended-more, orderly-more, block-ended, block-orderly}
 use Rattle.flow_messages.proofs.Lines.{fifo_put, count_put}
 use Rattle.flow_messages.proofs.line.Line.put_ints.Goals as goal

@@ -1,8 +1,5 @@
-use Rattle.std.proofs.Common.{◌≡◌, ◌+◌, ◌-◌, ◌<◌, ◌≤◌, true, false, [], ◌∷◌, ◌++◌, length, take, drop, refl, sym, ap, ◌∙◌, subst, arith}
-use Rattle.std.proofs.lemmas.List.{take-append-drop, length-take-le}
-use Rattle.flow_messages.specs.Signals.{signals, ended, orderly}
+use Rattle.std.proofs.Common.{[], ◌∷◌, refl}
 use Rattle.flow_messages.specs.Stores.{content_of}
-use Rattle.flow_messages.specs.Lines.{gone}
 use Rattle.flow_messages.proofs.Lines.{fifo_rest, count_rest}
 use Rattle.flow_messages.proofs.line.Line.take.Goals as goal
 

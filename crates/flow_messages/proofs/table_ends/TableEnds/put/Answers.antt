@@ -1,4 +1,4 @@
-use Rattle.std.proofs.Common.{◌≡◌, ◌<◌, length, arith, sym, ◌∙◌, subst, ap}
+use Rattle.std.proofs.Common.{◌<◌, length, arith}
 use borrow.Author.Tests.{ltb-true}
 use Rattle.flow_messages.proofs.Tables.{line-put, line-kept, line-full, on_ok, if_err}
 use Rattle.flow_messages.proofs.table_ends.TableEnds.put.Goals as goal

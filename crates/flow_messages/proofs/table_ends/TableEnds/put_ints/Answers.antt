@@ -1,9 +1,9 @@
-use Rattle.std.proofs.Common.{◌≡◌, ◌<◌, length, arith, sym, ◌∙◌, subst, ap}
+use Rattle.std.proofs.Common.{◌<◌, length, arith, subst}
 use borrow.Author.Tests.{ltb-true}
-use Rattle.flow_messages.specs.declared.message.Item.TheVariants.{Unit as UnitItem, Bool as BoolItem, Int as IntItem}
+use Rattle.flow_messages.specs.declared.message.Item.TheVariants.{Int as IntItem}
 use Rattle.flow_messages.specs.Contents.{int_messages}
 use Rattle.flow_messages.proofs.Signals.{signals-block}
-use Rattle.std.proofs.Common.{◌+◌, ◌≤◌, set}
+use Rattle.std.proofs.Common.{set}
 use Rattle.flow_messages.specs.Ends.{PutAll}
 use Rattle.flow_messages.specs.Tables.{view_of_lines}
 use Rattle.flow_messages.proofs.Tables.{line-put_block, line-space}

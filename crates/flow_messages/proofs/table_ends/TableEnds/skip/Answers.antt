@@ -1,6 +1,6 @@
-use Rattle.std.proofs.Common.{◌≡◌, ◌<◌, length, arith, sym, ◌∙◌, subst, ap}
+use Rattle.std.proofs.Common.{◌<◌, length, arith, sym, ◌∙◌, subst, ap}
 use borrow.Author.Tests.{ltb-true}
-use Rattle.std.proofs.Common.{◌≤◌, ◌++◌, take, set}
+use Rattle.std.proofs.Common.{◌++◌, take, set}
 use Rattle.std.proofs.lemmas.List.{take-append-drop}
 use Rattle.flow_messages.specs.Ends.{TakenAll}
 use Rattle.flow_messages.specs.Stores.{content_of}

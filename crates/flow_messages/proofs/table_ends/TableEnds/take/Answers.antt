@@ -1,4 +1,4 @@
-use Rattle.std.proofs.Common.{◌≡◌, ◌<◌, length, arith, sym, ◌∙◌, subst, ap}
+use Rattle.std.proofs.Common.{◌<◌, length, arith, sym, ◌∙◌}
 use borrow.Author.Tests.{ltb-true}
 use Rattle.flow_messages.specs.Stores.{content_of}
 use Rattle.flow_messages.proofs.Tables.{line-taken, line-kept, line-empty, line-held, if_some, if_none, some_unless_empty}

@@ -1,7 +1,7 @@
-use Rattle.std.proofs.Common.{◌≡◌, ◌<◌, length, arith, sym, ◌∙◌, subst, ap}
+use Rattle.std.proofs.Common.{◌<◌, length, arith, subst}
 use borrow.Author.Tests.{ltb-true}
 use mathlib.Core.List.{IsPrefix}
-use Rattle.flow_messages.specs.declared.message.Item.TheVariants.{Unit as UnitItem, Bool as BoolItem, Int as IntItem}
+use Rattle.flow_messages.specs.declared.message.Item.TheVariants.{Unit as UnitItem}
 use Rattle.flow_messages.specs.Contents.{unit_messages}
 use Rattle.flow_messages.proofs.Signals.{signals-units}
 use Rattle.flow_messages.specs.Tables.{view_of_lines}

@@ -1,4 +1,4 @@
-use Rattle.std.proofs.Common.{◌≡◌, ◌<◌, length, arith, sym, ◌∙◌, subst, ap}
+use Rattle.std.proofs.Common.{◌<◌, length, arith}
 use borrow.Author.Tests.{ltb-true}
 use Rattle.flow_messages.proofs.Tables.{line-held}
 use Rattle.flow_messages.proofs.table_ends.TableWholeEnds.held.Goals as goal
