@@ -31,6 +31,7 @@ placed_kind inputs outputs t s v placed = record {
   each_output = placed.each_output;
   reads = placed.reads;
   writes = placed.writes;
+  kinds = placed.kinds;
 }
 
 module _ (inputs outputs : List ℕ) (t : NodeKind) (s s' : (member t).State) (a v : View) where
