@@ -3,7 +3,7 @@
 ghost use Rattle.std.specs.Prelude.{◌≡◌, true};
 ghost use Rattle.flow_messages.specs.declared.message.Kind.TheVariants.{Int as IntKind};
 ghost use Rattle.flow_messages.specs.Signals.{signal_of};
-ghost use Rattle.flow_rings.specs.Flats.{fits};
+ghost use Rattle.flow_messages.specs.Kinds.{fits};
 
 use flow_messages::{Item, Msg, Refused, Why};
 

@@ -4,7 +4,8 @@ ghost use Rattle.std.specs.List.{All};
 ghost use Rattle.flow_messages.specs.declared.message.Kind.TheVariants.{Int as IntKind};
 ghost use Rattle.flow_messages.specs.Signals.{signals, signal_of, orderly};
 ghost use Rattle.flow_rings.specs.Edge.{IsEdge, kind_of};
-ghost use Rattle.flow_rings.specs.Flats.{message_of, messages_of, fits};
+ghost use Rattle.flow_messages.specs.Kinds.{fits};
+ghost use Rattle.flow_rings.specs.Flats.{message_of, messages_of};
 ghost use Rattle.flow_tests.specs.Ints.{TakesInts};
 
 use crate::parts::messages::{is_message, is_refused, message};
