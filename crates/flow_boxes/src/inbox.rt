@@ -1,5 +1,5 @@
 // The reader's box of an edge.
-ghost use Rattle.std.specs.Prelude.{◌≡◌, ◌≤◌, [], ◌∷◌, ◌++◌, length, take, drop, IfOk, IfSome, IfNone};
+ghost use Rattle.std.specs.Prelude.{◌≡◌, ◌<◌, ◌≤◌, [], ◌∷◌, ◌++◌, length, take, drop, IfOk, IfSome, IfNone};
 ghost use Rattle.std.specs.Io.Iter.{u64_saturate};
 ghost use Rattle.flow_messages.specs.Stores.{content_of};
 ghost use Rattle.flow_messages.specs.Lines.{gone};
@@ -25,7 +25,8 @@ impl Inbox {
 
     /// An empty box, with room for the capacity.
     pub fn new(alloc: Global, capacity: usize) -> Result<Inbox, AllocError>
-        ensures fresh { IfOk result (λ i. (received_of i ≡ []) × (content_of i.store ≡ [])) }
+        ensures fresh { IfOk result (λ i. (received_of i ≡ []) × (content_of i.store ≡ []) ×
+            (i.arrived.items ≡ [])) }
         ensures reserved { IfOk result (λ i. i.store.capacity ≡ capacity) }
     {
         let store = Store::new(alloc, capacity)?;
@@ -36,10 +37,25 @@ impl Inbox {
         })
     }
 
+    /// Holds a message more, after all others.
+    #[inline(always)]
+    pub fn push(&mut self, message: Msg)
+        requires { length (content_of self.old.store) < self.old.store.capacity }
+        ensures reserved { self.new.store.capacity ≡ self.old.store.capacity }
+        ensures arrived { self.new.arrived.items ≡ self.old.arrived.items ++ message ∷ [] }
+        ensures received { received_of self.new ≡ received_of self.old }
+        ensures held { content_of self.new.store ≡ content_of self.old.store ++ message ∷ [] }
+    {
+        let arrived = self.arrived.with(&message);
+        self.store.push(message);
+        self.arrived = arrived;
+    }
+
     /// Takes the oldest message.
     #[inline(always)]
     pub fn take(&mut self) -> Option<Msg>
         ensures reserved { self.new.store.capacity ≡ self.old.store.capacity }
+        ensures arrived { self.new.arrived.items ≡ self.old.arrived.items }
         ensures some { IfSome result (λ m. (received_of self.new ≡
             received_of self.old ++ m ∷ []) ×
             (content_of self.old.store ≡ m ∷ content_of self.new.store)) }
@@ -56,6 +72,7 @@ impl Inbox {
     pub fn skip(&mut self, count: usize)
         requires { count ≤ length (content_of self.old.store) }
         ensures reserved { self.new.store.capacity ≡ self.old.store.capacity }
+        ensures arrived { self.new.arrived.items ≡ self.old.arrived.items }
         ensures received { received_of self.new ≡
             received_of self.old ++ take count (content_of self.old.store) }
         ensures rest { content_of self.new.store ≡ drop count (content_of self.old.store) }

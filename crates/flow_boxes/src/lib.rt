@@ -17,4 +17,5 @@ mod theorems;
 
 pub use boxes::Boxes;
 pub use carrying::{carry, carry_own};
+pub use inbox::Inbox;
 pub use theorems::{fresh_boxes_are_linked, fresh_boxes_stay_fresh, links_stay};

@@ -1,6 +1,7 @@
 // The end that takes messages.
 ghost use Rattle.std.specs.Prelude.{◌≡◌, ◌<◌, ◌≤◌, ◌↔◌, true, false, [], ◌∷◌, ◌++◌, length, IsTrue, IsSome, IfSome, IfNone};
 ghost use Rattle.std.specs.List.{All};
+ghost use Rattle.std.specs.Io.Iter.{u64_saturate};
 ghost use Rattle.arrayvec.specs.ArrayVec.{array_vec_len};
 ghost use mathlib.Core.List.{IsPrefix};
 ghost use Rattle.flow_messages.specs.Signals.{signals, signal_of, ended, orderly};
@@ -29,6 +30,14 @@ impl EdgeReader {
         let message = self.ring.pop().ok()?;
         self.taken = self.taken.saturating_add(1);
         Some(message)
+    }
+
+    /// How many messages were taken. The count stays at `u64::MAX`.
+    #[inline(always)]
+    pub fn received_count(&self) -> u64
+        ensures { result ≡ u64_saturate (length (received self.now)) }
+    {
+        self.taken
     }
 
     /// Whether the edge is certain to hold a message. Only the writer adds more.

@@ -1,6 +1,7 @@
 // The end that puts messages.
 ghost use Rattle.std.specs.Prelude.{◌≡◌, ◌+◌, ◌<◌, ◌≤◌, ◌↔◌, true, false, [], ◌∷◌, ◌++◌, length, IsTrue, IsOk, OnOk, IfErr, IsErrAnd, IsSome, IfSome};
 ghost use Rattle.std.specs.List.{All};
+ghost use Rattle.std.specs.Io.Iter.{u64_saturate};
 ghost use Rattle.flow_messages.specs.Signals.{signals, signal_of, ended, orderly};
 ghost use Rattle.flow_messages.specs.declared.ends.Why.TheVariants.{Full, Closed};
 ghost use Rattle.flow_rings.specs.Edge.{sent, certain_room, kind_of, SameWriter, Finishes};
@@ -63,6 +64,22 @@ impl EdgeWriter {
                 why: Why::Full,
             }),
         }
+    }
+
+    /// Whether `End` was put on the edge.
+    #[inline(always)]
+    pub fn is_closed(&self) -> bool
+        ensures { result ≡ ended (signals (sent self.now)) }
+    {
+        self.closed
+    }
+
+    /// How many messages were put. The count stays at `u64::MAX`.
+    #[inline(always)]
+    pub fn sent_count(&self) -> u64
+        ensures { result ≡ u64_saturate (length (sent self.now)) }
+    {
+        self.put
     }
 
     /// Whether the edge is certain to have room for one more message. Only the reader makes more.

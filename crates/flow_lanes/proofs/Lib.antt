@@ -1,0 +1,4 @@
+pub mod Lists
+pub mod Owing
+pub mod Drained
+pub mod Settled

@@ -1,0 +1,43 @@
+-- Sums of what messages say, and what begins with what.
+use Rattle.std.proofs.Common.{◌≡◌, ℕ, ◌+◌, ◌<◌, ◌≤◌, List, [], ◌∷◌, ◌++◌, length, take, get_or, sym, ap, ◌∙◌, arith, add-one, append_assoc, append-nil}
+use Rattle.std.proofs.Math.Seq.{take-suc}
+use Rattle.std.proofs.lemmas.List.{map-append}
+use mathlib.Core.List.{IsPrefix}
+use Rattle.flow_messages.specs.declared.message.Msg.{Msg}
+use Rattle.flow_rings.specs.declared.flat.Flat.{Flat}
+use Rattle.flow_rings.specs.Flats.{message_of, messages_of}
+use Rattle.flow_lanes.specs.Credits.{credit, number_in}
+
+pub credit-append : (xs ys : List Msg) → credit (xs ++ ys) ≡ credit xs + credit ys
+credit-append [] ys = omega arith
+credit-append (m ∷ xs) ys = omega (arith, credit-append xs ys)
+
+-- what begins a list says no more
+pub credit-prefix : (xs ys : List Msg) → IsPrefix xs ys → credit xs ≤ credit ys
+credit-prefix xs ys p = omega (arith, ap credit p.1, credit-append xs p.0)
+
+pub prefix-refl : {A : Type 0} (xs : List A) → IsPrefix xs xs
+prefix-refl xs = ([], append-nil xs)
+
+pub prefix-trans : {A : Type 0} (xs ys zs : List A) → IsPrefix xs ys → IsPrefix ys zs → IsPrefix xs zs
+prefix-trans xs ys zs p q = (p.0 ++ q.0, sym (append_assoc xs p.0 q.0) ∙ ap (λ l. l ++ q.0) p.1 ∙ q.1)
+
+-- what begins a part that comes first begins the whole
+pub prefix-more : {A : Type 0} (xs ys zs : List A) → IsPrefix xs ys → IsPrefix xs (ys ++ zs)
+prefix-more xs ys zs p = (p.0 ++ zs, sym (append_assoc xs p.0 zs) ∙ ap (λ l. l ++ zs) p.1)
+
+-- after the same part, what begins the rest begins the whole
+pub prefix-after : {A : Type 0} (xs ys zs : List A) → IsPrefix ys zs → IsPrefix (xs ++ ys) (xs ++ zs)
+prefix-after xs ys zs p = (p.0, append_assoc xs ys p.0 ∙ ap (λ l. xs ++ l) p.1)
+
+-- one more message of these was put after those so far
+pub messages_next : (all before : List Msg) (xs : List Flat) (i : ℕ) (d : Flat) (m : Msg) → i < length xs → all ≡ before ++ messages_of (take i xs) → m ≡ message_of (get_or xs i d) → all ++ m ∷ [] ≡ before ++ messages_of (take (i + 1) xs)
+messages_next all before xs i d m low is m_is =
+    ap (λ l. l ++ m ∷ []) is ∙ append_assoc before (messages_of (take i xs)) (m ∷ []) ∙ ap (λ x. before ++ (messages_of (take i xs) ++ x ∷ [])) m_is
+    ∙ ap (λ l. before ++ l) (sym (ap (λ k. messages_of (take k xs)) (add-one i) ∙ ap messages_of (take-suc xs i d low) ∙ map-append message_of (take i xs) (get_or xs i d ∷ [])))
+
+-- what is held with a block that came, where more may be certain since
+pub filled : {A : Type 0} (c d ms h i j : List A) → IsPrefix h i → IsPrefix i (ms ++ j) → d ≡ c ++ ms → IsPrefix (c ++ h) (d ++ j)
+filled c d ms h i j p q is =
+    let all = prefix-after c h (ms ++ j) (prefix-trans h i (ms ++ j) p q) in
+    (all.0, all.1 ∙ sym (append_assoc c ms j) ∙ ap (λ l. l ++ j) (sym is))

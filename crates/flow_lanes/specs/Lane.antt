@@ -1,0 +1,61 @@
+-- What a contract sees of the two ends of a lane.
+use Rattle.std.specs.Prelude.{◌≡◌, ℕ, List, Option, min}
+use Rattle.flow_messages.specs.declared.message.Kind.{Kind}
+use Rattle.flow_messages.specs.declared.message.Msg.{Msg}
+use Rattle.flow_rings.specs.Edge as ring
+use Rattle.flow_lanes.specs.declared.ends.LaneWriter.{LaneWriter}
+use Rattle.flow_lanes.specs.declared.ends.LaneWriter.TheVariants.{Messages as MessagesTo, Scalars as ScalarsTo}
+use Rattle.flow_lanes.specs.declared.ends.LaneReader.{LaneReader}
+use Rattle.flow_lanes.specs.declared.ends.LaneReader.TheVariants.{Messages as MessagesFrom, Scalars as ScalarsFrom}
+use Rattle.flow_lanes.specs.Taken.{taken_from, held_in}
+
+-- every message put so far, the oldest first
+abbrev pub sent : LaneWriter → List Msg
+sent (MessagesTo w) = ring.sent w
+sent (ScalarsTo w) = ring.sent w.edge
+
+-- how many puts are certain of room
+abbrev pub certain_room : LaneWriter → ℕ
+certain_room (MessagesTo w) = ring.certain_room w
+certain_room (ScalarsTo w) = min w.room (ring.certain_room w.edge)
+
+-- how many messages the lane holds at most
+abbrev pub edge_capacity : LaneWriter → ℕ
+edge_capacity (MessagesTo w) = ring.edge_capacity w
+edge_capacity (ScalarsTo w) = ring.edge_capacity w.edge
+
+-- the kind of the items that this writer may put, or none where each may be put
+abbrev pub kind_of : LaneWriter → Option Kind
+kind_of (MessagesTo w) = ring.kind_of w
+kind_of (ScalarsTo w) = ring.kind_of w.edge
+
+-- every message taken so far, the oldest first
+abbrev pub received : LaneReader → List Msg
+received (MessagesFrom r) = ring.received r
+received (ScalarsFrom p) = taken_from p
+
+-- what the next takes are certain to give, the oldest first
+abbrev pub certain_held : LaneReader → List Msg
+certain_held (MessagesFrom r) = ring.certain_held r
+certain_held (ScalarsFrom p) = held_in p
+
+-- the two are the ends of one lane
+abbrev pub IsLane : LaneWriter → LaneReader → Type 0
+IsLane (MessagesTo w) (MessagesFrom r) = ring.IsEdge w r
+IsLane (MessagesTo w) (ScalarsFrom p) = ⊥
+IsLane (ScalarsTo w) (MessagesFrom r) = ⊥
+IsLane (ScalarsTo w) (ScalarsFrom p) = ring.IsEdge w.edge p.edge × ring.IsEdge p.back w.back
+
+-- the writer of one lane, before and after
+abbrev pub SameWriter : LaneWriter → LaneWriter → Type 0
+SameWriter (MessagesTo a) (MessagesTo b) = ring.SameWriter a b
+SameWriter (MessagesTo a) (ScalarsTo b) = ⊥
+SameWriter (ScalarsTo a) (MessagesTo b) = ⊥
+SameWriter (ScalarsTo a) (ScalarsTo b) = ring.SameWriter a.edge b.edge × ring.SameReader a.back b.back
+
+-- the reader of one lane, before and after
+abbrev pub SameReader : LaneReader → LaneReader → Type 0
+SameReader (MessagesFrom a) (MessagesFrom b) = ring.SameReader a b
+SameReader (MessagesFrom a) (ScalarsFrom q) = ⊥
+SameReader (ScalarsFrom p) (MessagesFrom b) = ⊥
+SameReader (ScalarsFrom p) (ScalarsFrom q) = ring.SameReader p.edge q.edge × ring.SameWriter p.back q.back

@@ -1,0 +1,3 @@
+pub mod Credits
+pub mod Taken
+pub mod Lane

@@ -1,0 +1,104 @@
+// What is called at the end that puts scalars.
+ghost use Rattle.std.specs.Prelude.{◌≡◌, ◌+◌, ◌<◌, ◌≤◌, ◌↔◌, true, false, [], ◌∷◌, ◌++◌, length, min, IsOk, OnOk, IfErr, IsErrAnd};
+ghost use Rattle.flow_messages.specs.Signals.{signals, signal_of, ended};
+ghost use Rattle.flow_messages.specs.Kinds.{FitsEdge};
+ghost use Rattle.flow_messages.specs.declared.ends.Why.TheVariants.{Full, Closed};
+ghost use Rattle.flow_rings.specs.Edge.{sent, received, certain_room, kind_of, SameWriter, SameReader};
+ghost use Rattle.flow_lanes.specs.Credits.{credit, number_in};
+
+use crate::counted::CountedWriter;
+use flow_messages::{Item, Msg, Refused, Why};
+use flow_rings::EdgeReader;
+
+// So many numbers of the reader are read in one look at most.
+const NUMBERS: usize = 8;
+
+// The number that a message says, or less.
+#[inline(always)]
+fn number_of(message: &Msg) -> usize
+    ensures { result ≤ number_in message.now }
+{
+    match message {
+        Msg::Item(Item::Int(number)) => usize::try_from(*number).unwrap_or(0),
+        _ => 0,
+    }
+}
+
+// How many messages the reader has told to be taken, or fewer, since the last look.
+fn told(back: &mut EdgeReader) -> usize
+    ensures same { SameReader back.old back.new }
+    ensures count { result + credit (received back.old) ≤ credit (received back.new) }
+{
+    let mut count: usize = 0;
+    for _ in 0..NUMBERS {
+        match back.take() {
+            Some(message) => count = count.saturating_add(number_of(&message)),
+            None => return count,
+        }
+    }
+    count
+}
+
+impl CountedWriter {
+    // Reads what the reader has told.
+    #[inline(always)]
+    fn look_back(&mut self)
+        ensures edge { self.new.edge ≡ self.old.edge }
+        ensures back { SameReader self.old.back self.new.back }
+        ensures room { self.old.room ≤ self.new.room }
+    {
+        self.room = self.room.saturating_add(told(&mut self.back));
+    }
+
+    // Puts a message after all others, or gives it back.
+    #[inline(always)]
+    pub(crate) fn put(&mut self, message: Msg) -> Result<(), Refused>
+        requires fits { FitsEdge (kind_of self.old.edge) (signal_of message) }
+        ensures edge { SameWriter self.old.edge self.new.edge }
+        ensures back { SameReader self.old.back self.new.back }
+        ensures ok { OnOk result ((sent self.new.edge ≡ sent self.old.edge ++ message ∷ []) ×
+            (min self.old.room (certain_room self.old.edge) ≤
+            min self.new.room (certain_room self.new.edge) + 1)) }
+        ensures refused { IfErr result (λ e. (e.message ≡ message) ×
+            (sent self.new.edge ≡ sent self.old.edge) ×
+            (min self.old.room (certain_room self.old.edge) ≤
+            min self.new.room (certain_room self.new.edge))) }
+        ensures closed { IsErrAnd result (λ e. e.why ≡ Closed) ↔
+            (ended (signals (sent self.old.edge)) ≡ true) }
+        ensures full { IsErrAnd result (λ e. e.why ≡ Full) →
+            min self.new.room (certain_room self.new.edge) ≡ 0 }
+        ensures succeeds { ended (signals (sent self.old.edge)) ≡ false →
+            0 < min self.old.room (certain_room self.old.edge) → IsOk result }
+    {
+        if self.room == 0 {
+            self.look_back();
+        }
+        if self.room == 0 {
+            let why = if self.edge.is_closed() {
+                Why::Closed
+            } else {
+                Why::Full
+            };
+            return Err(Refused { message, why });
+        }
+        self.edge.put(message)?;
+        self.room -= 1;
+        Ok(())
+    }
+
+    // How many messages more are certain of room.
+    #[inline(always)]
+    pub(crate) fn space(&mut self) -> usize
+        ensures edge { SameWriter self.old.edge self.new.edge }
+        ensures back { SameReader self.old.back self.new.back }
+        ensures sent { sent self.new.edge ≡ sent self.old.edge }
+        ensures room { (self.old.room ≤ self.new.room) ×
+            (certain_room self.old.edge ≤ certain_room self.new.edge) }
+        ensures value { result ≡ min self.new.room (certain_room self.new.edge) }
+    {
+        if self.room <= self.capacity / 2 {
+            self.look_back();
+        }
+        self.room.min(self.edge.space())
+    }
+}

@@ -1,0 +1,22 @@
+//! Lanes: edges between threads whose messages go many at once.
+//!
+//! A lane of messages is an edge of flow_rings. A lane of scalars of one kind is two: over the first go the messages, and the
+//! reader takes as many as it finds into a pocket, with one look. Over the second it tells the writer how many it took out
+//! of the pocket. So the writer never puts more than the lane may hold, the pocket counted.
+#![tactic(auto)]
+
+mod counted;
+mod counting;
+mod ends;
+mod making;
+mod meeting;
+mod pocket;
+mod reader;
+mod taking;
+mod writer;
+
+pub use counted::CountedWriter;
+pub use ends::{LaneReader, LaneWriter};
+pub use making::lane;
+pub use meeting::meet_lane;
+pub use pocket::Pocket;

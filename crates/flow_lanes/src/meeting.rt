@@ -1,0 +1,110 @@
+// Both ends of a lane at once.
+ghost use Rattle.std.specs.Prelude.{◌≡◌, ◌+◌, ◌-◌, ◌^◌, ◌<◌, ◌≤◌, ℕ, ◌++◌, Some, length, take};
+ghost use Rattle.flow_messages.specs.declared.message.Kind.TheVariants.{Int as IntKind};
+ghost use mathlib.Core.List.{IsPrefix};
+ghost use Rattle.flow_rings.specs.Edge as ring;
+ghost use Rattle.flow_lanes.specs.Credits.{credit, Owes};
+ghost use Rattle.flow_lanes.specs.Taken.{taken_from, held_in};
+ghost use Rattle.flow_lanes.specs.Lane.{sent, received, certain_room, certain_held, edge_capacity, IsLane, SameWriter, SameReader};
+
+use crate::counted::CountedWriter;
+use crate::ends::{LaneReader, LaneWriter};
+use crate::pocket::Pocket;
+use crate::taking::tell;
+use flow_rings::{EdgeReader, EdgeWriter, Held, meet};
+
+/// Has both ends of a lane see each other: how many messages the lane holds, and how many more it has
+/// room for. What was taken and what the lane holds are what was put.
+pub fn meet_lane(writer: &mut LaneWriter, reader: &mut LaneReader) -> Held
+    requires { IsLane writer.old reader.old }
+    ensures writer { SameWriter writer.old writer.new × (sent writer.new ≡ sent writer.old) }
+    ensures reader { SameReader reader.old reader.new ×
+        (received reader.new ≡ received reader.old) }
+    ensures looked { (certain_room writer.old ≤ certain_room writer.new) ×
+        IsPrefix (certain_held reader.old) (certain_held reader.new) }
+    ensures pair { IsLane writer.new reader.new }
+    ensures fifo { received reader.new ++ certain_held reader.new ≡ sent writer.new }
+    ensures count { result.count ≡ length (certain_held reader.new) }
+    ensures room { result.room ≤ certain_room writer.new }
+    ensures whole { result.count + result.room ≡ edge_capacity writer.new }
+{
+    match (writer, reader) {
+        (LaneWriter::Messages(writer), LaneReader::Messages(reader)) => meet(writer, reader),
+        (LaneWriter::Scalars(writer), LaneReader::Scalars(reader)) => meet_pocket(writer, reader),
+        _ => unreachable!(),
+    }
+}
+
+// The two ends of a lane of scalars see each other.
+fn meet_pocket(writer: &mut CountedWriter, reader: &mut Pocket) -> Held
+    requires edge { ring.IsEdge writer.old.edge reader.old.edge }
+    requires back { ring.IsEdge reader.old.back writer.old.back }
+    ensures edge { ring.SameWriter writer.old.edge writer.new.edge ×
+        ring.SameReader reader.old.edge reader.new.edge }
+    ensures back { ring.SameReader writer.old.back writer.new.back ×
+        ring.SameWriter reader.old.back reader.new.back }
+    ensures sent { ring.sent writer.new.edge ≡ ring.sent writer.old.edge }
+    ensures received { taken_from reader.new ≡ taken_from reader.old }
+    ensures room { (writer.old.room ≤ writer.new.room) ×
+        (ring.certain_room writer.old.edge ≤ ring.certain_room writer.new.edge) }
+    ensures held { IsPrefix (held_in reader.old) (held_in reader.new) }
+    ensures fifo { taken_from reader.new ++ held_in reader.new ≡ ring.sent writer.new.edge }
+    ensures count { result.count ≡ length (held_in reader.new) }
+    ensures free { (result.room ≡ writer.new.room) ×
+        (result.room ≤ ring.certain_room writer.new.edge) }
+    ensures whole { result.count + result.room ≡ ring.edge_capacity writer.new.edge }
+{
+    let found = meet(&mut writer.edge, &mut reader.edge);
+    reader.owed = settle(&mut reader.back, &mut writer.back, reader.owed);
+    let count = reader.inbox.store.len() + found.count;
+    writer.room = writer.capacity - count;
+    Held {
+        count,
+        room: writer.room,
+    }
+}
+
+// The writer reads all that it is told of what was taken. How many are still untold.
+fn settle(teller: &mut EdgeWriter, back: &mut EdgeReader, owed: u64) -> u64
+    requires kind { ring.kind_of teller.old ≡ Some IntKind }
+    requires joined { ring.IsEdge teller.old back.old }
+    ensures teller { ring.SameWriter teller.old teller.new }
+    ensures back { ring.SameReader back.old back.new }
+    ensures begins { IsPrefix (ring.received back.old) (ring.received back.new) }
+    ensures owes { (taken : ℕ) → Owes taken owed teller.old → Owes taken result teller.new }
+    ensures told { (taken : ℕ) → Owes taken owed teller.old →
+        taken < credit (ring.received back.old) + (2 ^ 64 - 1) →
+        credit (ring.received back.new) ≡ taken }
+{
+    hear(teller, back);
+    let owed = tell(teller, owed);
+    hear(teller, back);
+    owed
+}
+
+// The writer reads all that it was told, and so there is room to tell it more.
+fn hear(teller: &mut EdgeWriter, back: &mut EdgeReader)
+    requires { ring.IsEdge teller.old back.old }
+    ensures teller { ring.SameWriter teller.old teller.new }
+    ensures back { ring.SameReader back.old back.new }
+    ensures sent { ring.sent teller.new ≡ ring.sent teller.old }
+    ensures heard { ring.received back.new ≡ ring.sent teller.new }
+    ensures begins { IsPrefix (ring.received back.old) (ring.received back.new) }
+    ensures room { ring.edge_capacity teller.new ≤ ring.certain_room teller.new }
+{
+    let found = meet(teller, back);
+    drain(back, found.count);
+    meet(teller, back);
+}
+
+// Takes so many messages that are certain.
+fn drain(back: &mut EdgeReader, count: usize)
+    requires { count ≤ length (ring.certain_held back.old) }
+    ensures same { ring.SameReader back.old back.new }
+    ensures taken { ring.received back.new ≡
+        ring.received back.old ++ take count (ring.certain_held back.old) }
+{
+    for _ in 0..count {
+        let _ = back.take();
+    }
+}

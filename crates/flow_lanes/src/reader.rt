@@ -1,0 +1,99 @@
+// The end that takes messages.
+ghost use Rattle.std.specs.Prelude.{◌≡◌, ◌<◌, ◌≤◌, ◌↔◌, [], ◌∷◌, ◌++◌, length, take, IsTrue, IsSome, IfSome, IfNone};
+ghost use Rattle.std.specs.Io.Iter.{u64_saturate};
+ghost use mathlib.Core.List.{IsPrefix};
+ghost use Rattle.flow_messages.specs.Contents.{unit_messages, flag_messages, int_messages};
+ghost use Rattle.flow_lanes.specs.Lane.{received, certain_held, SameReader};
+
+use crate::ends::LaneReader;
+use flow_messages::Msg;
+
+impl LaneReader {
+    /// Whether the lane is certain to hold a message. Only the writer adds more.
+    #[inline(always)]
+    pub fn ready(&mut self) -> bool
+        ensures same { SameReader self.old self.new }
+        ensures looked { (received self.new ≡ received self.old) ×
+            IsPrefix (certain_held self.old) (certain_held self.new) }
+        ensures value { IsTrue result ↔ (0 < length (certain_held self.new)) }
+    {
+        match self {
+            LaneReader::Messages(edge) => edge.ready(),
+            LaneReader::Scalars(pocket) => {
+                pocket.fill();
+                pocket.inbox.store.len() > 0
+            }
+        }
+    }
+
+    /// Takes the oldest message that was not taken, or none where none is certain to be there.
+    #[inline(always)]
+    pub fn take(&mut self) -> Option<Msg>
+        ensures same { SameReader self.old self.new }
+        ensures some { IfSome result (λ m. (received self.new ≡ received self.old ++ m ∷ []) ×
+            IsPrefix (certain_held self.old) (m ∷ certain_held self.new)) }
+        ensures none { IfNone result ((received self.new ≡ received self.old) ×
+            (certain_held self.old ≡ []) × (certain_held self.new ≡ [])) }
+        ensures succeeds { 0 < length (certain_held self.old) → IsSome result }
+    {
+        match self {
+            LaneReader::Messages(edge) => edge.take(),
+            LaneReader::Scalars(pocket) => pocket.take(),
+        }
+    }
+
+    /// How many of the messages that are certain can be taken in one call.
+    #[inline(always)]
+    pub fn held_here(&self) -> usize
+        ensures { result ≤ length (certain_held self.now) }
+    {
+        match self {
+            LaneReader::Messages(_) => 0,
+            LaneReader::Scalars(pocket) => pocket.inbox.store.len(),
+        }
+    }
+
+    /// The oldest message that was not taken, where the lane was seen to hold one and can show it. It stays.
+    #[inline(always)]
+    pub fn front(&self) -> Option<&Msg>
+        ensures { IfSome result (λ m. IsPrefix (m.now ∷ []) (certain_held self.now)) }
+    {
+        match self {
+            LaneReader::Messages(edge) => edge.front(),
+            LaneReader::Scalars(pocket) => pocket.inbox.store.front(),
+        }
+    }
+
+    /// How many units the next takes are certain to give, or fewer.
+    #[inline(always)]
+    pub fn units(&self) -> usize
+        ensures { IsPrefix (unit_messages result) (certain_held self.now) }
+    {
+        match self {
+            LaneReader::Messages(_) => 0,
+            LaneReader::Scalars(pocket) => pocket.inbox.store.units(),
+        }
+    }
+
+    /// The truth values that the next takes are certain to give, or the first of them.
+    #[inline(always)]
+    pub fn flags(&self) -> &[bool]
+        ensures { IsPrefix (flag_messages result.now) (certain_held self.now) }
+    {
+        match self {
+            LaneReader::Messages(_) => &[],
+            LaneReader::Scalars(pocket) => pocket.inbox.store.flags(),
+        }
+    }
+
+    /// The integers of 64 bits that the next takes are certain to give, or the first of them.
+    #[inline(always)]
+    pub fn ints(&self) -> &[i64]
+        ensures { IsPrefix (int_messages result.now) (certain_held self.now) }
+    {
+        match self {
+            LaneReader::Messages(_) => &[],
+            LaneReader::Scalars(pocket) => pocket.inbox.store.ints(),
+        }
+    }
+}

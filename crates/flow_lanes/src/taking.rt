@@ -1,0 +1,146 @@
+// What is called at the end that takes scalars.
+ghost use Rattle.std.specs.Prelude.{◌≡◌, ◌+◌, ◌-◌, ◌^◌, ◌<◌, ◌≤◌, ◌↔◌, ℕ, pos, [], ◌∷◌, ◌++◌, Some, length, take, drop, IsTrue, IsSome, IfSome, IfNone};
+ghost use mathlib.Core.List.{IsPrefix};
+ghost use Rattle.flow_messages.specs.declared.message.Kind.TheVariants.{Int as IntKind};
+ghost use Rattle.flow_messages.specs.declared.message.Msg.TheVariants.{Item as ItemMsg};
+ghost use Rattle.flow_messages.specs.declared.message.Item.TheVariants.{Int as IntItem};
+ghost use Rattle.flow_messages.specs.Stores.{content_of};
+ghost use Rattle.flow_boxes.specs.Received.{received_of};
+ghost use Rattle.flow_rings.specs.Edge.{certain_room, kind_of, SameReader, SameWriter};
+ghost use Rattle.flow_rings.specs.Flats.{messages_of};
+ghost use Rattle.flow_lanes.specs.Credits.{Owes};
+ghost use Rattle.flow_lanes.specs.Taken.{taken_from, held_in};
+
+use crate::pocket::Pocket;
+use flow_boxes::Inbox;
+use flow_history::History;
+use flow_messages::{Item, Msg};
+use flow_rings::{Block, EdgeWriter};
+
+// After so many messages the writer is told at once.
+const MANY: u64 = 64;
+
+// The message that says a number.
+#[inline(always)]
+fn saying(number: u64) -> Msg
+    ensures { result ≡ ItemMsg (IntItem (pos number)) }
+{
+    Msg::Item(Item::Int(i128::from(number)))
+}
+
+// Tells the writer how many messages were taken, where there is room for that. How many are still untold.
+#[inline(always)]
+pub(crate) fn tell(back: &mut EdgeWriter, owed: u64) -> u64
+    requires { kind_of back.old ≡ Some IntKind }
+    ensures same { SameWriter back.old back.new }
+    ensures owes { (taken : ℕ) → Owes taken owed back.old → Owes taken result back.new }
+    ensures told { (taken : ℕ) → Owes taken owed back.old → 0 < certain_room back.old →
+        owed < 2 ^ 64 - 1 → result ≡ 0 }
+{
+    if owed == 0 || owed == u64::MAX {
+        return owed;
+    }
+    if back.put(saying(owed)).is_ok() {
+        return 0;
+    }
+    owed
+}
+
+// Messages of a block are held after those that are held already.
+#[inline(always)]
+fn keep(inbox: &mut Inbox, block: &Block)
+    requires { length (content_of inbox.old.store) + length block.now.items ≤
+        inbox.old.store.capacity }
+    ensures arrived { inbox.new.arrived.items ≡
+        inbox.old.arrived.items ++ messages_of block.now.items }
+    ensures held { content_of inbox.new.store ≡
+        content_of inbox.old.store ++ messages_of block.now.items }
+    ensures received { received_of inbox.new ≡ received_of inbox.old }
+    ensures capacity { inbox.new.store.capacity ≡ inbox.old.store.capacity }
+{
+    for flat in block.as_slice() {
+        inbox.push(flat.message());
+    }
+}
+
+impl Pocket {
+    // Messages that came are held, as many as a block has places for.
+    pub(crate) fn fill(&mut self)
+        ensures edge { SameReader self.old.edge self.new.edge }
+        ensures back { self.new.back ≡ self.old.back }
+        ensures taken { taken_from self.new ≡ taken_from self.old }
+        ensures more { IsPrefix (held_in self.old) (held_in self.new) }
+        ensures some { 0 < length (held_in self.new) →
+            0 < length (content_of self.new.inbox.store) }
+    {
+        if !self.edge.ready() {
+            return;
+        }
+        let mut block = Block::new();
+        let places = self.inbox.store.capacity - self.inbox.store.len();
+        self.edge.take_block(&mut block, places);
+        keep(&mut self.inbox, &block);
+        self.came = History::new().followed_by(&self.inbox.arrived);
+    }
+
+    // Messages that came are held, where none is.
+    #[inline(always)]
+    fn fill_if_empty(&mut self)
+        ensures edge { SameReader self.old.edge self.new.edge }
+        ensures back { self.new.back ≡ self.old.back }
+        ensures taken { taken_from self.new ≡ taken_from self.old }
+        ensures more { IsPrefix (held_in self.old) (held_in self.new) }
+        ensures some { 0 < length (held_in self.new) →
+            0 < length (content_of self.new.inbox.store) }
+    {
+        if self.inbox.store.len() == 0 {
+            self.fill();
+        }
+    }
+
+    // Tells the writer how many were taken, once they are many or no more are held.
+    #[inline(always)]
+    fn tell_if_many(&mut self)
+        ensures edge { self.new.edge ≡ self.old.edge }
+        ensures inbox { self.new.inbox ≡ self.old.inbox }
+        ensures back { SameWriter self.old.back self.new.back }
+    {
+        if self.owed >= MANY || self.inbox.store.len() == 0 {
+            self.owed = tell(&mut self.back, self.owed);
+        }
+    }
+
+    // Takes the oldest message, if there is one.
+    #[inline(always)]
+    pub(crate) fn take(&mut self) -> Option<Msg>
+        ensures edge { SameReader self.old.edge self.new.edge }
+        ensures back { SameWriter self.old.back self.new.back }
+        ensures some { IfSome result (λ m. (taken_from self.new ≡ taken_from self.old ++ m ∷ []) ×
+            IsPrefix (held_in self.old) (m ∷ held_in self.new)) }
+        ensures none { IfNone result ((taken_from self.new ≡ taken_from self.old) ×
+            (held_in self.old ≡ []) × (held_in self.new ≡ [])) }
+        ensures succeeds { 0 < length (held_in self.old) → IsSome result }
+    {
+        self.fill_if_empty();
+        let message = self.inbox.take()?;
+        self.owed = self.owed.saturating_add(1);
+        self.tell_if_many();
+        Some(message)
+    }
+
+    // Takes so many of the messages that are held, and drops them.
+    #[inline(always)]
+    pub(crate) fn skip(&mut self, count: usize)
+        requires { count ≤ length (content_of self.old.inbox.store) }
+        ensures edge { self.new.edge ≡ self.old.edge }
+        ensures back { SameWriter self.old.back self.new.back }
+        ensures taken { taken_from self.new ≡
+            taken_from self.old ++ take count (content_of self.old.inbox.store) }
+        ensures rest { content_of self.new.inbox.store ≡
+            drop count (content_of self.old.inbox.store) }
+    {
+        self.inbox.skip(count);
+        self.owed = self.owed.saturating_add(count as u64);
+        self.tell_if_many();
+    }
+}

@@ -1,0 +1,72 @@
+// The end that puts messages.
+ghost use Rattle.std.specs.Prelude.{◌≡◌, ◌+◌, ◌<◌, ◌≤◌, ◌↔◌, true, false, [], ◌∷◌, ◌++◌, length, IsTrue, IsOk, OnOk, IfErr, IsErrAnd};
+ghost use Rattle.std.specs.Io.Iter.{u64_saturate};
+ghost use Rattle.flow_messages.specs.Signals.{signals, signal_of, ended};
+ghost use Rattle.flow_messages.specs.Kinds.{FitsEdge};
+ghost use Rattle.flow_messages.specs.declared.ends.Why.TheVariants.{Full, Closed};
+ghost use Rattle.flow_lanes.specs.Lane.{sent, certain_room, kind_of, SameWriter};
+
+use crate::ends::LaneWriter;
+use flow_messages::{Msg, Refused};
+
+impl LaneWriter {
+    /// Puts a message after all others.
+    ///
+    /// It is refused as `Closed` exactly where `End` was put on the lane before, and as `Full` only
+    /// where no room is certain. Then nothing was put, and the message comes back. On a lane of
+    /// scalars an item has to be of its kind.
+    #[inline(always)]
+    pub fn put(&mut self, message: Msg) -> Result<(), Refused>
+        requires fits { FitsEdge (kind_of self.old) (signal_of message) }
+        ensures same { SameWriter self.old self.new }
+        ensures ok { OnOk result ((sent self.new ≡ sent self.old ++ message ∷ []) ×
+            (certain_room self.old ≤ certain_room self.new + 1)) }
+        ensures refused { IfErr result (λ e. (e.message ≡ message) ×
+            (sent self.new ≡ sent self.old) × (certain_room self.old ≤ certain_room self.new)) }
+        ensures closed { IsErrAnd result (λ e. e.why ≡ Closed) ↔
+            (ended (signals (sent self.old)) ≡ true) }
+        ensures full { IsErrAnd result (λ e. e.why ≡ Full) → certain_room self.new ≡ 0 }
+        ensures succeeds { ended (signals (sent self.old)) ≡ false → 0 < certain_room self.old →
+            IsOk result }
+    {
+        match self {
+            LaneWriter::Messages(edge) => edge.put(message),
+            LaneWriter::Scalars(writer) => writer.put(message),
+        }
+    }
+
+    /// How many messages more the lane is certain to have room for. Only the reader makes more.
+    #[inline(always)]
+    pub fn space(&mut self) -> usize
+        ensures same { SameWriter self.old self.new }
+        ensures looked { (sent self.new ≡ sent self.old) ×
+            (certain_room self.old ≤ certain_room self.new) }
+        ensures value { result ≡ certain_room self.new }
+    {
+        match self {
+            LaneWriter::Messages(edge) => edge.space(),
+            LaneWriter::Scalars(writer) => writer.space(),
+        }
+    }
+
+    /// Whether the lane is certain to have room for one more message. Only the reader makes more.
+    #[inline(always)]
+    pub fn room(&mut self) -> bool
+        ensures same { SameWriter self.old self.new }
+        ensures looked { (sent self.new ≡ sent self.old) ×
+            (certain_room self.old ≤ certain_room self.new) }
+        ensures value { IsTrue result ↔ (0 < certain_room self.new) }
+    {
+        self.space() > 0
+    }
+
+    /// How many messages were put. The count stays at `u64::MAX`.
+    pub fn sent_count(&self) -> u64
+        ensures { result ≡ u64_saturate (length (sent self.now)) }
+    {
+        match self {
+            LaneWriter::Messages(edge) => edge.sent_count(),
+            LaneWriter::Scalars(writer) => writer.edge.sent_count(),
+        }
+    }
+}
