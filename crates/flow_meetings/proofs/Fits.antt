@@ -2,20 +2,22 @@
 use Rattle.std.proofs.Common.{◌≡◌, ℕ, ◌<◌, ◌≤◌, true, List, [], ◌∷◌, length, map, get_or, ◌⊎◌, inl, inr, refl, sym, ◌∙◌, ap, subst, arith}
 use Rattle.std.proofs.lemmas.Bool.{cases_lt}
 use Rattle.std.proofs.lemmas.List.{get_or-map, get_or_default, get_or_past, length-map}
+use Rattle.flow_messages.specs.declared.message.Kind.{Kind}
+use Rattle.flow_messages.specs.declared.message.Kind.TheVariants.{Unit as UnitKind}
 use Rattle.flow_messages.specs.Kinds.{TakesKind}
 use Rattle.flow_messages.specs.Ends.{View}
 use Rattle.flow_base.specs.declared.transducer.Transducer.{Ghosts}
 use Rattle.flow_graph.specs.declared.edge.Edge.{Edge}
 use Rattle.flow_graph.specs.declared.placed.Placed.{Placed}
 use Rattle.flow_graph.specs.Edges.{edge_at, in_edge, out_edge}
-use Rattle.flow_graph.specs.Networks.{AreOpened, inputs_at, outputs_at}
+use Rattle.flow_graph.specs.Networks.{AreOpened, state_at, inputs_at, outputs_at}
 use Rattle.flow_graph.specs.Places.{placed_state, states_in}
 use Rattle.flow_graph.specs.Skeletons.{FitTogether}
 use Rattle.flow_graph.proofs.Seats.{state_here, inputs_here, outputs_here, input_here, output_here}
 use Rattle.flow_meetings.specs.declared.owners.EdgeOwners.{EdgeOwners}
 use Rattle.flow_shares.specs.Deals.{share_of, node_at, AreJustDealt}
 use Rattle.flow_shares.specs.Shares.{row_of, StandOnce, HasItsEnds, HasHistory}
-use Rattle.flow_meetings.specs.Open.{AreOwners, HasFreshEnds}
+use Rattle.flow_meetings.specs.Open.{edge_kinds, kind_at, AreOwners, HasFreshEnds}
 use Rattle.flow_meetings.specs.Deals.{MakeAShare}
 use Rattle.flow_meetings.proofs.More.{writes_there, reads_there}
 
@@ -43,7 +45,10 @@ rows_apart {A} row of port name (x ∷ xs) at one k j p q l m same =
         go (inr past) = absurd (omega (arith, inside, ap length (get_or_past (map row (x ∷ xs)) i [] (omega (arith, past, length-map (x ∷ xs) row)))))
 
 module _ {X : Type 0} {t : Ghosts X} (share : List ℕ) (edges : List Edge) (nodes : List (Placed X t)) (fit : FitTogether nodes edges) (opened : AreOpened t.behaviour (states_in nodes)) (owners : List EdgeOwners) (are : AreOwners share edges owners)
-    (dealt : List (List (Placed X t))) (just : AreJustDealt share nodes dealt) (capacity s : ℕ) (there : s < length dealt) (v : View) (fresh : HasFreshEnds owners capacity s v) where
+    (dealt : List (List (Placed X t))) (just : AreJustDealt share nodes dealt) (capacity s : ℕ) (there : s < length dealt) (v : View) (fresh : HasFreshEnds owners (edge_kinds t.behaviour (states_in nodes) edges) capacity s v) where
+  abbrev kinds : List Kind
+  kinds = edge_kinds t.behaviour (states_in nodes) edges
+
   abbrev mine : List (Placed X t)
   mine = get_or dealt s []
 
@@ -89,7 +94,7 @@ module _ {X : Type 0} {t : Ghosts X} (share : List ℕ) (edges : List Edge) (nod
       reads_here =
           let e = get_or x.inputs.items p 0 in
           let none : EdgeOwners = record { writer = 0; reader = 0 } in
-          reads_there owners capacity s e none v fresh (omega (arith, input_at.0, are.count)) (are.readers e none input_at.0 ∙ ap (share_of share) input_at.1 ∙ in_share)
+          reads_there owners kinds capacity s e none v fresh (omega (arith, input_at.0, are.count)) (are.readers e none input_at.0 ∙ ap (share_of share) input_at.1 ∙ in_share)
 
     module _ (q : ℕ) (within : q < length x.outputs.items) where
       out_port : q < outputs_at t.behaviour (states_in nodes) k
@@ -106,13 +111,25 @@ module _ {X : Type 0} {t : Ghosts X} (share : List ℕ) (edges : List Edge) (nod
       writes_here =
           let e = get_or x.outputs.items q 0 in
           let none : EdgeOwners = record { writer = 0; reader = 0 } in
-          writes_there owners capacity s e none v fresh (omega (arith, output_at.0, are.count)) (are.writers e none output_at.0 ∙ ap (share_of share) output_at.1 ∙ in_share)
+          writes_there owners kinds capacity s e none v fresh (omega (arith, output_at.0, are.count)) (are.writers e none output_at.0 ∙ ap (share_of share) output_at.1 ∙ in_share)
+
+      -- which takes all items of the port's kind
+      kind_is : kind_at kinds (get_or x.outputs.items q 0) ≡ t.behaviour.kind_out (t.behaviour.opening (placed_state x)) q
+      kind_is =
+          let e = get_or x.outputs.items q 0 in
+          get_or-map (λ (edge : Edge). t.behaviour.kind_out (state_at t.behaviour (states_in nodes) edge.writer) edge.writer_port) edges e (record { writer = 0; writer_port = 0; reader = 0; reader_port = 0 }) UnitKind output_at.0
+          ∙ ap (λ j. t.behaviour.kind_out (state_at t.behaviour (states_in nodes) j) (edge_at edges e).writer_port) output_at.1
+          ∙ ap (t.behaviour.kind_out (state_at t.behaviour (states_in nodes) k)) output_at.2
+          ∙ ap (λ state. t.behaviour.kind_out state q) (sym (state_here nodes k x low is) ∙ sym is_opened)
+
+      takes_here : TakesKind (v.kind (get_or x.outputs.items q 0)) (t.behaviour.kind_out (t.behaviour.opening (placed_state x)) q)
+      takes_here = subst (TakesKind (v.kind (get_or x.outputs.items q 0))) kind_is (fresh.kind (get_or x.outputs.items q 0) writes_here)
 
     has_ends : HasItsEnds v x
     has_ends = record {
       reads = λ p e l. ap v.reads (get_or_default x.inputs.items p e 0 l) ∙ reads_here p l;
       writes = λ q e l. ap v.writes (get_or_default x.outputs.items q e 0 l) ∙ writes_here q l;
-      kinds = λ q l. subst (λ of. TakesKind of (t.behaviour.kind_out (t.behaviour.opening (placed_state x)) q)) (sym (fresh.kind (get_or x.outputs.items q 0) (writes_here q l))) (λ s is. refl);
+      kinds = takes_here;
     }
 
     has_history : HasHistory v x

@@ -1,17 +1,18 @@
 -- One edge more is opened.
-use Rattle.std.proofs.Common.{◌≡◌, ◌≢◌, ◌==◌, ℕ, zero, suc, ◌+◌, ◌<◌, Bool, true, false, cond, List, [], ◌∷◌, ◌++◌, length, get_or, refl, sym, ap, ◌∙◌, arith}
+use Rattle.std.proofs.Common.{◌≡◌, ◌≢◌, ◌==◌, ℕ, zero, suc, ◌+◌, ◌<◌, Bool, true, false, cond, List, [], ◌∷◌, ◌++◌, length, get_or, refl, sym, ap, ◌∙◌, subst, arith}
 use Rattle.std.specs.List.{All}
 use Rattle.std.proofs.lemmas.Bool.{eq-eqb}
 use Rattle.std.proofs.lemmas.List.{get_or-map, get_or_push, get_or_append_left, length_push}
 use Rattle.flow_messages.specs.Signals.{Signal}
-use Rattle.std.specs.Prelude.{None}
+use Rattle.flow_messages.specs.declared.message.Kind.{Kind}
+use Rattle.flow_messages.specs.Kinds.{TakesKind}
 use Rattle.flow_messages.specs.Ends.{View}
 use Rattle.flow_messages.specs.Tables.{at_line}
 use Rattle.flow_boxes.proofs.Changed.{everywhere}
 use Rattle.flow_meetings.specs.declared.owners.EdgeOwners.{EdgeOwners}
 use Rattle.flow_meetings.specs.Met.{Met}
 use Rattle.flow_meetings.specs.Opens.{OpensAt}
-use Rattle.flow_meetings.specs.Open.{HasFreshEnds, AreFreshEnds}
+use Rattle.flow_meetings.specs.Open.{kind_at, HasFreshEnds, AreFreshEnds}
 
 -- one owner more, as f reads it
 more_other : (f : EdgeOwners → Bool) (owners : List EdgeOwners) (owner : EdgeOwners) (k : ℕ) → k ≢ length owners → at_line f (owners ++ owner ∷ []) k false ≡ at_line f owners k false
@@ -36,7 +37,7 @@ or_none false = refl
 named : (f : EdgeOwners → ℕ) (owners : List EdgeOwners) (s e : ℕ) (w : EdgeOwners) (there : ℕ → Bool) → ((k : ℕ) → there k ≡ at_line (λ owner. f owner == s) owners k false) → e < length owners → f (get_or owners e w) ≡ s → there e ≡ true
 named f owners s e w there is inside at = is e ∙ get_or-map (λ owner. f owner == s) owners e w false inside ∙ eq-eqb (f (get_or owners e w)) s at
 
-module _ (owners : List EdgeOwners) (capacity s e : ℕ) (w : EdgeOwners) (v : View) (fresh : HasFreshEnds owners capacity s v) (inside : e < length owners) where
+module _ (owners : List EdgeOwners) (kinds : List Kind) (capacity s e : ℕ) (w : EdgeOwners) (v : View) (fresh : HasFreshEnds owners kinds capacity s v) (inside : e < length owners) where
   pub writes_there : (get_or owners e w).writer ≡ s → v.writes e ≡ true
   writes_there = named (λ (owner : EdgeOwners). owner.writer) owners s e w v.writes fresh.writes inside
 
@@ -66,8 +67,8 @@ module _ (n : ℕ) (x : Bool) (wa wb : ℕ → Bool) (elsewhere : (k : ℕ) → 
       (λ h. here ∙ ap (λ y. cond y z (fa n)) (sym at ∙ h))
       (λ k ne h. others k ne ∙ was k (sym (elsewhere k ne) ∙ h))
 
-fresh_more : (owners : List EdgeOwners) (owner : EdgeOwners) (capacity s : ℕ) (a b : View) → HasFreshEnds owners capacity s a → OpensAt (length owners) capacity (owner.writer == s) (owner.reader == s) a b → HasFreshEnds (owners ++ owner ∷ []) capacity s b
-fresh_more owners owner capacity s a b was opens =
+fresh_more : (owners : List EdgeOwners) (owner : EdgeOwners) (kinds : List Kind) (capacity s : ℕ) (a b : View) → HasFreshEnds owners kinds capacity s a → OpensAt (length owners) (kind_at kinds (length owners)) capacity (owner.writer == s) (owner.reader == s) a b → HasFreshEnds (owners ++ owner ∷ []) kinds capacity s b
+fresh_more owners owner kinds capacity s a b was opens =
     let n = length owners in
     let w = owner.writer == s in
     let r = owner.reader == s in
@@ -81,7 +82,9 @@ fresh_more owners owner capacity s a b was opens =
       reads = reads;
       sent = now_fresh n w a.writes b.writes elsewhere.writes [] a.sent b.sent w_at opens.sent elsewhere.sent was.sent;
       room = now_fresh n w a.writes b.writes elsewhere.writes capacity a.room b.room w_at opens.room elsewhere.room was.room;
-      kind = now_fresh n w a.writes b.writes elsewhere.writes None a.kind b.kind w_at opens.kind elsewhere.kind was.kind;
+      kind = everywhere (λ k. b.writes k ≡ true → TakesKind (b.kind k) (kind_at kinds k)) n
+          (λ h. opens.takes (sym w_at ∙ h))
+          (λ k ne h. subst (λ of. TakesKind of (kind_at kinds k)) (sym (elsewhere.kind k ne)) (was.kind k (sym (elsewhere.writes k ne) ∙ h)));
       received = now_fresh n r a.reads b.reads elsewhere.reads [] a.received b.received r_at opens.received elsewhere.received was.received;
       coming = now_fresh n r a.reads b.reads elsewhere.reads [] a.coming b.coming r_at opens.coming elsewhere.coming was.coming;
     }
@@ -95,24 +98,24 @@ owner_more f of owners later owner n is count was here e w low =
     (λ k ne h. let l : k < n = omega (arith, h, ne) in ap f (get_or_append_left owners (owner ∷ []) w k (omega (arith, l, count))) ∙ was k w l) e low
 
 -- no end is there, and there is no owner
-fresh_none : (capacity s : ℕ) (v : View) → ((e : ℕ) → (v.writes e ≡ false) × (v.reads e ≡ false)) → HasFreshEnds [] capacity s v
-fresh_none capacity s v none = record {
+fresh_none : (kinds : List Kind) (capacity s : ℕ) (v : View) → ((e : ℕ) → (v.writes e ≡ false) × (v.reads e ≡ false)) → HasFreshEnds [] kinds capacity s v
+fresh_none kinds capacity s v none = record {
   writes = λ e. (none e).0;
   reads = λ e. (none e).1;
   sent = λ e h. let l = (none e).0 in cc;
   room = λ e h. let l = (none e).0 in cc;
-  kind = λ e h. let l = (none e).0 in cc;
+  kind = λ e h. let l = (none e).0 in absurd (cc);
   received = λ e h. let l = (none e).1 in cc;
   coming = λ e h. let l = (none e).1 in cc;
 }
 
-module _ {X : Type 0} (view : X → View) (joins : X → X → ℕ → Type 0) (places : X → ℕ → ℕ) (capacity : ℕ) where
+module _ {X : Type 0} (view : X → View) (joins : X → X → ℕ → Type 0) (places : X → ℕ → ℕ) (kinds : List Kind) (capacity : ℕ) where
   abbrev Open : List EdgeOwners → List X → Type 0
-  Open owners ends = AreFreshEnds view joins places owners capacity ends
+  Open owners ends = AreFreshEnds view joins places owners kinds capacity ends
 
   pub open_none : (ends : List X) → All (λ a. (e : ℕ) → ((view a).writes e ≡ false) × ((view a).reads e ≡ false)) ends → Open [] ends
   open_none ends none = record {
-    fresh = λ s d l. fresh_none capacity s (view (get_or ends s d)) (none s d l);
+    fresh = λ s d l. fresh_none kinds capacity s (view (get_or ends s d)) (none s d l);
     joined = λ e w d l. absurd (omega (arith, l));
     places = λ e w d l. absurd (omega (arith, l));
     met = λ e w d l. absurd (omega (arith, l));
@@ -125,7 +128,7 @@ module _ {X : Type 0} (view : X → View) (joins : X → X → ℕ → Type 0) (
       (owners : List EdgeOwners) (owner : EdgeOwners) (old new : List X) (count : length new ≡ length old)
       (writers : All (λ w. w.writer < length old) (owners ++ owner ∷ [])) (readers : All (λ w. w.reader < length old) (owners ++ owner ∷ []))
       (opened : (s : ℕ) (d : X) → s < length old → opens (length owners) (get_or old s d) (get_or new s d))
-      (fresh : (s : ℕ) (d : X) → s < length old → OpensAt (length owners) capacity (owner.writer == s) (owner.reader == s) (view (get_or old s d)) (view (get_or new s d)))
+      (fresh : (s : ℕ) (d : X) → s < length old → OpensAt (length owners) (kind_at kinds (length owners)) capacity (owner.writer == s) (owner.reader == s) (view (get_or old s d)) (view (get_or new s d)))
       (joined : (d : X) → joins (get_or new owner.writer d) (get_or new owner.reader d) (length owners))
       (room : (d : X) → places (get_or new owner.writer d) (length owners) ≡ capacity) (was : Open owners old) where
     abbrev n : ℕ
@@ -142,10 +145,10 @@ module _ {X : Type 0} (view : X → View) (joins : X → X → ℕ → Type 0) (
         (λ i ne h. let low : i < n = omega (arith, h, ne, length_push owners owner) in rw (get_or_append_left owners (owner ∷ []) w i low) (old i w low ne))
         k l
 
-    is_fresh : (s : ℕ) (d : X) → s < length new → HasFreshEnds all capacity s (view (get_or new s d))
+    is_fresh : (s : ℕ) (d : X) → s < length new → HasFreshEnds all kinds capacity s (view (get_or new s d))
     is_fresh s d l =
         let low : s < length old = omega (arith, l, count) in
-        fresh_more owners owner capacity s (view (get_or old s d)) (view (get_or new s d)) (was.fresh s d low) (fresh s d low)
+        fresh_more owners owner kinds capacity s (view (get_or old s d)) (view (get_or new s d)) (was.fresh s d low) (fresh s d low)
 
     writer_low : (k : ℕ) (w : EdgeOwners) → k < n → (get_or owners k w).writer < length old
     writer_low k w l = omega (arith, ap (λ (i : EdgeOwners). i.writer) (get_or_append_left owners (owner ∷ []) w k l), writers k w (omega (arith, l, length_push owners owner)))
@@ -170,7 +173,7 @@ module _ {X : Type 0} (view : X → View) (joins : X → X → ℕ → Type 0) (
           let i = get_or all e w in
           let a = is_fresh i.writer d (omega (arith, count, writers e w l)) in
           let b = is_fresh i.reader d (omega (arith, count, readers e w l)) in
-          let there = writes_there all capacity i.writer e w (view (get_or new i.writer d)) a l refl in
-          let here = reads_there all capacity i.reader e w (view (get_or new i.reader d)) b l refl in
+          let there = writes_there all kinds capacity i.writer e w (view (get_or new i.writer d)) a l refl in
+          let here = reads_there all kinds capacity i.reader e w (view (get_or new i.reader d)) b l refl in
           fresh_met (view (get_or new i.writer d)) (view (get_or new i.reader d)) capacity e (a.sent e there) (a.room e there) (b.received e here) (b.coming e here);
     }

@@ -2,6 +2,8 @@
 use Rattle.std.proofs.Common.{◌≡◌, ℕ, zero, suc, ◌<◌, true, false, List, [], ◌∷◌, length, refl, ap, sym, ◌∙◌, subst, get_or, set, get_or-set_other, length-set}
 use Rattle.std.specs.Prelude.{Option, Some, None}
 use Rattle.flow_messages.specs.Signals.{signals}
+use Rattle.flow_messages.specs.declared.message.Kind.{Kind}
+use Rattle.flow_messages.specs.Kinds.{TakesKind}
 use Rattle.flow_messages.specs.Ends.{View}
 use Rattle.flow_messages.proofs.Signals.{signals-nil}
 use Rattle.flow_messages.proofs.Tables.{at_line-same, at_line-other}
@@ -17,8 +19,8 @@ use Rattle.flow_meetings.specs.Opens.{ElsewhereSame, OpensAt}
 use Rattle.flow_meetings.specs.RingOpenings.{RingsOpen}
 
 -- a writer's end, and then a reader's, of one edge
-pub both_opened : (e capacity : ℕ) (a m b : View) → OpensAt e capacity true false a m → OpensAt e capacity false true m b → OpensAt e capacity true true a b
-both_opened e capacity a m b w r = record {
+pub both_opened : (e : ℕ) (kind : Kind) (capacity : ℕ) (a m b : View) → OpensAt e kind capacity true false a m → OpensAt e kind capacity false true m b → OpensAt e kind capacity true true a b
+both_opened e kind capacity a m b w r = record {
   elsewhere = record {
     writes = λ k ne. r.elsewhere.writes k ne ∙ w.elsewhere.writes k ne;
     reads = λ k ne. r.elsewhere.reads k ne ∙ w.elsewhere.reads k ne;
@@ -31,7 +33,8 @@ both_opened e capacity a m b w r = record {
   writes = r.writes ∙ w.writes;
   sent = r.sent ∙ w.sent;
   room = r.room ∙ w.room;
-  kind = r.kind ∙ w.kind;
+  takes = λ h. subst (λ of. TakesKind of kind) (sym (r.same_kind refl)) (w.takes refl);
+  same_kind = λ h. absurd (cc);
   reads = r.reads;
   received = r.received;
   coming = r.coming;
@@ -55,33 +58,35 @@ module _ (e : ℕ) where
     capacity = q.capacity ∙ p.capacity;
   }
 
-  module _ (capacity : ℕ) (a b : Contents) where
-    pub box_writer : a.capacity ≡ capacity → OpensWriter e a b → OpensAt e capacity true false a.ends b.ends
+  module _ (kind : Kind) (capacity : ℕ) (a b : Contents) where
+    pub box_writer : a.capacity ≡ capacity → OpensWriter e a b → OpensAt e kind capacity true false a.ends b.ends
     box_writer is o = record {
       elsewhere = elsewhere a b o.others;
       writes = o.fresh.writes;
       sent = o.fresh.sent;
       room = o.fresh.room ∙ o.others.capacity ∙ is;
-      kind = o.fresh.kind;
+      takes = λ h. subst (λ of. TakesKind of kind) (sym o.fresh.kind) (λ s is. refl);
+      same_kind = λ h. absurd (cc);
       reads = o.reads e;
       received = o.received e;
       coming = o.coming e;
     }
 
-    pub box_reader : OpensReader e a b → OpensAt e capacity false true a.ends b.ends
+    pub box_reader : OpensReader e a b → OpensAt e kind capacity false true a.ends b.ends
     box_reader o = record {
       elsewhere = elsewhere a b o.others;
       writes = o.writes e;
       sent = o.sent e;
       room = o.room e;
-      kind = o.others.kinds e;
+      takes = λ h. absurd (cc);
+      same_kind = λ h. o.others.kinds e;
       reads = o.fresh.reads;
       received = o.fresh.received;
       coming = o.fresh.coming;
     }
 
-  pub box_both : (capacity : ℕ) (a m b : Contents) → a.capacity ≡ capacity → OpensWriter e a m → OpensReader e m b → OpensAt e capacity true true a.ends b.ends
-  box_both capacity a m b is w r = both_opened e capacity a.ends m.ends b.ends (box_writer capacity a m is w) (box_reader capacity m b r)
+  pub box_both : (kind : Kind) (capacity : ℕ) (a m b : Contents) → a.capacity ≡ capacity → OpensWriter e a m → OpensReader e m b → OpensAt e kind capacity true true a.ends b.ends
+  box_both kind capacity a m b is w r = both_opened e kind capacity a.ends m.ends b.ends (box_writer kind capacity a m is w) (box_reader kind capacity m b r)
 
   -- boxes that were opened with one capacity are linked
   pub opened_linked : (a w b r : Contents) → b.capacity ≡ a.capacity → OpensWriter e a w → OpensReader e b r → IsLinked w r e
@@ -104,9 +109,9 @@ no_reader_there ws (Some r ∷ rs) zero none = cc
 no_reader_there ws (r ∷ rs) (suc e) none = no_reader_there ws rs e none
 
 -- a writer is put among rings, and a reader
-module _ (ws : List (Option EdgeWriter)) (rs : List (Option EdgeReader)) (e capacity : ℕ) where
-  module _ (w : EdgeWriter) (h : e < length ws) (none : sent w ≡ []) (room : certain_room w ≡ capacity) (any : kind_of w ≡ None) where
-    pub ring_writer : OpensAt e capacity true false (view_of_rings ws rs) (view_of_rings (set ws e (Some w)) rs)
+module _ (ws : List (Option EdgeWriter)) (rs : List (Option EdgeReader)) (e : ℕ) (kind : Kind) (capacity : ℕ) where
+  module _ (w : EdgeWriter) (h : e < length ws) (none : sent w ≡ []) (room : certain_room w ≡ capacity) (takes : TakesKind (kind_of w) kind) where
+    pub ring_writer : OpensAt e kind capacity true false (view_of_rings ws rs) (view_of_rings (set ws e (Some w)) rs)
     ring_writer = record {
       elsewhere = record {
         writes = at_line-other writes_of ws e false (Some w);
@@ -117,7 +122,8 @@ module _ (ws : List (Option EdgeWriter)) (rs : List (Option EdgeReader)) (e capa
         room = at_line-other room_of ws e 0 (Some w);
         kind = at_line-other kind_seen ws e None (Some w);
       };
-      kind = at_line-same kind_seen ws e None (Some w) h ∙ any;
+      takes = λ t. subst (λ of. TakesKind of kind) (sym (at_line-same kind_seen ws e None (Some w) h)) takes;
+      same_kind = λ f. absurd (cc);
       writes = at_line-same writes_of ws e false (Some w) h;
       sent = at_line-same sent_of ws e [] (Some w) h ∙ ap signals none ∙ signals-nil;
       room = at_line-same room_of ws e 0 (Some w) h ∙ room;
@@ -127,7 +133,7 @@ module _ (ws : List (Option EdgeWriter)) (rs : List (Option EdgeReader)) (e capa
     }
 
   module _ (r : EdgeReader) (h : e < length rs) (none : received r ≡ []) (empty : certain_held r ≡ []) where
-    pub ring_reader : OpensAt e capacity false true (view_of_rings ws rs) (view_of_rings ws (set rs e (Some r)))
+    pub ring_reader : OpensAt e kind capacity false true (view_of_rings ws rs) (view_of_rings ws (set rs e (Some r)))
     ring_reader = record {
       elsewhere = record {
         writes = λ k ne. refl;
@@ -138,7 +144,8 @@ module _ (ws : List (Option EdgeWriter)) (rs : List (Option EdgeReader)) (e capa
         room = λ k ne. refl;
         kind = λ k ne. refl;
       };
-      kind = refl;
+      takes = λ t. absurd (cc);
+      same_kind = λ f. refl;
       writes = refl;
       sent = refl;
       room = refl;
@@ -155,20 +162,20 @@ rings_then e a m b p q = record {
   readers = λ k ne. q.readers k ne ∙ p.readers k ne;
 }
 
-module _ (a b : Rings) (e capacity : ℕ) where
-  pub rings_writer : (w : EdgeWriter) → b.writers.items ≡ set a.writers.items e (Some w) → b.readers.items ≡ a.readers.items → e < length a.writers.items → sent w ≡ [] → certain_room w ≡ capacity → kind_of w ≡ None → RingsOpen e a b × OpensAt e capacity true false (ends_of a) (ends_of b)
-  rings_writer w put same h none room any = (
+module _ (a b : Rings) (e : ℕ) (kind : Kind) (capacity : ℕ) where
+  pub rings_writer : (w : EdgeWriter) → b.writers.items ≡ set a.writers.items e (Some w) → b.readers.items ≡ a.readers.items → e < length a.writers.items → sent w ≡ [] → certain_room w ≡ capacity → TakesKind (kind_of w) kind → RingsOpen e a b × OpensAt e kind capacity true false (ends_of a) (ends_of b)
+  rings_writer w put same h none room takes = (
     record {
       writer_count = ap length put ∙ length-set a.writers.items e (Some w);
       reader_count = ap length same;
       writers = λ k ne. ap (λ l. get_or l k None) put ∙ get_or-set_other a.writers.items e k (Some w) None ne;
       readers = λ k ne. ap (λ l. get_or l k None) same;
     },
-    subst (λ ws. OpensAt e capacity true false (ends_of a) (view_of_rings ws b.readers.items)) (sym put)
-        (subst (λ rs. OpensAt e capacity true false (ends_of a) (view_of_rings (set a.writers.items e (Some w)) rs)) (sym same) (ring_writer a.writers.items a.readers.items e capacity w h none room any)),
+    subst (λ ws. OpensAt e kind capacity true false (ends_of a) (view_of_rings ws b.readers.items)) (sym put)
+        (subst (λ rs. OpensAt e kind capacity true false (ends_of a) (view_of_rings (set a.writers.items e (Some w)) rs)) (sym same) (ring_writer a.writers.items a.readers.items e kind capacity w h none room takes)),
   )
 
-  pub rings_reader : (r : EdgeReader) → b.readers.items ≡ set a.readers.items e (Some r) → b.writers.items ≡ a.writers.items → e < length a.readers.items → received r ≡ [] → certain_held r ≡ [] → RingsOpen e a b × OpensAt e capacity false true (ends_of a) (ends_of b)
+  pub rings_reader : (r : EdgeReader) → b.readers.items ≡ set a.readers.items e (Some r) → b.writers.items ≡ a.writers.items → e < length a.readers.items → received r ≡ [] → certain_held r ≡ [] → RingsOpen e a b × OpensAt e kind capacity false true (ends_of a) (ends_of b)
   rings_reader r put same h none empty = (
     record {
       writer_count = ap length same;
@@ -176,6 +183,6 @@ module _ (a b : Rings) (e capacity : ℕ) where
       writers = λ k ne. ap (λ l. get_or l k None) same;
       readers = λ k ne. ap (λ l. get_or l k None) put ∙ get_or-set_other a.readers.items e k (Some r) None ne;
     },
-    subst (λ rs. OpensAt e capacity false true (ends_of a) (view_of_rings b.writers.items rs)) (sym put)
-        (subst (λ ws. OpensAt e capacity false true (ends_of a) (view_of_rings ws (set a.readers.items e (Some r)))) (sym same) (ring_reader a.writers.items a.readers.items e capacity r h none empty)),
+    subst (λ rs. OpensAt e kind capacity false true (ends_of a) (view_of_rings b.writers.items rs)) (sym put)
+        (subst (λ ws. OpensAt e kind capacity false true (ends_of a) (view_of_rings ws (set a.readers.items e (Some r)))) (sym same) (ring_reader a.writers.items a.readers.items e kind capacity r h none empty)),
   )

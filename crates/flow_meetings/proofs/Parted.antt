@@ -3,17 +3,19 @@ use Rattle.std.proofs.Common.{◌≡◌, ◌≢◌, ◌==◌, ℕ, ◌-◌, ◌<
 use Rattle.std.specs.Prelude.{Result, Ok, Err, OnOk}
 use Rattle.std.proofs.lemmas.Bool.{cases_eq, eq-eqb, ne_eqb}
 use Rattle.std.proofs.lemmas.List.{get_or_default, get_or_append_left, get_or-append-add, set-append_left, set-append_right, length-append}
+use Rattle.flow_messages.specs.declared.message.Kind.{Kind}
 use Rattle.flow_messages.specs.Ends.{View}
 use Rattle.flow_boxes.proofs.Changed.{everywhere}
 use Rattle.flow_meetings.specs.declared.owners.EdgeOwners.{EdgeOwners}
 use Rattle.flow_meetings.specs.Opens.{OpensAt, OpensEdge}
 
 -- where no end was opened
-none_opened : (e capacity : ℕ) (w r : Bool) (a : View) → w ≡ false → r ≡ false → OpensAt e capacity w r a a
-none_opened e capacity w r a no_writer no_reader =
-    subst (λ w. OpensAt e capacity w r a a) (sym no_writer) (subst (λ r. OpensAt e capacity false r a a) (sym no_reader) (record {
+none_opened : (e : ℕ) (kind : Kind) (capacity : ℕ) (w r : Bool) (a : View) → w ≡ false → r ≡ false → OpensAt e kind capacity w r a a
+none_opened e kind capacity w r a no_writer no_reader =
+    subst (λ w. OpensAt e kind capacity w r a a) (sym no_writer) (subst (λ r. OpensAt e kind capacity false r a a) (sym no_reader) (record {
       elsewhere = record { writes = λ k ne. refl; reads = λ k ne. refl; sent = λ k ne. refl; received = λ k ne. refl; coming = λ k ne. refl; room = λ k ne. refl; kind = λ k ne. refl };
-      kind = refl;
+      takes = λ h. absurd (cc);
+      same_kind = λ h. refl;
       writes = refl;
       sent = refl;
       room = refl;
@@ -23,8 +25,8 @@ none_opened e capacity w r a no_writer no_reader =
     }))
 
 -- and where the names of the shares say which
-opened_as : (e capacity : ℕ) (w r w' r' : Bool) (a b : View) → w ≡ w' → r ≡ r' → OpensAt e capacity w' r' a b → OpensAt e capacity w r a b
-opened_as e capacity w r w' r' a b p q opens = subst (λ w. OpensAt e capacity w r a b) (sym p) (subst (λ r. OpensAt e capacity w' r a b) (sym q) opens)
+opened_as : (e : ℕ) (kind : Kind) (capacity : ℕ) (w r w' r' : Bool) (a b : View) → w ≡ w' → r ≡ r' → OpensAt e kind capacity w' r' a b → OpensAt e kind capacity w r a b
+opened_as e kind capacity w r w' r' a b p q opens = subst (λ w. OpensAt e kind capacity w r a b) (sym p) (subst (λ r. OpensAt e kind capacity w' r a b) (sym q) opens)
 
 -- the list is split at m; x is at i in the front, and y at m, and a and b come there
 module _ {X : Type 0} (old front back : List X) (m i : ℕ) (is : old ≡ front ++ back) (count : length front ≡ m) (li : i < m) (some : m < length old) (x y a b : X) (x_is : x ≡ get_or front i x) (y_is : y ≡ get_or back 0 y) where
@@ -82,7 +84,7 @@ on_three (Ok x) f p q s = f p q s
 on_three (Err e) f p q s = tt
 
 -- Edge e is opened, and its owner names these shares.
-module _ {X : Type 0} (view : X → View) (joins : X → X → ℕ → Type 0) (slots_of : X → ℕ → ℕ) (opens_at : ℕ → X → X → Type 0) (opens_refl : (e : ℕ) (a : X) → opens_at e a a) (owner : EdgeOwners) (e capacity : ℕ) where
+module _ {X : Type 0} (view : X → View) (joins : X → X → ℕ → Type 0) (slots_of : X → ℕ → ℕ) (opens_at : ℕ → X → X → Type 0) (opens_refl : (e : ℕ) (a : X) → opens_at e a a) (owner : EdgeOwners) (e : ℕ) (kind : Kind) (capacity : ℕ) where
   abbrev w : ℕ
   w = owner.writer
 
@@ -91,20 +93,20 @@ module _ {X : Type 0} (view : X → View) (joins : X → X → ℕ → Type 0) (
 
   -- one share, before and after
   abbrev OpensHere : Bool → Bool → X → X → Type 0
-  OpensHere writer reader x a = opens_at e x a × OpensAt e capacity writer reader (view x) (view a)
+  OpensHere writer reader x a = opens_at e x a × OpensAt e kind capacity writer reader (view x) (view a)
 
   -- share s, before and after
   abbrev Each : ℕ → X → X → Type 0
   Each s x a = OpensHere (w == s) (r == s) x a
 
   abbrev Whole : List X → List X → Type 0
-  Whole = OpensEdge view joins slots_of opens_at owner e capacity
+  Whole = OpensEdge view joins slots_of opens_at owner e kind capacity
 
   other : (s : ℕ) (z : X) → s ≢ w → s ≢ r → Each s z z
-  other s z nw nr = (opens_refl e z, none_opened e capacity (w == s) (r == s) (view z) (ne_eqb w s (λ h. nw (sym h))) (ne_eqb r s (λ h. nr (sym h))))
+  other s z nw nr = (opens_refl e z, none_opened e kind capacity (w == s) (r == s) (view z) (ne_eqb w s (λ h. nw (sym h))) (ne_eqb r s (λ h. nr (sym h))))
 
   here : (s : ℕ) (p q : Bool) (x a : X) → (w == s) ≡ p → (r == s) ≡ q → OpensHere p q x a → Each s x a
-  here s p q x a at_w at_r step = (step.0, opened_as e capacity (w == s) (r == s) p q (view x) (view a) at_w at_r step.1)
+  here s p q x a at_w at_r step = (step.0, opened_as e kind capacity (w == s) (r == s) p q (view x) (view a) at_w at_r step.1)
 
   whole : (old new : List X) (a b : X) → ((s : ℕ) (d : X) → Each s (get_or old s d) (get_or new s d)) → ((d : X) → get_or new w d ≡ a) → ((d : X) → get_or new r d ≡ b) → joins a b e → slots_of a e ≡ capacity → Whole old new
   whole old new a b each at_w at_r joined room = record {

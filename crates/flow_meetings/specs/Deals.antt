@@ -6,13 +6,13 @@ use Rattle.flow_messages.specs.declared.ends.Ends.{Ghosts as EndsGhosts}
 use Rattle.flow_base.specs.declared.transducer.Transducer.{Ghosts}
 use Rattle.flow_graph.specs.declared.placed.Placed.{Placed}
 use Rattle.flow_graph.specs.declared.graph.Graph.{Graph}
-use Rattle.flow_graph.specs.Graphs.{edges_of}
+use Rattle.flow_graph.specs.Graphs.{states_of, edges_of}
 use Rattle.flow_graph.specs.Skeletons.{nodes_of, edges_in}
 use Rattle.flow_shares.specs.Deals.{AreJustDealt}
 use Rattle.flow_shares.specs.declared.share.Share.{Share}
 use Rattle.flow_shares.specs.Shares.{HasItsEnds, AreApart, IsOwn}
 use Rattle.flow_meetings.specs.declared.dealt.Dealt.{Dealt}
-use Rattle.flow_meetings.specs.Open.{AreOwners, AreFreshEnds}
+use Rattle.flow_meetings.specs.Open.{edge_kinds, AreOwners, AreFreshEnds}
 
 -- These nodes make a share with the ends of which this is seen.
 pub record MakeAShare {X : Type 0} {t : Ghosts X} (view : View) (nodes : List (Placed X t)) : Type 0 where
@@ -51,5 +51,6 @@ module _ {X Y : Type 0} {t : Ghosts X} {u : EndsGhosts Y} where
     pub skeleton : edges_in dealt.skeleton ≡ edges_of graph
     -- the owners name the shares of the writer and the reader of each edge
     pub owners : AreOwners share (edges_of graph) dealt.owners.items
-    -- each end of each edge lies in the share that the owner names, and nowhere else, and all are fresh
-    pub ends : AreFreshEnds u.view joins places dealt.owners.items capacity (ends_in dealt.shares.items)
+    -- each end of each edge lies in the share that the owner names, and nowhere else, all are fresh, and each takes
+    -- the items of its writer's port
+    pub ends : AreFreshEnds u.view joins places dealt.owners.items (edge_kinds t.behaviour (states_of graph) (edges_of graph)) capacity (ends_in dealt.shares.items)

@@ -1,9 +1,14 @@
 -- Fresh ends of all edges, each in the share that its owner names.
-use Rattle.std.specs.Prelude.{◌≡◌, ◌==◌, ℕ, ◌<◌, true, false, List, [], length, slice_index_or, None}
+use Rattle.std.specs.Prelude.{◌≡◌, ◌==◌, ℕ, ◌<◌, true, false, List, [], length, map, slice_index_or}
+use Rattle.flow_messages.specs.declared.message.Kind.{Kind}
+use Rattle.flow_messages.specs.declared.message.Kind.TheVariants.{Unit as UnitKind}
+use Rattle.flow_messages.specs.Kinds.{TakesKind}
 use Rattle.flow_messages.specs.Ends.{View}
 use Rattle.flow_messages.specs.Tables.{at_line}
+use Rattle.flow_base.specs.Transducers.{Behaviour}
 use Rattle.flow_graph.specs.declared.edge.Edge.{Edge}
 use Rattle.flow_graph.specs.Edges.{edge_at}
+use Rattle.flow_graph.specs.Networks.{state_at}
 use Rattle.flow_meetings.specs.declared.owners.EdgeOwners.{EdgeOwners}
 use Rattle.flow_meetings.specs.Met.{Met}
 use Rattle.flow_shares.specs.Deals.{share_of}
@@ -14,14 +19,22 @@ pub record AreOwners (share : List ℕ) (edges : List Edge) (owners : List EdgeO
   pub writers : (e : ℕ) (w : EdgeOwners) → e < length edges → (slice_index_or owners e w).writer ≡ share_of share (edge_at edges e).writer
   pub readers : (e : ℕ) (w : EdgeOwners) → e < length edges → (slice_index_or owners e w).reader ≡ share_of share (edge_at edges e).reader
 
+-- of each edge, the kind of the items at its writer's port
+abbrev pub edge_kinds : {S : Type 0} → Behaviour S → List S → List Edge → List Kind
+edge_kinds b states edges = map (λ edge. b.kind_out (state_at b states edge.writer) edge.writer_port) edges
+
+-- the kind of edge e
+abbrev pub kind_at : List Kind → ℕ → Kind
+kind_at kinds e = slice_index_or kinds e UnitKind
+
 -- Share s has just the ends that the owners name it for, and they are fresh.
-pub record HasFreshEnds (owners : List EdgeOwners) (capacity s : ℕ) (v : View) : Type 0 where
+pub record HasFreshEnds (owners : List EdgeOwners) (kinds : List Kind) (capacity s : ℕ) (v : View) : Type 0 where
   -- a writer's end is there of each edge that s writes, and of no other
   pub writes : (e : ℕ) → v.writes e ≡ at_line (λ (owner : EdgeOwners). owner.writer == s) owners e false
   -- a reader's end is there of each edge that s reads, and of no other
   pub reads : (e : ℕ) → v.reads e ≡ at_line (λ (owner : EdgeOwners). owner.reader == s) owners e false
-  -- the writer takes items of every kind, has sent nothing, and has room for the capacity
-  pub kind : (e : ℕ) → v.writes e ≡ true → v.kind e ≡ None
+  -- the writer takes all items of the edge's kind, has sent nothing, and has room for the capacity
+  pub kind : (e : ℕ) → v.writes e ≡ true → TakesKind (v.kind e) (kind_at kinds e)
   pub sent : (e : ℕ) → v.writes e ≡ true → v.sent e ≡ []
   pub room : (e : ℕ) → v.writes e ≡ true → v.room e ≡ capacity
   -- the reader has received nothing, and nothing is coming
@@ -29,9 +42,9 @@ pub record HasFreshEnds (owners : List EdgeOwners) (capacity s : ℕ) (v : View)
   pub coming : (e : ℕ) → v.reads e ≡ true → v.coming e ≡ []
 
 -- These are the ends of all shares, by the shares' numbers.
-pub record AreFreshEnds {X : Type 0} (view : X → View) (joins : X → X → ℕ → Type 0) (slots_of : X → ℕ → ℕ) (owners : List EdgeOwners) (capacity : ℕ) (ends : List X) : Type 0 where
+pub record AreFreshEnds {X : Type 0} (view : X → View) (joins : X → X → ℕ → Type 0) (slots_of : X → ℕ → ℕ) (owners : List EdgeOwners) (kinds : List Kind) (capacity : ℕ) (ends : List X) : Type 0 where
   -- each share has its ends, and they are fresh
-  pub fresh : (s : ℕ) (d : X) → s < length ends → HasFreshEnds owners capacity s (view (slice_index_or ends s d))
+  pub fresh : (s : ℕ) (d : X) → s < length ends → HasFreshEnds owners kinds capacity s (view (slice_index_or ends s d))
   -- the two ends of each edge are those of one edge
   pub joined : (e : ℕ) (w : EdgeOwners) (d : X) → e < length owners → let owner = slice_index_or owners e w in joins (slice_index_or ends owner.writer d) (slice_index_or ends owner.reader d) e
   -- each edge holds at most the capacity

@@ -8,6 +8,7 @@ ghost use Rattle.flow_shares.specs.Deals.{lists_in};
 ghost use Rattle.flow_meetings.specs.Deals.{MakeAShare, nodes_in, ends_in, AreNew, IsDealt};
 
 use crate::dealt::Dealt;
+use crate::kinds::kinds_of;
 use crate::opening::Opening;
 use crate::opening_everywhere::open_all;
 use crate::owners::owners_of;
@@ -18,7 +19,7 @@ use flow_shares::{Share, deal_nodes};
 use std::alloc::{AllocError, Global};
 
 /// Deals a graph out to so many shares: node `k` goes to the share that `share` names for it, with the ends of the edges
-/// at its ports. All edges are fresh, and hold at most `capacity` messages.
+/// at its ports. All edges are fresh, take the items of their writers' ports, and hold at most `capacity` messages.
 ///
 /// Its only error is that memory was refused.
 pub fn deal<T: Transducer + Drop, E: Opening + Drop>(
@@ -36,9 +37,10 @@ pub fn deal<T: Transducer + Drop, E: Opening + Drop>(
     ensures { IfOk result (λ dealt.
         IsDealt E.joins E.slots graph threads share.now capacity dealt) }
 {
+    let kinds = kinds_of(alloc, &graph)?;
     let (nodes, skeleton) = graph.take_apart();
     let owners = owners_of(alloc, skeleton.edges(), share)?;
-    let ends = open_all(alloc, threads, &owners, capacity)?;
+    let ends = open_all(alloc, threads, &owners, &kinds, capacity)?;
     let nodes = deal_nodes(alloc, nodes, threads, share)?;
     let shares = make_shares(alloc, nodes, ends)?;
     Ok(Dealt {

@@ -16,6 +16,7 @@
 mod dealing;
 mod dealt;
 mod gathering;
+mod kinds;
 mod meeting;
 mod meeting_boxes;
 mod meeting_everywhere;
@@ -31,6 +32,7 @@ mod theorems;
 pub use dealing::deal;
 pub use dealt::Dealt;
 pub use gathering::gather_graph;
+pub use kinds::kinds_of;
 pub use meeting::Meeting;
 pub use meeting_everywhere::meet_all;
 pub use opening::Opening;

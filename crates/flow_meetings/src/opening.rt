@@ -1,5 +1,6 @@
 // Sets of ends that can be opened.
 use crate::meeting::Meeting;
+use flow_messages::Kind;
 use std::alloc::{AllocError, Global};
 
 /// Some ends of some edges. Both ends of an edge can be opened in one of such sets, or each in one of two.
@@ -21,7 +22,8 @@ pub trait Opening: Meeting {
         ensures none { IfOk result (λ ends. (e : ℕ) → ((Self.view ends).writes e ≡ false) ×
             ((Self.view ends).reads e ≡ false)) };
 
-    /// Opens an edge, the writer's end here and the reader's there. It holds at most `capacity` messages.
+    /// Opens an edge, the writer's end here and the reader's there. It takes all items of the kind, and holds at most
+    /// `capacity` messages.
     ///
     /// Its only error is that memory was refused, and then the writer's end may be there without the reader's.
     fn open_with(
@@ -29,6 +31,7 @@ pub trait Opening: Meeting {
         other: &mut Self,
         alloc: Global,
         edge: usize,
+        kind: Kind,
         capacity: usize,
     ) -> Result<(), AllocError>
         requires some { 0 < capacity }
@@ -38,23 +41,29 @@ pub trait Opening: Meeting {
         requires no_writer { (Self.view self.old).writes edge ≡ false }
         requires no_reader { (Self.view other.old).reads edge ≡ false }
         ensures writer { OnOk result (opens edge self.old self.new ×
-            OpensAt edge capacity true false (Self.view self.old) (Self.view self.new)) }
+            OpensAt edge kind capacity true false (Self.view self.old) (Self.view self.new)) }
         ensures reader { OnOk result (opens edge other.old other.new ×
-            OpensAt edge capacity false true (Self.view other.old) (Self.view other.new)) }
+            OpensAt edge kind capacity false true (Self.view other.old) (Self.view other.new)) }
         ensures joined { OnOk result (Self.joins self.new other.new edge) }
         ensures places { OnOk result (Self.slots self.new edge ≡ capacity) };
 
-    /// Opens an edge, both ends here. It holds at most `capacity` messages.
+    /// Opens an edge, both ends here. It takes all items of the kind, and holds at most `capacity` messages.
     ///
     /// Its only error is that memory was refused, and then the writer's end may be there without the reader's.
-    fn open_own(&mut self, alloc: Global, edge: usize, capacity: usize) -> Result<(), AllocError>
+    fn open_own(
+        &mut self,
+        alloc: Global,
+        edge: usize,
+        kind: Kind,
+        capacity: usize,
+    ) -> Result<(), AllocError>
         requires some { 0 < capacity }
         requires limit { capacity ≤ greatest_capacity }
         requires place { has_place self.old edge capacity }
         requires no_writer { (Self.view self.old).writes edge ≡ false }
         requires no_reader { (Self.view self.old).reads edge ≡ false }
         ensures both { OnOk result (opens edge self.old self.new ×
-            OpensAt edge capacity true true (Self.view self.old) (Self.view self.new)) }
+            OpensAt edge kind capacity true true (Self.view self.old) (Self.view self.new)) }
         ensures joined { OnOk result (Self.joins self.new self.new edge) }
         ensures places { OnOk result (Self.slots self.new edge ≡ capacity) };
 

@@ -1,6 +1,7 @@
 // Boxes of edges are opened.
 use crate::opening::Opening;
 use flow_boxes::Boxes;
+use flow_messages::Kind;
 use std::alloc::{AllocError, Global};
 
 impl Opening for Boxes {
@@ -19,13 +20,20 @@ impl Opening for Boxes {
         other: &mut Boxes,
         alloc: Global,
         edge: usize,
+        _: Kind,
         _: usize,
     ) -> Result<(), AllocError> {
         self.open_writer(alloc, edge)?;
         other.open_reader(alloc, edge)
     }
 
-    fn open_own(&mut self, alloc: Global, edge: usize, _: usize) -> Result<(), AllocError> {
+    fn open_own(
+        &mut self,
+        alloc: Global,
+        edge: usize,
+        _: Kind,
+        _: usize,
+    ) -> Result<(), AllocError> {
         self.open_writer(alloc, edge)?;
         self.open_reader(alloc, edge)
     }

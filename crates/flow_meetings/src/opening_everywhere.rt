@@ -7,29 +7,32 @@ ghost use Rattle.flow_meetings.specs.Open.{AreFreshEnds};
 
 use crate::opening::Opening;
 use crate::owners::EdgeOwners;
+use flow_messages::Kind;
 use std::alloc::{AllocError, Global};
 
 /// So many sets of ends, in which each edge is opened: its writer's end in that of the share that its owner names for it,
-/// and its reader's likewise. No edge holds more than `capacity` messages.
+/// and its reader's likewise. Each edge takes all items of its kind in `kinds`, and none holds more than `capacity` messages.
 ///
 /// Its only error is that memory was refused.
 pub fn open_all<E: Opening + Drop>(
     alloc: Global,
     threads: usize,
     owners: &[EdgeOwners],
+    kinds: &[Kind],
     capacity: usize,
 ) -> Result<Vec<E>, AllocError>
     requires some { 0 < capacity }
     requires limit { capacity ≤ greatest_capacity }
     requires writers { All (λ owner. owner.writer < threads) owners.now }
     requires readers { All (λ owner. owner.reader < threads) owners.now }
+    requires kinds { length kinds.now ≡ length owners.now }
     ensures count { IfOk result (λ ends. length ends.items ≡ threads) }
     ensures opened { IfOk result (λ ends.
-        AreFreshEnds E.view E.joins E.slots owners.now capacity ends.items) }
+        AreFreshEnds E.view E.joins E.slots owners.now kinds.now capacity ends.items) }
 {
     let mut ends = no_ends(alloc, threads, owners.len(), capacity)?;
     for edge in 0..owners.len() {
-        open_edge(alloc, &mut ends, owners[edge], edge, capacity)?;
+        open_edge(alloc, &mut ends, owners[edge], edge, kinds[edge], capacity)?;
     }
     Ok(ends)
 }
@@ -60,6 +63,7 @@ fn open_edge<E: Opening>(
     ends: &mut [E],
     owner: EdgeOwners,
     edge: usize,
+    kind: Kind,
     capacity: usize,
 ) -> Result<(), AllocError>
     requires some { 0 < capacity }
@@ -70,15 +74,15 @@ fn open_edge<E: Opening>(
     requires no_writer { All (λ a. (E.view a).writes edge ≡ false) ends.old }
     requires no_reader { All (λ a. (E.view a).reads edge ≡ false) ends.old }
     ensures { OnOk result
-        (OpensEdge E.view E.joins E.slots E.opens owner edge capacity ends.old ends.new) }
+        (OpensEdge E.view E.joins E.slots E.opens owner edge kind capacity ends.old ends.new) }
 {
     if owner.writer == owner.reader {
-        ends[owner.writer].open_own(alloc, edge, capacity)
+        ends[owner.writer].open_own(alloc, edge, kind, capacity)
     } else if owner.writer < owner.reader {
         let (front, back) = ends.split_at_mut(owner.reader);
-        front[owner.writer].open_with(&mut back[0], alloc, edge, capacity)
+        front[owner.writer].open_with(&mut back[0], alloc, edge, kind, capacity)
     } else {
         let (front, back) = ends.split_at_mut(owner.writer);
-        back[0].open_with(&mut front[owner.reader], alloc, edge, capacity)
+        back[0].open_with(&mut front[owner.reader], alloc, edge, kind, capacity)
     }
 }

@@ -4,7 +4,7 @@ use Rattle.std.proofs.lemmas.List.{take_more, length-take-le}
 use Rattle.std.proofs.lemmas.List.Elements.{All-take}
 use Rattle.flow_meetings.specs.declared.owners.EdgeOwners.{EdgeOwners}
 use Rattle.flow_meetings.specs.Opens.{OpensAt}
-use Rattle.flow_meetings.specs.Open.{AreFreshEnds}
+use Rattle.flow_meetings.specs.Open.{kind_at, AreFreshEnds}
 use Rattle.flow_meetings.proofs.Lists.{written_back}
 use Rattle.flow_meetings.proofs.More.{open_more}
 use Rattle.flow_meetings.proofs.Refused.{none_given}
@@ -20,6 +20,7 @@ loop-edge-preserved g c =
     let places = g.E.Meeting.slots in
     let capacity = c.args.capacity in
     let owners = c.args.owners.now in
+    let kinds = c.args.kinds.now in
     let n = c.loop-edge.edge in
     let inside : n < length owners = c.loop-edge-test.true in
     let none : EdgeOwners = record { writer = 0; reader = 0 } in
@@ -40,15 +41,15 @@ loop-edge-preserved g c =
           let l : k < length old = omega (arith, low, c.open_edge.auto.ends) in
           law.opens_place n (get_or old k d) (get_or new k d) (step.opens k d l) e capacity (place k d l e h)
           ));
-      opened = subst (λ l. AreFreshEnds view joins places (take (n + 1) owners) capacity l) (sym back) (subst (λ ws. AreFreshEnds view joins places ws capacity new) (sym next) (
-          open_more view joins places capacity g.E.Opening.opens law.opens_places law.open_join_writer law.open_join_reader (take n owners) owner old new c.open_edge.auto.ends
+      opened = subst (λ l. AreFreshEnds view joins places (take (n + 1) owners) kinds capacity l) (sym back) (subst (λ ws. AreFreshEnds view joins places ws kinds capacity new) (sym next) (
+          open_more view joins places kinds capacity g.E.Opening.opens law.opens_places law.open_join_writer law.open_join_reader (take n owners) owner old new c.open_edge.auto.ends
           (subst (All (λ w. w.writer < length old)) next (All-take (λ w. w.writer < length old) (n + 1) owners (λ k d l. omega (arith, c.requires.writers k d l, many))))
           (subst (All (λ w. w.reader < length old)) next (All-take (λ w. w.reader < length old) (n + 1) owners (λ k d l. omega (arith, c.requires.readers k d l, many))))
           (λ s d l. subst (λ m. g.E.Opening.opens m (get_or old s d) (get_or new s d)) (sym at) (step.opens s d l))
-          (λ s d l. subst (λ m. OpensAt m capacity (owner.writer == s) (owner.reader == s) (view (get_or old s d)) (view (get_or new s d))) (sym at) (step.fresh s d l))
+          (λ s d l. subst (λ m. OpensAt m (kind_at kinds m) capacity (owner.writer == s) (owner.reader == s) (view (get_or old s d)) (view (get_or new s d))) (sym at) (step.fresh s d l))
           (λ d. subst (λ m. joins (get_or new owner.writer d) (get_or new owner.reader d) m) (sym at) (step.joined d))
           (λ d. subst (λ m. places (get_or new owner.writer d) m ≡ capacity) (sym at) (step.places d))
-          (subst (λ l. AreFreshEnds view joins places (take n owners) capacity l) (sym value) inv.opened)
+          (subst (λ l. AreFreshEnds view joins places (take n owners) kinds capacity l) (sym value) inv.opened)
           ));
     }
 

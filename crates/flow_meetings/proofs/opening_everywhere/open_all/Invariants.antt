@@ -7,5 +7,5 @@ abbrev pub invariant-loop-edge : goal.invariant-loop-edge
 invariant-loop-edge g l = record {
   count : length l.ends.items ≡ l.threads;
   place : All (λ a. (e : ℕ) → e < length l.owners → g.E.Opening.has_place a e l.capacity) l.ends.items;
-  opened : AreFreshEnds g.E.Ends.view g.E.Meeting.joins g.E.Meeting.slots (take l.edge l.owners) l.capacity l.ends.items;
+  opened : AreFreshEnds g.E.Ends.view g.E.Meeting.joins g.E.Meeting.slots (take l.edge l.owners) l.kinds l.capacity l.ends.items;
 }

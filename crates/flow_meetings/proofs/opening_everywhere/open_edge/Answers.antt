@@ -6,7 +6,7 @@ pub returns-then-owner : goal.returns-then-owner
 returns-then-owner g c =
     let done = c.open_own.ensures in
     on_three c.open_own.result (λ both joined room. (
-    opened_own g.E.Ends.view g.E.Meeting.joins g.E.Meeting.slots g.E.Opening.opens g.met.E.Opening.opens_refl c.args.owner c.args.edge c.args.capacity
+    opened_own g.E.Ends.view g.E.Meeting.joins g.E.Meeting.slots g.E.Opening.opens g.met.E.Opening.opens_refl c.args.owner c.args.edge c.args.kind c.args.capacity
     c.args.ends.now c.index-ends-owner.result c.open_own.new.self c.if-owner.true c.requires.writer both joined room
     )) done.both done.joined done.places
 
@@ -16,7 +16,7 @@ returns-then-owner-2 g c =
     let new = c.open_with.new in
     let done = c.open_with.ensures in
     on_all c.open_with.result (λ at_w at_r joined room. (
-    opened_before g.E.Ends.view g.E.Meeting.joins g.E.Meeting.slots g.E.Opening.opens g.met.E.Opening.opens_refl c.args.owner c.args.edge c.args.capacity
+    opened_before g.E.Ends.view g.E.Meeting.joins g.E.Meeting.slots g.E.Opening.opens g.met.E.Opening.opens_refl c.args.owner c.args.edge c.args.kind c.args.capacity
     c.args.ends.now parts.result.0.now parts.result.1.now parts.ensures.value c.index-front-owner.result c.index-back-0.result new.self new.other
     parts.ensures.front_len c.if-owner-2.true c.requires.reader c.index-front-owner.is c.index-back-0.is at_w at_r joined room
     )) done.writer done.reader done.joined done.places
@@ -27,7 +27,7 @@ returns-else-owner-2 g c =
     let new = c.open_with-else-owner-2.new in
     let done = c.open_with-else-owner-2.ensures in
     on_all c.open_with-else-owner-2.result (λ at_w at_r joined room. (
-    opened_after g.E.Ends.view g.E.Meeting.joins g.E.Meeting.slots g.E.Opening.opens g.met.E.Opening.opens_refl c.args.owner c.args.edge c.args.capacity
+    opened_after g.E.Ends.view g.E.Meeting.joins g.E.Meeting.slots g.E.Opening.opens g.met.E.Opening.opens_refl c.args.owner c.args.edge c.args.kind c.args.capacity
     c.args.ends.now parts.result.0.now parts.result.1.now parts.ensures.value c.index-front-owner-else-owner-2.result c.index-back-0-else-owner-2.result new.other new.self
     parts.ensures.front_len (omega (arith, c.if-owner.false, c.if-owner-2.false)) c.requires.writer c.index-front-owner-else-owner-2.is c.index-back-0-else-owner-2.is at_r at_w joined room
     )) done.writer done.reader done.joined done.places
