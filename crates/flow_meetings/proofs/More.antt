@@ -177,3 +177,10 @@ module _ {X : Type 0} (view : X → View) (joins : X → X → ℕ → Type 0) (
           let here = reads_there all kinds capacity i.reader e w (view (get_or new i.reader d)) b l refl in
           fresh_met (view (get_or new i.writer d)) (view (get_or new i.reader d)) capacity e (a.sent e there) (a.room e there) (b.received e here) (b.coming e here);
     }
+
+-- fresh ends, where the lists are named otherwise
+pub fresh_as : {X : Type 0} (view : X → View) (joins : X → X → ℕ → Type 0) (places : X → ℕ → ℕ) (capacity : ℕ) {ws ws' : List EdgeOwners} {ks ks' : List Kind} {es es' : List X} → ws ≡ ws' → ks ≡ ks' → es ≡ es' → AreFreshEnds view joins places ws ks capacity es → AreFreshEnds view joins places ws' ks' capacity es'
+fresh_as view joins places capacity {ws} {ws'} {ks} {ks'} {es} {es'} p q r all =
+    subst (λ ws. AreFreshEnds view joins places ws ks' capacity es') p
+    (subst (λ ks. AreFreshEnds view joins places ws ks capacity es') q
+    (subst (λ es. AreFreshEnds view joins places ws ks capacity es) r all))

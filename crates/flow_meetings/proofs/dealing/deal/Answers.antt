@@ -1,13 +1,14 @@
-use Rattle.std.proofs.Common.{◌≡◌, [], length, get_or, sym, ap, ◌∙◌, subst, arith}
+use Rattle.std.proofs.Common.{◌≡◌, [], length, get_or, refl, sym, ap, ◌∙◌, subst, arith}
 use Rattle.std.proofs.lemmas.List.{get_or-map, length-map}
 use Rattle.flow_graph.specs.Graphs.{states_of, edges_of}
 use Rattle.flow_graph.specs.Places.{states_in}
 use Rattle.flow_graph.specs.Skeletons.{edges_in}
 use Rattle.flow_graph.specs.Networks.{AreOpened}
 use Rattle.flow_shares.specs.Deals.{lists_in, AreJustDealt}
-use Rattle.flow_meetings.specs.Open.{edge_kinds, AreOwners, AreFreshEnds}
+use Rattle.flow_meetings.specs.Open.{edge_kinds, AreOwners}
 use Rattle.flow_meetings.specs.Deals.{MakeAShare, nodes_in}
 use Rattle.flow_meetings.proofs.Lists.{all_zipped}
+use Rattle.flow_meetings.proofs.More.{fresh_as}
 use Rattle.flow_meetings.proofs.Fits.{make_a_share}
 use Rattle.flow_meetings.proofs.Refused.{none_given}
 use Rattle.flow_meetings.proofs.dealing.deal.Goals as goal
@@ -24,11 +25,11 @@ make_shares-requires g c =
     let opened = subst (λ ns. AreOpened g.T.Transducer.behaviour (states_in ns)) (sym c.take_apart-nodes.ensures.nodes) c.requires.opened in
     let are = subst (λ es. AreOwners share es owners) c.edges.ensures c.in_ok-owners.ensures in
     let b = g.T.Transducer.behaviour in
-    let kinds : c.in_ok-kinds.kinds.items ≡ edge_kinds b (states_in nodes) skeleton =
-        c.in_ok-kinds.ensures ∙ sym (ap (λ es. edge_kinds b (states_of c.args.graph) es) c.take_apart-nodes.ensures.edges)
-        ∙ sym (ap (λ ns. edge_kinds b (states_in ns) skeleton) c.take_apart-nodes.ensures.nodes) in
-    let all = subst (λ ks. AreFreshEnds view g.E.Meeting.joins g.E.Meeting.slots owners ks c.args.capacity ends) (c.deref-kinds.ensures.value ∙ kinds)
-        (subst (λ ws. AreFreshEnds view g.E.Meeting.joins g.E.Meeting.slots ws c.deref-kinds.result.now c.args.capacity ends) c.deref.ensures.value c.in_ok-ends.ensures.opened) in
+    let kinds = edge_kinds b (states_in nodes) skeleton in
+    let same : c.in_ok-kinds.kinds.items ≡ kinds =
+    c.in_ok-kinds.ensures ∙ sym (ap (edge_kinds b (states_of c.args.graph)) c.take_apart-nodes.ensures.edges)
+    ∙ sym (ap (λ ns. edge_kinds b (states_in ns) skeleton) c.take_apart-nodes.ensures.nodes) in
+    let all = fresh_as view g.E.Meeting.joins g.E.Meeting.slots c.args.capacity {ks' = kinds} c.deref.ensures.value (c.deref-2.ensures.value ∙ same) refl c.in_ok-ends.ensures.opened in
     let many : length ends ≡ length lists = c.in_ok-ends.ensures.count ∙ sym c.in_ok-nodes.ensures.count in
     all_zipped (λ nodes ends. MakeAShare (view ends) nodes.items) lists ends many (λ s x y l. (
     subst (λ ns. MakeAShare (view (get_or ends s y)) ns) (get_or-map (λ nodes. nodes.items) lists s x [] l)
@@ -45,7 +46,6 @@ returns g c =
     let shares = c.in_ok-shares.shares.items in
     let owners = c.in_ok-owners.owners.items in
     let made = c.in_ok-shares.ensures in
-    let ends = c.in_ok-ends.ends.items in
     let kinds = edge_kinds g.T.Transducer.behaviour (states_of c.args.graph) (edges_of c.args.graph) in
     record {
       count = sym (length-map shares (λ share. share.nodes.items)) ∙ ap length made.nodes ∙ length-map lists (λ nodes. nodes.items) ∙ c.in_ok-nodes.ensures.count;
@@ -53,14 +53,14 @@ returns g c =
       nodes = subst (λ ns. AreJustDealt share ns (nodes_in shares)) c.take_apart-nodes.ensures.nodes (subst (λ dealt. AreJustDealt share nodes dealt) (sym made.nodes) c.in_ok-nodes.ensures.dealt);
       skeleton = c.take_apart-nodes.ensures.edges;
       owners = subst (λ es. AreOwners share es owners) (c.edges.ensures ∙ c.take_apart-nodes.ensures.edges) c.in_ok-owners.ensures;
-      ends = subst (λ l. AreFreshEnds view g.E.Meeting.joins g.E.Meeting.slots owners kinds c.args.capacity l) (sym made.ends) (
-          subst (λ ks. AreFreshEnds view g.E.Meeting.joins g.E.Meeting.slots owners ks c.args.capacity ends) (c.deref-kinds.ensures.value ∙ c.in_ok-kinds.ensures)
-          (subst (λ ws. AreFreshEnds view g.E.Meeting.joins g.E.Meeting.slots ws c.deref-kinds.result.now c.args.capacity ends) c.deref.ensures.value c.in_ok-ends.ensures.opened)
-          );
+      ends = fresh_as view g.E.Meeting.joins g.E.Meeting.slots c.args.capacity {ks' = kinds} c.deref.ensures.value (c.deref-2.ensures.value ∙ c.in_ok-kinds.ensures) (sym made.ends) c.in_ok-ends.ensures.opened;
     }
 
+pub returns-in_err-kinds : goal.returns-in_err-kinds
+returns-in_err-kinds g c = none_given _ c.from_residual.result c.from_residual.ensures.0
+
 pub returns-in_err-owners : goal.returns-in_err-owners
-returns-in_err-owners g c = none_given _ c.from_residual.result c.from_residual.ensures.0
+returns-in_err-owners g c = none_given _ c.from_residual-in_err-owners.result c.from_residual-in_err-owners.ensures.0
 
 pub returns-in_err-ends : goal.returns-in_err-ends
 returns-in_err-ends g c = none_given _ c.from_residual-in_err-ends.result c.from_residual-in_err-ends.ensures.0
