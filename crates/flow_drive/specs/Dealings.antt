@@ -3,7 +3,7 @@ use Rattle.std.specs.Prelude.{◌≡◌, ℕ, List, length}
 use Rattle.flow_messages.specs.declared.ends.Ends.{Ghosts as EndsGhosts}
 use Rattle.flow_base.specs.declared.transducer.Transducer.{Ghosts}
 use Rattle.flow_graph.specs.declared.graph.Graph.{Graph}
-use Rattle.flow_graph.specs.Graphs.{edges_of}
+use Rattle.flow_graph.specs.Graphs.{states_of, edges_of}
 use Rattle.flow_graph.specs.Skeletons.{nodes_of}
 use Rattle.flow_boxes.specs.declared.boxes.Boxes.{Boxes}
 use Rattle.flow_rings.specs.declared.rings.Rings.{Rings}
@@ -12,7 +12,7 @@ use Rattle.flow_meetings.specs.BoxMeetings.{BoxesJoin, box_slots}
 use Rattle.flow_meetings.specs.RingMeetings.{RingsJoin, ring_slots}
 use Rattle.flow_shares.specs.Deals.{AreJustDealt}
 use Rattle.flow_shares.specs.declared.share.Share.{Share}
-use Rattle.flow_meetings.specs.Open.{AreOwners, AreFreshEnds}
+use Rattle.flow_meetings.specs.Open.{edge_kinds, AreOwners, AreFreshEnds}
 use Rattle.flow_meetings.specs.declared.dealt.Dealt.{Dealt}
 use Rattle.flow_meetings.specs.Deals.{nodes_in, ends_in, AreNew, IsDealt}
 use Rattle.flow_meetings.specs.SharedNetworks.{SharedNetwork, shared_network}
@@ -41,8 +41,9 @@ module _ {X Y : Type 0} {t : Ghosts X} {u : EndsGhosts Y} where
     -- of each edge of the graph, the shares of its writer and its reader
     pub owners : List EdgeOwners
     pub are_owners : AreOwners config.share.items (edges_of graph) owners
-    -- each end of each edge lies in the share that its owner names, and nowhere else, and all are fresh
-    pub ends : AreFreshEnds u.view joins places owners config.capacity (ends_in shares)
+    -- each end of each edge lies in the share that its owner names, and nowhere else, all are fresh, and each takes
+    -- the items of its writer's port
+    pub ends : AreFreshEnds u.view joins places owners (edge_kinds t.behaviour (states_of graph) (edges_of graph)) config.capacity (ends_in shares)
 
 -- over boxes
 abbrev pub AreDealtOverBoxes : {X : Type 0} {t : Ghosts X} {u : EndsGhosts Boxes} → Graph X t → Config → List (Share X Boxes t u) → Type 0

@@ -2,13 +2,14 @@
 use Rattle.std.proofs.Common.{◌≡◌, ◌==◌, ℕ, ◌<◌, true, false, List, [], length, get_or, sym, ◌∙◌, ap, subst, arith}
 use Rattle.std.proofs.lemmas.Bool.{eqb-true}
 use Rattle.std.proofs.lemmas.List.{get_or-map}
+use Rattle.flow_messages.specs.declared.message.Kind.{Kind}
 use Rattle.flow_messages.specs.Tables.{at_line}
 use Rattle.flow_messages.specs.declared.ends.Ends.{Ghosts as EndsGhosts}
 use Rattle.flow_base.specs.declared.transducer.Transducer.{Ghosts}
 use Rattle.flow_graph.specs.declared.edge.Edge.{Edge}
 use Rattle.flow_graph.specs.declared.graph.Graph.{Graph}
 use Rattle.flow_graph.specs.Edges.{edge_at}
-use Rattle.flow_graph.specs.Graphs.{edges_of}
+use Rattle.flow_graph.specs.Graphs.{states_of, edges_of}
 use Rattle.flow_graph.specs.Skeletons.{nodes_of}
 use Rattle.flow_rings.specs.declared.rings.Rings.{Rings}
 use Rattle.flow_rings.proofs.RingLines.{at_line-there}
@@ -21,7 +22,7 @@ use Rattle.flow_meetings.specs.Joints.{end_view}
 use Rattle.flow_meetings.proofs.Parts.{any_of}
 use Rattle.flow_meetings.proofs.Views.{sent_at, received_at}
 use Rattle.flow_meetings.specs.declared.dealt.Dealt.{Dealt}
-use Rattle.flow_meetings.specs.Open.{HasFreshEnds}
+use Rattle.flow_meetings.specs.Open.{edge_kinds, HasFreshEnds}
 use Rattle.flow_meetings.specs.Deals.{nodes_in, ends_in, IsDealt}
 use Rattle.flow_meetings.specs.SharedNetworks.{SharedNetwork, shared_network, view_at, AreFed}
 use Rattle.flow_meetings.proofs.Lists.{total_none}
@@ -43,6 +44,9 @@ module _ {X : Type 0} {t : Ghosts X} {u : EndsGhosts Rings} (graph : Graph X t) 
 
   abbrev edges : List Edge
   edges = edges_of graph
+
+  abbrev kinds : List Kind
+  kinds = edge_kinds t.behaviour (states_of graph) edges
 
   abbrev shares : List (Share X Rings t u)
   shares = dealt.shares.items
@@ -67,11 +71,11 @@ module _ {X : Type 0} {t : Ghosts X} {u : EndsGhosts Rings} (graph : Graph X t) 
   owner e l = omega (arith, l, is.owners.count)
 
   -- the ends of share s are fresh
-  fresh_at : (s : ℕ) → s < length shares → HasFreshEnds owners capacity s (view_at shares s)
+  fresh_at : (s : ℕ) → s < length shares → HasFreshEnds owners kinds capacity s (view_at shares s)
   fresh_at s l =
       let inside : s < length rings = omega (arith, l, count_ends shares) in
       let d = any_of rings s inside in
-      subst (λ v. HasFreshEnds owners capacity s v) (sym (view_of_ends shares s d l)) (is.ends.fresh s d inside)
+      subst (λ v. HasFreshEnds owners kinds capacity s v) (sym (view_of_ends shares s d l)) (is.ends.fresh s d inside)
 
   -- and only those that the owners name it for
   only_writes : (s e : ℕ) → s < length shares → (view_at shares s).writes e ≡ true → (e < length edges) × (s ≡ writer e)
@@ -105,12 +109,12 @@ module _ {X : Type 0} {t : Ghosts X} {u : EndsGhosts Rings} (graph : Graph X t) 
   none_sent : (e : ℕ) → e < length edges → (end_view share edges (view_at shares)).sent e ≡ []
   none_sent e l =
       let fresh = fresh_at (writer e) (writer_is_share network shares dealt_graph e l) in
-      sent_at share edges (view_at shares) e l ∙ fresh.sent e (writes_there owners capacity (writer e) e none (view_at shares (writer e)) fresh (owner e l) (is.owners.writers e none l))
+      sent_at share edges (view_at shares) e l ∙ fresh.sent e (writes_there owners kinds capacity (writer e) e none (view_at shares (writer e)) fresh (owner e l) (is.owners.writers e none l))
 
   none_received : (e : ℕ) → e < length edges → (end_view share edges (view_at shares)).received e ≡ []
   none_received e l =
       let fresh = fresh_at (reader e) (reader_is_share network shares dealt_graph e l) in
-      received_at share edges (view_at shares) e l ∙ fresh.received e (reads_there owners capacity (reader e) e none (view_at shares (reader e)) fresh (owner e l) (is.owners.readers e none l))
+      received_at share edges (view_at shares) e l ∙ fresh.received e (reads_there owners kinds capacity (reader e) e none (view_at shares (reader e)) fresh (owner e l) (is.owners.readers e none l))
 
   pub dealt_none : moved_in network shares ≡ 0
   dealt_none = total_none _ (length edges) (λ e l. omega (arith, ap length (none_sent e l), ap length (none_received e l)))
