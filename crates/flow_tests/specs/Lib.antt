@@ -1,3 +1,4 @@
 pub mod NoEnds
 pub mod Joined
 pub mod Ints
+pub mod Taking

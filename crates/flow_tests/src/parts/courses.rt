@@ -1,14 +1,16 @@
 // Courses over edges: what is done at their ends, step by step, and what is to come of it. Each is a row, of boxes or of rings.
 ghost use Rattle.std.specs.Prelude.{◌≡◌, ◌<◌, ◌≤◌, ℕ, length, slice_index_or};
 ghost use Rattle.std.specs.List.{All};
+ghost use Rattle.flow_messages.specs.Ends.{SameEnds};
 ghost use Rattle.flow_messages.specs.Limits.{greatest_capacity};
 ghost use Rattle.flow_tests.specs.Joined.{AreJoined};
+ghost use Rattle.flow_tests.specs.Taking.{AllTake};
 
 use crate::parts::messages::{is_message, is_refused, message};
-use crate::parts::opened::{own_owner, owners};
+use crate::parts::opened::{alike, own_owner, owners};
 use flow_boxes::Boxes;
 use flow_meetings::{EdgeOwners, Meeting, Opening, meet_all, open_all};
-use flow_messages::{CountedEnds, Why};
+use flow_messages::{CountedEnds, Kind, Why};
 use flow_rings::Rings;
 use std::alloc::{AllocError, Global};
 use std::process::Abort;
@@ -57,6 +59,8 @@ enum CourseStep {
 struct Course {
     name: &'static str,
     shares: Shares,
+    // The kind of the items on each edge.
+    kind: Kind,
     // How many messages each edge holds: 1 or 2.
     capacity: usize,
     steps: &'static [CourseStep],
@@ -75,6 +79,7 @@ enum Shares {
 const EACH_WAY: Course = Course {
     name: "each way",
     shares: Shares::Two,
+    kind: Kind::Int,
     capacity: 1,
     steps: &[
         CourseStep::At(0, 0, Act::Puts(Some(1))),
@@ -86,9 +91,10 @@ const EACH_WAY: Course = Course {
 };
 
 // Rings show no slice. A block that was put comes one message after another.
-const BLOCKS_OVER_RINGS: Course = Course {
-    name: "blocks over rings",
+const INTS_OVER_RINGS: Course = Course {
+    name: "integers over rings",
     shares: Shares::One,
+    kind: Kind::Int,
     capacity: 2,
     steps: &[
         CourseStep::At(0, 0, Act::Blocks(Block::PutsInts(&[5, 6]))),
@@ -96,22 +102,44 @@ const BLOCKS_OVER_RINGS: Course = Course {
         CourseStep::At(0, 0, Act::Blocks(Block::ShowsInts(&[]))),
         CourseStep::At(0, 0, Act::Blocks(Block::SkipsOne)),
         CourseStep::At(0, 0, Act::Takes(Some(6))),
-        CourseStep::Meet,
-        CourseStep::At(0, 0, Act::Blocks(Block::PutsFlags(&[true]))),
-        CourseStep::At(0, 0, Act::Blocks(Block::PutsUnits(1))),
-        CourseStep::Meet,
-        CourseStep::At(0, 0, Act::Blocks(Block::ShowsFlags(&[]))),
-        CourseStep::At(0, 0, Act::Blocks(Block::SkipsOne)),
-        CourseStep::At(0, 0, Act::Blocks(Block::ShowsUnits(0))),
-        CourseStep::At(0, 0, Act::Blocks(Block::SkipsOne)),
-        CourseStep::At(0, 0, Act::Counts(4, 4)),
+        CourseStep::At(0, 0, Act::Counts(2, 2)),
     ],
 };
 
-// A box shows as slices what has come to it, also where some was left before. Units after a truth value come by themselves.
-const BLOCKS_OVER_BOXES: Course = Course {
-    name: "blocks over boxes",
+const FLAGS_OVER_RINGS: Course = Course {
+    name: "truth values over rings",
     shares: Shares::One,
+    kind: Kind::Bool,
+    capacity: 2,
+    steps: &[
+        CourseStep::At(0, 0, Act::Blocks(Block::PutsFlags(&[true]))),
+        CourseStep::Meet,
+        CourseStep::At(0, 0, Act::Blocks(Block::ShowsFlags(&[]))),
+        CourseStep::At(0, 0, Act::Blocks(Block::SkipsOne)),
+        CourseStep::At(0, 0, Act::Counts(1, 1)),
+    ],
+};
+
+const UNITS_OVER_RINGS: Course = Course {
+    name: "units over rings",
+    shares: Shares::One,
+    kind: Kind::Unit,
+    capacity: 2,
+    steps: &[
+        CourseStep::At(0, 0, Act::Blocks(Block::PutsUnits(2))),
+        CourseStep::Meet,
+        CourseStep::At(0, 0, Act::Blocks(Block::ShowsUnits(0))),
+        CourseStep::At(0, 0, Act::Blocks(Block::SkipsOne)),
+        CourseStep::At(0, 0, Act::Blocks(Block::SkipsOne)),
+        CourseStep::At(0, 0, Act::Counts(2, 2)),
+    ],
+};
+
+// A box shows as slices what has come to it, also where some was left before.
+const INTS_OVER_BOXES: Course = Course {
+    name: "integers over boxes",
+    shares: Shares::One,
+    kind: Kind::Int,
     capacity: 2,
     steps: &[
         CourseStep::At(0, 0, Act::Blocks(Block::PutsInts(&[5, 6]))),
@@ -126,33 +154,51 @@ const BLOCKS_OVER_BOXES: Course = Course {
         CourseStep::At(0, 0, Act::Blocks(Block::SkipsOne)),
         CourseStep::At(0, 0, Act::Takes(Some(7))),
         CourseStep::Meet,
-        CourseStep::At(0, 0, Act::Blocks(Block::PutsFlags(&[true]))),
-        CourseStep::At(0, 0, Act::Blocks(Block::PutsUnits(1))),
-        CourseStep::Meet,
-        CourseStep::At(0, 0, Act::Blocks(Block::ShowsFlags(&[true]))),
-        CourseStep::At(0, 0, Act::Blocks(Block::SkipsOne)),
-        CourseStep::At(0, 0, Act::Blocks(Block::ShowsUnits(0))),
-        CourseStep::At(0, 0, Act::Blocks(Block::SkipsOne)),
-        CourseStep::Meet,
-        CourseStep::At(0, 0, Act::Blocks(Block::PutsUnits(2))),
-        CourseStep::Meet,
-        CourseStep::At(0, 0, Act::Blocks(Block::ShowsUnits(2))),
-        CourseStep::At(0, 0, Act::Counts(7, 5)),
-        CourseStep::At(0, 0, Act::Blocks(Block::SkipsOne)),
-        CourseStep::At(0, 0, Act::Blocks(Block::SkipsOne)),
-        CourseStep::Meet,
         CourseStep::At(0, 0, Act::Puts(None)),
-        CourseStep::At(0, 0, Act::Blocks(Block::PutsFlags(&[true]))),
-        CourseStep::At(0, 0, Act::Counts(8, 7)),
+        CourseStep::At(0, 0, Act::Blocks(Block::PutsInts(&[8]))),
+        CourseStep::At(0, 0, Act::Counts(4, 3)),
     ],
 };
 
-const OVER_BOXES: [Course; 4] = [
+const FLAGS_OVER_BOXES: Course = Course {
+    name: "truth values over boxes",
+    shares: Shares::One,
+    kind: Kind::Bool,
+    capacity: 2,
+    steps: &[
+        CourseStep::At(0, 0, Act::Blocks(Block::PutsFlags(&[true]))),
+        CourseStep::Meet,
+        CourseStep::At(0, 0, Act::Blocks(Block::ShowsFlags(&[true]))),
+        CourseStep::At(0, 0, Act::Blocks(Block::SkipsOne)),
+        CourseStep::At(0, 0, Act::Counts(1, 1)),
+    ],
+};
+
+const UNITS_OVER_BOXES: Course = Course {
+    name: "units over boxes",
+    shares: Shares::One,
+    kind: Kind::Unit,
+    capacity: 2,
+    steps: &[
+        CourseStep::At(0, 0, Act::Blocks(Block::PutsUnits(2))),
+        CourseStep::Meet,
+        CourseStep::At(0, 0, Act::Blocks(Block::ShowsUnits(2))),
+        CourseStep::At(0, 0, Act::Counts(2, 0)),
+        CourseStep::At(0, 0, Act::Blocks(Block::SkipsOne)),
+        CourseStep::At(0, 0, Act::Blocks(Block::SkipsOne)),
+        CourseStep::At(0, 0, Act::Counts(2, 2)),
+    ],
+};
+
+const OVER_BOXES: [Course; 6] = [
     EACH_WAY,
-    BLOCKS_OVER_BOXES,
+    INTS_OVER_BOXES,
+    FLAGS_OVER_BOXES,
+    UNITS_OVER_BOXES,
     Course {
         name: "messages pass between rounds only",
         shares: Shares::Two,
+        kind: Kind::Int,
         capacity: 2,
         steps: &[
             CourseStep::At(0, 0, Act::HasEnds(true, false)),
@@ -177,6 +223,7 @@ const OVER_BOXES: [Course; 4] = [
     Course {
         name: "both boxes in one share",
         shares: Shares::One,
+        kind: Kind::Int,
         capacity: 1,
         steps: &[
             CourseStep::At(0, 0, Act::Puts(Some(1))),
@@ -194,12 +241,15 @@ const OVER_BOXES: [Course; 4] = [
     },
 ];
 
-const OVER_RINGS: [Course; 4] = [
+const OVER_RINGS: [Course; 6] = [
     EACH_WAY,
-    BLOCKS_OVER_RINGS,
+    INTS_OVER_RINGS,
+    FLAGS_OVER_RINGS,
+    UNITS_OVER_RINGS,
     Course {
         name: "messages cross in order",
         shares: Shares::Two,
+        kind: Kind::Int,
         capacity: 2,
         steps: &[
             CourseStep::At(0, 0, Act::HasEnds(true, false)),
@@ -222,6 +272,7 @@ const OVER_RINGS: [Course; 4] = [
     Course {
         name: "both ends in one share",
         shares: Shares::One,
+        kind: Kind::Int,
         capacity: 1,
         steps: &[
             CourseStep::At(0, 0, Act::HasRoom(true)),
@@ -235,14 +286,25 @@ const OVER_RINGS: [Course; 4] = [
     },
 ];
 
-/// Does this at the ends of an edge. Whether what is to come of it comes.
-pub fn acts<E: CountedEnds>(ends: &mut E, edge: usize, act: Act) -> bool
-    ensures { E.same ends.old ends.new }
+/// The kind of the items that it puts.
+pub fn kind_put(act: Act) -> Kind {
+    match act {
+        Act::Blocks(Block::PutsUnits(_)) => Kind::Unit,
+        Act::Blocks(Block::PutsFlags(_)) => Kind::Bool,
+        _ => Kind::Int,
+    }
+}
+
+/// Does this at the ends of an edge, where only items of this kind are put. Whether what is to come of it comes.
+pub fn acts<E: CountedEnds>(ends: &mut E, edge: usize, kind: Kind, act: Act) -> bool
+    requires { AllTake (E.view ends.old) kind }
+    ensures same { E.same ends.old ends.new }
+    ensures ends { SameEnds (E.view ends.old) (E.view ends.new) }
 {
     let (writes, reads) = (ends.has_writer(edge), ends.has_reader(edge));
     match act {
-        Act::Puts(of) => writes && ends.put(edge, message(of)).is_ok(),
-        Act::IsRefused(of, cause) => writes && is_refused(ends.put(edge, message(of)), of, cause),
+        Act::Puts(of) => puts(ends, edge, kind, of, None),
+        Act::IsRefused(of, cause) => puts(ends, edge, kind, of, Some(cause)),
         Act::Takes(of) => reads && is_message(ends.take(edge), of),
         Act::TakesNothing => reads && ends.take(edge).is_none(),
         Act::HasRoom(room) => writes && ends.room(edge) == room,
@@ -254,23 +316,48 @@ pub fn acts<E: CountedEnds>(ends: &mut E, edge: usize, act: Act) -> bool
                 && ends.sent_count(edge) == sent
                 && ends.received_count(edge) == received
         }
-        Act::Blocks(block) => goes_in_blocks(ends, edge, block),
+        Act::Blocks(block) => goes_in_blocks(ends, edge, kind, block),
+    }
+}
+
+// Puts a number, or `End`, where integers are put. Whether it is put, or is refused for this cause.
+fn puts<E: CountedEnds>(
+    ends: &mut E,
+    edge: usize,
+    kind: Kind,
+    of: Option<i128>,
+    refused: Option<Why>,
+) -> bool
+    requires { AllTake (E.view ends.old) kind }
+    ensures same { E.same ends.old ends.new }
+    ensures ends { SameEnds (E.view ends.old) (E.view ends.new) }
+{
+    if kind != Kind::Int || !ends.has_writer(edge) {
+        return false;
+    }
+    let answer = ends.put(edge, message(of));
+    match refused {
+        Some(cause) => is_refused(answer, of, cause),
+        None => answer.is_ok(),
     }
 }
 
 // Does this with a block of an edge. Whether what is to come of it comes.
-fn goes_in_blocks<E: CountedEnds>(ends: &mut E, edge: usize, block: Block) -> bool
-    ensures { E.same ends.old ends.new }
+fn goes_in_blocks<E: CountedEnds>(ends: &mut E, edge: usize, kind: Kind, block: Block) -> bool
+    requires { AllTake (E.view ends.old) kind }
+    ensures same { E.same ends.old ends.new }
+    ensures ends { SameEnds (E.view ends.old) (E.view ends.new) }
 {
     let (writes, reads) = (ends.has_writer(edge), ends.has_reader(edge));
     match block {
-        Block::PutsUnits(count) if writes && ends.space(edge) >= count => ends.put_units(
-            edge, count,
-        ),
-        Block::PutsFlags(flags) if writes && ends.space(edge) >= flags.len() => {
+        Block::PutsUnits(count) if writes && kind == Kind::Unit && ends.space(edge) >= count => {
+            ends.put_units(edge, count);
+        }
+        Block::PutsFlags(flags)
+            if writes && kind == Kind::Bool && ends.space(edge) >= flags.len() => {
             ends.put_flags(edge, flags);
         }
-        Block::PutsInts(ints) if writes && ends.space(edge) >= ints.len() => {
+        Block::PutsInts(ints) if writes && kind == Kind::Int && ends.space(edge) >= ints.len() => {
             ends.put_ints(edge, ints);
         }
         Block::SkipsOne if reads && ends.ready(edge) => ends.skip(edge, 1),
@@ -283,25 +370,36 @@ fn goes_in_blocks<E: CountedEnds>(ends: &mut E, edge: usize, block: Block) -> bo
 }
 
 // The same in the share of this number.
-fn act_in<E: CountedEnds>(ends: &mut [E], share: usize, edge: usize, act: Act) -> bool
-    requires { share < length ends.old }
-    ensures { (s : ℕ) (d : _) → s < length ends.old →
+fn act_in<E: CountedEnds>(ends: &mut [E], share: usize, edge: usize, kind: Kind, act: Act) -> bool
+    requires there { share < length ends.old }
+    requires takes { All (λ a. AllTake (E.view a) kind) ends.old }
+    ensures takes { All (λ a. AllTake (E.view a) kind) ends.new }
+    ensures same { (s : ℕ) (d : _) → s < length ends.old →
         E.same (slice_index_or ends.old s d) (slice_index_or ends.new s d) }
 {
-    acts(&mut ends[share], edge, act)
+    acts(&mut ends[share], edge, kind, act)
 }
 
 // Makes a step over the ends of shares. Whether what is to come of it comes.
-fn goes<E: Meeting + CountedEnds>(ends: &mut [E], owners: &[EdgeOwners], step: CourseStep) -> bool
-    requires { AreJoined E.joins owners.now ends.old }
-    ensures { AreJoined E.joins owners.now ends.new }
+fn goes<E: Meeting + CountedEnds>(
+    ends: &mut [E],
+    owners: &[EdgeOwners],
+    kind: Kind,
+    step: CourseStep,
+) -> bool
+    requires joined { AreJoined E.joins owners.now ends.old }
+    requires takes { All (λ a. AllTake (E.view a) kind) ends.old }
+    ensures joined { AreJoined E.joins owners.now ends.new }
+    ensures takes { All (λ a. AllTake (E.view a) kind) ends.new }
 {
     match step {
         CourseStep::Meet => {
             meet_all(ends, owners);
             true
         }
-        CourseStep::At(share, edge, act) => share < ends.len() && act_in(ends, share, edge, act),
+        CourseStep::At(share, edge, act) => {
+            share < ends.len() && act_in(ends, share, edge, kind, act)
+        }
     }
 }
 
@@ -309,12 +407,14 @@ fn goes<E: Meeting + CountedEnds>(ends: &mut [E], owners: &[EdgeOwners], step: C
 fn first_wrong<E: Meeting + CountedEnds>(
     ends: &mut [E],
     owners: &[EdgeOwners],
+    kind: Kind,
     steps: &[CourseStep],
 ) -> Option<usize>
-    requires { AreJoined E.joins owners.now ends.old }
+    requires joined { AreJoined E.joins owners.now ends.old }
+    requires takes { All (λ a. AllTake (E.view a) kind) ends.old }
 {
     for (number, &step) in steps.iter().enumerate() {
-        if !goes(ends, owners, step) {
+        if !goes(ends, owners, kind, step) {
             return Some(number);
         }
     }
@@ -326,6 +426,7 @@ fn first_over<E: Opening + CountedEnds + Drop>(
     alloc: Global,
     shares: usize,
     owners: &[EdgeOwners],
+    kind: Kind,
     capacity: usize,
     steps: &[CourseStep],
 ) -> Result<Option<usize>, AllocError>
@@ -334,8 +435,9 @@ fn first_over<E: Opening + CountedEnds + Drop>(
     requires writers { All (λ owner. owner.writer < shares) owners.now }
     requires readers { All (λ owner. owner.reader < shares) owners.now }
 {
-    let mut ends: Vec<E> = open_all(alloc, shares, owners, capacity)?;
-    Ok(first_wrong(&mut ends, owners, steps))
+    let kinds = alike(alloc, owners.len(), kind)?;
+    let mut ends: Vec<E> = open_all(alloc, shares, owners, &kinds, capacity)?;
+    Ok(first_wrong(&mut ends, owners, kind, steps))
 }
 
 // The number of the first step of a course that does not go, if there is one.
@@ -343,10 +445,10 @@ fn first_of<E: Opening + CountedEnds + Drop>(
     alloc: Global,
     course: &Course,
 ) -> Result<Option<usize>, AllocError> {
-    let capacity = course.capacity.clamp(1, 2);
+    let (kind, capacity) = (course.kind, course.capacity.clamp(1, 2));
     match course.shares {
-        Shares::Two => first_over::<E>(alloc, 2, &owners(), capacity, course.steps),
-        Shares::One => first_over::<E>(alloc, 1, &own_owner(), capacity, course.steps),
+        Shares::Two => first_over::<E>(alloc, 2, &owners(), kind, capacity, course.steps),
+        Shares::One => first_over::<E>(alloc, 1, &own_owner(), kind, capacity, course.steps),
     }
 }
 

@@ -1,5 +1,5 @@
 // Edges of one thread.
-use crate::parts::courses::{Act, Block, acts};
+use crate::parts::courses::{Act, Block, acts, kind_put};
 use flow_messages::{Ends, Table, WholeEnds, Why};
 use std::process::Abort;
 use std::test::Fail;
@@ -7,7 +7,7 @@ use std::test::Fail;
 // The number of the first act that does not go at its edge, if there is one.
 fn first_wrong(table: &mut Table, all: &[(usize, Act)]) -> Option<usize> {
     for (number, &(edge, act)) in all.iter().enumerate() {
-        if !acts(table, edge, act) {
+        if !acts(table, edge, kind_put(act), act) {
             return Some(number);
         }
     }
