@@ -1,3 +1,6 @@
 pub mod Credits
 pub mod Taken
 pub mod Lane
+pub mod SameLanes
+pub mod Rings
+pub mod SameEnds

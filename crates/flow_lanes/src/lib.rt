@@ -3,6 +3,8 @@
 //! A lane of messages is an edge of flow_rings. A lane of scalars of one kind is two: over the first go the messages, and the
 //! reader takes as many as it finds into a pocket, with one look. Over the second it tells the writer how many it took out
 //! of the pocket. So the writer never puts more than the lane may hold, the pocket counted.
+//!
+//! [`Rings`] owns the ends that a share of a network has, each at the number of its lane.
 #![tactic(auto)]
 
 mod counted;
@@ -12,7 +14,10 @@ mod making;
 mod meeting;
 mod pocket;
 mod reader;
+mod rings;
+mod rings_ends;
 mod taking;
+mod theorems;
 mod writer;
 
 pub use counted::CountedWriter;
@@ -20,3 +25,5 @@ pub use ends::{LaneReader, LaneWriter};
 pub use making::lane;
 pub use meeting::meet_lane;
 pub use pocket::Pocket;
+pub use rings::Rings;
+pub use theorems::rings_stay_joined;

@@ -10,7 +10,7 @@ ghost use Rattle.flow_lanes.specs.Lane.{sent, received, certain_room, certain_he
 use crate::counted::CountedWriter;
 use crate::ends::{LaneReader, LaneWriter};
 use crate::pocket::Pocket;
-use crate::taking::tell;
+use crate::taking::{take_each, tell};
 use flow_rings::{EdgeReader, EdgeWriter, Held, meet};
 
 /// Has both ends of a lane see each other: how many messages the lane holds, and how many more it has
@@ -93,18 +93,6 @@ fn hear(teller: &mut EdgeWriter, back: &mut EdgeReader)
     ensures room { ring.edge_capacity teller.new ≤ ring.certain_room teller.new }
 {
     let found = meet(teller, back);
-    drain(back, found.count);
+    take_each(back, found.count);
     meet(teller, back);
-}
-
-// Takes so many messages that are certain.
-fn drain(back: &mut EdgeReader, count: usize)
-    requires { count ≤ length (ring.certain_held back.old) }
-    ensures same { ring.SameReader back.old back.new }
-    ensures taken { ring.received back.new ≡
-        ring.received back.old ++ take count (ring.certain_held back.old) }
-{
-    for _ in 0..count {
-        let _ = back.take();
-    }
 }

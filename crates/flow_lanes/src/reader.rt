@@ -6,6 +6,7 @@ ghost use Rattle.flow_messages.specs.Contents.{unit_messages, flag_messages, int
 ghost use Rattle.flow_lanes.specs.Lane.{received, certain_held, SameReader};
 
 use crate::ends::LaneReader;
+use crate::taking::take_each;
 use flow_messages::Msg;
 
 impl LaneReader {
@@ -42,14 +43,29 @@ impl LaneReader {
         }
     }
 
-    /// How many of the messages that are certain can be taken in one call.
+    /// Takes so many of the messages that are certain, and drops them.
     #[inline(always)]
-    pub fn held_here(&self) -> usize
-        ensures { result ≤ length (certain_held self.now) }
+    pub fn skip(&mut self, count: usize)
+        requires { count ≤ length (certain_held self.old) }
+        ensures same { SameReader self.old self.new }
+        ensures taken { received self.new ≡
+            received self.old ++ take count (certain_held self.old) }
+        ensures ahead { IsPrefix (certain_held self.old)
+            (take count (certain_held self.old) ++ certain_held self.new) }
     {
         match self {
-            LaneReader::Messages(_) => 0,
-            LaneReader::Scalars(pocket) => pocket.inbox.store.len(),
+            LaneReader::Scalars(pocket) => pocket.take_many(count),
+            LaneReader::Messages(edge) => take_each(edge, count),
+        }
+    }
+
+    /// How many messages were taken. The count stays at `u64::MAX`.
+    pub fn received_count(&self) -> u64
+        ensures { result ≡ u64_saturate (length (received self.now)) }
+    {
+        match self {
+            LaneReader::Messages(edge) => edge.received_count(),
+            LaneReader::Scalars(pocket) => pocket.inbox.taken,
         }
     }
 

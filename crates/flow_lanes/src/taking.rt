@@ -6,7 +6,7 @@ ghost use Rattle.flow_messages.specs.declared.message.Msg.TheVariants.{Item as I
 ghost use Rattle.flow_messages.specs.declared.message.Item.TheVariants.{Int as IntItem};
 ghost use Rattle.flow_messages.specs.Stores.{content_of};
 ghost use Rattle.flow_boxes.specs.Received.{received_of};
-ghost use Rattle.flow_rings.specs.Edge.{certain_room, kind_of, SameReader, SameWriter};
+ghost use Rattle.flow_rings.specs.Edge.{certain_held, certain_room, kind_of, received, SameReader, SameWriter};
 ghost use Rattle.flow_rings.specs.Flats.{messages_of};
 ghost use Rattle.flow_lanes.specs.Credits.{Owes};
 ghost use Rattle.flow_lanes.specs.Taken.{taken_from, held_in};
@@ -15,7 +15,7 @@ use crate::pocket::Pocket;
 use flow_boxes::Inbox;
 use flow_history::History;
 use flow_messages::{Item, Msg};
-use flow_rings::{Block, EdgeWriter};
+use flow_rings::{Block, EdgeReader, EdgeWriter};
 
 // After so many messages the writer is told at once.
 const MANY: u64 = 64;
@@ -60,6 +60,20 @@ fn keep(inbox: &mut Inbox, block: &Block)
 {
     for flat in block.as_slice() {
         inbox.push(flat.message());
+    }
+}
+
+// Takes so many messages that are certain.
+pub(crate) fn take_each(reader: &mut EdgeReader, count: usize)
+    requires { count ≤ length (certain_held reader.old) }
+    ensures same { SameReader reader.old reader.new }
+    ensures taken { received reader.new ≡
+        received reader.old ++ take count (certain_held reader.old) }
+    ensures ahead { IsPrefix (certain_held reader.old)
+        (take count (certain_held reader.old) ++ certain_held reader.new) }
+{
+    for _ in 0..count {
+        let _ = reader.take();
     }
 }
 
@@ -128,9 +142,42 @@ impl Pocket {
         Some(message)
     }
 
+    // Takes so many of the messages that are certain, and drops them.
+    #[inline(always)]
+    pub(crate) fn take_many(&mut self, count: usize)
+        requires { count ≤ length (held_in self.old) }
+        ensures edge { SameReader self.old.edge self.new.edge }
+        ensures back { SameWriter self.old.back self.new.back }
+        ensures taken { taken_from self.new ≡
+            taken_from self.old ++ take count (held_in self.old) }
+        ensures ahead { IsPrefix (held_in self.old)
+            (take count (held_in self.old) ++ held_in self.new) }
+    {
+        if count <= self.inbox.store.len() {
+            self.skip(count);
+        } else {
+            self.take_one_by_one(count);
+        }
+    }
+
+    // Takes so many messages, one after another.
+    fn take_one_by_one(&mut self, count: usize)
+        requires { count ≤ length (held_in self.old) }
+        ensures edge { SameReader self.old.edge self.new.edge }
+        ensures back { SameWriter self.old.back self.new.back }
+        ensures taken { taken_from self.new ≡
+            taken_from self.old ++ take count (held_in self.old) }
+        ensures ahead { IsPrefix (held_in self.old)
+            (take count (held_in self.old) ++ held_in self.new) }
+    {
+        for _ in 0..count {
+            let _ = self.take();
+        }
+    }
+
     // Takes so many of the messages that are held, and drops them.
     #[inline(always)]
-    pub(crate) fn skip(&mut self, count: usize)
+    fn skip(&mut self, count: usize)
         requires { count ≤ length (content_of self.old.inbox.store) }
         ensures edge { self.new.edge ≡ self.old.edge }
         ensures back { SameWriter self.old.back self.new.back }

@@ -1,4 +1,4 @@
--- That the ring ends of a share may go to another thread. No search finds it by itself, since a ring is of one of four kinds.
+-- That the ends of an edge may go to another thread. No search finds it by itself, since a ring is of one of four kinds.
 use denote.Param.Send.{IsSend, sendable}
 use Rattle.std.proofs.Crossing.{crosses}
 use Rattle.std.proofs.Crossing as crossing
@@ -11,9 +11,8 @@ use Rattle.flow_rings.specs.contracts.ring.WriterRing as writer_ring
 use Rattle.flow_rings.specs.contracts.ring.ReaderRing as reader_ring
 use Rattle.flow_rings.specs.contracts.ring.EdgeWriter as writer
 use Rattle.flow_rings.specs.contracts.ring.EdgeReader as reader
-use Rattle.flow_rings.specs.contracts.rings.Rings as rings
 
-datum_sends : IsSend datum.the_field.row
+pub datum_sends : IsSend datum.the_field.row
 datum_sends = search (crosses, datum_knot.crosses, sendable) depth 60 fits 20000
 
 ruleset parts = (datum_sends, end.the_send, heap.the_field_send, flat.the_field_send, crossing.frees, crosses, sendable)
@@ -25,11 +24,8 @@ writer_ring_sends = search parts depth 60 fits 20000
 reader_ring_sends : IsSend reader_ring.the_field.row
 reader_ring_sends = search parts depth 60 fits 20000
 
-writer_sends : IsSend writer.the_field.row
+pub writer_sends : IsSend writer.the_field.row
 writer_sends = search (writer_ring_sends, crosses, sendable) depth 60 fits 20000
 
-reader_sends : IsSend reader.the_field.row
+pub reader_sends : IsSend reader.the_field.row
 reader_sends = search (reader_ring_sends, crosses, sendable) depth 60 fits 20000
-
-pub rings_send : IsSend rings.the_field.row
-rings_send = search (writer_sends, reader_sends, crosses, sendable) depth 60 fits 20000

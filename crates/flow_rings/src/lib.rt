@@ -16,10 +16,9 @@
 //!   are exactly what was put.
 //! - [`EdgeWriter::finish`] gives up the writer for a mark. With it the reader learns in
 //!   [`EdgeReader::after`] how many messages are left for it.
-//! - [`Rings`] owns the ends that a share of a network has, each at the number of its edge.
 //!
-//! No call waits for the other end, and none takes memory but [`edge`] and [`Rings::none`]. The ends are those of a ring
-//! of the crate `rtrb`.
+//! No call waits for the other end, and none takes memory but [`edge`] and [`scalar_edge`]. The ends are
+//! those of a ring of the crate `rtrb`.
 #![tactic(auto)]
 
 mod flat;
@@ -27,8 +26,6 @@ mod making;
 mod reader;
 mod receiving;
 mod ring;
-mod rings;
-mod rings_ends;
 mod sending;
 mod theorems;
 mod writer;
@@ -38,5 +35,4 @@ pub use making::{edge, meet, scalar_edge};
 pub use ring::{
     Closing, ClosingFlags, ClosingInts, ClosingUnits, EdgeReader, EdgeWriter, FinishedMark, Held,
 };
-pub use rings::Rings;
-pub use theorems::{all_was_received, rings_stay_joined, same_ends_are_an_edge};
+pub use theorems::{all_was_received, same_ends_are_an_edge};

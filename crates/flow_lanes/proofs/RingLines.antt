@@ -1,0 +1,149 @@
+-- One end of a share's rings, and the others.
+use Rattle.std.proofs.Common.{◌≡◌, ℕ, zero, suc, ◌+◌, ◌<◌, ◌≤◌, Bool, true, false, List, [], ◌∷◌, ◌++◌, length, refl, ap, sym, ◌∙◌, get_or, set, arith, append-nil}
+use Rattle.std.specs.Prelude.{Option, Some, None}
+use mathlib.Core.List.{IsPrefix}
+use Rattle.flow_messages.specs.declared.message.Msg.{Msg}
+use Rattle.flow_messages.specs.Signals.{signals, signal_of}
+use Rattle.flow_messages.specs.Ends.{View, held, SameEnds, LookedForRoom, LookedForMessages, Put, Taken, TakenAll}
+use Rattle.flow_messages.specs.Tables.{at_line}
+use Rattle.flow_messages.specs.TableLaws.{signals-length}
+use Rattle.flow_messages.proofs.Signals.{signals-nil, signals-cons, signals-snoc}
+use Rattle.flow_messages.proofs.Tables.{at_line-here, at_line-same, at_line-other, at_line-kept}
+use Rattle.flow_lanes.specs.declared.ends.LaneWriter.{LaneWriter}
+use Rattle.flow_lanes.specs.declared.ends.LaneReader.{LaneReader}
+use Rattle.flow_lanes.specs.Lane.{sent, received, certain_room, certain_held, kind_of, SameWriter}
+use Rattle.flow_lanes.specs.SameLanes.{same_kind}
+use Rattle.flow_lanes.specs.Rings.{kind_seen, sent_of, room_of, writes_of, received_of, coming_of, reads_of, view_of_rings}
+
+pub signals-append : (ms ns : List Msg) → signals (ms ++ ns) ≡ signals ms ++ signals ns
+unfolding signals
+signals-append [] ns = refl
+signals-append (m ∷ ms) ns = ap (λ l. signal_of m ∷ l) (signals-append ms ns)
+
+-- what begins a list of messages begins what they say
+pub signals-prefix : (ms ns : List Msg) → IsPrefix ms ns → IsPrefix (signals ms) (signals ns)
+signals-prefix ms ns p = (signals p.0, sym (signals-append ms p.0) ∙ ap signals p.1)
+
+module _ (ws : List (Option LaneWriter)) (rs : List (Option LaneReader)) (e : ℕ) (old : Option LaneWriter) (w v : LaneWriter) (h : e < length ws) (is : old ≡ get_or ws e old) (was : old ≡ Some w) (alike : SameWriter w v) where
+  abbrev before : View
+  before = view_of_rings ws rs
+
+  abbrev after : View
+  after = view_of_rings (set ws e (Some v)) rs
+
+  writer_ends : SameEnds before after
+  writer_ends = record { kinds = at_line-kept kind_seen ws e None old (Some v) h is (same_kind w v alike ∙ sym (ap kind_seen was)); writes = at_line-kept writes_of ws e false old (Some v) h is (sym (ap writes_of was)); reads = λ k. refl }
+
+  pub writer-room : after.room e ≡ certain_room v
+  writer-room = at_line-same room_of ws e 0 (Some v) h
+
+  pub had_kind : before.kind e ≡ kind_of w
+  had_kind = at_line-here kind_seen ws e None old h is ∙ ap kind_seen was
+
+  pub had_room : before.room e ≡ certain_room w
+  had_room = at_line-here room_of ws e 0 old h is ∙ ap room_of was
+
+  pub had_sent : before.sent e ≡ signals (sent w)
+  had_sent = at_line-here sent_of ws e [] old h is ∙ ap sent_of was
+
+  pub writer-put : (m : Msg) → sent v ≡ sent w ++ m ∷ [] → certain_room w ≤ certain_room v + 1 → Put before e (signal_of m) after
+  writer-put m grown room = record {
+    ends = writer_ends;
+    sent = at_line-same sent_of ws e [] (Some v) h ∙ ap signals grown ∙ signals-snoc (sent w) m ∙ ap (λ xs. xs ++ signal_of m ∷ []) (sym had_sent);
+    others = at_line-other sent_of ws e [] (Some v);
+    received = λ k. refl;
+    coming = λ k _. refl;
+    coming_here = ([], append-nil (before.coming e));
+    room = at_line-other room_of ws e 0 (Some v);
+    room_here = omega (arith, writer-room, had_room);
+  }
+
+  pub writer-looked : sent v ≡ sent w → certain_room w ≤ certain_room v → LookedForRoom before e after
+  writer-looked kept room = record {
+    ends = writer_ends;
+    traffic = record { sent = at_line-kept sent_of ws e [] old (Some v) h is (ap signals kept ∙ sym (ap sent_of was)); received = λ k. refl };
+    coming = λ k. refl;
+    room = at_line-other room_of ws e 0 (Some v);
+    more = omega (arith, writer-room, had_room);
+  }
+
+module _ (ws : List (Option LaneWriter)) (rs : List (Option LaneReader)) (e : ℕ) (old : Option LaneReader) (r v : LaneReader) (h : e < length rs) (is : old ≡ get_or rs e old) (was : old ≡ Some r) where
+  abbrev from : View
+  from = view_of_rings ws rs
+
+  abbrev till : View
+  till = view_of_rings ws (set rs e (Some v))
+
+  reader_ends : SameEnds from till
+  reader_ends = record { kinds = λ k. refl; reads = at_line-kept reads_of rs e false old (Some v) h is (sym (ap reads_of was)); writes = λ k. refl }
+
+  now_coming : till.coming e ≡ signals (certain_held v)
+  now_coming = at_line-same coming_of rs e [] (Some v) h
+
+  pub had_coming : from.coming e ≡ signals (certain_held r)
+  had_coming = at_line-here coming_of rs e [] old h is ∙ ap coming_of was
+
+  pub reader-held : held till e ≡ length (certain_held v)
+  reader-held = ap length now_coming ∙ signals-length (certain_held v)
+
+  pub had_received : from.received e ≡ signals (received r)
+  had_received = at_line-here received_of rs e [] old h is ∙ ap received_of was
+
+  pub had_held : held from e ≡ length (certain_held r)
+  had_held = ap length had_coming ∙ signals-length (certain_held r)
+
+  -- the first message that is certain to be held is the first that is certain to come
+  pub reader-front : (m : Msg) → IsPrefix (m ∷ []) (certain_held r) → IsPrefix (signal_of m ∷ []) (from.coming e)
+  reader-front m first =
+      let said = signals-prefix (m ∷ []) (certain_held r) first in
+      let one : signals (m ∷ []) ≡ signal_of m ∷ [] = signals-cons m [] ∙ ap (λ l. signal_of m ∷ l) signals-nil in
+      (said.0, ap (λ l. l ++ said.0) (sym one) ∙ said.1 ∙ sym had_coming)
+
+  pub reader-empty : certain_held v ≡ [] → held till e ≡ 0
+  reader-empty none = reader-held ∙ ap length none
+
+  pub reader-taken : (m : Msg) → received v ≡ received r ++ m ∷ [] → IsPrefix (certain_held r) (m ∷ certain_held v) → Taken from e (signal_of m) till
+  reader-taken m grown first =
+      let said = signals-prefix (certain_held r) (m ∷ certain_held v) first in
+      record {
+        ends = reader_ends;
+        received = at_line-same received_of rs e [] (Some v) h ∙ ap signals grown ∙ signals-snoc (received r) m ∙ ap (λ xs. xs ++ signal_of m ∷ []) (sym had_received);
+        others = at_line-other received_of rs e [] (Some v);
+        sent = λ k. refl;
+        room = λ k _. refl;
+        room_here = omega arith;
+        coming = at_line-other coming_of rs e [] (Some v);
+        coming_here = (said.0, ap (λ xs. xs ++ said.0) had_coming ∙ said.1 ∙ signals-cons m (certain_held v) ∙ ap (λ xs. signal_of m ∷ xs) (sym now_coming));
+      }
+
+  -- these messages were taken
+  pub reader-taken_all : (ms : List Msg) → received v ≡ received r ++ ms → IsPrefix (certain_held r) (ms ++ certain_held v) → TakenAll from e (signals ms) till
+  reader-taken_all ms grown first =
+      let said = signals-prefix (certain_held r) (ms ++ certain_held v) first in
+      record {
+        ends = reader_ends;
+        received = at_line-same received_of rs e [] (Some v) h ∙ ap signals grown ∙ signals-append (received r) ms ∙ ap (λ xs. xs ++ signals ms) (sym had_received);
+        others = at_line-other received_of rs e [] (Some v);
+        sent = λ k. refl;
+        room = λ k _. refl;
+        room_here = omega arith;
+        coming = at_line-other coming_of rs e [] (Some v);
+        coming_here = (said.0, ap (λ xs. xs ++ said.0) had_coming ∙ said.1 ∙ signals-append ms (certain_held v) ∙ ap (λ xs. signals ms ++ xs) (sym now_coming));
+      }
+
+  pub reader-looked : received v ≡ received r → IsPrefix (certain_held r) (certain_held v) → LookedForMessages from e till
+  reader-looked kept more =
+      let said = signals-prefix (certain_held r) (certain_held v) more in
+      record {
+        ends = reader_ends;
+        traffic = record { received = at_line-kept received_of rs e [] old (Some v) h is (ap signals kept ∙ sym (ap received_of was)); sent = λ k. refl };
+        room = λ k. refl;
+        coming = at_line-other coming_of rs e [] (Some v);
+        more = (said.0, ap (λ xs. xs ++ said.0) had_coming ∙ said.1 ∙ sym now_coming);
+      }
+
+-- where an end is there, the number is below the count
+pub at_line-there : {L : Type 0} (f : L → Bool) (ls : List L) (e : ℕ) → at_line f ls e false ≡ true → e < length ls
+at_line-there f [] e is = cc
+at_line-there f (l ∷ ls) zero is = omega arith
+at_line-there f (l ∷ ls) (suc e) is = omega (arith, at_line-there f ls e is)

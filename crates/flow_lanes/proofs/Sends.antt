@@ -1,0 +1,29 @@
+-- That the ends of a share may go to another thread. No search finds it by itself, since a ring is of one of four kinds.
+use denote.Param.Send.{IsSend, sendable}
+use Rattle.std.proofs.Crossing.{crosses}
+use Rattle.std.proofs.Crossing as crossing
+use Rattle.std.proofs.alloc.Global.TheSendSync as heap
+use Rattle.flow_history.proofs.History.TheSendSync as history
+use Rattle.flow_rings.proofs.Sends.{datum_sends, writer_sends, reader_sends}
+use Rattle.flow_lanes.specs.contracts.counted.CountedWriter as counted
+use Rattle.flow_lanes.specs.contracts.pocket.Pocket as pocket
+use Rattle.flow_lanes.specs.contracts.ends.LaneWriter as writer
+use Rattle.flow_lanes.specs.contracts.ends.LaneReader as reader
+use Rattle.flow_lanes.specs.contracts.rings.Rings as rings
+
+ruleset parts = (datum_sends, history.the_send, heap.the_field_send, crossing.frees, crosses, sendable)
+
+counted_sends : IsSend counted.the_field.row
+counted_sends = search (writer_sends, reader_sends, crosses, sendable) depth 60 fits 20000
+
+pocket_sends : IsSend pocket.the_field.row
+pocket_sends = search (writer_sends, reader_sends, parts) depth 60 fits 20000
+
+lane_writer_sends : IsSend writer.the_field.row
+lane_writer_sends = search (writer_sends, counted_sends, crosses, sendable) depth 60 fits 20000
+
+lane_reader_sends : IsSend reader.the_field.row
+lane_reader_sends = search (reader_sends, pocket_sends, crosses, sendable) depth 60 fits 20000
+
+pub rings_send : IsSend rings.the_field.row
+rings_send = search (lane_writer_sends, lane_reader_sends, crosses, sendable) depth 60 fits 20000
