@@ -17,8 +17,8 @@ use Rattle.flow_graph.specs.Networks.{state_at, configuration_of}
 use Rattle.flow_graph.specs.Places.{placed_state, states_in}
 use Rattle.flow_graph.specs.Shapes.{IsSameNetwork}
 use Rattle.flow_graph.proofs.Reached.{same_length, same_network, built_openings}
-use Rattle.flow_rings.specs.declared.rings.Rings.{Rings}
-use Rattle.flow_rings.specs.Rings.{ends_of}
+use Rattle.flow_lanes.specs.declared.rings.Rings.{Rings}
+use Rattle.flow_lanes.specs.Rings.{ends_of}
 use Rattle.flow_shares.specs.Deals.{share_of, AreDealt}
 use Rattle.flow_shares.specs.declared.share.Share.{Share}
 use Rattle.flow_meetings.specs.Joints.{nodes_at, no_ends, AreStates}

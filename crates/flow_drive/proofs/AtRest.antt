@@ -11,7 +11,7 @@ use Rattle.flow_graph.specs.Graphs.{edges_of}
 use Rattle.flow_graph.specs.Skeletons.{edges_in}
 use Rattle.flow_graph.specs.Networks.{network_of}
 use Rattle.flow_graph.proofs.Nets.{graph_wired}
-use Rattle.flow_rings.specs.Rings.{ends_of}
+use Rattle.flow_lanes.specs.Rings.{ends_of}
 use Rattle.flow_meetings.specs.RingMeetings.{RingsJoin}
 use Rattle.flow_meetings.specs.Deals.{nodes_in, ends_in}
 use Rattle.flow_drive.specs.declared.parts.Parts.{Parts}

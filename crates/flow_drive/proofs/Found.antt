@@ -10,8 +10,8 @@ use Rattle.flow_graph.specs.declared.placed.Placed.{Placed}
 use Rattle.flow_graph.specs.Edges.{edge_at}
 use Rattle.flow_graph.specs.Networks.{state_at}
 use Rattle.flow_graph.specs.Places.{placed_state}
-use Rattle.flow_rings.specs.declared.rings.Rings.{Rings}
-use Rattle.flow_rings.specs.Rings.{ends_of}
+use Rattle.flow_lanes.specs.declared.rings.Rings.{Rings}
+use Rattle.flow_lanes.specs.Rings.{ends_of}
 use Rattle.flow_meetings.specs.RingMeetings.{RingsJoin, rings_join_ends}
 use Rattle.flow_shares.specs.Deals.{share_of}
 use Rattle.flow_shares.specs.declared.share.Share.{Share}

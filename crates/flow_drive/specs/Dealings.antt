@@ -6,7 +6,7 @@ use Rattle.flow_graph.specs.declared.graph.Graph.{Graph}
 use Rattle.flow_graph.specs.Graphs.{states_of, edges_of}
 use Rattle.flow_graph.specs.Skeletons.{nodes_of}
 use Rattle.flow_boxes.specs.declared.boxes.Boxes.{Boxes}
-use Rattle.flow_rings.specs.declared.rings.Rings.{Rings}
+use Rattle.flow_lanes.specs.declared.rings.Rings.{Rings}
 use Rattle.flow_meetings.specs.declared.owners.EdgeOwners.{EdgeOwners}
 use Rattle.flow_meetings.specs.BoxMeetings.{BoxesJoin, box_slots}
 use Rattle.flow_meetings.specs.RingMeetings.{RingsJoin, ring_slots}

@@ -28,8 +28,8 @@ pub use Rattle.flow_graph.specs.MaximalRuns
 pub use Rattle.flow_graph.specs.Networks
 pub use Rattle.flow_graph.specs.Shapes
 -- of shares, and of the ends that they have
-pub use Rattle.flow_rings.specs.declared.rings.Rings as RingEnds
-pub use Rattle.flow_rings.specs.Rings
+pub use Rattle.flow_lanes.specs.declared.rings.Rings as RingEnds
+pub use Rattle.flow_lanes.specs.Rings
 pub use Rattle.flow_boxes.specs.declared.boxes.Boxes
 pub use Rattle.flow_meetings.specs.declared.owners.EdgeOwners
 pub use Rattle.flow_meetings.specs.BoxMeetings

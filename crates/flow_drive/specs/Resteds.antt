@@ -2,8 +2,8 @@
 use Rattle.std.specs.Prelude.{◌≡◌, ℕ, List, length}
 use Rattle.flow_messages.specs.Ends.{View}
 use Rattle.flow_messages.specs.declared.ends.Ends.{Ghosts as EndsGhosts}
-use Rattle.flow_rings.specs.declared.rings.Rings.{Rings}
-use Rattle.flow_rings.specs.Rings.{ends_of}
+use Rattle.flow_lanes.specs.declared.rings.Rings.{Rings}
+use Rattle.flow_lanes.specs.Rings.{ends_of}
 use Rattle.flow_meetings.specs.RingMeetings.{RingsJoin}
 use Rattle.flow_base.specs.declared.transducer.Transducer.{Ghosts}
 use Rattle.flow_graph.specs.declared.edge.Edge.{Edge}

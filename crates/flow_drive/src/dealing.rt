@@ -13,7 +13,7 @@ use flow_base::Transducer;
 use flow_boxes::Boxes;
 use flow_graph::Graph;
 use flow_meetings::{Dealt, Opening};
-use flow_rings::Rings;
+use flow_lanes::Rings;
 use flow_shares::Share;
 use std::alloc::Global;
 

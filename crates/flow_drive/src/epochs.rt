@@ -8,7 +8,7 @@ ghost use Rattle.flow_drive.specs.declared.driver.DriveError.TheVariants.{NoMemo
 use crate::config::Config;
 use crate::driver::DriveError;
 use flow_base::Transducer;
-use flow_rings::Rings;
+use flow_lanes::Rings;
 use flow_rounds::owners_of_shares;
 use flow_shares::{AlwaysStart, Gate, Share, Start};
 use std::alloc::Global;

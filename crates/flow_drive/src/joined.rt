@@ -22,7 +22,7 @@ use crate::ring_shares::RingShares;
 use flow_base::Transducer;
 use flow_graph::Graph;
 use flow_meetings::Dealt;
-use flow_rings::Rings;
+use flow_lanes::Rings;
 use flow_rounds::run_epochs;
 use flow_shares::{Gate, Start, WorkError};
 use std::alloc::Global;

@@ -28,7 +28,7 @@ pub use flow_boxes::Boxes;
 pub use flow_graph::runs_rest_alike;
 pub use flow_meetings::are_fed;
 pub use flow_messages::Ends;
-pub use flow_rings::Rings;
+pub use flow_lanes::Rings;
 pub use flow_shares::{AlwaysStart, Gate, NoGate, Share, Start};
 pub use kahn::Outcome;
 pub use pumping::pump;

@@ -12,7 +12,7 @@ use crate::parts::Parts;
 use crate::rested::Rested;
 use flow_base::{Printing, Transducer};
 use flow_graph::Edge;
-use flow_rings::Rings;
+use flow_lanes::Rings;
 use flow_shares::Share;
 use kahn::Outcome;
 

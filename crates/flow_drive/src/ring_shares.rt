@@ -4,7 +4,7 @@ ghost use Rattle.flow_drive.specs.Apart.{RestApart};
 
 use flow_base::Transducer;
 use flow_graph::Skeleton;
-use flow_rings::Rings;
+use flow_lanes::Rings;
 use flow_shares::Share;
 
 /// The shares of a graph that was driven over rings, at rest.

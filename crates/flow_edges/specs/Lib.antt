@@ -20,11 +20,11 @@ pub use Rattle.flow_rings.specs.declared.ring.EdgeWriter
 pub use Rattle.flow_rings.specs.declared.ring.EdgeReader
 pub use Rattle.flow_rings.specs.declared.ring.FinishedMark
 pub use Rattle.flow_rings.specs.declared.ring.Held
-pub use Rattle.flow_rings.specs.declared.rings.Rings as RingEnds
+pub use Rattle.flow_lanes.specs.declared.rings.Rings as RingEnds
 pub use Rattle.flow_rings.specs.Flats
 pub use Rattle.arrayvec.specs.ArrayVec
 pub use Rattle.flow_rings.specs.Edge
-pub use Rattle.flow_rings.specs.Rings
+pub use Rattle.flow_lanes.specs.Rings
 -- of boxes
 pub use Rattle.flow_boxes.specs.declared.boxes.Boxes
 pub use Rattle.flow_boxes.specs.Contents
@@ -33,3 +33,10 @@ pub use Rattle.flow_messages.specs.Blocks
 pub use Rattle.flow_messages.specs.Kinds
 pub use Rattle.flow_rings.specs.Ring
 pub use Rattle.flow_boxes.specs.Reserved
+-- of lanes, whose ends a share owns
+pub use Rattle.flow_lanes.specs.declared.ends.LaneWriter
+pub use Rattle.flow_lanes.specs.declared.ends.LaneReader
+pub use Rattle.flow_lanes.specs.Lane
+pub use Rattle.flow_lanes.specs.Taken
+pub use Rattle.flow_lanes.specs.Credits
+pub use Rattle.flow_lanes.specs.SameLanes

@@ -9,8 +9,8 @@
 //! - [`scalar_edge`] makes an edge of scalars of one kind. Its messages ([`Flat`]) may also be put and
 //!   taken many at a time, as a [`Block`].
 //! - [`Ends`] is what a driver of transducers sees: some ends of some edges, each named by its
-//!   edge's number. A [`Table`] has both ends of every edge in one thread. [`Rings`] are the ring ends
-//!   that one thread owns. [`Boxes`] are ends between which messages pass only when they are carried
+//!   edge's number. A [`Table`] has both ends of every edge in one thread. [`Rings`] are the ends of lanes
+//!   that one thread owns: a [`lane`] is an edge between threads whose scalars go many at once. [`Boxes`] are ends between which messages pass only when they are carried
 //!   ([`carry`], [`carry_own`]).
 //!
 //! For example: an edge of capacity 3 takes two items and `End`, and refuses a fourth message as
@@ -20,13 +20,14 @@
 //! No call waits, and only what makes ends takes memory. The theorems at the end of the list are
 //! functions that do nothing: their contracts say what follows over several calls.
 //!
-//! Everything here is passed on from the crates flow_messages, flow_rings and flow_boxes, with the
+//! Everything here is passed on from the crates flow_messages, flow_rings, flow_boxes and flow_lanes, with the
 //! words of its contracts (`specs/Lib.antt`).
 #![tactic(auto)]
 
 pub use flow_boxes::{
     Boxes, carry, carry_own, fresh_boxes_are_linked, fresh_boxes_stay_fresh, links_stay,
 };
+pub use flow_lanes::{LaneReader, LaneWriter, Rings, lane, meet_lane, rings_stay_joined};
 pub use flow_messages::{
     CountedEnds, Ends, Item, Kind, MAX_CAPACITY, Msg, Refused, Table, WholeEnds, Why,
     counts_are_exact, nothing_after_stop, put_adds_one, take_gives_oldest,
@@ -34,6 +35,5 @@ pub use flow_messages::{
 };
 pub use flow_rings::{
     Block, Closing, ClosingFlags, ClosingInts, ClosingUnits, EdgeReader, EdgeWriter, FinishedMark,
-    Flat, Held, Rings, all_was_received, edge, meet, rings_stay_joined, same_ends_are_an_edge,
-    scalar_edge,
+    Flat, Held, all_was_received, edge, meet, same_ends_are_an_edge, scalar_edge,
 };

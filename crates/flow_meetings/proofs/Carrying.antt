@@ -6,7 +6,7 @@ use Rattle.flow_messages.specs.Signals.{Signal}
 use Rattle.flow_boxes.specs.Contents.{Contents}
 use Rattle.flow_boxes.specs.Rounds.{IsLinked, IsCarried, CarriesAt, CarriesFrom, CarriesTo}
 use Rattle.flow_boxes.proofs.Changed.{everywhere}
-use Rattle.flow_rings.specs.Rings.{Kept}
+use Rattle.flow_lanes.specs.Rings.{Kept}
 
 -- the boxes w and r of edge e, before, and w' and r', after
 module _ (w r w' r' : Contents) (e : ℕ) (linked : IsLinked w r e) (carried : IsCarried w' r' e) where

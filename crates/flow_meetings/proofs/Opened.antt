@@ -10,11 +10,11 @@ use Rattle.flow_messages.proofs.Tables.{at_line-same, at_line-other}
 use Rattle.flow_boxes.specs.Contents.{Contents}
 use Rattle.flow_boxes.specs.Rounds.{IsLinked, OthersSame, OpensWriter, OpensReader}
 use Rattle.flow_boxes.proofs.Linking.{fresh-linked, outbox-beside}
-use Rattle.flow_rings.specs.declared.ring.EdgeWriter.{EdgeWriter}
-use Rattle.flow_rings.specs.declared.ring.EdgeReader.{EdgeReader}
-use Rattle.flow_rings.specs.Edge.{kind_of, sent, received, certain_room, certain_held}
-use Rattle.flow_rings.specs.declared.rings.Rings.{Rings}
-use Rattle.flow_rings.specs.Rings.{kind_seen, sent_of, room_of, writes_of, received_of, coming_of, reads_of, view_of_rings, ends_of}
+use Rattle.flow_lanes.specs.declared.ends.LaneWriter.{LaneWriter}
+use Rattle.flow_lanes.specs.declared.ends.LaneReader.{LaneReader}
+use Rattle.flow_lanes.specs.Lane.{kind_of, sent, received, certain_room, certain_held}
+use Rattle.flow_lanes.specs.declared.rings.Rings.{Rings}
+use Rattle.flow_lanes.specs.Rings.{kind_seen, sent_of, room_of, writes_of, received_of, coming_of, reads_of, view_of_rings, ends_of}
 use Rattle.flow_meetings.specs.Opens.{ElsewhereSame, OpensAt}
 use Rattle.flow_meetings.specs.RingOpenings.{RingsOpen}
 
@@ -96,21 +96,21 @@ module _ (e : ℕ) where
   both_linked a m b writer reader = fresh-linked b b e (outbox-beside m b e e writer.fresh reader) reader.fresh refl
 
 -- where no end is seen, none is there
-pub no_writer_there : (ws : List (Option EdgeWriter)) (rs : List (Option EdgeReader)) (e : ℕ) → (view_of_rings ws rs).writes e ≡ false → get_or ws e None ≡ None
+pub no_writer_there : (ws : List (Option LaneWriter)) (rs : List (Option LaneReader)) (e : ℕ) → (view_of_rings ws rs).writes e ≡ false → get_or ws e None ≡ None
 no_writer_there [] rs e none = refl
 no_writer_there (None ∷ ws) rs zero none = refl
 no_writer_there (Some w ∷ ws) rs zero none = cc
 no_writer_there (w ∷ ws) rs (suc e) none = no_writer_there ws rs e none
 
-pub no_reader_there : (ws : List (Option EdgeWriter)) (rs : List (Option EdgeReader)) (e : ℕ) → (view_of_rings ws rs).reads e ≡ false → get_or rs e None ≡ None
+pub no_reader_there : (ws : List (Option LaneWriter)) (rs : List (Option LaneReader)) (e : ℕ) → (view_of_rings ws rs).reads e ≡ false → get_or rs e None ≡ None
 no_reader_there ws [] e none = refl
 no_reader_there ws (None ∷ rs) zero none = refl
 no_reader_there ws (Some r ∷ rs) zero none = cc
 no_reader_there ws (r ∷ rs) (suc e) none = no_reader_there ws rs e none
 
 -- a writer is put among rings, and a reader
-module _ (ws : List (Option EdgeWriter)) (rs : List (Option EdgeReader)) (e : ℕ) (kind : Kind) (capacity : ℕ) where
-  module _ (w : EdgeWriter) (h : e < length ws) (none : sent w ≡ []) (room : certain_room w ≡ capacity) (takes : TakesKind (kind_of w) kind) where
+module _ (ws : List (Option LaneWriter)) (rs : List (Option LaneReader)) (e : ℕ) (kind : Kind) (capacity : ℕ) where
+  module _ (w : LaneWriter) (h : e < length ws) (none : sent w ≡ []) (room : certain_room w ≡ capacity) (takes : TakesKind (kind_of w) kind) where
     pub ring_writer : OpensAt e kind capacity true false (view_of_rings ws rs) (view_of_rings (set ws e (Some w)) rs)
     ring_writer = record {
       elsewhere = record {
@@ -132,7 +132,7 @@ module _ (ws : List (Option EdgeWriter)) (rs : List (Option EdgeReader)) (e : �
       coming = refl;
     }
 
-  module _ (r : EdgeReader) (h : e < length rs) (none : received r ≡ []) (empty : certain_held r ≡ []) where
+  module _ (r : LaneReader) (h : e < length rs) (none : received r ≡ []) (empty : certain_held r ≡ []) where
     pub ring_reader : OpensAt e kind capacity false true (view_of_rings ws rs) (view_of_rings ws (set rs e (Some r)))
     ring_reader = record {
       elsewhere = record {
@@ -163,7 +163,7 @@ rings_then e a m b p q = record {
 }
 
 module _ (a b : Rings) (e : ℕ) (kind : Kind) (capacity : ℕ) where
-  pub rings_writer : (w : EdgeWriter) → b.writers.items ≡ set a.writers.items e (Some w) → b.readers.items ≡ a.readers.items → e < length a.writers.items → sent w ≡ [] → certain_room w ≡ capacity → TakesKind (kind_of w) kind → RingsOpen e a b × OpensAt e kind capacity true false (ends_of a) (ends_of b)
+  pub rings_writer : (w : LaneWriter) → b.writers.items ≡ set a.writers.items e (Some w) → b.readers.items ≡ a.readers.items → e < length a.writers.items → sent w ≡ [] → certain_room w ≡ capacity → TakesKind (kind_of w) kind → RingsOpen e a b × OpensAt e kind capacity true false (ends_of a) (ends_of b)
   rings_writer w put same h none room takes = (
     record {
       writer_count = ap length put ∙ length-set a.writers.items e (Some w);
@@ -175,7 +175,7 @@ module _ (a b : Rings) (e : ℕ) (kind : Kind) (capacity : ℕ) where
         (subst (λ rs. OpensAt e kind capacity true false (ends_of a) (view_of_rings (set a.writers.items e (Some w)) rs)) (sym same) (ring_writer a.writers.items a.readers.items e kind capacity w h none room takes)),
   )
 
-  pub rings_reader : (r : EdgeReader) → b.readers.items ≡ set a.readers.items e (Some r) → b.writers.items ≡ a.writers.items → e < length a.readers.items → received r ≡ [] → certain_held r ≡ [] → RingsOpen e a b × OpensAt e kind capacity false true (ends_of a) (ends_of b)
+  pub rings_reader : (r : LaneReader) → b.readers.items ≡ set a.readers.items e (Some r) → b.writers.items ≡ a.writers.items → e < length a.readers.items → received r ≡ [] → certain_held r ≡ [] → RingsOpen e a b × OpensAt e kind capacity false true (ends_of a) (ends_of b)
   rings_reader r put same h none empty = (
     record {
       writer_count = ap length same;

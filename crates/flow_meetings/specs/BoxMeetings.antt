@@ -5,7 +5,7 @@ use Rattle.flow_boxes.specs.Contents.{Contents, contents, view_of}
 use Rattle.flow_boxes.specs.Rounds.{SameBoxes, IsLinked, KeepsRound, CarriesAt}
 use Rattle.flow_boxes.specs.RoundLaws.{same_boxes_refl}
 use Rattle.flow_boxes.proofs.Linking.{writer-linked, reader-linked, writer-elsewhere, reader-elsewhere}
-use Rattle.flow_rings.specs.Rings.{Kept}
+use Rattle.flow_lanes.specs.Rings.{Kept}
 use Rattle.flow_meetings.specs.Met.{kept_refl}
 
 -- the writer's box, which is in a, and the reader's, which is in b, are the two of edge e

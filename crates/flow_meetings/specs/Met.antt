@@ -3,7 +3,7 @@ use Rattle.std.proofs.Common.{◌≡◌, ℕ, ◌+◌, ◌≤◌, List, [], ◌+
 use mathlib.Core.List.{IsPrefix}
 use Rattle.flow_messages.specs.Signals.{Signal}
 use Rattle.flow_messages.specs.Ends.{View, held}
-use Rattle.flow_rings.specs.Rings.{Kept}
+use Rattle.flow_lanes.specs.Rings.{Kept}
 
 -- The writer of edge e is seen in a, and its reader in b. The edge holds so many messages at most.
 pub record Met (a b : View) (slots e : ℕ) : Type 0 where

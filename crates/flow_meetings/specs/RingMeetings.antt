@@ -2,13 +2,13 @@
 use Rattle.std.proofs.Common.{◌≡◌, ◌≢◌, ℕ, zero, suc, true, List, [], ◌∷◌, refl, ◌∙◌, get_or, rules}
 use Rattle.std.specs.Prelude.{Option, Some, None}
 use Rattle.flow_messages.specs.Tables.{at_line}
-use Rattle.flow_rings.specs.declared.ring.EdgeWriter.{EdgeWriter}
-use Rattle.flow_rings.specs.declared.ring.EdgeReader.{EdgeReader}
-use Rattle.flow_rings.specs.declared.rings.Rings.{Rings}
-use Rattle.flow_rings.specs.Edge.{edge_capacity, SameWriter}
-use Rattle.flow_rings.specs.Rings.{capacity_of, writes_of, reads_of, ends_of, writer_at, reader_at, SameWriters, SameRings, Joins, Kept}
-use Rattle.flow_rings.specs.SameEnds.{same_rings_refl}
-use Rattle.flow_rings.proofs.Meetings.{joins-kept}
+use Rattle.flow_lanes.specs.declared.ends.LaneWriter.{LaneWriter}
+use Rattle.flow_lanes.specs.declared.ends.LaneReader.{LaneReader}
+use Rattle.flow_lanes.specs.declared.rings.Rings.{Rings}
+use Rattle.flow_lanes.specs.SameLanes.{same_capacity}
+use Rattle.flow_lanes.specs.Rings.{capacity_of, writes_of, reads_of, ends_of, writer_at, reader_at, SameWriters, SameRings, Joins, Kept}
+use Rattle.flow_lanes.specs.SameEnds.{same_rings_refl}
+use Rattle.flow_lanes.proofs.Meetings.{joins-kept}
 use Rattle.flow_meetings.specs.Met.{kept_refl}
 
 -- the writer, which is in a, and the reader, which is in b, are the two ends of edge e
@@ -30,7 +30,7 @@ at_line_is f [] e d = refl
 at_line_is f (l ∷ ls) zero d = refl
 at_line_is f (l ∷ ls) (suc e) d = at_line_is f ls e d
 
-joined_ends : (w : Option EdgeWriter) (r : Option EdgeReader) → Joins w r → (writes_of w ≡ true) × (reads_of r ≡ true)
+joined_ends : (w : Option LaneWriter) (r : Option LaneReader) → Joins w r → (writes_of w ≡ true) × (reads_of r ≡ true)
 joined_ends None r joined = absurd joined
 joined_ends (Some w) None joined = absurd joined
 joined_ends (Some w) (Some r) joined = (refl, refl)
@@ -46,10 +46,7 @@ rings_meet_refl e a = record { same = same_rings_refl a; kept = kept_refl (ends_
 pub rings_meet_kept : (e : ℕ) (a b : Rings) → RingsMeet e a b → Kept (ends_of a) (ends_of b)
 rings_meet_kept e a b met = met.kept
 
-same_capacity : (w v : EdgeWriter) → SameWriter w v → edge_capacity v ≡ edge_capacity w
-same_capacity w v same = search rules
-
-same_places : (w v : Option EdgeWriter) → SameWriters w v → capacity_of v ≡ capacity_of w
+same_places : (w v : Option LaneWriter) → SameWriters w v → capacity_of v ≡ capacity_of w
 same_places None None same = refl
 same_places None (Some v) same = absurd same
 same_places (Some w) None same = absurd same

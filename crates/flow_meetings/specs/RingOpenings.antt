@@ -1,7 +1,7 @@
 -- Rings of which an edge is opened.
 use Rattle.std.proofs.Common.{◌≡◌, ◌≢◌, ℕ, ◌<◌, length, refl, sym, ap, subst, arith}
-use Rattle.flow_rings.specs.declared.rings.Rings.{Rings}
-use Rattle.flow_rings.specs.Rings.{capacity_of, writer_at, reader_at, Joins}
+use Rattle.flow_lanes.specs.declared.rings.Rings.{Rings}
+use Rattle.flow_lanes.specs.Rings.{capacity_of, writer_at, reader_at, Joins}
 use Rattle.flow_meetings.specs.RingMeetings.{RingsJoin, ring_slots}
 
 -- edge e has a number among these

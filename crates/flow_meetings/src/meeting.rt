@@ -5,7 +5,7 @@ use flow_messages::Ends;
 /// then can meet. A meeting takes no memory, and sends and receives nothing.
 pub trait Meeting: Ends {
     ghost use Rattle.std.specs.Prelude.{◌≡◌, ◌≢◌, ℕ, true};
-    ghost use Rattle.flow_rings.specs.Rings.{Kept};
+    ghost use Rattle.flow_lanes.specs.Rings.{Kept};
     ghost use Rattle.flow_meetings.specs.Met.{Met};
 
     /// The writer's end of this edge, which is in the first, and the reader's, which is in the second,

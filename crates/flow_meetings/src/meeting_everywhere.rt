@@ -1,6 +1,6 @@
 // The two ends of every edge meet.
 ghost use Rattle.std.specs.Prelude.{◌≡◌, ◌<◌, ℕ, length, slice_index_or};
-ghost use Rattle.flow_rings.specs.Rings.{Kept};
+ghost use Rattle.flow_lanes.specs.Rings.{Kept};
 ghost use Rattle.flow_meetings.specs.Met.{Met};
 
 use crate::meeting::Meeting;

@@ -1,11 +1,11 @@
 // Rings meet where their ends see each other.
 use crate::meeting::Meeting;
-use flow_rings::Rings;
+use flow_lanes::Rings;
 
 impl Meeting for Rings {
-    ghost use Rattle.flow_rings.specs.Rings.{SameRings};
-    ghost use Rattle.flow_rings.specs.SameEnds.{same_rings_trans};
-    ghost use Rattle.flow_rings.proofs.Meetings.{joins-kept};
+    ghost use Rattle.flow_lanes.specs.Rings.{SameRings};
+    ghost use Rattle.flow_lanes.specs.SameEnds.{same_rings_trans};
+    ghost use Rattle.flow_lanes.proofs.Meetings.{joins-kept};
     ghost use Rattle.flow_meetings.specs.RingMeetings.{RingsJoin, ring_slots, RingsMeet, rings_join_ends, rings_meet_refl, rings_meet_kept, rings_meet_slots, rings_meet_same, rings_same_stay, rings_join_writer, rings_join_reader, rings_keep_slots};
 
     ghost joins = { RingsJoin };

@@ -1,12 +1,7 @@
 // Ends of edges are put among rings.
-ghost use Rattle.std.specs.Prelude.{◌≡◌, ◌<◌, ◌≤◌, [], IfOk};
-ghost use Rattle.flow_messages.specs.Kinds.{TakesKind};
-ghost use Rattle.flow_messages.specs.Limits.{greatest_capacity};
-ghost use Rattle.flow_rings.specs.Edge.{sent, received, certain_room, certain_held, edge_capacity, kind_of, IsEdge};
-
 use crate::opening::Opening;
+use flow_lanes::{Rings, lane};
 use flow_messages::Kind;
-use flow_rings::{EdgeReader, EdgeWriter, Rings};
 use std::alloc::{AllocError, Global};
 
 impl Opening for Rings {
@@ -28,7 +23,7 @@ impl Opening for Rings {
         kind: Kind,
         capacity: usize,
     ) -> Result<(), AllocError> {
-        let (writer, reader) = ends_for(alloc, kind, capacity)?;
+        let (writer, reader) = lane(alloc, kind, capacity)?;
         self.put_writer(edge, writer);
         other.put_reader(edge, reader);
         Ok(())
@@ -41,7 +36,7 @@ impl Opening for Rings {
         kind: Kind,
         capacity: usize,
     ) -> Result<(), AllocError> {
-        let (writer, reader) = ends_for(alloc, kind, capacity)?;
+        let (writer, reader) = lane(alloc, kind, capacity)?;
         self.put_writer(edge, writer);
         self.put_reader(edge, reader);
         Ok(())
@@ -56,24 +51,4 @@ impl Opening for Rings {
     ghost open_join_writer = { rings_open_join_writer };
 
     ghost open_join_reader = { rings_open_join_reader };
-}
-
-// The ends of a ring that takes all items of the kind. Where that kind is no vector's, it is a ring of scalars.
-fn ends_for(
-    alloc: Global,
-    kind: Kind,
-    capacity: usize,
-) -> Result<(EdgeWriter, EdgeReader), AllocError>
-    requires some { 0 < capacity }
-    requires limit { capacity ≤ greatest_capacity }
-    ensures pair { IfOk result (λ r. IsEdge r.0 r.1) }
-    ensures writer { IfOk result (λ r. (sent r.0 ≡ []) × (certain_room r.0 ≡ capacity) ×
-        (edge_capacity r.0 ≡ capacity)) }
-    ensures reader { IfOk result (λ r. (received r.1 ≡ []) × (certain_held r.1 ≡ [])) }
-    ensures kind { IfOk result (λ r. TakesKind (kind_of r.0) kind) }
-{
-    match kind {
-        Kind::Unit | Kind::Bool | Kind::Int => flow_rings::scalar_edge(alloc, kind, capacity),
-        Kind::Vec => flow_rings::edge(alloc, capacity),
-    }
 }

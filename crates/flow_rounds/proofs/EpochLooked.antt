@@ -3,9 +3,9 @@ use Rattle.std.proofs.Common.{◌≡◌, ℕ, ◌<◌, List, length, map, get_or
 use Rattle.std.proofs.lemmas.List.{get_or-map, length-map, same_lists}
 use Rattle.flow_messages.specs.declared.ends.Ends.{Ghosts as EndsGhosts}
 use Rattle.flow_base.specs.declared.transducer.Transducer.{Ghosts}
-use Rattle.flow_rings.specs.declared.rings.Rings.{Rings}
-use Rattle.flow_rings.specs.Rings.{SameRings, Kept}
-use Rattle.flow_rings.proofs.Meetings.{joins-kept}
+use Rattle.flow_lanes.specs.declared.rings.Rings.{Rings}
+use Rattle.flow_lanes.specs.Rings.{SameRings, Kept}
+use Rattle.flow_lanes.proofs.Meetings.{joins-kept}
 use Rattle.flow_meetings.specs.RingMeetings.{rings_keep_slots}
 use Rattle.flow_meetings.specs.Met.{met_kept}
 use Rattle.flow_shares.specs.declared.share.Share.{Share}

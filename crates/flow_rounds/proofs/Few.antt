@@ -6,7 +6,7 @@ use Rattle.kahn.specs.Configurations.{moved}
 use Rattle.kahn.specs.Traffic.{WholeTraffic}
 use Rattle.flow_messages.specs.declared.ends.Ends.{Ghosts as EndsGhosts}
 use Rattle.flow_base.specs.declared.transducer.Transducer.{Ghosts}
-use Rattle.flow_rings.specs.declared.rings.Rings.{Rings}
+use Rattle.flow_lanes.specs.declared.rings.Rings.{Rings}
 use Rattle.flow_shares.specs.declared.share.Share.{Share}
 use Rattle.flow_meetings.specs.RoundTheorems.{net_of}
 use Rattle.flow_meetings.specs.SharedNetworks.{SharedNetwork, AreFed}

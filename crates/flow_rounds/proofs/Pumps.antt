@@ -8,9 +8,9 @@ use Rattle.flow_base.specs.declared.transducer.Transducer.{Ghosts}
 use Rattle.flow_graph.specs.declared.placed.Placed.{Placed}
 use Rattle.flow_graph.specs.Places.{placed_state}
 use Rattle.flow_graph.specs.Skeletons.{AreSamePlaces}
-use Rattle.flow_rings.specs.declared.rings.Rings.{Rings}
-use Rattle.flow_rings.specs.Rings.{SameRings}
-use Rattle.flow_rings.proofs.Meetings.{joins-kept}
+use Rattle.flow_lanes.specs.declared.rings.Rings.{Rings}
+use Rattle.flow_lanes.specs.Rings.{SameRings}
+use Rattle.flow_lanes.proofs.Meetings.{joins-kept}
 use Rattle.flow_meetings.specs.RingMeetings.{rings_keep_slots}
 use Rattle.flow_shares.specs.declared.share.Share.{Share}
 use Rattle.flow_shares.specs.Shares.{inputs_of, outputs_of, Grows, HaveMoved}

@@ -17,9 +17,9 @@ use Rattle.flow_base.specs.declared.transducer.Transducer.{Ghosts}
 use Rattle.flow_graph.specs.Places.{placed_state, states_in}
 use Rattle.flow_graph.specs.Skeletons.{AreSamePlaces}
 use Rattle.flow_graph.proofs.Nets.{lawful_net}
-use Rattle.flow_rings.specs.declared.rings.Rings.{Rings}
-use Rattle.flow_rings.specs.Rings.{SameRings}
-use Rattle.flow_rings.specs.SameEnds.{same_rings_refl, same_rings_trans}
+use Rattle.flow_lanes.specs.declared.rings.Rings.{Rings}
+use Rattle.flow_lanes.specs.Rings.{SameRings}
+use Rattle.flow_lanes.specs.SameEnds.{same_rings_refl, same_rings_trans}
 use Rattle.flow_shares.specs.declared.share.Share.{Share}
 use Rattle.flow_shares.specs.Shares.{IsOwn, Grows, AreStuck}
 use Rattle.flow_shares.specs.Pumps.{IsPumped}

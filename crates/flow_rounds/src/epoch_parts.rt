@@ -1,12 +1,12 @@
 // Shares without their ends, while these meet.
 ghost use Rattle.std.specs.Prelude.{◌≡◌, map, IfOk};
 ghost use Rattle.std.specs.List.{AllZip};
-ghost use Rattle.flow_rings.specs.Rings.{Kept, SameRings, ends_of};
+ghost use Rattle.flow_lanes.specs.Rings.{Kept, SameRings, ends_of};
 ghost use Rattle.flow_shares.specs.Lending.{share_nodes};
 ghost use Rattle.flow_meetings.specs.Deals.{ends_in};
 
 use flow_base::Transducer;
-use flow_rings::Rings;
+use flow_lanes::Rings;
 use flow_shares::{Lender, Share};
 use std::alloc::{AllocError, Global};
 

@@ -8,7 +8,7 @@ ghost use Rattle.flow_rounds.specs.Owners.{HasWriter, HasReader, HasBoth, NoneWr
 use flow_base::Transducer;
 use flow_meetings::EdgeOwners;
 use flow_messages::Ends;
-use flow_rings::Rings;
+use flow_lanes::Rings;
 use flow_shares::Share;
 use std::alloc::{AllocError, Global};
 

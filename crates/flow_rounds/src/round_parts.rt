@@ -1,7 +1,7 @@
 // Shares without their boxes, while these meet.
 ghost use Rattle.std.specs.Prelude.{◌≡◌, false, map, IfOk};
 ghost use Rattle.std.specs.List.{All, AllZip};
-ghost use Rattle.flow_rings.specs.Rings.{Kept};
+ghost use Rattle.flow_lanes.specs.Rings.{Kept};
 ghost use Rattle.flow_boxes.specs.Contents.{view_of};
 
 use flow_base::Transducer;

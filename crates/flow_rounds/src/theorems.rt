@@ -3,7 +3,7 @@ ghost use Rattle.flow_rounds.specs.Few.{EpochsAreFew};
 
 use flow_base::Transducer;
 use flow_messages::Ends;
-use flow_rings::Rings;
+use flow_lanes::Rings;
 
 /// Where epochs follow each other, and a node can step before each, there are at most twice as many as messages that are
 /// sent in the whole traffic of the network.

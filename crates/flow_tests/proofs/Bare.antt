@@ -5,7 +5,7 @@ use Rattle.flow_messages.specs.Ends.{View}
 use Rattle.flow_messages.specs.declared.ends.Ends.{Ghosts as EndsGhosts}
 use Rattle.flow_base.specs.declared.transducer.Transducer.{Ghosts}
 use Rattle.flow_graph.specs.Skeletons.{FitTogether}
-use Rattle.flow_rings.specs.declared.rings.Rings.{Rings}
+use Rattle.flow_lanes.specs.declared.rings.Rings.{Rings}
 use Rattle.flow_shares.specs.declared.share.Share.{Share}
 use Rattle.flow_meetings.proofs.Parts.{any_of}
 use Rattle.flow_meetings.specs.Open.{AreOwners}

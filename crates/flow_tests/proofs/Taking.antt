@@ -5,7 +5,7 @@ use Rattle.flow_messages.specs.declared.message.Kind.{Kind}
 use Rattle.flow_messages.specs.declared.message.Kind.TheVariants.{Unit as UnitKind}
 use Rattle.flow_messages.specs.Ends.{View, SameEnds}
 use Rattle.flow_messages.specs.Kinds.{TakesKind}
-use Rattle.flow_rings.proofs.RingLines.{at_line-there}
+use Rattle.flow_lanes.proofs.RingLines.{at_line-there}
 use Rattle.flow_meetings.specs.declared.owners.EdgeOwners.{EdgeOwners}
 use Rattle.flow_meetings.specs.Open.{kind_at, HasFreshEnds}
 use Rattle.flow_tests.specs.Taking.{AllTake}

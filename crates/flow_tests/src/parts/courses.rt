@@ -11,7 +11,7 @@ use crate::parts::opened::{alike, own_owner, owners};
 use flow_boxes::Boxes;
 use flow_meetings::{EdgeOwners, Meeting, Opening, meet_all, open_all};
 use flow_messages::{CountedEnds, Kind, Why};
-use flow_rings::Rings;
+use flow_lanes::Rings;
 use std::alloc::{AllocError, Global};
 use std::process::Abort;
 use std::test::Fail;

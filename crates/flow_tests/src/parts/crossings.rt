@@ -3,7 +3,7 @@ ghost use Rattle.std.specs.Prelude.{◌≡◌, true};
 ghost use Rattle.flow_messages.specs.declared.message.Kind.TheVariants.{Int as IntKind};
 ghost use Rattle.flow_messages.specs.Kinds.{fits};
 ghost use Rattle.flow_messages.specs.Signals.{signal_of};
-ghost use Rattle.flow_rings.specs.Rings.{ends_of, writer_at, reader_at, SameRings, Joins};
+ghost use Rattle.flow_lanes.specs.Rings.{ends_of, writer_at, reader_at, SameRings, Joins};
 ghost use Rattle.flow_tests.specs.Taking.{AllTake};
 
 use crate::parts::messages::{is_message, message};

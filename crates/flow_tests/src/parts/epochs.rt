@@ -1,12 +1,12 @@
 // Shares without nodes that are run in threads, and in epochs.
 ghost use Rattle.std.specs.Prelude.{◌≡◌, false, length, IfOk};
 ghost use Rattle.std.specs.List.{All};
-ghost use Rattle.flow_rings.specs.Rings.{ends_of};
+ghost use Rattle.flow_lanes.specs.Rings.{ends_of};
 ghost use Rattle.flow_tests.specs.NoEnds.{HasNoEnds};
 
 use crate::parts::shares::{numbers_of, two_bare};
 use flow_base::Transducer;
-use flow_rings::Rings;
+use flow_lanes::Rings;
 use flow_rounds::run_epochs;
 use flow_shares::{AlwaysStart, Gate, NoGate, Share, WorkError, run_all};
 use std::alloc::Global;

@@ -10,7 +10,7 @@ use flow_base::Transducer;
 use flow_boxes::Boxes;
 use flow_graph::{Graph, GraphBuilder};
 use flow_meetings::{Dealt, Opening, are_calm, are_fed, deal, gather_graph};
-use flow_rings::Rings;
+use flow_lanes::Rings;
 use flow_scalar::Source;
 use flow_shares::share_of;
 use std::alloc::{AllocError, Global};

@@ -1,14 +1,14 @@
 // Shares without nodes.
 ghost use Rattle.std.specs.Prelude.{◌≡◌, false, length, IfOk};
 ghost use Rattle.std.specs.List.{All};
-ghost use Rattle.flow_rings.specs.Rings.{ends_of};
+ghost use Rattle.flow_lanes.specs.Rings.{ends_of};
 ghost use Rattle.flow_tests.specs.NoEnds.{HasNoEnds};
 
 use flow_base::Transducer;
 use flow_graph::Placed;
 use flow_meetings::Opening;
 use flow_messages::Table;
-use flow_rings::Rings;
+use flow_lanes::Rings;
 use flow_scalar::Source;
 use flow_shares::{Gate, NoGate, Share, pump};
 use std::alloc::{AllocError, Global};

@@ -1,7 +1,7 @@
 // The numbers of turns.
 use crate::parts::pairs::second_and_first;
 use flow_base::Transducer;
-use flow_rings::Rings;
+use flow_lanes::Rings;
 use flow_shares::{Gate, Share, pump};
 use std::cell::Cell;
 use std::test::Fail;

@@ -1,5 +1,5 @@
 use Rattle.std.proofs.Common.{◌≡◌, ◌<◌, ℕ, length, get_or}
-use Rattle.flow_rings.specs.Rings.{Kept}
+use Rattle.flow_lanes.specs.Rings.{Kept}
 use Rattle.flow_meetings.specs.Met.{Met}
 use Rattle.flow_meetings.proofs.meeting_everywhere.meet_all.Given as goal
 

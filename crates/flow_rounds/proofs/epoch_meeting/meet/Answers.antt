@@ -1,6 +1,6 @@
 use Rattle.std.proofs.Common.{◌≡◌, length, map, refl, sym, ◌∙◌, ap, subst, arith}
 use Rattle.std.specs.List.{AllZip}
-use Rattle.flow_rings.specs.Rings.{Kept, SameRings, ends_of}
+use Rattle.flow_lanes.specs.Rings.{Kept, SameRings, ends_of}
 use Rattle.flow_shares.specs.Lending.{share_nodes}
 use Rattle.flow_meetings.proofs.Lists.{mapped_twice, written_back}
 use Rattle.flow_rounds.proofs.ShareLists.{two_of_ok}

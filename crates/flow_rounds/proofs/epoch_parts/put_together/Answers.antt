@@ -1,6 +1,6 @@
 use Rattle.std.proofs.Common.{map, ap, arith}
 use Rattle.std.proofs.lemmas.Grind.{common_steps}
-use Rattle.flow_rings.specs.Rings.{Kept, SameRings, ends_of}
+use Rattle.flow_lanes.specs.Rings.{Kept, SameRings, ends_of}
 use Rattle.flow_shares.specs.Lending.{share_nodes}
 use Rattle.flow_rounds.proofs.GoingOver.{nothing_made, goes_over_as, first_and_rest}
 use Rattle.flow_rounds.proofs.epoch_parts.put_together.Goals as goal

@@ -1,7 +1,7 @@
 use Rattle.std.specs.Prelude.{◌≡◌, ◌+◌, ◌≤◌, ◌++◌, map, length}
 use Rattle.std.specs.List.{AllZip}
 use Rattle.std.specs.Vec.{vec_capacity}
-use Rattle.flow_rings.specs.Rings.{Kept, SameRings, ends_of}
+use Rattle.flow_lanes.specs.Rings.{Kept, SameRings, ends_of}
 use Rattle.flow_shares.specs.Lending.{share_nodes}
 use Rattle.flow_meetings.specs.Deals.{ends_in}
 use Rattle.flow_rounds.proofs.epoch_parts.put_together.Given as goal

@@ -4,7 +4,7 @@ use Rattle.flow_meetings.specs.SharedNetworks.{AreFed}
 use Rattle.flow_rounds.specs.Epochs.{AreOfOneGraph}
 use Rattle.flow_rounds.proofs.ShareLists.{fed_stay}
 use Rattle.flow_rounds.proofs.Pumps.{pumped_graph}
-use Rattle.flow_rings.proofs.Sends.{rings_send}
+use Rattle.flow_lanes.proofs.Sends.{rings_send}
 use Rattle.flow_rounds.proofs.Whole.{is_epoch}
 use denote.Param.Send.{sendable}
 use Rattle.std.proofs.Crossing.{crosses}

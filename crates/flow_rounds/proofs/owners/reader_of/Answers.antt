@@ -1,6 +1,6 @@
 use Rattle.std.proofs.Common.{sym, ◌∙◌, ap, below_more}
 use Rattle.flow_messages.specs.Ends.{View}
-use Rattle.flow_rings.specs.Rings.{ends_of}
+use Rattle.flow_lanes.specs.Rings.{ends_of}
 use Rattle.flow_rounds.proofs.FirstOwners.{seen_here}
 use Rattle.flow_rounds.proofs.owners.reader_of.Goals as goal
 

@@ -1,6 +1,6 @@
 use Rattle.std.proofs.Common.{◌≡◌, length, map, sym, ◌∙◌, ap, subst, arith}
 use Rattle.std.specs.List.{AllZip}
-use Rattle.flow_rings.specs.Rings.{Kept}
+use Rattle.flow_lanes.specs.Rings.{Kept}
 use Rattle.flow_boxes.specs.Contents.{view_of}
 use Rattle.flow_meetings.proofs.Lists.{mapped_twice, written_back}
 use Rattle.flow_rounds.proofs.Elements.{four_of_ok}

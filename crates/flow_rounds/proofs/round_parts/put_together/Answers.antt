@@ -1,7 +1,7 @@
 use Rattle.std.proofs.Common.{◌≡◌, false, map, sym, ◌∙◌, ap, subst, arith}
 use Rattle.std.proofs.lemmas.Grind.{common_steps}
 use Rattle.std.specs.List.{All}
-use Rattle.flow_rings.specs.Rings.{Kept}
+use Rattle.flow_lanes.specs.Rings.{Kept}
 use Rattle.flow_boxes.specs.Contents.{view_of}
 use Rattle.flow_shares.specs.Shares.{HasItsEnds, IsOwn}
 use Rattle.flow_rounds.proofs.Elements.{all_more}

@@ -1,7 +1,7 @@
 use Rattle.std.specs.Prelude.{◌≡◌, ◌+◌, ◌≤◌, false, ◌++◌, map, length}
 use Rattle.std.specs.List.{All, AllZip}
 use Rattle.std.specs.Vec.{vec_capacity}
-use Rattle.flow_rings.specs.Rings.{Kept}
+use Rattle.flow_lanes.specs.Rings.{Kept}
 use Rattle.flow_boxes.specs.Contents.{view_of}
 use Rattle.flow_rounds.proofs.round_parts.put_together.Given as goal
 

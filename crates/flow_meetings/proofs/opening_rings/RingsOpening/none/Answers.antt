@@ -1,8 +1,8 @@
 use Rattle.std.proofs.Common.{◌≡◌, ℕ, false, ap, ◌∙◌}
 use Rattle.std.specs.Prelude.{Result, Ok, Err, None, IfOk}
 use Rattle.std.specs.declared.alloc.AllocError.{AllocError}
-use Rattle.flow_rings.specs.declared.rings.Rings.{Rings}
-use Rattle.flow_rings.specs.Rings.{ends_of, writes_of, reads_of, writer_at, reader_at}
+use Rattle.flow_lanes.specs.declared.rings.Rings.{Rings}
+use Rattle.flow_lanes.specs.Rings.{ends_of, writes_of, reads_of, writer_at, reader_at}
 use Rattle.flow_meetings.specs.RingMeetings.{at_line_is}
 use Rattle.flow_meetings.proofs.opening_rings.RingsOpening.none.Goals as goal
 

@@ -1,5 +1,5 @@
 use Rattle.std.proofs.Common.{length, ap, arith}
-use Rattle.flow_rings.specs.Rings.{ends_of}
+use Rattle.flow_lanes.specs.Rings.{ends_of}
 use Rattle.flow_meetings.proofs.Opened.{both_opened, rings_then, rings_writer, rings_reader}
 use Rattle.flow_meetings.proofs.opening_rings.RingsOpening.open_own.Goals as goal
 

@@ -1,4 +1,4 @@
-use Rattle.flow_rings.proofs.Sends.{rings_send}
+use Rattle.flow_lanes.proofs.Sends.{rings_send}
 use denote.Param.Send.{sendable}
 use Rattle.std.proofs.Crossing.{crosses}
 use Rattle.flow_tests.proofs.parts.epochs.run_once.Goals as goal
