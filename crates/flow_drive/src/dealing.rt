@@ -12,8 +12,8 @@ use crate::driver::DriveError;
 use flow_base::Transducer;
 use flow_boxes::Boxes;
 use flow_graph::Graph;
-use flow_meetings::{Dealt, Opening};
 use flow_lanes::Rings;
+use flow_meetings::{Dealt, Opening};
 use flow_shares::Share;
 use std::alloc::Global;
 

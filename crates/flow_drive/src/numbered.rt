@@ -13,8 +13,8 @@ use crate::parts::Gathered;
 use crate::ring_shares::RingShares;
 use flow_base::Transducer;
 use flow_graph::Edge;
-use flow_messages::CountedEnds;
 use flow_lanes::Rings;
+use flow_messages::CountedEnds;
 use flow_shares::{Share, share_of};
 
 impl<T: Transducer> Gathered<T> {

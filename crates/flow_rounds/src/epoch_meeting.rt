@@ -6,8 +6,8 @@ ghost use Rattle.flow_rounds.specs.Epochs.{AreOfOneGraph, HaveMetSince};
 
 use crate::epoch_parts::{put_together, take_apart};
 use flow_base::Transducer;
-use flow_meetings::{EdgeOwners, meet_all};
 use flow_lanes::Rings;
+use flow_meetings::{EdgeOwners, meet_all};
 use flow_shares::Share;
 use std::alloc::{AllocError, Global};
 

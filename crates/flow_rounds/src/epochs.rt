@@ -7,8 +7,8 @@ ghost use Rattle.flow_rounds.specs.Epochs.{moved_in, AreLater, AreOfOneGraph, Sh
 
 use crate::epoch_meeting::meet;
 use flow_base::Transducer;
-use flow_meetings::{EdgeOwners, are_fed, are_stuck};
 use flow_lanes::Rings;
+use flow_meetings::{EdgeOwners, are_fed, are_stuck};
 use flow_shares::{Gate, Share, Start, WorkError, run_all};
 use std::alloc::Global;
 use std::sync::Arc;

@@ -6,9 +6,9 @@ ghost use Rattle.flow_rounds.specs.Epochs.{AreOfOneGraph};
 ghost use Rattle.flow_rounds.specs.Owners.{HasWriter, HasReader, HasBoth, NoneWrites, NoneReads, LacksAnEnd};
 
 use flow_base::Transducer;
+use flow_lanes::Rings;
 use flow_meetings::EdgeOwners;
 use flow_messages::Ends;
-use flow_lanes::Rings;
 use flow_shares::Share;
 use std::alloc::{AllocError, Global};
 

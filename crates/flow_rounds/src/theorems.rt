@@ -2,8 +2,8 @@
 ghost use Rattle.flow_rounds.specs.Few.{EpochsAreFew};
 
 use flow_base::Transducer;
-use flow_messages::Ends;
 use flow_lanes::Rings;
+use flow_messages::Ends;
 
 /// Where epochs follow each other, and a node can step before each, there are at most twice as many as messages that are
 /// sent in the whole traffic of the network.
