@@ -1,5 +1,5 @@
 -- Ends of which the writers take items of one kind: later, and as they are opened.
-use Rattle.std.proofs.Common.{◌≡◌, ◌==◌, ℕ, ◌<◌, true, List, length, replicate, sym, ◌∙◌, ap, subst}
+use Rattle.std.proofs.Common.{◌≡◌, ◌==◌, ℕ, ◌<◌, List, length, replicate, sym, ◌∙◌, ap, subst}
 use Rattle.std.proofs.lemmas.List.{get_or-replicate}
 use Rattle.flow_messages.specs.declared.message.Kind.{Kind}
 use Rattle.flow_messages.specs.declared.message.Kind.TheVariants.{Unit as UnitKind}
