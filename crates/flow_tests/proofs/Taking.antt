@@ -1,18 +1,14 @@
--- Ends of which the writers take items of one kind: later, and as they are opened.
+-- Ends of which the writers take items of one kind, as they are opened.
 use Rattle.std.proofs.Common.{◌≡◌, ◌==◌, ℕ, ◌<◌, List, length, replicate, sym, ◌∙◌, ap, subst}
 use Rattle.std.proofs.lemmas.List.{get_or-replicate}
 use Rattle.flow_messages.specs.declared.message.Kind.{Kind}
 use Rattle.flow_messages.specs.declared.message.Kind.TheVariants.{Unit as UnitKind}
-use Rattle.flow_messages.specs.Ends.{View, SameEnds}
+use Rattle.flow_messages.specs.Ends.{View}
 use Rattle.flow_messages.specs.Kinds.{TakesKind}
 use Rattle.flow_lanes.proofs.RingLines.{at_line-there}
 use Rattle.flow_meetings.specs.declared.owners.EdgeOwners.{EdgeOwners}
 use Rattle.flow_meetings.specs.Open.{kind_at, HasFreshEnds}
 use Rattle.flow_tests.specs.Taking.{AllTake}
-
--- the same ends take the same
-pub all_take_still : (a b : View) (kind : Kind) → SameEnds a b → AllTake a kind → AllTake b kind
-all_take_still a b kind same take e there = subst (λ of. TakesKind of kind) (sym (same.kinds e)) (take e (sym (same.writes e) ∙ there))
 
 -- fresh ends of edges of one kind take all items of it
 pub fresh_take : (owners : List EdgeOwners) (kinds : List Kind) (kind : Kind) (capacity s : ℕ) (v : View) → kinds ≡ replicate (length owners) kind → HasFreshEnds owners kinds capacity s v → AllTake v kind
