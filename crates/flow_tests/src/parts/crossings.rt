@@ -8,8 +8,8 @@ ghost use Rattle.flow_tests.specs.Taking.{AllTake};
 
 use crate::parts::messages::{is_message, message};
 use crate::parts::opened::{crossed, lone};
+use flow_lanes::{Rings, rings_stay_joined};
 use flow_messages::{Ends, Kind, Msg};
-use flow_rings::{Rings, rings_stay_joined};
 use std::alloc::{AllocError, Global};
 use std::test::Fail;
 

@@ -9,8 +9,8 @@ ghost use Rattle.flow_meetings.specs.SharedNetworks.{SharedNetwork, shared_netwo
 use flow_base::Transducer;
 use flow_boxes::Boxes;
 use flow_graph::{Graph, GraphBuilder};
-use flow_meetings::{Dealt, Opening, are_calm, are_fed, deal, gather_graph};
 use flow_lanes::Rings;
+use flow_meetings::{Dealt, Opening, are_calm, are_fed, deal, gather_graph};
 use flow_scalar::Source;
 use flow_shares::share_of;
 use std::alloc::{AllocError, Global};

@@ -3,9 +3,9 @@ ghost use Rattle.std.specs.Prelude.{◌≡◌, false, IfOk};
 ghost use Rattle.std.specs.List.{All};
 
 use crate::sketches::graph_of;
+use flow_lanes::Rings;
 use flow_meetings::{Dealt, deal};
 use flow_nodes::StreamNode;
-use flow_lanes::Rings;
 use flow_shares::Share;
 use std::alloc::Global;
 use std::test::Fail;

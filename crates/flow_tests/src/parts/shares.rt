@@ -6,9 +6,9 @@ ghost use Rattle.flow_tests.specs.NoEnds.{HasNoEnds};
 
 use flow_base::Transducer;
 use flow_graph::Placed;
+use flow_lanes::Rings;
 use flow_meetings::Opening;
 use flow_messages::Table;
-use flow_lanes::Rings;
 use flow_scalar::Source;
 use flow_shares::{Gate, NoGate, Share, pump};
 use std::alloc::{AllocError, Global};
