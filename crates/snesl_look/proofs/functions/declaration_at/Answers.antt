@@ -27,7 +27,7 @@ loop-place-preserved c =
         | else-text-place-eq59-via-else-text-place-eq59 v ↦ λ is _. v.if-text-place-eq59.false is
       ]))
     ] in
-    let behind = c.depth_behind-depth.ensures in
+    let behind = c.depth_after_byte-depth.ensures in
     record {
       deep = behind.depth ∙ ap (λ d. depth_after_byte d (get_or text place 0)) known.deep ∙ sym (fold_more depth_after_byte 0 text place 0 c.loop-place-test.true);
       few = omega (arith, behind.few, known.few);
