@@ -6,7 +6,7 @@ use mathlib.Core.List.{IsPrefix}
 use Rattle.flow_messages.specs.declared.message.Msg.{Msg}
 use Rattle.flow_rings.specs.declared.flat.Flat.{Flat}
 use Rattle.flow_rings.specs.Flats.{message_of, messages_of}
-use Rattle.flow_lanes.specs.Credits.{credit, number_in}
+use Rattle.flow_lanes.specs.Credits.{credit}
 
 pub credit-append : (xs ys : List Msg) → credit (xs ++ ys) ≡ credit xs + credit ys
 credit-append [] ys = omega arith

@@ -1,5 +1,5 @@
 -- What is owed, before and after it was told.
-use Rattle.std.proofs.Common.{◌≡◌, ℕ, ◌+◌, ◌-◌, ◌<◌, ◌≤◌, ◌^◌, pos, false, List, [], ◌∷◌, ◌++◌, refl, sym, ap, ◌∙◌, subst, arith}
+use Rattle.std.proofs.Common.{◌≡◌, ℕ, ◌+◌, ◌-◌, ◌<◌, ◌≤◌, ◌^◌, pos, [], ◌∷◌, ◌++◌, sym, ap, ◌∙◌, subst, arith}
 use Rattle.std.specs.Io.Iter.{u64_saturate}
 use Rattle.std.specs.Prelude.{Some, Result, Ok, Err, IsOk, OnOk}
 use Rattle.flow_messages.specs.declared.message.Kind.TheVariants.{Int as IntKind}

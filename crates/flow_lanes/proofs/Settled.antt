@@ -1,7 +1,6 @@
 -- Where both ends of a lane of scalars have met.
-use Rattle.std.proofs.Common.{◌≡◌, ℕ, ◌+◌, ◌-◌, ◌<◌, ◌≤◌, ◌^◌, List, ◌++◌, length, ap, arith, length-append}
+use Rattle.std.proofs.Common.{◌≡◌, ℕ, ◌+◌, ◌-◌, ◌<◌, ◌≤◌, ◌^◌, ◌++◌, length, ap, arith, length-append}
 use mathlib.Core.List.{IsPrefix}
-use Rattle.flow_messages.specs.declared.message.Msg.{Msg}
 use Rattle.flow_messages.specs.Stores.{content_of}
 use Rattle.flow_messages.proofs.Lines.{sent_length}
 use Rattle.flow_boxes.specs.Received.{received_of}
@@ -10,7 +9,7 @@ use Rattle.flow_rings.specs.declared.ring.EdgeReader.{EdgeReader}
 use Rattle.flow_rings.specs.Edge.{sent, received, certain_held}
 use Rattle.flow_lanes.specs.declared.counted.CountedWriter.{CountedWriter}
 use Rattle.flow_lanes.specs.declared.pocket.Pocket.{Pocket}
-use Rattle.flow_lanes.specs.Credits.{credit, Owes}
+use Rattle.flow_lanes.specs.Credits.{credit}
 use Rattle.flow_lanes.proofs.Lists.{credit-prefix}
 
 module _ (w : CountedWriter) (p : Pocket) (met_writer : EdgeWriter) (met_reader : EdgeReader) (found : ℕ) (sent_same : sent met_writer ≡ sent w.edge) (received_same : received met_reader ≡ received p.edge) (fifo : received met_reader ++ certain_held met_reader ≡ sent met_writer) (count : found ≡ length (certain_held met_reader)) where

@@ -1,5 +1,5 @@
 -- What a contract sees of the two ends of a lane.
-use Rattle.std.specs.Prelude.{◌≡◌, ℕ, List, Option, min}
+use Rattle.std.specs.Prelude.{ℕ, List, Option, min}
 use Rattle.flow_messages.specs.declared.message.Kind.{Kind}
 use Rattle.flow_messages.specs.declared.message.Msg.{Msg}
 use Rattle.flow_rings.specs.Edge as ring

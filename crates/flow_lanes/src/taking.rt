@@ -79,6 +79,7 @@ pub(crate) fn take_each(reader: &mut EdgeReader, count: usize)
 
 impl Pocket {
     // Messages that came are held, as many as a block has places for.
+    #[inline(always)]
     pub(crate) fn fill(&mut self)
         ensures edge { SameReader self.old.edge self.new.edge }
         ensures back { self.new.back ≡ self.old.back }
@@ -87,9 +88,22 @@ impl Pocket {
         ensures some { 0 < length (held_in self.new) →
             0 < length (content_of self.new.inbox.store) }
     {
-        if !self.edge.ready() {
-            return;
+        if self.edge.ready() {
+            self.take_over();
         }
+    }
+
+    // Messages are taken over from the edge, as many as a block has places for. It stands alone, since a function pays at entry
+    // for the size of a block.
+    #[inline(never)]
+    fn take_over(&mut self)
+        ensures edge { SameReader self.old.edge self.new.edge }
+        ensures back { self.new.back ≡ self.old.back }
+        ensures taken { taken_from self.new ≡ taken_from self.old }
+        ensures more { IsPrefix (held_in self.old) (held_in self.new) }
+        ensures some { 0 < length (certain_held self.old.edge) →
+            0 < length (content_of self.new.inbox.store) }
+    {
         let mut block = Block::new();
         let places = self.inbox.store.capacity - self.inbox.store.len();
         self.edge.take_block(&mut block, places);

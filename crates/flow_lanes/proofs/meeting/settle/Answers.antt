@@ -1,8 +1,8 @@
-use Rattle.std.proofs.Common.{◌≡◌, ◌<◌, ◌-◌, ◌^◌, ap, ◌∙◌, subst, arith}
+use Rattle.std.proofs.Common.{◌<◌, ◌-◌, ◌^◌, ap, ◌∙◌, subst, arith}
 use Rattle.flow_rings.specs.Edge.{received, certain_room}
 use Rattle.flow_lanes.specs.Credits.{credit, Owes}
 use Rattle.flow_lanes.proofs.Lists.{credit-prefix, prefix-trans}
-use Rattle.flow_lanes.proofs.Owing.{owes_still, all_told, same_kind}
+use Rattle.flow_lanes.proofs.Owing.{owes_still, all_told}
 use Rattle.flow_lanes.proofs.meeting.settle.Goals as goal
 
 pub returns-clause-begins : goal.returns-clause-begins

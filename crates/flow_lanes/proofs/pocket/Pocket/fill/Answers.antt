@@ -1,12 +1,9 @@
-use Rattle.std.proofs.Common.{◌++◌, ap, ◌∙◌}
 use Rattle.flow_messages.specs.Stores.{content_of}
 use Rattle.flow_rings.specs.Edge.{certain_held}
-use Rattle.flow_rings.specs.Flats.{messages_of, flats_appended}
-use Rattle.flow_lanes.proofs.Lists.{filled}
+use Rattle.flow_lanes.proofs.Lists.{prefix-after, prefix-trans}
 use Rattle.flow_lanes.proofs.pocket.Pocket.fill.Goals as goal
 
-pub returns-clause-more : goal.returns-clause-more
-returns-clause-more c =
+pub returns-then-ready-clause-more : goal.returns-then-ready-clause-more
+returns-then-ready-clause-more c =
     let p = c.args.self.now in
-    let came = c.take_block.ensures.before ∙ ap (λ l. l ++ flats_appended c.new-block.result c.take_block.new.block) c.new-block.ensures in
-    filled (content_of p.inbox.store) (content_of c.keep.new.inbox.store) _ (certain_held p.edge) (certain_held c.ready.new.self) (certain_held c.take_block.new.self) c.ready.ensures.looked.1 c.take_block.ensures.certain (c.keep.ensures.held ∙ ap (λ l. content_of p.inbox.store ++ messages_of l) came)
+    prefix-trans _ _ _ (prefix-after (content_of p.inbox.store) (certain_held p.edge) (certain_held c.ready.new.self) c.ready.ensures.looked.1) c.take_over.ensures.more

@@ -1,5 +1,4 @@
 use Rattle.std.proofs.Common.{refl}
-use Rattle.std.specs.Prelude.{Some}
 use Rattle.flow_lanes.proofs.RingLines.{writer-looked, reader-looked}
 use Rattle.flow_lanes.proofs.Meetings.{kept-room, kept-messages, joins-writer, joins-reader, met_here}
 use Rattle.flow_lanes.proofs.InPlace.{same_writers, same_readers, joined_in_place}
