@@ -1,16 +1,19 @@
 -- One end of a share's rings, and the others.
-use Rattle.std.proofs.Common.{◌≡◌, ℕ, zero, suc, ◌+◌, ◌<◌, ◌≤◌, Bool, true, false, List, [], ◌∷◌, ◌++◌, length, refl, ap, sym, ◌∙◌, get_or, set, arith, append-nil}
+use Rattle.std.proofs.Common.{◌≡◌, ℕ, zero, suc, ◌+◌, ◌<◌, ◌≤◌, Bool, true, false, List, [], ◌∷◌, ◌++◌, length, refl, ap, sym, ◌∙◌, cond, get_or, set, arith, append-nil, inl, inr, ◌⊎◌}
+use Rattle.std.proofs.lemmas.Bool.{cases_Bool}
 use Rattle.std.specs.Prelude.{Option, Some, None}
 use mathlib.Core.List.{IsPrefix}
 use Rattle.flow_messages.specs.declared.message.Msg.{Msg}
-use Rattle.flow_messages.specs.Signals.{signals, signal_of}
-use Rattle.flow_messages.specs.Ends.{View, held, SameEnds, LookedForRoom, LookedForMessages, Put, Taken, TakenAll}
+use Rattle.flow_messages.specs.Signals.{signals, signal_of, ended}
+use Rattle.flow_messages.specs.Ends.{View, held, SameEnds, LookedForRoom, LookedForMessages, Put, Taken, TakenAll, PutAll}
 use Rattle.flow_messages.specs.Tables.{at_line}
 use Rattle.flow_messages.specs.TableLaws.{signals-length}
 use Rattle.flow_messages.proofs.Signals.{signals-nil, signals-cons, signals-snoc}
 use Rattle.flow_messages.proofs.Tables.{at_line-here, at_line-same, at_line-other, at_line-kept}
 use Rattle.flow_lanes.specs.declared.ends.LaneWriter.{LaneWriter}
 use Rattle.flow_lanes.specs.declared.ends.LaneReader.{LaneReader}
+use Rattle.flow_lanes.specs.Followed.{followed_unless_ended}
+use Rattle.flow_lanes.proofs.Followed.{followed_shut, followed_free}
 use Rattle.flow_lanes.specs.Lane.{sent, received, certain_room, certain_held, kind_of, SameWriter}
 use Rattle.flow_lanes.specs.SameLanes.{same_kind}
 use Rattle.flow_lanes.specs.Rings.{kind_seen, sent_of, room_of, writes_of, received_of, coming_of, reads_of, view_of_rings}
@@ -23,6 +26,13 @@ signals-append (m ∷ ms) ns = ap (λ l. signal_of m ∷ l) (signals-append ms n
 -- what begins a list of messages begins what they say
 pub signals-prefix : (ms ns : List Msg) → IsPrefix ms ns → IsPrefix (signals ms) (signals ns)
 signals-prefix ms ns p = (signals p.0, sym (signals-append ms p.0) ∙ ap signals p.1)
+
+-- what many puts leave says what they say, and what was put before
+signals-followed : (before ms : List Msg) → signals (followed_unless_ended before ms) ≡ cond (ended (signals before)) (signals before) (signals before ++ signals ms)
+signals-followed before ms = by_end (cases_Bool (ended (signals before))) where
+  by_end : (ended (signals before) ≡ true) ⊎ (ended (signals before) ≡ false) → signals (followed_unless_ended before ms) ≡ cond (ended (signals before)) (signals before) (signals before ++ signals ms)
+  by_end (inl shut) = ap signals (followed_shut before ms shut) ∙ sym (ap (λ b. cond b (signals before) (signals before ++ signals ms)) shut)
+  by_end (inr free) = ap signals (followed_free before ms free) ∙ signals-append before ms ∙ sym (ap (λ b. cond b (signals before) (signals before ++ signals ms)) free)
 
 module _ (ws : List (Option LaneWriter)) (rs : List (Option LaneReader)) (e : ℕ) (old : Option LaneWriter) (w v : LaneWriter) (h : e < length ws) (is : old ≡ get_or ws e old) (was : old ≡ Some w) (alike : SameWriter w v) where
   abbrev before : View
@@ -56,6 +66,18 @@ module _ (ws : List (Option LaneWriter)) (rs : List (Option LaneReader)) (e : �
     coming_here = ([], append-nil (before.coming e));
     room = at_line-other room_of ws e 0 (Some v);
     room_here = omega (arith, writer-room, had_room);
+  }
+
+  pub writer-put_all : (ms : List Msg) → sent v ≡ followed_unless_ended (sent w) ms → certain_room w ≤ certain_room v + length ms → PutAll before e (signals ms) after
+  writer-put_all ms grown room = record {
+    ends = writer_ends;
+    sent = at_line-same sent_of ws e [] (Some v) h ∙ ap signals grown ∙ signals-followed (sent w) ms ∙ ap (λ l. cond (ended l) l (l ++ signals ms)) (sym had_sent);
+    others = at_line-other sent_of ws e [] (Some v);
+    received = λ k. refl;
+    coming = λ k _. refl;
+    coming_here = ([], append-nil (before.coming e));
+    room = at_line-other room_of ws e 0 (Some v);
+    room_here = omega (arith, room, writer-room, had_room, signals-length ms);
   }
 
   pub writer-looked : sent v ≡ sent w → certain_room w ≤ certain_room v → LookedForRoom before e after

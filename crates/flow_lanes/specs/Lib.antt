@@ -1,5 +1,6 @@
 pub mod Credits
 pub mod Taken
+pub mod Followed
 pub mod Lane
 pub mod SameLanes
 pub mod Rings

@@ -1,7 +1,7 @@
 // The end that puts scalars, and counts the room for them.
-ghost use Rattle.std.specs.Prelude.{◌≡◌, ◌+◌, ◌≤◌, length};
+ghost use Rattle.std.specs.Prelude.{◌≡◌, ◌≢◌, ◌+◌, ◌≤◌, length, None};
 ghost use Rattle.flow_messages.specs.Limits.{greatest_capacity};
-ghost use Rattle.flow_rings.specs.Edge.{sent, received, edge_capacity};
+ghost use Rattle.flow_rings.specs.Edge.{sent, received, edge_capacity, kind_of};
 ghost use Rattle.flow_lanes.specs.Credits.{credit};
 
 use flow_rings::{EdgeReader, EdgeWriter};
@@ -16,6 +16,7 @@ pub struct CountedWriter {
     // How many messages more may be put until the reader tells of more.
     pub(crate) room: usize,
     pub(crate) capacity: usize,
+    ghost scalar: { kind_of edge ≢ None },
     ghost places: { edge_capacity edge ≡ capacity },
     ghost limit: { capacity ≤ greatest_capacity },
     ghost within: { room + length (sent edge) ≤ capacity + credit (received back) },

@@ -10,8 +10,8 @@ use crate::counted::CountedWriter;
 use flow_messages::{Item, Msg, Refused, Why};
 use flow_rings::EdgeReader;
 
-// So many numbers of the reader are read in one look at most.
-const NUMBERS: usize = 8;
+// So many numbers of the reader wait for the writer at most, and are read in one look.
+pub(crate) const NUMBERS: usize = 8;
 
 // The number that a message says, or less.
 #[inline(always)]

@@ -7,6 +7,7 @@
 //! [`Rings`] owns the ends that a share of a network has, each at the number of its lane.
 #![tactic(auto)]
 
+mod blocks;
 mod counted;
 mod counting;
 mod ends;

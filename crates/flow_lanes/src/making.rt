@@ -5,6 +5,7 @@ ghost use Rattle.flow_messages.specs.Limits.{greatest_capacity};
 ghost use Rattle.flow_lanes.specs.Lane.{sent, received, certain_room, certain_held, edge_capacity, kind_of, IsLane};
 
 use crate::counted::CountedWriter;
+use crate::counting::NUMBERS;
 use crate::ends::{LaneReader, LaneWriter};
 use crate::pocket::Pocket;
 use flow_boxes::Inbox;
@@ -34,7 +35,8 @@ pub fn lane(
         return Ok((LaneWriter::Messages(writer), LaneReader::Messages(reader)));
     }
     let (writer, reader) = scalar_edge(alloc, kind, capacity)?;
-    let (teller, back) = scalar_edge(alloc, Kind::Int, capacity)?;
+    // What the reader cannot tell it goes on to owe.
+    let (teller, back) = scalar_edge(alloc, Kind::Int, capacity.min(NUMBERS))?;
     let inbox = Inbox::new(alloc, capacity)?;
     let writer = CountedWriter {
         edge: writer,

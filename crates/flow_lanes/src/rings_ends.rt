@@ -111,6 +111,27 @@ impl Ends for Rings {
         }
     }
 
+    fn put_units(&mut self, edge: usize, count: usize) {
+        match &mut self.writers[edge] {
+            Some(writer) => writer.put_units(count),
+            None => unreachable!(),
+        }
+    }
+
+    fn put_flags(&mut self, edge: usize, flags: &[bool]) {
+        match &mut self.writers[edge] {
+            Some(writer) => writer.put_flags(flags),
+            None => unreachable!(),
+        }
+    }
+
+    fn put_ints(&mut self, edge: usize, ints: &[i64]) {
+        match &mut self.writers[edge] {
+            Some(writer) => writer.put_ints(ints),
+            None => unreachable!(),
+        }
+    }
+
     ghost same_refl = { same_rings_refl };
 
     ghost same_trans = { same_rings_trans };

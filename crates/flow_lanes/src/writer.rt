@@ -2,12 +2,19 @@
 ghost use Rattle.std.specs.Prelude.{◌≡◌, ◌+◌, ◌<◌, ◌≤◌, ◌↔◌, true, false, [], ◌∷◌, ◌++◌, length, IsTrue, IsOk, OnOk, IfErr, IsErrAnd};
 ghost use Rattle.std.specs.Io.Iter.{u64_saturate};
 ghost use Rattle.flow_messages.specs.Signals.{signals, signal_of, ended};
-ghost use Rattle.flow_messages.specs.Kinds.{FitsEdge};
+ghost use Rattle.flow_messages.specs.Kinds.{FitsEdge, TakesKind};
+ghost use Rattle.flow_messages.specs.Contents.{unit_messages, flag_messages, int_messages};
+ghost use Rattle.flow_messages.specs.declared.message.Kind.TheVariants.{Unit as UnitKind, Bool as BoolKind, Int as IntKind};
 ghost use Rattle.flow_messages.specs.declared.ends.Why.TheVariants.{Full, Closed};
+ghost use Rattle.flow_lanes.specs.Followed.{followed_unless_ended, item_messages};
 ghost use Rattle.flow_lanes.specs.Lane.{sent, certain_room, kind_of, SameWriter};
 
+use crate::blocks::{MANY, Scalar, put_each};
 use crate::ends::LaneWriter;
 use flow_messages::{Msg, Refused};
+
+// What is put where a block of units is.
+const UNITS: [(); MANY] = [(); MANY];
 
 impl LaneWriter {
     /// Puts a message after all others.
@@ -33,6 +40,65 @@ impl LaneWriter {
             LaneWriter::Messages(edge) => edge.put(message),
             LaneWriter::Scalars(writer) => writer.put(message),
         }
+    }
+
+    // Puts these where room is certain. They are dropped where `End` was put on the lane before.
+    #[inline(always)]
+    fn put_all<T: Scalar>(&mut self, values: &[T])
+        requires takes { TakesKind (kind_of self.old) T.kind }
+        requires certain { length values.now ≤ certain_room self.old }
+        ensures same { SameWriter self.old self.new }
+        ensures put { sent self.new ≡
+            followed_unless_ended (sent self.old) (item_messages T.item values.now) }
+        ensures room { certain_room self.old ≤ certain_room self.new + length values.now }
+    {
+        match self {
+            LaneWriter::Messages(edge) => put_each(edge, values),
+            LaneWriter::Scalars(writer) => writer.put_all(values),
+        }
+    }
+
+    /// Puts so many units where room is certain. They are dropped where `End` was put on the lane before.
+    pub fn put_units(&mut self, count: usize)
+        requires takes { TakesKind (kind_of self.old) UnitKind }
+        requires certain { count ≤ certain_room self.old }
+        ensures same { SameWriter self.old self.new }
+        ensures put { sent self.new ≡
+            followed_unless_ended (sent self.old) (unit_messages count) }
+        ensures room { certain_room self.old ≤ certain_room self.new + count }
+    {
+        let mut put = 0;
+        while put < count {
+            let some = (count - put).min(MANY);
+            self.put_all(&UNITS[..some]);
+            put += some;
+        }
+    }
+
+    /// Puts these truth values where room is certain. They are dropped where `End` was put on the lane before.
+    #[inline(always)]
+    pub fn put_flags(&mut self, flags: &[bool])
+        requires takes { TakesKind (kind_of self.old) BoolKind }
+        requires certain { length flags.now ≤ certain_room self.old }
+        ensures same { SameWriter self.old self.new }
+        ensures put { sent self.new ≡
+            followed_unless_ended (sent self.old) (flag_messages flags.now) }
+        ensures room { certain_room self.old ≤ certain_room self.new + length flags.now }
+    {
+        self.put_all(flags);
+    }
+
+    /// Puts these integers of 64 bits where room is certain. They are dropped where `End` was put on the lane before.
+    #[inline(always)]
+    pub fn put_ints(&mut self, ints: &[i64])
+        requires takes { TakesKind (kind_of self.old) IntKind }
+        requires certain { length ints.now ≤ certain_room self.old }
+        ensures same { SameWriter self.old self.new }
+        ensures put { sent self.new ≡
+            followed_unless_ended (sent self.old) (int_messages ints.now) }
+        ensures room { certain_room self.old ≤ certain_room self.new + length ints.now }
+    {
+        self.put_all(ints);
     }
 
     /// How many messages more the lane is certain to have room for. Only the reader makes more.

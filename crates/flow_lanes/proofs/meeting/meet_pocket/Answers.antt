@@ -1,8 +1,9 @@
-use Rattle.std.proofs.Common.{length, ◌∙◌, arith}
+use Rattle.std.proofs.Common.{length, sym, ◌∙◌, arith}
 use Rattle.flow_messages.specs.Stores.{content_of}
 use Rattle.flow_boxes.specs.Received.{received_of}
 use Rattle.flow_rings.specs.Edge.{certain_held}
 use Rattle.flow_lanes.proofs.Lists.{prefix-after}
+use Rattle.flow_lanes.proofs.Owing.{same_kind}
 use Rattle.flow_lanes.proofs.Settled.{bound, within}
 use Rattle.flow_lanes.proofs.meeting.meet_pocket.Goals as goal
 
@@ -21,6 +22,7 @@ invariant_of-writer c =
     let met = c.meet-found.ensures in
     let b = c.settle-reader.ensures in
     record {
+      scalar = λ none. w.scalar (sym (same_kind w.edge c.meet-found.new.writer met.writer.0) ∙ none);
       places = met.writer.0.1 ∙ w.places;
       limit = w.limit;
       within = omega (arith, c.len.ensures, within w p c.meet-found.new.writer c.meet-found.new.reader c.meet-found.result.count met.writer.1 met.reader.1 met.fifo met.count c.settle-reader.new.back b.begins (b.told (length (received_of p.inbox)) p.owes));

@@ -1,0 +1,141 @@
+// Scalars that are put many at once.
+ghost use Rattle.std.specs.Prelude.{◌≡◌, ◌+◌, ◌≤◌, length, min};
+ghost use Rattle.flow_messages.specs.Kinds.{TakesKind};
+ghost use Rattle.flow_rings.specs.Edge.{sent, certain_room, kind_of, SameWriter};
+ghost use Rattle.flow_lanes.specs.Followed.{followed_unless_ended, item_messages};
+
+use crate::counted::CountedWriter;
+use flow_rings::{Block, EdgeWriter, Flat};
+
+// So many messages go in one block.
+pub(crate) const MANY: usize = 64;
+
+// What goes as a scalar message of one kind.
+pub(crate) trait Scalar: Copy {
+    ghost use Rattle.std.specs.Prelude.{◌≡◌, true};
+    ghost use Rattle.flow_messages.specs.Cells.{cell_of, is_of};
+    ghost use Rattle.flow_messages.specs.declared.message.Kind.{Kind};
+    ghost use Rattle.flow_messages.specs.declared.message.Item.{Item};
+    ghost use Rattle.flow_messages.specs.declared.message.Msg.TheVariants.{Item as ItemMsg};
+    ghost use Rattle.flow_rings.specs.Flats.{message_of};
+
+    // The item that it stands for.
+    ghost item: { Self → Item };
+
+    // The kind of all of them.
+    ghost kind: { Kind };
+
+    fn flat(self) -> Flat
+        ensures { message_of result ≡ ItemMsg (item self) };
+
+    ghost is_of_kind: { (x : Self) → is_of kind (cell_of (item x)) ≡ true };
+}
+
+impl Scalar for () {
+    ghost use Rattle.std.specs.Prelude.{refl};
+    ghost use Rattle.flow_messages.specs.declared.message.Kind.TheVariants.{Unit as UnitKind};
+    ghost use Rattle.flow_messages.specs.declared.message.Item.TheVariants.{Unit as UnitItem};
+
+    ghost item = { λ _. UnitItem };
+
+    ghost kind = { UnitKind };
+
+    #[inline(always)]
+    fn flat(self) -> Flat {
+        Flat::Unit
+    }
+
+    ghost is_of_kind = { λ _. refl };
+}
+
+impl Scalar for bool {
+    ghost use Rattle.std.specs.Prelude.{refl};
+    ghost use Rattle.flow_messages.specs.declared.message.Kind.TheVariants.{Bool as BoolKind};
+    ghost use Rattle.flow_messages.specs.declared.message.Item.TheVariants.{Bool as BoolItem};
+
+    ghost item = { λ truth. BoolItem truth };
+
+    ghost kind = { BoolKind };
+
+    #[inline(always)]
+    fn flat(self) -> Flat {
+        Flat::Bool(self)
+    }
+
+    ghost is_of_kind = { λ _. refl };
+}
+
+impl Scalar for i64 {
+    ghost use Rattle.std.specs.Prelude.{refl};
+    ghost use Rattle.flow_messages.specs.declared.message.Kind.TheVariants.{Int as IntKind};
+    ghost use Rattle.flow_messages.specs.declared.message.Item.TheVariants.{Int as IntItem};
+
+    ghost item = { λ number. IntItem number };
+
+    ghost kind = { IntKind };
+
+    #[inline(always)]
+    fn flat(self) -> Flat {
+        Flat::Int(i128::from(self))
+    }
+
+    ghost is_of_kind = { λ _. refl };
+}
+
+// Puts these one after another, where room is certain. They are dropped where `End` was put before.
+pub(crate) fn put_each<T: Scalar>(edge: &mut EdgeWriter, values: &[T])
+    requires takes { TakesKind (kind_of edge.old) T.kind }
+    requires certain { length values.now ≤ certain_room edge.old }
+    ensures same { SameWriter edge.old edge.new }
+    ensures put { sent edge.new ≡
+        followed_unless_ended (sent edge.old) (item_messages T.item values.now) }
+    ensures room { certain_room edge.old ≤ certain_room edge.new + length values.now }
+{
+    for value in values {
+        let _ = edge.put(value.flat().message());
+    }
+}
+
+impl CountedWriter {
+    // Puts at most 64 of these in one block, where room is certain. They are dropped where `End` was put before. It stands alone,
+    // since a function pays at entry for the size of a block.
+    #[inline(never)]
+    fn put_block<T: Scalar>(&mut self, values: &[T])
+        requires few { length values.now ≤ 64 }
+        requires takes { TakesKind (kind_of self.old.edge) T.kind }
+        requires certain { length values.now ≤ min self.old.room (certain_room self.old.edge) }
+        ensures edge { SameWriter self.old.edge self.new.edge }
+        ensures back { self.new.back ≡ self.old.back }
+        ensures put { sent self.new.edge ≡
+            followed_unless_ended (sent self.old.edge) (item_messages T.item values.now) }
+        ensures room { min self.old.room (certain_room self.old.edge) ≤
+            min self.new.room (certain_room self.new.edge) + length values.now }
+    {
+        let mut block = Block::new();
+        for value in values {
+            block.push(value.flat());
+        }
+        if self.edge.put_block(&mut block) {
+            self.room -= values.len();
+        }
+    }
+
+    // Puts these in blocks, where room is certain. They are dropped where `End` was put before.
+    pub(crate) fn put_all<T: Scalar>(&mut self, values: &[T])
+        requires takes { TakesKind (kind_of self.old.edge) T.kind }
+        requires certain { length values.now ≤ min self.old.room (certain_room self.old.edge) }
+        ensures edge { SameWriter self.old.edge self.new.edge }
+        ensures back { self.new.back ≡ self.old.back }
+        ensures put { sent self.new.edge ≡
+            followed_unless_ended (sent self.old.edge) (item_messages T.item values.now) }
+        ensures room { min self.old.room (certain_room self.old.edge) ≤
+            min self.new.room (certain_room self.new.edge) + length values.now }
+    {
+        let mut put = 0;
+        while put < values.len() {
+            let count = (values.len() - put).min(MANY);
+            self.put_block(&values[put..put + count]);
+            put += count;
+        }
+    }
+}
