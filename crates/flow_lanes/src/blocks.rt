@@ -10,6 +10,9 @@ use flow_rings::{Block, EdgeWriter, Flat};
 // So many messages go in one block.
 pub(crate) const MANY: usize = 64;
 
+// Fewer go one after another.
+const FEW: usize = 4;
+
 // What goes as a scalar message of one kind.
 pub(crate) trait Scalar: Copy {
     ghost use Rattle.std.specs.Prelude.{◌≡◌, true};
@@ -131,6 +134,11 @@ impl CountedWriter {
         ensures room { min self.old.room (certain_room self.old.edge) ≤
             min self.new.room (certain_room self.new.edge) + length values.now }
     {
+        if values.len() < FEW {
+            self.room -= values.len();
+            put_each(&mut self.edge, values);
+            return;
+        }
         let mut put = 0;
         while put < values.len() {
             let count = (values.len() - put).min(MANY);
