@@ -185,4 +185,6 @@ def name_of(words):
         return plain[-1]
     taken = TAKES.search(text)
     types = without_types(taken[1]).split(",") if taken else []
-    return plain[-1] + plain[plain.index("for") - 1] + "".join(re.findall(r"[A-Za-z]\w*", it)[-1] for it in types)
+    # The types of the language stand there with a capital, as `BoolFlip`, and the unit as `Unit`.
+    its = (plain[plain.index("for") + 1 :] or ["Unit"])[-1]
+    return its[0].upper() + its[1:] + plain[plain.index("for") - 1] + "".join(re.findall(r"[A-Za-z]\w*", it)[-1] for it in types)

@@ -38,5 +38,6 @@ pub use Rattle.flow_lanes.specs.declared.ends.LaneWriter
 pub use Rattle.flow_lanes.specs.declared.ends.LaneReader
 pub use Rattle.flow_lanes.specs.Lane
 pub use Rattle.flow_lanes.specs.Taken
+pub use Rattle.flow_lanes.specs.Followed
 pub use Rattle.flow_lanes.specs.Credits
 pub use Rattle.flow_lanes.specs.SameLanes

@@ -10,8 +10,8 @@
 //!   taken many at a time, as a [`Block`].
 //! - [`Ends`] is what a driver of transducers sees: some ends of some edges, each named by its
 //!   edge's number. A [`Table`] has both ends of every edge in one thread. [`Rings`] are the ends of lanes
-//!   that one thread owns: a [`lane`] is an edge between threads whose scalars go many at once. [`Boxes`] are ends between which messages pass only when they are carried
-//!   ([`carry`], [`carry_own`]).
+//!   that one thread owns: a [`lane`] is an edge between threads whose scalars go many at once.
+//!   [`Boxes`] are ends between which messages pass only when they are carried ([`carry`], [`carry_own`]).
 //!
 //! For example: an edge of capacity 3 takes two items and `End`, and refuses a fourth message as
 //! `Closed`. After [`meet`] the reader is certain of three messages. It takes them in the order in
