@@ -12,7 +12,10 @@ use std::fmt;
 use std::thread::Threads;
 
 // How many messages an edge holds.
-const CAPACITIES: [usize; 4] = [256, 4, 2, 1];
+const CAPACITIES: [usize; 5] = [256, 4, 3, 2, 1];
+
+// How many steps a visit makes at most.
+const CHUNKS: [usize; 5] = [1, 3, 16, 256, 1_024];
 
 // How many threads there are, and the lists that name a share for each node: all nodes in one share, and neighbours apart
 // in two and in sixteen.
@@ -108,9 +111,9 @@ impl Drives {
         Ok(())
     }
 
-    // Tries the drives of several threads: chunks of 1, 16 and 256, each of the lists of shares, and over rings threads that
-    // end after one turn without a step and after 64; in rounds no message comes that a later turn could find. A network of at
-    // most five nodes is run with each list of five entries 0 or 1 besides.
+    // Tries the drives of several threads: each of the chunks and of the lists of shares, and over rings threads that end after
+    // one turn without a step and after 64; in rounds no message comes that a later turn could find. A network of at most five
+    // nodes is run with each list of five entries 0 or 1 besides.
     fn try_ways(
         &mut self,
         rt: &impl Threads,
@@ -138,7 +141,7 @@ impl Drives {
         drive: Drive,
         idles: &[usize],
     ) -> Result<(), AllocError> {
-        for chunk in [1, 16, 256] {
+        for chunk in CHUNKS {
             for &idle in idles {
                 for &shares in &SHARES {
                     let way = Way {
