@@ -61,7 +61,7 @@ struct Course {
     shares: Shares,
     // The kind of the items on each edge.
     kind: Kind,
-    // How many messages each edge holds: 1 or 2.
+    // How many messages each edge holds: 1 to 100.
     capacity: usize,
     steps: &'static [CourseStep],
 }
@@ -90,7 +90,7 @@ const EACH_WAY: Course = Course {
     ],
 };
 
-// Rings show no slice. A block that was put comes one message after another.
+// Rings show messages as a slice once they were asked whether one is there.
 const INTS_OVER_RINGS: Course = Course {
     name: "integers over rings",
     shares: Shares::One,
@@ -101,8 +101,52 @@ const INTS_OVER_RINGS: Course = Course {
         CourseStep::Meet,
         CourseStep::At(0, 0, Act::Blocks(Block::ShowsInts(&[]))),
         CourseStep::At(0, 0, Act::Blocks(Block::SkipsOne)),
+        CourseStep::At(0, 0, Act::Blocks(Block::ShowsInts(&[6]))),
         CourseStep::At(0, 0, Act::Takes(Some(6))),
         CourseStep::At(0, 0, Act::Counts(2, 2)),
+    ],
+};
+
+// More messages than go at once: the reader takes 64 of them over, and the others wait.
+const MANY_INTS_OVER_RINGS: Course = Course {
+    name: "many integers over rings",
+    shares: Shares::One,
+    kind: Kind::Int,
+    capacity: 100,
+    steps: &[
+        CourseStep::At(0, 0, Act::Blocks(Block::PutsInts(&[7; 70]))),
+        CourseStep::Meet,
+        CourseStep::At(0, 0, Act::Blocks(Block::SkipsOne)),
+        CourseStep::At(0, 0, Act::Blocks(Block::ShowsInts(&[7; 63]))),
+        CourseStep::At(0, 0, Act::Counts(70, 1)),
+    ],
+};
+
+const MANY_UNITS_OVER_RINGS: Course = Course {
+    name: "many units over rings",
+    shares: Shares::One,
+    kind: Kind::Unit,
+    capacity: 100,
+    steps: &[
+        CourseStep::At(0, 0, Act::Blocks(Block::PutsUnits(70))),
+        CourseStep::Meet,
+        CourseStep::At(0, 0, Act::Blocks(Block::SkipsOne)),
+        CourseStep::At(0, 0, Act::Blocks(Block::ShowsUnits(63))),
+        CourseStep::At(0, 0, Act::Counts(70, 1)),
+    ],
+};
+
+const MANY_FLAGS_OVER_RINGS: Course = Course {
+    name: "many truth values over rings",
+    shares: Shares::One,
+    kind: Kind::Bool,
+    capacity: 100,
+    steps: &[
+        CourseStep::At(0, 0, Act::Blocks(Block::PutsFlags(&[true; 70]))),
+        CourseStep::Meet,
+        CourseStep::At(0, 0, Act::Blocks(Block::SkipsOne)),
+        CourseStep::At(0, 0, Act::Blocks(Block::ShowsFlags(&[true; 63]))),
+        CourseStep::At(0, 0, Act::Counts(70, 1)),
     ],
 };
 
@@ -241,11 +285,14 @@ const OVER_BOXES: [Course; 6] = [
     },
 ];
 
-const OVER_RINGS: [Course; 6] = [
+const OVER_RINGS: [Course; 9] = [
     EACH_WAY,
     INTS_OVER_RINGS,
     FLAGS_OVER_RINGS,
     UNITS_OVER_RINGS,
+    MANY_INTS_OVER_RINGS,
+    MANY_FLAGS_OVER_RINGS,
+    MANY_UNITS_OVER_RINGS,
     Course {
         name: "messages cross in order",
         shares: Shares::Two,
@@ -445,7 +492,7 @@ fn first_of<E: Opening + CountedEnds + Drop>(
     alloc: Global,
     course: &Course,
 ) -> Result<Option<usize>, AllocError> {
-    let (kind, capacity) = (course.kind, course.capacity.clamp(1, 2));
+    let (kind, capacity) = (course.kind, course.capacity.clamp(1, 100));
     match course.shares {
         Shares::Two => first_over::<E>(alloc, 2, &owners(), kind, capacity, course.steps),
         Shares::One => first_over::<E>(alloc, 1, &own_owner(), kind, capacity, course.steps),
