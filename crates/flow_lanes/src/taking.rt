@@ -20,6 +20,9 @@ use flow_rings::{Block, EdgeReader, EdgeWriter};
 // After so many messages the writer is told at once.
 const MANY: u64 = 64;
 
+// So many blocks are taken over in one look at most.
+const BLOCKS: usize = 4;
+
 // The message that says a number.
 #[inline(always)]
 fn saying(number: u64) -> Msg
@@ -78,7 +81,7 @@ pub(crate) fn take_each(reader: &mut EdgeReader, count: usize)
 }
 
 impl Pocket {
-    // Messages that came are held, as many as a block has places for.
+    // Messages that came are held, as many as some blocks have places for.
     #[inline(always)]
     pub(crate) fn fill(&mut self)
         ensures edge { SameReader self.old.edge self.new.edge }
@@ -93,8 +96,8 @@ impl Pocket {
         }
     }
 
-    // Messages are taken over from the edge, as many as a block has places for. It stands alone, since a function pays at entry
-    // for the size of a block.
+    // Messages are taken over from the edge, some blocks of them. It stands alone, since a function pays at entry for the size of a
+    // block.
     #[inline(never)]
     fn take_over(&mut self)
         ensures edge { SameReader self.old.edge self.new.edge }
@@ -105,10 +108,33 @@ impl Pocket {
             0 < length (content_of self.new.inbox.store) }
     {
         let mut block = Block::new();
+        for _ in 0..BLOCKS {
+            self.take_block(&mut block);
+            if !self.edge.ready() {
+                return;
+            }
+        }
+    }
+
+    // Messages are taken over by way of a block that is empty.
+    #[inline(always)]
+    fn take_block(&mut self, block: &mut Block)
+        requires { block.old.items ≡ [] }
+        ensures edge { SameReader self.old.edge self.new.edge }
+        ensures back { self.new.back ≡ self.old.back }
+        ensures taken { taken_from self.new ≡ taken_from self.old }
+        ensures more { IsPrefix (held_in self.old) (held_in self.new) }
+        ensures some { 0 < length (certain_held self.old.edge) →
+            0 < length (content_of self.new.inbox.store) }
+        ensures held { length (content_of self.old.inbox.store) ≤
+            length (content_of self.new.inbox.store) }
+        ensures empty { block.new.items ≡ [] }
+    {
         let places = self.inbox.store.capacity - self.inbox.store.len();
-        self.edge.take_block(&mut block, places);
-        keep(&mut self.inbox, &block);
+        self.edge.take_block(block, places);
+        keep(&mut self.inbox, block);
         self.came = History::new().followed_by(&self.inbox.arrived);
+        block.clear();
     }
 
     // Messages that came are held, where none is.
