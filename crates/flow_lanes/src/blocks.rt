@@ -10,8 +10,8 @@ use flow_rings::{Block, EdgeWriter, Flat};
 // So many messages go in one block.
 pub(crate) const MANY: usize = 64;
 
-// Fewer go one after another.
-const FEW: usize = 4;
+// Fewer go one after another, since a block costs more to make than their fences do.
+const FEW: usize = 32;
 
 // What goes as a scalar message of one kind.
 pub(crate) trait Scalar: Copy {
