@@ -1,7 +1,7 @@
 -- Many messages put one after another, or one block after another.
-use Rattle.std.proofs.Common.{◌≡◌, ℕ, zero, suc, ◌+◌, ◌-◌, ◌<◌, ◌≤◌, ◌↔◌, true, false, cond, List, [], ◌∷◌, ◌++◌, length, take, drop, get_or, refl, ap, sym, ◌∙◌, subst, arith, add-one, append_assoc, append-nil, inl, inr, ◌⊎◌}
+use Rattle.std.proofs.Common.{◌≡◌, ℕ, zero, suc, ◌+◌, ◌-◌, ◌<◌, ◌≤◌, ◌↔◌, true, false, cond, List, [], ◌∷◌, ◌++◌, length, take, drop, set, get_or, refl, ap, sym, ◌∙◌, subst, arith, add-one, append_assoc, append-nil, inl, inr, ◌⊎◌}
 use Rattle.std.proofs.Math.Seq.{take-suc, take-add}
-use Rattle.std.proofs.lemmas.List.{map-append}
+use Rattle.std.proofs.lemmas.List.{map-append, take_more_set}
 use Rattle.std.proofs.lemmas.Bool.{cases_Bool}
 use Rattle.std.specs.List.{All, slice_range}
 use Rattle.std.specs.Prelude.{Option, Result, Ok, Err, OnOk, IfErr, IsOk, IsErrAnd}
@@ -66,6 +66,12 @@ module _ {X : Type 0} (item : X → Item) where
   -- one item more
   pub items_next : (xs : List X) (i : ℕ) (d : X) → i < length xs → item_messages item (take (i + 1) xs) ≡ item_messages item (take i xs) ++ ItemMsg (item (get_or xs i d)) ∷ []
   items_next xs i d low = ap (λ k. item_messages item (take k xs)) (add-one i) ∙ ap (item_messages item) (take-suc xs i d low) ∙ map-append (λ x. ItemMsg (item x)) (take i xs) (get_or xs i d ∷ [])
+
+  -- a place of a block more
+  pub block_next : (block : List Flat) (xs : List X) (i : ℕ) (f : Flat) (d : X) → i < length block → i < length xs → messages_of (take i block) ≡ item_messages item (take i xs) → message_of f ≡ ItemMsg (item (get_or xs i d)) → messages_of (take (i + 1) (set block i f)) ≡ item_messages item (take (i + 1) xs)
+  block_next block xs i f d place there is said =
+      ap messages_of (take_more_set block i f place) ∙ map-append message_of (take i block) (f ∷ []) ∙ ap (λ l. l ++ message_of f ∷ []) is
+      ∙ ap (λ m. item_messages item (take i xs) ++ m ∷ []) said ∙ sym (items_next xs i d there)
 
   -- a block more
   pub items_further : (xs : List X) (i n : ℕ) → item_messages item (take i xs) ++ item_messages item (slice_range xs i (i + n)) ≡ item_messages item (take (i + n) xs)

@@ -5,13 +5,13 @@ ghost use Rattle.flow_rings.specs.Edge.{sent, certain_room, kind_of, SameWriter}
 ghost use Rattle.flow_lanes.specs.Followed.{followed_unless_ended, item_messages};
 
 use crate::counted::CountedWriter;
-use flow_rings::{Block, EdgeWriter, Flat};
+use flow_rings::{EdgeWriter, Flat};
 
-// So many messages go in one block.
-pub(crate) const MANY: usize = 64;
+// A block has so many places.
+pub(crate) const PLACES: usize = 16;
 
 // Fewer go one after another, since a block costs more to make than their fences do.
-const FEW: usize = 32;
+const FEW: usize = 3;
 
 // What goes as a scalar message of one kind.
 pub(crate) trait Scalar: Copy {
@@ -100,11 +100,11 @@ pub(crate) fn put_each<T: Scalar>(edge: &mut EdgeWriter, values: &[T])
 }
 
 impl CountedWriter {
-    // Puts at most 64 of these in one block, where room is certain. They are dropped where `End` was put before. It stands alone,
+    // Puts at most 16 of these in one block, where room is certain. They are dropped where `End` was put before. It stands alone,
     // since a function pays at entry for the size of a block.
     #[inline(never)]
     fn put_block<T: Scalar>(&mut self, values: &[T])
-        requires few { length values.now ≤ 64 }
+        requires few { length values.now ≤ 16 }
         requires takes { TakesKind (kind_of self.old.edge) T.kind }
         requires certain { length values.now ≤ min self.old.room (certain_room self.old.edge) }
         ensures edge { SameWriter self.old.edge self.new.edge }
@@ -114,12 +114,13 @@ impl CountedWriter {
         ensures room { min self.old.room (certain_room self.old.edge) ≤
             min self.new.room (certain_room self.new.edge) + length values.now }
     {
-        let mut block = Block::new();
-        for value in values {
-            block.push(value.flat());
+        let count = values.len();
+        let mut block = [Flat::End; PLACES];
+        for place in 0..count {
+            block[place] = values[place].flat();
         }
-        if self.edge.put_block(&mut block) {
-            self.room -= values.len();
+        if self.edge.put_slice(&block[..count]) {
+            self.room -= count;
         }
     }
 
@@ -141,7 +142,7 @@ impl CountedWriter {
         }
         let mut put = 0;
         while put < values.len() {
-            let count = (values.len() - put).min(MANY);
+            let count = (values.len() - put).min(PLACES);
             self.put_block(&values[put..put + count]);
             put += count;
         }

@@ -11,17 +11,18 @@ ghost use Rattle.flow_rings.specs.Flats.{messages_of};
 ghost use Rattle.flow_lanes.specs.Credits.{Owes};
 ghost use Rattle.flow_lanes.specs.Taken.{taken_from, held_in};
 
+use crate::blocks::PLACES;
 use crate::pocket::Pocket;
 use flow_boxes::Inbox;
 use flow_history::History;
 use flow_messages::{Item, Msg};
-use flow_rings::{Block, EdgeReader, EdgeWriter};
+use flow_rings::{EdgeReader, EdgeWriter, Flat};
 
 // After so many messages the writer is told at once.
 const MANY: u64 = 64;
 
-// So many blocks are taken over in one look at most.
-const BLOCKS: usize = 4;
+// So many times a block is taken over in one look at most.
+const TIMES: usize = 16;
 
 // The message that says a number.
 #[inline(always)]
@@ -49,19 +50,18 @@ pub(crate) fn tell(back: &mut EdgeWriter, owed: u64) -> u64
     owed
 }
 
-// Messages of a block are held after those that are held already.
+// These messages are held after those that are held already.
 #[inline(always)]
-fn keep(inbox: &mut Inbox, block: &Block)
-    requires { length (content_of inbox.old.store) + length block.now.items ≤
-        inbox.old.store.capacity }
+fn keep(inbox: &mut Inbox, flats: &[Flat])
+    requires { length (content_of inbox.old.store) + length flats.now ≤ inbox.old.store.capacity }
     ensures arrived { inbox.new.arrived.items ≡
-        inbox.old.arrived.items ++ messages_of block.now.items }
+        inbox.old.arrived.items ++ messages_of flats.now }
     ensures held { content_of inbox.new.store ≡
-        content_of inbox.old.store ++ messages_of block.now.items }
+        content_of inbox.old.store ++ messages_of flats.now }
     ensures received { received_of inbox.new ≡ received_of inbox.old }
     ensures capacity { inbox.new.store.capacity ≡ inbox.old.store.capacity }
 {
-    for flat in block.as_slice() {
+    for flat in flats {
         inbox.push(flat.message());
     }
 }
@@ -96,8 +96,8 @@ impl Pocket {
         }
     }
 
-    // Messages are taken over from the edge, some blocks of them. It stands alone, since a function pays at entry for the size of a
-    // block.
+    // Messages are taken over from the edge, some times as many as a block holds. It stands alone, since a function pays at entry
+    // for the size of a block.
     #[inline(never)]
     fn take_over(&mut self)
         ensures edge { SameReader self.old.edge self.new.edge }
@@ -107,8 +107,8 @@ impl Pocket {
         ensures some { 0 < length (certain_held self.old.edge) →
             0 < length (content_of self.new.inbox.store) }
     {
-        let mut block = Block::new();
-        for _ in 0..BLOCKS {
+        let mut block = [Flat::End; PLACES];
+        for _ in 0..TIMES {
             self.take_block(&mut block);
             if !self.edge.ready() {
                 return;
@@ -116,10 +116,10 @@ impl Pocket {
         }
     }
 
-    // Messages are taken over by way of a block that is empty.
+    // Messages are taken over by way of this block.
     #[inline(always)]
-    fn take_block(&mut self, block: &mut Block)
-        requires { block.old.items ≡ [] }
+    fn take_block(&mut self, block: &mut [Flat])
+        requires { 0 < length block.old }
         ensures edge { SameReader self.old.edge self.new.edge }
         ensures back { self.new.back ≡ self.old.back }
         ensures taken { taken_from self.new ≡ taken_from self.old }
@@ -128,13 +128,11 @@ impl Pocket {
             0 < length (content_of self.new.inbox.store) }
         ensures held { length (content_of self.old.inbox.store) ≤
             length (content_of self.new.inbox.store) }
-        ensures empty { block.new.items ≡ [] }
     {
         let places = self.inbox.store.capacity - self.inbox.store.len();
-        self.edge.take_block(block, places);
-        keep(&mut self.inbox, block);
+        let count = self.edge.take_slice(block, places);
+        keep(&mut self.inbox, &block[..count]);
         self.came = History::new().followed_by(&self.inbox.arrived);
-        block.clear();
     }
 
     // Messages that came are held, where none is.

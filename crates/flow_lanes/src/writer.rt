@@ -9,12 +9,12 @@ ghost use Rattle.flow_messages.specs.declared.ends.Why.TheVariants.{Full, Closed
 ghost use Rattle.flow_lanes.specs.Followed.{followed_unless_ended, item_messages};
 ghost use Rattle.flow_lanes.specs.Lane.{sent, certain_room, kind_of, SameWriter};
 
-use crate::blocks::{MANY, Scalar, put_each};
+use crate::blocks::{PLACES, Scalar, put_each};
 use crate::ends::LaneWriter;
 use flow_messages::{Msg, Refused};
 
 // What is put where a block of units is.
-const UNITS: [(); MANY] = [(); MANY];
+const UNITS: [(); PLACES] = [(); PLACES];
 
 impl LaneWriter {
     /// Puts a message after all others.
@@ -69,7 +69,7 @@ impl LaneWriter {
     {
         let mut put = 0;
         while put < count {
-            let some = (count - put).min(MANY);
+            let some = (count - put).min(PLACES);
             self.put_all(&UNITS[..some]);
             put += some;
         }

@@ -1,11 +1,11 @@
 -- Scalar messages, and which messages an edge of one kind takes.
-use Rattle.std.specs.Prelude.{◌≡◌, Bool, true, false, List, map, drop, Option, Some, None, ⊤}
+use Rattle.std.specs.Prelude.{◌≡◌, Bool, true, false, List, map, drop}
 use Rattle.arrayvec.specs.ArrayVec.{ArrayVec, array_vec_len}
 use Rattle.flow_messages.specs.declared.message.Kind.{Kind}
 use Rattle.flow_messages.specs.declared.message.Msg.{Msg}
 use Rattle.flow_messages.specs.declared.message.Msg.TheVariants.{Item as ItemMsg, End as EndMsg}
 use Rattle.flow_messages.specs.declared.message.Item.TheVariants.{Unit as UnitItem, Bool as BoolItem, Int as IntItem}
-use Rattle.flow_messages.specs.Cells.{unit, flag, int, datum, is_of}
+use Rattle.flow_messages.specs.Cells.{unit, flag, int, datum}
 use Rattle.flow_messages.specs.Signals.{Signal, carry, stop, signal_of, signals, ended}
 use Rattle.flow_messages.specs.Kinds.{fits}
 use Rattle.flow_rings.specs.declared.flat.Flat.{Flat}

@@ -1,5 +1,5 @@
 // The end that takes messages.
-ghost use Rattle.std.specs.Prelude.{◌≡◌, ◌<◌, ◌≤◌, ◌↔◌, true, false, [], ◌∷◌, ◌++◌, length, IsTrue, IsSome, IfSome, IfNone};
+ghost use Rattle.std.specs.Prelude.{◌≡◌, ◌<◌, ◌≤◌, ◌↔◌, true, false, [], ◌∷◌, ◌++◌, length, take, IsTrue, IsSome, IfSome, IfNone};
 ghost use Rattle.std.specs.List.{All};
 ghost use Rattle.std.specs.Io.Iter.{u64_saturate};
 ghost use Rattle.arrayvec.specs.ArrayVec.{array_vec_len};
@@ -9,7 +9,7 @@ ghost use Rattle.flow_rings.specs.Flats.{message_of, messages_of, flats_appended
 ghost use Rattle.flow_messages.specs.Kinds.{FitsEdge};
 ghost use Rattle.flow_rings.specs.Edge.{received, certain_held, reader_kind, SameReader, all_sent, IsMarkOf};
 
-use crate::flat::Block;
+use crate::flat::{Block, Flat};
 use crate::ring::{EdgeReader, FinishedMark};
 use flow_messages::Msg;
 
@@ -73,6 +73,29 @@ impl EdgeReader {
             array_vec_len block.old < 64 → 0 < result }
     {
         let count = self.ring.pop_block(block, most);
+        self.taken = self.taken.saturating_add(count as u64);
+        count
+    }
+
+    /// Takes the oldest messages that were not taken, in place of the first of these, at most `most`. The answer
+    /// is how many: not none where one is certain to be there and a place for it. The edge is one of scalars.
+    #[inline(always)]
+    pub fn take_slice(&mut self, flats: &mut [Flat], most: usize) -> usize
+        requires scalar { IsSome (reader_kind self.old) }
+        ensures same { SameReader self.old self.new }
+        ensures taken { received self.new ≡
+            received self.old ++ messages_of (take result flats.new) }
+        ensures certain { IsPrefix (certain_held self.old)
+            (messages_of (take result flats.new) ++ certain_held self.new) }
+        ensures fit { All (λ x. FitsEdge (reader_kind self.old) (signal_of (message_of x)))
+            (take result flats.new) }
+        ensures last { orderly (signals (messages_of (take result flats.new))) ≡ true }
+        ensures open { 0 < result → ended (signals (received self.old)) ≡ false }
+        ensures count { (result ≤ most) × (result ≤ length flats.new) }
+        ensures succeeds { 0 < length (certain_held self.old) → 0 < most →
+            0 < length flats.old → 0 < result }
+    {
+        let count = self.ring.pop_slice(flats, most);
         self.taken = self.taken.saturating_add(count as u64);
         count
     }

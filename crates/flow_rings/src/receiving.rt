@@ -1,5 +1,5 @@
 // The ring of a reader, whatever it carries.
-ghost use Rattle.std.specs.Prelude.{◌≡◌, ◌<◌, ◌≤◌, ◌↔◌, true, false, [], ◌∷◌, ◌++◌, length, IsTrue, IsOk, IfOk, OnErr, IsSome, IfSome};
+ghost use Rattle.std.specs.Prelude.{◌≡◌, ◌<◌, ◌≤◌, ◌↔◌, true, false, [], ◌∷◌, ◌++◌, length, take, IsTrue, IsOk, IfOk, OnErr, IsSome, IfSome};
 ghost use mathlib.Core.List.{IsPrefix};
 ghost use Rattle.std.specs.List.{All};
 ghost use Rattle.arrayvec.specs.ArrayVec.{array_vec_len};
@@ -67,6 +67,27 @@ fn pop_into<P: Protocol<Flat>>(
     count
 }
 
+// Takes the oldest scalar messages in place of the first of these, at most `most`.
+#[inline(always)]
+fn pop_over<P: Protocol<Flat>>(
+    ring: &mut Consumer<Flat, Global, P>,
+    flats: &mut [Flat],
+    most: usize,
+) -> usize
+    ensures ring { port.SameConsumer ring.old ring.new }
+    ensures taken { port.received ring.new ≡
+        port.received ring.old ++ take result flats.new }
+    ensures known { IsPrefix (port.known_items ring.old)
+        (take result flats.new ++ port.known_items ring.new) }
+    ensures allowed { Allowed P.allows (port.received ring.old) (take result flats.new) }
+    ensures count { (result ≤ most) × (result ≤ length flats.new) }
+    ensures succeeds { 0 < length (port.known_items ring.old) → 0 < most →
+        0 < length flats.old → 0 < result }
+{
+    let (first, _) = flats.split_at_mut(most.min(flats.len()));
+    ring.pop_partial_slice(first)
+}
+
 impl ReaderRing {
     // Takes the oldest message.
     #[inline(always)]
@@ -112,6 +133,31 @@ impl ReaderRing {
             ReaderRing::Units(ring) => pop_into(ring, block, most),
             ReaderRing::Flags(ring) => pop_into(ring, block, most),
             ReaderRing::Ints(ring) => pop_into(ring, block, most),
+        }
+    }
+
+    // Takes the oldest messages in place of the first of these, at most `most`.
+    #[inline(always)]
+    pub(crate) fn pop_slice(&mut self, flats: &mut [Flat], most: usize) -> usize
+        requires scalar { IsSome (reader_kind self.old) }
+        ensures ring { SameConsumer self.old self.new }
+        ensures taken { received self.new ≡
+            received self.old ++ messages_of (take result flats.new) }
+        ensures known { IsPrefix (known_items self.old)
+            (messages_of (take result flats.new) ++ known_items self.new) }
+        ensures fit { All (λ x. FitsEdge (reader_kind self.old) (signal_of (message_of x)))
+            (take result flats.new) }
+        ensures last { orderly (signals (messages_of (take result flats.new))) ≡ true }
+        ensures open { 0 < result → ended (signals (received self.old)) ≡ false }
+        ensures count { (result ≤ most) × (result ≤ length flats.new) }
+        ensures succeeds { 0 < length (known_items self.old) → 0 < most →
+            0 < length flats.old → 0 < result }
+    {
+        match self {
+            ReaderRing::Messages(_) => unreachable!(),
+            ReaderRing::Units(ring) => pop_over(ring, flats, most),
+            ReaderRing::Flags(ring) => pop_over(ring, flats, most),
+            ReaderRing::Ints(ring) => pop_over(ring, flats, most),
         }
     }
 

@@ -11,7 +11,7 @@ ghost use Rattle.flow_rings.specs.declared.flat.Flat.{Flat as Scalar};
 ghost use mathlib.Core.List.{IsPrefix};
 ghost use Rattle.std.specs.List.{All};
 
-use crate::flat::{Block, Flat};
+use crate::flat::Flat;
 use crate::ring::{MarkRing, ReaderRing, WriterRing};
 use flow_messages::Msg;
 use rtrb::{Producer, Protocol, PushError};
@@ -42,25 +42,20 @@ fn push_flat<P: Protocol<Flat>>(
     }
 }
 
-// Puts a whole block, or nothing if the ring has less room.
+// Puts all of these, or nothing if the ring has less room.
 #[inline(always)]
-fn push_all<P: Protocol<Flat>>(ring: &mut Producer<Flat, Global, P>, block: &mut Block) -> bool
-    requires { EachAllowed P.allows (port.sent ring.old) block.old.items }
+fn push_all<P: Protocol<Flat>>(ring: &mut Producer<Flat, Global, P>, flats: &[Flat]) -> bool
+    requires { EachAllowed P.allows (port.sent ring.old) flats.now }
     ensures ring { port.SameProducer ring.old ring.new }
     ensures done { IsTrue result →
-        (port.sent ring.new ≡ port.sent ring.old ++ block.old.items) ×
-        (block.new.items ≡ []) ×
-        (port.known_free ring.old ≤ port.known_free ring.new + length block.old.items) }
+        (port.sent ring.new ≡ port.sent ring.old ++ flats.now) ×
+        (port.known_free ring.old ≤ port.known_free ring.new + length flats.now) }
     ensures full { result ≡ false → (port.sent ring.new ≡ port.sent ring.old) ×
-        (block.new ≡ block.old) × (port.known_free ring.old ≤ port.known_free ring.new) ×
-        (port.known_free ring.new < length block.old.items) }
-    ensures succeeds { length block.old.items ≤ port.known_free ring.old → IsTrue result }
+        (port.known_free ring.old ≤ port.known_free ring.new) ×
+        (port.known_free ring.new < length flats.now) }
+    ensures succeeds { length flats.now ≤ port.known_free ring.old → IsTrue result }
 {
-    if ring.push_entire_slice(block.as_slice()).is_err() {
-        return false;
-    }
-    block.clear();
-    true
+    ring.push_entire_slice(flats).is_ok()
 }
 
 // Whether so many places are free. It looks only where it does not know.
@@ -93,29 +88,28 @@ impl WriterRing {
         }
     }
 
-    // Puts a whole block, or nothing if the ring has less room.
+    // Puts all of these, or nothing if the ring has less room.
     #[inline(always)]
-    pub(crate) fn push_block(&mut self, block: &mut Block) -> bool
+    pub(crate) fn push_slice(&mut self, flats: &[Flat]) -> bool
         requires scalar { IsSome (writer_kind self.old) }
         requires fit { All (λ x. FitsEdge (writer_kind self.old) (signal_of (message_of x)))
-            block.old.items }
-        requires last { orderly (signals (messages_of block.old.items)) ≡ true }
+            flats.now }
+        requires last { orderly (signals (messages_of flats.now)) ≡ true }
         requires open { ended (signals (sent self.old)) ≡ false }
         ensures ring { SameProducer self.old self.new }
         ensures done { IsTrue result →
-            (sent self.new ≡ sent self.old ++ messages_of block.old.items) ×
-            (block.new.items ≡ []) ×
-            (known_free self.old ≤ known_free self.new + length block.old.items) }
+            (sent self.new ≡ sent self.old ++ messages_of flats.now) ×
+            (known_free self.old ≤ known_free self.new + length flats.now) }
         ensures full { result ≡ false → (sent self.new ≡ sent self.old) ×
-            (block.new ≡ block.old) × (known_free self.old ≤ known_free self.new) ×
-            (known_free self.new < length block.old.items) }
-        ensures succeeds { length block.old.items ≤ known_free self.old → IsTrue result }
+            (known_free self.old ≤ known_free self.new) ×
+            (known_free self.new < length flats.now) }
+        ensures succeeds { length flats.now ≤ known_free self.old → IsTrue result }
     {
         match self {
             WriterRing::Messages(_) => unreachable!(),
-            WriterRing::Units(ring) => push_all(ring, block),
-            WriterRing::Flags(ring) => push_all(ring, block),
-            WriterRing::Ints(ring) => push_all(ring, block),
+            WriterRing::Units(ring) => push_all(ring, flats),
+            WriterRing::Flags(ring) => push_all(ring, flats),
+            WriterRing::Ints(ring) => push_all(ring, flats),
         }
     }
 

@@ -115,12 +115,48 @@ impl EdgeWriter {
         self.ring.has_slots(count)
     }
 
+    /// Puts these messages after all others, in order.
+    ///
+    /// Where there is not room for all of them, or `End` was put on the edge before, the answer is false,
+    /// and nothing was put. The edge is one of scalars, and an `End` may only be the last of them.
+    #[inline(always)]
+    #[tactic(auto, using(crate::proofs::Lists::list_steps))]
+    pub fn put_slice(&mut self, flats: &[Flat]) -> bool
+        requires scalar { IsSome (kind_of self.old) }
+        requires fit { All (λ x. FitsEdge (kind_of self.old) (signal_of (message_of x)))
+            flats.now }
+        requires last { orderly (signals (messages_of flats.now)) ≡ true }
+        ensures same { SameWriter self.old self.new }
+        ensures put { IsTrue result →
+            sent self.new ≡ sent self.old ++ messages_of flats.now }
+        ensures room { IsTrue result →
+            certain_room self.old ≤ certain_room self.new + length flats.now }
+        ensures open { IsTrue result → ended (signals (sent self.old)) ≡ false }
+        ensures refused { result ≡ false → (sent self.new ≡ sent self.old) ×
+            (certain_room self.old ≤ certain_room self.new) }
+        ensures full { result ≡ false → ended (signals (sent self.old)) ≡ false →
+            certain_room self.new < length flats.now }
+        ensures succeeds { ended (signals (sent self.old)) ≡ false →
+            length flats.now ≤ certain_room self.old → IsTrue result }
+    {
+        let was_closed = self.closed;
+        if was_closed {
+            return false;
+        }
+        let has_end = ends(flats);
+        if !self.ring.push_slice(flats) {
+            return false;
+        }
+        self.closed = has_end;
+        self.put = self.put.saturating_add(flats.len() as u64);
+        true
+    }
+
     /// Puts the messages of a block after all others, in order, and empties it.
     ///
     /// Where there is not room for all of them, or `End` was put on the edge before, the answer is false,
     /// and nothing was put. The edge is one of scalars, and an `End` may only be the last of the block.
     #[inline(always)]
-    #[tactic(auto, using(crate::proofs::Lists::list_steps))]
     pub fn put_block(&mut self, block: &mut Block) -> bool
         requires scalar { IsSome (kind_of self.old) }
         requires fit { All (λ x. FitsEdge (kind_of self.old) (signal_of (message_of x)))
@@ -140,17 +176,11 @@ impl EdgeWriter {
         ensures succeeds { ended (signals (sent self.old)) ≡ false →
             length block.old.items ≤ certain_room self.old → IsTrue result }
     {
-        let (count, was_closed) = (block.len(), self.closed);
-        if was_closed {
-            return false;
+        let is_put = self.put_slice(block.as_slice());
+        if is_put {
+            block.clear();
         }
-        let has_end = ends(block.as_slice());
-        if !self.ring.push_block(block) {
-            return false;
-        }
-        self.closed = has_end;
-        self.put = self.put.saturating_add(count as u64);
-        true
+        is_put
     }
 
     /// Gives up the writer for a mark of all that it has put, or for none. No `End` is put. That there is a

@@ -69,6 +69,8 @@ enum BlockStep {
     IsRefused(&'static [i128], bool),
     // At most so many are taken, and these come.
     Takes(usize, &'static [i128], bool),
+    // The same in place of others, of which there are four.
+    TakesOver(usize, &'static [i128], bool),
 }
 
 // The block of these numbers, and of `End` where it closes, as far as it has room.
@@ -113,6 +115,11 @@ fn goes_in_blocks(writer: &mut EdgeWriter, reader: &mut EdgeReader, step: BlockS
             let mut taken = Block::new();
             let count = reader.take_block(&mut taken, most);
             count == taken.len() && taken.as_slice() == block(numbers, closes).as_slice()
+        }
+        BlockStep::TakesOver(most, numbers, closes) => {
+            let mut taken = [Flat::End; 4];
+            let count = reader.take_slice(&mut taken, most);
+            &taken[..count] == block(numbers, closes).as_slice()
         }
     }
 }
@@ -187,6 +194,14 @@ const END_ALONE: [BlockStep; 4] = [
     BlockStep::Takes(64, &[1], false),
 ];
 
+// Messages taken in place of others, at most four.
+const OVER_SLICES: [BlockStep; 4] = [
+    BlockStep::Puts(&[1, 2], true),
+    BlockStep::TakesOver(1, &[1], false),
+    BlockStep::TakesOver(9, &[2], true),
+    BlockStep::TakesOver(9, &[], false),
+];
+
 #[test]
 fn edges_of_two_and_of_one(rt: HostRuntime) -> Result<(), Fail> {
     assert_goes(&rt, edge(rt.alloc(), 2)?, &OF_TWO);
@@ -200,5 +215,6 @@ fn edges_of_two_and_of_one(rt: HostRuntime) -> Result<(), Fail> {
 fn blocks_over_edges_of_integers(rt: HostRuntime) -> Result<(), Fail> {
     assert_goes_in_blocks(&rt, scalar_edge(rt.alloc(), Kind::Int, 3)?, &IN_BLOCKS);
     assert_goes_in_blocks(&rt, scalar_edge(rt.alloc(), Kind::Int, 1)?, &END_ALONE);
+    assert_goes_in_blocks(&rt, scalar_edge(rt.alloc(), Kind::Int, 3)?, &OVER_SLICES);
     Ok(())
 }

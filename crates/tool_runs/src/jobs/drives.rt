@@ -15,7 +15,7 @@ use std::thread::Threads;
 const CAPACITIES: [usize; 5] = [256, 4, 3, 2, 1];
 
 // How many steps a visit makes at most.
-const CHUNKS: [usize; 5] = [1, 3, 16, 256, 1_024];
+const CHUNKS: [usize; 4] = [1, 3, 16, 1_024];
 
 // How many threads there are, and the lists that name a share for each node: all nodes in one share, and neighbours apart
 // in two and in sixteen.

@@ -12,14 +12,14 @@ loop-flat-init c = record { capacity = refl; arrived = sym (append-nil _); held 
 pub push-requires : goal.push-requires
 push-requires c =
     let i = c.loop-flat.flat-index in
-    let xs = c.as_slice-flat-items.result.now in
+    let xs = c.args.flats.now in
     let inv = c.loop-flat.invariant in
-    omega (arith, c.requires, c.loop-flat-test.true, ap length c.as_slice-flat-items.ensures.value, inv.capacity, ap length inv.held, length-append (content_of c.args.inbox.now.store) (messages_of (take i xs)), length-map (take i xs) message_of, length-take-le i xs)
+    omega (arith, c.requires, c.loop-flat-test.true, inv.capacity, ap length inv.held, length-append (content_of c.args.inbox.now.store) (messages_of (take i xs)), length-map (take i xs) message_of, length-take-le i xs)
 
 pub loop-flat-preserved : goal.loop-flat-preserved
 loop-flat-preserved c =
     let i = c.loop-flat.flat-index in
-    let xs = c.as_slice-flat-items.result.now in
+    let xs = c.args.flats.now in
     let inv = c.loop-flat.invariant in
     let put = c.push.ensures in
     record {
@@ -30,10 +30,10 @@ loop-flat-preserved c =
     }
 
 pub returns-clause-arrived : goal.returns-clause-arrived
-returns-clause-arrived c = c.loop-flat.invariant.arrived ∙ ap (λ (xs : List Flat). c.args.inbox.now.arrived.items ++ messages_of xs) (take_all c.loop-flat.flat-index _ c.loop-flat-test.false ∙ c.as_slice-flat-items.ensures.value)
+returns-clause-arrived c = c.loop-flat.invariant.arrived ∙ ap (λ (xs : List Flat). c.args.inbox.now.arrived.items ++ messages_of xs) (take_all c.loop-flat.flat-index _ c.loop-flat-test.false)
 
 pub returns-clause-held : goal.returns-clause-held
-returns-clause-held c = c.loop-flat.invariant.held ∙ ap (λ (xs : List Flat). content_of c.args.inbox.now.store ++ messages_of xs) (take_all c.loop-flat.flat-index _ c.loop-flat-test.false ∙ c.as_slice-flat-items.ensures.value)
+returns-clause-held c = c.loop-flat.invariant.held ∙ ap (λ (xs : List Flat). content_of c.args.inbox.now.store ++ messages_of xs) (take_all c.loop-flat.flat-index _ c.loop-flat-test.false)
 
 pub returns-clause-received : goal.returns-clause-received
 returns-clause-received c = c.loop-flat.invariant.received

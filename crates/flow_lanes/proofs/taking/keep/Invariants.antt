@@ -8,7 +8,7 @@ use Rattle.flow_lanes.proofs.taking.keep.Given as goal
 abbrev pub invariant-loop-flat : goal.invariant-loop-flat
 invariant-loop-flat l = record {
   capacity : l.inbox.store.capacity ≡ l.initial.inbox.store.capacity;
-  arrived : l.inbox.arrived.items ≡ l.initial.inbox.arrived.items ++ messages_of (take l.flat-index l.flat-items);
-  held : content_of l.inbox.store ≡ content_of l.initial.inbox.store ++ messages_of (take l.flat-index l.flat-items);
+  arrived : l.inbox.arrived.items ≡ l.initial.inbox.arrived.items ++ messages_of (take l.flat-index l.flats);
+  held : content_of l.inbox.store ≡ content_of l.initial.inbox.store ++ messages_of (take l.flat-index l.flats);
   received : received_of l.inbox ≡ received_of l.initial.inbox;
 }

@@ -1,6 +1,5 @@
 use Rattle.std.proofs.Common.{◌++◌, ◌∙◌, arith, inl, inr}
 use Rattle.std.proofs.lemmas.Bool.{cases_eq}
-use mathlib.Core.List.{IsPrefix}
 use Rattle.flow_messages.specs.Stores.{content_of}
 use Rattle.flow_rings.specs.Edge.{certain_held}
 use Rattle.flow_lanes.specs.Taken.{held_in}
@@ -31,5 +30,4 @@ loop-preserved c =
         | inl first ↦ now.some (inv.begun some first)
         | inr further ↦ let had = inv.some some (omega (arith, further)) in omega (arith, had, now.held)
       ];
-      empty = now.empty;
     }

@@ -1,4 +1,4 @@
-use Rattle.std.proofs.Common.{◌≡◌, ◌<◌, [], length}
+use Rattle.std.proofs.Common.{◌≡◌, ◌<◌, length}
 use mathlib.Core.List.{IsPrefix}
 use Rattle.flow_messages.specs.Stores.{content_of}
 use Rattle.flow_rings.specs.Edge.{certain_held, SameReader}
@@ -14,5 +14,4 @@ invariant-loop l = record {
   more : IsPrefix (held_in l.fn.self) (held_in l.self);
   begun : 0 < length (certain_held l.fn.self.edge) → l.counter ≡ 0 → 0 < length (certain_held l.self.edge);
   some : 0 < length (certain_held l.fn.self.edge) → 0 < l.counter → 0 < length (content_of l.self.inbox.store);
-  empty : l.block.items ≡ [];
 }
