@@ -107,7 +107,7 @@ const INTS_OVER_RINGS: Course = Course {
     ],
 };
 
-// More messages than go at once: the reader takes 64 of them over, and the others wait.
+// More messages than a block holds: the reader takes all of them over in one look.
 const MANY_INTS_OVER_RINGS: Course = Course {
     name: "many integers over rings",
     shares: Shares::One,
@@ -117,7 +117,7 @@ const MANY_INTS_OVER_RINGS: Course = Course {
         CourseStep::At(0, 0, Act::Blocks(Block::PutsInts(&[7; 70]))),
         CourseStep::Meet,
         CourseStep::At(0, 0, Act::Blocks(Block::SkipsOne)),
-        CourseStep::At(0, 0, Act::Blocks(Block::ShowsInts(&[7; 63]))),
+        CourseStep::At(0, 0, Act::Blocks(Block::ShowsInts(&[7; 69]))),
         CourseStep::At(0, 0, Act::Counts(70, 1)),
     ],
 };
@@ -131,7 +131,7 @@ const MANY_UNITS_OVER_RINGS: Course = Course {
         CourseStep::At(0, 0, Act::Blocks(Block::PutsUnits(70))),
         CourseStep::Meet,
         CourseStep::At(0, 0, Act::Blocks(Block::SkipsOne)),
-        CourseStep::At(0, 0, Act::Blocks(Block::ShowsUnits(63))),
+        CourseStep::At(0, 0, Act::Blocks(Block::ShowsUnits(69))),
         CourseStep::At(0, 0, Act::Counts(70, 1)),
     ],
 };
@@ -145,7 +145,7 @@ const MANY_FLAGS_OVER_RINGS: Course = Course {
         CourseStep::At(0, 0, Act::Blocks(Block::PutsFlags(&[true; 70]))),
         CourseStep::Meet,
         CourseStep::At(0, 0, Act::Blocks(Block::SkipsOne)),
-        CourseStep::At(0, 0, Act::Blocks(Block::ShowsFlags(&[true; 63]))),
+        CourseStep::At(0, 0, Act::Blocks(Block::ShowsFlags(&[true; 69]))),
         CourseStep::At(0, 0, Act::Counts(70, 1)),
     ],
 };
