@@ -261,6 +261,7 @@ impl<W: Worker> Node<W> {
     {
         let first = self.finish(inputs, outputs, ends, chunk)?;
         if let Phase::Working = self.phase {
+            look_for_messages(ends, inputs);
             let whole = self.worker.blocks(inputs, outputs, ends, chunk - first);
             return Ok(first + whole);
         }
@@ -298,6 +299,7 @@ impl<W: Worker> Node<W> {
         }
         // Where hardly an instance fits, the worker goes on from within one, if it can.
         if chunk / 2 <= outputs.len() {
+            look_for_messages(ends, inputs);
             return Ok(self.worker.blocks(inputs, outputs, ends, chunk));
         }
         self.whole_blocks(inputs, outputs, ends, chunk)
